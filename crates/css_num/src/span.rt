@@ -1,7 +1,12 @@
+ghost use Rattle.std.specs.Prelude.{◌≡◌, ◌↔◌, ◌<◌, ◌^◌, pos, ◌<ℤ◌, ◌*ℤ◌, unsigned_abs, IsTrue};
+ghost use Rattle.std.specs.Option.{SomeIff};
+ghost use Rattle.css_num.specs.Spans as spans;
+
+use crate::division::floor_div;
 use std::marker::Model;
 
-/// A span of whole numbers, as readings of a clock or ticks of a timeline:
-/// from `lo` to `hi`, both included, and `lo` is never above `hi`.
+/// A span of whole numbers, as values of a clock or ticks of a timeline: from
+/// `lo` to `hi`, both included, and `lo` is never above `hi`.
 #[derive(Clone, Copy, Debug, PartialEq, Eq)]
 pub struct Span {
     pub lo: i128,
@@ -19,4 +24,50 @@ impl Model for Span {
     ghost invariant = { λ a. a.lo ≤ℤ a.hi };
 
     ghost inverse = { λ a. record { lo = a.lo; hi = a.hi } };
+}
+
+/// Products that are taken of the ends of a span are below this either way.
+const PRODUCT_LIMIT: u128 = 1 << 126;
+
+fn product(number: i128, num: i128) -> Option<i128>
+    ensures { SomeIff result (unsigned_abs (number *ℤ num) < 2 ^ 126) (number *ℤ num) }
+{
+    let product = number.checked_mul(num)?;
+    if product.unsigned_abs() < PRODUCT_LIMIT {
+        Some(product)
+    } else {
+        None
+    }
+}
+
+/// Whether both ends times `num` are below 2^126 either way, as [`image`]
+/// needs.
+pub fn fits(span: Span, num: i128) -> bool
+    ensures { IsTrue result ↔ spans.ProductsFit span num }
+{
+    product(span.lo, num).is_some() && product(span.hi, num).is_some()
+}
+
+fn scaled_number(number: i128, num: i128, den: i128) -> i128
+    requires positive { pos 0 <ℤ den }
+    requires fits { unsigned_abs (number *ℤ num) < 2 ^ 126 }
+    ensures { result ≡ spans.scaled_number number num (unsigned_abs den) }
+{
+    floor_div(number * num, den)
+}
+
+/// The span of all that the numbers of `span` become times `num / den`, each
+/// rounded down. Its ends are those of the ends of `span`, the lesser first.
+pub fn image(span: Span, num: i128, den: i128) -> Span
+    requires positive { pos 0 <ℤ den }
+    requires fits { spans.ProductsFit span num }
+    ensures value { result ≡ spans.image_of span num (unsigned_abs den) }
+    ensures meaning { spans.IsImage span num (unsigned_abs den) result }
+{
+    let first = scaled_number(span.lo, num, den);
+    let last = scaled_number(span.hi, num, den);
+    Span {
+        lo: first.min(last),
+        hi: first.max(last),
+    }
 }
