@@ -1,24 +1,10 @@
 -- The image of an interval covers the image of each of its numbers, and both its ends are such images.
-use Rattle.std.proofs.Common.{◌≡◌, ℕ, ◌+◌, ◌<◌, ◌≤◌, ◌⊎◌, inl, inr, refl, arith, true, false}
+use Rattle.std.proofs.Common.{◌≡◌, ℕ, ◌<◌, ◌⊎◌, inl, inr, refl, arith, true, false}
 use Rattle.std.specs.Prelude.{ℤ, pos, negsuc, ◌≤ℤ◌, ◌<ℤ◌, ◌*ℤ◌, unsigned_abs, cond, int_lt}
 use Rattle.std.specs.Int.{int_min, int_max}
 use Rattle.std.proofs.lemmas.Int.{ints, clamps}
-use Rattle.std.proofs.Math.Nat.{mul-le-mul_right}
-use borrow.Author.Differences.{up, down, product_is}
 use Rattle.css_num.specs.Spans.{Interval, Covers, scaled_number, image_of, IsImage}
-use Rattle.css_num.proofs.Rounding.{floor_div-mono}
-
--- a factor that isn't below zero keeps the order of two numbers
-pub times_pos-mono : (x y : ℤ) (n : ℕ) → x ≤ℤ y → (x *ℤ pos n) ≤ℤ (y *ℤ pos n)
-times_pos-mono x y n h =
-    let parts : up x + down y ≤ up y + down x = omega (arith, ints) in
-    omega (arith, ints, product_is x (pos n), product_is y (pos n), mul-le-mul_right n parts)
-
--- a factor below zero turns it round
-pub times_negsuc-mono : (x y : ℤ) (n : ℕ) → x ≤ℤ y → (y *ℤ negsuc n) ≤ℤ (x *ℤ negsuc n)
-times_negsuc-mono x y n h =
-    let parts : up x + down y ≤ up y + down x = omega (arith, ints) in
-    omega (arith, ints, product_is x (negsuc n), product_is y (negsuc n), mul-le-mul_right (n + 1) parts)
+use Rattle.css_num.proofs.Rounding.{floor_div-mono, times_pos-mono, times_negsuc-mono}
 
 -- what lies between two numbers, in this order or the other, lies between the lesser and the greater
 rising : (first number last : ℤ) → first ≤ℤ number → number ≤ℤ last → Covers (record { lo = int_min first last; hi = int_max first last }) number
