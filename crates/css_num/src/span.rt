@@ -26,9 +26,11 @@ impl Model for Span {
     ghost inverse = { λ a. record { lo = a.lo; hi = a.hi } };
 }
 
-/// Products that are taken of the ends of a span are below this either way.
+/// The products of the ends of a span with a factor are to be below this either
+/// way.
 const PRODUCT_LIMIT: u128 = 1 << 126;
 
+/// `number * num`, where it is below the limit either way.
 fn product(number: i128, num: i128) -> Option<i128>
     ensures { SomeIff result (unsigned_abs (number *ℤ num) < 2 ^ 126) (number *ℤ num) }
 {
@@ -40,14 +42,15 @@ fn product(number: i128, num: i128) -> Option<i128>
     }
 }
 
-/// Whether both ends times `num` are below 2^126 either way, as [`image`]
-/// needs.
+/// Whether both ends of the span times `num` are below 2^126 either way, as
+/// [`image`] needs.
 pub fn fits(span: Span, num: i128) -> bool
     ensures { IsTrue result ↔ spans.ProductsFit span num }
 {
     product(span.lo, num).is_some() && product(span.hi, num).is_some()
 }
 
+/// `number * num / den`, rounded down.
 fn scaled_number(number: i128, num: i128, den: i128) -> i128
     requires positive { pos 0 <ℤ den }
     requires fits { unsigned_abs (number *ℤ num) < 2 ^ 126 }
@@ -69,5 +72,79 @@ pub fn image(span: Span, num: i128, den: i128) -> Span
     Span {
         lo: first.min(last),
         hi: first.max(last),
+    }
+}
+
+#[cfg(test)]
+mod tests {
+    use super::*;
+
+    const LIMIT: i128 = 1 << 126;
+
+    #[test]
+    fn an_image_has_the_lesser_end_first(rt: HostRuntime) {
+        let rows: [(i128, i128, i128, i128, i128, i128); 10] = [
+            (1, 5, 2, 3, 0, 3),
+            (1, 5, -2, 3, -4, -1),
+            (1, 5, 0, 3, 0, 0),
+            (-5, -1, 2, 3, -4, -1),
+            (-5, -1, -2, 3, 0, 3),
+            (-4, 5, 1, 2, -2, 2),
+            (7, 7, -1, 2, -4, -4),
+            // Half a second to 22,222 ns more, at 90,000 ticks a second, and
+            // at speeds of 1, -2 and 0.
+            (
+                500_000_000,
+                500_022_222,
+                90_000,
+                1_000_000_000,
+                45_000,
+                45_001,
+            ),
+            (
+                500_000_000,
+                500_022_222,
+                -180_000,
+                1_000_000_000,
+                -90_004,
+                -90_000,
+            ),
+            (500_000_000, 500_022_222, 0, 1_000_000_000, 0, 0),
+        ];
+        for (lo, hi, num, den, image_lo, image_hi) in rows {
+            assert!(rt; lo <= hi && 0 < den, "{lo} to {hi}");
+            let span = Span { lo, hi };
+            assert!(rt; fits(span, num), "{lo} to {hi} by {num}");
+            let found = image(span, num, den);
+            assert_eq!(rt; found.lo, image_lo, "{lo} to {hi} by {num} / {den}");
+            assert_eq!(rt; found.hi, image_hi, "{lo} to {hi} by {num} / {den}");
+        }
+    }
+
+    #[test]
+    fn both_products_are_to_fit(rt: HostRuntime) {
+        let rows: [(i128, i128, i128, bool); 13] = [
+            (LIMIT - 1, LIMIT - 1, 1, true),
+            (LIMIT - 1, LIMIT - 1, -1, true),
+            (1 - LIMIT, LIMIT - 1, 1, true),
+            (0, LIMIT, 1, false),
+            (-LIMIT, 0, 1, false),
+            (0, LIMIT, -1, false),
+            (-LIMIT, 0, -1, false),
+            (0, 1 << 100, 1 << 25, true),
+            (0, 1 << 100, 1 << 26, false),
+            (0, 1 << 100, 1 << 100, false),
+            (-(1 << 100), 0, 1 << 100, false),
+            (i128::MIN, 0, -1, false),
+            (i128::MIN, i128::MAX, 0, true),
+        ];
+        for (lo, hi, num, expected) in rows {
+            assert!(rt; lo <= hi, "{lo} to {hi}");
+            assert_eq!(rt;
+                fits(Span { lo, hi }, num),
+                expected,
+                "{lo} to {hi} by {num}"
+            );
+        }
     }
 }

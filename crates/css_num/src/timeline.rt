@@ -86,3 +86,40 @@ impl Clone for Timelines {
         self.copied()
     }
 }
+
+#[cfg(test)]
+mod tests {
+    use super::*;
+    use std::alloc::Global;
+    use std::test::Fail;
+
+    fn timeline(alloc: Global, selector: &[u8], ups: u32) -> Result<Timeline, Fail> {
+        Ok(Timeline {
+            selector: Text::of(alloc, selector)?,
+            rate: Rate::of(1, ups).ok_or("no rate")?,
+        })
+    }
+
+    #[test]
+    fn timelines_are_equal_in_every_part(rt: HostRuntime) -> Result<(), Fail> {
+        let alloc = rt.alloc();
+        let pts = timeline(alloc, b"urn:dvb:css:timeline:pts", 90_000)?;
+        assert!(rt; pts == timeline(alloc, b"urn:dvb:css:timeline:pts", 90_000)?);
+        assert!(rt; pts != timeline(alloc, b"urn:dvb:css:timeline:pts", 90_001)?);
+        assert!(rt; pts != timeline(alloc, b"urn:dvb:css:timeline:pt2", 90_000)?);
+        assert!(rt; pts == pts.clone()?);
+
+        let temi = timeline(alloc, b"urn:dvb:css:timeline:temi:1:1", 1000)?;
+        let both = Timelines::of(Vec::from_array(alloc, [pts.clone()?, temi.clone()?])?);
+        let turned = Timelines::of(Vec::from_array(alloc, [temi, pts.clone()?])?);
+        let first = Timelines::of(Vec::from_array(alloc, [pts])?);
+        let copy = both.clone()?;
+        assert!(rt; copy == both);
+        assert!(rt; both != turned);
+        assert!(rt; both != first);
+        assert!(rt; first != both);
+        assert_eq!(rt; copy.list().len(), 2);
+        assert!(rt; copy.list()[1] == turned.list()[0]);
+        Ok(())
+    }
+}

@@ -1,8 +1,9 @@
 ghost use Rattle.std.specs.Prelude.{◌≡◌, ◌↔◌, ℕ, ℤ, pos, ◌<◌, ◌≤◌, ◌^◌, Some, IfSome, unsigned_abs, option_map};
 ghost use Rattle.css_num.specs.Words as words;
 
-/// The number that ASCII digits write after those of `number`, where it fits.
-fn digits(bytes: &[u8]) -> Option<u64>
+/// The number that ASCII digits write, 0 where there are none. It is None where
+/// a byte is no digit, or the number doesn't fit.
+fn digits_value(bytes: &[u8]) -> Option<u64>
     ensures { result ≡ words.below_limit (2 ^ 64) (words.digits_after 0 bytes.now) }
 {
     let mut number = 0u64;
@@ -17,13 +18,14 @@ fn digits(bytes: &[u8]) -> Option<u64>
     Some(number)
 }
 
-/// The number that a word of digits spells, where it fits.
+/// The number that a word of digits spells. It is None where there is none, or
+/// it doesn't fit.
 fn number(bytes: &[u8]) -> Option<u64>
     ensures { result ≡ words.below_limit (2 ^ 64) (words.number_of bytes.now) }
 {
     match bytes {
         [] | [b'0', _, ..] => None,
-        _ => digits(bytes),
+        _ => digits_value(bytes),
     }
 }
 
@@ -36,6 +38,7 @@ pub fn whole_number(bytes: &[u8], below: u64) -> Option<u64>
     number(bytes).filter(|number| *number < below)
 }
 
+/// The number of at most `digits` digits that a word without a sign spells.
 fn short_number(bytes: &[u8], digits: u32) -> Option<i64>
     requires { digits ≤ 18 }
     ensures { result ≡ option_map pos (words.short_number_of bytes.now digits) }
@@ -47,6 +50,7 @@ fn short_number(bytes: &[u8], digits: u32) -> Option<i64>
     Some(number as i64)
 }
 
+/// The number below zero whose digits, after the `-`, are `magnitude`.
 fn negative_number(magnitude: &[u8], digits: u32) -> Option<i64>
     requires { digits ≤ 18 }
     ensures { result ≡ words.negative_of (words.short_number_of magnitude.now digits) }
@@ -69,5 +73,80 @@ pub fn signed_number(bytes: &[u8], digits: u32) -> Option<i64>
     match bytes {
         [b'-', magnitude @ ..] => negative_number(magnitude, digits),
         _ => short_number(bytes, digits),
+    }
+}
+
+#[cfg(test)]
+mod tests {
+    use super::*;
+
+    #[test]
+    fn whole_numbers_have_one_spelling_each(rt: HostRuntime) {
+        let most = u64::MAX;
+        let rows: [(&str, u64, Option<u64>); 22] = [
+            ("0", 1, Some(0)),
+            ("7", 100, Some(7)),
+            ("10", 100, Some(10)),
+            ("99", 100, Some(99)),
+            (
+                "18446744073709551614",
+                most,
+                Some(18_446_744_073_709_551_614),
+            ),
+            ("0", 0, None),
+            ("100", 100, None),
+            ("18446744073709551615", most, None),
+            ("18446744073709551616", most, None),
+            ("99999999999999999999", most, None),
+            ("100000000000000000000", most, None),
+            ("", 100, None),
+            ("00", 100, None),
+            ("07", 100, None),
+            ("+7", 100, None),
+            ("-7", 100, None),
+            ("-0", 100, None),
+            (" 7", 100, None),
+            ("7 ", 100, None),
+            ("1a", 100, None),
+            ("1_0", 100, None),
+            ("7.", 100, None),
+        ];
+        for (word, below, expected) in rows {
+            assert_eq!(rt; whole_number(word.as_bytes(), below), expected, "{word}");
+        }
+    }
+
+    #[test]
+    fn signed_numbers_have_one_spelling_each(rt: HostRuntime) {
+        let rows: [(&str, u32, Option<i64>); 24] = [
+            ("0", 1, Some(0)),
+            ("5", 1, Some(5)),
+            ("-5", 1, Some(-5)),
+            ("999", 3, Some(999)),
+            ("-999", 3, Some(-999)),
+            ("999999999999999999", 18, Some(999_999_999_999_999_999)),
+            ("-999999999999999999", 18, Some(-999_999_999_999_999_999)),
+            ("0", 0, None),
+            ("10", 1, None),
+            ("1000", 3, None),
+            ("-1000", 3, None),
+            ("1000000000000000000", 18, None),
+            ("-1000000000000000000", 18, None),
+            ("", 3, None),
+            ("-", 3, None),
+            ("-0", 3, None),
+            ("00", 3, None),
+            ("-00", 3, None),
+            ("07", 3, None),
+            ("-07", 3, None),
+            ("+7", 3, None),
+            ("--7", 3, None),
+            ("7-", 3, None),
+            ("-a", 3, None),
+        ];
+        for (word, digits, expected) in rows {
+            assert!(rt; digits <= 18);
+            assert_eq!(rt; signed_number(word.as_bytes(), digits), expected, "{word}");
+        }
     }
 }

@@ -1,6 +1,6 @@
 use Rattle.std.proofs.Common.{arith, ◌∙◌, sym, ◌^◌}
 use Rattle.css_num.proofs.Numerals.{digits_after-next_beyond, digits_after-end}
-use Rattle.css_num.proofs.words.digits.Goals as goal
+use Rattle.css_num.proofs.words.digits_value.Goals as goal
 
 pub returns-in_err-checked_mul : goal.returns-in_err-checked_mul
 returns-in_err-checked_mul c =

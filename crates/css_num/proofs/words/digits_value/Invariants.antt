@@ -1,6 +1,6 @@
 use Rattle.std.proofs.Common.{◌≡◌, ◌^◌, ◌<◌, drop}
 use Rattle.css_num.specs.Words as words
-use Rattle.css_num.proofs.words.digits.Given as goal
+use Rattle.css_num.proofs.words.digits_value.Given as goal
 
 -- what is left of the bytes, after the number so far, gives what all of them give
 abbrev pub invariant-loop-byte : goal.invariant-loop-byte
