@@ -24,28 +24,32 @@ pub fn ceil_div(a: i128, b: i128) -> i128
 #[cfg(test)]
 mod tests {
     use super::*;
+    use std::process::Abort;
 
-    const LARGEST: i128 = (1 << 126) - 1;
+    /// The quotient rounded down and rounded up.
+    fn quotients(rt: &impl Abort, a: i128, b: i128) -> (i128, i128) {
+        assert!(rt; 0 < b);
+        assert!(rt; a.unsigned_abs() < 1 << 126);
+        (floor_div(a, b), ceil_div(a, b))
+    }
 
     #[test]
     fn quotients_are_rounded_down_and_up(rt: HostRuntime) {
-        let rows: [(i128, i128, i128, i128); 11] = [
-            (7, 2, 3, 4),
-            (-7, 2, -4, -3),
-            (6, 3, 2, 2),
-            (-6, 3, -2, -2),
-            (0, 5, 0, 0),
-            (1, 1000, 0, 1),
-            (-1, 1000, -1, 0),
-            (999, 1000, 0, 1),
-            (-999, 1000, -1, 0),
-            (LARGEST, 1, LARGEST, LARGEST),
-            (-LARGEST, 2, -(1 << 125), 1 - (1 << 125)),
+        let rows: [(i128, i128, (i128, i128)); 11] = [
+            (7, 2, (3, 4)),
+            (-7, 2, (-4, -3)),
+            (6, 3, (2, 2)),
+            (-6, 3, (-2, -2)),
+            (0, 5, (0, 0)),
+            (1, 1000, (0, 1)),
+            (-1, 1000, (-1, 0)),
+            (999, 1000, (0, 1)),
+            (-999, 1000, (-1, 0)),
+            ((1 << 126) - 1, 2, ((1 << 125) - 1, 1 << 125)),
+            (1 - (1 << 126), 2, (-(1 << 125), 1 - (1 << 125))),
         ];
-        for (a, b, floor, ceiling) in rows {
-            assert!(rt; 0 < b && -LARGEST <= a && a <= LARGEST, "{a} / {b}");
-            assert_eq!(rt; floor_div(a, b), floor, "{a} / {b}");
-            assert_eq!(rt; ceil_div(a, b), ceiling, "{a} / {b}");
+        for (a, b, expected) in rows {
+            assert_eq!(rt; quotients(&rt, a, b), expected, "{a} / {b}");
         }
     }
 }

@@ -78,70 +78,79 @@ pub fn image(span: Span, num: i128, den: i128) -> Span
 #[cfg(test)]
 mod tests {
     use super::*;
+    use std::process::Abort;
 
     const LIMIT: i128 = 1 << 126;
 
+    fn span(rt: &impl Abort, lo: i128, hi: i128) -> Span {
+        assert!(rt; lo <= hi);
+        Span { lo, hi }
+    }
+
+    /// The ends of the image.
+    fn ends(rt: &impl Abort, span: Span, num: i128, den: i128) -> (i128, i128) {
+        assert!(rt; 0 < den);
+        assert!(rt; fits(span, num));
+        let image = image(span, num, den);
+        (image.lo, image.hi)
+    }
+
     #[test]
     fn an_image_has_the_lesser_end_first(rt: HostRuntime) {
-        let rows: [(i128, i128, i128, i128, i128, i128); 10] = [
-            (1, 5, 2, 3, 0, 3),
-            (1, 5, -2, 3, -4, -1),
-            (1, 5, 0, 3, 0, 0),
-            (-5, -1, 2, 3, -4, -1),
-            (-5, -1, -2, 3, 0, 3),
-            (-4, 5, 1, 2, -2, 2),
-            (7, 7, -1, 2, -4, -4),
-            // Half a second to 22,222 ns more, at 90,000 ticks a second, and
-            // at speeds of 1, -2 and 0.
+        let rows: [((i128, i128), i128, i128, (i128, i128)); 10] = [
+            ((1, 5), 2, 3, (0, 3)),
+            ((1, 5), -2, 3, (-4, -1)),
+            ((1, 5), 0, 3, (0, 0)),
+            ((-5, -1), 2, 3, (-4, -1)),
+            ((-5, -1), -2, 3, (0, 3)),
+            ((-4, 5), 1, 2, (-2, 2)),
+            ((7, 7), -1, 2, (-4, -4)),
+            // From half a second to 22,222 ns more, at 90,000 ticks a second,
+            // and at speeds of 1, -2 and 0.
             (
-                500_000_000,
-                500_022_222,
+                (500_000_000, 500_022_222),
                 90_000,
                 1_000_000_000,
-                45_000,
-                45_001,
+                (45_000, 45_001),
             ),
             (
-                500_000_000,
-                500_022_222,
+                (500_000_000, 500_022_222),
                 -180_000,
                 1_000_000_000,
-                -90_004,
-                -90_000,
+                (-90_004, -90_000),
             ),
-            (500_000_000, 500_022_222, 0, 1_000_000_000, 0, 0),
+            ((500_000_000, 500_022_222), 0, 1_000_000_000, (0, 0)),
         ];
-        for (lo, hi, num, den, image_lo, image_hi) in rows {
-            assert!(rt; lo <= hi && 0 < den, "{lo} to {hi}");
-            let span = Span { lo, hi };
-            assert!(rt; fits(span, num), "{lo} to {hi} by {num}");
-            let found = image(span, num, den);
-            assert_eq!(rt; found.lo, image_lo, "{lo} to {hi} by {num} / {den}");
-            assert_eq!(rt; found.hi, image_hi, "{lo} to {hi} by {num} / {den}");
+        for ((lo, hi), num, den, expected) in rows {
+            let span = span(&rt, lo, hi);
+            assert_eq!(rt;
+                ends(&rt, span, num, den),
+                expected,
+                "{lo} to {hi} by {num} / {den}"
+            );
         }
     }
 
     #[test]
     fn both_products_are_to_fit(rt: HostRuntime) {
-        let rows: [(i128, i128, i128, bool); 13] = [
-            (LIMIT - 1, LIMIT - 1, 1, true),
-            (LIMIT - 1, LIMIT - 1, -1, true),
-            (1 - LIMIT, LIMIT - 1, 1, true),
-            (0, LIMIT, 1, false),
-            (-LIMIT, 0, 1, false),
-            (0, LIMIT, -1, false),
-            (-LIMIT, 0, -1, false),
-            (0, 1 << 100, 1 << 25, true),
-            (0, 1 << 100, 1 << 26, false),
-            (0, 1 << 100, 1 << 100, false),
-            (-(1 << 100), 0, 1 << 100, false),
-            (i128::MIN, 0, -1, false),
-            (i128::MIN, i128::MAX, 0, true),
+        let rows: [((i128, i128), i128, bool); 13] = [
+            ((LIMIT - 1, LIMIT - 1), 1, true),
+            ((LIMIT - 1, LIMIT - 1), -1, true),
+            ((1 - LIMIT, LIMIT - 1), 1, true),
+            ((0, LIMIT), 1, false),
+            ((-LIMIT, 0), 1, false),
+            ((0, LIMIT), -1, false),
+            ((-LIMIT, 0), -1, false),
+            ((0, 1 << 100), 1 << 25, true),
+            ((0, 1 << 100), 1 << 26, false),
+            ((0, 1 << 100), 1 << 100, false),
+            ((-(1 << 100), 0), 1 << 100, false),
+            ((i128::MIN, 0), -1, false),
+            ((i128::MIN, i128::MAX), 0, true),
         ];
-        for (lo, hi, num, expected) in rows {
-            assert!(rt; lo <= hi, "{lo} to {hi}");
+        for ((lo, hi), num, expected) in rows {
             assert_eq!(rt;
-                fits(Span { lo, hi }, num),
+                fits(span(&rt, lo, hi), num),
                 expected,
                 "{lo} to {hi} by {num}"
             );

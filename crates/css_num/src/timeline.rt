@@ -93,33 +93,62 @@ mod tests {
     use std::alloc::Global;
     use std::test::Fail;
 
-    fn timeline(alloc: Global, selector: &[u8], ups: u32) -> Result<Timeline, Fail> {
-        Ok(Timeline {
-            selector: Text::of(alloc, selector)?,
-            rate: Rate::of(1, ups).ok_or("no rate")?,
-        })
+    fn timeline(alloc: Global, selector: &str, ups: u32) -> Result<Timeline, Fail> {
+        let selector = Text::of(alloc, selector.as_bytes())?;
+        match Rate::of(1, ups) {
+            Some(rate) => Ok(Timeline { selector, rate }),
+            None => Err("no rate".into()),
+        }
+    }
+
+    fn timelines(alloc: Global, rates: &[u32]) -> Result<Timelines, Fail> {
+        let mut list = Vec::new(alloc);
+        for ups in rates {
+            list.push(timeline(alloc, "urn:dvb:css:timeline:pts", *ups)?)?;
+        }
+        Ok(Timelines::of(list))
     }
 
     #[test]
-    fn timelines_are_equal_in_every_part(rt: HostRuntime) -> Result<(), Fail> {
-        let alloc = rt.alloc();
-        let pts = timeline(alloc, b"urn:dvb:css:timeline:pts", 90_000)?;
-        assert!(rt; pts == timeline(alloc, b"urn:dvb:css:timeline:pts", 90_000)?);
-        assert!(rt; pts != timeline(alloc, b"urn:dvb:css:timeline:pts", 90_001)?);
-        assert!(rt; pts != timeline(alloc, b"urn:dvb:css:timeline:pt2", 90_000)?);
-        assert!(rt; pts == pts.clone()?);
+    fn equal_timelines_have_one_selector_and_rate(rt: HostRuntime) -> Result<(), Fail> {
+        let pts = timeline(rt.alloc(), "urn:dvb:css:timeline:pts", 90_000)?;
+        let rows: [(&str, u32, bool); 4] = [
+            ("urn:dvb:css:timeline:pts", 90_000, true),
+            ("urn:dvb:css:timeline:pts", 90_001, false),
+            ("urn:dvb:css:timeline:pt2", 90_000, false),
+            ("urn:dvb:css:timeline", 90_000, false),
+        ];
+        for (selector, ups, equal) in rows {
+            let other = timeline(rt.alloc(), selector, ups)?;
+            assert_eq!(rt; pts == other, equal, "{selector} {ups}");
+        }
+        Ok(())
+    }
 
-        let temi = timeline(alloc, b"urn:dvb:css:timeline:temi:1:1", 1000)?;
-        let both = Timelines::of(Vec::from_array(alloc, [pts.clone()?, temi.clone()?])?);
-        let turned = Timelines::of(Vec::from_array(alloc, [temi, pts.clone()?])?);
-        let first = Timelines::of(Vec::from_array(alloc, [pts])?);
-        let copy = both.clone()?;
-        assert!(rt; copy == both);
-        assert!(rt; both != turned);
-        assert!(rt; both != first);
-        assert!(rt; first != both);
-        assert_eq!(rt; copy.list().len(), 2);
-        assert!(rt; copy.list()[1] == turned.list()[0]);
+    #[test]
+    fn equal_lists_have_equal_timelines_in_order(rt: HostRuntime) -> Result<(), Fail> {
+        let pair = timelines(rt.alloc(), &[90_000, 1000])?;
+        let rows: [(&[u32], bool); 5] = [
+            (&[90_000, 1000], true),
+            (&[1000, 90_000], false),
+            (&[90_000], false),
+            (&[90_000, 1000, 25], false),
+            (&[], false),
+        ];
+        for (rates, equal) in rows {
+            let other = timelines(rt.alloc(), rates)?;
+            assert_eq!(rt; other.list().len(), rates.len());
+            assert_eq!(rt; pair == other, equal);
+            assert_eq!(rt; other == pair, equal);
+        }
+        Ok(())
+    }
+
+    #[test]
+    fn a_clone_is_equal(rt: HostRuntime) -> Result<(), Fail> {
+        let pair = timelines(rt.alloc(), &[90_000, 1000])?;
+        let copy = pair.clone()?;
+        assert!(rt; copy == pair);
         Ok(())
     }
 }
