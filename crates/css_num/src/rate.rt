@@ -33,7 +33,7 @@ impl Model for Rate {
 fn is_part(part: u32) -> bool
     ensures { result ≡ is_rate_part part }
 {
-    1 <= part && part <= MAX_PART
+    (1..=MAX_PART).contains(&part)
 }
 
 impl Rate {
