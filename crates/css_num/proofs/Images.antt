@@ -10,9 +10,11 @@ use Rattle.css_num.proofs.Rounding.{floor_div-mono, times_pos-mono, times_negsuc
 rising : (first number last : ℤ) → first ≤ℤ number → number ≤ℤ last → Covers (record { lo = int_min first last; hi = int_max first last }) number
 rising first number last p q = record { low = omega (arith, ints, clamps); high = omega (arith, ints, clamps) }
 
+-- the same where the first number is the greater
 falling : (first number last : ℤ) → last ≤ℤ number → number ≤ℤ first → Covers (record { lo = int_min first last; hi = int_max first last }) number
 falling first number last p q = record { low = omega (arith, ints, clamps); high = omega (arith, ints, clamps) }
 
+-- the image covers what each number of the interval becomes
 covered : (interval : Interval) (num : ℤ) (den : ℕ) → 0 < den → (number : ℤ) → Covers interval number → Covers (image_of interval num den) (scaled_number number num den)
 covered interval (pos n) den p number inside =
     rising (scaled_number interval.lo (pos n) den) (scaled_number number (pos n) den) (scaled_number interval.hi (pos n) den)
@@ -27,6 +29,7 @@ covered interval (negsuc n) den p number inside =
 min_is_one : (x y : ℤ) → (x ≡ int_min x y) ⊎ (y ≡ int_min x y)
 min_is_one x y = elim (int_lt y x) as (λ b. (x ≡ cond b y x) ⊎ (y ≡ cond b y x)) [ true ↦ inr refl | false ↦ inl refl ]
 
+-- and so is the greater
 max_is_one : (x y : ℤ) → (x ≡ int_max x y) ⊎ (y ≡ int_max x y)
 max_is_one x y = elim (int_lt y x) as (λ b. (x ≡ cond b x y) ⊎ (y ≡ cond b x y)) [ true ↦ inl refl | false ↦ inr refl ]
 
@@ -37,6 +40,7 @@ reached : (interval : Interval) (num : ℤ) (den : ℕ) (end : ℤ) → interval
 reached interval num den end ordered (inl e) = (interval.lo, record { low = omega (arith, ints); high = ordered }, e)
 reached interval num den end ordered (inr e) = (interval.hi, record { low = ordered; high = omega (arith, ints) }, e)
 
+-- the interval of the two ends is the image
 pub IsImage-image_of : (interval : Interval) (num : ℤ) (den : ℕ) → 0 < den → interval.lo ≤ℤ interval.hi → IsImage interval num den (image_of interval num den)
 IsImage-image_of interval num den p ordered =
     let first = scaled_number interval.lo num den in

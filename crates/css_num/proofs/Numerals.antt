@@ -43,6 +43,7 @@ digits_after-end limit number i bytes past h = grind (arith, nat_tests, common_s
 digit_value-ascii : (byte : ℕ) → is_ascii_digit byte ≡ true → digit_value byte ≡ byte - 48
 digit_value-ascii byte h = grind (arith, nat_tests)
 
+-- two tests that hold together each hold
 both : (a b : Bool) → (a && b) ≡ true → (a ≡ true) × (b ≡ true)
 both true b h = (refl, h)
 both false b h = cc
@@ -60,6 +61,7 @@ pub then_some : (test : Bool) (more : Option ℕ) (n : ℕ) → (if test then mo
 then_some true more n h = (refl, h)
 then_some false more n h = cc
 
+-- what gives a number is digits alone
 pub digits_after-only : (number n : ℕ) (bytes : List ℕ) → digits_after number bytes ≡ Some n → all_ascii_digits bytes ≡ true
 digits_after-only number n [] h = refl
 digits_after-only number n (byte ∷ bytes) h =
@@ -67,6 +69,7 @@ digits_after-only number n (byte ∷ bytes) h =
     let rest = digits_after-only (number * 10 + (byte - 48)) n bytes parts.1 in
     rw (parts.0, rest)
 
+-- a zero that stands alone leads nothing
 not_leading : (byte : ℕ) (bytes : List ℕ) → (byte ≡ 48 → length (byte ∷ bytes) ≡ 1) → has_leading_zero (byte ∷ bytes) ≡ false
 not_leading byte bytes first = grind (arith, nat_tests)
 
@@ -82,13 +85,16 @@ record IsSpelling (bytes : List ℕ) (n : ℕ) : Type 0 where
   first : get_or bytes 0 0 ≡ 48 → length bytes ≡ 1
   value : n ≡ digits_value 10 bytes
 
+-- a value that comes only where a test fails
 else_some : (test : Bool) (more : Option ℕ) (n : ℕ) → (if test then None else more) ≡ Some n → (test ≡ false) × (more ≡ Some n)
 else_some true more n h = cc
 else_some false more n h = (refl, h)
 
+-- where no zero leads, a zero stands alone
 leads : (byte : ℕ) (bytes : List ℕ) → has_leading_zero (byte ∷ bytes) ≡ false → byte ≡ 48 → length (byte ∷ bytes) ≡ 1
 leads byte bytes h e = grind (arith, nat_tests)
 
+-- a word that spells a number is digits without a leading zero
 number_of-only : (bytes : List ℕ) (n : ℕ) → number_of bytes ≡ Some n → IsSpelling bytes n
 number_of-only [] n h = cc
 number_of-only (byte ∷ bytes) n h =
@@ -97,14 +103,17 @@ number_of-only (byte ∷ bytes) n h =
     let same = digits_after-all 0 (byte ∷ bytes) all in
     record { some = omega arith; all = all; first = leads byte bytes parts.0; value = cc }
 
+-- the decimal of a number begins with a zero only for zero
 decimal_first : (n : ℕ) → n < 2 ^ 64 → get_or (decimal n) 0 0 ≡ 48 → length (decimal n) ≡ 1
 decimal_first zero small h = ap length (decimal_digit 0 (omega arith))
 decimal_first (suc n) small h = omega (arith, first_decimal (suc n) (omega arith) small)
 
+-- the decimal of a number is read as the number
 pub number_of-decimal : (n : ℕ) → n < 2 ^ 64 → number_of (decimal n) ≡ Some n
 number_of-decimal n small =
     number_of-all (decimal n) (decimal_nonempty n small) (digits_decimal own n small) (decimal_first n small) ∙ ap Some (digits_value-decimal own n small)
 
+-- what is read as a number is its decimal
 pub decimal-number_of : (bytes : List ℕ) (n : ℕ) → n < 2 ^ 64 → number_of bytes ≡ Some n → bytes ≡ decimal n
 decimal-number_of bytes n small h =
     let spelled = number_of-only bytes n h in
@@ -127,6 +136,7 @@ digits_onto-long (suc k) n acc h =
     let rest = digits_onto-long k (n / 10) (digit_glyph false (n % 10) ∷ acc) front in
     rw more (omega (arith, rest))
 
+-- the decimal of a number of more than 64 digits keeps 64 of them
 decimal-long : (n : ℕ) → 10 ^ 64 ≤ n → length (decimal n) ≡ 64
 unfolding digits
 decimal-long n h = omega (arith, digits_onto-long 64 n [] h)

@@ -46,6 +46,7 @@ lt_of_times-lt x y k h =
     let numbers : up x + down y < up y + down x = lt_of_mul-lt-mul_right k products in
     omega (arith, ints)
 
+-- the same where they may be equal, and the factor is above zero
 pub le_of_times-le : (x y : ℤ) (k : ℕ) → 0 < k → (x *ℤ pos k) ≤ℤ (y *ℤ pos k) → x ≤ℤ y
 le_of_times-le x y k p h =
     let products : (up x + down y) * k ≤ (up y + down x) * k = omega (arith, ints) in
@@ -114,6 +115,7 @@ floor_div-mono x y d p h =
     let floor = IsFloor-floor_div x d p in
     (le-floor_div_iff y (floor_div x d) d p).1 (omega (arith, ints, floor.reached))
 
+-- nor does rounding up change that
 pub ceil_div-mono : (x y : ℤ) (d : ℕ) → 0 < d → x ≤ℤ y → ceil_div x d ≤ℤ ceil_div y d
 ceil_div-mono x y d p h =
     let ceiling = IsCeiling-ceil_div y d p in
@@ -140,6 +142,7 @@ floor_div-add_multiple n x d p =
       greatest = omega (arith, ints, floor.greatest, ap (λ k. k * d) next, ap (λ k. k * d) last);
     })
 
+-- the same where the quotient is rounded up
 pub ceil_div-add_multiple : (n y : ℤ) (d : ℕ) → 0 < d → ceil_div ((pos d *ℤ n) +ℤ y) d ≡ n +ℤ ceil_div y d
 ceil_div-add_multiple n y d p =
     let turned : neg_ℤ ((pos d *ℤ n) +ℤ y) ≡ (pos d *ℤ neg_ℤ n) +ℤ neg_ℤ y =
@@ -164,5 +167,6 @@ floor_div-within (negsuc a) k d p h =
 pub IsFloor-answer : (a b q : ℤ) → pos 0 <ℤ b → q ≡ floor_div a (unsigned_abs b) → IsFloor a (unsigned_abs b) q
 IsFloor-answer a b q p e = rw e (IsFloor-floor_div a (unsigned_abs b) (omega (arith, ints)))
 
+-- the same where it rounds up
 pub IsCeiling-answer : (a b q : ℤ) → pos 0 <ℤ b → q ≡ ceil_div a (unsigned_abs b) → IsCeiling a (unsigned_abs b) q
 IsCeiling-answer a b q p e = rw e (IsCeiling-ceil_div a (unsigned_abs b) (omega (arith, ints)))

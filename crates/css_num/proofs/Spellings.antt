@@ -8,14 +8,16 @@ use Rattle.std.specs.Fmt.{decimal}
 use Rattle.css_num.specs.Words.{number_of, below_limit, whole_number_of, short_number_of, negative_of, signed_number_of, SpellsBelow, SpellsWithin}
 use Rattle.css_num.proofs.Numerals.{then_some, number_of-decimal, decimal-number_of, number_of-short, decimal-short}
 
--- what comes through a limit, and what doesn't
+-- what comes through a limit is below it
 below_some : (limit n : ℕ) (read : Option ℕ) → below_limit limit read ≡ Some n → (read ≡ Some n) × (n < limit)
 below_some limit n None h = cc
 below_some limit n (Some number) h = grind (arith, nat_tests)
 
+-- what is below a limit comes through it
 some_below : (limit n : ℕ) → n < limit → below_limit limit (Some n) ≡ Some n
 some_below limit n h = grind (arith, nat_tests)
 
+-- a word is read as a number below a limit exactly where it is its decimal
 pub whole_number_of-spelling : (bytes : List ℕ) (limit : ℕ) → limit ≤ 2 ^ 64 → (n : ℕ) → (whole_number_of bytes limit ≡ Some n) ↔ SpellsBelow bytes limit n
 whole_number_of-spelling bytes limit fits n = (
   λ h.
@@ -32,12 +34,14 @@ pub SpellsBelow-answer : (bytes : List ℕ) (limit : ℕ) (answer : Option ℕ) 
     → (n : ℕ) → (answer ≡ Some n) ↔ SpellsBelow bytes limit n
 SpellsBelow-answer bytes limit answer fits e = rw e (whole_number_of-spelling bytes limit fits)
 
+-- a number that is read of a short word
 short_some : (bytes : List ℕ) (digits n : ℕ) → short_number_of bytes digits ≡ Some n → (length bytes ≤ digits) × (number_of bytes ≡ Some n)
 short_some bytes digits n h =
     let parts = then_some (nat_le (length bytes) digits) (number_of bytes) n h in
     let few : length bytes ≤ digits = grind (arith, nat_tests) in
     (few, parts.1)
 
+-- a short word that spells a number is read
 some_short : (bytes : List ℕ) (digits n : ℕ) → length bytes ≤ digits → number_of bytes ≡ Some n → short_number_of bytes digits ≡ Some n
 some_short bytes digits n few h =
     let test : nat_le (length bytes) digits ≡ true = grind (arith, nat_tests) in
@@ -47,15 +51,18 @@ some_short bytes digits n few h =
 short_fits : (bytes : List ℕ) (n : ℕ) → length bytes ≤ 18 → number_of bytes ≡ Some n → n < 10 ^ 18
 short_fits bytes n few h = number_of-short bytes 18 n few h
 
+-- the number of a short word comes through the limit of 2 ^ 64
 below_is : (bytes : List ℕ) (read : Option ℕ) → length bytes ≤ 18 → number_of bytes ≡ read → below_limit (2 ^ 64) read ≡ read
 below_is bytes None few h = refl
 below_is bytes (Some n) few h = some_below (2 ^ 64) n (omega (arith, short_fits bytes n few h))
 
+-- so reading it under that limit changes nothing
 pub short_number_of-below : (bytes : List ℕ) (digits : ℕ) → length bytes ≤ digits → digits ≤ 18 → below_limit (2 ^ 64) (number_of bytes) ≡ short_number_of bytes digits
 short_number_of-below bytes digits few most =
     let test : nat_le (length bytes) digits ≡ true = grind (arith, nat_tests) in
     rw test (below_is bytes (number_of bytes) (omega arith) refl)
 
+-- and it is below 10 ^ 18
 pub short_number_of-small : (bytes : List ℕ) (digits n : ℕ) → digits ≤ 18 → short_number_of bytes digits ≡ Some n → n < 10 ^ 18
 short_number_of-small bytes digits n most h =
     let parts = short_some bytes digits n h in
@@ -82,6 +89,7 @@ plain_spelled bytes digits z (Some n) most short h =
     let is : z ≡ pos n = cc in
     rw is (record { spelling = spelling; short = omega (arith, parts.0, ap length spelling) })
 
+-- a word that is read as a number is its decimal
 pub SpellsWithin-signed_number_of : (bytes : List ℕ) (digits : ℕ) (z : ℤ) → digits ≤ 18 → signed_number_of bytes digits ≡ Some z → SpellsWithin bytes digits z
 SpellsWithin-signed_number_of [] digits z most h = cc
 SpellsWithin-signed_number_of (byte ∷ bytes) digits z most h =
@@ -95,6 +103,7 @@ decimal_plain : (n : ℕ) → n < 2 ^ 64 → 45 < get_or (decimal n) 0 0
 decimal_plain zero small = rw (decimal_digit 0 (omega arith)) (omega arith)
 decimal_plain (suc n) small = omega (arith, first_decimal (suc n) (omega arith) small)
 
+-- a word that begins with no `-` is read without a sign
 plain_read : (bytes : List ℕ) (digits n : ℕ) → 0 < length bytes → 45 < get_or bytes 0 0 → short_number_of bytes digits ≡ Some n → signed_number_of bytes digits ≡ Some (pos n)
 plain_read [] digits n some plain h = absurd (omega arith)
 plain_read (byte ∷ bytes) digits n some plain h =
@@ -120,6 +129,7 @@ SpellsWithin-answer bytes digits answer most e z = (
   λ spelled. e ∙ signed_number_of-spelled bytes digits z most spelled,
 )
 
+-- the number that such a function answers has at most so many digits
 pub signed_number_of-small : (bytes : List ℕ) (digits : ℕ) (answer : Option ℤ) → digits ≤ 18 → answer ≡ signed_number_of bytes digits
     → IfSome answer (λ z. unsigned_abs z < 10 ^ digits)
 signed_number_of-small bytes digits None most e = tt
