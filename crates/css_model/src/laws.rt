@@ -2,6 +2,7 @@
 //! proves it like any contract, and later crates rest on it.
 
 ghost use Rattle.css_model.specs.Explains.{WallIsTrue, TruthIsAccepted};
+ghost use Rattle.css_model.specs.Examples.{IsExample, one_exchange, follow_up_after_sleep};
 ghost use Rattle.css_model.specs.Truth.{SpansAreTrue};
 ghost use Rattle.css_model.specs.WallClock.{FrontierIsEnough, NarrowestIsLeast, SpansAreTheStandard};
 
@@ -38,4 +39,12 @@ pub fn wall_is_true()
 /// In each such world a truthful answer is accepted when it lands.
 pub fn truth_is_accepted()
     ensures { TruthIsAccepted }
+{}
+
+/// What the last two laws take for granted can be had: two worlds, each with a lawful history that it explains, and the
+/// span that is then told. The first is one exchange between exact clocks; the second has clocks that drift, readings
+/// that are off by up to their precision, a sleep, a late answer, and a response with its follow-up.
+pub fn premises_can_be_met()
+    ensures exact { IsExample one_exchange }
+    ensures drifting { IsExample follow_up_after_sleep }
 {}
