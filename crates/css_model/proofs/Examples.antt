@@ -1,10 +1,10 @@
 -- The two examples hold.
-use Rattle.std.proofs.Common.{◌≡◌, ℕ, ◌+◌, ◌-◌, ◌*◌, ◌<◌, ◌≤◌, min, refl, arith, [], ◌∷◌, length, drop, inl, inr, ap}
-use Rattle.std.specs.Prelude.{Option, Some, None, ◌==◌, if◌then◌else◌, IfSome, ⊤}
+use Rattle.std.proofs.Common.{◌≡◌, ℕ, ◌+◌, ◌-◌, ◌*◌, min, refl, arith, [], ◌∷◌, length, drop, inl, inr, ap}
+use Rattle.std.specs.Prelude.{Some, None, ◌==◌, if◌then◌else◌, ⊤}
 use Rattle.std.proofs.lemmas.Option.{cond_some, MatchOption-at_some}
-use Rattle.css_model.specs.Numbers.{LIMIT, IsWithin}
-use Rattle.css_model.specs.WallClock.{Answer, Local, lower, upper, lo, hi, scaled_width}
-use Rattle.css_model.specs.World.{World, OwnClock, Reads, IsWorldFor, IsInRange}
+use Rattle.css_model.specs.Numbers.{IsWithin}
+use Rattle.css_model.specs.WallClock.{Answer, lower, upper, lo, hi, scaled_width}
+use Rattle.css_model.specs.World.{OwnClock, Reads, IsWorldFor, IsInRange}
 use Rattle.css_model.specs.Truth.{Contains}
 use Rattle.css_model.specs.Wire.{encoded, fault, fields, stamp_of}
 use Rattle.css_model.specs.declared.Why.TheVariants as why
