@@ -25,7 +25,7 @@ contains_of : (e : Example) → IsWorldFor e.errors e.world 1 e.own → IsLawful
     → wall_answer e.own e.history e.reading ≡ Some e.answer → Contains e.own e.answer e.reading (e.world (length e.history)).wall
 contains_of e is_world lawful explained narrowest =
     MatchOption-at_some ⊤ (λ (a : Answer). Contains e.own a e.reading (e.world (length e.history)).wall) e.answer narrowest
-    (wall_is_true e.errors e.world 1 e.own e.history why.Turn e.reading (λ number. number) is_world lawful explained)
+    (wall_is_true e.errors e.world 1 e.own (Clock why.Turn e.reading ∷ e.history) (λ number. number) is_world lawful explained).0
 
 -- ---- one exchange between exact clocks
 exact_is_world : IsWorldFor one_exchange.errors exact_world 1 one_exchange.own

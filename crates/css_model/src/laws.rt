@@ -30,13 +30,14 @@ pub fn frontier_is_enough()
 {}
 
 /// In each world that keeps the oscillators' errors and explains what a companion did, the span of its narrowest
-/// accepted answer contains the television's wall clock. This is the heart of what the program promises: whatever
-/// datagrams were lost, repeated or reordered, and however often the companion slept.
+/// accepted answer contains the television's wall clock, at every reading of the companion's clock: whatever datagrams
+/// were lost, repeated or reordered, and however often it slept.
 pub fn wall_is_true()
     ensures { WallIsTrue }
 {}
 
-/// In each such world a truthful answer is accepted when it lands.
+/// In each world that keeps the oscillators' errors and that has the readings of a companion, a truthful answer is
+/// accepted when it lands: what is refused then as contradicting itself isn't what a television said.
 pub fn truth_is_accepted()
     ensures { TruthIsAccepted }
 {}
