@@ -14,7 +14,8 @@ use Rattle.css_model.specs.Examples.{Example, IsExample, exact_world, one_exchan
 use Rattle.css_model.proofs.Wall.{wall_is_true}
 
 -- the clock that a companion has is the one that the world gives companion 1
-same_clock : (who : ℕ) (clock a : OwnClock) → (if who == 1 then Some clock else None) ≡ Some a → (clock.value ≡ a.value) × (clock.sleeps ≡ a.sleeps)
+same_clock : (who : ℕ) (clock a : OwnClock) → (if who == 1 then Some clock else None) ≡ Some a
+    → (clock.value ≡ a.value) × (clock.sleeps ≡ a.sleeps)
 same_clock who clock a e =
     let same = cond_some (who == 1) clock a e in
     (ap (λ (c : OwnClock). c.value) same.1, ap (λ (c : OwnClock). c.sleeps) same.1)
@@ -22,10 +23,13 @@ same_clock who clock a e =
 -- what the law of the wall clock then says of an example
 contains_of : (e : Example) → IsWorldFor e.errors e.world 1 e.own → IsLawful (Clock why.Turn e.reading ∷ e.history)
     → Explains e.world 1 e.errors.tv e.own (Clock why.Turn e.reading ∷ e.history) (λ number. number)
-    → wall_answer e.own e.history e.reading ≡ Some e.answer → Contains e.own e.answer e.reading (e.world (length e.history)).wall
+    → wall_answer e.own e.history e.reading ≡ Some e.answer
+    → Contains e.own e.answer e.reading (e.world (length e.history)).wall
 contains_of e is_world lawful explained narrowest =
-    MatchOption-at_some ⊤ (λ (a : Answer). Contains e.own a e.reading (e.world (length e.history)).wall) e.answer narrowest
-    (wall_is_true e.errors e.world 1 e.own (Clock why.Turn e.reading ∷ e.history) (λ number. number) is_world lawful explained).0
+    MatchOption-at_some ⊤ (λ (a : Answer). Contains e.own a e.reading (e.world (length e.history)).wall) e.answer
+    narrowest
+    (wall_is_true e.errors e.world 1 e.own (Clock why.Turn e.reading ∷ e.history) (λ number. number) is_world lawful
+    explained).0
 
 -- ---- one exchange between exact clocks
 exact_is_world : IsWorldFor one_exchange.errors exact_world 1 one_exchange.own
@@ -53,9 +57,16 @@ exact_lawful = record {
 -- the companion's clock at a moment of the exact world
 exact_reads : (i reading : ℕ) → 1000 + 200 * min i 3 ≡ reading → Reads exact_world 1 i 0 reading 0
 exact_reads i reading e =
-    record { clock = record { value = 1000 + 200 * min i 3; sleeps = 0 }; shows = refl; awake = refl; near = omega arith }
+    record {
+      clock = record { value = 1000 + 200 * min i 3; sleeps = 0 };
+      shows = refl;
+      awake = refl;
+      near =
+          omega arith;
+    }
 
-exact_explained : Explains exact_world 1 0 one_exchange.own (Clock why.Turn 1600 ∷ one_exchange.history) (λ number. number)
+exact_explained : Explains exact_world 1 0 one_exchange.own (Clock why.Turn 1600 ∷ one_exchange.history)
+    (λ number. number)
 unfolding encoded fault fields scaled_width lower upper
 exact_explained = record {
   happens = record {
@@ -90,7 +101,8 @@ exact_narrowest : wall_answer one_exchange.own one_exchange.history 1600 ≡ Som
 unfolding encoded fault fields scaled_width lower upper
 exact_narrowest = refl
 
-exact_ends : (lo one_exchange.own one_exchange.answer 1600 ≡ one_exchange.low) × (hi one_exchange.own one_exchange.answer 1600 ≡ one_exchange.high)
+exact_ends : (lo one_exchange.own one_exchange.answer 1600 ≡ one_exchange.low)
+    × (hi one_exchange.own one_exchange.answer 1600 ≡ one_exchange.high)
 unfolding lo hi lower upper
 exact_ends = (refl, refl)
 
@@ -124,7 +136,8 @@ drifting_in_range = record { tv = λ i. omega arith; companion = λ who i a p. o
 
 -- the second request's reading is above the first one's, which is before the sleep
 drifting_rises : Each RisesAt (Clock why.Turn 5998000 ∷ follow_up_after_sleep.history)
-drifting_rises = (tt, (tt, (tt, (tt, (tt, (tt, (tt, (tt, ((tt, (tt, ((λ _. omega arith), tt))), (tt, (tt, (tt, tt))))))))))))
+drifting_rises =
+    (tt, (tt, (tt, (tt, (tt, (tt, (tt, (tt, ((tt, (tt, ((λ _. omega arith), tt))), (tt, (tt, (tt, tt))))))))))))
 
 drifting_asks : Each AsksAt (Clock why.Turn 5998000 ∷ follow_up_after_sleep.history)
 unfolding encoded fault fields
@@ -158,7 +171,8 @@ drifting_lawful : IsLawful (Clock why.Turn 5998000 ∷ follow_up_after_sleep.his
 drifting_lawful = record { rises = drifting_rises; asks = drifting_asks }
 
 -- the companion's clock at a moment of the drifting world
-drifting_reads : (i reading sleeps : ℕ) → min (i - 1) 1 ≡ sleeps → IsWithin 1000 reading (1000000 + 499750 * (min i 11 - min (i - 1) 1))
+drifting_reads : (i reading sleeps : ℕ) → min (i - 1) 1 ≡ sleeps
+    → IsWithin 1000 reading (1000000 + 499750 * (min i 11 - min (i - 1) 1))
     → Reads drifting_world 1 i 1000 reading sleeps
 drifting_reads i reading sleeps slept near = record {
   clock = record { value = 1000000 + 499750 * (min i 11 - min (i - 1) 1); sleeps = min (i - 1) 1 };
@@ -167,7 +181,8 @@ drifting_reads i reading sleeps slept near = record {
   near = near;
 }
 
-drifting_happens : HappensIn drifting_world 1 follow_up_after_sleep.own (Clock why.Turn 5998000 ∷ follow_up_after_sleep.history) (λ number. number)
+drifting_happens : HappensIn drifting_world 1 follow_up_after_sleep.own
+    (Clock why.Turn 5998000 ∷ follow_up_after_sleep.history) (λ number. number)
 drifting_happens =
     let turn = drifting_reads 11 5998000 1 refl (omega arith) in
     let follow_up = drifting_reads 10 5497750 1 refl (omega arith) in
@@ -183,10 +198,17 @@ drifting_happens =
 -- the second request, of which the response and its follow-up tell, where so many entries came after it
 drifting_asked : WasAsked (stamp_of 1999900) 3 (drop 6 follow_up_after_sleep.history)
 unfolding encoded fault fields
-drifting_asked = inl (1999900, drop 8 follow_up_after_sleep.history, refl, record { just_before = refl; same = refl }, refl)
+drifting_asked = inl (
+  1999900,
+  drop 8 follow_up_after_sleep.history,
+  refl,
+  record { just_before = refl; same = refl },
+  refl,
+)
 
 drifting_response : IsTruthful drifting_world 64000 (λ number. number)
-    (record { message = drifting_answer 2 1999900 5102025000 5102025000; reading = 4499000 }) (drop 3 follow_up_after_sleep.history)
+    (record { message = drifting_answer 2 1999900 5102025000 5102025000; reading = 4499000 })
+    (drop 3 follow_up_after_sleep.history)
 drifting_response = record {
   ask = 3;
   received_at = 5;
@@ -205,7 +227,8 @@ drifting_response = record {
 }
 
 drifting_follow_up : IsTruthful drifting_world 64000 (λ number. number)
-    (record { message = drifting_answer 3 1999900 5102025000 5102526000; reading = 5497750 }) (drop 1 follow_up_after_sleep.history)
+    (record { message = drifting_answer 3 1999900 5102025000 5102526000; reading = 5497750 })
+    (drop 1 follow_up_after_sleep.history)
 unfolding encoded fault fields
 drifting_follow_up = record {
   ask = 3;
@@ -224,14 +247,22 @@ drifting_follow_up = record {
   promised_later = λ _. (tt, ((λ _. omega arith), (tt, (tt, (tt, (tt, (tt, (tt, (tt, (tt, tt))))))))));
 }
 
-drifting_explained : Explains drifting_world 1 64000 follow_up_after_sleep.own (Clock why.Turn 5998000 ∷ follow_up_after_sleep.history) (λ number. number)
+drifting_explained : Explains drifting_world 1 64000 follow_up_after_sleep.own
+    (Clock why.Turn 5998000 ∷ follow_up_after_sleep.history) (λ number. number)
 unfolding encoded fault fields scaled_width lower upper
 drifting_explained = record {
   happens = drifting_happens;
-  truthful = (tt, ((λ _. drifting_follow_up), (tt, ((λ _. drifting_response), (tt, (tt, (tt, (tt, (tt, (tt, (tt, (tt, tt))))))))))));
+  truthful = (
+    tt,
+    (
+      (λ _. drifting_follow_up),
+      (tt, ((λ _. drifting_response), (tt, (tt, (tt, (tt, (tt, (tt, (tt, (tt, tt)))))))))),
+    ),
+  );
 }
 
-drifting_narrowest : wall_answer follow_up_after_sleep.own follow_up_after_sleep.history 5998000 ≡ Some follow_up_after_sleep.answer
+drifting_narrowest : wall_answer follow_up_after_sleep.own follow_up_after_sleep.history 5998000
+    ≡ Some follow_up_after_sleep.answer
 unfolding encoded fault fields scaled_width lower upper
 drifting_narrowest = refl
 

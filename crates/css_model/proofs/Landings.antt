@@ -25,27 +25,34 @@ unfolding fault
 fault-none bytes e =
     let after_version = cond (nat_lt 3 (slice_index bytes 1)) (Some faults.MessageType) (field_fault (fields bytes)) in
     none_after (nat_lt 3 (slice_index bytes 1)) faults.MessageType (field_fault (fields bytes))
-    (none_after (not (slice_index bytes 0 == 0)) faults.Version after_version (none_after (not (length bytes == 32)) faults.Length _ e))
+    (none_after (not (slice_index bytes 0 == 0)) faults.Version after_version
+    (none_after (not (length bytes == 32)) faults.Length _ e))
 
 -- an answer whose fields have no fault declares an error in its range
-field_fault-none : (message : Message) → (message.message_type == 0) ≡ false → field_fault message ≡ None → message.error ≤ max_error
+field_fault-none : (message : Message) → (message.message_type == 0) ≡ false → field_fault message ≡ None
+    → message.error ≤ max_error
 field_fault-none message answer e =
     by (nat_lt max_error message.error) refl
     (none_after (int_lt (pos 30) message.precision) faults.Precision after_precision
-    (sym (cond-false (message.message_type == 0) None (cond (int_lt (pos 30) message.precision) (Some faults.Precision) after_precision) answer) ∙ e))
+    (sym (cond-false (message.message_type == 0) None
+    (cond (int_lt (pos 30) message.precision) (Some faults.Precision) after_precision) answer) ∙ e))
   where
     after_precision : Option WcFault
     after_precision = cond (nat_lt max_error message.error) (Some faults.Error)
-        (cond (nat_lt message.receive.nanoseconds second && nat_lt message.transmit.nanoseconds second) None (Some faults.Nanoseconds))
+        (cond (nat_lt message.receive.nanoseconds second && nat_lt message.transmit.nanoseconds second) None
+        (Some faults.Nanoseconds))
 
     by : (t : Bool) → nat_lt max_error message.error ≡ t
-        → cond t (Some faults.Error) (cond (nat_lt message.receive.nanoseconds second && nat_lt message.transmit.nanoseconds second) None (Some faults.Nanoseconds)) ≡ None
+        → cond t (Some faults.Error)
+        (cond (nat_lt message.receive.nanoseconds second && nat_lt message.transmit.nanoseconds second) None
+        (Some faults.Nanoseconds)) ≡ None
         → message.error ≤ max_error
     by true e h = absurd (cc)
     by false e h = ltb-false max_error message.error e
 
 -- what decodes has no fault and is the fields
-unless_fault-ok : (first : Option WcFault) (a b : Message) → result_ok (unless_fault first a) ≡ Some b → (first ≡ None) × (a ≡ b)
+unless_fault-ok : (first : Option WcFault) (a b : Message) → result_ok (unless_fault first a) ≡ Some b
+    → (first ≡ None) × (a ≡ b)
 unless_fault-ok None a b e = (refl, cc)
 unless_fault-ok (Some x) a b e = absurd (cc)
 
@@ -72,15 +79,18 @@ pub record IsLanding (entry : Entry) (older : History) (landed : LandedAnswer) :
   pub error : landed.message.error ≤ max_error
 
 -- a landing is a reading of the clock
-landing_at-reading : (entry : Entry) (r : ℕ) → landing_at entry ≡ Some r → (reading_at entry ≡ Some r) × (is_sleep entry ≡ false)
+landing_at-reading : (entry : Entry) (r : ℕ) → landing_at entry ≡ Some r
+    → (reading_at entry ≡ Some r) × (is_sleep entry ≡ false)
 landing_at-reading (Clock why.Land reading) r e = (e, refl)
 landing_at-reading (Clock w reading) r e = absurd (cc)
 landing_at-reading _ r e = absurd (cc)
 
 -- what lands is known so
-pub landed_answer-is : (entry : Entry) (older : History) (landed : LandedAnswer) → landed_answer entry older ≡ Some landed → IsLanding entry older landed
+pub landed_answer-is : (entry : Entry) (older : History) (landed : LandedAnswer)
+    → landed_answer entry older ≡ Some landed → IsLanding entry older landed
 landed_answer-is entry older landed e =
-    option_and_then_some (λ r. option_and_then (λ m. cond (is_asked m.originate older) (Some (record { message = m; reading = r })) None)
+    option_and_then_some
+    (λ r. option_and_then (λ m. cond (is_asked m.originate older) (Some (record { message = m; reading = r })) None)
     (option_and_then answer_in (just_taken older))) (landing_at entry) landed e (λ r p q.
     option_and_then_some (λ m. cond (is_asked m.originate older) (Some (record { message = m; reading = r })) None)
     (option_and_then answer_in (just_taken older)) landed q (λ m s t.

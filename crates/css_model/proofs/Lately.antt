@@ -29,7 +29,11 @@ lesser-in f x a (Some y) e = by (int_lt (f x) (f y)) e
 -- the least item is one of them
 pub least_by-in : {A : Type 0} (f : A → ℤ) (xs : List A) (a : A) → least_by f xs ≡ Some a → IsIn a xs
 least_by-in f [] a e = absurd (cc)
-least_by-in f (x ∷ older) a e = elim (lesser-in f x a (least_by f older) e) [ inl p ↦ inl p | inr q ↦ inr (least_by-in f older a q) ]
+least_by-in f (x ∷ older) a e = elim (lesser-in f x a (least_by f older) e) [
+  | inl p ↦ inl p
+  | inr q ↦ inr
+      (least_by-in f older a q)
+]
 
 -- ---- entries since the last sleep
 -- P holds of some entry since the last sleep and of what came before it
@@ -84,7 +88,8 @@ found P Q (entry ∷ older) (awake, inr p) q =
 -- an answer that landed with this entry, was possible, and has these times
 abbrev pub LandedAs : Local → Answer → Entry → History → Type 0
 LandedAs own a entry older =
-    (x : LandedAnswer) × (landed_answer entry older ≡ Some x) × (is_possible own x (landed_answers older) ≡ true) × (a ≡ times_of x (landed_answers older))
+    (x : LandedAnswer) × (landed_answer entry older ≡ Some x) × (is_possible own x (landed_answers older) ≡ true)
+    × (a ≡ times_of x (landed_answers older))
 
 -- an accepted answer landed since the last sleep
 pub possible_answers-lately : (own : Local) (a : Answer) (history : History)
@@ -96,7 +101,8 @@ possible_answers-lately own a (entry ∷ older) h =
     pick : (x : LandedAnswer) → (IsIn a (possible_answers own (landed_answers older)) → Lately (LandedAs own a) older)
         → is_sleep entry ≡ false → landed_answer entry older ≡ Some x
         → (s : Bool) → is_possible own x (landed_answers older) ≡ s
-        → IsIn a (cond s (times_of x (landed_answers older) ∷ possible_answers own (landed_answers older)) (possible_answers own (landed_answers older)))
+        → IsIn a (cond s (times_of x (landed_answers older) ∷ possible_answers own (landed_answers older))
+        (possible_answers own (landed_answers older)))
         → Lately (LandedAs own a) (entry ∷ older)
     pick x rest awake e true q (inl p) = (awake, inl (x, e, q, p))
     pick x rest awake e true q (inr r) = (awake, inr (rest r))
@@ -104,7 +110,8 @@ possible_answers-lately own a (entry ∷ older) h =
 
     by : (IsIn a (possible_answers own (landed_answers older)) → Lately (LandedAs own a) older)
         → (t : Bool) → is_sleep entry ≡ t → (o : Option LandedAnswer) → landed_answer entry older ≡ o
-        → IsIn a (possible_answers own (cond t [] (option_to_list o ++ landed_answers older))) → Lately (LandedAs own a) (entry ∷ older)
+        → IsIn a (possible_answers own (cond t [] (option_to_list o ++ landed_answers older)))
+        → Lately (LandedAs own a) (entry ∷ older)
     by rest true awake o e h = absurd h
     by rest false awake None e h = (awake, inr (rest h))
     by rest false awake (Some x) e h = pick x rest awake e (is_possible own x (landed_answers older)) refl h
@@ -131,14 +138,16 @@ first_promised_at-lately m r (entry ∷ older) h =
     pick : (x : LandedAnswer) → (first_promised_at m (landed_answers older) ≡ Some r → Lately (PromisedAt m r) older)
         → is_sleep entry ≡ false → landed_answer entry older ≡ Some x
         → (s : Bool) → is_promise_of x m ≡ s
-        → cond s (Some (unwrap_or (first_promised_at m (landed_answers older)) x.reading)) (first_promised_at m (landed_answers older)) ≡ Some r
+        → cond s (Some (unwrap_or (first_promised_at m (landed_answers older)) x.reading))
+        (first_promised_at m (landed_answers older)) ≡ Some r
         → Lately (PromisedAt m r) (entry ∷ older)
     pick x rest awake e true q h = first x awake e q (first_promised_at m (landed_answers older)) refl rest h
     pick x rest awake e false q h = (awake, inr (rest h))
 
     by : (first_promised_at m (landed_answers older) ≡ Some r → Lately (PromisedAt m r) older)
         → (t : Bool) → is_sleep entry ≡ t → (o : Option LandedAnswer) → landed_answer entry older ≡ o
-        → first_promised_at m (cond t [] (option_to_list o ++ landed_answers older)) ≡ Some r → Lately (PromisedAt m r) (entry ∷ older)
+        → first_promised_at m (cond t [] (option_to_list o ++ landed_answers older)) ≡ Some r
+        → Lately (PromisedAt m r) (entry ∷ older)
     by rest true awake o e h = absurd (cc)
     by rest false awake None e h = (awake, inr (rest h))
     by rest false awake (Some x) e h = pick x rest awake e (is_promise_of x m) refl h
@@ -164,7 +173,8 @@ list_any-take p zero (x ∷ xs) e = absurd (false≢true e)
 list_any-take p (suc k) [] e = absurd (false≢true e)
 list_any-take p (suc k) (x ∷ xs) e = by (p x) e (list_any-take p k xs)
   where
-    by : (t : Bool) → (t || list_any p (take k xs)) ≡ true → (list_any p (take k xs) ≡ true → list_any p xs ≡ true) → (t || list_any p xs) ≡ true
+    by : (t : Bool) → (t || list_any p (take k xs)) ≡ true → (list_any p (take k xs) ≡ true → list_any p xs ≡ true)
+        → (t || list_any p xs) ≡ true
     by true e rest = refl
     by false e rest = rest e
 
@@ -176,22 +186,27 @@ Requests originate entry older = request_by entry ≡ Some originate
 requests-lately : (originate : Stamp) (history : History)
     → list_any (λ s. is_same_stamp s originate) (requests history) ≡ true → Lately (Requests originate) history
 requests-lately originate [] e = absurd (false≢true e)
-requests-lately originate (entry ∷ older) e = by (requests-lately originate older) (is_sleep entry) refl (request_by entry) refl e
+requests-lately originate (entry ∷ older) e =
+    by (requests-lately originate older) (is_sleep entry) refl (request_by entry) refl e
   where
     pick : (list_any (λ s. is_same_stamp s originate) (requests older) ≡ true → Lately (Requests originate) older)
         → is_sleep entry ≡ false → (s : Stamp) → request_by entry ≡ Some s
-        → (t : Bool) → is_same_stamp s originate ≡ t → (t || list_any (λ s. is_same_stamp s originate) (requests older)) ≡ true
+        → (t : Bool) → is_same_stamp s originate ≡ t
+        → (t || list_any (λ s. is_same_stamp s originate) (requests older)) ≡ true
         → Lately (Requests originate) (entry ∷ older)
     pick rest awake s q true e h = (awake, inl (q ∙ ap (λ (o : Stamp). Some o) (is_same_stamp-true s originate e)))
     pick rest awake s q false e h = (awake, inr (rest h))
 
     by : (list_any (λ s. is_same_stamp s originate) (requests older) ≡ true → Lately (Requests originate) older)
         → (t : Bool) → is_sleep entry ≡ t → (o : Option Stamp) → request_by entry ≡ o
-        → list_any (λ s. is_same_stamp s originate) (cond t [] (option_to_list o ++ requests older)) ≡ true → Lately (Requests originate) (entry ∷ older)
+        → list_any (λ s. is_same_stamp s originate) (cond t [] (option_to_list o ++ requests older)) ≡ true
+        → Lately (Requests originate) (entry ∷ older)
     by rest true awake o q h = absurd (false≢true h)
     by rest false awake None q h = (awake, inr (rest h))
     by rest false awake (Some s) q h = pick rest awake s q (is_same_stamp s originate) refl h
 
 -- what is asked was sent since the last sleep
-pub is_asked-lately : (originate : Stamp) (history : History) → is_asked originate history ≡ true → Lately (Requests originate) history
-is_asked-lately originate history e = requests-lately originate history (list_any-take (λ s. is_same_stamp s originate) 64 (requests history) e)
+pub is_asked-lately : (originate : Stamp) (history : History) → is_asked originate history ≡ true
+    → Lately (Requests originate) history
+is_asked-lately originate history e = requests-lately originate history (list_any-take
+    (λ s. is_same_stamp s originate) 64 (requests history) e)

@@ -14,22 +14,26 @@ pub HappensIn-older : (world : World) (who : ℕ) (own : Local) (entry : Entry) 
     → HappensIn world who own (entry ∷ older) moment_of → HappensIn world who own older moment_of
 HappensIn-older world who own entry older moment_of h = record { in_order = h.in_order; reads = h.reads.1 }
 
-pub Explains-older : (world : World) (who tv_error : ℕ) (own : Local) (entry : Entry) (older : History) (moment_of : ℕ → ℕ)
+pub Explains-older : (world : World) (who tv_error : ℕ) (own : Local) (entry : Entry) (older : History)
+    (moment_of : ℕ → ℕ)
     → Explains world who tv_error own (entry ∷ older) moment_of → Explains world who tv_error own older moment_of
 Explains-older world who tv_error own entry older moment_of h =
     record { happens = HappensIn-older world who own entry older moment_of h.happens; truthful = h.truthful.1 }
 
 -- an entry that is no sleep leaves every accepted answer accepted, and adds one at most
 pub accepted_answers-awake : (own : Local) (entry : Entry) (older : History) → is_sleep entry ≡ false
-    → (newest : Option Answer) × (accepted_answers own (entry ∷ older) ≡ option_to_list newest ++ accepted_answers own older)
+    → (newest : Option Answer) × (accepted_answers own (entry ∷ older) ≡ option_to_list newest
+    ++ accepted_answers own older)
 accepted_answers-awake own entry older awake = rw awake (by (landed_answer entry older))
   where
     choose : (landed : LandedAnswer) → (t : Bool)
-        → (newest : Option Answer) × (cond t (times_of landed (landed_answers older) ∷ accepted_answers own older) (accepted_answers own older) ≡ option_to_list newest ++ accepted_answers own older)
+        → (newest : Option Answer) × (cond t (times_of landed (landed_answers older) ∷ accepted_answers own older)
+        (accepted_answers own older) ≡ option_to_list newest ++ accepted_answers own older)
     choose landed true = (Some (times_of landed (landed_answers older)), refl)
     choose landed false = (None, refl)
 
     by : (o : Option LandedAnswer)
-        → (newest : Option Answer) × (possible_answers own (option_to_list o ++ landed_answers older) ≡ option_to_list newest ++ accepted_answers own older)
+        → (newest : Option Answer) × (possible_answers own (option_to_list o ++ landed_answers older)
+        ≡ option_to_list newest ++ accepted_answers own older)
     by None = (None, refl)
     by (Some landed) = choose landed (is_possible own landed (landed_answers older))

@@ -24,7 +24,8 @@ each-and P Q [] p q = tt
 each-and P Q (entry ∷ older) p q = ((p.0, q.0), each-and P Q older p.1 q.1)
 
 -- and the first of them alone
-pub each-first : (P Q : Entry → History → Type 0) (history : History) → Each (λ entry older. P entry older × Q entry older) history → Each P history
+pub each-first : (P Q : Entry → History → Type 0) (history : History)
+    → Each (λ entry older. P entry older × Q entry older) history → Each P history
 each-first P Q [] h = tt
 each-first P Q (entry ∷ older) h = (h.0.0, each-first P Q older h.1)
 
@@ -53,8 +54,10 @@ longer Q originate number entry older a = record {
 }
 
 -- the request of the entry whose reading is the newest of `older`
-newest : (Q : Entry → History → Type 0) (originate : Stamp) (number reading : ℕ) (before : History) (entry : Entry) (older : History)
-    → Each Q older → IsAskedAt originate reading before older → number ≡ length before → Asking Q originate number (entry ∷ older)
+newest : (Q : Entry → History → Type 0) (originate : Stamp) (number reading : ℕ) (before : History) (entry : Entry)
+    (older : History)
+    → Each Q older → IsAskedAt originate reading before older → number ≡ length before
+    → Asking Q originate number (entry ∷ older)
 newest Q originate number reading before entry older q asked is_number = record {
   reading = reading;
   before = before;
@@ -70,20 +73,24 @@ asking : (Q : Entry → History → Type 0) (originate : Stamp) (number : ℕ) (
     → Each Q history → WasAsked originate number history → Asking Q originate number history
 asking Q originate number [] q w = absurd w
 asking Q originate number (entry ∷ older) q (inl w) = newest Q originate number w.0 w.1 entry older q.1 w.3 w.4
-asking Q originate number (entry ∷ older) q (inr w) = longer Q originate number entry older (asking Q originate number older q.1 w)
+asking Q originate number (entry ∷ older) q (inr w) =
+    longer Q originate number entry older (asking Q originate number older q.1 w)
 
 -- what is said of each entry implies that the history is lawful there
 abbrev pub SaysLawful : (Entry → History → Type 0) → Type 0
 SaysLawful Q = (entry : Entry) (older : History) → Q entry older → RisesAt entry older × AsksAt entry older
 
 -- where a request has the originate value of one before it, no sleep lies between them
-repeated : (Q : Entry → History → Type 0) → SaysLawful Q → (originate : Stamp) (number : ℕ) (history : History) (reading : ℕ) (before : History)
+repeated : (Q : Entry → History → Type 0) → SaysLawful Q
+    → (originate : Stamp) (number : ℕ) (history : History) (reading : ℕ) (before : History)
     → Each Q (Clock why.Ask reading ∷ before) → originate ≡ stamp_of reading
-    → WasAsked originate number (Clock why.Ask reading ∷ before) → sleeps before ≡ sleeps history → length before < length history
+    → WasAsked originate number (Clock why.Ask reading ∷ before) → sleeps before ≡ sleeps history
+    → length before < length history
     → (a : Asking Q originate number history) × (sleeps a.before ≡ sleeps history)
 repeated Q lawful originate number history reading before q same (inl w) awake shorter = absurd (cc (w.2))
 repeated Q lawful originate number history reading before q same (inr w) awake shorter =
-    let Rises : Entry → History → Type 0 = λ earlier b. IfSome (asking_at earlier) (λ r. sleeps b < sleeps before → r < reading) in
+    let Rises : Entry → History → Type 0 = λ earlier b. IfSome (asking_at earlier) (λ r. sleeps b < sleeps before
+    → r < reading) in
     let rises : Each Rises before = (lawful (Clock why.Ask reading) before q.0).0 in
     let a : Asking (λ e o. Q e o × Rises e o) originate number before =
     asking (λ e o. Q e o × Rises e o) originate number before (each-and Q Rises before q.1 rises) w in
@@ -116,7 +123,8 @@ awake_asking Q lawful originate number (entry ∷ older) q (awake, inr l) (inr w
     let f = awake_asking Q lawful originate number older q.1 l w in
     (longer Q originate number entry older f.0, f.1 ∙ sym (sleeps-awake entry older awake))
 awake_asking Q lawful originate number (entry ∷ older) q (awake, inl l) (inr w) =
-    let k = MatchOption-at_some ⊤ (λ (o : Stamp). (reading : ℕ) × (before : History) × IsAskedAt o reading before older) originate l
+    let k = MatchOption-at_some ⊤ (λ (o : Stamp). (reading : ℕ) × (before : History) × IsAskedAt o reading before older)
+    originate l
     (lawful entry older q.0).1 in
     repeated Q lawful originate number (entry ∷ older) k.0 k.1 (subst (λ h. Each Q h) k.2.just_before q.1) k.2.same
     (subst (λ h. WasAsked originate number h) k.2.just_before w)

@@ -44,7 +44,8 @@ follow_up_of_another_response : wall_answer exact received_twice 2100 ≡ Some (
 unfolding encoded fault fields scaled_width lower upper exact
 follow_up_of_another_response = refl
 
-span_of_another_response : (lo exact (times 1000 11300 12050 2100) 2100 ≡ pos 12047) × (hi exact (times 1000 11300 12050 2100) 2100 ≡ pos 12403)
+span_of_another_response : (lo exact (times 1000 11300 12050 2100) 2100 ≡ pos 12047)
+    × (hi exact (times 1000 11300 12050 2100) 2100 ≡ pos 12403)
 unfolding lo hi lower upper exact
 span_of_another_response = (refl, refl)
 
@@ -57,12 +58,14 @@ wrong_pair_is_impossible = refl
 abbrev in_order : History
 in_order = lands 1400 (answer 3 1000 11100 11200) (lands 1300 (answer 2 1000 11100 11100) (asks 1000 []))
 
-follow_up_after_response : accepted_answers exact in_order ≡ times 1000 11100 11200 1300 ∷ times 1000 11100 11100 1300 ∷ []
+follow_up_after_response : accepted_answers exact in_order ≡ times 1000 11100 11200 1300 ∷ times 1000 11100 11100 1300
+    ∷ []
 unfolding encoded fault fields scaled_width lower upper exact
 follow_up_after_response = refl
 
 -- of two copies of a response the first one counts
-first_copy_counts : accepted_answers exact (lands 1500 (answer 3 1000 11100 11200) (lands 1400 (answer 2 1000 11100 11100) (lands 1300 (answer 2 1000 11100 11100) (asks 1000 []))))
+first_copy_counts : accepted_answers exact (lands 1500 (answer 3 1000 11100 11200)
+    (lands 1400 (answer 2 1000 11100 11100) (lands 1300 (answer 2 1000 11100 11100) (asks 1000 []))))
     ≡ times 1000 11100 11200 1300 ∷ times 1000 11100 11100 1400 ∷ times 1000 11100 11100 1300 ∷ []
 unfolding encoded fault fields scaled_width lower upper exact
 first_copy_counts = refl
@@ -75,12 +78,14 @@ follow_up_before_response : wall_answer exact follow_up_first 1400 ≡ Some (tim
 unfolding encoded fault fields scaled_width lower upper exact
 follow_up_before_response = refl
 
-span_before_response : (lo exact (times 1000 11100 11200 1300) 1400 ≡ pos 11297) × (hi exact (times 1000 11100 11200 1300) 1400 ≡ pos 11503)
+span_before_response : (lo exact (times 1000 11100 11200 1300) 1400 ≡ pos 11297)
+    × (hi exact (times 1000 11100 11200 1300) 1400 ≡ pos 11503)
 unfolding lo hi lower upper exact
 span_before_response = (refl, refl)
 
 -- a response that contradicts itself isn't accepted, and still times its follow-up
-impossible_response_times_its_follow_up : accepted_answers exact (lands 1700 (answer 3 1000 5000 5200) (lands 1600 (answer 2 1000 5000 6000) (asks 1000 [])))
+impossible_response_times_its_follow_up : accepted_answers exact
+    (lands 1700 (answer 3 1000 5000 5200) (lands 1600 (answer 2 1000 5000 6000) (asks 1000 [])))
     ≡ times 1000 5000 5200 1600 ∷ []
 unfolding encoded fault fields scaled_width lower upper exact
 impossible_response_times_its_follow_up = refl
@@ -103,11 +108,13 @@ answer_to_the_forgotten : accepted_answers exact (lands 100 (answer 1 1 5000 500
 unfolding encoded fault fields scaled_width lower upper exact
 answer_to_the_forgotten = refl
 
-answer_to_the_second : wall_answer exact (lands 100 (answer 1 2 5000 5000) (asks_up_to 65)) 100 ≡ Some (times 2 5000 5000 100)
+answer_to_the_second : wall_answer exact (lands 100 (answer 1 2 5000 5000) (asks_up_to 65)) 100
+    ≡ Some (times 2 5000 5000 100)
 unfolding encoded fault fields scaled_width lower upper exact
 answer_to_the_second = refl
 
-span_of_the_second : (lo exact (times 2 5000 5000 100) 100 ≡ pos 4997) × (hi exact (times 2 5000 5000 100) 100 ≡ pos 5101)
+span_of_the_second : (lo exact (times 2 5000 5000 100) 100 ≡ pos 4997)
+    × (hi exact (times 2 5000 5000 100) 100 ≡ pos 5101)
 unfolding lo hi lower upper exact
 span_of_the_second = (refl, refl)
 
@@ -120,19 +127,22 @@ empty_datagram_is_no_answer : landed_answers (Clock why.Land 100 ∷ Took 1 [] �
 unfolding encoded fault fields
 empty_datagram_is_no_answer = refl
 
-other_readings_land_nothing : landed_answer (Clock why.Turn 100) (Took 1 (encoded (answer 1 1000 5000 5200)) ∷ asks 1000 []) ≡ None
+other_readings_land_nothing : landed_answer (Clock why.Turn 100)
+    (Took 1 (encoded (answer 1 1000 5000 5200)) ∷ asks 1000 []) ≡ None
 other_readings_land_nothing = refl
 
 -- ---- sleeps
 nothing_is_accepted_after_a_sleep : accepted_answers exact (Slept ∷ received_twice) ≡ []
 nothing_is_accepted_after_a_sleep = refl
 
-late_answer_is_not_asked : accepted_answers exact (lands 2200 (answer 1 1000 11100 11200) (asks 2150 (Slept ∷ received_twice))) ≡ []
+late_answer_is_not_asked : accepted_answers exact
+    (lands 2200 (answer 1 1000 11100 11200) (asks 2150 (Slept ∷ received_twice))) ≡ []
 unfolding encoded fault fields scaled_width lower upper exact
 late_answer_is_not_asked = refl
 
 -- a datagram that was received before a sleep, and whose reading comes after it, isn't asked
-slept_while_landing : accepted_answers exact (Clock why.Land 8 ∷ Slept ∷ Took 1 (encoded (answer 1 5 6000 6001)) ∷ asks 5 []) ≡ []
+slept_while_landing : accepted_answers exact (Clock why.Land 8 ∷ Slept ∷ Took 1 (encoded (answer 1 5 6000 6001))
+    ∷ asks 5 []) ≡ []
 unfolding encoded fault fields scaled_width lower upper exact
 slept_while_landing = refl
 

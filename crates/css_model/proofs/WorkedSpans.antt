@@ -43,11 +43,13 @@ unfolding scaled_width lower upper fair
 drifting_width = refl
 
 -- a second later the span has grown by two milliseconds
-drifting_span_a_second_later : (lo fair (round_trip 5200 128000) 1000001600 ≡ pos 999005696) × (hi fair (round_trip 5200 128000) 1000001600 ≡ pos 1001006104)
+drifting_span_a_second_later : (lo fair (round_trip 5200 128000) 1000001600 ≡ pos 999005696)
+    × (hi fair (round_trip 5200 128000) 1000001600 ≡ pos 1001006104)
 unfolding lo hi lower upper fair
 drifting_span_a_second_later = (refl, refl)
 
-drifting_width_a_second_later : scaled_width fair (round_trip 5200 128000) 1000001600 ≡ pos (8001626400798 * 16384000000)
+drifting_width_a_second_later : scaled_width fair (round_trip 5200 128000) 1000001600
+    ≡ pos (8001626400798 * 16384000000)
 unfolding scaled_width lower upper fair
 drifting_width_a_second_later = refl
 

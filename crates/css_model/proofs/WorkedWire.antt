@@ -66,7 +66,8 @@ odd_originate_read : decoded odd_response_bytes ≡ Ok (response odd_originate)
 unfolding fault fields
 odd_originate_read = refl
 
-response_is_an_answer_alone : (request_in odd_response_bytes ≡ None) × (answer_in odd_response_bytes ≡ Some (response odd_originate))
+response_is_an_answer_alone : (request_in odd_response_bytes ≡ None)
+    × (answer_in odd_response_bytes ≡ Some (response odd_originate))
 unfolding fault fields
 response_is_an_answer_alone = (refl, refl)
 
@@ -111,7 +112,8 @@ doubtful message_type precision error nanoseconds = record {
   transmit = zero;
 }
 
-greatest_fields_are_sound : decoded (encoded (doubtful 1 (pos 30) 25600000 999999999)) ≡ Ok (doubtful 1 (pos 30) 25600000 999999999)
+greatest_fields_are_sound : decoded (encoded (doubtful 1 (pos 30) 25600000 999999999))
+    ≡ Ok (doubtful 1 (pos 30) 25600000 999999999)
 unfolding encoded fault fields
 greatest_fields_are_sound = refl
 
@@ -129,7 +131,8 @@ nanoseconds_are_below_a_second = refl
 
 -- so are those of the transmit value
 transmit_is_tested_too :
-    decoded (encoded (record (response zero) { transmit = record { seconds = 0; nanoseconds = 1000000000 } })) ≡ Err faults.Nanoseconds
+    decoded (encoded (record (response zero) { transmit = record { seconds = 0; nanoseconds = 1000000000 } }))
+    ≡ Err faults.Nanoseconds
 unfolding encoded fault fields
 transmit_is_tested_too = refl
 
@@ -141,6 +144,7 @@ error_comes_before_nanoseconds : decoded (encoded (doubtful 2 (pos 30) 25600001 
 unfolding encoded fault fields
 error_comes_before_nanoseconds = refl
 
-request_has_no_such_fault : decoded (encoded (doubtful 0 (pos 31) 25600001 1000000000)) ≡ Ok (doubtful 0 (pos 31) 25600001 1000000000)
+request_has_no_such_fault : decoded (encoded (doubtful 0 (pos 31) 25600001 1000000000))
+    ≡ Ok (doubtful 0 (pos 31) 25600001 1000000000)
 unfolding encoded fault fields
 request_has_no_such_fault = refl

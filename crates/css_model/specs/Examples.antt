@@ -3,7 +3,7 @@ use Rattle.std.specs.Prelude.{ℕ, ◌+◌, ◌-◌, ◌*◌, ◌≡◌, ℤ, po
 use Rattle.css_model.specs.declared.Message.{Message}
 use Rattle.css_model.specs.declared.Why.TheVariants as why
 use Rattle.css_model.specs.WallClock.{Answer, Local, lo, hi}
-use Rattle.css_model.specs.World.{World, Errors, IsWorldFor, IsInRange}
+use Rattle.css_model.specs.World.{OwnClock, World, Errors, IsWorldFor, IsInRange}
 use Rattle.css_model.specs.Truth.{Contains}
 use Rattle.css_model.specs.Wire.{encoded, request_at, stamp_of}
 use Rattle.css_model.specs.History.{Slept, Clock, Sent, Took, History, wall_answer}
@@ -59,7 +59,10 @@ one_exchange = record {
   errors = record { tv = 0; companion = λ who. 0 };
   world = exact_world;
   own = record { error = 0; precision = 0 };
-  history = Clock why.Land 1600 ∷ Took 1 (encoded exact_response) ∷ Sent 1 (encoded (request_at 1000)) ∷ Clock why.Ask 1000 ∷ [];
+  history =
+      Clock why.Land 1600 ∷ Took 1 (encoded exact_response)
+      ∷ Sent 1 (encoded (request_at 1000)) ∷ Clock why.Ask 1000
+      ∷ [];
   reading = 1600;
   answer = record { t1 = 1000; t2 = 5000; t3 = 5200; t4 = 1600; precision = 1; error = 0 };
   low = pos 5197;
@@ -73,10 +76,11 @@ abbrev pub drifting_world : World
 drifting_world i =
     let number = min i 11 in
     let slept = min (i - 1) 1 in
+    let clock : OwnClock = record { value = 1000000 + 499750 * (number - slept); sleeps = slept } in
     record {
       time = 500000 * number + 99500000 * slept;
       wall = 5000000000 + 500125 * number + 99524875 * slept;
-      companion = λ who. if who == 1 then Some (record { value = 1000000 + 499750 * (number - slept); sleeps = slept }) else None;
+      companion = λ who. if who == 1 then Some clock else None;
     }
 
 -- an answer of a television that declares 250 ppm and a precision of 2^-20 seconds, which is 954 ns
