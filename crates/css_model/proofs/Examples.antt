@@ -9,7 +9,7 @@ use Rattle.css_model.specs.Truth.{Contains}
 use Rattle.css_model.specs.Wire.{encoded, fault, fields, stamp_of}
 use Rattle.css_model.specs.declared.Why.TheVariants as why
 use Rattle.css_model.specs.History.{Clock, Each, wall_answer}
-use Rattle.css_model.specs.Explains.{RisesAt, AsksAt, IsLawful, WasAsked, IsTruthful, HappensIn, Explains}
+use Rattle.css_model.specs.Explains.{RisesAt, AsksAt, IsLawful, IsJustAsked, WasAsked, IsTruthful, HappensIn, Explains}
 use Rattle.css_model.specs.Examples.{Example, IsExample, exact_world, one_exchange, drifting_world, drifting_answer, follow_up_after_sleep}
 use Rattle.css_model.proofs.Wall.{wall_is_true}
 
@@ -32,6 +32,7 @@ contains_of e is_world lawful explained narrowest =
     explained).0
 
 -- ---- one exchange between exact clocks
+-- exact clocks keep an error of 0
 exact_is_world : IsWorldFor one_exchange.errors exact_world 1 one_exchange.own
 exact_is_world = record {
   keeps = record {
@@ -44,14 +45,16 @@ exact_is_world = record {
   ranges = record { error = omega arith; precision = omega arith };
 }
 
+-- and show less than the limit
 exact_in_range : IsInRange exact_world
 exact_in_range = record { tv = λ i. omega arith; companion = λ who i a p. omega (arith, same_clock who _ a p) }
 
+-- the request tells its reading
 exact_lawful : IsLawful (Clock why.Turn 1600 ∷ one_exchange.history)
 unfolding encoded fault fields
 exact_lawful = record {
   rises = (tt, (tt, (tt, (tt, (tt, tt)))));
-  asks = (tt, (tt, (tt, ((1000, [], record { just_before = refl; same = refl }), (tt, tt)))));
+  asks = (tt, (tt, (tt, (record { reading = 1000; before = []; just_before = refl; same = refl }, (tt, tt)))));
 }
 
 -- the companion's clock at a moment of the exact world
@@ -65,6 +68,7 @@ exact_reads i reading e =
           omega arith;
     }
 
+-- the readings are exact, and so is the response
 exact_explained : Explains exact_world 1 0 one_exchange.own (Clock why.Turn 1600 ∷ one_exchange.history)
     (λ number. number)
 unfolding encoded fault fields scaled_width lower upper
@@ -81,7 +85,7 @@ exact_explained = record {
         received_at = 1;
         transmit_at = 2;
         sent_at = 2;
-        asked = inr (inl (1000, [], refl, record { just_before = refl; same = refl }, refl));
+        asked = inr (inl (refl, record { reading = 1000; before = []; just_before = refl; same = refl }, refl));
         received_later = omega arith;
         transmit_later = omega arith;
         sent_later = omega arith;
@@ -97,15 +101,18 @@ exact_explained = record {
   );
 }
 
+-- it is accepted, and alone
 exact_narrowest : wall_answer one_exchange.own one_exchange.history 1600 ≡ Some one_exchange.answer
 unfolding encoded fault fields scaled_width lower upper
 exact_narrowest = refl
 
+-- its span
 exact_ends : (lo one_exchange.own one_exchange.answer 1600 ≡ one_exchange.low)
     × (hi one_exchange.own one_exchange.answer 1600 ≡ one_exchange.high)
 unfolding lo hi lower upper
 exact_ends = (refl, refl)
 
+-- so the first example holds
 pub one_exchange_holds : IsExample one_exchange
 one_exchange_holds = record {
   is_world = exact_is_world;
@@ -119,6 +126,7 @@ one_exchange_holds = record {
 }
 
 -- ---- a response and its follow-up, after a sleep
+-- a clock that is 250 ppm fast and one that is 500 ppm slow while awake keep these errors
 drifting_is_world : IsWorldFor follow_up_after_sleep.errors drifting_world 1 follow_up_after_sleep.own
 drifting_is_world = record {
   keeps = record {
@@ -131,6 +139,7 @@ drifting_is_world = record {
   ranges = record { error = omega arith; precision = omega arith };
 }
 
+-- and show less than the limit
 drifting_in_range : IsInRange drifting_world
 drifting_in_range = record { tv = λ i. omega arith; companion = λ who i a p. omega (arith, same_clock who _ a p) }
 
@@ -139,34 +148,22 @@ drifting_rises : Each RisesAt (Clock why.Turn 5998000 ∷ follow_up_after_sleep.
 drifting_rises =
     (tt, (tt, (tt, (tt, (tt, (tt, (tt, (tt, ((tt, (tt, ((λ _. omega arith), tt))), (tt, (tt, (tt, tt))))))))))))
 
+-- both requests tell the reading before them
+abbrev first_asked : IsJustAsked (stamp_of 1000400) (drop 10 follow_up_after_sleep.history)
+first_asked = record { reading = 1000400; before = []; just_before = refl; same = refl }
+
+abbrev second_asked : IsJustAsked (stamp_of 1999900) (drop 7 follow_up_after_sleep.history)
+second_asked =
+    record { reading = 1999900; before = drop 8 follow_up_after_sleep.history; just_before = refl; same = refl }
+
 drifting_asks : Each AsksAt (Clock why.Turn 5998000 ∷ follow_up_after_sleep.history)
 unfolding encoded fault fields
-drifting_asks = (
-  tt,
-  (
-    tt,
-    (
-      tt,
-      (
-        tt,
-        (
-          tt,
-          (
-            tt,
-            (
-              tt,
-              (
-                (1999900, drop 8 follow_up_after_sleep.history, record { just_before = refl; same = refl }),
-                (tt, (tt, ((1000400, [], record { just_before = refl; same = refl }), (tt, tt)))),
-              ),
-            ),
-          ),
-        ),
-      ),
-    ),
-  ),
-)
+drifting_asks =
+    let from_first : Each AsksAt (drop 9 follow_up_after_sleep.history) = (first_asked, (tt, tt)) in
+    let from_second : Each AsksAt (drop 6 follow_up_after_sleep.history) = (second_asked, (tt, (tt, from_first))) in
+    (tt, (tt, (tt, (tt, (tt, (tt, (tt, from_second)))))))
 
+-- so the history is lawful
 drifting_lawful : IsLawful (Clock why.Turn 5998000 ∷ follow_up_after_sleep.history)
 drifting_lawful = record { rises = drifting_rises; asks = drifting_asks }
 
@@ -181,6 +178,7 @@ drifting_reads i reading sleeps slept near = record {
   near = near;
 }
 
+-- each reading is within 1000 ns of the companion's clock
 drifting_happens : HappensIn drifting_world 1 follow_up_after_sleep.own
     (Clock why.Turn 5998000 ∷ follow_up_after_sleep.history) (λ number. number)
 drifting_happens =
@@ -195,17 +193,12 @@ drifting_happens =
       reads = (turn, (follow_up, (tt, (response, (tt, (late, (tt, (tt, (second, (tt, (tt, (first, tt))))))))))));
     }
 
--- the second request, of which the response and its follow-up tell, where so many entries came after it
+-- the response and its follow-up tell of the second request
 drifting_asked : WasAsked (stamp_of 1999900) 3 (drop 6 follow_up_after_sleep.history)
 unfolding encoded fault fields
-drifting_asked = inl (
-  1999900,
-  drop 8 follow_up_after_sleep.history,
-  refl,
-  record { just_before = refl; same = refl },
-  refl,
-)
+drifting_asked = inl (refl, second_asked, refl)
 
+-- the response is truthful, though its transmit value was read before its sending
 drifting_response : IsTruthful drifting_world 64000 (λ number. number)
     (record { message = drifting_answer 2 1999900 5102025000 5102025000; reading = 4499000 })
     (drop 3 follow_up_after_sleep.history)
@@ -226,6 +219,7 @@ drifting_response = record {
   promised_later = λ h. absurd (omega arith);
 }
 
+-- the follow-up is truthful: its response landed after its sending
 drifting_follow_up : IsTruthful drifting_world 64000 (λ number. number)
     (record { message = drifting_answer 3 1999900 5102025000 5102526000; reading = 5497750 })
     (drop 1 follow_up_after_sleep.history)
@@ -247,6 +241,7 @@ drifting_follow_up = record {
   promised_later = λ _. (tt, ((λ _. omega arith), (tt, (tt, (tt, (tt, (tt, (tt, (tt, (tt, tt))))))))));
 }
 
+-- so the world explains the history; the late answer landed nothing
 drifting_explained : Explains drifting_world 1 64000 follow_up_after_sleep.own
     (Clock why.Turn 5998000 ∷ follow_up_after_sleep.history) (λ number. number)
 unfolding encoded fault fields scaled_width lower upper
@@ -261,16 +256,19 @@ drifting_explained = record {
   );
 }
 
+-- of the two the follow-up is the narrowest
 drifting_narrowest : wall_answer follow_up_after_sleep.own follow_up_after_sleep.history 5998000
     ≡ Some follow_up_after_sleep.answer
 unfolding encoded fault fields scaled_width lower upper
 drifting_narrowest = refl
 
+-- its span
 drifting_ends : (lo follow_up_after_sleep.own follow_up_after_sleep.answer 5998000 ≡ follow_up_after_sleep.low)
     × (hi follow_up_after_sleep.own follow_up_after_sleep.answer 5998000 ≡ follow_up_after_sleep.high)
 unfolding lo hi lower upper
 drifting_ends = (refl, refl)
 
+-- so the second example holds
 pub follow_up_after_sleep_holds : IsExample follow_up_after_sleep
 follow_up_after_sleep_holds = record {
   is_world = drifting_is_world;

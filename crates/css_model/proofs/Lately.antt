@@ -161,7 +161,7 @@ stamp-eta s o p q =
     ap f p ∙ ap g q
 
 -- stamps that test as the same are equal
-is_same_stamp-true : (s o : Stamp) → is_same_stamp s o ≡ true → s ≡ o
+pub is_same_stamp-true : (s o : Stamp) → is_same_stamp s o ≡ true → s ≡ o
 is_same_stamp-true s o e =
     let p = and_parts (s.seconds == o.seconds) (s.nanoseconds == o.nanoseconds) e in
     stamp-eta s o (eqb-true s.seconds o.seconds p.0) (eqb-true s.nanoseconds o.nanoseconds p.1)

@@ -7,13 +7,16 @@ use Rattle.css_model.specs.World.{World}
 use Rattle.css_model.specs.History.{Entry, History, is_sleep, LandedAnswer, landed_answer, landed_answers, times_of, is_possible, possible_answers, accepted_answers}
 use Rattle.css_model.specs.Explains.{IsLawful, HappensIn, Explains}
 
+-- what came before a lawful history's newest entry is lawful
 pub IsLawful-older : (entry : Entry) (older : History) → IsLawful (entry ∷ older) → IsLawful older
 IsLawful-older entry older h = record { rises = h.rises.1; asks = h.asks.1 }
 
+-- and happens in the same world
 pub HappensIn-older : (world : World) (who : ℕ) (own : Local) (entry : Entry) (older : History) (moment_of : ℕ → ℕ)
     → HappensIn world who own (entry ∷ older) moment_of → HappensIn world who own older moment_of
 HappensIn-older world who own entry older moment_of h = record { in_order = h.in_order; reads = h.reads.1 }
 
+-- and is explained by it
 pub Explains-older : (world : World) (who tv_error : ℕ) (own : Local) (entry : Entry) (older : History)
     (moment_of : ℕ → ℕ)
     → Explains world who tv_error own (entry ∷ older) moment_of → Explains world who tv_error own older moment_of

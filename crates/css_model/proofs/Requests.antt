@@ -6,7 +6,7 @@ use Rattle.css_model.specs.declared.Stamp.{Stamp}
 use Rattle.css_model.specs.declared.Why.TheVariants as why
 use Rattle.css_model.specs.Wire.{reading_of, stamp_of}
 use Rattle.css_model.specs.History.{Entry, Clock, History, Each, asking_at, sleeps}
-use Rattle.css_model.specs.Explains.{IsAskedAt, WasAsked, RisesAt, AsksAt}
+use Rattle.css_model.specs.Explains.{IsJustAsked, WasAsked, RisesAt, AsksAt}
 use Rattle.css_model.proofs.Lately.{Lately, Requests, sleeps-awake, sleeps-le}
 
 -- the time on the wire of a reading stands for that reading
@@ -53,14 +53,13 @@ longer Q originate number entry older a = record {
   shorter = omega (arith, a.shorter);
 }
 
--- the request of the entry whose reading is the newest of `older`
-newest : (Q : Entry → History → Type 0) (originate : Stamp) (number reading : ℕ) (before : History) (entry : Entry)
-    (older : History)
-    → Each Q older → IsAskedAt originate reading before older → number ≡ length before
+-- the request whose reading is the newest entry of `older`
+newest : (Q : Entry → History → Type 0) (originate : Stamp) (number : ℕ) (entry : Entry) (older : History)
+    → Each Q older → (asked : IsJustAsked originate older) → number ≡ length asked.before
     → Asking Q originate number (entry ∷ older)
-newest Q originate number reading before entry older q asked is_number = record {
-  reading = reading;
-  before = before;
+newest Q originate number entry older q asked is_number = record {
+  reading = asked.reading;
+  before = asked.before;
   each = subst (λ h. Each Q h) asked.just_before q;
   same = asked.same;
   is_number = is_number;
@@ -72,7 +71,7 @@ newest Q originate number reading before entry older q asked is_number = record 
 asking : (Q : Entry → History → Type 0) (originate : Stamp) (number : ℕ) (history : History)
     → Each Q history → WasAsked originate number history → Asking Q originate number history
 asking Q originate number [] q w = absurd w
-asking Q originate number (entry ∷ older) q (inl w) = newest Q originate number w.0 w.1 entry older q.1 w.3 w.4
+asking Q originate number (entry ∷ older) q (inl w) = newest Q originate number entry older q.1 w.1 w.2
 asking Q originate number (entry ∷ older) q (inr w) =
     longer Q originate number entry older (asking Q originate number older q.1 w)
 
@@ -87,7 +86,7 @@ repeated : (Q : Entry → History → Type 0) → SaysLawful Q
     → WasAsked originate number (Clock why.Ask reading ∷ before) → sleeps before ≡ sleeps history
     → length before < length history
     → (a : Asking Q originate number history) × (sleeps a.before ≡ sleeps history)
-repeated Q lawful originate number history reading before q same (inl w) awake shorter = absurd (cc (w.2))
+repeated Q lawful originate number history reading before q same (inl w) awake shorter = absurd (cc (w.0))
 repeated Q lawful originate number history reading before q same (inr w) awake shorter =
     let Rises : Entry → History → Type 0 = λ earlier b. IfSome (asking_at earlier) (λ r. sleeps b < sleeps before
     → r < reading) in
@@ -116,16 +115,16 @@ pub awake_asking : (Q : Entry → History → Type 0) → SaysLawful Q → (orig
 unfolding newest longer
 awake_asking Q lawful originate number [] q l w = absurd w
 awake_asking Q lawful originate number (entry ∷ older) q (awake, l) (inl w) = (
-  newest Q originate number w.0 w.1 entry older q.1 w.3 w.4,
-  sym (ap sleeps w.3.just_before) ∙ sym (sleeps-awake entry older awake),
+  newest Q originate number entry older q.1 w.1 w.2,
+  sym (ap sleeps w.1.just_before) ∙ sym (sleeps-awake entry older awake),
 )
 awake_asking Q lawful originate number (entry ∷ older) q (awake, inr l) (inr w) =
     let f = awake_asking Q lawful originate number older q.1 l w in
     (longer Q originate number entry older f.0, f.1 ∙ sym (sleeps-awake entry older awake))
 awake_asking Q lawful originate number (entry ∷ older) q (awake, inl l) (inr w) =
-    let k = MatchOption-at_some ⊤ (λ (o : Stamp). (reading : ℕ) × (before : History) × IsAskedAt o reading before older)
-    originate l
-    (lawful entry older q.0).1 in
-    repeated Q lawful originate number (entry ∷ older) k.0 k.1 (subst (λ h. Each Q h) k.2.just_before q.1) k.2.same
-    (subst (λ h. WasAsked originate number h) k.2.just_before w)
-    (sym (ap sleeps k.2.just_before) ∙ sym (sleeps-awake entry older awake)) (omega (arith, ap length k.2.just_before))
+    let asked = MatchOption-at_some ⊤ (λ (o : Stamp). IsJustAsked o older) originate l (lawful entry older q.0).1 in
+    repeated Q lawful originate number (entry ∷ older) asked.reading asked.before
+    (subst (λ h. Each Q h) asked.just_before q.1) asked.same
+    (subst (λ h. WasAsked originate number h) asked.just_before w)
+    (sym (ap sleeps asked.just_before) ∙ sym (sleeps-awake entry older awake))
+    (omega (arith, ap length asked.just_before))
