@@ -22,15 +22,16 @@ pub record Example : Type 0 where
   pub high : ℤ
 
 -- the example's world keeps its errors and explains its history, and so the span contains the wall clock
-pub record IsExample (e : Example) : Type 0 where
-  pub is_world : IsWorldFor e.errors e.world 1 e.own
-  pub in_range : IsInRange e.world
-  pub lawful : IsLawful (Clock why.Turn e.reading ∷ e.history)
-  pub explained : Explains e.world 1 e.errors.tv e.own (Clock why.Turn e.reading ∷ e.history) (λ number. number)
-  pub narrowest : wall_answer e.own e.history e.reading ≡ Some e.answer
-  pub low_end : lo e.own e.answer e.reading ≡ e.low
-  pub high_end : hi e.own e.answer e.reading ≡ e.high
-  pub contains : Contains e.own e.answer e.reading (e.world (length e.history)).wall
+pub record IsExample (example : Example) : Type 0 where
+  pub is_world : IsWorldFor example.errors example.world 1 example.own
+  pub in_range : IsInRange example.world
+  pub lawful : IsLawful (Clock why.Turn example.reading ∷ example.history)
+  pub explained : Explains example.world 1 example.errors.tv example.own
+      (Clock why.Turn example.reading ∷ example.history) (λ number. number)
+  pub narrowest : wall_answer example.own example.history example.reading ≡ Some example.answer
+  pub low_end : lo example.own example.answer example.reading ≡ example.low
+  pub high_end : hi example.own example.answer example.reading ≡ example.high
+  pub contains : Contains example.own example.answer example.reading (example.world (length example.history)).wall
 
 -- ---- one exchange between exact clocks
 -- The wall clock is 3800 ns ahead of the companion's, and both keep true time. There are 200 ns between two moments, up
