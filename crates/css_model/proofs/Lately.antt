@@ -1,8 +1,8 @@
 -- Where what a companion goes by comes from: an entry since its last sleep.
 use Rattle.std.proofs.Common.{◌≡◌, ℕ, zero, suc, ◌+◌, ◌<◌, ◌≤◌, ◌⊎◌, inl, inr, arith, ap, sym, ◌∙◌, Bool, true, false, cond, ◌||◌, List, [], ◌∷◌, ◌++◌, length, take, refl}
-use Rattle.std.specs.Prelude.{ℤ, int_lt, Option, Some, None, ◌==◌, unwrap_or}
+use Rattle.std.specs.Prelude.{ℤ, int_lt, Option, Some, None, ◌==◌}
 use Rattle.std.specs.List.{list_any}
-use Rattle.std.specs.Option.{option_to_list}
+use Rattle.std.specs.Option.{option_or, option_to_list}
 use Rattle.std.proofs.lemmas.Bool.{false≢true, and_parts, eqb-true}
 use Rattle.css_model.specs.declared.Stamp.{Stamp}
 use Rattle.css_model.specs.declared.Message.{Message}
@@ -101,8 +101,8 @@ possible_answers-lately own a (entry ∷ older) h =
     pick : (x : LandedAnswer) → (IsIn a (possible_answers own (landed_answers older)) → Lately (LandedAs own a) older)
         → is_sleep entry ≡ false → landed_answer entry older ≡ Some x
         → (s : Bool) → is_possible own x (landed_answers older) ≡ s
-        → IsIn a (cond s (times_of x (landed_answers older) ∷ possible_answers own (landed_answers older))
-        (possible_answers own (landed_answers older)))
+        → IsIn a (option_to_list (cond s (Some (times_of x (landed_answers older))) None)
+        ++ possible_answers own (landed_answers older))
         → Lately (LandedAs own a) (entry ∷ older)
     pick x rest awake e true q (inl p) = (awake, inl (x, e, q, p))
     pick x rest awake e true q (inr r) = (awake, inr (rest r))
@@ -129,20 +129,12 @@ first_promised_at-lately m r [] e = absurd (cc)
 first_promised_at-lately m r (entry ∷ older) h =
     by (first_promised_at-lately m r older) (is_sleep entry) refl (landed_answer entry older) refl h
   where
-    first : (x : LandedAnswer) → is_sleep entry ≡ false → landed_answer entry older ≡ Some x → is_promise_of x m ≡ true
-        → (o : Option ℕ) → first_promised_at m (landed_answers older) ≡ o → (o ≡ Some r → Lately (PromisedAt m r) older)
-        → Some (unwrap_or o x.reading) ≡ Some r → Lately (PromisedAt m r) (entry ∷ older)
-    first x awake e p None q rest h = (awake, inl (x, e, p, cc))
-    first x awake e p (Some s) q rest h = (awake, inr (rest h))
-
-    pick : (x : LandedAnswer) → (first_promised_at m (landed_answers older) ≡ Some r → Lately (PromisedAt m r) older)
-        → is_sleep entry ≡ false → landed_answer entry older ≡ Some x
-        → (s : Bool) → is_promise_of x m ≡ s
-        → cond s (Some (unwrap_or (first_promised_at m (landed_answers older)) x.reading))
-        (first_promised_at m (landed_answers older)) ≡ Some r
-        → Lately (PromisedAt m r) (entry ∷ older)
-    pick x rest awake e true q h = first x awake e q (first_promised_at m (landed_answers older)) refl rest h
-    pick x rest awake e false q h = (awake, inr (rest h))
+    pick : (x : LandedAnswer) → is_sleep entry ≡ false → landed_answer entry older ≡ Some x
+        → (s : Bool) → is_promise_of x m ≡ s → (o : Option ℕ) → (o ≡ Some r → Lately (PromisedAt m r) older)
+        → option_or o (cond s (Some x.reading) None) ≡ Some r → Lately (PromisedAt m r) (entry ∷ older)
+    pick x awake e s p (Some earlier) rest h = (awake, inr (rest h))
+    pick x awake e true p None rest h = (awake, inl (x, e, p, cc))
+    pick x awake e false p None rest h = absurd (cc)
 
     by : (first_promised_at m (landed_answers older) ≡ Some r → Lately (PromisedAt m r) older)
         → (t : Bool) → is_sleep entry ≡ t → (o : Option LandedAnswer) → landed_answer entry older ≡ o
@@ -150,7 +142,8 @@ first_promised_at-lately m r (entry ∷ older) h =
         → Lately (PromisedAt m r) (entry ∷ older)
     by rest true awake o e h = absurd (cc)
     by rest false awake None e h = (awake, inr (rest h))
-    by rest false awake (Some x) e h = pick x rest awake e (is_promise_of x m) refl h
+    by rest false awake (Some x) e h =
+        pick x awake e (is_promise_of x m) refl (first_promised_at m (landed_answers older)) rest h
 
 -- ---- what is asked was sent
 -- equal fields make equal stamps

@@ -1,10 +1,10 @@
 -- What holds of a history holds of what came before.
-use Rattle.std.proofs.Common.{◌≡◌, ℕ, Bool, true, false, cond, ◌∷◌, ◌++◌, refl}
+use Rattle.std.proofs.Common.{◌≡◌, ℕ, false, ◌∷◌, ◌++◌, refl}
 use Rattle.std.specs.Prelude.{Option, Some, None}
 use Rattle.std.specs.Option.{option_to_list}
 use Rattle.css_model.specs.WallClock.{Answer, Local}
 use Rattle.css_model.specs.World.{World}
-use Rattle.css_model.specs.History.{Entry, History, is_sleep, LandedAnswer, landed_answer, landed_answers, times_of, is_possible, possible_answers, accepted_answers}
+use Rattle.css_model.specs.History.{Entry, History, is_sleep, LandedAnswer, landed_answer, landed_answers, possible_answer, possible_answers, accepted_answers}
 use Rattle.css_model.specs.Explains.{IsLawful, HappensIn, Explains}
 
 -- what came before a lawful history's newest entry is lawful
@@ -25,18 +25,10 @@ Explains-older world who tv_error own entry older moment_of h =
 
 -- an entry that is no sleep leaves every accepted answer accepted, and adds one at most
 pub accepted_answers-awake : (own : Local) (entry : Entry) (older : History) → is_sleep entry ≡ false
-    → (newest : Option Answer) × (accepted_answers own (entry ∷ older) ≡ option_to_list newest
-    ++ accepted_answers own older)
+    → (newest : Option Answer) × (accepted_answers own (entry ∷ older) ≡ option_to_list newest ++ accepted_answers own older)
 accepted_answers-awake own entry older awake = rw awake (by (landed_answer entry older))
   where
-    choose : (landed : LandedAnswer) → (t : Bool)
-        → (newest : Option Answer) × (cond t (times_of landed (landed_answers older) ∷ accepted_answers own older)
-        (accepted_answers own older) ≡ option_to_list newest ++ accepted_answers own older)
-    choose landed true = (Some (times_of landed (landed_answers older)), refl)
-    choose landed false = (None, refl)
-
-    by : (o : Option LandedAnswer)
-        → (newest : Option Answer) × (possible_answers own (option_to_list o ++ landed_answers older)
-        ≡ option_to_list newest ++ accepted_answers own older)
+    by : (o : Option LandedAnswer) → (newest : Option Answer)
+        × (possible_answers own (option_to_list o ++ landed_answers older) ≡ option_to_list newest ++ accepted_answers own older)
     by None = (None, refl)
-    by (Some landed) = choose landed (is_possible own landed (landed_answers older))
+    by (Some landed) = (possible_answer own landed (landed_answers older), refl)
