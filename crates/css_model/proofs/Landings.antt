@@ -2,16 +2,16 @@
 use Rattle.std.proofs.Common.{◌≡◌, ℕ, ◌≤◌, ap, sym, ◌∙◌, subst, Bool, true, false, cond, List, length, refl}
 use Rattle.std.specs.Prelude.{pos, int_lt, Option, Some, None, ◌==◌, nat_lt, ◌&&◌, not, slice_index}
 use Rattle.std.specs.Result.{result_ok}
-use Rattle.std.specs.Option.{option_and_then}
+use Rattle.std.specs.Option.{option_and_then, option_map}
 use Rattle.std.proofs.lemmas.Bool.{ltb-false, cond-false}
-use Rattle.std.proofs.lemmas.Option.{cond_some, option_and_then_some}
+use Rattle.std.proofs.lemmas.Option.{same_Some, cond_some, option_and_then_some}
 use Rattle.css_model.specs.declared.Message.{Message}
 use Rattle.css_model.specs.declared.WcFault.{WcFault}
 use Rattle.css_model.specs.declared.WcFault.TheVariants as faults
 use Rattle.css_model.specs.declared.Why.TheVariants as why
 use Rattle.css_model.specs.Numbers.{max_error}
 use Rattle.css_model.specs.Wire.{decoded, unless_fault, fault, fields, field_fault, second}
-use Rattle.css_model.specs.History.{Entry, Clock, History, reading_at, landing_at, answer_in, just_taken, is_sleep, is_asked, LandedAnswer, landed_answer}
+use Rattle.css_model.specs.History.{Entry, Clock, History, reading_at, landing_at, answer_in, just_taken, awaited_answer, is_sleep, is_asked, LandedAnswer, landed_answer}
 
 -- ---- the declared error
 -- where a chain of tests finds no fault, its rest finds none
@@ -85,22 +85,39 @@ landing_at-reading (Clock why.Land reading) r e = (e, refl)
 landing_at-reading (Clock w reading) r e = absurd (cc)
 landing_at-reading _ r e = absurd (cc)
 
+-- an awaited answer is asked, and declares an error in its range
+awaited_answer-is : (older : History) (message : Message) → awaited_answer older ≡ Some message
+    → (is_asked message.originate older ≡ true) × (message.error ≤ max_error)
+awaited_answer-is older message e =
+    option_and_then_some (λ x. cond (is_asked x.originate older) (Some x) None)
+    (option_and_then answer_in (just_taken older)) message e
+    (λ x p q. option_and_then_some answer_in (just_taken older) x p (λ bytes u v.
+    let asked = cond_some (is_asked x.originate older) x message q in (
+      subst (λ (m : Message). is_asked m.originate older ≡ true) asked.1 asked.0,
+      subst (λ (m : Message). m.error ≤ max_error) asked.1 (answer_in-error bytes x v),
+    )))
+
 -- what lands is known so
 pub landed_answer-is : (entry : Entry) (older : History) (landed : LandedAnswer)
     → landed_answer entry older ≡ Some landed → IsLanding entry older landed
 landed_answer-is entry older landed e =
-    option_and_then_some
-    (λ r. option_and_then (λ m. cond (is_asked m.originate older) (Some (record { message = m; reading = r })) None)
-    (option_and_then answer_in (just_taken older))) (landing_at entry) landed e (λ r p q.
-    option_and_then_some (λ m. cond (is_asked m.originate older) (Some (record { message = m; reading = r })) None)
-    (option_and_then answer_in (just_taken older)) landed q (λ m s t.
-    option_and_then_some answer_in (just_taken older) m s (λ bytes u v.
-    let found = cond_some (is_asked m.originate older) (record { message = m; reading = r }) landed t in
-    let is_m : m ≡ landed.message = ap (λ (y : LandedAnswer). y.message) found.1 in
-    let at = landing_at-reading entry r p in
-    record {
-      reading = at.0 ∙ ap (λ (y : LandedAnswer). Some y.reading) found.1;
-      awake = at.1;
-      asked = subst (λ (n : Message). is_asked n.originate older ≡ true) is_m found.0;
-      error = subst (λ (n : Message). n.error ≤ max_error) is_m (answer_in-error bytes m v);
-    })))
+    option_and_then_some (λ r. option_map (λ m. record { message = m; reading = r }) (awaited_answer older))
+    (landing_at entry) landed e
+    (λ r p q. by r p (awaited_answer older) refl q)
+  where
+    by : (r : ℕ) → landing_at entry ≡ Some r → (o : Option Message) → awaited_answer older ≡ o
+        → option_map (λ (m : Message). record { message = m; reading = r }) o ≡ Some landed
+        → IsLanding entry older landed
+    by r p None a q = absurd (cc)
+    by r p (Some m) a q =
+        let at = landing_at-reading entry r p in
+        let known = awaited_answer-is older m a in
+        let made : LandedAnswer = record { message = m; reading = r } in
+        let same : made ≡ landed = same_Some made landed q in
+        let is_m : m ≡ landed.message = ap (λ (y : LandedAnswer). y.message) same in
+        record {
+          reading = at.0 ∙ ap (λ (y : LandedAnswer). Some y.reading) same;
+          awake = at.1;
+          asked = subst (λ (n : Message). is_asked n.originate older ≡ true) is_m known.0;
+          error = subst (λ (n : Message). n.error ≤ max_error) is_m known.1;
+        }

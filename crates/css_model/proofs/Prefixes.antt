@@ -25,10 +25,12 @@ Explains-older world who tv_error own entry older moment_of h =
 
 -- an entry that is no sleep leaves every accepted answer accepted, and adds one at most
 pub accepted_answers-awake : (own : Local) (entry : Entry) (older : History) → is_sleep entry ≡ false
-    → (newest : Option Answer) × (accepted_answers own (entry ∷ older) ≡ option_to_list newest ++ accepted_answers own older)
+    → (newest : Option Answer) × (accepted_answers own (entry ∷ older) ≡ option_to_list newest
+    ++ accepted_answers own older)
 accepted_answers-awake own entry older awake = rw awake (by (landed_answer entry older))
   where
     by : (o : Option LandedAnswer) → (newest : Option Answer)
-        × (possible_answers own (option_to_list o ++ landed_answers older) ≡ option_to_list newest ++ accepted_answers own older)
+        × (possible_answers own (option_to_list o ++ landed_answers older) ≡ option_to_list newest
+        ++ accepted_answers own older)
     by None = (None, refl)
     by (Some landed) = (possible_answer own landed (landed_answers older), refl)
