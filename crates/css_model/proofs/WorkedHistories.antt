@@ -1,5 +1,5 @@
 -- What a companion accepts, worked out by hand: the definitions compute to these.
-use Rattle.std.proofs.Common.{◌≡◌, ℕ, zero, suc, refl, [], ◌∷◌, Some, None, true, false}
+use Rattle.std.proofs.Common.{◌≡◌, ℕ, zero, suc, refl, arith, [], ◌∷◌, Some, None, true, false}
 use Rattle.std.specs.Prelude.{pos, negsuc, neg_ℤ, ◌*◌}
 use Rattle.css_model.specs.Numbers.{F}
 use Rattle.css_model.specs.WallClock.{Answer, Local, lower, upper, lo, hi, scaled_width}
@@ -7,6 +7,7 @@ use Rattle.css_model.specs.Wire.{encoded, request_at, fault, fields, stamp_of}
 use Rattle.css_model.specs.declared.Message.{Message}
 use Rattle.css_model.specs.declared.Why.TheVariants as why
 use Rattle.css_model.specs.History.{Slept, Clock, Sent, Took, History, landed_answer, landed_answers, accepted_answers, wall_answer, is_asked}
+use Rattle.css_model.specs.Explains.{IsLawful}
 
 exact : Local
 exact = record { error = 0; precision = 0 }
@@ -157,3 +158,17 @@ answer_after_a_sleep = refl
 span_after_a_sleep : (lo exact (times 12 6000 6001 14) 20 ≡ pos 6004) × (hi exact (times 12 6000 6001 14) 20 ≡ pos 6011)
 unfolding lo hi lower upper exact
 span_after_a_sleep = (refl, refl)
+
+-- Why readings for requests must rise over a sleep: here the clock shows 1000 for both requests, and the answer to the
+-- first is accepted as one to the second. Its span, [5197, 5603], lacks however long the companion slept.
+abbrev same_reading_twice : History
+same_reading_twice = asks 1000 (Slept ∷ asks 1000 [])
+
+same_reading_twice_is_unlawful : ¬ IsLawful same_reading_twice
+unfolding encoded fault fields
+same_reading_twice_is_unlawful lawful = omega (arith, lawful.rises.1.0.1.1.0 (omega arith))
+
+late_answer_passes_for_a_new_one :
+    accepted_answers exact (lands 1600 (answer 1 1000 5000 5200) same_reading_twice) ≡ times 1000 5000 5200 1600 ∷ []
+unfolding encoded fault fields scaled_width lower upper exact
+late_answer_passes_for_a_new_one = refl
