@@ -1,10 +1,14 @@
 -- Steps of what is known of a device's bytes.
-use Rattle.std.proofs.Common.{◌≡◌, ℕ, ◌+◌, ◌≤◌, List, [], ◌++◌, length, take, drop, Option, Some, None, Ok, Err, Result, sym, ◌∙◌, ap, append_assoc, append-nil, refl}
+use Rattle.std.proofs.Common.{◌≡◌, ℕ, ◌+◌, ◌≤◌, List, [], ◌++◌, length, take, drop, Option, Some, None, Ok, Err, Result, sym, ◌∙◌, ap, append_assoc, append-nil, refl, arith}
 use Rattle.std.proofs.Math.Seq.{take-add}
 use Rattle.std.proofs.lemmas.List.{take-append-drop, take_at, drop-drop, length-take-le}
 use Rattle.std.specs.Prelude.{OnErr}
 use Rattle.std.specs.Io.KnownBytes.{Appends, Consumes, Keeps}
+use Rattle.css_outside.specs.declared.fault.OutFault.TheVariants as fault
+use Rattle.css_outside.specs.declared.fault.OutFault.{OutFault}
+use Rattle.css_outside.specs.declared.fault.Failed as plain
 use Rattle.css_outside.specs.Bytes.{AppendsPrefix}
+use Rattle.css_outside.specs.Faults.{CountsReadFaults, CountsWriteFaults}
 
 pub appends_none : (a : Option (List ℕ)) → Appends a a []
 appends_none None = tt
@@ -55,3 +59,14 @@ given_front bs copied rest at n e le =
 pub on_err_from : {T E P : Type 0} (r : Result T E) → P → OnErr r P
 on_err_from (Ok x) p = tt
 on_err_from (Err e) p = p
+
+-- the count of a source's faults never falls
+pub read_faults_never_fall : {T : Type 0} (before now : ℕ) (result : Result T plain.Failed) → CountsReadFaults before now result → before ≤ now
+read_faults_never_fall before now (Ok answer) counted = omega (arith, counted)
+read_faults_never_fall before now (Err failed) counted = counted.kept
+
+-- nor does that of a sink's
+pub write_faults_never_fall : {T : Type 0} (before now : ℕ) (result : Result T OutFault) → CountsWriteFaults before now result → before ≤ now
+write_faults_never_fall before now (Ok answer) counted = omega (arith, counted)
+write_faults_never_fall before now (Err fault.Failed) counted = counted.kept
+write_faults_never_fall before now (Err fault.Memory) counted = omega (arith, counted)
