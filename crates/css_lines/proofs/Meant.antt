@@ -9,7 +9,7 @@ use Rattle.css_lines.specs.declared.ending.Stop.{Stop}
 use Rattle.css_lines.specs.declared.ending.Stop.TheVariants.{BadLine, ReadFault, WriteFault, Memory}
 use Rattle.css_lines.specs.Lines.{is_feed, whole_lines, last_part}
 use Rattle.css_lines.specs.Meaning.{Meaning, Outcome, accepted, refused_at, followed_from, followed_by, offset, reader_outcome, line_outcome, outcome_from, finish_outcome, end_outcome, outcome_so_far, outcome}
-use Rattle.css_lines.specs.Progress.{StopsAt, StopsAfter, StopsWith, printed_of}
+use Rattle.css_lines.specs.Progress.{StopsAt, StopsAfter, StopsWith}
 use Rattle.css_lines.proofs.Cut.{whole_from, last_from, whole_lines-append, last_part-append, whole_lines_feed, whole_lines_other}
 
 -- one outcome after another
@@ -52,130 +52,130 @@ prefix_followed (Some verdict) p next = prefix_refl p
 
 -- lines after lines
 
-pub outcome_from-append : {C : Type 0} (m : Meaning C) (before lines more : List (List ℕ)) → outcome_from m before (lines ++ more) ≡ followed_by (outcome_from m before lines) (outcome_from m (before ++ lines) more)
-outcome_from-append m before [] more = ap (λ b. outcome_from m b more) (sym (append-nil before))
-outcome_from-append m before (line ∷ lines) more =
-    let first = line_outcome m before line (offset before + length line + 1) in
-    let rest = outcome_from m (before ++ line ∷ []) lines in
-    ap (followed_by first) (outcome_from-append m (before ++ line ∷ []) lines more ∙ ap (λ b. followed_by rest (outcome_from m b more)) (append_assoc before (line ∷ []) lines))
-    ∙ sym (followed_by-assoc first rest (outcome_from m (before ++ line ∷ lines) more))
+pub outcome_from-append : {C : Type 0} (meaning : Meaning C) (before lines more : List (List ℕ)) → outcome_from meaning before (lines ++ more) ≡ followed_by (outcome_from meaning before lines) (outcome_from meaning (before ++ lines) more)
+outcome_from-append meaning before [] more = ap (λ b. outcome_from meaning b more) (sym (append-nil before))
+outcome_from-append meaning before (line ∷ lines) more =
+    let first = line_outcome meaning before line (offset before + length line + 1) in
+    let rest = outcome_from meaning (before ++ line ∷ []) lines in
+    ap (followed_by first) (outcome_from-append meaning (before ++ line ∷ []) lines more ∙ ap (λ b. followed_by rest (outcome_from meaning b more)) (append_assoc before (line ∷ []) lines))
+    ∙ sym (followed_by-assoc first rest (outcome_from meaning (before ++ line ∷ lines) more))
 
 -- what becomes of the bytes that come after these lines and this part of a line
 abbrev pub outcome_after : {C : Type 0} → Meaning C → List (List ℕ) → List ℕ → List ℕ → Outcome C
-outcome_after m before part bytes = followed_by (outcome_from m before (whole_from part bytes)) (end_outcome m (before ++ whole_from part bytes) (last_from part bytes))
+outcome_after meaning before part bytes = followed_by (outcome_from meaning before (whole_from part bytes)) (end_outcome meaning (before ++ whole_from part bytes) (last_from part bytes))
 
-pub outcome-append : {C : Type 0} (m : Meaning C) (read rest : List ℕ) → outcome m (read ++ rest) ≡ followed_by (outcome_so_far m read) (outcome_after m (whole_lines read) (last_part read) rest)
+pub outcome-append : {C : Type 0} (meaning : Meaning C) (read rest : List ℕ) → outcome meaning (read ++ rest) ≡ followed_by (outcome_so_far meaning read) (outcome_after meaning (whole_lines read) (last_part read) rest)
 unfolding outcome outcome_so_far
-outcome-append m read rest =
+outcome-append meaning read rest =
     let whole = whole_lines read in
     let more = whole_from (last_part read) rest in
     let last = last_from (last_part read) rest in
-    ap (λ l. followed_by (outcome_from m [] l) (end_outcome m l (last_part (read ++ rest)))) (whole_lines-append read rest)
-    ∙ ap (λ l. followed_by (outcome_from m [] (whole ++ more)) (end_outcome m (whole ++ more) l)) (last_part-append read rest)
-    ∙ ap (λ o. followed_by o (end_outcome m (whole ++ more) last)) (outcome_from-append m [] whole more)
-    ∙ followed_by-assoc (outcome_from m [] whole) (outcome_from m whole more) (end_outcome m (whole ++ more) last)
+    ap (λ l. followed_by (outcome_from meaning [] l) (end_outcome meaning l (last_part (read ++ rest)))) (whole_lines-append read rest)
+    ∙ ap (λ l. followed_by (outcome_from meaning [] (whole ++ more)) (end_outcome meaning (whole ++ more) l)) (last_part-append read rest)
+    ∙ ap (λ o. followed_by o (end_outcome meaning (whole ++ more) last)) (outcome_from-append meaning [] whole more)
+    ∙ followed_by-assoc (outcome_from meaning [] whole) (outcome_from meaning whole more) (end_outcome meaning (whole ++ more) last)
 
-pub outcome_at_end : {C : Type 0} (m : Meaning C) (read : List ℕ) → outcome m read ≡ followed_by (outcome_so_far m read) (end_outcome m (whole_lines read) (last_part read))
+pub outcome_at_end : {C : Type 0} (meaning : Meaning C) (read : List ℕ) → outcome meaning read ≡ followed_by (outcome_so_far meaning read) (end_outcome meaning (whole_lines read) (last_part read))
 unfolding outcome outcome_so_far
-outcome_at_end m read = refl
+outcome_at_end meaning read = refl
 
-so_far-append : {C : Type 0} (m : Meaning C) (read rest : List ℕ) → outcome_so_far m (read ++ rest) ≡ followed_by (outcome_so_far m read) (outcome_from m (whole_lines read) (whole_from (last_part read) rest))
+so_far-append : {C : Type 0} (meaning : Meaning C) (read rest : List ℕ) → outcome_so_far meaning (read ++ rest) ≡ followed_by (outcome_so_far meaning read) (outcome_from meaning (whole_lines read) (whole_from (last_part read) rest))
 unfolding outcome_so_far
-so_far-append m read rest = ap (outcome_from m []) (whole_lines-append read rest) ∙ outcome_from-append m [] (whole_lines read) (whole_from (last_part read) rest)
+so_far-append meaning read rest = ap (outcome_from meaning []) (whole_lines-append read rest) ∙ outcome_from-append meaning [] (whole_lines read) (whole_from (last_part read) rest)
 
 -- output stays, whatever is read
-pub so_far_grows : {C : Type 0} (m : Meaning C) (read rest : List ℕ) → IsPrefix (outcome_so_far m read).printed (outcome_so_far m (read ++ rest)).printed
-so_far_grows m read rest =
-    let first = outcome_so_far m read in
-    let grown = prefix_followed first.verdict first.printed (outcome_from m (whole_lines read) (whole_from (last_part read) rest)) in
-    (grown.0, ap (λ o. o.printed) (so_far-append m read rest) ∙ grown.1)
+pub so_far_grows : {C : Type 0} (meaning : Meaning C) (read rest : List ℕ) → IsPrefix (outcome_so_far meaning read).printed (outcome_so_far meaning (read ++ rest)).printed
+so_far_grows meaning read rest =
+    let first = outcome_so_far meaning read in
+    let grown = prefix_followed first.verdict first.printed (outcome_from meaning (whole_lines read) (whole_from (last_part read) rest)) in
+    (grown.0, ap (λ o. o.printed) (so_far-append meaning read rest) ∙ grown.1)
 
-pub so_far_other : {C : Type 0} (m : Meaning C) (read : List ℕ) (b : ℕ) → is_feed b ≡ false → outcome_so_far m (read ++ b ∷ []) ≡ outcome_so_far m read
+pub so_far_other : {C : Type 0} (meaning : Meaning C) (read : List ℕ) (b : ℕ) → is_feed b ≡ false → outcome_so_far meaning (read ++ b ∷ []) ≡ outcome_so_far meaning read
 unfolding outcome_so_far
-so_far_other m read b other = ap (outcome_from m []) (whole_lines_other read b other)
+so_far_other meaning read b other = ap (outcome_from meaning []) (whole_lines_other read b other)
 
-pub so_far_feed : {C : Type 0} (m : Meaning C) (read : List ℕ) (b : ℕ) → is_feed b ≡ true
-    → outcome_so_far m (read ++ b ∷ []) ≡ followed_by (outcome_so_far m read) (line_outcome m (whole_lines read) (last_part read) (offset (whole_lines read) + length (last_part read) + 1))
+pub so_far_feed : {C : Type 0} (meaning : Meaning C) (read : List ℕ) (b : ℕ) → is_feed b ≡ true
+    → outcome_so_far meaning (read ++ b ∷ []) ≡ followed_by (outcome_so_far meaning read) (line_outcome meaning (whole_lines read) (last_part read) (offset (whole_lines read) + length (last_part read) + 1))
 unfolding outcome_so_far
-so_far_feed m read b fed =
+so_far_feed meaning read b fed =
     let whole = whole_lines read in
-    let line = line_outcome m whole (last_part read) (offset whole + length (last_part read) + 1) in
-    ap (outcome_from m []) (whole_lines_feed read b fed) ∙ outcome_from-append m [] whole (last_part read ∷ []) ∙ ap (followed_by (outcome_from m [] whole)) (followed_by-nil line)
+    let line = line_outcome meaning whole (last_part read) (offset whole + length (last_part read) + 1) in
+    ap (outcome_from meaning []) (whole_lines_feed read b fed) ∙ outcome_from-append meaning [] whole (last_part read ∷ []) ∙ ap (followed_by (outcome_from meaning [] whole)) (followed_by-nil line)
 
 -- the next line
 
-pub end_outcome_some : {C : Type 0} (m : Meaning C) (before : List (List ℕ)) (part : List ℕ) → 0 < length part
-    → end_outcome m before part ≡ followed_by (line_outcome m before part (offset before + length part)) (finish_outcome m (before ++ part ∷ []))
-end_outcome_some m before [] some = absurd (omega arith)
-end_outcome_some m before (b ∷ bs) some = refl
+pub end_outcome_some : {C : Type 0} (meaning : Meaning C) (before : List (List ℕ)) (part : List ℕ) → 0 < length part
+    → end_outcome meaning before part ≡ followed_by (line_outcome meaning before part (offset before + length part)) (finish_outcome meaning (before ++ part ∷ []))
+end_outcome_some meaning before [] some = absurd (omega arith)
+end_outcome_some meaning before (b ∷ bs) some = refl
 
 -- the line that is being read decides what becomes of the bytes: it is at least as long as what was read of it
-pub record NextLine {C : Type 0} (m : Meaning C) (before : List (List ℕ)) (whole : Outcome C) (least reach : ℕ) : Type 0 where
+pub record NextLine {C : Type 0} (meaning : Meaning C) (before : List (List ℕ)) (whole : Outcome C) (least reach : ℕ) : Type 0 where
   pub line : List ℕ
   pub end : ℕ
   pub tail : Outcome C
-  pub is : whole ≡ followed_by (line_outcome m before line end) tail
+  pub is : whole ≡ followed_by (line_outcome meaning before line end) tail
   pub long : least ≤ length line
   pub far : offset before + reach ≤ end
 
 -- a line feed ends the line
-pub fed_line_at : {C : Type 0} (m : Meaning C) (before : List (List ℕ)) (part bytes : List ℕ) →
-    followed_by (outcome_from m before (part ∷ whole_from [] bytes)) (end_outcome m (before ++ part ∷ whole_from [] bytes) (last_from [] bytes))
-    ≡ followed_by (line_outcome m before part (offset before + length part + 1))
-    (followed_by (outcome_from m (before ++ part ∷ []) (whole_from [] bytes)) (end_outcome m (before ++ part ∷ whole_from [] bytes) (last_from [] bytes)))
-fed_line_at m before part bytes =
-    followed_by-assoc (line_outcome m before part (offset before + length part + 1)) (outcome_from m (before ++ part ∷ []) (whole_from [] bytes)) (end_outcome m (before ++ part ∷ whole_from [] bytes) (last_from [] bytes))
+pub fed_line_at : {C : Type 0} (meaning : Meaning C) (before : List (List ℕ)) (part bytes : List ℕ) →
+    followed_by (outcome_from meaning before (part ∷ whole_from [] bytes)) (end_outcome meaning (before ++ part ∷ whole_from [] bytes) (last_from [] bytes))
+    ≡ followed_by (line_outcome meaning before part (offset before + length part + 1))
+    (followed_by (outcome_from meaning (before ++ part ∷ []) (whole_from [] bytes)) (end_outcome meaning (before ++ part ∷ whole_from [] bytes) (last_from [] bytes)))
+fed_line_at meaning before part bytes =
+    followed_by-assoc (line_outcome meaning before part (offset before + length part + 1)) (outcome_from meaning (before ++ part ∷ []) (whole_from [] bytes)) (end_outcome meaning (before ++ part ∷ whole_from [] bytes) (last_from [] bytes))
 
-fed_next : {C : Type 0} (m : Meaning C) (before : List (List ℕ)) (part bytes : List ℕ) →
-    NextLine m before (followed_by (outcome_from m before (part ∷ whole_from [] bytes)) (end_outcome m (before ++ part ∷ whole_from [] bytes) (last_from [] bytes))) (length part) (length part + 1)
-fed_next m before part bytes = record {
+fed_next : {C : Type 0} (meaning : Meaning C) (before : List (List ℕ)) (part bytes : List ℕ) →
+    NextLine meaning before (followed_by (outcome_from meaning before (part ∷ whole_from [] bytes)) (end_outcome meaning (before ++ part ∷ whole_from [] bytes) (last_from [] bytes))) (length part) (length part + 1)
+fed_next meaning before part bytes = record {
   line = part;
   end = offset before + length part + 1;
-  tail = followed_by (outcome_from m (before ++ part ∷ []) (whole_from [] bytes)) (end_outcome m (before ++ part ∷ whole_from [] bytes) (last_from [] bytes));
-  is = fed_line_at m before part bytes;
+  tail = followed_by (outcome_from meaning (before ++ part ∷ []) (whole_from [] bytes)) (end_outcome meaning (before ++ part ∷ whole_from [] bytes) (last_from [] bytes));
+  is = fed_line_at meaning before part bytes;
   long = omega arith;
   far = omega arith;
 }
 
-nearer : {C : Type 0} (m : Meaning C) (before : List (List ℕ)) (whole : Outcome C) (least reach least' reach' : ℕ) → least' ≤ least → reach' ≤ reach → NextLine m before whole least reach → NextLine m before whole least' reach'
-nearer m before whole least reach least' reach' shorter sooner next = record { line = next.line; end = next.end; tail = next.tail; is = next.is; long = omega (arith, next.long); far = omega (arith, next.far) }
+nearer : {C : Type 0} (meaning : Meaning C) (before : List (List ℕ)) (whole : Outcome C) (least reach least' reach' : ℕ) → least' ≤ least → reach' ≤ reach → NextLine meaning before whole least reach → NextLine meaning before whole least' reach'
+nearer meaning before whole least reach least' reach' shorter sooner next = record { line = next.line; end = next.end; tail = next.tail; is = next.is; long = omega (arith, next.long); far = omega (arith, next.far) }
 
-some_next : {C : Type 0} (m : Meaning C) (before : List (List ℕ)) (part bytes : List ℕ) → 0 < length part → NextLine m before (outcome_after m before part bytes) (length part) (length part)
-some_next m before [] [] some = absurd (omega arith)
-some_next m before (p ∷ ps) [] some = record {
+some_next : {C : Type 0} (meaning : Meaning C) (before : List (List ℕ)) (part bytes : List ℕ) → 0 < length part → NextLine meaning before (outcome_after meaning before part bytes) (length part) (length part)
+some_next meaning before [] [] some = absurd (omega arith)
+some_next meaning before (p ∷ ps) [] some = record {
   line = p ∷ ps;
   end = offset before + length (p ∷ ps);
-  tail = finish_outcome m (before ++ (p ∷ ps) ∷ []);
-  is = ap (λ b. end_outcome m b (p ∷ ps)) (append-nil before);
+  tail = finish_outcome meaning (before ++ (p ∷ ps) ∷ []);
+  is = ap (λ b. end_outcome meaning b (p ∷ ps)) (append-nil before);
   long = omega arith;
   far = omega arith;
 }
-some_next m before part (b ∷ bytes) some =
+some_next meaning before part (b ∷ bytes) some =
     let longer : 0 < length (part ++ b ∷ []) = omega (arith, length-append part (b ∷ [])) in
-    let fed = nearer m before _ _ _ (length part) (length part) (omega arith) (omega arith) (fed_next m before part bytes) in
-    let other = nearer m before _ _ _ (length part) (length part) (omega (arith, length-append part (b ∷ []))) (omega (arith, length-append part (b ∷ []))) (some_next m before (part ++ b ∷ []) bytes longer) in
+    let fed = nearer meaning before _ _ _ (length part) (length part) (omega arith) (omega arith) (fed_next meaning before part bytes) in
+    let other = nearer meaning before _ _ _ (length part) (length part) (omega (arith, length-append part (b ∷ []))) (omega (arith, length-append part (b ∷ []))) (some_next meaning before (part ++ b ∷ []) bytes longer) in
     elim (is_feed b) as (λ v.
     let lines = cond v (part ∷ whole_from [] bytes) (whole_from (part ++ b ∷ []) bytes) in
     let last = cond v (last_from [] bytes) (last_from (part ++ b ∷ []) bytes) in
-    NextLine m before (followed_by (outcome_from m before lines) (end_outcome m (before ++ lines) last)) (length part) (length part))
+    NextLine meaning before (followed_by (outcome_from meaning before lines) (end_outcome meaning (before ++ lines) last)) (length part) (length part))
     [ true ↦ fed | false ↦ other ]
 
 -- with a line feed, or with a byte more
-pub fed_line : {C : Type 0} (m : Meaning C) (before : List (List ℕ)) (part : List ℕ) (b : ℕ) (bytes : List ℕ) → is_feed b ≡ true
-    → (tail : Outcome C) × (outcome_after m before part (b ∷ bytes) ≡ followed_by (line_outcome m before part (offset before + length part + 1)) tail)
-fed_line m before part b bytes fed = (
-  followed_by (outcome_from m (before ++ part ∷ []) (whole_from [] bytes)) (end_outcome m (before ++ part ∷ whole_from [] bytes) (last_from [] bytes)),
+pub fed_line : {C : Type 0} (meaning : Meaning C) (before : List (List ℕ)) (part : List ℕ) (b : ℕ) (bytes : List ℕ) → is_feed b ≡ true
+    → (tail : Outcome C) × (outcome_after meaning before part (b ∷ bytes) ≡ followed_by (line_outcome meaning before part (offset before + length part + 1)) tail)
+fed_line meaning before part b bytes fed = (
+  followed_by (outcome_from meaning (before ++ part ∷ []) (whole_from [] bytes)) (end_outcome meaning (before ++ part ∷ whole_from [] bytes) (last_from [] bytes)),
   ap (λ v.
       let lines = cond v (part ∷ whole_from [] bytes) (whole_from (part ++ b ∷ []) bytes) in
       let last = cond v (last_from [] bytes) (last_from (part ++ b ∷ []) bytes) in
-      followed_by (outcome_from m before lines) (end_outcome m (before ++ lines) last)) fed
-      ∙ fed_line_at m before part bytes,
+      followed_by (outcome_from meaning before lines) (end_outcome meaning (before ++ lines) last)) fed
+      ∙ fed_line_at meaning before part bytes,
 )
 
-pub longer_line : {C : Type 0} (m : Meaning C) (before : List (List ℕ)) (part : List ℕ) (b : ℕ) (bytes : List ℕ) → is_feed b ≡ false → NextLine m before (outcome_after m before part (b ∷ bytes)) (length part + 1) (length part + 1)
-longer_line m before part b bytes other =
+pub longer_line : {C : Type 0} (meaning : Meaning C) (before : List (List ℕ)) (part : List ℕ) (b : ℕ) (bytes : List ℕ) → is_feed b ≡ false → NextLine meaning before (outcome_after meaning before part (b ∷ bytes)) (length part + 1) (length part + 1)
+longer_line meaning before part b bytes other =
     let longer : 0 < length (part ++ b ∷ []) = omega (arith, length-append part (b ∷ [])) in
-    let next = nearer m before _ _ _ (length part + 1) (length part + 1) (omega (arith, length-append part (b ∷ []))) (omega (arith, length-append part (b ∷ []))) (some_next m before (part ++ b ∷ []) bytes longer) in
+    let next = nearer meaning before _ _ _ (length part + 1) (length part + 1) (omega (arith, length-append part (b ∷ []))) (omega (arith, length-append part (b ∷ []))) (some_next meaning before (part ++ b ∷ []) bytes longer) in
     record {
       line = next.line;
       end = next.end;
@@ -184,39 +184,39 @@ longer_line m before part b bytes other =
           ap (λ v.
           let lines = cond v (part ∷ whole_from [] bytes) (whole_from (part ++ b ∷ []) bytes) in
           let last = cond v (last_from [] bytes) (last_from (part ++ b ∷ []) bytes) in
-          followed_by (outcome_from m before lines) (end_outcome m (before ++ lines) last)) other
+          followed_by (outcome_from meaning before lines) (end_outcome meaning (before ++ lines) last)) other
           ∙ next.is;
       long = next.long;
       far = next.far;
     }
 
-next_line_at : {C : Type 0} (m : Meaning C) (before : List (List ℕ)) (part : List ℕ) (b : ℕ) (bytes : List ℕ) (v : Bool) → is_feed b ≡ v → NextLine m before (outcome_after m before part (b ∷ bytes)) (length part) (length part + 1)
-next_line_at m before part b bytes true fed =
-    let line = fed_line m before part b bytes fed in
+next_line_at : {C : Type 0} (meaning : Meaning C) (before : List (List ℕ)) (part : List ℕ) (b : ℕ) (bytes : List ℕ) (v : Bool) → is_feed b ≡ v → NextLine meaning before (outcome_after meaning before part (b ∷ bytes)) (length part) (length part + 1)
+next_line_at meaning before part b bytes true fed =
+    let line = fed_line meaning before part b bytes fed in
     record { line = part; end = offset before + length part + 1; tail = line.0; is = line.1; long = omega arith; far = omega arith }
-next_line_at m before part b bytes false other = nearer m before _ _ _ (length part) (length part + 1) (omega arith) (omega arith) (longer_line m before part b bytes other)
+next_line_at meaning before part b bytes false other = nearer meaning before _ _ _ (length part) (length part + 1) (omega arith) (omega arith) (longer_line meaning before part b bytes other)
 
-pub next_line : {C : Type 0} (m : Meaning C) (before : List (List ℕ)) (part : List ℕ) (b : ℕ) (bytes : List ℕ) → NextLine m before (outcome_after m before part (b ∷ bytes)) (length part) (length part + 1)
-next_line m before part b bytes = next_line_at m before part b bytes (is_feed b) refl
+pub next_line : {C : Type 0} (meaning : Meaning C) (before : List (List ℕ)) (part : List ℕ) (b : ℕ) (bytes : List ℕ) → NextLine meaning before (outcome_after meaning before part (b ∷ bytes)) (length part) (length part + 1)
+next_line meaning before part b bytes = next_line_at meaning before part b bytes (is_feed b) refl
 
 -- a line that is too long, and one that isn't
 
-pub long_input : {C : Type 0} (m : Meaning C) (before : List (List ℕ)) (line : List ℕ) (end : ℕ) → m.longest_input before < end → line_outcome m before line end ≡ refused_at [] (length before + 1) Long
-long_input m before line end past =
+pub long_input : {C : Type 0} (meaning : Meaning C) (before : List (List ℕ)) (line : List ℕ) (end : ℕ) → meaning.longest_input before < end → line_outcome meaning before line end ≡ refused_at [] (length before + 1) Long
+long_input meaning before line end past =
     let number = length before + 1 in
-    ap (λ b. cond (ltb (m.longest_line before) (length line) || b) (refused_at [] number Long) (reader_outcome number (m.line before line))) (lt-ltb (m.longest_input before) end past)
-    ∙ elim (ltb (m.longest_line before) (length line)) as (λ v. cond (v || true) (refused_at [] number Long) (reader_outcome number (m.line before line)) ≡ refused_at [] number Long) [ true ↦ refl | false ↦ refl ]
+    ap (λ b. cond (ltb (meaning.longest_line before) (length line) || b) (refused_at [] number Long) (reader_outcome number (meaning.line before line))) (lt-ltb (meaning.longest_input before) end past)
+    ∙ elim (ltb (meaning.longest_line before) (length line)) as (λ v. cond (v || true) (refused_at [] number Long) (reader_outcome number (meaning.line before line)) ≡ refused_at [] number Long) [ true ↦ refl | false ↦ refl ]
 
-pub long_line : {C : Type 0} (m : Meaning C) (before : List (List ℕ)) (line : List ℕ) (end : ℕ) → m.longest_line before < length line → line_outcome m before line end ≡ refused_at [] (length before + 1) Long
-long_line m before line end past =
+pub long_line : {C : Type 0} (meaning : Meaning C) (before : List (List ℕ)) (line : List ℕ) (end : ℕ) → meaning.longest_line before < length line → line_outcome meaning before line end ≡ refused_at [] (length before + 1) Long
+long_line meaning before line end past =
     let number = length before + 1 in
-    ap (λ b. cond (b || ltb (m.longest_input before) end) (refused_at [] number Long) (reader_outcome number (m.line before line))) (lt-ltb (m.longest_line before) (length line) past)
+    ap (λ b. cond (b || ltb (meaning.longest_input before) end) (refused_at [] number Long) (reader_outcome number (meaning.line before line))) (lt-ltb (meaning.longest_line before) (length line) past)
 
-pub fits_line : {C : Type 0} (m : Meaning C) (before : List (List ℕ)) (line : List ℕ) (end : ℕ) → length line ≤ m.longest_line before → end ≤ m.longest_input before → line_outcome m before line end ≡ reader_outcome (length before + 1) (m.line before line)
-fits_line m before line end short within =
+pub fits_line : {C : Type 0} (meaning : Meaning C) (before : List (List ℕ)) (line : List ℕ) (end : ℕ) → length line ≤ meaning.longest_line before → end ≤ meaning.longest_input before → line_outcome meaning before line end ≡ reader_outcome (length before + 1) (meaning.line before line)
+fits_line meaning before line end short within =
     let number = length before + 1 in
-    ap (λ b. cond (b || ltb (m.longest_input before) end) (refused_at [] number Long) (reader_outcome number (m.line before line))) (le-ltb (m.longest_line before) (length line) short)
-    ∙ ap (λ b. cond b (refused_at [] number Long) (reader_outcome number (m.line before line))) (le-ltb (m.longest_input before) end within)
+    ap (λ b. cond (b || ltb (meaning.longest_input before) end) (refused_at [] number Long) (reader_outcome number (meaning.line before line))) (le-ltb (meaning.longest_line before) (length line) short)
+    ∙ ap (λ b. cond b (refused_at [] number Long) (reader_outcome number (meaning.line before line))) (le-ltb (meaning.longest_input before) end within)
 
 -- a stop at a line is a stop of the whole
 
@@ -232,15 +232,15 @@ stops_with (Ok p) number tail printed front Memory stops = prefix_more printed f
 stops_with (Err cause) number tail printed front Memory stops = prefix_more printed front [] stops
 stops_with meant number tail printed front ReadFault stops = absurd stops
 
-pub stops_after : {C : Type 0} (m : Meaning C) (read : List ℕ) (meant : Result (List ℕ) C) (number : ℕ) (printed front : List ℕ) (stop : Stop C)
-    → outcome_so_far m read ≡ followed_by (accepted printed) (followed_by (reader_outcome number meant) (accepted []))
-    → ((rest : List ℕ) → (tail : Outcome C) × (outcome m (read ++ rest) ≡ followed_by (accepted printed) (followed_by (reader_outcome number meant) tail)))
-    → StopsAt meant number front stop → StopsAfter m read (printed ++ front) stop
-stops_after m read meant number printed front (BadLine line why) so_far whole stops = λ rest. (whole rest).1 ∙ stops_with meant number (whole rest).0 printed front (BadLine line why) stops
-stops_after m read meant number printed front WriteFault so_far whole stops =
+pub stops_after : {C : Type 0} (meaning : Meaning C) (read : List ℕ) (meant : Result (List ℕ) C) (number : ℕ) (printed front : List ℕ) (stop : Stop C)
+    → outcome_so_far meaning read ≡ followed_by (accepted printed) (followed_by (reader_outcome number meant) (accepted []))
+    → ((rest : List ℕ) → (tail : Outcome C) × (outcome meaning (read ++ rest) ≡ followed_by (accepted printed) (followed_by (reader_outcome number meant) tail)))
+    → StopsAt meant number front stop → StopsAfter meaning read (printed ++ front) stop
+stops_after meaning read meant number printed front (BadLine line why) so_far whole stops = λ rest. (whole rest).1 ∙ stops_with meant number (whole rest).0 printed front (BadLine line why) stops
+stops_after meaning read meant number printed front WriteFault so_far whole stops =
     let part = stops_with meant number (accepted []) printed front WriteFault stops in
     (part.0, ap (λ o. o.printed) so_far ∙ part.1)
-stops_after m read meant number printed front Memory so_far whole stops =
+stops_after meaning read meant number printed front Memory so_far whole stops =
     let part = stops_with meant number (accepted []) printed front Memory stops in
     (part.0, ap (λ o. o.printed) so_far ∙ part.1)
-stops_after m read meant number printed front ReadFault so_far whole stops = absurd stops
+stops_after meaning read meant number printed front ReadFault so_far whole stops = absurd stops

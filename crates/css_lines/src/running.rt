@@ -56,8 +56,7 @@ fn conclude<K: Sink, L: Lines>(
     if let Err(fault) = lines.finish(&mut pending.out) {
         return Err(Stop::at_line(pending.taken + 1, fault));
     }
-    write_all(sink, &pending.out)?;
-    Ok(())
+    Ok(write_all(sink, &pending.out)?)
 }
 
 // Takes the next byte.
@@ -186,8 +185,8 @@ fn drive_pieces<S: Source, K: Sink, L: Lines>(
 /// Reads the source line by line, and writes what is printed for each line before it reads on.
 ///
 /// A line is handed to its reader when its line feed was read, and the last one also where the source ends without
-/// it. At most one line and one piece are kept. Nothing is read or written after a fault of a device, want of memory
-/// or a refusal.
+/// it. At most one line and one piece are kept. The run stops at the first refusal, fault of a device or want of
+/// memory.
 pub fn drive<S: Source, K: Sink, L: Lines>(
     alloc: Global,
     source: &mut S,

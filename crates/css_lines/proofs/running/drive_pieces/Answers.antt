@@ -1,4 +1,4 @@
-use Rattle.std.proofs.Common.{◌≡◌, ◌≤◌, arith, refl, ◌∙◌, [], ◌++◌, take, length}
+use Rattle.std.proofs.Common.{◌≤◌, arith, refl, ◌∙◌, [], ◌++◌, take, length}
 use Rattle.std.proofs.lemmas.List.{length-take}
 use Rattle.std.proofs.lemmas.Result.{MatchResult-weaker, err_from_is_err_and}
 use Rattle.css_outside.proofs.Known.{consumes_none, consumes_more}

@@ -1,4 +1,4 @@
-use Rattle.std.proofs.Common.{◌+◌, ◌++◌, drop, take}
+use Rattle.std.proofs.Common.{◌+◌, drop, take}
 use Rattle.std.proofs.lemmas.Result.{err_from_is_err_and}
 use Rattle.css_lines.proofs.Steps.{stopped_more, around}
 use Rattle.css_lines.proofs.running.feed_all.Goals as goal
