@@ -18,18 +18,21 @@ abbrev pub last_from : List ℕ → List ℕ → List ℕ
 last_from part [] = part
 last_from part (b ∷ bs) = cond (is_feed b) (last_from [] bs) (last_from (part ++ b ∷ []) bs)
 
+-- more bytes give more lines
 pub whole_from-append : (part xs ys : List ℕ) → whole_from part (xs ++ ys) ≡ whole_from part xs ++ whole_from (last_from part xs) ys
 whole_from-append part [] ys = refl
 whole_from-append part (b ∷ xs) ys =
     elim (is_feed b) as (λ v. cond v (part ∷ whole_from [] (xs ++ ys)) (whole_from (part ++ b ∷ []) (xs ++ ys)) ≡ cond v (part ∷ whole_from [] xs) (whole_from (part ++ b ∷ []) xs) ++ whole_from (cond v (last_from [] xs) (last_from (part ++ b ∷ []) xs)) ys)
     [ true ↦ ap (λ l. part ∷ l) (whole_from-append [] xs ys) | false ↦ whole_from-append (part ++ b ∷ []) xs ys ]
 
+-- more bytes go on from the part that is left
 pub last_from-append : (part xs ys : List ℕ) → last_from part (xs ++ ys) ≡ last_from (last_from part xs) ys
 last_from-append part [] ys = refl
 last_from-append part (b ∷ xs) ys =
     elim (is_feed b) as (λ v. cond v (last_from [] (xs ++ ys)) (last_from (part ++ b ∷ []) (xs ++ ys)) ≡ last_from (cond v (last_from [] xs) (last_from (part ++ b ∷ []) xs)) ys)
     [ true ↦ last_from-append [] xs ys | false ↦ last_from-append (part ++ b ∷ []) xs ys ]
 
+-- one byte more, which is a line feed or not
 split_at : (b : ℕ) (v : Bool) → is_feed b ≡ v → (part bytes : List ℕ) → All (λ x. is_feed x ≡ false) part
     → slice_split is_feed bytes ≡ whole_from [] bytes ++ last_from [] bytes ∷ []
     → (is_feed b ≡ false → slice_split is_feed ((part ++ b ∷ []) ++ bytes) ≡ whole_from (part ++ b ∷ []) bytes ++ last_from (part ++ b ∷ []) bytes ∷ [])
@@ -45,23 +48,28 @@ split_from part (b ∷ bytes) free =
     (split_from [] bytes (All-nil (λ x. is_feed x ≡ false)))
     (λ e. split_from (part ++ b ∷ []) bytes (All-push (λ x. is_feed x ≡ false) part b free e))
 
+-- without the last part
 all_but_last_push : (xs : List (List ℕ)) (x : List ℕ) → all_but_last (xs ++ x ∷ []) ≡ xs
 all_but_last_push [] x = refl
 all_but_last_push (y ∷ []) x = refl
 all_but_last_push (y ∷ z ∷ xs) x = ap (λ l. y ∷ l) (all_but_last_push (z ∷ xs) x)
 
+-- the last part
 last_of_push : (xs : List (List ℕ)) (x : List ℕ) → last_of (xs ++ x ∷ []) ≡ x
 last_of_push [] x = refl
 last_of_push (y ∷ []) x = refl
 last_of_push (y ∷ z ∷ xs) x = last_of_push (z ∷ xs) x
 
+-- the parts between line feeds
 parts : (bytes : List ℕ) → slice_split is_feed bytes ≡ whole_from [] bytes ++ last_from [] bytes ∷ []
 parts bytes = split_from [] bytes (All-nil (λ x. is_feed x ≡ false))
 
+-- the whole lines, byte after byte
 pub whole_lines_is : (bytes : List ℕ) → whole_lines bytes ≡ whole_from [] bytes
 unfolding whole_lines
 whole_lines_is bytes = ap all_but_last (parts bytes) ∙ all_but_last_push (whole_from [] bytes) (last_from [] bytes)
 
+-- the part that is left, byte after byte
 pub last_part_is : (bytes : List ℕ) → last_part bytes ≡ last_from [] bytes
 unfolding last_part
 last_part_is bytes = ap last_of (parts bytes) ∙ last_of_push (whole_from [] bytes) (last_from [] bytes)
@@ -70,6 +78,7 @@ last_part_is bytes = ap last_of (parts bytes) ∙ last_of_push (whole_from [] by
 pub whole_lines-append : (read rest : List ℕ) → whole_lines (read ++ rest) ≡ whole_lines read ++ whole_from (last_part read) rest
 whole_lines-append read rest = whole_lines_is (read ++ rest) ∙ whole_from-append [] read rest ∙ ap (λ l. l ++ whole_from (last_from [] read) rest) (sym (whole_lines_is read)) ∙ ap (λ l. whole_lines read ++ whole_from l rest) (sym (last_part_is read))
 
+-- the part that is left, where more bytes follow
 pub last_part-append : (read rest : List ℕ) → last_part (read ++ rest) ≡ last_from (last_part read) rest
 last_part-append read rest = last_part_is (read ++ rest) ∙ last_from-append [] read rest ∙ ap (λ l. last_from l rest) (sym (last_part_is read))
 
@@ -80,15 +89,18 @@ whole_lines_feed read b e =
     ∙ ap (λ v. whole_from [] read ++ cond v (last_from [] read ∷ []) []) e
     ∙ ap (λ l. l ++ last_from [] read ∷ []) (sym (whole_lines_is read)) ∙ ap (λ l. whole_lines read ++ l ∷ []) (sym (last_part_is read))
 
+-- a byte that is no line feed ends no line
 pub whole_lines_other : (read : List ℕ) (b : ℕ) → is_feed b ≡ false → whole_lines (read ++ b ∷ []) ≡ whole_lines read
 whole_lines_other read b e =
     whole_lines_is (read ++ b ∷ []) ∙ whole_from-append [] read (b ∷ [])
     ∙ ap (λ v. whole_from [] read ++ cond v (last_from [] read ∷ []) []) e
     ∙ append-nil (whole_from [] read) ∙ sym (whole_lines_is read)
 
+-- after a line feed nothing is left
 pub last_part_feed : (read : List ℕ) (b : ℕ) → is_feed b ≡ true → last_part (read ++ b ∷ []) ≡ []
 last_part_feed read b e = last_part_is (read ++ b ∷ []) ∙ last_from-append [] read (b ∷ []) ∙ ap (λ v. cond v [] (last_from [] read ++ b ∷ [])) e
 
+-- a byte that is no line feed is a byte of the line
 pub last_part_other : (read : List ℕ) (b : ℕ) → is_feed b ≡ false → last_part (read ++ b ∷ []) ≡ last_part read ++ b ∷ []
 last_part_other read b e = last_part_is (read ++ b ∷ []) ∙ last_from-append [] read (b ∷ []) ∙ ap (λ v. cond v [] (last_from [] read ++ b ∷ [])) e ∙ ap (λ l. l ++ b ∷ []) (sym (last_part_is read))
 
@@ -101,6 +113,7 @@ length_from part (b ∷ bytes) =
     elim (is_feed b) as (λ v. offset (cond v (part ∷ whole_from [] bytes) (whole_from (part ++ b ∷ []) bytes)) + length (cond v (last_from [] bytes) (last_from (part ++ b ∷ []) bytes)) ≡ length part + suc (length bytes))
     [ true ↦ omega (arith, sum_by-cons (λ (l : List ℕ). length l + 1) part (whole_from [] bytes), after) | false ↦ omega (arith, longer, length-append part (b ∷ [])) ]
 
+-- the bytes of the whole lines and of the part that is left are all
 pub length_read : (read : List ℕ) → offset (whole_lines read) + length (last_part read) ≡ length read
 length_read read = ap (λ l. offset l + length (last_part read)) (whole_lines_is read) ∙ ap (λ (l : List ℕ). offset (whole_from [] read) + length l) (last_part_is read) ∙ length_from [] read ∙ (omega arith)
 

@@ -23,6 +23,7 @@ may_stop meaning read left printed WriteFault ends piece = (inl ends, piece)
 may_stop meaning read left printed Memory ends piece = (inl ends, piece)
 may_stop meaning read left printed ReadFault ends piece = absurd ends
 
+-- a run that stops in a piece
 pub stops_in_piece : {Cause : Type 0} (meaning : Meaning Cause) (start : Option (List ℕ)) (before piece : List ℕ) (holds left_old left : Option (List ℕ)) (stop : Stop Cause)
     → Stopped meaning start before (before ++ piece) holds stop → IsSound meaning before → length piece ≤ PIECE → Consumes left_old left (before ++ piece) → Stops meaning left_old left start holds stop
 stops_in_piece meaning start before piece holds left_old left stop s sound short took = record {
@@ -40,6 +41,7 @@ may_stop_at_end meaning read left printed WriteFault ends at_end piece = (inr (a
 may_stop_at_end meaning read left printed Memory ends at_end piece = (inr (at_end, ends), piece)
 may_stop_at_end meaning read left printed ReadFault ends at_end piece = absurd ends
 
+-- a run that stops at the end
 pub stops_at_end : {Cause : Type 0} (meaning : Meaning Cause) (start : Option (List ℕ)) (read : List ℕ) (holds left_old left : Option (List ℕ)) (stop : Stop Cause)
     → StoppedAtEnd meaning start read holds stop → IsSound meaning read → IsAtEnd left → Consumes left_old left read → Stops meaning left_old left start holds stop
 stops_at_end meaning start read holds left_old left stop s sound at_end took = record {
@@ -50,6 +52,7 @@ stops_at_end meaning start read holds left_old left stop s sound at_end took = r
   ends = may_stop_at_end meaning read left s.printed stop s.ends at_end (record { before = read; piece = []; cut = sym (append-nil read); short = omega arith; sound = sound; kept = s.kept });
 }
 
+-- a run that comes to the end
 pub finishes : {L Cause : Type 0} (meaning : Meaning Cause) (stands : L → List (List ℕ) → Type 0) (start : Option (List ℕ)) (read : List ℕ) (lines : L) (holds left_old left : Option (List ℕ))
     → Finished meaning stands start read lines holds → IsAtEnd left → Consumes left_old left read → Finishes meaning stands left_old left start holds lines
 finishes meaning stands start read lines holds left_old left f at_end took = record { read = read; printed = f.printed; took = took; grew = f.grew; at_end = at_end; all = f.all; stood = f.stood }
@@ -61,6 +64,7 @@ no_read_fault meaning read printed before now WriteFault ends same = same
 no_read_fault meaning read printed before now Memory ends same = same
 no_read_fault meaning read printed before now ReadFault ends same = absurd ends
 
+-- nor at the end
 pub no_read_fault_at_end : {Cause : Type 0} (meaning : Meaning Cause) (read printed : List ℕ) (before now : ℕ) (stop : Stop Cause) → StopsWith (outcome meaning read) printed stop → now ≡ before → SourceCounts before now stop
 no_read_fault_at_end meaning read printed before now (BadLine line why) ends same = same
 no_read_fault_at_end meaning read printed before now WriteFault ends same = same
@@ -72,6 +76,7 @@ told : (bytes : List ℕ) (left : Option (List ℕ)) (read : List ℕ) → Consu
 told bytes None read took = absurd took
 told bytes (Some rest) read took = (rest, refl, took)
 
+-- a run to the end of these bytes
 ran_to_end_at : {L Cause : Type 0} (meaning : Meaning Cause) (stands : L → List (List ℕ) → Type 0) (bytes : List ℕ) (left holds_old holds_new : Option (List ℕ)) (lines : L)
     → Finishes meaning stands (Some bytes) left holds_old holds_new lines → RanToEnd meaning stands bytes left holds_old holds_new lines
 ran_to_end_at meaning stands bytes left holds_old holds_new lines f =
@@ -85,6 +90,7 @@ ran_to_end_at meaning stands bytes left holds_old holds_new lines f =
       stood = subst (λ l. stands lines (lines_of l)) (sym all) f.stood;
     }
 
+-- a run to the end of a source that tells its bytes
 pub ran_to_end : {L Cause : Type 0} (meaning : Meaning Cause) (stands : L → List (List ℕ) → Type 0) (left_old left holds_old holds_new : Option (List ℕ)) (lines : L)
     → Finishes meaning stands left_old left holds_old holds_new lines → (bytes : List ℕ) → left_old ≡ Some bytes → RanToEnd meaning stands bytes left holds_old holds_new lines
 ran_to_end meaning stands left_old left holds_old holds_new lines f bytes is =
@@ -98,6 +104,7 @@ verdict_of meaning read rest printed WriteFault ends = tt
 verdict_of meaning read rest printed Memory ends = tt
 verdict_of meaning read rest printed ReadFault ends = tt
 
+-- a run that stops in these bytes
 ran_until_at : {Cause : Type 0} (meaning : Meaning Cause) (bytes : List ℕ) (left holds_old holds_new : Option (List ℕ)) (stop : Stop Cause)
     → Stops meaning (Some bytes) left holds_old holds_new stop → RanUntil meaning bytes left holds_old holds_new stop
 ran_until_at meaning bytes left holds_old holds_new stop s =
@@ -114,6 +121,7 @@ ran_until_at meaning bytes left holds_old holds_new stop s =
       ends = ends;
     }
 
+-- a run that stops in a source that tells its bytes
 pub ran_until : {Cause : Type 0} (meaning : Meaning Cause) (left_old left holds_old holds_new : Option (List ℕ)) (stop : Stop Cause)
     → Stops meaning left_old left holds_old holds_new stop → (bytes : List ℕ) → left_old ≡ Some bytes → RanUntil meaning bytes left holds_old holds_new stop
 ran_until meaning left_old left holds_old holds_new stop s bytes is =

@@ -108,19 +108,21 @@ module _ {L Cause : Type 0} (meaning : Meaning Cause) (stands : L → List (List
         so_far = so_far_other meaning read b other ∙ p.so_far;
       }
 
-  -- the line that a line feed ends is the reader's
+  -- the line that a line feed ends is up to its reader
   fed_outcome : pending.count < meaning.longest_input (whole_lines read)
       → line_outcome meaning (whole_lines read) (last_part read) (offset (whole_lines read) + length (last_part read) + 1) ≡ reader_outcome (pending.taken + 1) (meaning.line (whole_lines read) pending.text.items)
   fed_outcome within =
       fits_line meaning (whole_lines read) (last_part read) (offset (whole_lines read) + length (last_part read) + 1) p.short (omega (arith, length_read read, p.count))
       ∙ ap (λ n. reader_outcome (n + 1) (meaning.line (whole_lines read) (last_part read))) (sym p.taken) ∙ ap (λ l. reader_outcome (pending.taken + 1) (meaning.line (whole_lines read) l)) (sym p.text)
 
+  -- what becomes of the lines so far
   fed_so_far : (b : ℕ) → is_feed b ≡ true → pending.count < meaning.longest_input (whole_lines read)
       → outcome_so_far meaning (read ++ b ∷ []) ≡ followed_by (accepted p.printed) (reader_outcome (pending.taken + 1) (meaning.line (whole_lines read) pending.text.items))
   fed_so_far b fed within =
       let line = line_outcome meaning (whole_lines read) (last_part read) (offset (whole_lines read) + length (last_part read) + 1) in
       so_far_feed meaning read b fed ∙ ap (λ o. followed_by o line) p.so_far ∙ ap (followed_by (accepted p.printed)) (fed_outcome within)
 
+  -- what becomes of the bytes, whatever follows
   fed_whole : (b : ℕ) → is_feed b ≡ true → pending.count < meaning.longest_input (whole_lines read) → (rest : List ℕ)
       → (tail : Outcome Cause) × (outcome meaning ((read ++ b ∷ []) ++ rest) ≡ followed_by (accepted p.printed) (followed_by (reader_outcome (pending.taken + 1) (meaning.line (whole_lines read) pending.text.items)) tail))
   fed_whole b fed within rest =
@@ -231,6 +233,7 @@ stops_more meaning read more printed WriteFault stops = prefix_trans _ _ _ stops
 stops_more meaning read more printed Memory stops = prefix_trans _ _ _ stops (so_far_grows meaning read more)
 stops_more meaning read more printed ReadFault stops = absurd stops
 
+-- it stops in the same way in a longer piece
 pub stopped_more : {Cause : Type 0} (meaning : Meaning Cause) (start : Option (List ℕ)) (before earlier read more all : List ℕ) (holds : Option (List ℕ)) (stop : Stop Cause)
     → read ++ more ≡ all → Stopped meaning start (before ++ earlier) read holds stop → Stopped meaning start before all holds stop
 stopped_more meaning start before earlier read more all holds stop is s = record {
