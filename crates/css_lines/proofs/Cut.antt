@@ -5,7 +5,7 @@ use Rattle.std.proofs.lemmas.List.{length-append}
 use Rattle.std.proofs.lemmas.List.Sums.{sum_by-cons}
 use Rattle.std.proofs.lemmas.List.Elements.{All-nil, All-push}
 use Rattle.std.proofs.lemmas.List.Splits.{slice_split_none, slice_split_at}
-use Rattle.css_lines.specs.Lines.{is_feed, all_but_last, last_of, unless_empty, without_empty_last, lines_of, whole_lines, last_part}
+use Rattle.css_lines.specs.Lines.{is_feed, all_but_last, last_of, unless_empty, whole_lines, last_part}
 use Rattle.css_lines.specs.Meaning.{offset}
 
 -- the whole lines of bytes that come after this part of a line
@@ -18,40 +18,21 @@ abbrev pub last_from : List ℕ → List ℕ → List ℕ
 last_from part [] = part
 last_from part (b ∷ bs) = cond (is_feed b) (last_from [] bs) (last_from (part ++ b ∷ []) bs)
 
--- all lines
-abbrev pub lines_from : List ℕ → List ℕ → List (List ℕ)
-lines_from part bytes = whole_from part bytes ++ unless_empty (last_from part bytes)
-
+-- more bytes give more lines
 pub whole_from-append : (part xs ys : List ℕ) → whole_from part (xs ++ ys) ≡ whole_from part xs ++ whole_from (last_from part xs) ys
 whole_from-append part [] ys = refl
 whole_from-append part (b ∷ xs) ys =
     elim (is_feed b) as (λ v. cond v (part ∷ whole_from [] (xs ++ ys)) (whole_from (part ++ b ∷ []) (xs ++ ys)) ≡ cond v (part ∷ whole_from [] xs) (whole_from (part ++ b ∷ []) xs) ++ whole_from (cond v (last_from [] xs) (last_from (part ++ b ∷ []) xs)) ys)
     [ true ↦ ap (λ l. part ∷ l) (whole_from-append [] xs ys) | false ↦ whole_from-append (part ++ b ∷ []) xs ys ]
 
+-- more bytes go on from the part that is left
 pub last_from-append : (part xs ys : List ℕ) → last_from part (xs ++ ys) ≡ last_from (last_from part xs) ys
 last_from-append part [] ys = refl
 last_from-append part (b ∷ xs) ys =
     elim (is_feed b) as (λ v. cond v (last_from [] (xs ++ ys)) (last_from (part ++ b ∷ []) (xs ++ ys)) ≡ last_from (cond v (last_from [] xs) (last_from (part ++ b ∷ []) xs)) ys)
     [ true ↦ last_from-append [] xs ys | false ↦ last_from-append (part ++ b ∷ []) xs ys ]
 
-pub lines_from-append : (part xs ys : List ℕ) → lines_from part (xs ++ ys) ≡ whole_from part xs ++ lines_from (last_from part xs) ys
-lines_from-append part xs ys =
-    ap (λ l. l ++ unless_empty (last_from part (xs ++ ys))) (whole_from-append part xs ys)
-    ∙ append_assoc (whole_from part xs) (whole_from (last_from part xs) ys) (unless_empty (last_from part (xs ++ ys)))
-    ∙ ap (λ l. whole_from part xs ++ (whole_from (last_from part xs) ys ++ unless_empty l)) (last_from-append part xs ys)
-
--- the part of a line so far goes into the next line
-pub first_from : (part bytes : List ℕ) → 0 < length part → (more : List ℕ) × (lines : List (List ℕ)) × (lines_from part bytes ≡ (part ++ more) ∷ lines)
-first_from [] [] some = absurd (omega arith)
-first_from (p ∷ ps) [] some = ([], [], ap (λ l. l ∷ []) (sym (append-nil (p ∷ ps))))
-first_from part (b ∷ bs) some =
-    let longer : 0 < length (part ++ b ∷ []) = omega (arith, length-append part (b ∷ [])) in
-    let step = first_from (part ++ b ∷ []) bs longer in
-    elim (is_feed b) as (λ v. (more : List ℕ) × (lines : List (List ℕ)) × (cond v (part ∷ whole_from [] bs) (whole_from (part ++ b ∷ []) bs) ++ unless_empty (cond v (last_from [] bs) (last_from (part ++ b ∷ []) bs)) ≡ (part ++ more) ∷ lines)) [
-      | true ↦ ([], whole_from [] bs ++ unless_empty (last_from [] bs), ap (λ l. l ∷ (whole_from [] bs ++ unless_empty (last_from [] bs))) (sym (append-nil part)))
-      | false ↦ (b ∷ step.0, step.1, step.2 ∙ ap (λ l. l ∷ step.1) (append_assoc part (b ∷ []) step.0))
-    ]
-
+-- one byte more, which is a line feed or not
 split_at : (b : ℕ) (v : Bool) → is_feed b ≡ v → (part bytes : List ℕ) → All (λ x. is_feed x ≡ false) part
     → slice_split is_feed bytes ≡ whole_from [] bytes ++ last_from [] bytes ∷ []
     → (is_feed b ≡ false → slice_split is_feed ((part ++ b ∷ []) ++ bytes) ≡ whole_from (part ++ b ∷ []) bytes ++ last_from (part ++ b ∷ []) bytes ∷ [])
@@ -67,42 +48,39 @@ split_from part (b ∷ bytes) free =
     (split_from [] bytes (All-nil (λ x. is_feed x ≡ false)))
     (λ e. split_from (part ++ b ∷ []) bytes (All-push (λ x. is_feed x ≡ false) part b free e))
 
+-- without the last part
 all_but_last_push : (xs : List (List ℕ)) (x : List ℕ) → all_but_last (xs ++ x ∷ []) ≡ xs
 all_but_last_push [] x = refl
 all_but_last_push (y ∷ []) x = refl
 all_but_last_push (y ∷ z ∷ xs) x = ap (λ l. y ∷ l) (all_but_last_push (z ∷ xs) x)
 
+-- the last part
 last_of_push : (xs : List (List ℕ)) (x : List ℕ) → last_of (xs ++ x ∷ []) ≡ x
 last_of_push [] x = refl
 last_of_push (y ∷ []) x = refl
 last_of_push (y ∷ z ∷ xs) x = last_of_push (z ∷ xs) x
 
-without_empty_last_push : (xs : List (List ℕ)) (x : List ℕ) → without_empty_last (xs ++ x ∷ []) ≡ xs ++ unless_empty x
-without_empty_last_push [] x = refl
-without_empty_last_push (y ∷ []) x = refl
-without_empty_last_push (y ∷ z ∷ xs) x = ap (λ l. y ∷ l) (without_empty_last_push (z ∷ xs) x)
-
+-- the parts between line feeds
 parts : (bytes : List ℕ) → slice_split is_feed bytes ≡ whole_from [] bytes ++ last_from [] bytes ∷ []
 parts bytes = split_from [] bytes (All-nil (λ x. is_feed x ≡ false))
 
+-- the whole lines, byte after byte
 pub whole_lines_is : (bytes : List ℕ) → whole_lines bytes ≡ whole_from [] bytes
 unfolding whole_lines
 whole_lines_is bytes = ap all_but_last (parts bytes) ∙ all_but_last_push (whole_from [] bytes) (last_from [] bytes)
 
+-- the part that is left, byte after byte
 pub last_part_is : (bytes : List ℕ) → last_part bytes ≡ last_from [] bytes
 unfolding last_part
 last_part_is bytes = ap last_of (parts bytes) ∙ last_of_push (whole_from [] bytes) (last_from [] bytes)
 
-pub lines_of_is : (bytes : List ℕ) → lines_of bytes ≡ lines_from [] bytes
-unfolding lines_of
-lines_of_is bytes = ap without_empty_last (parts bytes) ∙ without_empty_last_push (whole_from [] bytes) (last_from [] bytes)
+-- the lines and the part that is left, where more bytes follow
+pub whole_lines-append : (read rest : List ℕ) → whole_lines (read ++ rest) ≡ whole_lines read ++ whole_from (last_part read) rest
+whole_lines-append read rest = whole_lines_is (read ++ rest) ∙ whole_from-append [] read rest ∙ ap (λ l. l ++ whole_from (last_from [] read) rest) (sym (whole_lines_is read)) ∙ ap (λ l. whole_lines read ++ whole_from l rest) (sym (last_part_is read))
 
--- after these bytes: the lines of all
-pub lines_of-append : (read rest : List ℕ) → lines_of (read ++ rest) ≡ whole_lines read ++ lines_from (last_part read) rest
-lines_of-append read rest = lines_of_is (read ++ rest) ∙ lines_from-append [] read rest ∙ ap (λ l. l ++ lines_from (last_from [] read) rest) (sym (whole_lines_is read)) ∙ ap (λ l. whole_lines read ++ lines_from l rest) (sym (last_part_is read))
-
-pub lines_of_end : (read : List ℕ) → lines_of read ≡ whole_lines read ++ unless_empty (last_part read)
-lines_of_end read = lines_of_is read ∙ ap (λ l. l ++ unless_empty (last_from [] read)) (sym (whole_lines_is read)) ∙ ap (λ l. whole_lines read ++ unless_empty l) (sym (last_part_is read))
+-- the part that is left, where more bytes follow
+pub last_part-append : (read rest : List ℕ) → last_part (read ++ rest) ≡ last_from (last_part read) rest
+last_part-append read rest = last_part_is (read ++ rest) ∙ last_from-append [] read rest ∙ ap (λ l. last_from l rest) (sym (last_part_is read))
 
 -- one byte more
 pub whole_lines_feed : (read : List ℕ) (b : ℕ) → is_feed b ≡ true → whole_lines (read ++ b ∷ []) ≡ whole_lines read ++ last_part read ∷ []
@@ -111,15 +89,18 @@ whole_lines_feed read b e =
     ∙ ap (λ v. whole_from [] read ++ cond v (last_from [] read ∷ []) []) e
     ∙ ap (λ l. l ++ last_from [] read ∷ []) (sym (whole_lines_is read)) ∙ ap (λ l. whole_lines read ++ l ∷ []) (sym (last_part_is read))
 
+-- a byte that is no line feed ends no line
 pub whole_lines_other : (read : List ℕ) (b : ℕ) → is_feed b ≡ false → whole_lines (read ++ b ∷ []) ≡ whole_lines read
 whole_lines_other read b e =
     whole_lines_is (read ++ b ∷ []) ∙ whole_from-append [] read (b ∷ [])
     ∙ ap (λ v. whole_from [] read ++ cond v (last_from [] read ∷ []) []) e
     ∙ append-nil (whole_from [] read) ∙ sym (whole_lines_is read)
 
+-- after a line feed nothing is left
 pub last_part_feed : (read : List ℕ) (b : ℕ) → is_feed b ≡ true → last_part (read ++ b ∷ []) ≡ []
 last_part_feed read b e = last_part_is (read ++ b ∷ []) ∙ last_from-append [] read (b ∷ []) ∙ ap (λ v. cond v [] (last_from [] read ++ b ∷ [])) e
 
+-- a byte that is no line feed is a byte of the line
 pub last_part_other : (read : List ℕ) (b : ℕ) → is_feed b ≡ false → last_part (read ++ b ∷ []) ≡ last_part read ++ b ∷ []
 last_part_other read b e = last_part_is (read ++ b ∷ []) ∙ last_from-append [] read (b ∷ []) ∙ ap (λ v. cond v [] (last_from [] read ++ b ∷ [])) e ∙ ap (λ l. l ++ b ∷ []) (sym (last_part_is read))
 
@@ -132,5 +113,11 @@ length_from part (b ∷ bytes) =
     elim (is_feed b) as (λ v. offset (cond v (part ∷ whole_from [] bytes) (whole_from (part ++ b ∷ []) bytes)) + length (cond v (last_from [] bytes) (last_from (part ++ b ∷ []) bytes)) ≡ length part + suc (length bytes))
     [ true ↦ omega (arith, sum_by-cons (λ (l : List ℕ). length l + 1) part (whole_from [] bytes), after) | false ↦ omega (arith, longer, length-append part (b ∷ [])) ]
 
+-- the bytes of the whole lines and of the part that is left are all
 pub length_read : (read : List ℕ) → offset (whole_lines read) + length (last_part read) ≡ length read
 length_read read = ap (λ l. offset l + length (last_part read)) (whole_lines_is read) ∙ ap (λ (l : List ℕ). offset (whole_from [] read) + length l) (last_part_is read) ∙ length_from [] read ∙ (omega arith)
+
+-- a part with a byte is a line
+pub unless_empty_some : (part : List ℕ) → 0 < length part → unless_empty part ≡ part ∷ []
+unless_empty_some [] some = absurd (omega arith)
+unless_empty_some (b ∷ bs) some = refl

@@ -1,275 +1,24 @@
--- What a byte does to a run that has come so far.
-use Rattle.std.proofs.Common.{◌≡◌, ℕ, ◌+◌, ◌<◌, ◌≤◌, min, Bool, true, false, cond, List, [], ◌∷◌, ◌++◌, length, Option, Some, None, Result, Ok, Err, sym, ◌∙◌, ap, subst, refl, arith, append_assoc, append-nil, take, drop, get_or}
+-- What a byte, and the end of the source, do to a run that has come so far.
+use Rattle.std.proofs.Common.{◌≡◌, ℕ, ◌+◌, ◌<◌, ◌≤◌, true, false, List, [], ◌∷◌, ◌++◌, length, Option, Result, Ok, Err, sym, ◌∙◌, ap, subst, refl, arith, append_assoc, append-nil, take, drop, get_or}
 use Rattle.std.specs.Prelude.{MatchResult}
-use Rattle.std.specs.Io.KnownBytes.{Appends, Consumes, IsAtEnd}
 use Rattle.std.proofs.lemmas.List.{length-append, drop_more, take-append-drop}
 use Rattle.css_outside.specs.Bytes.{IsPrefix}
-use Rattle.css_outside.proofs.Known.{appends_none, appends_more, consumes_more}
-use Rattle.css_lines.specs.declared.reader.Why.TheVariants.{Long}
-use Rattle.css_lines.specs.declared.state.Ended.{Ended}
-use Rattle.css_lines.specs.declared.state.Ended.TheVariants.{Done, Bad, ReadFault, WriteFault, Memory}
-use Rattle.css_lines.specs.declared.state.Pending.{Pending}
+use Rattle.css_outside.proofs.Known.{appends_none, appends_more}
+use Rattle.css_lines.specs.declared.reader.Refusal.TheVariants.{Long}
+use Rattle.css_lines.specs.declared.ending.Stop.{Stop}
+use Rattle.css_lines.specs.declared.ending.Stop.TheVariants.{BadLine, ReadFault, WriteFault, Memory}
+use Rattle.css_lines.specs.declared.pending.Pending.{Pending}
 use Rattle.css_lines.specs.Lines.{is_feed, unless_empty, lines_of, whole_lines, last_part}
-use Rattle.css_lines.specs.Meaning.{Meaning, Outcome, offset, refused, answer_of, then_outcome, outcome_from, outcome, printed_from}
-use Rattle.css_lines.specs.Progress.{Progress, AllTaken, TakesLine, Stopped, StoppedAtEnd, Finished, Stops}
-use Rattle.css_lines.specs.Treated.{MayEnd, Treated, Ran}
-use Rattle.css_lines.proofs.Cut.{whole_from, last_from, lines_from, lines_of_end, first_from, length_read, whole_lines_feed, whole_lines_other, last_part_feed, last_part_other}
-use Rattle.css_lines.proofs.Meant.{prepend, outcome_from-append, outcome_next, printed_from-push, long_whole, long_line, fits_line, stops_from_line}
+use Rattle.css_lines.specs.Meaning.{Meaning, Outcome, accepted, refused_at, followed_by, offset, reader_outcome, line_outcome, finish_outcome, end_outcome, outcome_so_far, outcome, IsSound}
+use Rattle.css_lines.specs.Progress.{Progress, AllTaken, TakesLine, StopsAfter, StopsWith, Stopped, StoppedAtEnd, Finished}
+use Rattle.css_lines.proofs.Cut.{length_read, whole_lines_feed, whole_lines_other, last_part_feed, last_part_other, unless_empty_some}
+use Rattle.css_lines.proofs.Meant.{followed_by-assoc, followed_by-nil, prefix_trans, outcome_after, outcome-append, outcome_at_end, so_far_grows, so_far_other, so_far_feed, end_outcome_some, fed_line, longer_line, next_line, long_input, long_line, fits_line, stops_with, stops_after}
 
--- the next line begins with the part so far, and with the byte if it is no line feed
-next_line_at : (b : ℕ) (v : Bool) → is_feed b ≡ v → (part rest : List ℕ) → (more : List ℕ) × (lines : List (List ℕ)) × (lines_from part (b ∷ rest) ≡ (part ++ more) ∷ lines) × (is_feed b ≡ false → 0 < length more)
-next_line_at b true e part rest = (
-  [],
-  lines_from [] rest,
-  ap (λ v. cond v (part ∷ whole_from [] rest) (whole_from (part ++ b ∷ []) rest) ++ unless_empty (cond v (last_from [] rest) (last_from (part ++ b ∷ []) rest))) e
-      ∙ ap (λ l. l ∷ lines_from [] rest) (sym (append-nil part)),
-  λ f. cc,
-)
-next_line_at b false e part rest =
-    let some : 0 < length (part ++ b ∷ []) = omega (arith, length-append part (b ∷ [])) in
-    let first = first_from (part ++ b ∷ []) rest some in (
-      b ∷ first.0,
-      first.1,
-      ap (λ v. cond v (part ∷ whole_from [] rest) (whole_from (part ++ b ∷ []) rest) ++ unless_empty (cond v (last_from [] rest) (last_from (part ++ b ∷ []) rest))) e
-          ∙ first.2 ∙ ap (λ l. l ∷ first.1) (append_assoc part (b ∷ []) first.0),
-      λ f. omega arith,
-    )
-
-next_line : (part : List ℕ) (b : ℕ) (rest : List ℕ) → (more : List ℕ) × (lines : List (List ℕ)) × (lines_from part (b ∷ rest) ≡ (part ++ more) ∷ lines) × (is_feed b ≡ false → 0 < length more)
-next_line part b rest = next_line_at b (is_feed b) refl part rest
-
--- the line ends the run as too long, whatever follows
-stops_long : {Cause : Type 0} (m : Meaning Cause) (read printed : List ℕ) (b : ℕ) (number : ℕ) (rest line : List ℕ) (more : List (List ℕ))
-    → ((total : ℕ) → length read ≤ total → printed_from m total [] (whole_lines read) ≡ Some printed)
-    → lines_from (last_part read) (b ∷ rest) ≡ line ∷ more
-    → answer_of m (length (read ++ b ∷ rest)) (whole_lines read) line ≡ Err Long
-    → number ≡ length (whole_lines read) + 1
-    → outcome m ((read ++ b ∷ []) ++ rest) ≡ record { printed = printed; verdict = Some (number, Long) }
-stops_long m read printed b number rest line more treated next long is =
-    let o = outcome_from m (length (read ++ b ∷ rest)) (whole_lines read ++ line ∷ []) more in
-    ap (outcome m) (append_assoc read (b ∷ []) rest)
-    ∙ outcome_next m read (b ∷ rest) printed line more (treated (length (read ++ b ∷ rest)) (omega (arith, length-append read (b ∷ rest)))) next
-    ∙ ap (λ a. prepend printed (then_outcome (length (whole_lines read) + 1) a o)) long
-    ∙ ap (λ l. record { printed = l; verdict = Some (length (whole_lines read) + 1, Long) }) (append-nil printed)
-    ∙ ap (λ n. record { printed = printed; verdict = Some (n, Long) }) (sym is)
-
--- a byte too many in all
-pub stop_whole : {L Cause : Type 0} (m : Meaning Cause) (stands : L → List (List ℕ) → Type 0) (start : Option (List ℕ)) (read : List ℕ) (lines : L) (pending : Pending) (holds : Option (List ℕ)) (b : ℕ)
-    → Progress m stands start read lines pending holds → m.whole (whole_lines read) ≤ pending.count → Stopped m start (read ++ b ∷ []) holds (Bad (pending.taken + 1) Long)
-stop_whole m stands start read lines pending holds b p past = record {
-  printed = p.printed;
-  grew = p.grew;
-  ends = λ rest.
-      let next = next_line (last_part read) b rest in
-      let line = last_part read ++ next.0 in
-      let over : m.whole (whole_lines read) < min (offset (whole_lines read) + length line + 1) (length (read ++ b ∷ rest)) =
-      omega (arith, length_read read, length-append (last_part read) next.0, length-append read (b ∷ rest), p.count) in
-      stops_long m read p.printed b (pending.taken + 1) rest line next.1 p.treated next.2 (long_whole m (length (read ++ b ∷ rest)) (whole_lines read) line over) (omega (arith, p.taken));
-}
-
--- a byte too many for a line
-pub stop_longest : {L Cause : Type 0} (m : Meaning Cause) (stands : L → List (List ℕ) → Type 0) (start : Option (List ℕ)) (read : List ℕ) (lines : L) (pending : Pending) (holds : Option (List ℕ)) (b : ℕ)
-    → Progress m stands start read lines pending holds → is_feed b ≡ false → m.longest (whole_lines read) ≤ length (last_part read) → Stopped m start (read ++ b ∷ []) holds (Bad (pending.taken + 1) Long)
-stop_longest m stands start read lines pending holds b p other past = record {
-  printed = p.printed;
-  grew = p.grew;
-  ends = λ rest.
-      let next = next_line (last_part read) b rest in
-      let line = last_part read ++ next.0 in
-      let over : m.longest (whole_lines read) < length line = omega (arith, length-append (last_part read) next.0, next.3 other) in
-      stops_long m read p.printed b (pending.taken + 1) rest line next.1 p.treated next.2 (long_line m (length (read ++ b ∷ rest)) (whole_lines read) line over) (omega (arith, p.taken));
-}
-
--- no memory for the byte
-pub stop_memory : {L Cause : Type 0} (m : Meaning Cause) (stands : L → List (List ℕ) → Type 0) (start : Option (List ℕ)) (read : List ℕ) (lines : L) (pending : Pending) (holds : Option (List ℕ)) (b : ℕ)
-    → Progress m stands start read lines pending holds → Stopped m start (read ++ b ∷ []) holds Memory
-stop_memory m stands start read lines pending holds b p = record {
-  printed = p.printed;
-  grew = p.grew;
-  ends = λ rest.
-      let next = next_line (last_part read) b rest in
-      let line = last_part read ++ next.0 in
-      let o = outcome_next m read (b ∷ rest) p.printed line next.1 (p.treated (length (read ++ b ∷ rest)) (omega (arith, length-append read (b ∷ rest)))) next.2 in
-      let tail = then_outcome (length (whole_lines read) + 1) (answer_of m (length (read ++ b ∷ rest)) (whole_lines read) line) (outcome_from m (length (read ++ b ∷ rest)) (whole_lines read ++ line ∷ []) next.1) in
-      (tail.printed, ap (λ l. (outcome m l).printed) (append_assoc read (b ∷ []) rest) ∙ ap (λ x. x.printed) o);
-}
-
--- a byte of the line
-pub goes_on : {L Cause : Type 0} (m : Meaning Cause) (stands : L → List (List ℕ) → Type 0) (start : Option (List ℕ)) (read : List ℕ) (lines : L) (pending pending' : Pending) (holds : Option (List ℕ)) (b : ℕ)
-    → Progress m stands start read lines pending holds → is_feed b ≡ false → length (last_part read) < m.longest (whole_lines read) → pending.count < m.whole (whole_lines read)
-    → pending'.text.items ≡ pending.text.items ++ b ∷ [] → pending'.taken ≡ pending.taken → pending'.count ≡ pending.count + 1
-    → Progress m stands start (read ++ b ∷ []) lines pending' holds
-goes_on m stands start read lines pending pending' holds b p other short within text taken count =
-    let same = whole_lines_other read b other in
-    let longer = last_part_other read b other in
-    record {
-      stood = subst (stands lines) (sym same) p.stood;
-      text = text ∙ ap (λ l. l ++ b ∷ []) p.text ∙ sym longer;
-      short = rw (same, longer) (omega (arith, length-append (last_part read) (b ∷ [])));
-      within = λ _. rw same (omega (arith, length-append read (b ∷ []), p.count));
-      taken = taken ∙ p.taken ∙ ap length (sym same);
-      count = omega (arith, length-append read (b ∷ []), p.count);
-      printed = p.printed;
-      grew = p.grew;
-      treated = λ total le. ap (printed_from m total []) same ∙ p.treated total (omega (arith, length-append read (b ∷ [])));
-    }
-
--- a line feed
-pub takes_line : {L T Cause : Type 0} (m : Meaning Cause) (stands : L → List (List ℕ) → Type 0) (start : Option (List ℕ)) (read : List ℕ) (lines lines' : L) (pending pending' : Pending) (holds holds' : Option (List ℕ)) (b : ℕ) (result : Result T (Ended Cause))
-    → Progress m stands start read lines pending holds → is_feed b ≡ true → pending.count < m.whole (whole_lines read)
-    → TakesLine (refused (m.line (whole_lines read) pending.text.items)) (pending.taken + 1) holds holds' result
-    → MatchResult result (λ _. (before : List (List ℕ)) → stands lines before → stands lines' (before ++ pending.text.items ∷ [])) (λ _. Unit {0})
-    → MatchResult result (λ _. pending'.text.items ≡ []) (λ _. Unit {0})
-    → MatchResult result (λ _. pending'.taken ≡ pending.taken + 1) (λ _. Unit {0})
-    → MatchResult result (λ _. pending'.count ≡ pending.count + 1) (λ _. Unit {0})
-    → MatchResult result (λ _. Progress m stands start (read ++ b ∷ []) lines' pending' holds') (Stopped m start (read ++ b ∷ []) holds')
-takes_line m stands start read lines lines' pending pending' holds holds' b (Ok x) p fed within takes stood text taken count =
-    let more = whole_lines_feed read b fed in
-    let none = last_part_feed read b fed in
-    let push = length-append (whole_lines read) (last_part read ∷ []) in
-    record {
-      stood = subst (stands lines') (ap (λ l. whole_lines read ++ l ∷ []) p.text ∙ sym more) (stood (whole_lines read) p.stood);
-      text = text ∙ sym none;
-      short = rw none (omega arith);
-      within = λ some. absurd (omega (arith, ap length none));
-      taken = omega (arith, p.taken, ap length more, push);
-      count = omega (arith, length-append read (b ∷ []), p.count);
-      printed = p.printed ++ takes.front;
-      grew = appends_more start holds holds' p.printed takes.front p.grew takes.grew;
-      treated = λ total le.
-          let longer = length-append read (b ∷ []) in
-          let fits : min (offset (whole_lines read) + length (last_part read) + 1) total ≤ m.whole (whole_lines read) = omega (arith, length_read read, p.count) in
-          ap (printed_from m total []) more
-          ∙ printed_from-push m total [] (whole_lines read) (last_part read) p.printed takes.front (p.treated total (omega arith))
-          (fits_line m total (whole_lines read) (last_part read) p.short fits ∙ ap (λ t. refused (m.line (whole_lines read) t)) (sym p.text) ∙ takes.cases);
-    }
-takes_line m stands start read lines lines' pending pending' holds holds' b (Err ended) p fed within takes stood text taken count = record {
-  printed = p.printed ++ takes.front;
-  grew = appends_more start holds holds' p.printed takes.front p.grew takes.grew;
-  ends = λ rest.
-      let total = length (read ++ b ∷ rest) in
-      let longer = length-append read (b ∷ rest) in
-      let fits : min (offset (whole_lines read) + length (last_part read) + 1) total ≤ m.whole (whole_lines read) = omega (arith, length_read read, p.count) in
-      let next : lines_from (last_part read) (b ∷ rest) ≡ last_part read ∷ lines_from [] rest =
-      ap (λ v. cond v (last_part read ∷ whole_from [] rest) (whole_from (last_part read ++ b ∷ []) rest) ++ unless_empty (cond v (last_from [] rest) (last_from (last_part read ++ b ∷ []) rest))) fed in
-      let o = outcome_from m total (whole_lines read ++ last_part read ∷ []) (lines_from [] rest) in
-      let answer = fits_line m total (whole_lines read) (last_part read) p.short fits ∙ ap (λ t. refused (m.line (whole_lines read) t)) (sym p.text) in
-      let is : outcome m ((read ++ b ∷ []) ++ rest) ≡ prepend p.printed (then_outcome (pending.taken + 1) (refused (m.line (whole_lines read) pending.text.items)) o) =
-      ap (outcome m) (append_assoc read (b ∷ []) rest)
-      ∙ outcome_next m read (b ∷ rest) p.printed (last_part read) (lines_from [] rest) (p.treated total (omega arith)) next
-      ∙ ap (λ a. prepend p.printed (then_outcome (length (whole_lines read) + 1) a o)) answer
-      ∙ ap (λ n. prepend p.printed (then_outcome (n + 1) (refused (m.line (whole_lines read) pending.text.items)) o)) (sym p.taken) in
-      subst (λ x. Stops x (p.printed ++ takes.front) ended) (sym is) (stops_from_line (refused (m.line (whole_lines read) pending.text.items)) (pending.taken + 1) o p.printed takes.front ended takes.cases);
-}
-
--- it stops in the same way, whatever was read besides
-pub stopped_more : {Cause : Type 0} (m : Meaning Cause) (start : Option (List ℕ)) (read more all : List ℕ) (holds : Option (List ℕ)) (ended : Ended Cause)
-    → read ++ more ≡ all → Stopped m start read holds ended → Stopped m start all holds ended
-stopped_more m start read more all holds ended is s = record {
-  printed = s.printed;
-  grew = s.grew;
-  ends = λ rest. subst (λ l. Stops (outcome m l) s.printed ended) (sym (append_assoc read more rest) ∙ ap (λ l. l ++ rest) is) (s.ends (more ++ rest));
-}
-
-last_line : (part : List ℕ) → 0 < length part → unless_empty part ≡ part ∷ []
-last_line [] some = absurd (omega arith)
-last_line (b ∷ bs) some = refl
-
--- no line lacks its line feed
-pub all_taken : {L Cause : Type 0} (m : Meaning Cause) (stands : L → List (List ℕ) → Type 0) (start : Option (List ℕ)) (read : List ℕ) (lines : L) (pending : Pending) (holds : Option (List ℕ))
-    → Progress m stands start read lines pending holds → pending.text.items ≡ [] → AllTaken m stands start read lines pending holds
-all_taken m stands start read lines pending holds p none =
-    let all : lines_of read ≡ whole_lines read = lines_of_end read ∙ ap (λ l. whole_lines read ++ unless_empty l) (sym p.text ∙ none) ∙ append-nil (whole_lines read) in
-    record {
-      stood = subst (stands lines) (sym all) p.stood;
-      taken = p.taken ∙ ap length (sym all);
-      printed = p.printed;
-      grew = p.grew;
-      treated = ap (printed_from m (length read) []) all ∙ p.treated (length read) (omega arith);
-    }
-
--- the last line lacks its line feed
-pub takes_last : {L T Cause : Type 0} (m : Meaning Cause) (stands : L → List (List ℕ) → Type 0) (start : Option (List ℕ)) (read : List ℕ) (lines lines' : L) (pending pending' : Pending) (holds holds' : Option (List ℕ)) (result : Result T (Ended Cause))
-    → Progress m stands start read lines pending holds → 0 < length pending.text.items
-    → TakesLine (refused (m.line (whole_lines read) pending.text.items)) (pending.taken + 1) holds holds' result
-    → MatchResult result (λ _. (before : List (List ℕ)) → stands lines before → stands lines' (before ++ pending.text.items ∷ [])) (λ _. Unit {0})
-    → MatchResult result (λ _. pending'.taken ≡ pending.taken + 1) (λ _. Unit {0})
-    → MatchResult result (λ _. AllTaken m stands start read lines' pending' holds') (StoppedAtEnd m start read holds')
-takes_last m stands start read lines lines' pending pending' holds holds' (Ok x) p some takes stood taken =
-    let part : 0 < length (last_part read) = omega (arith, ap length p.text) in
-    let all : lines_of read ≡ whole_lines read ++ last_part read ∷ [] = lines_of_end read ∙ ap (λ l. whole_lines read ++ l) (last_line (last_part read) part) in
-    let within = p.within part in
-    let fits : min (offset (whole_lines read) + length (last_part read) + 1) (length read) ≤ m.whole (whole_lines read) = omega arith in
-    record {
-      stood = subst (stands lines') (ap (λ l. whole_lines read ++ l ∷ []) p.text ∙ sym all) (stood (whole_lines read) p.stood);
-      taken = omega (arith, p.taken, ap length all, length-append (whole_lines read) (last_part read ∷ []));
-      printed = p.printed ++ takes.front;
-      grew = appends_more start holds holds' p.printed takes.front p.grew takes.grew;
-      treated =
-          ap (printed_from m (length read) []) all
-          ∙ printed_from-push m (length read) [] (whole_lines read) (last_part read) p.printed takes.front (p.treated (length read) (omega arith))
-          (fits_line m (length read) (whole_lines read) (last_part read) p.short fits ∙ ap (λ t. refused (m.line (whole_lines read) t)) (sym p.text) ∙ takes.cases);
-    }
-takes_last m stands start read lines lines' pending pending' holds holds' (Err ended) p some takes stood taken =
-    let part : 0 < length (last_part read) = omega (arith, ap length p.text) in
-    let within = p.within part in
-    let same = append-nil read in
-    let total = length (read ++ []) in
-    let fits : min (offset (whole_lines read) + length (last_part read) + 1) total ≤ m.whole (whole_lines read) = omega (arith, ap length same) in
-    let o = outcome_from m total (whole_lines read ++ last_part read ∷ []) [] in
-    let answer = fits_line m total (whole_lines read) (last_part read) p.short fits ∙ ap (λ t. refused (m.line (whole_lines read) t)) (sym p.text) in
-    let is : outcome m read ≡ prepend p.printed (then_outcome (pending.taken + 1) (refused (m.line (whole_lines read) pending.text.items)) o) =
-    ap (outcome m) (sym same)
-    ∙ outcome_next m read [] p.printed (last_part read) [] (p.treated total (omega (arith, ap length same))) (last_line (last_part read) part)
-    ∙ ap (λ a. prepend p.printed (then_outcome (length (whole_lines read) + 1) a o)) answer
-    ∙ ap (λ n. prepend p.printed (then_outcome (n + 1) (refused (m.line (whole_lines read) pending.text.items)) o)) (sym p.taken) in
-    record {
-      printed = p.printed ++ takes.front;
-      grew = appends_more start holds holds' p.printed takes.front p.grew takes.grew;
-      ends = subst (λ x. Stops x (p.printed ++ takes.front) ended) (sym is) (stops_from_line (refused (m.line (whole_lines read) pending.text.items)) (pending.taken + 1) o p.printed takes.front ended takes.cases);
-    }
-
--- no line follows
-outcome_all : {Cause : Type 0} (m : Meaning Cause) (read printed : List ℕ) (number : ℕ) → printed_from m (length read) [] (lines_of read) ≡ Some printed → number ≡ length (lines_of read)
-    → outcome m read ≡ prepend printed (then_outcome (number + 1) (refused (m.finish (lines_of read))) (record { printed = []; verdict = None }))
-unfolding outcome
-outcome_all m read printed number treated is =
-    ap (outcome_from m (length read) []) (sym (append-nil (lines_of read)))
-    ∙ outcome_from-append m (length read) [] (lines_of read) [] printed treated
-    ∙ ap (λ n. prepend printed (then_outcome (n + 1) (refused (m.finish (lines_of read))) (record { printed = []; verdict = None }))) (sym is)
-
-pub concludes : {L T Cause : Type 0} (m : Meaning Cause) (stands : L → List (List ℕ) → Type 0) (start : Option (List ℕ)) (read : List ℕ) (lines : L) (pending : Pending) (holds holds' : Option (List ℕ)) (result : Result T (Ended Cause))
-    → AllTaken m stands start read lines pending holds
-    → TakesLine (refused (m.finish (lines_of read))) (pending.taken + 1) holds holds' result
-    → MatchResult result (λ _. Finished m start read holds') (StoppedAtEnd m start read holds')
-concludes {Cause = C} m stands start read lines pending holds holds' (Ok x) p takes = record {
-  printed = p.printed ++ takes.front;
-  grew = appends_more start holds holds' p.printed takes.front p.grew takes.grew;
-  all =
-      let none : Outcome C = record { printed = []; verdict = None } in
-      outcome_all m read p.printed pending.taken p.treated p.taken
-      ∙ ap (λ a. prepend p.printed (then_outcome (pending.taken + 1) a none)) takes.cases
-      ∙ ap (λ (l : List ℕ). let o : Outcome C = record { printed = p.printed ++ l; verdict = None } in o) (append-nil takes.front);
-}
-concludes {Cause = C} m stands start read lines pending holds holds' (Err ended) p takes =
-    let none : Outcome C = record { printed = []; verdict = None } in
-    record {
-      printed = p.printed ++ takes.front;
-      grew = appends_more start holds holds' p.printed takes.front p.grew takes.grew;
-      ends = subst (λ x. Stops x (p.printed ++ takes.front) ended) (sym (outcome_all m read p.printed pending.taken p.treated p.taken))
-          (stops_from_line (refused (m.finish (lines_of read))) (pending.taken + 1) none p.printed takes.front ended takes.cases);
-    }
-
--- the bytes before an index, the one there, and the rest
-pub around : (read bytes : List ℕ) (i : ℕ) → i < length bytes → ((read ++ take i bytes) ++ get_or bytes i 0 ∷ []) ++ drop (i + 1) bytes ≡ read ++ bytes
-around read bytes i within =
-    append_assoc (read ++ take i bytes) (get_or bytes i 0 ∷ []) (drop (i + 1) bytes) ∙ append_assoc read (take i bytes) (get_or bytes i 0 ∷ drop (i + 1) bytes)
-    ∙ ap (λ l. read ++ (take i bytes ++ l)) (sym (drop_more bytes i 0 within)) ∙ ap (λ l. read ++ l) (take-append-drop i bytes)
-
-pub begins : {L Cause : Type 0} (m : Meaning Cause) (stands : L → List (List ℕ) → Type 0) (start : Option (List ℕ)) (lines : L) (pending : Pending)
-    → stands lines [] → pending.text.items ≡ [] → pending.taken ≡ 0 → pending.count ≡ 0 → Progress m stands start [] lines pending start
-unfolding whole_lines last_part
-begins m stands start lines pending stood text taken count = record {
+-- nothing was read
+pub begins : {L Cause : Type 0} (meaning : Meaning Cause) (stands : L → List (List ℕ) → Type 0) (start : Option (List ℕ)) (lines : L) (pending : Pending)
+    → stands lines [] → pending.text.items ≡ [] → pending.taken ≡ 0 → pending.count ≡ 0 → Progress meaning stands start [] lines pending start
+unfolding whole_lines last_part outcome_so_far
+begins meaning stands start lines pending stood text taken count = record {
   stood = stood;
   text = text;
   short = omega arith;
@@ -278,85 +27,247 @@ begins m stands start lines pending stood text taken count = record {
   count = count;
   printed = [];
   grew = appends_none start;
-  treated = λ total le. refl;
+  so_far = refl;
 }
 
-stopped_may_end : {Cause : Type 0} (m : Meaning Cause) (start : Option (List ℕ)) (read : List ℕ) (holds left : Option (List ℕ)) (ended : Ended Cause) (s : Stopped m start read holds ended) → MayEnd m read left s.printed ended
-stopped_may_end m start read holds left (Bad line why) s = λ rest e. s.ends rest
-stopped_may_end m start read holds left WriteFault s = subst (λ l. IsPrefix s.printed (outcome m l).printed) (append-nil read) (s.ends [])
-stopped_may_end m start read holds left Memory s = subst (λ l. IsPrefix s.printed (outcome m l).printed) (append-nil read) (s.ends [])
-stopped_may_end m start read holds left Done s = absurd (s.ends [])
-stopped_may_end m start read holds left ReadFault s = absurd (s.ends [])
+module _ {L Cause : Type 0} (meaning : Meaning Cause) (stands : L → List (List ℕ) → Type 0) (start : Option (List ℕ)) (read : List ℕ) (lines : L) (pending : Pending) (holds : Option (List ℕ)) (p : Progress meaning stands start read lines pending holds) where
+  -- no line is refused as yet
+  pub sound : IsSound meaning read
+  sound = record { accepted = ap (λ o. o.verdict) p.so_far; short = p.short; within = p.within }
 
-end_may_end : {Cause : Type 0} (m : Meaning Cause) (start : Option (List ℕ)) (read : List ℕ) (holds left : Option (List ℕ)) (ended : Ended Cause) (s : StoppedAtEnd m start read holds ended) → IsAtEnd left → MayEnd m read left s.printed ended
-end_may_end m start read holds left (Bad line why) s at_end = λ rest e.
-    let none : rest ≡ [] = let P : Option (List ℕ) → Type 0 = λ o. IsAtEnd o in subst P e at_end in
-    ap (λ l. outcome m (read ++ l)) none ∙ ap (outcome m) (append-nil read) ∙ s.ends
-end_may_end m start read holds left WriteFault s at_end = s.ends
-end_may_end m start read holds left Memory s at_end = s.ends
-end_may_end m start read holds left Done s at_end = absurd s.ends
-end_may_end m start read holds left ReadFault s at_end = absurd s.ends
+  -- what was printed stays
+  pub kept : (front : List ℕ) → IsPrefix (outcome_so_far meaning read).printed (p.printed ++ front)
+  kept front = (front, ap (λ o. o.printed ++ front) (sym p.so_far))
 
-pub treated_stopped : {Cause : Type 0} (m : Meaning Cause) (start : Option (List ℕ)) (read : List ℕ) (holds left_old left : Option (List ℕ)) (ended : Ended Cause)
-    → Stopped m start read holds ended → Consumes left_old left read → Treated m left_old left start holds ended
-treated_stopped m start read holds left_old left ended s took = record { read = read; printed = s.printed; took = took; grew = s.grew; ends = stopped_may_end m start read holds left ended s }
+  -- what becomes of the bytes is up to what follows
+  pub whole : (rest : List ℕ) → outcome meaning (read ++ rest) ≡ followed_by (accepted p.printed) (outcome_after meaning (whole_lines read) (last_part read) rest)
+  whole rest = outcome-append meaning read rest ∙ ap (λ o. followed_by o (outcome_after meaning (whole_lines read) (last_part read) rest)) p.so_far
 
-pub treated_at_end : {Cause : Type 0} (m : Meaning Cause) (start : Option (List ℕ)) (read : List ℕ) (holds left_old left : Option (List ℕ)) (ended : Ended Cause)
-    → StoppedAtEnd m start read holds ended → IsAtEnd left → Consumes left_old left read → Treated m left_old left start holds ended
-treated_at_end m start read holds left_old left ended s at_end took = record { read = read; printed = s.printed; took = took; grew = s.grew; ends = end_may_end m start read holds left ended s at_end }
+  -- a byte and what follows it
+  pub whole_byte : (b : ℕ) (rest : List ℕ) → outcome meaning ((read ++ b ∷ []) ++ rest) ≡ followed_by (accepted p.printed) (outcome_after meaning (whole_lines read) (last_part read) (b ∷ rest))
+  whole_byte b rest = ap (outcome meaning) (append_assoc read (b ∷ []) rest) ∙ whole (b ∷ rest)
 
-pub treated_finished : {Cause : Type 0} (m : Meaning Cause) (start : Option (List ℕ)) (read : List ℕ) (holds left_old left : Option (List ℕ))
-    → Finished m start read holds → IsAtEnd left → Consumes left_old left read → Treated m left_old left start holds Done
-treated_finished m start read holds left_old left s at_end took = record { read = read; printed = s.printed; took = took; grew = s.grew; ends = (at_end, s.all) }
+  -- the line that is being read is refused as too long, whatever follows
+  stops_long : (b : ℕ) (rest : List ℕ) (line : List ℕ) (end : ℕ) (tail : Outcome Cause)
+      → outcome_after meaning (whole_lines read) (last_part read) (b ∷ rest) ≡ followed_by (line_outcome meaning (whole_lines read) line end) tail
+      → line_outcome meaning (whole_lines read) line end ≡ refused_at [] (length (whole_lines read) + 1) Long
+      → outcome meaning ((read ++ b ∷ []) ++ rest) ≡ refused_at p.printed (pending.taken + 1) Long
+  stops_long b rest line end tail is long =
+      whole_byte b rest ∙ ap (followed_by (accepted p.printed)) (is ∙ ap (λ o. followed_by o tail) long)
+      ∙ ap (λ l. refused_at l (length (whole_lines read) + 1) Long) (append-nil p.printed) ∙ ap (λ n. refused_at p.printed (n + 1) Long) (sym p.taken)
 
--- no read fault comes of these
-pub stopped_no_read_fault : {Cause : Type 0} (m : Meaning Cause) (start : Option (List ℕ)) (read : List ℕ) (holds : Option (List ℕ)) (ended : Ended Cause) → Stopped m start read holds ended → ended ≡ ReadFault → ⊥
-stopped_no_read_fault m start read holds ended s e =
-    let o = outcome m (read ++ []) in
-    let P : Ended _ → Type 0 = λ x. Stops o s.printed x in
-    subst P e (s.ends [])
+  -- a byte too many in all
+  pub stop_input : (b : ℕ) → meaning.longest_input (whole_lines read) ≤ pending.count → Stopped meaning start read (read ++ b ∷ []) holds (BadLine (pending.taken + 1) Long)
+  stop_input b past = record {
+    printed = p.printed;
+    grew = p.grew;
+    kept = rw (append-nil p.printed) at (kept []);
+    ends = λ rest.
+        let next = next_line meaning (whole_lines read) (last_part read) b rest in
+        let over : meaning.longest_input (whole_lines read) < next.end = omega (arith, length_read read, next.far, p.count) in
+        stops_long b rest next.line next.end next.tail next.is (long_input meaning (whole_lines read) next.line next.end over);
+  }
 
-pub end_no_read_fault : {Cause : Type 0} (m : Meaning Cause) (start : Option (List ℕ)) (read : List ℕ) (holds : Option (List ℕ)) (ended : Ended Cause) → StoppedAtEnd m start read holds ended → ended ≡ ReadFault → ⊥
-end_no_read_fault m start read holds ended s e =
-    let P : Ended _ → Type 0 = λ x. Stops (outcome m read) s.printed x in
-    subst P e s.ends
+  -- a byte too many for a line
+  pub stop_line : (b : ℕ) → is_feed b ≡ false → meaning.longest_line (whole_lines read) ≤ length (last_part read) → Stopped meaning start read (read ++ b ∷ []) holds (BadLine (pending.taken + 1) Long)
+  stop_line b other past = record {
+    printed = p.printed;
+    grew = p.grew;
+    kept = rw (append-nil p.printed) at (kept []);
+    ends = λ rest.
+        let next = longer_line meaning (whole_lines read) (last_part read) b rest other in
+        let over : meaning.longest_line (whole_lines read) < length next.line = omega (arith, next.long) in
+        stops_long b rest next.line next.end next.tail next.is (long_line meaning (whole_lines read) next.line next.end over);
+  }
 
--- a read that took nothing
-pub consumes_nothing : (a b c : Option (List ℕ)) (read into : List ℕ) (n : ℕ) → Consumes a b read → Consumes b c (take n into) → n ≡ 0 → Consumes a c read
-consumes_nothing a b c read into n before step none =
-    subst (Consumes a c) (ap (λ (k : ℕ). read ++ take k into) none ∙ append-nil read) (consumes_more a b c read (take n into) before step)
+  -- no memory for the byte
+  pub stop_memory : (b : ℕ) → Stopped meaning start read (read ++ b ∷ []) holds Memory
+  stop_memory b = record {
+    printed = p.printed;
+    grew = p.grew;
+    kept = rw (append-nil p.printed) at (kept []);
+    ends = let grown = so_far_grows meaning read (b ∷ []) in (grown.0, grown.1 ∙ ap (λ o. o.printed ++ grown.0) p.so_far);
+  }
 
--- What a run did to a source that tells its bytes.
-told_some : (bytes : List ℕ) (left : Option (List ℕ)) (read : List ℕ) → Consumes (Some bytes) left read → (rest : List ℕ) × (left ≡ Some rest) × (bytes ≡ read ++ rest)
-told_some bytes None read took = absurd took
-told_some bytes (Some rest) read took = (rest, refl, took)
+  -- a byte of the line
+  pub goes_on : (pending' : Pending) (b : ℕ) → is_feed b ≡ false → length (last_part read) < meaning.longest_line (whole_lines read) → pending.count < meaning.longest_input (whole_lines read)
+      → pending'.text.items ≡ pending.text.items ++ b ∷ [] → pending'.taken ≡ pending.taken → pending'.count ≡ pending.count + 1
+      → Progress meaning stands start (read ++ b ∷ []) lines pending' holds
+  goes_on pending' b other short within text taken count =
+      let same = whole_lines_other read b other in
+      let longer = last_part_other read b other in
+      record {
+        stood = subst (stands lines) (sym same) p.stood;
+        text = text ∙ ap (λ l. l ++ b ∷ []) p.text ∙ sym longer;
+        short = rw (same, longer) (omega (arith, length-append (last_part read) (b ∷ [])));
+        within = λ _. rw same (omega (arith, length-append read (b ∷ []), p.count));
+        taken = taken ∙ p.taken ∙ ap length (sym same);
+        count = omega (arith, length-append read (b ∷ []), p.count);
+        printed = p.printed;
+        grew = p.grew;
+        so_far = so_far_other meaning read b other ∙ p.so_far;
+      }
 
-ran_at : {Cause : Type 0} (m : Meaning Cause) (bytes : List ℕ) (left holds_old holds_new : Option (List ℕ)) (ended : Ended Cause) (t : Treated m (Some bytes) left holds_old holds_new ended)
-    → MayEnd m t.read left t.printed ended → Ran m bytes left holds_old holds_new ended
-ran_at m bytes left holds_old holds_new Done t ends =
-    let told = told_some bytes left t.read t.took in
-    let none : told.0 ≡ [] = let P : Option (List ℕ) → Type 0 = λ o. IsAtEnd o in subst P told.1 ends.0 in
-    let all : bytes ≡ t.read = told.2 ∙ ap (λ l. t.read ++ l) none ∙ append-nil t.read in (
-      told.1 ∙ ap Some none,
-      ap (λ l. (outcome m l).verdict) all ∙ ap (λ o. o.verdict) ends.1,
-      subst (Appends holds_old holds_new) (sym (ap (λ l. (outcome m l).printed) all ∙ ap (λ o. o.printed) ends.1)) t.grew,
-    )
-ran_at m bytes left holds_old holds_new (Bad line why) t ends =
-    let told = told_some bytes left t.read t.took in
-    let is = ap (outcome m) told.2 ∙ ends told.0 told.1 in
-    (ap (λ o. o.verdict) is, subst (Appends holds_old holds_new) (sym (ap (λ o. o.printed) is)) t.grew)
-ran_at m bytes left holds_old holds_new ReadFault t ends =
-    let told = told_some bytes left t.read t.took in
-    record { read = t.read; rest = told.0; cut = told.2; at = told.1; printed = t.printed; whole = ends; grew = t.grew }
-ran_at m bytes left holds_old holds_new WriteFault t ends =
-    let told = told_some bytes left t.read t.took in
-    record { read = t.read; rest = told.0; cut = told.2; at = told.1; grew = record { front = t.printed; of = ends; grew = t.grew } }
-ran_at m bytes left holds_old holds_new Memory t ends =
-    let told = told_some bytes left t.read t.took in
-    record { read = t.read; rest = told.0; cut = told.2; at = told.1; grew = record { front = t.printed; of = ends; grew = t.grew } }
+  -- the line that a line feed ends is up to its reader
+  fed_outcome : pending.count < meaning.longest_input (whole_lines read)
+      → line_outcome meaning (whole_lines read) (last_part read) (offset (whole_lines read) + length (last_part read) + 1) ≡ reader_outcome (pending.taken + 1) (meaning.line (whole_lines read) pending.text.items)
+  fed_outcome within =
+      fits_line meaning (whole_lines read) (last_part read) (offset (whole_lines read) + length (last_part read) + 1) p.short (omega (arith, length_read read, p.count))
+      ∙ ap (λ n. reader_outcome (n + 1) (meaning.line (whole_lines read) (last_part read))) (sym p.taken) ∙ ap (λ l. reader_outcome (pending.taken + 1) (meaning.line (whole_lines read) l)) (sym p.text)
 
-pub ran_from : {Cause : Type 0} (m : Meaning Cause) (left_old left holds_old holds_new : Option (List ℕ)) (ended : Ended Cause)
-    → Treated m left_old left holds_old holds_new ended → (bytes : List ℕ) → left_old ≡ Some bytes → Ran m bytes left holds_old holds_new ended
-ran_from m left_old left holds_old holds_new ended t bytes told =
-    let at : Treated m (Some bytes) left holds_old holds_new ended = subst (λ o. Treated m o left holds_old holds_new ended) told t in
-    ran_at m bytes left holds_old holds_new ended at at.ends
+  -- what becomes of the lines so far
+  fed_so_far : (b : ℕ) → is_feed b ≡ true → pending.count < meaning.longest_input (whole_lines read)
+      → outcome_so_far meaning (read ++ b ∷ []) ≡ followed_by (accepted p.printed) (reader_outcome (pending.taken + 1) (meaning.line (whole_lines read) pending.text.items))
+  fed_so_far b fed within =
+      let line = line_outcome meaning (whole_lines read) (last_part read) (offset (whole_lines read) + length (last_part read) + 1) in
+      so_far_feed meaning read b fed ∙ ap (λ o. followed_by o line) p.so_far ∙ ap (followed_by (accepted p.printed)) (fed_outcome within)
+
+  -- what becomes of the bytes, whatever follows
+  fed_whole : (b : ℕ) → is_feed b ≡ true → pending.count < meaning.longest_input (whole_lines read) → (rest : List ℕ)
+      → (tail : Outcome Cause) × (outcome meaning ((read ++ b ∷ []) ++ rest) ≡ followed_by (accepted p.printed) (followed_by (reader_outcome (pending.taken + 1) (meaning.line (whole_lines read) pending.text.items)) tail))
+  fed_whole b fed within rest =
+      let line = fed_line meaning (whole_lines read) (last_part read) b rest fed in
+      (line.0, whole_byte b rest ∙ ap (followed_by (accepted p.printed)) (line.1 ∙ ap (λ o. followed_by o line.0) (fed_outcome within)))
+
+  -- a line feed
+  pub takes_line : {T : Type 0} (lines' : L) (pending' : Pending) (holds' : Option (List ℕ)) (b : ℕ) (result : Result T (Stop Cause))
+      → is_feed b ≡ true → pending.count < meaning.longest_input (whole_lines read)
+      → TakesLine (meaning.line (whole_lines read) pending.text.items) (pending.taken + 1) holds holds' result
+      → MatchResult result (λ _. (before : List (List ℕ)) → stands lines before → stands lines' (before ++ pending.text.items ∷ [])) (λ _. Unit {0})
+      → MatchResult result (λ _. pending'.text.items ≡ []) (λ _. Unit {0})
+      → MatchResult result (λ _. pending'.taken ≡ pending.taken + 1) (λ _. Unit {0})
+      → MatchResult result (λ _. pending'.count ≡ pending.count + 1) (λ _. Unit {0})
+      → MatchResult result (λ _. Progress meaning stands start (read ++ b ∷ []) lines' pending' holds') (Stopped meaning start read (read ++ b ∷ []) holds')
+  takes_line lines' pending' holds' b (Ok x) fed within takes stood text taken count =
+      let more = whole_lines_feed read b fed in
+      let none = last_part_feed read b fed in
+      let push = length-append (whole_lines read) (last_part read ∷ []) in
+      record {
+        stood = subst (stands lines') (ap (λ l. whole_lines read ++ l ∷ []) p.text ∙ sym more) (stood (whole_lines read) p.stood);
+        text = text ∙ sym none;
+        short = rw none (omega arith);
+        within = λ some. absurd (omega (arith, ap length none));
+        taken = omega (arith, p.taken, ap length more, push);
+        count = omega (arith, length-append read (b ∷ []), p.count);
+        printed = p.printed ++ takes.front;
+        grew = appends_more start holds holds' p.printed takes.front p.grew takes.grew;
+        so_far = fed_so_far b fed within ∙ ap (λ r. followed_by (accepted p.printed) (reader_outcome (pending.taken + 1) r)) takes.cases;
+      }
+  takes_line lines' pending' holds' b (Err stop) fed within takes stood text taken count =
+      let meant = meaning.line (whole_lines read) pending.text.items in
+      record {
+        printed = p.printed ++ takes.front;
+        grew = appends_more start holds holds' p.printed takes.front p.grew takes.grew;
+        kept = kept takes.front;
+        ends = stops_after meaning (read ++ b ∷ []) meant (pending.taken + 1) p.printed takes.front stop
+            (fed_so_far b fed within ∙ ap (followed_by (accepted p.printed)) (sym (followed_by-nil (reader_outcome (pending.taken + 1) meant))))
+            (fed_whole b fed within) takes.cases;
+      }
+
+  -- no line lacks its line feed
+  pub all_taken : pending.text.items ≡ [] → AllTaken meaning stands start read lines pending holds
+  all_taken none =
+      let empty : last_part read ≡ [] = sym p.text ∙ none in
+      let all : lines_of read ≡ whole_lines read = ap (λ l. whole_lines read ++ unless_empty l) empty ∙ append-nil (whole_lines read) in
+      record {
+        stood = subst (stands lines) (sym all) p.stood;
+        taken = p.taken ∙ ap length (sym all);
+        printed = p.printed;
+        grew = p.grew;
+        kept = rw (append-nil p.printed) at (kept []);
+        all =
+            outcome_at_end meaning read ∙ ap (λ o. followed_by o (end_outcome meaning (whole_lines read) (last_part read))) p.so_far
+            ∙ ap (λ l. followed_by (accepted p.printed) (end_outcome meaning (whole_lines read) l)) empty ∙ ap (λ l. followed_by (accepted p.printed) (finish_outcome meaning l)) (sym all);
+      }
+
+  -- what becomes of a last line without its line feed
+  last_outcome : 0 < length pending.text.items
+      → outcome meaning read ≡ followed_by (accepted p.printed) (followed_by (reader_outcome (pending.taken + 1) (meaning.line (whole_lines read) pending.text.items)) (finish_outcome meaning (whole_lines read ++ last_part read ∷ [])))
+  last_outcome some =
+      let part : 0 < length (last_part read) = omega (arith, ap length p.text) in
+      let within = p.within part in
+      let end = offset (whole_lines read) + length (last_part read) in
+      let finish = finish_outcome meaning (whole_lines read ++ last_part read ∷ []) in
+      let fits =
+      fits_line meaning (whole_lines read) (last_part read) end p.short (omega (arith, length_read read))
+      ∙ ap (λ n. reader_outcome (n + 1) (meaning.line (whole_lines read) (last_part read))) (sym p.taken) ∙ ap (λ l. reader_outcome (pending.taken + 1) (meaning.line (whole_lines read) l)) (sym p.text) in
+      outcome_at_end meaning read ∙ ap (λ o. followed_by o (end_outcome meaning (whole_lines read) (last_part read))) p.so_far
+      ∙ ap (followed_by (accepted p.printed)) (end_outcome_some meaning (whole_lines read) (last_part read) part ∙ ap (λ o. followed_by o finish) fits)
+
+  -- the last line lacks its line feed
+  pub takes_last : {T : Type 0} (lines' : L) (pending' : Pending) (holds' : Option (List ℕ)) (result : Result T (Stop Cause))
+      → 0 < length pending.text.items
+      → TakesLine (meaning.line (whole_lines read) pending.text.items) (pending.taken + 1) holds holds' result
+      → MatchResult result (λ _. (before : List (List ℕ)) → stands lines before → stands lines' (before ++ pending.text.items ∷ [])) (λ _. Unit {0})
+      → MatchResult result (λ _. pending'.taken ≡ pending.taken + 1) (λ _. Unit {0})
+      → MatchResult result (λ _. AllTaken meaning stands start read lines' pending' holds') (StoppedAtEnd meaning start read holds')
+  takes_last lines' pending' holds' (Ok x) some takes stood taken =
+      let part : 0 < length (last_part read) = omega (arith, ap length p.text) in
+      let all : lines_of read ≡ whole_lines read ++ last_part read ∷ [] = ap (λ l. whole_lines read ++ l) (unless_empty_some (last_part read) part) in
+      let finish = finish_outcome meaning (whole_lines read ++ last_part read ∷ []) in
+      record {
+        stood = subst (stands lines') (ap (λ l. whole_lines read ++ l ∷ []) p.text ∙ sym all) (stood (whole_lines read) p.stood);
+        taken = omega (arith, p.taken, ap length all, length-append (whole_lines read) (last_part read ∷ []));
+        printed = p.printed ++ takes.front;
+        grew = appends_more start holds holds' p.printed takes.front p.grew takes.grew;
+        kept = kept takes.front;
+        all =
+            last_outcome some ∙ ap (λ r. followed_by (accepted p.printed) (followed_by (reader_outcome (pending.taken + 1) r) finish)) takes.cases
+            ∙ sym (followed_by-assoc (accepted p.printed) (accepted takes.front) finish)
+            ∙ ap (λ l. followed_by (accepted (p.printed ++ takes.front)) (finish_outcome meaning l)) (sym all);
+      }
+  takes_last lines' pending' holds' (Err stop) some takes stood taken =
+      let meant = meaning.line (whole_lines read) pending.text.items in
+      let finish = finish_outcome meaning (whole_lines read ++ last_part read ∷ []) in
+      record {
+        printed = p.printed ++ takes.front;
+        grew = appends_more start holds holds' p.printed takes.front p.grew takes.grew;
+        kept = kept takes.front;
+        ends = subst (λ o. StopsWith o (p.printed ++ takes.front) stop) (sym (last_outcome some)) (stops_with meant (pending.taken + 1) finish p.printed takes.front stop takes.cases);
+      }
+
+-- it stops in the same way, whatever was read before and besides
+stops_more : {Cause : Type 0} (meaning : Meaning Cause) (read more printed : List ℕ) (stop : Stop Cause) → StopsAfter meaning read printed stop → StopsAfter meaning (read ++ more) printed stop
+stops_more meaning read more printed (BadLine line why) stops = λ rest. ap (outcome meaning) (append_assoc read more rest) ∙ stops (more ++ rest)
+stops_more meaning read more printed WriteFault stops = prefix_trans _ _ _ stops (so_far_grows meaning read more)
+stops_more meaning read more printed Memory stops = prefix_trans _ _ _ stops (so_far_grows meaning read more)
+stops_more meaning read more printed ReadFault stops = absurd stops
+
+-- it stops in the same way in a longer piece
+pub stopped_more : {Cause : Type 0} (meaning : Meaning Cause) (start : Option (List ℕ)) (before earlier read more all : List ℕ) (holds : Option (List ℕ)) (stop : Stop Cause)
+    → read ++ more ≡ all → Stopped meaning start (before ++ earlier) read holds stop → Stopped meaning start before all holds stop
+stopped_more meaning start before earlier read more all holds stop is s = record {
+  printed = s.printed;
+  grew = s.grew;
+  kept = prefix_trans _ _ _ (so_far_grows meaning before earlier) s.kept;
+  ends = subst (λ l. StopsAfter meaning l s.printed stop) is (stops_more meaning read more s.printed stop s.ends);
+}
+
+-- no line follows
+pub concludes : {L T Cause : Type 0} (meaning : Meaning Cause) (stands : L → List (List ℕ) → Type 0) (start : Option (List ℕ)) (read : List ℕ) (lines lines' : L) (pending : Pending) (holds holds' : Option (List ℕ)) (result : Result T (Stop Cause))
+    → AllTaken meaning stands start read lines pending holds
+    → TakesLine (meaning.finish (lines_of read)) (pending.taken + 1) holds holds' result
+    → MatchResult result (λ _. (before : List (List ℕ)) → stands lines before → stands lines' before) (λ _. Unit {0})
+    → MatchResult result (λ _. Finished meaning stands start read lines' holds') (StoppedAtEnd meaning start read holds')
+concludes meaning stands start read lines lines' pending holds holds' (Ok x) p takes stood = record {
+  printed = p.printed ++ takes.front;
+  grew = appends_more start holds holds' p.printed takes.front p.grew takes.grew;
+  all = p.all ∙ ap (λ r. followed_by (accepted p.printed) (reader_outcome (length (lines_of read) + 1) r)) takes.cases;
+  stood = stood (lines_of read) p.stood;
+}
+concludes meaning stands start read lines lines' pending holds holds' (Err stop) p takes stood =
+    let meant = meaning.finish (lines_of read) in
+    let is : outcome meaning read ≡ followed_by (accepted p.printed) (followed_by (reader_outcome (pending.taken + 1) meant) (accepted [])) =
+    p.all ∙ ap (λ n. followed_by (accepted p.printed) (reader_outcome (n + 1) meant)) (sym p.taken) ∙ ap (followed_by (accepted p.printed)) (sym (followed_by-nil (reader_outcome (pending.taken + 1) meant))) in
+    record {
+      printed = p.printed ++ takes.front;
+      grew = appends_more start holds holds' p.printed takes.front p.grew takes.grew;
+      kept = prefix_trans _ _ _ p.kept (takes.front, refl);
+      ends = subst (λ o. StopsWith o (p.printed ++ takes.front) stop) (sym is) (stops_with meant (pending.taken + 1) (accepted []) p.printed takes.front stop takes.cases);
+    }
+
+-- the bytes before an index, the one there, and the rest
+pub around : (read bytes : List ℕ) (i : ℕ) → i < length bytes → ((read ++ take i bytes) ++ get_or bytes i 0 ∷ []) ++ drop (i + 1) bytes ≡ read ++ bytes
+around read bytes i within =
+    append_assoc (read ++ take i bytes) (get_or bytes i 0 ∷ []) (drop (i + 1) bytes) ∙ append_assoc read (take i bytes) (get_or bytes i 0 ∷ drop (i + 1) bytes)
+    ∙ ap (λ l. read ++ (take i bytes ++ l)) (sym (drop_more bytes i 0 within)) ∙ ap (λ l. read ++ l) (take-append-drop i bytes)

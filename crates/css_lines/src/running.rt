@@ -1,52 +1,41 @@
-ghost use Rattle.std.specs.Prelude.{◌≡◌, ◌+◌, ◌^◌, ◌<◌, ◌≤◌, List, ℕ, [], ◌∷◌, ◌++◌, Option, Some, Ok, length, MatchResult, OnOk};
-ghost use Rattle.css_lines.specs.Meaning.{refused};
-ghost use Rattle.css_lines.specs.Progress.{Progress, AllTaken, TakesLine, Stopped, StoppedAtEnd, Finished, HasWriteCause};
-ghost use Rattle.css_lines.specs.Treated.{Treated, Ran};
-ghost use Rattle.css_outside.specs.Causes.{Rose};
+ghost use Rattle.std.specs.Prelude.{◌≡◌, ◌+◌, ◌^◌, ◌<◌, ◌≤◌, List, ℕ, [], ◌∷◌, ◌++◌, Option, Some, length, MatchResult, OnOk, IfErr};
+ghost use Rattle.css_lines.specs.Progress.{IsPlaced, Progress, AllTaken, TakesLine, Stopped, StoppedAtEnd, Finished};
+ghost use Rattle.css_lines.specs.Ending.{Finishes, Stops, RanToEnd, RanUntil, CountsReads, CountsWrites};
 
-use crate::state::{Ended, Pending};
-use crate::{LineFault, Lines, Why};
-use css_outside::{Failed, OutFault, Sink, Source, write_all};
+use crate::ending::Stop;
+use crate::pending::Pending;
+use crate::reader::Lines;
+use css_outside::{Sink, Source, write_all};
 use std::alloc::Global;
 
-const PIECE: usize = 4096;
+/// The most bytes that are read at a time.
+pub const PIECE: usize = 4096;
 
-const FEED: u8 = 10;
+const LINE_FEED: u8 = b'\n';
 
 // Hands the pending line to its reader, and writes what is printed for it.
 fn take_line<K: Sink, L: Lines>(
     pending: &mut Pending,
     lines: &mut L,
     sink: &mut K,
-) -> Result<(), Ended<L::Cause>>
+) -> Result<(), Stop<L::Cause>>
     requires room { pending.old.taken + 1 ≤ pending.old.count }
-    requires placed { (before : List (List ℕ)) × L.stands lines.old before × (pending.old.taken ≡ length before) }
+    requires placed { IsPlaced L.stands lines.old pending.old }
 
     ensures taken { (before : List (List ℕ)) → L.stands lines.old before → pending.old.taken ≡ length before →
-        TakesLine (refused (L.meaning.line before pending.old.text.items)) (pending.old.taken + 1) (K.holds sink.old) (K.holds sink.new) result }
+        TakesLine (L.meaning.line before pending.old.text.items) (pending.old.taken + 1) (K.holds sink.old) (K.holds sink.new) result }
     ensures stands { OnOk result ((before : List (List ℕ)) → L.stands lines.old before → L.stands lines.new (before ++ pending.old.text.items ∷ [])) }
     ensures text { OnOk result (pending.new.text.items ≡ []) }
     ensures number { OnOk result (pending.new.taken ≡ pending.old.taken + 1) }
     ensures count { OnOk result (pending.new.count ≡ pending.old.count) }
-    ensures cause { HasWriteCause (K.faults sink.old) (K.faults sink.new) result }
+    ensures counted { CountsWrites (K.faults sink.old) (K.faults sink.new) result }
 {
     pending.out.clear();
     let number = pending.taken + 1;
-    match lines.line(number, &pending.text, &mut pending.out) {
-        Err(LineFault::Memory) => return Err(Ended::Memory),
-        Err(LineFault::Refused(cause)) => {
-            return Err(Ended::Bad {
-                line: number,
-                why: Why::Refused(cause),
-            });
-        }
-        Ok(()) => {}
+    if let Err(fault) = lines.line(number, &pending.text, &mut pending.out) {
+        return Err(Stop::at_line(number, fault));
     }
-    match write_all(sink, &pending.out) {
-        Err(OutFault::Failed) => return Err(Ended::WriteFault),
-        Err(OutFault::Memory) => return Err(Ended::Memory),
-        Ok(()) => {}
-    }
+    write_all(sink, &pending.out)?;
     pending.text.clear();
     pending.taken = number;
     Ok(())
@@ -57,37 +46,17 @@ fn conclude<K: Sink, L: Lines>(
     pending: &mut Pending,
     lines: &mut L,
     sink: &mut K,
-) -> Result<(), Ended<L::Cause>>
+) -> Result<(), Stop<L::Cause>>
     ensures taken { (before : List (List ℕ)) → L.stands lines.old before →
-        TakesLine (refused (L.meaning.finish before)) (pending.old.taken + 1) (K.holds sink.old) (K.holds sink.new) result }
-    ensures cause { HasWriteCause (K.faults sink.old) (K.faults sink.new) result }
+        TakesLine (L.meaning.finish before) (pending.old.taken + 1) (K.holds sink.old) (K.holds sink.new) result }
+    ensures stands { OnOk result ((before : List (List ℕ)) → L.stands lines.old before → L.stands lines.new before) }
+    ensures counted { CountsWrites (K.faults sink.old) (K.faults sink.new) result }
 {
     pending.out.clear();
-    match lines.finish(&mut pending.out) {
-        Err(LineFault::Memory) => return Err(Ended::Memory),
-        Err(LineFault::Refused(cause)) => {
-            return Err(Ended::Bad {
-                line: pending.taken + 1,
-                why: Why::Refused(cause),
-            });
-        }
-        Ok(()) => {}
+    if let Err(fault) = lines.finish(&mut pending.out) {
+        return Err(Stop::at_line(pending.taken + 1, fault));
     }
-    match write_all(sink, &pending.out) {
-        Err(OutFault::Failed) => Err(Ended::WriteFault),
-        Err(OutFault::Memory) => Err(Ended::Memory),
-        Ok(()) => Ok(()),
-    }
-}
-
-fn too_long<C>(taken: u64) -> Ended<C>
-    requires { taken ≤ 2 ^ 40 }
-    ensures { result ≡ Ended.Bad (taken + 1) Why.Long }
-{
-    Ended::Bad {
-        line: taken + 1,
-        why: Why::Long,
-    }
+    Ok(write_all(sink, &pending.out)?)
 }
 
 // Takes the next byte.
@@ -96,34 +65,30 @@ fn feed<K: Sink, L: Lines>(
     pending: &mut Pending,
     lines: &mut L,
     sink: &mut K,
-) -> Result<(), Ended<L::Cause>>
-    requires { (before : List (List ℕ)) × L.stands lines.old before × (pending.old.taken ≡ length before) }
+) -> Result<(), Stop<L::Cause>>
+    requires { IsPlaced L.stands lines.old pending.old }
 
     ensures progress { (start : Option (List ℕ)) (read : List ℕ) → Progress L.meaning L.stands start read lines.old pending.old (K.holds sink.old) →
         MatchResult result
         (λ _. Progress L.meaning L.stands start (read ++ byte ∷ []) lines.new pending.new (K.holds sink.new))
-        (Stopped L.meaning start (read ++ byte ∷ []) (K.holds sink.new)) }
+        (Stopped L.meaning start read (read ++ byte ∷ []) (K.holds sink.new)) }
     ensures count { OnOk result (pending.new.count ≡ pending.old.count + 1) }
-    ensures placed { OnOk result ((before : List (List ℕ)) × L.stands lines.new before × (pending.new.taken ≡ length before)) }
-    ensures cause { HasWriteCause (K.faults sink.old) (K.faults sink.new) result }
+    ensures placed { OnOk result (IsPlaced L.stands lines.new pending.new) }
+    ensures counted { CountsWrites (K.faults sink.old) (K.faults sink.new) result }
 {
-    if pending.count >= lines.whole() {
-        return Err(too_long(pending.taken));
+    if pending.count >= lines.longest_input() {
+        return Err(Stop::too_long(pending.taken + 1));
     }
-    if byte == FEED {
+    if byte == LINE_FEED {
         pending.count += 1;
         return take_line(pending, lines, sink);
     }
-    if pending.text.len() >= lines.longest() {
-        return Err(too_long(pending.taken));
+    if pending.text.len() >= lines.longest_line() {
+        return Err(Stop::too_long(pending.taken + 1));
     }
-    match pending.text.push(byte) {
-        Err(_) => Err(Ended::Memory),
-        Ok(()) => {
-            pending.count += 1;
-            Ok(())
-        }
-    }
+    pending.text.push(byte)?;
+    pending.count += 1;
+    Ok(())
 }
 
 // Takes the next bytes.
@@ -132,22 +97,19 @@ fn feed_all<K: Sink, L: Lines>(
     pending: &mut Pending,
     lines: &mut L,
     sink: &mut K,
-) -> Result<(), Ended<L::Cause>>
-    requires { (before : List (List ℕ)) × L.stands lines.old before × (pending.old.taken ≡ length before) }
+) -> Result<(), Stop<L::Cause>>
+    requires { IsPlaced L.stands lines.old pending.old }
 
     ensures progress { (start : Option (List ℕ)) (read : List ℕ) → Progress L.meaning L.stands start read lines.old pending.old (K.holds sink.old) →
         MatchResult result
         (λ _. Progress L.meaning L.stands start (read ++ bytes.now) lines.new pending.new (K.holds sink.new))
-        (Stopped L.meaning start (read ++ bytes.now) (K.holds sink.new)) }
+        (Stopped L.meaning start read (read ++ bytes.now) (K.holds sink.new)) }
     ensures count { OnOk result (pending.new.count ≡ pending.old.count + length bytes.now) }
-    ensures placed { OnOk result ((before : List (List ℕ)) × L.stands lines.new before × (pending.new.taken ≡ length before)) }
-    ensures cause { HasWriteCause (K.faults sink.old) (K.faults sink.new) result }
+    ensures placed { OnOk result (IsPlaced L.stands lines.new pending.new) }
+    ensures counted { CountsWrites (K.faults sink.old) (K.faults sink.new) result }
 {
     for byte in bytes {
-        match feed(*byte, pending, lines, sink) {
-            Ok(()) => {}
-            Err(ended) => return Err(ended),
-        }
+        feed(*byte, pending, lines, sink)?;
     }
     Ok(())
 }
@@ -157,14 +119,14 @@ fn take_last<K: Sink, L: Lines>(
     pending: &mut Pending,
     lines: &mut L,
     sink: &mut K,
-) -> Result<(), Ended<L::Cause>>
-    requires { (before : List (List ℕ)) × L.stands lines.old before × (pending.old.taken ≡ length before) }
+) -> Result<(), Stop<L::Cause>>
+    requires { IsPlaced L.stands lines.old pending.old }
 
     ensures all { (start : Option (List ℕ)) (read : List ℕ) → Progress L.meaning L.stands start read lines.old pending.old (K.holds sink.old) →
         MatchResult result
         (λ _. AllTaken L.meaning L.stands start read lines.new pending.new (K.holds sink.new))
         (StoppedAtEnd L.meaning start read (K.holds sink.new)) }
-    ensures cause { HasWriteCause (K.faults sink.old) (K.faults sink.new) result }
+    ensures counted { CountsWrites (K.faults sink.old) (K.faults sink.new) result }
 {
     if pending.text.is_empty() {
         return Ok(());
@@ -177,19 +139,17 @@ fn end<K: Sink, L: Lines>(
     pending: &mut Pending,
     lines: &mut L,
     sink: &mut K,
-) -> Result<(), Ended<L::Cause>>
-    requires { (before : List (List ℕ)) × L.stands lines.old before × (pending.old.taken ≡ length before) }
+) -> Result<(), Stop<L::Cause>>
+    requires { IsPlaced L.stands lines.old pending.old }
 
     ensures all { (start : Option (List ℕ)) (read : List ℕ) → Progress L.meaning L.stands start read lines.old pending.old (K.holds sink.old) →
         MatchResult result
-        (λ _. Finished L.meaning start read (K.holds sink.new))
+        (λ _. Finished L.meaning L.stands start read lines.new (K.holds sink.new))
         (StoppedAtEnd L.meaning start read (K.holds sink.new)) }
-    ensures cause { HasWriteCause (K.faults sink.old) (K.faults sink.new) result }
+    ensures counted { CountsWrites (K.faults sink.old) (K.faults sink.new) result }
 {
-    match take_last(pending, lines, sink) {
-        Ok(()) => conclude(pending, lines, sink),
-        Err(ended) => Err(ended),
-    }
+    take_last(pending, lines, sink)?;
+    conclude(pending, lines, sink)
 }
 
 // Reads piece after piece.
@@ -198,13 +158,13 @@ fn drive_pieces<S: Source, K: Sink, L: Lines>(
     source: &mut S,
     sink: &mut K,
     lines: &mut L,
-) -> Ended<L::Cause>
+) -> Result<(), Stop<L::Cause>>
     requires { L.stands lines.old [] }
 
-    ensures treated { Treated L.meaning (S.left source.old) (S.left source.new) (K.holds sink.old) (K.holds sink.new) result }
-
-    ensures read_fault { result ≡ Ended.ReadFault → Rose (S.faults source.old) (S.faults source.new) }
-    ensures write_fault { result ≡ Ended.WriteFault → Rose (K.faults sink.old) (K.faults sink.new) }
+    ensures done { OnOk result (Finishes L.meaning L.stands (S.left source.old) (S.left source.new) (K.holds sink.old) (K.holds sink.new) lines.new) }
+    ensures stopped { IfErr result (λ stop. Stops L.meaning (S.left source.old) (S.left source.new) (K.holds sink.old) (K.holds sink.new) stop) }
+    ensures counted_reads { CountsReads (S.faults source.old) (S.faults source.new) result }
+    ensures counted_writes { CountsWrites (K.faults sink.old) (K.faults sink.new) result }
 {
     let mut piece = [0u8; PIECE];
     let mut pending = Pending {
@@ -214,34 +174,39 @@ fn drive_pieces<S: Source, K: Sink, L: Lines>(
         count: 0,
     };
     'pieces: loop {
-        match source.read(&mut piece) {
-            Err(Failed) => return Ended::ReadFault,
-            Ok(0) => match end(&mut pending, lines, sink) {
-                Ok(()) => return Ended::Done,
-                Err(ended) => return ended,
-            },
-            Ok(count) => match feed_all(&piece[..count], &mut pending, lines, sink) {
-                Ok(()) => {}
-                Err(ended) => return ended,
-            },
+        let count = source.read(&mut piece)?;
+        if count == 0 {
+            return end(&mut pending, lines, sink);
         }
+        feed_all(&piece[..count], &mut pending, lines, sink)?;
     }
 }
 
 /// Reads the source line by line, and writes what is printed for each line before it reads on.
+///
+/// A line is handed to its reader when its line feed was read, and the last one also where the source ends without
+/// it. At most one line and one piece are kept. The run stops at the first refusal, fault of a device or want of
+/// memory.
 pub fn drive<S: Source, K: Sink, L: Lines>(
     alloc: Global,
     source: &mut S,
     sink: &mut K,
     lines: &mut L,
-) -> Ended<L::Cause>
+) -> Result<(), Stop<L::Cause>>
     requires { L.stands lines.old [] }
 
-    ensures ran { (bytes : List ℕ) → S.left source.old ≡ Some bytes → Ran L.meaning bytes (S.left source.new) (K.holds sink.old) (K.holds sink.new) result }
+    // Of a source that tells its bytes: what became of them.
+    ensures ran { (bytes : List ℕ) → S.left source.old ≡ Some bytes → MatchResult result
+        (λ _. RanToEnd L.meaning L.stands bytes (S.left source.new) (K.holds sink.old) (K.holds sink.new) lines.new)
+        (RanUntil L.meaning bytes (S.left source.new) (K.holds sink.old) (K.holds sink.new)) }
 
-    // A fault is told only where the device has failed.
-    ensures read_fault { result ≡ Ended.ReadFault → Rose (S.faults source.old) (S.faults source.new) }
-    ensures write_fault { result ≡ Ended.WriteFault → Rose (K.faults sink.old) (K.faults sink.new) }
+    // Of every source.
+    ensures done { OnOk result (Finishes L.meaning L.stands (S.left source.old) (S.left source.new) (K.holds sink.old) (K.holds sink.new) lines.new) }
+    ensures stopped { IfErr result (λ stop. Stops L.meaning (S.left source.old) (S.left source.new) (K.holds sink.old) (K.holds sink.new) stop) }
+
+    // A fault is told only where the device has failed, and no other failure of a device goes untold.
+    ensures counted_reads { CountsReads (S.faults source.old) (S.faults source.new) result }
+    ensures counted_writes { CountsWrites (K.faults sink.old) (K.faults sink.new) result }
 {
     drive_pieces(alloc, source, sink, lines)
 }

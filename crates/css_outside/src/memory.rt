@@ -1,117 +1,130 @@
-ghost use Rattle.std.specs.Prelude.{◌≡◌, ◌<◌, ◌≤◌, [], length, IfOk, Some};
+ghost use Rattle.std.specs.Prelude.{◌≡◌, ◌<◌, ◌≤◌, ◌↔◌, [], Some, length, min, IfOk, OnErr, IsErr, IsErrOf, Contains};
+ghost use Rattle.std.specs.Io.{ReadsAtMost};
+ghost use Rattle.std.specs.Io.KnownBytes.{ReadConsumes, WriteAppends};
+ghost use Rattle.css_outside.specs.Faults.{CountsReadFaults, CountsWriteFaults};
+ghost use Rattle.css_outside.specs.Devices.{next_count, read_count};
 
-use crate::{Failed, OutFault, Sink, Source};
-use std::alloc::{AllocError, Global};
+use crate::buffers::{FailingCalls, Incoming, Outgoing};
+use crate::fault::{Failed, OutFault};
+use crate::sink::Sink;
+use crate::source::Source;
+use css_num::Memory;
+use std::alloc::Global;
+use std::marker::Model;
 
-/// A source of these bytes, which gives at most `piece` of them at a time, and fails at the calls with these numbers.
+/// A source of given bytes, whose reads fail where they are told to.
 #[derive(Drop)]
 pub struct MemorySource {
-    bytes: Vec<u8>,
-    at: usize,
-    piece: usize,
-    fails: Vec<u64>,
-    calls: u64,
-    faults: u64,
-    ghost in_range: { at ≤ length bytes.items },
-    ghost some: { 0 < piece },
+    incoming: Incoming,
+    failing: FailingCalls,
+}
+
+impl Model for MemorySource {
+    ghost use Rattle.css_outside.specs.Devices.{FailingSource};
+
+    ghost Value = { FailingSource };
+
+    ghost view = { λ source. record { left = source.incoming.left; piece = source.incoming.piece; fails = source.failing.fails; calls = source.failing.calls; faults = source.failing.faults } };
 }
 
 impl MemorySource {
-    ghost use Rattle.css_outside.specs.Memory.{bytes_left};
-
+    /// A source with these bytes left. A read gives at most `piece` of them, and the reads whose numbers stand in
+    /// `fails` fail: they are counted from 1, the failed ones too.
     pub fn new(
         alloc: Global,
         bytes: &[u8],
         piece: usize,
         fails: &[u64],
-    ) -> Result<MemorySource, AllocError>
-        requires { 0 < piece }
-        ensures { IfOk result (λ source. bytes_left source ≡ bytes.now) }
+    ) -> Result<MemorySource, Memory>
+        requires { 1 ≤ piece }
+        ensures { IfOk result (λ source. source ≡ record { left = bytes.now; piece = piece; fails = fails.now; calls = 0; faults = 0 }) }
     {
         Ok(MemorySource {
-            bytes: bytes.to_vec(alloc)?,
-            at: 0,
-            piece,
-            fails: fails.to_vec(alloc)?,
-            calls: 0,
-            faults: 0,
+            incoming: Incoming::new(alloc, bytes, piece)?,
+            failing: FailingCalls::new(alloc, fails)?,
         })
     }
 }
 
 impl Source for MemorySource {
-    ghost use Rattle.css_outside.specs.Memory.{bytes_left};
+    ghost left = { λ source. Some source.left };
 
-    ghost left = { λ s. Some (bytes_left s) };
+    ghost faults = { λ source. source.faults };
 
-    ghost faults = { λ s. s.faults };
+    fn read(&mut self, into: &mut [u8]) -> Result<usize, Failed>
+        ensures bound { ReadsAtMost result into.new }
+        ensures bytes { ReadConsumes (Some self.old.left) (Some self.new.left) result into.new }
+        ensures counted { CountsReadFaults self.old.faults self.new.faults result }
 
-    fn read(&mut self, into: &mut [u8]) -> Result<usize, Failed> {
-        self.calls = self.calls.saturating_add(1);
-        if self.fails.contains(&self.calls) {
-            self.faults = self.faults.saturating_add(1);
+        // Which reads fail, and how many bytes the others give.
+        ensures fails { IsErr result ↔ Contains self.old.fails (next_count self.old.calls) }
+        ensures count { IfOk result (λ count. count ≡ read_count self.old.piece (length into.new) self.old.left) }
+        ensures risen { OnErr result (self.new.faults ≡ next_count self.old.faults) }
+        ensures others { self.new ≡ record self.old { left = self.new.left; calls = next_count self.old.calls; faults = self.new.faults } }
+    {
+        if self.failing.next_fails() {
             return Err(Failed);
         }
-        let left = self.bytes.len() - self.at;
-        let count = left.min(into.len()).min(self.piece);
-        let end = self.at + count;
-        into[..count].copy_from_slice(&self.bytes[self.at..end]);
-        self.at = end;
-        Ok(count)
+        Ok(self.incoming.take(into))
     }
 }
 
-/// A sink that takes at most `piece` bytes at a time, and fails at the calls with these numbers.
+/// A sink whose writes fail where they are told to.
 #[derive(Drop)]
 pub struct MemorySink {
-    bytes: Vec<u8>,
-    piece: usize,
-    fails: Vec<u64>,
-    calls: u64,
-    faults: u64,
-    ghost some: { 0 < piece },
+    outgoing: Outgoing,
+    failing: FailingCalls,
+}
+
+impl Model for MemorySink {
+    ghost use Rattle.css_outside.specs.Devices.{FailingSink};
+
+    ghost Value = { FailingSink };
+
+    ghost view = { λ sink. record { holds = sink.outgoing.holds; piece = sink.outgoing.piece; fails = sink.failing.fails; calls = sink.failing.calls; faults = sink.failing.faults } };
 }
 
 impl MemorySink {
-    ghost use Rattle.css_outside.specs.Memory.{bytes_held};
-
-    pub fn new(alloc: Global, piece: usize, fails: &[u64]) -> Result<MemorySink, AllocError>
-        requires { 0 < piece }
-        ensures { IfOk result (λ sink. bytes_held sink ≡ []) }
+    /// A sink that holds nothing. A write takes at most `piece` bytes, and the writes whose numbers stand in `fails`
+    /// fail: they are counted from 1, the failed ones too.
+    pub fn new(alloc: Global, piece: usize, fails: &[u64]) -> Result<MemorySink, Memory>
+        requires { 1 ≤ piece }
+        ensures { IfOk result (λ sink. sink ≡ record { holds = []; piece = piece; fails = fails.now; calls = 0; faults = 0 }) }
     {
         Ok(MemorySink {
-            bytes: Vec::new(alloc),
-            piece,
-            fails: fails.to_vec(alloc)?,
-            calls: 0,
-            faults: 0,
+            outgoing: Outgoing::new(alloc, piece),
+            failing: FailingCalls::new(alloc, fails)?,
         })
     }
 
+    /// The bytes that it holds.
     pub fn bytes(&self) -> &[u8]
-        ensures { result.now ≡ bytes_held self.now }
+        ensures { result.now ≡ self.now.holds }
     {
-        &self.bytes
+        self.outgoing.bytes()
     }
 }
 
 impl Sink for MemorySink {
-    ghost use Rattle.css_outside.specs.Memory.{bytes_held};
+    ghost holds = { λ sink. Some sink.holds };
 
-    ghost holds = { λ s. Some (bytes_held s) };
+    ghost faults = { λ sink. sink.faults };
 
-    ghost faults = { λ s. s.faults };
+    fn write(&mut self, bytes: &[u8]) -> Result<usize, OutFault>
+        ensures bound { IfOk result (λ count. count ≤ length bytes.now) }
+        ensures some { IfOk result (λ count. 0 < length bytes.now → 0 < count) }
+        ensures bytes { WriteAppends (Some self.old.holds) (Some self.new.holds) result bytes.now }
+        ensures counted { CountsWriteFaults self.old.faults self.new.faults result }
 
-    fn write(&mut self, bytes: &[u8]) -> Result<usize, OutFault> {
-        self.calls = self.calls.saturating_add(1);
-        if self.fails.contains(&self.calls) {
-            self.faults = self.faults.saturating_add(1);
+        // Which writes fail, and how many bytes the others take.
+        ensures fails { IsErrOf result OutFault.Failed ↔ Contains self.old.fails (next_count self.old.calls) }
+        ensures count { IfOk result (λ count. count ≡ min self.old.piece (length bytes.now)) }
+        ensures risen { IsErrOf result OutFault.Failed → self.new.faults ≡ next_count self.old.faults }
+        ensures others { self.new ≡ record self.old { holds = self.new.holds; calls = next_count self.old.calls; faults = self.new.faults } }
+    {
+        if self.failing.next_fails() {
             return Err(OutFault::Failed);
         }
-        let count = bytes.len().min(self.piece);
-        match self.bytes.extend_from_slice(&bytes[..count]) {
-            Ok(()) => Ok(count),
-            Err(_) => Err(OutFault::Memory),
-        }
+        Ok(self.outgoing.keep(bytes)?)
     }
 }

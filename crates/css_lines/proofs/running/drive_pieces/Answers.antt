@@ -1,49 +1,61 @@
-use Rattle.std.proofs.Common.{arith, refl, [], ◌++◌, take}
+use Rattle.std.proofs.Common.{◌≤◌, arith, refl, ◌∙◌, [], ◌++◌, take, length}
+use Rattle.std.proofs.lemmas.List.{length-take}
+use Rattle.std.proofs.lemmas.Result.{MatchResult-weaker, err_from_is_err_and}
 use Rattle.css_outside.proofs.Known.{consumes_none, consumes_more}
-use Rattle.css_lines.proofs.Steps.{begins, consumes_nothing, treated_stopped, treated_at_end, treated_finished, stopped_no_read_fault, end_no_read_fault}
+use Rattle.css_lines.proofs.Steps.{begins, sound}
+use Rattle.css_lines.proofs.Endings.{consumes_nothing, stops_in_piece, stops_at_end, finishes, no_read_fault, no_read_fault_at_end}
 use Rattle.css_lines.proofs.running.drive_pieces.Goals as goal
 
 pub pieces-init : goal.pieces-init
 pieces-init g c = record {
   progress = ([], begins _ _ _ _ _ c.requires c.new.ensures.items refl refl, consumes_none _);
-  sink_later = omega arith;
-  source_later = omega arith;
+  sink_counted = refl;
+  source_counted = refl;
 }
 
 pub pieces-preserved : goal.pieces-preserved
 pieces-preserved g c =
     let before = c.pieces.invariant.progress in
-    let bytes = take c.in-Ok.count c.read.new.into in
+    let bytes = take c.in_ok-count.count c.read.new.into in
     record {
-      progress = (before.0 ++ bytes, c.in-Ok-feed_all.ensures.progress _ before.0 before.1, consumes_more _ _ _ before.0 bytes before.2 c.in-Ok.ensures.bytes.0);
-      sink_later = omega (arith, c.in-Ok-feed_all.ensures.cause.later);
-      source_later = omega (arith, c.in-Ok.ensures.cause.later);
+      progress = (before.0 ++ bytes, c.in_ok-feed_all.ensures.progress _ before.0 before.1, consumes_more _ _ _ before.0 bytes before.2 c.in_ok-count.ensures.bytes.0);
+      sink_counted = c.in_ok-feed_all.ensures.counted ∙ c.pieces.invariant.sink_counted;
+      source_counted = c.in_ok-count.ensures.counted ∙ c.pieces.invariant.source_counted;
     }
 
-pub returns-in-Err-feed_all-clause-treated : goal.returns-in-Err-feed_all-clause-treated
-returns-in-Err-feed_all-clause-treated g c =
+pub returns-then-count-eq0-clause-done : goal.returns-then-count-eq0-clause-done
+returns-then-count-eq0-clause-done g c =
     let before = c.pieces.invariant.progress in
-    let bytes = take c.in-Ok.count c.read.new.into in
-    treated_stopped _ _ (before.0 ++ bytes) _ _ _ _ (c.in-Err-feed_all.ensures.progress _ before.0 before.1) (consumes_more _ _ _ before.0 bytes before.2 c.in-Ok.ensures.bytes.0)
+    let took = consumes_nothing _ _ _ before.0 c.read.new.into _ before.2 c.in_ok-count.ensures.bytes.0 c.if-count-eq0.true in
+    let at_end = c.in_ok-count.ensures.bytes.1 c.if-count-eq0.true (omega arith) in
+    MatchResult-weaker c.end.result (c.end.ensures.all _ before.0 before.1) (λ x f. finishes _ _ _ before.0 _ _ _ _ f at_end took) (λ stop s. tt)
 
-pub returns-in-Err-feed_all-clause-read_fault : goal.returns-in-Err-feed_all-clause-read_fault
-returns-in-Err-feed_all-clause-read_fault g c told =
+pub returns-then-count-eq0-clause-stopped : goal.returns-then-count-eq0-clause-stopped
+returns-then-count-eq0-clause-stopped g c =
     let before = c.pieces.invariant.progress in
-    absurd (stopped_no_read_fault _ _ _ _ _ (c.in-Err-feed_all.ensures.progress _ before.0 before.1) told)
+    let took = consumes_nothing _ _ _ before.0 c.read.new.into _ before.2 c.in_ok-count.ensures.bytes.0 c.if-count-eq0.true in
+    let at_end = c.in_ok-count.ensures.bytes.1 c.if-count-eq0.true (omega arith) in
+    MatchResult-weaker c.end.result (c.end.ensures.all _ before.0 before.1) (λ x f. tt) (λ stop s. stops_at_end _ _ before.0 _ _ _ stop s (sound _ _ _ _ _ _ _ before.1) at_end took)
 
-pub returns-in-Ok-end-clause-treated : goal.returns-in-Ok-end-clause-treated
-returns-in-Ok-end-clause-treated g c =
+pub returns-then-count-eq0-clause-counted_reads : goal.returns-then-count-eq0-clause-counted_reads
+returns-then-count-eq0-clause-counted_reads g c =
     let before = c.pieces.invariant.progress in
-    let took = consumes_nothing _ _ _ before.0 c.read.new.into _ before.2 c.in-Ok-eq0.ensures.bytes.0 c.in-Ok-eq0.field-0-test in
-    treated_finished _ _ before.0 _ _ _ (c.in-Ok-end.ensures.all _ before.0 before.1) (c.in-Ok-eq0.ensures.bytes.1 c.in-Ok-eq0.field-0-test (omega arith)) took
+    let same = c.in_ok-count.ensures.counted ∙ c.pieces.invariant.source_counted in
+    MatchResult-weaker c.end.result (c.end.ensures.all _ before.0 before.1) (λ x f. same) (λ stop s. no_read_fault_at_end _ before.0 s.printed _ _ stop s.ends same)
 
-pub returns-in-Err-end-clause-treated : goal.returns-in-Err-end-clause-treated
-returns-in-Err-end-clause-treated g c =
+pub returns-in_err-feed_all-clause-stopped : goal.returns-in_err-feed_all-clause-stopped
+returns-in_err-feed_all-clause-stopped g c =
+    let exit = err_from_is_err_and c.from_residual-in_err-feed_all.result c.from_residual-in_err-feed_all.ensures.1 in
     let before = c.pieces.invariant.progress in
-    let took = consumes_nothing _ _ _ before.0 c.read.new.into _ before.2 c.in-Ok-eq0.ensures.bytes.0 c.in-Ok-eq0.field-0-test in
-    treated_at_end _ _ before.0 _ _ _ _ (c.in-Err-end.ensures.all _ before.0 before.1) (c.in-Ok-eq0.ensures.bytes.1 c.in-Ok-eq0.field-0-test (omega arith)) took
+    let bytes = take c.in_ok-count.count c.read.new.into in
+    let short : length bytes ≤ 4096 = omega (arith, length-take c.in_ok-count.count c.read.new.into, c.in_ok-count.ensures.bound) in
+    let took = consumes_more _ _ _ before.0 bytes before.2 c.in_ok-count.ensures.bytes.0 in
+    rw (exit.1, exit.2) (stops_in_piece _ _ before.0 bytes _ _ _ _ (c.in_err-feed_all.ensures.progress _ before.0 before.1) (sound _ _ _ _ _ _ _ before.1) short took)
 
-pub returns-in-Err-end-clause-read_fault : goal.returns-in-Err-end-clause-read_fault
-returns-in-Err-end-clause-read_fault g c told =
+pub returns-in_err-feed_all-clause-counted_reads : goal.returns-in_err-feed_all-clause-counted_reads
+returns-in_err-feed_all-clause-counted_reads g c =
+    let exit = err_from_is_err_and c.from_residual-in_err-feed_all.result c.from_residual-in_err-feed_all.ensures.1 in
     let before = c.pieces.invariant.progress in
-    absurd (end_no_read_fault _ _ _ _ _ (c.in-Err-end.ensures.all _ before.0 before.1) told)
+    let bytes = take c.in_ok-count.count c.read.new.into in
+    let stopped = c.in_err-feed_all.ensures.progress _ before.0 before.1 in
+    rw (exit.1, exit.2) (no_read_fault _ (before.0 ++ bytes) stopped.printed _ _ _ stopped.ends (c.in_ok-count.ensures.counted ∙ c.pieces.invariant.source_counted))

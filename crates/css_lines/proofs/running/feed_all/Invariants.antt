@@ -1,5 +1,5 @@
-use Rattle.std.proofs.Common.{◌≡◌, ℕ, ◌+◌, ◌≤◌, List, ◌++◌, length, take, Option}
-use Rattle.css_lines.specs.Progress.{Progress}
+use Rattle.std.proofs.Common.{◌≡◌, ℕ, ◌+◌, List, ◌++◌, take, Option}
+use Rattle.css_lines.specs.Progress.{IsPlaced, Progress}
 use Rattle.css_lines.proofs.running.feed_all.Given as goal
 
 abbrev pub invariant-loop-byte : goal.invariant-loop-byte
@@ -9,7 +9,7 @@ invariant-loop-byte g l =
     record {
       progress : (start : Option (List ℕ)) (read : List ℕ) → Progress g.L.Lines.meaning stands start read l.fn.lines l.fn.pending (holds l.fn.sink)
           → Progress g.L.Lines.meaning stands start (read ++ take l.byte-index l.bytes) l.lines l.pending (holds l.sink);
-      placed : (before : List (List ℕ)) × stands l.lines before × (l.pending.taken ≡ length before);
+      placed : IsPlaced stands l.lines l.pending;
       count : l.pending.count ≡ l.fn.pending.count + l.byte-index;
-      later : g.K.Sink.faults l.fn.sink ≤ g.K.Sink.faults l.sink;
+      counted : g.K.Sink.faults l.sink ≡ g.K.Sink.faults l.fn.sink;
     }

@@ -12,4 +12,4 @@ returns-then-is_empty-clause-all g c start read p =
 pub returns-clause-all : goal.returns-clause-all
 returns-clause-all g c start read p =
     let some = eqb-false (vec_len c.args.pending.now.text) 0 (sym c.is_empty.ensures ∙ c.if-is_empty.false) in
-    takes_last _ _ start read _ _ _ _ _ _ _ p (omega (arith, some)) (c.take_line.ensures.taken _ p.stood p.taken) c.take_line.ensures.stands c.take_line.ensures.number
+    takes_last _ _ start read _ _ _ p _ _ _ _ (omega (arith, some)) (c.take_line.ensures.taken _ p.stood p.taken) c.take_line.ensures.stands c.take_line.ensures.number

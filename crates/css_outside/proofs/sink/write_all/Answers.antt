@@ -1,4 +1,4 @@
-use Rattle.std.proofs.Common.{arith}
+use Rattle.std.proofs.Common.{◌∙◌, arith}
 use Rattle.std.proofs.lemmas.List.{take_rest, length-drop}
 use Rattle.css_outside.proofs.Known.{appends_take, stops_at, on_err_from}
 use Rattle.css_outside.proofs.sink.write_all.Goals as goal
@@ -13,5 +13,5 @@ loop-written-preserved g c =
     record {
       in_range = omega (arith, fits);
       grew = appends_take _ _ _ c.loop-written.written c.in_ok-count.count c.args.bytes.now c.loop-written.invariant.grew step;
-      later = omega (arith, c.in_ok-count.ensures.cause.later);
+      counted = c.in_ok-count.ensures.counted ∙ c.loop-written.invariant.counted;
     }

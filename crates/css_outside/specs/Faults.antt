@@ -1,0 +1,23 @@
+-- How a device counts its faults.
+use Rattle.std.specs.Prelude.{◌≡◌, ℕ, ◌-◌, ◌^◌, ◌<◌, ◌≤◌, Result, MatchResult}
+use Rattle.css_outside.specs.declared.fault.Failed as plain
+use Rattle.css_outside.specs.declared.fault.OutFault.{OutFault}
+use Rattle.css_outside.specs.declared.fault.OutFault.TheVariants.{Failed, Memory}
+
+-- the count has risen, but for one that stood at its greatest value, and hasn't fallen
+pub record HasRisen (before now : ℕ) : Type 0 where
+  pub kept : before ≤ now
+  pub risen : before < 2 ^ 64 - 1 → before < now
+
+-- a read that succeeds leaves the count as it was, and one that fails has it risen
+abbrev pub CountsReadFaults : {T : Type 0} → ℕ → ℕ → Result T plain.Failed → Type 0
+CountsReadFaults before now result = MatchResult result (λ _. now ≡ before) (λ _. HasRisen before now)
+
+-- the count has risen where the device failed, and is as it was where memory ran out
+abbrev pub CountsOutFault : ℕ → ℕ → OutFault → Type 0
+CountsOutFault before now Failed = HasRisen before now
+CountsOutFault before now Memory = now ≡ before
+
+-- a write that succeeds leaves the count as it was, and so does want of memory; one that fails has it risen
+abbrev pub CountsWriteFaults : {T : Type 0} → ℕ → ℕ → Result T OutFault → Type 0
+CountsWriteFaults before now result = MatchResult result (λ _. now ≡ before) (CountsOutFault before now)

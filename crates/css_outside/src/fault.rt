@@ -1,0 +1,55 @@
+ghost use Rattle.std.specs.Prelude.{◌≡◌};
+ghost use Rattle.css_outside.specs.declared.fault.OutFault.{OutFault};
+ghost use Rattle.css_outside.specs.declared.fault.OutFault.TheVariants as fault;
+
+use css_num::Memory;
+use std::error::Error;
+use std::fmt;
+
+/// The device failed.
+#[derive(Clone, Copy, Debug, PartialEq, Eq, Hash)]
+pub struct Failed;
+
+impl fmt::Display for Failed {
+    fn fmt<W: fmt::Write>(&self, f: &mut fmt::Formatter<W>) -> fmt::Result {
+        f.write_str("the device failed")
+    }
+}
+
+impl Error for Failed {}
+
+/// Why a device took nothing more. Want of memory is no fault of the device: its count of faults stays as it was.
+#[derive(Clone, Copy, Debug, PartialEq, Eq, Hash)]
+pub enum OutFault {
+    /// The device failed, and its count of faults has risen.
+    Failed,
+    /// Memory ran out.
+    Memory,
+}
+
+impl fmt::Display for OutFault {
+    fn fmt<W: fmt::Write>(&self, f: &mut fmt::Formatter<W>) -> fmt::Result {
+        match self {
+            OutFault::Failed => Failed.fmt(f),
+            OutFault::Memory => Memory.fmt(f),
+        }
+    }
+}
+
+impl Error for OutFault {}
+
+impl From<Failed> for OutFault {
+    ghost from_gives = { λ _ answer. answer ≡ fault.Failed };
+
+    fn from(_: Failed) -> OutFault {
+        OutFault::Failed
+    }
+}
+
+impl From<Memory> for OutFault {
+    ghost from_gives = { λ _ answer. answer ≡ fault.Memory };
+
+    fn from(_: Memory) -> OutFault {
+        OutFault::Memory
+    }
+}
