@@ -38,14 +38,14 @@ pub keeps-ignored : (own : Local) (r : ℕ) (a b : Answer) (newer older : Answer
 keeps-ignored own r a b newer older possible same wide = record {
   possible = λ h. h;
   stands = λ floor accepted later local stands.
-    let enough : FrontierStands own newer older accepted a b r = frontier_is_enough own newer older accepted a b r same stands.narrowest in
-    record {
-      narrowest = enough.ignored wide;
-      among = among-skipped (newer ++ a ∷ older) accepted b stands.among;
-      errors = λ e. sym (declares_already e b.error (newer ++ a ∷ older) (declares_itself b.error newer older a same)) ∙ ap (λ t. (b.error == e) || t) (stands.errors e);
-      different = stands.different;
-      possible = All-cons (IsPossible own r) b accepted possible (possible-later own floor r accepted local later stands.possible);
-    };
+      let enough : FrontierStands own newer older accepted a b r = frontier_is_enough own newer older accepted a b r same stands.narrowest in
+      record {
+        narrowest = enough.ignored wide;
+        among = among-skipped (newer ++ a ∷ older) accepted b stands.among;
+        errors = λ e. sym (declares_already e b.error (newer ++ a ∷ older) (declares_itself b.error newer older a same)) ∙ ap (λ t. (b.error == e) || t) (stands.errors e);
+        different = stands.different;
+        possible = All-cons (IsPossible own r) b accepted possible (possible-later own floor r accepted local later stands.possible);
+      };
 }
 
 -- the kept answer of the same error is wider
@@ -54,15 +54,15 @@ pub keeps-replaced : (own : Local) (r : ℕ) (a b : Answer) (newer older : Answe
 keeps-replaced own r a b newer older possible same less = record {
   possible = λ h. All-cons (IsPossible own r) b (newer ++ older) possible (all-dropped (IsPossible own r) newer older a h);
   stands = λ floor accepted later local stands.
-    let enough : FrontierStands own newer older accepted a b r = frontier_is_enough own newer older accepted a b r same stands.narrowest in
-    let different : DeclareDifferent (a ∷ newer ++ older) = different-middle newer older a stands.different in
-    let moved : (e : ℕ) → declares e (b ∷ newer ++ older) ≡ declares e (newer ++ a ∷ older) =
-    λ e. ap (λ n. (n == e) || declares e (newer ++ older)) (sym same) ∙ sym (declares-middle e newer older a) in
-    record {
-      narrowest = enough.replaced less;
-      among = inl (refl, among-dropped newer older accepted a stands.among);
-      errors = λ e. moved e ∙ sym (declares_already e b.error (newer ++ a ∷ older) (declares_itself b.error newer older a same)) ∙ ap (λ t. (b.error == e) || t) (stands.errors e);
-      different = (ap (λ n. declares n (newer ++ older)) (sym same) ∙ different.0, different.1);
-      possible = All-cons (IsPossible own r) b accepted possible (possible-later own floor r accepted local later stands.possible);
-    };
+      let enough : FrontierStands own newer older accepted a b r = frontier_is_enough own newer older accepted a b r same stands.narrowest in
+      let different : DeclareDifferent (a ∷ newer ++ older) = different-middle newer older a stands.different in
+      let moved : (e : ℕ) → declares e (b ∷ newer ++ older) ≡ declares e (newer ++ a ∷ older) =
+      λ e. ap (λ n. (n == e) || declares e (newer ++ older)) (sym same) ∙ sym (declares-middle e newer older a) in
+      record {
+        narrowest = enough.replaced less;
+        among = inl (refl, among-dropped newer older accepted a stands.among);
+        errors = λ e. moved e ∙ sym (declares_already e b.error (newer ++ a ∷ older) (declares_itself b.error newer older a same)) ∙ ap (λ t. (b.error == e) || t) (stands.errors e);
+        different = (ap (λ n. declares n (newer ++ older)) (sym same) ∙ different.0, different.1);
+        possible = All-cons (IsPossible own r) b accepted possible (possible-later own floor r accepted local later stands.possible);
+      };
 }

@@ -58,6 +58,9 @@ impl Estimate {
         ensures verdict { GivesBy (λ done. done) AcceptFault.Memory result (verdict self.old.local reading answer) }
         ensures ok { OnOk result (Accepts self.old self.new answer reading) }
         ensures err { OnErr result (self.new ≡ self.old) }
+
+        // Whatever the answer, this reading may be handed next.
+        ensures next { self.new.floor ≤ reading }
     {
         let width = scaled_width(&answer, &self.local, reading);
         if width < 0 {

@@ -1,7 +1,6 @@
-ghost use Rattle.std.specs.Prelude.{◌≡◌, ◌<◌, ◌≤ℤ◌, pos, reverse, OnOk, OnErr};
+ghost use Rattle.std.specs.Prelude.{◌≡◌, ◌≢◌, ◌<◌, ◌≤ℤ◌, pos, length, reverse, slice_get, All, IfSome, IfNone, OnOk, OnErr};
 ghost use Rattle.css_model.specs.WallClock as wall_clock;
 ghost use Rattle.css_span.specs.Frontiers.{KeepsFrontier};
-ghost use Rattle.std.specs.Prelude.{◌≢◌, IfSome, IfNone, All, slice_get, length};
 
 use crate::answer::{Answer, Local};
 use crate::width::scaled_width;
@@ -9,7 +8,7 @@ use css_model::LIMIT;
 use css_num::Memory;
 
 /// The narrowest of the answers at a reading, of equals the first.
-pub fn narrowest(answers: &[Answer], local: &Local, reading: u64) -> Option<Answer>
+pub(crate) fn narrowest(answers: &[Answer], local: &Local, reading: u64) -> Option<Answer>
     requires { reading < LIMIT }
     ensures { result ≡ wall_clock.narrowest local.now reading (reverse answers.now) }
 {
@@ -30,7 +29,7 @@ pub fn narrowest(answers: &[Answer], local: &Local, reading: u64) -> Option<Answ
 
 /// Takes an answer in: of those of its declared error the narrowest is kept, of equals the first. Widths of answers
 /// of one error grow alike, so none that is dropped would be the narrowest later.
-pub fn keep(
+pub(crate) fn keep(
     kept: &mut Vec<Answer>,
     local: &Local,
     answer: Answer,

@@ -6,10 +6,9 @@ mod answer;
 mod estimate;
 mod fault;
 mod frontier;
-mod width;
-
 #[cfg(test)]
 mod tests;
+mod width;
 
 pub use answer::{Answer, Local};
 pub use css_num::Span;

@@ -20,5 +20,5 @@ returns-clause-ok c = record {
   local = ap (λ (f : Frontier). f.local) c.self.view_is;
   floor = refl;
   stands = λ accepted stands.
-    c.in_ok-keep.ensures.ok.stands c.self.inside.floor accepted (risen c) c.self.invariant.local (subst (λ (f : Frontier). StandsFor f accepted) (sym c.self.view_is) stands);
+      c.in_ok-keep.ensures.ok.stands c.self.inside.floor accepted (risen c) c.self.invariant.local (subst (λ (f : Frontier). StandsFor f accepted) (sym c.self.view_is) stands);
 }
