@@ -1,5 +1,6 @@
-ghost use Rattle.std.specs.Prelude.{◌≡◌, ◌≤◌, ◌+◌, length, drop};
-ghost use Rattle.css_model.specs.Wire.{decoded, fields, stamp_in, field_fault};
+ghost use Rattle.std.specs.Prelude.{◌≡◌, ◌≤◌, ◌+◌, length, drop, slice_set, IfOk};
+ghost use Rattle.css_model.specs.Wire.{decoded, encoded, fields, stamp_in, field_fault};
+ghost use Rattle.css_wc.specs.Datagrams.{HasNoFault};
 
 use byteorder::{BigEndian, ByteOrder};
 use css_model::{Message, Stamp, WcFault};
@@ -20,10 +21,15 @@ const SECOND: u32 = 1_000_000_000;
 /// the first byte isn't 0; `MessageType`, above 3; `Precision`, an exponent above 30; `Error`, a max_freq_error above
 /// 25,600,000 units of 1/256 ppm; `Nanoseconds`, where those of the receive or of the transmit time are a second or
 /// more. The last three are tested for the answers alone, which are the types 1 to 3. The reserved byte and the
-/// originate time may hold anything.
+/// originate time may hold anything. A message that was read is valid, and `encode` writes it as the same bytes with a
+/// reserved byte of 0.
 #[tactic(auto, unfolding(css_model::specs::Wire::fault, css_model::specs::Wire::fields))]
 pub fn decode(bytes: &[u8]) -> Result<Message, WcFault>
-    ensures { result ≡ decoded bytes.now }
+    ensures value { result ≡ decoded bytes.now }
+    ensures valid { IfOk result HasNoFault }
+
+    // The byte at 3 is the reserved one.
+    ensures written_back { IfOk result (λ message. encoded message ≡ slice_set bytes.now 3 0) }
 {
     if bytes.len() != MESSAGE_LENGTH {
         return Err(WcFault::Length);
