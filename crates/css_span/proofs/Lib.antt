@@ -1,0 +1,5 @@
+pub mod NewestLast
+pub mod Declared
+pub mod Standing
+pub mod Counting
+pub mod Leasts

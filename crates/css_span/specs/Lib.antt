@@ -1,0 +1,3 @@
+pub mod WallSpans
+pub mod Frontiers
+pub mod Verdicts

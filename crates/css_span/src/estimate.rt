@@ -1,0 +1,93 @@
+ghost use Rattle.std.specs.Prelude.{◌≡◌, ◌≤◌, ◌<◌, ◌↔◌, [], length, OnOk, OnErr, IsNone};
+ghost use Rattle.css_num.specs.Gives.{GivesBy};
+ghost use Rattle.css_span.specs.Frontiers.{Answers, StandsFor, Accepts, error_count};
+ghost use Rattle.css_span.specs.WallSpans.{wall_span};
+ghost use Rattle.css_span.specs.Verdicts.{verdict};
+
+use crate::answer::{Answer, Local};
+use crate::fault::AcceptFault;
+use crate::frontier::{keep, narrowest};
+use crate::width::{scaled_width, span};
+use css_model::LIMIT;
+use css_num::Span;
+use std::alloc::Global;
+use std::marker::Model;
+
+/// What a companion knows of the television's wall clock from all answers that it accepted.
+///
+/// Of each declared error it keeps one answer at most, the narrowest. Contracts see its own clock, the kept answers,
+/// the newest first, and the least reading that it may be handed next.
+#[derive(Debug, Drop)]
+pub struct Estimate {
+    local: Local,
+    kept: Vec<Answer>,
+    floor: u64,
+}
+
+impl Model for Estimate {
+    ghost use Rattle.std.specs.Prelude.{reverse};
+    ghost use Rattle.css_span.specs.Frontiers.{Frontier, IsFrontier};
+
+    ghost Value = { Frontier };
+
+    ghost view = { λ e. record { local = e.local; kept = reverse e.kept.items; floor = e.floor } };
+
+    ghost invariant = { λ e. IsFrontier (record { local = e.local; kept = reverse e.kept.items; floor = e.floor }) };
+}
+
+impl Estimate {
+    /// The estimate of a companion with this clock that accepted no answer yet.
+    pub fn new(alloc: Global, local: Local) -> Estimate
+        ensures value { result ≡ record { local = local; kept = []; floor = 0 } }
+        ensures stands { StandsFor result [] }
+    {
+        Estimate {
+            local,
+            kept: Vec::new(alloc),
+            floor: 0,
+        }
+    }
+
+    /// Accepts an answer at a reading that isn't below that of the last answer accepted.
+    ///
+    /// It is `Impossible`, with its scaled width at the reading, exactly where this is below zero. After a refusal
+    /// the estimate is as it was.
+    pub fn accept(&mut self, answer: Answer, reading: u64) -> Result<(), AcceptFault>
+        requires range { reading < LIMIT }
+        requires floor { self.old.floor ≤ reading }
+        ensures verdict { GivesBy (λ done. done) AcceptFault.Memory result (verdict self.old.local reading answer) }
+        ensures ok { OnOk result (Accepts self.old self.new answer reading) }
+        ensures err { OnErr result (self.new ≡ self.old) }
+
+        // Whatever the answer, this reading may be handed next.
+        ensures next { self.new.floor ≤ reading }
+    {
+        let width = scaled_width(&answer, &self.local, reading);
+        if width < 0 {
+            return Err(AcceptFault::Impossible(width));
+        }
+        keep(&mut self.kept, &self.local, answer, reading)?;
+        self.floor = reading;
+        Ok(())
+    }
+
+    /// The wall span at a reading that isn't below that of the last answer accepted: the span of the accepted answer
+    /// with the least scaled width at the reading, of equals the one accepted first. None where none was accepted.
+    pub fn at(&self, reading: u64) -> Option<Span>
+        requires range { reading < LIMIT }
+        requires floor { self.now.floor ≤ reading }
+        ensures span { (accepted : Answers) → StandsFor self.now accepted → result ≡ wall_span self.now.local reading accepted }
+        ensures none { (accepted : Answers) → StandsFor self.now accepted → IsNone result ↔ (accepted ≡ []) }
+    {
+        let answer = narrowest(&self.kept, &self.local, reading)?;
+        Some(span(&answer, &self.local, reading))
+    }
+
+    /// How many answers are kept: as many as there are different declared errors among the accepted ones.
+    pub fn kept(&self) -> usize
+        ensures count { result ≡ length self.now.kept }
+        ensures errors { (accepted : Answers) → StandsFor self.now accepted → result ≡ error_count accepted }
+    {
+        self.kept.len()
+    }
+}

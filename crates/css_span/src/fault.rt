@@ -1,0 +1,34 @@
+ghost use Rattle.std.specs.Prelude.{◌≡◌};
+ghost use Rattle.css_span.specs.declared.fault.AcceptFault.TheVariants as faults;
+
+use css_num::Memory;
+use std::error::Error;
+use std::fmt;
+
+/// Why an answer wasn't accepted.
+#[derive(Clone, Copy, Debug, PartialEq, Eq)]
+pub enum AcceptFault {
+    /// The answer's scaled width at the reading, which is below zero: its times contradict its precision and errors.
+    Impossible(i128),
+    /// Want of memory.
+    Memory,
+}
+
+impl fmt::Display for AcceptFault {
+    fn fmt<W: fmt::Write>(&self, f: &mut fmt::Formatter<W>) -> fmt::Result {
+        match self {
+            AcceptFault::Impossible(width) => write!(f, "impossible: the scaled width is {width}"),
+            AcceptFault::Memory => f.write_str("out of memory"),
+        }
+    }
+}
+
+impl Error for AcceptFault {}
+
+impl From<Memory> for AcceptFault {
+    ghost from_gives = { λ _ fault. fault ≡ faults.Memory };
+
+    fn from(_: Memory) -> AcceptFault {
+        AcceptFault::Memory
+    }
+}
