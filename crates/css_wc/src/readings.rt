@@ -35,6 +35,7 @@ pub fn precision_ns(exponent: i8) -> u64
     requires { exponent ≤ℤ pos 30 }
     ensures value { result ≡ numbers.precision_ns exponent }
     ensures rounded_up { IsRoundedUp exponent result }
+    ensures range { result ≤ numbers.precision_ns (pos 30) }
 {
     if exponent >= 0 {
         SECOND << exponent
