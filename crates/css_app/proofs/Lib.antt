@@ -1,0 +1,3 @@
+pub mod Landed
+pub mod Taken
+pub mod OneWord

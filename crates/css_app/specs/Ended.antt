@@ -1,0 +1,70 @@
+-- How a run ends, as a status.
+use Rattle.std.specs.Prelude.{ℕ, ◌≡◌, Bool, false, bytes_eq, List, [], ◌∷◌, codes, Option, Some, None, Result, Ok, Err}
+use Rattle.std.specs.Io.KnownBytes.{Appends}
+use Rattle.css_outside.specs.Faults.{HasRisen}
+use Rattle.css_lines.specs.declared.reader.Refusal.{Refusal}
+use Rattle.css_lines.specs.declared.reader.Refusal.TheVariants as refusals
+use Rattle.css_lines.specs.declared.ending.Stop.{Stop}
+use Rattle.css_lines.specs.declared.ending.Stop.TheVariants as stops
+use Rattle.css_lines.specs.Meaning.{outcome}
+use Rattle.css_lines.specs.Ending.{RanUntil}
+use Rattle.css_app.specs.declared.replay.Cause.{Cause}
+use Rattle.css_app.specs.declared.replay.Cause.TheVariants as causes
+use Rattle.css_app.specs.declared.status.LineWhy.{LineWhy}
+use Rattle.css_app.specs.declared.status.LineWhy.TheVariants.{Long, Form}
+use Rattle.css_app.specs.declared.status.Status.{Status}
+use Rattle.css_app.specs.declared.status.Status.TheVariants.{Done, Usage, BadLine, ReadFault, WriteFault, Memory}
+use Rattle.css_app.specs.Replayed.{replayed}
+
+-- the words of `replay`: this one word
+abbrev pub is_replay : List (List ℕ) → Bool
+is_replay [] = false
+is_replay (word ∷ []) = bytes_eq word (codes "replay")
+is_replay (word ∷ next ∷ words) = false
+
+-- the exit status of the program
+abbrev pub status_number : Status → ℕ
+status_number Done = 0
+status_number Usage = 1
+status_number (BadLine line why) = 2
+status_number ReadFault = 4
+status_number WriteFault = 5
+status_number Memory = 14
+
+-- why the line of a schedule is refused
+abbrev pub refusal_of : LineWhy → Refusal Cause
+refusal_of Long = refusals.Long
+refusal_of Form = refusals.Refused causes.Form
+
+-- The input was read to its end, no line of it is refused, and the sink grew by its whole output.
+pub record ReplaysAll (bytes : List ℕ) (left holds_old holds_new : Option (List ℕ)) : Type 0 where
+  pub at_end : left ≡ Some []
+  pub accepted : (outcome replayed bytes).verdict ≡ None
+  pub grew : Appends holds_old holds_new (outcome replayed bytes).printed
+
+-- What a replay of a schedule with these bytes may leave, by its status.
+abbrev pub Replays : List ℕ → Option (List ℕ) → Option (List ℕ) → Option (List ℕ) → Status → Type 0
+Replays bytes left holds_old holds_new Done = ReplaysAll bytes left holds_old holds_new
+Replays bytes left holds_old holds_new Usage = ⊥
+Replays bytes left holds_old holds_new (BadLine line why) = RanUntil replayed bytes left holds_old holds_new (stops.BadLine line (refusal_of why))
+Replays bytes left holds_old holds_new ReadFault = RanUntil replayed bytes left holds_old holds_new stops.ReadFault
+Replays bytes left holds_old holds_new WriteFault = RanUntil replayed bytes left holds_old holds_new stops.WriteFault
+Replays bytes left holds_old holds_new Memory = RanUntil replayed bytes left holds_old holds_new stops.Memory
+
+-- the source's count of faults has risen where a read failed, and else is as it was
+abbrev pub CountsReads : ℕ → ℕ → Status → Type 0
+CountsReads before now ReadFault = HasRisen before now
+CountsReads before now _ = now ≡ before
+
+-- the sink's count of faults has risen where a write failed, and else is as it was
+abbrev pub CountsWrites : ℕ → ℕ → Status → Type 0
+CountsWrites before now WriteFault = HasRisen before now
+CountsWrites before now _ = now ≡ before
+
+-- the status of a replay that stopped
+abbrev pub status_of : Stop Cause → Status
+status_of (stops.BadLine line refusals.Long) = BadLine line Long
+status_of (stops.BadLine line (refusals.Refused causes.Form)) = BadLine line Form
+status_of stops.ReadFault = ReadFault
+status_of stops.WriteFault = WriteFault
+status_of stops.Memory = Memory

@@ -1,0 +1,6 @@
+pub mod Transcript
+pub mod Printed
+pub mod Replayed
+pub mod Landing
+pub mod Stands
+pub mod Ended

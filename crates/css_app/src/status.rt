@@ -1,0 +1,44 @@
+/// Why a line of a schedule ends the run.
+#[derive(Clone, Copy, Debug, PartialEq, Eq)]
+pub enum LineWhy {
+    /// It has more than 4,096 bytes, or the 67,108,865th byte of the input stands in it.
+    Long,
+    /// It is outside the grammar, or outside what is accepted so far.
+    Form,
+}
+
+/// How a run ended.
+#[derive(Clone, Copy, Debug, PartialEq, Eq)]
+pub enum Status {
+    /// The input was read to its end, and all output was written.
+    Done,
+    /// The words are those of no command. No device was touched.
+    Usage,
+    /// This line, counted from 1, is the first one that is refused. The output of the lines before was written.
+    BadLine { line: u64, why: LineWhy },
+    /// A read failed. The output of each line whose line feed was read was written.
+    ReadFault,
+    /// A write failed. A part of the output of the lines that were read was written.
+    WriteFault,
+    /// Memory ran out. A part of the output of the lines that were read was written.
+    Memory,
+}
+
+impl Status {
+    ghost use Rattle.std.specs.Prelude.{◌≡◌};
+    ghost use Rattle.css_app.specs.Ended.{status_number};
+
+    /// The exit status of the program.
+    pub fn number(&self) -> u8
+        ensures { result ≡ status_number self.now }
+    {
+        match self {
+            Status::Done => 0,
+            Status::Usage => 1,
+            Status::BadLine { .. } => 2,
+            Status::ReadFault => 4,
+            Status::WriteFault => 5,
+            Status::Memory => 14,
+        }
+    }
+}

@@ -1,0 +1,48 @@
+-- The first word of bytes, and the words after it.
+use Rattle.std.proofs.Common.{◌≡◌, ℕ, ◌+◌, ◌-◌, ◌<◌, ◌≤◌, arith, Bool, true, false, cond, List, [], ◌∷◌, length, take, drop, get_or, refl, sym, ◌∙◌, ap, Option, Some, None, ltb}
+use Rattle.std.specs.List.{position, position_or_len, slice_split, All}
+use Rattle.std.proofs.lemmas.Bool.{ltb-true, ltb-false}
+use Rattle.std.proofs.lemmas.List.{length-drop}
+use Rattle.std.proofs.Math.Seq.{take-length}
+use Rattle.std.proofs.lemmas.List.Splits.{slice_split_none, slice_split_first}
+use Rattle.std.proofs.lemmas.List.Sums.{fails_before_first}
+use Rattle.std.specs.Prelude.{Err}
+use Rattle.std.specs.List.{onto_first}
+use Rattle.css_schedule.specs.declared.fault.LineFault.TheVariants.{Form}
+use Rattle.css_schedule.specs.Words.{is_space, words_of, all_read}
+
+chosen_none : {A : Type 0} (b : Bool) (x : A) → cond b (Some x) None ≡ None → b ≡ false
+chosen_none true x e = absurd (cc)
+chosen_none false x e = refl
+
+chosen_some : {A : Type 0} (b : Bool) (x y : A) → cond b (Some x) None ≡ Some y → (b ≡ true) × (x ≡ y)
+chosen_some true x y e = (refl, cc)
+chosen_some false x y e = absurd (cc)
+
+-- where no space is, the bytes are one word
+pub words_of-one : (bytes : List ℕ) → position is_space bytes ≡ None → words_of bytes ≡ bytes ∷ []
+words_of-one bytes e =
+    let past : length bytes ≤ position_or_len is_space bytes = ltb-false (position_or_len is_space bytes) (length bytes) (chosen_none (ltb (position_or_len is_space bytes) (length bytes)) (position_or_len is_space bytes) e) in
+    slice_split_none is_space bytes (λ k d below. fails_before_first is_space bytes k d (omega arith))
+
+-- the first word ends at the first space
+pub words_of-first : (bytes : List ℕ) (at : ℕ) → position is_space bytes ≡ Some at → words_of bytes ≡ take at bytes ∷ words_of (drop (at + 1) bytes)
+words_of-first bytes at e =
+    let some = chosen_some (ltb (position_or_len is_space bytes) (length bytes)) (position_or_len is_space bytes) at e in
+    slice_split_first is_space bytes 0 (ltb-true (position_or_len is_space bytes) (length bytes) some.0)
+    ∙ ap (λ n. take n bytes ∷ words_of (drop (n + 1) bytes)) some.1
+
+-- a slice from an index to the end
+pub take-drop_end : (n : ℕ) (bytes : List ℕ) → take (length bytes - n) (drop n bytes) ≡ drop n bytes
+take-drop_end n bytes = ap (λ k. take k (drop n bytes)) (sym (length-drop n bytes)) ∙ take-length (drop n bytes)
+
+onto_first-some : (byte : ℕ) (parts : List (List ℕ)) → all_read (onto_first byte parts) ≡ Err Form
+onto_first-some byte [] = refl
+onto_first-some byte (part ∷ parts) = refl
+
+-- bytes have a word, be it an empty one
+pub all_read-words_of : (bytes : List ℕ) → all_read (words_of bytes) ≡ Err Form
+all_read-words_of [] = refl
+all_read-words_of (byte ∷ bytes) =
+    elim (is_space byte) as (λ b. all_read (cond b ([] ∷ words_of bytes) (onto_first byte (words_of bytes))) ≡ Err Form)
+    [ true ↦ refl | false ↦ onto_first-some byte (words_of bytes) ]

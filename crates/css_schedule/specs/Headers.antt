@@ -1,0 +1,55 @@
+-- The header of a schedule, as words.
+use Rattle.std.specs.Prelude.{ℕ, ◌+◌, pos, negsuc, if◌then◌else◌, List, [], ◌∷◌, Result, Ok, Err, codes, bytes_eq}
+use Rattle.css_model.specs.Numbers.{max_error, max_local_error, max_local_precision}
+use Rattle.css_model.specs.WallClock.{Local}
+use Rattle.css_schedule.specs.declared.fault.LineFault.{LineFault}
+use Rattle.css_schedule.specs.declared.opening.Declared.{Declared}
+use Rattle.css_schedule.specs.declared.header.Header.{Header}
+use Rattle.css_schedule.specs.declared.header.Start.{Start}
+use Rattle.css_schedule.specs.declared.header.Start.TheVariants.{One}
+use Rattle.std.specs.Prelude.{Bool, true, false}
+use Rattle.css_schedule.specs.Words.{At, ◌>>=◌, number_at, signed_at, text_at, after_word, all_read, words_of}
+
+-- `-` stands for the empty stem
+abbrev pub stem_of : List ℕ → List ℕ
+stem_of word = if bytes_eq word (codes "-") then [] else word
+
+-- `css-schedule 1 MODE`, and the words after it; the one MODE so far is `plain`, without follow-ups
+unfoldable pub after_mode : List (List ℕ) → Result (List (List ℕ)) LineFault
+after_mode words = do
+  name ← after_word (codes "css-schedule") words
+  version ← after_word (codes "1") name
+  after_word (codes "plain") version
+
+-- `EW KW EL PL`: the errors and precisions of the two clocks
+unfoldable pub declared_at : At Declared
+declared_at words = do
+  tv_error ← number_at (max_error + 1) words
+  tv_precision ← signed_at 3 (negsuc 127) (pos 30) tv_error.1
+  error ← number_at (max_local_error + 1) tv_precision.1
+  precision ← number_at (max_local_precision + 1) error.1
+  Ok (record { tv_error = tv_error.0; tv_precision = tv_precision.0; error = error.0; precision = precision.0 }, precision.1)
+
+abbrev pub local_of : Declared → Local
+local_of declared = record { error = declared.error; precision = declared.precision }
+
+abbrev pub header_with : Declared → List ℕ → List ℕ → Header
+header_with declared selector stem = record {
+  follow = false;
+  tv_error = declared.tv_error;
+  tv_precision = declared.tv_precision;
+  companions = record { local = local_of declared; selector = selector; stem = stem_of stem } ∷ [];
+}
+
+-- `css-schedule 1 MODE EW KW EL PL SELECTOR STEM`
+unfoldable pub header_of_words : List (List ℕ) → Result Start LineFault
+header_of_words words = do
+  mode ← after_mode words
+  declared ← declared_at mode
+  selector ← text_at declared.1
+  stem ← text_at selector.1
+  end ← all_read stem.1
+  Ok (One (header_with declared.0 selector.0 stem.0))
+
+abbrev pub header_of : List ℕ → Result Start LineFault
+header_of bytes = header_of_words (words_of bytes)

@@ -1,0 +1,34 @@
+-- The ranges of what a schedule says.
+use Rattle.std.specs.Prelude.{ℕ, ◌<◌, ◌≤◌, ◌≡◌, ℤ, pos, negsuc, ◌≤ℤ◌, length}
+use Rattle.css_model.specs.Numbers.{max_error}
+use Rattle.css_model.specs.declared.TheConstants.{LIMIT}
+use Rattle.css_schedule.specs.declared.header.Header.{Header}
+use Rattle.css_schedule.specs.declared.header.Start.{Start}
+use Rattle.css_schedule.specs.declared.header.Start.TheVariants.{One, Two}
+use Rattle.css_schedule.specs.declared.line.Verb.{Verb}
+use Rattle.css_schedule.specs.declared.line.Verb.TheVariants.{Ask, Take, Give, Land, Wall}
+use Rattle.css_schedule.specs.declared.line.Line.{Line}
+
+-- what a television declares is in range
+pub record IsHeader (header : Header) : Type 0 where
+  pub tv_error : header.tv_error ≤ max_error
+  pub tv_precision : header.tv_precision ≤ℤ pos 30
+
+-- and version 1 has one companion
+abbrev pub IsStart : Start → Type 0
+IsStart (One header) = IsHeader header × (length header.companions ≡ 1)
+IsStart (Two header companions) = IsHeader header
+
+-- each reading is below 2^32 seconds
+abbrev pub IsVerb : Verb → Type 0
+IsVerb (Ask reading) = reading < LIMIT
+IsVerb (Take request reading) = reading < LIMIT
+IsVerb (Give take reading) = reading < LIMIT
+IsVerb (Land datagram reading) = reading < LIMIT
+IsVerb (Wall reading) = reading < LIMIT
+
+pub record IsLine (line : Line) : Type 0 where
+  pub t : line.t < LIMIT
+  pub w : line.w < LIMIT
+  pub l : line.l < LIMIT
+  pub verb : IsVerb line.verb

@@ -1,0 +1,69 @@
+use css_num::Text;
+use css_span::Local;
+use std::marker::Model;
+
+/// What a schedule says of one companion.
+#[derive(Debug, Drop)]
+pub struct CompanionLine {
+    /// Its oscillator's error and its precision of reading.
+    pub local: Local,
+    /// The selector of the timeline that it wants.
+    pub selector: Text,
+    /// The stem of the content that it wants; empty for any.
+    pub stem: Text,
+}
+
+/// The companions of a schedule, numbered from 1 in this order.
+#[derive(Debug, Drop)]
+pub struct Companions {
+    list: Vec<CompanionLine>,
+}
+
+impl Model for Companions {
+    ghost use Rattle.std.specs.Prelude.{List};
+    ghost use Rattle.css_schedule.specs.declared.header.CompanionLine.{CompanionLine};
+
+    ghost Value = { List CompanionLine };
+
+    ghost view = { λ companions. companions.list.items };
+}
+
+impl Companions {
+    ghost use Rattle.std.specs.Prelude.{◌≡◌};
+
+    /// These companions.
+    pub fn of(list: Vec<CompanionLine>) -> Companions
+        ensures { result ≡ list.items }
+    {
+        Companions { list }
+    }
+
+    /// The companions, in order of their numbers.
+    pub fn list(&self) -> &Vec<CompanionLine>
+        ensures { result.now.items ≡ self.now }
+    {
+        &self.list
+    }
+}
+
+/// The header of a schedule: what the two ends declare.
+#[derive(Debug, Drop)]
+pub struct Header {
+    /// Whether the television promises follow-ups.
+    pub follow: bool,
+    /// The television's oscillator error, in 1/256 ppm: at most 25,600,000.
+    pub tv_error: u32,
+    /// The television's precision, as the base-2 logarithm of seconds: -128 to 30.
+    pub tv_precision: i8,
+    /// The companions; one of them in version 1.
+    pub companions: Companions,
+}
+
+/// How a schedule starts.
+#[derive(Debug, Drop)]
+pub enum Start {
+    /// Version 1: the header whole, with its one companion.
+    One(Header),
+    /// Version 2: the header without its companions, and how many lines of companions follow it.
+    Two { header: Header, companions: u32 },
+}

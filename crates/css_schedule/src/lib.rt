@@ -1,0 +1,21 @@
+//! Schedules: what happens at a television and its companions, line by line, as a text that a person can write.
+//!
+//! Line 1 is the header, which names the declared errors and precisions of the clocks. Each other line gives the true
+//! time, the two clocks, and what happens then.
+#![tactic(auto)]
+
+mod fault;
+mod header;
+mod line;
+mod opening;
+mod reading;
+#[cfg(test)]
+mod tests;
+mod words;
+
+pub use css_span::Local;
+pub use fault::LineFault;
+pub use header::{CompanionLine, Companions, Header, Start};
+pub use line::{Line, Verb};
+pub use opening::read_header;
+pub use reading::read_line;

@@ -1,0 +1,106 @@
+ghost use Rattle.std.specs.Prelude.{◌≡◌, ◌≤◌, ◌≤ℤ◌, pos, ◌∷◌, [], IfOk};
+ghost use Rattle.css_model.specs.Numbers.{max_error, max_local_error, max_local_precision};
+ghost use Rattle.css_num.specs.Gives.{GivesBy};
+ghost use Rattle.css_schedule.specs.Words.{words_left};
+ghost use Rattle.css_schedule.specs.Headers.{after_mode, declared_at, stem_of, header_of};
+ghost use Rattle.css_schedule.specs.Ranges.{IsStart};
+ghost use Rattle.css_schedule.specs.declared.fault.LineFault.TheVariants as faults;
+
+use crate::words::{Words, all_words, finish, number, signed, skip, text};
+use crate::{CompanionLine, Companions, Header, LineFault, Start};
+use css_num::{Memory, Text};
+use css_span::Local;
+use std::alloc::Global;
+
+// The errors and precisions of the two clocks.
+#[derive(Clone, Copy)]
+struct Declared {
+    tv_error: u32,
+    tv_precision: i8,
+    error: u32,
+    precision: u64,
+}
+
+// The words after those of version 1 and its mode.
+#[tactic(auto, unfolding(crate::specs::Headers::after_mode))]
+fn after_front<'a>(words: Words<'a>) -> Result<Words<'a>, LineFault>
+    ensures { GivesBy words_left faults.Memory result (after_mode (words_left words.entry)) }
+{
+    let rest = skip(words, b"css-schedule")?;
+    let rest = skip(rest, b"1")?;
+    skip(rest, b"plain")
+}
+
+// The errors and precisions of the two clocks, each in its range.
+#[tactic(auto, unfolding(crate::specs::Headers::declared_at))]
+fn declaration<'a>(words: Words<'a>) -> Result<(Declared, Words<'a>), LineFault>
+    ensures value { GivesBy (λ x. (x.0, words_left x.1)) faults.Memory result (declared_at (words_left words.entry)) }
+    ensures tv_error { IfOk result (λ x. x.0.tv_error ≤ max_error) }
+    ensures tv_precision { IfOk result (λ x. x.0.tv_precision ≤ℤ pos 30) }
+    ensures error { IfOk result (λ x. x.0.error ≤ max_local_error) }
+    ensures precision { IfOk result (λ x. x.0.precision ≤ max_local_precision) }
+{
+    let (tv_error, rest) = number(words, 25_600_001)?;
+    let (tv_precision, rest) = signed(rest, 3, -128, 30)?;
+    let (error, rest) = number(rest, 2_560_001)?;
+    let (precision, rest) = number(rest, 1_000_000_001)?;
+    let declared = Declared {
+        tv_error: tv_error as u32,
+        tv_precision: tv_precision as i8,
+        error: error as u32,
+        precision,
+    };
+    Ok((declared, rest))
+}
+
+// The stem that a word stands for: `-` for the empty one.
+fn stem(alloc: Global, word: &[u8]) -> Result<Text, Memory>
+    ensures { IfOk result (λ stem. stem ≡ stem_of word.now) }
+{
+    if word == b"-".as_slice() {
+        Ok(Text::of(alloc, b"")?)
+    } else {
+        Text::of(alloc, word)
+    }
+}
+
+// A companion with this selector and stem, alone.
+fn only(alloc: Global, local: Local, selector: &[u8], word: &[u8]) -> Result<Companions, Memory>
+    ensures { IfOk result (λ companions. companions ≡ record { local = local; selector = selector.now; stem = stem_of word.now } ∷ []) }
+{
+    let companion = CompanionLine {
+        local,
+        selector: Text::of(alloc, selector)?,
+        stem: stem(alloc, word)?,
+    };
+    Ok(Companions::of(vec![in alloc; companion]?))
+}
+
+/// Reads the first line of a schedule, without its line feed.
+///
+/// The words are `css-schedule 1 MODE EW KW EL PL SELECTOR STEM` with exactly one space between two of them. MODE is
+/// `plain`. EW is the television's oscillator error, 0 to 25,600,000 in 1/256 ppm, and KW its precision, -128 to 30 as
+/// the base-2 logarithm of seconds. EL is the companion's oscillator error, 0 to 2,560,000, and PL its precision, 0 to
+/// 1,000,000,000 ns. SELECTOR and STEM are words of bytes from `!` to `~`; the STEM `-` is the empty stem. Anything else
+/// is `Form`.
+#[tactic(auto, unfolding(crate::specs::Headers::header_of_words))]
+pub fn read_header(alloc: Global, bytes: &[u8]) -> Result<Start, LineFault>
+    ensures value { GivesBy (λ x. x) faults.Memory result (header_of bytes.now) }
+    ensures range { IfOk result IsStart }
+{
+    let rest = after_front(all_words(bytes))?;
+    let (declared, rest) = declaration(rest)?;
+    let (selector, rest) = text(rest)?;
+    let (stem, rest) = text(rest)?;
+    finish(rest)?;
+    let local = Local {
+        error: declared.error,
+        precision: declared.precision,
+    };
+    Ok(Start::One(Header {
+        follow: false,
+        tv_error: declared.tv_error,
+        tv_precision: declared.tv_precision,
+        companions: only(alloc, local, selector, stem)?,
+    }))
+}

@@ -1,0 +1,144 @@
+ghost use Rattle.std.specs.Prelude.{◌≡◌, ◌≤◌, ◌<◌, length, ℕ, IfOk, Some, pos, ◌≤ℤ◌, IsTrue, ◌↔◌, [], ◌∷◌, position};
+ghost use Rattle.std.specs.Option.{option_copied};
+ghost use Rattle.std.specs.List.{list_all};
+ghost use Rattle.css_num.specs.Gives.{GivesBy};
+ghost use Rattle.css_schedule.specs.Words.{words_left, is_space, words_of, words_in, is_graphic, is_word, word_at, text_at, number_at, ordinal_at, signed_at, after_word, all_read};
+ghost use Rattle.css_schedule.specs.declared.fault.LineFault.TheVariants as faults;
+
+use crate::LineFault;
+use css_num::{signed_number, whole_number};
+
+const SPACE: u8 = b' ';
+
+/// The words of a line that are still to be read.
+#[derive(Clone, Copy, Debug)]
+pub struct Words<'a> {
+    rest: Option<&'a [u8]>,
+}
+
+/// All words of a line.
+pub fn all_words(bytes: &[u8]) -> Words<'_>
+    ensures { words_left result ≡ words_of bytes.now }
+{
+    Words { rest: Some(bytes) }
+}
+
+// Where the first space is.
+fn first_space(bytes: &[u8]) -> Option<usize>
+    ensures { result ≡ position is_space bytes.now }
+{
+    bytes.iter().position(|byte| *byte == SPACE)
+}
+
+// The first word of bytes, and what stands after the space that ends it.
+fn split(bytes: &[u8]) -> (&[u8], Option<&[u8]>)
+    ensures { words_of bytes.now ≡ result.0.now ∷ words_in (option_copied result.1) }
+{
+    match first_space(bytes) {
+        None => (bytes, None),
+        Some(space) => (&bytes[..space], Some(&bytes[space + 1..])),
+    }
+}
+
+/// The next word, whatever it is, and the words after it.
+pub fn word<'a>(words: Words<'a>) -> Result<(&'a [u8], Words<'a>), LineFault>
+    ensures { GivesBy (λ x. (x.0.now, words_left x.1)) faults.Memory result (word_at (words_left words.entry)) }
+{
+    let Some(bytes) = words.rest else {
+        return Err(LineFault::Form);
+    };
+    let (first, rest) = split(bytes);
+    Ok((first, Words { rest }))
+}
+
+/// A whole number below the bound.
+#[tactic(auto, unfolding(crate::specs::Words::number_at))]
+pub fn number<'a>(words: Words<'a>, below: u64) -> Result<(u64, Words<'a>), LineFault>
+    ensures value { GivesBy (λ x. (x.0, words_left x.1)) faults.Memory result (number_at below (words_left words.entry)) }
+    ensures below { IfOk result (λ x. x.0 < below) }
+{
+    let (text, rest) = word(words)?;
+    let number = whole_number(text, below).ok_or(LineFault::Form)?;
+    Ok((number, rest))
+}
+
+/// The number of a request, a take or a datagram: 1 to 2^32 - 1.
+#[tactic(auto, unfolding(crate::specs::Words::ordinal_at))]
+pub fn ordinal<'a>(words: Words<'a>) -> Result<(u32, Words<'a>), LineFault>
+    ensures { GivesBy (λ x. (x.0, words_left x.1)) faults.Memory result (ordinal_at (words_left words.entry)) }
+{
+    let (number, rest) = number(words, 1 << 32)?;
+    if number == 0 {
+        return Err(LineFault::Form);
+    }
+    Ok((number as u32, rest))
+}
+
+/// A signed number of at most so many digits, from `low` to `high`.
+#[tactic(auto, unfolding(crate::specs::Words::signed_at))]
+pub fn signed<'a>(
+    words: Words<'a>,
+    digits: u32,
+    low: i64,
+    high: i64,
+) -> Result<(i64, Words<'a>), LineFault>
+    requires { digits ≤ 18 }
+    ensures value { GivesBy (λ x. (x.0, words_left x.1)) faults.Memory result (signed_at digits low high (words_left words.entry)) }
+    ensures low { IfOk result (λ x. low ≤ℤ x.0) }
+    ensures high { IfOk result (λ x. x.0 ≤ℤ high) }
+{
+    let (text, rest) = word(words)?;
+    let number = signed_number(text, digits).ok_or(LineFault::Form)?;
+    if number < low || number > high {
+        return Err(LineFault::Form);
+    }
+    Ok((number, rest))
+}
+
+// Whether each byte is from `!` to `~`.
+fn are_graphic(bytes: &[u8]) -> bool
+    ensures { result ≡ list_all is_graphic bytes.now }
+{
+    bytes.iter().all(|byte| b'!' <= *byte && *byte <= b'~')
+}
+
+// Whether there is a byte, and each is from `!` to `~`.
+fn is_text(word: &[u8]) -> bool
+    ensures { result ≡ is_word word.now }
+{
+    !word.is_empty() && are_graphic(word)
+}
+
+/// A word that stands for itself: at least one byte, each from `!` to `~`.
+#[tactic(auto, unfolding(crate::specs::Words::text_at))]
+pub fn text<'a>(words: Words<'a>) -> Result<(&'a [u8], Words<'a>), LineFault>
+    ensures { GivesBy (λ x. (x.0.now, words_left x.1)) faults.Memory result (text_at (words_left words.entry)) }
+{
+    let (text, rest) = word(words)?;
+    if !is_text(text) {
+        return Err(LineFault::Form);
+    }
+    Ok((text, rest))
+}
+
+/// The words after this one, where it is the next.
+#[tactic(auto, unfolding(crate::specs::Words::after_word))]
+pub fn skip<'a>(words: Words<'a>, name: &[u8]) -> Result<Words<'a>, LineFault>
+    ensures { GivesBy words_left faults.Memory result (after_word name.now (words_left words.entry)) }
+{
+    let (text, rest) = word(words)?;
+    if text != name {
+        return Err(LineFault::Form);
+    }
+    Ok(rest)
+}
+
+/// That no word is left.
+pub fn finish(words: Words<'_>) -> Result<(), LineFault>
+    ensures { GivesBy (λ x. x) faults.Memory result (all_read (words_left words.entry)) }
+{
+    match words.rest {
+        None => Ok(()),
+        Some(_) => Err(LineFault::Form),
+    }
+}
