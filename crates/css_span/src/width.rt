@@ -9,8 +9,9 @@ use css_num::{Span, ceil_div, floor_div};
 /// One whole, in the unit of the errors, 1/256 ppm.
 const WHOLE: u32 = 256_000_000;
 
-/// The width of an answer's span at a reading before its ends are rounded, times `(WHOLE + e) * (WHOLE - e)` for the
-/// companion's error `e`. It is below zero where the times contradict the declared precision and errors.
+/// The width of an answer's span at a reading before its ends are rounded, times `(F + e) * (F - e)`, where `e` is the
+/// companion's error and `F` is one whole in the unit of the errors, 256,000,000. It is below zero where the times
+/// contradict the declared precision and errors.
 #[tactic(auto, unfolding(css_model::specs::WallClock::scaled_width))]
 pub fn scaled_width(answer: &Answer, local: &Local, reading: u64) -> i128
     requires { reading < LIMIT }
