@@ -1,5 +1,5 @@
 -- What lands at the end of an exchange.
-use Rattle.std.proofs.Common.{◌≡◌, ℕ, ◌≤◌, Bool, true, false, cond, not, List, [], ◌∷◌, ◌++◌, take, refl, ap, sym, subst, ◌∙◌, eq-eqb}
+use Rattle.std.proofs.Common.{◌≡◌, ℕ, ◌≤◌, true, false, cond, not, List, [], ◌∷◌, ◌++◌, take, refl, ap, sym, subst, ◌∙◌, eq-eqb}
 use Rattle.std.specs.Prelude.{pos, int_lt, nat_le, ◌==◌, ◌&&◌, ◌||◌, Option, Some, None, option_to_list, Result, Ok}
 use Rattle.std.specs.Option.{option_and_then, option_map}
 use Rattle.std.specs.Result.{result_ok}
@@ -10,7 +10,7 @@ use Rattle.css_model.specs.declared.Message.{Message}
 use Rattle.css_model.specs.declared.WcFault.{WcFault}
 use Rattle.css_model.specs.declared.Why.TheVariants as why
 use Rattle.css_model.specs.Wire.{encoded, decoded, request_at, stamp_of, is_same_stamp}
-use Rattle.css_model.specs.WallClock.{Answer, Local, scaled_width}
+use Rattle.css_model.specs.WallClock.{Local, scaled_width}
 use Rattle.css_model.specs.History.{History, Clock, Sent, Took, is_asked, LandedAnswer, possible_answers, accepted_answers}
 use Rattle.css_span.specs.Frontiers.{Frontier, StandsFor}
 use Rattle.css_schedule.specs.declared.header.Header.{Header}

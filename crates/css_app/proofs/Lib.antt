@@ -1,3 +1,4 @@
 pub mod Landed
 pub mod Taken
 pub mod OneWord
+pub mod TrueSpans

@@ -1,5 +1,5 @@
 -- How a run ends, as a status.
-use Rattle.std.specs.Prelude.{ℕ, ◌≡◌, Bool, false, bytes_eq, List, [], ◌∷◌, codes, Option, Some, None, Result, Ok, Err}
+use Rattle.std.specs.Prelude.{ℕ, ◌≡◌, Bool, false, bytes_eq, List, [], ◌∷◌, codes, Option, Some, None}
 use Rattle.std.specs.Io.KnownBytes.{Appends}
 use Rattle.css_outside.specs.Faults.{HasRisen}
 use Rattle.css_lines.specs.declared.reader.Refusal.{Refusal}

@@ -4,3 +4,4 @@ pub mod Replayed
 pub mod Landing
 pub mod Stands
 pub mod Ended
+pub mod Headline

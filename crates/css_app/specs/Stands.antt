@@ -1,5 +1,5 @@
 -- How the reader of a replay stands for the lines that it has taken.
-use Rattle.std.specs.Prelude.{ℕ, pos, ◌≤ℤ◌, ◌≡◌, ◌<◌, ◌≤◌, Bool, true, false, List, [], ◌∷◌, ◌++◌, Option, Some, None, Result, Ok, Err, MatchResult, is_some}
+use Rattle.std.specs.Prelude.{ℕ, pos, ◌≤ℤ◌, ◌≡◌, ◌<◌, ◌≤◌, Bool, false, List, [], ◌∷◌, Some, None, Result, Ok, MatchResult, is_some}
 use Rattle.css_model.specs.declared.TheConstants.{LIMIT}
 use Rattle.css_model.specs.declared.Stamp.{Stamp}
 use Rattle.css_model.specs.declared.Message.{Message}
@@ -13,7 +13,7 @@ use Rattle.css_schedule.specs.declared.fault.LineFault as schedule
 use Rattle.css_schedule.specs.declared.fault.LineFault.TheVariants as unread
 use Rattle.css_schedule.specs.declared.header.Header.{Header}
 use Rattle.css_schedule.specs.declared.line.Verb.{Verb}
-use Rattle.css_schedule.specs.declared.line.Verb.TheVariants.{Ask, Take, Give, Land, Wall}
+use Rattle.css_schedule.specs.declared.line.Verb.TheVariants.{Ask, Take, Give, Land}
 use Rattle.css_schedule.specs.Headers.{header_of}
 use Rattle.css_schedule.specs.Ranges.{IsHeader}
 use Rattle.css_app.specs.declared.replay.Cause.{Cause}

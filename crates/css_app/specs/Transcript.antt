@@ -1,5 +1,5 @@
 -- What the lines of a schedule say that its ends did. Verbs are in the order of their lines, histories newest first.
-use Rattle.std.specs.Prelude.{ℕ, ◌-◌, List, [], ◌∷◌, ◌++◌, Option, Some, None, unwrap_or, slice_get}
+use Rattle.std.specs.Prelude.{ℕ, ◌-◌, List, [], ◌∷◌, ◌++◌, Option, Some, None, slice_get}
 use Rattle.std.specs.Option.{option_and_then, option_map}
 use Rattle.std.specs.List.{filter_map}
 use Rattle.css_model.specs.declared.Message.{Message}

@@ -3,10 +3,13 @@
 
 mod carrying;
 mod exchange;
+pub mod laws;
 mod printed;
 mod program;
 mod replay;
 mod status;
+#[cfg(test)]
+mod tests;
 
 pub use program::run;
 pub use status::{LineWhy, Status};

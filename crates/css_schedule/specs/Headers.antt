@@ -1,5 +1,5 @@
 -- The header of a schedule, as words.
-use Rattle.std.specs.Prelude.{ℕ, ◌+◌, pos, negsuc, if◌then◌else◌, List, [], ◌∷◌, Result, Ok, Err, codes, bytes_eq}
+use Rattle.std.specs.Prelude.{ℕ, ◌+◌, pos, negsuc, if◌then◌else◌, List, [], ◌∷◌, Result, Ok, codes, bytes_eq}
 use Rattle.css_model.specs.Numbers.{max_error, max_local_error, max_local_precision}
 use Rattle.css_model.specs.WallClock.{Local}
 use Rattle.css_schedule.specs.declared.fault.LineFault.{LineFault}
@@ -7,7 +7,7 @@ use Rattle.css_schedule.specs.declared.opening.Declared.{Declared}
 use Rattle.css_schedule.specs.declared.header.Header.{Header}
 use Rattle.css_schedule.specs.declared.header.Start.{Start}
 use Rattle.css_schedule.specs.declared.header.Start.TheVariants.{One}
-use Rattle.std.specs.Prelude.{Bool, true, false}
+use Rattle.std.specs.Prelude.{false}
 use Rattle.css_schedule.specs.Words.{At, ◌>>=◌, number_at, signed_at, text_at, after_word, all_read, words_of}
 
 -- `-` stands for the empty stem

@@ -1,5 +1,5 @@
 -- The ranges of what a schedule says.
-use Rattle.std.specs.Prelude.{ℕ, ◌<◌, ◌≤◌, ◌≡◌, ℤ, pos, negsuc, ◌≤ℤ◌, length}
+use Rattle.std.specs.Prelude.{◌<◌, ◌≤◌, ◌≡◌, pos, ◌≤ℤ◌, length}
 use Rattle.css_model.specs.Numbers.{max_error}
 use Rattle.css_model.specs.declared.TheConstants.{LIMIT}
 use Rattle.css_schedule.specs.declared.header.Header.{Header}

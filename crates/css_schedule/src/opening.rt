@@ -12,6 +12,21 @@ use css_num::{Memory, Text};
 use css_span::Local;
 use std::alloc::Global;
 
+/// The greatest errors of the oscillators, in 1/256 ppm.
+const MAX_TV_ERROR: u64 = 25_600_000;
+
+const MAX_LOCAL_ERROR: u64 = 2_560_000;
+
+/// The worst precision of a companion's readings, in nanoseconds.
+const MAX_LOCAL_PRECISION: u64 = 1_000_000_000;
+
+/// The range of a precision exponent, and the digits that it may have.
+const MIN_PRECISION: i64 = -128;
+
+const MAX_PRECISION: i64 = 30;
+
+const PRECISION_DIGITS: u32 = 3;
+
 // The errors and precisions of the two clocks.
 #[derive(Clone, Copy)]
 struct Declared {
@@ -40,10 +55,10 @@ fn declaration<'a>(words: Words<'a>) -> Result<(Declared, Words<'a>), LineFault>
     ensures error { IfOk result (λ x. x.0.error ≤ max_local_error) }
     ensures precision { IfOk result (λ x. x.0.precision ≤ max_local_precision) }
 {
-    let (tv_error, rest) = number(words, 25_600_001)?;
-    let (tv_precision, rest) = signed(rest, 3, -128, 30)?;
-    let (error, rest) = number(rest, 2_560_001)?;
-    let (precision, rest) = number(rest, 1_000_000_001)?;
+    let (tv_error, rest) = number(words, MAX_TV_ERROR + 1)?;
+    let (tv_precision, rest) = signed(rest, PRECISION_DIGITS, MIN_PRECISION, MAX_PRECISION)?;
+    let (error, rest) = number(rest, MAX_LOCAL_ERROR + 1)?;
+    let (precision, rest) = number(rest, MAX_LOCAL_PRECISION + 1)?;
     let declared = Declared {
         tv_error: tv_error as u32,
         tv_precision: tv_precision as i8,

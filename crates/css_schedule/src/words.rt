@@ -10,6 +10,9 @@ use css_num::{signed_number, whole_number};
 
 const SPACE: u8 = b' ';
 
+/// The numbers of requests, takes and datagrams are below this.
+const ORDINAL_LIMIT: u64 = 1 << 32;
+
 /// The words of a line that are still to be read.
 #[derive(Clone, Copy, Debug)]
 pub struct Words<'a> {
@@ -67,7 +70,7 @@ pub fn number<'a>(words: Words<'a>, below: u64) -> Result<(u64, Words<'a>), Line
 pub fn ordinal<'a>(words: Words<'a>) -> Result<(u32, Words<'a>), LineFault>
     ensures { GivesBy (λ x. (x.0, words_left x.1)) faults.Memory result (ordinal_at (words_left words.entry)) }
 {
-    let (number, rest) = number(words, 1 << 32)?;
+    let (number, rest) = number(words, ORDINAL_LIMIT)?;
     if number == 0 {
         return Err(LineFault::Form);
     }

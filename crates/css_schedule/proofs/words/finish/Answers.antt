@@ -1,4 +1,4 @@
-use Rattle.std.proofs.Common.{inl, sym, ap, ◌∙◌}
+use Rattle.std.proofs.Common.{inl}
 use Rattle.css_schedule.proofs.Cut.{all_read-words_of}
 use Rattle.css_schedule.proofs.words.finish.Goals as goal
 

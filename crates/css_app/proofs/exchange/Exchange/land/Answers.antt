@@ -1,4 +1,4 @@
-use Rattle.std.proofs.Common.{◌≡◌, ℕ, ◌≤◌, true, arith, ap, sym, subst, ◌∙◌, List, ◌++◌, ◌∷◌, []}
+use Rattle.std.proofs.Common.{◌≡◌, ℕ, ◌≤◌, arith, ap, sym, subst, ◌∙◌, List, ◌++◌, ◌∷◌, []}
 use Rattle.std.specs.Prelude.{Some}
 use Rattle.css_model.specs.Wire.{decoded}
 use Rattle.css_model.specs.History.{accepted_answers}
@@ -7,7 +7,6 @@ use Rattle.css_schedule.specs.declared.line.Verb.{Verb}
 use Rattle.css_schedule.specs.declared.line.Verb.TheVariants.{Ask, Take, Give, Land}
 use Rattle.css_app.specs.declared.exchange.Step.{Step}
 use Rattle.css_app.specs.Transcript.{history_of}
-use Rattle.css_app.specs.Replayed.{is_due}
 use Rattle.css_app.specs.Stands.{StepStands}
 use Rattle.css_app.proofs.Landed.{land_stands, due}
 use Rattle.css_app.proofs.exchange.Exchange.land.Goals as goal
