@@ -149,6 +149,7 @@ impl Client {
     pub fn slept(&mut self)
         ensures value { self.new ≡ record { asked = []; promises = []; estimate = record { local = local_of self.old; kept = []; floor = 0 }; floor = max self.old.floor self.old.after_sleep; after_sleep = self.old.after_sleep } }
         ensures stands { (history : History) → StandsFor self.old history → StandsFor self.new (Slept ∷ history) }
+        ensures floor { self.new.floor ≤ self.old.floor + 1 }
     {
         self.asked.clear();
         self.promises.clear();
