@@ -152,15 +152,15 @@ fn a_sleep_ends_what_is_known(rt: HostRuntime) -> Result<(), Fail> {
     sleep(&mut client);
     let response = datagram(2, [1000, 5000, 5000], 0);
     assert_eq!(rt; land(&mut client, &response, 1600)?, Landing::Unasked);
-    let _ = ask(&mut client, 1001);
-    let response = datagram(2, [1001, 5000, 5000], 0);
-    assert_eq!(rt; land(&mut client, &response, 1601)?, Landing::Accepted);
+    let _ = ask(&mut client, 1601);
+    let response = datagram(2, [1601, 5000, 5000], 0);
+    assert_eq!(rt; land(&mut client, &response, 2201)?, Landing::Accepted);
     assert_eq!(rt; client.kept(), 1);
     sleep(&mut client);
     assert_eq!(rt; client.kept(), 0);
-    assert_eq!(rt; wall(&client, 1700), None);
-    let follow_up = datagram(3, [1001, 5000, 5000], 0);
-    assert_eq!(rt; land(&mut client, &follow_up, 1700)?, Landing::Unasked);
+    assert_eq!(rt; wall(&client, 2300), None);
+    let follow_up = datagram(3, [1601, 5000, 5000], 0);
+    assert_eq!(rt; land(&mut client, &follow_up, 2300)?, Landing::Unasked);
     Ok(())
 }
 
