@@ -1,0 +1,3 @@
+pub mod Clients
+pub mod Landings
+pub mod Standing

@@ -1,0 +1,112 @@
+ghost use Rattle.std.specs.Prelude.{◌≡◌, ◌≢◌, ◌≤◌, ◌<◌, ◌∷◌, ◌==◌, if◌then◌else◌, take, drop, unwrap_or, IfOk, OnOk, OnErr};
+ghost use Rattle.css_model.specs.Wire.{second};
+ghost use Rattle.css_wc.specs.Datagrams.{HasNoFault};
+ghost use Rattle.css_span.specs.Frontiers.{Accepts};
+ghost use Rattle.css_client.specs.Clients.{RemembersAll, first_landed, answer_of, promises_after};
+ghost use Rattle.css_client.specs.Landings.{verdict};
+ghost use Rattle.css_client.specs.declared.landing.Landing.TheVariants as landings;
+
+use crate::asked::Asked;
+use crate::landing::Landing;
+use crate::promises::{Promise, Promises};
+use css_model::{LIMIT, Message};
+use css_num::Memory;
+use css_span::{AcceptFault, Answer, Estimate};
+use css_wc::{precision_ns, reading as reading_of, stamp_of};
+
+/// Adds a request, and forgets the responses to the one that is forgotten for it. A request that was repeated at one
+/// reading is forgotten when its last copy is.
+pub(crate) fn note_request(asked: &mut Asked, promises: &mut Promises, request: u64)
+    requires { request < LIMIT }
+    ensures asked { asked.new ≡ take 64 (request ∷ asked.old) }
+    ensures promises { RemembersAll request asked.new promises.old promises.new }
+{
+    if let Some(gone) = asked.note(request) {
+        if gone < request && !asked.contains(gone) {
+            promises.forget(stamp_of(gone));
+        }
+    }
+}
+
+/// Takes in an answer to a request, and tells whether the estimate accepts it.
+pub(crate) fn take_in(
+    promises: &mut Promises,
+    estimate: &mut Estimate,
+    message: &Message,
+    reading: u64,
+) -> Result<Landing, Memory>
+    requires valid { HasNoFault message.now }
+    requires is_answer { message.now.message_type ≢ 0 }
+    requires originate { message.now.originate.nanoseconds < second }
+    requires range { reading < LIMIT }
+    requires floor { estimate.old.floor ≤ reading }
+    ensures landing { IfOk result (λ landing. landing ≡ verdict estimate.old.local reading (answer_of promises.old reading message.now)) }
+    ensures promises { OnOk result (promises.new ≡ promises_after promises.old reading message.now) }
+    ensures accepted { IfOk result (λ landing. landing ≡ landings.Accepted → Accepts estimate.old estimate.new (answer_of promises.old reading message.now) reading) }
+    ensures refused { IfOk result (λ landing. landing ≢ landings.Accepted → estimate.new ≡ estimate.old) }
+    ensures err { OnErr result ((promises.new ≡ promises.old) × (estimate.new ≡ estimate.old)) }
+{
+    let answer = answer_to(promises, message, reading);
+    let is_new = remember(promises, message, reading)?;
+    match estimate.accept(answer, reading) {
+        Ok(()) => Ok(Landing::Accepted),
+        Err(AcceptFault::Impossible(width)) => Ok(Landing::Impossible(width)),
+        Err(AcceptFault::Memory) => {
+            if is_new {
+                promises.take_back();
+            }
+            Err(Memory)
+        }
+    }
+}
+
+/// Remembers a response that promises a follow-up, and tells whether it is the first with its values.
+fn remember(promises: &mut Promises, message: &Message, reading: u64) -> Result<bool, Memory>
+    requires { reading < LIMIT }
+    ensures ok { OnOk result (promises.new ≡ promises_after promises.old reading message.now) }
+    ensures undone { IfOk result (λ is_new. promises.old ≡ (if is_new then drop 1 promises.new else promises.new)) }
+    ensures err { OnErr result (promises.new ≡ promises.old) }
+{
+    if message.message_type == 2 {
+        promises.note(Promise {
+            originate: message.originate,
+            receive: message.receive,
+            landed: reading,
+        })
+    } else {
+        Ok(false)
+    }
+}
+
+/// What an answer tells. A follow-up tells of the sending of its response, so it counts from the landing of that.
+fn answer_to(promises: &Promises, message: &Message, reading: u64) -> Answer
+    requires valid { HasNoFault message.now }
+    requires is_answer { message.now.message_type ≢ 0 }
+    requires originate { message.now.originate.nanoseconds < second }
+    requires range { reading < LIMIT }
+    ensures { result ≡ answer_of promises.now reading message.now }
+{
+    Answer {
+        t1: reading_of(message.originate),
+        t2: reading_of(message.receive),
+        t3: reading_of(message.transmit),
+        t4: landing_of(promises, message, reading),
+        precision: precision_ns(message.precision),
+        error: message.error,
+    }
+}
+
+fn landing_of(promises: &Promises, message: &Message, reading: u64) -> u64
+    requires { reading < LIMIT }
+    ensures value { result ≡ (if message.now.message_type == 3 then unwrap_or (first_landed message.now.originate message.now.receive promises.now) reading else reading) }
+    ensures range { result < LIMIT }
+{
+    if message.message_type == 3 {
+        match promises.first(message.originate, message.receive) {
+            Some(landed) => landed,
+            None => reading,
+        }
+    } else {
+        reading
+    }
+}
