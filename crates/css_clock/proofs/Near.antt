@@ -30,3 +30,9 @@ image-near span image num den p fits e =
     let low = min-near (scaled_number span.lo num (unsigned_abs den)) (scaled_number span.hi num (unsigned_abs den)) (2 ^ 126) first last in
     let high = max-near (scaled_number span.lo num (unsigned_abs den)) (scaled_number span.hi num (unsigned_abs den)) (2 ^ 126) first last in
     rw e (low, high)
+
+-- what a function answers that divides a small product
+pub answer-near : (product divisor quotient : ℤ) → pos 0 <ℤ divisor → unsigned_abs product < 2 ^ 126 → quotient ≡ floor_div product (unsigned_abs divisor) → unsigned_abs quotient ≤ 2 ^ 126
+answer-near product divisor quotient p h e =
+    let positive : 0 < unsigned_abs divisor = omega (arith, ints) in
+    rw e (quotient-near product (unsigned_abs divisor) positive h)

@@ -4,8 +4,15 @@
 #![tactic(auto)]
 
 mod correlated;
+mod fault;
+mod lineage;
+mod node;
+mod readings;
 mod steps;
 mod tick;
+mod tree;
 
 pub use correlated::Correlated;
+pub use fault::ClockFault;
 pub use tick::{Root, Tick};
+pub use tree::Tree;

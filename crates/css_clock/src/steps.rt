@@ -28,7 +28,7 @@ pub(crate) fn divisor(rate: Rate, parent: Rate) -> i128
 }
 
 /// A number less a number of ticks.
-fn less(number: i128, ticks: i64) -> i128
+pub(crate) fn less(number: i128, ticks: i64) -> i128
     requires { unsigned_abs number ≤ 2 ^ 126 + 2 ^ 63 }
     ensures { result ≡ number -ℤ ticks }
 {
@@ -36,7 +36,7 @@ fn less(number: i128, ticks: i64) -> i128
 }
 
 /// A number and a number of ticks more.
-fn more(number: i128, ticks: i64) -> i128
+pub(crate) fn more(number: i128, ticks: i64) -> i128
     requires { unsigned_abs number ≤ 2 ^ 126 }
     ensures value { result ≡ ticks +ℤ number }
     ensures near { unsigned_abs result ≤ 2 ^ 126 + 2 ^ 63 }
