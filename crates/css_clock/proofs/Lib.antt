@@ -1,4 +1,4 @@
 pub mod Forests
 pub mod Near
-pub mod Stepwise
 pub mod Shapes
+pub mod Stepwise

@@ -16,3 +16,6 @@ pub use correlated::Correlated;
 pub use fault::ClockFault;
 pub use tick::{Root, Tick};
 pub use tree::Tree;
+
+#[cfg(test)]
+mod tests;

@@ -63,7 +63,7 @@ fn checked_value(id: u32, gear: Gear, value: i64) -> Result<i64, ClockFault>
 }
 
 /// What a clock reads where its parent, or itself as a root, reads `value`.
-pub(crate) fn checked_step(nodes: &[Node], id: u32, value: i64) -> Result<i64, ClockFault>
+fn checked_step(nodes: &[Node], id: u32, value: i64) -> Result<i64, ClockFault>
     ensures { result ≡ trees.checked_step id (trees.gear_of nodes.now id) value }
 {
     match gear(nodes, id) {

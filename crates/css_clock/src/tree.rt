@@ -7,8 +7,8 @@ ghost use Rattle.css_clock.specs.declared.node.Link.{Link};
 
 use crate::fault::ClockFault;
 use crate::lineage::{all_available, known, not_deep, not_full};
-use crate::readings::value_down;
 use crate::node::{Link, Node};
+use crate::readings::value_down;
 use css_num::Rate;
 use std::alloc::Global;
 use std::marker::Model;
