@@ -1,0 +1,4 @@
+pub mod Forests
+pub mod Near
+pub mod Shapes
+pub mod Stepwise

@@ -1,0 +1,21 @@
+//! Clocks that go by one another, as companion screen synchronisation uses
+//! them (ETSI TS 103 286-2): a clock has a parent, a tick rate, a speed and a
+//! correlation with its parent.
+#![tactic(auto)]
+
+mod correlated;
+mod fault;
+mod lineage;
+mod node;
+mod readings;
+mod steps;
+mod tick;
+mod tree;
+
+pub use correlated::Correlated;
+pub use fault::ClockFault;
+pub use tick::{Root, Tick};
+pub use tree::Tree;
+
+#[cfg(test)]
+mod tests;

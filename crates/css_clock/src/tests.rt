@@ -1,0 +1,169 @@
+use crate::{ClockFault, Correlated, Root, Tick, Tree};
+use css_num::{Rate, Span};
+use std::alloc::Global;
+use std::process::Abort;
+use std::test::Fail;
+
+fn rate(rt: &impl Abort, units_per_tick: u32, units_per_second: u32) -> Rate {
+    Rate::of(units_per_tick, units_per_second).expect(rt, "no rate")
+}
+
+/// A timeline of 90,000 ticks a second that reads 900,000 ten seconds after the
+/// wall clock's 0.
+fn timeline(rt: &impl Abort, speed: i32) -> Correlated<Root> {
+    assert!(rt; -64 <= speed);
+    assert!(rt; speed <= 64);
+    Correlated {
+        parent: Root {
+            rate: rate(rt, 1, 1_000_000_000),
+        },
+        rate: rate(rt, 1, 90_000),
+        speed,
+        parent_ticks: 10_000_000_000,
+        child_ticks: 900_000,
+    }
+}
+
+#[test]
+fn a_span_has_the_lesser_tick_first(rt: HostRuntime) {
+    let rows: [(i32, (i128, i128)); 3] = [
+        (1, (945_000, 945_001)),
+        (-2, (809_996, 810_000)),
+        (0, (900_000, 900_000)),
+    ];
+    for (speed, expected) in rows {
+        let clock = timeline(&rt, speed);
+        let wall = Span {
+            lo: 10_500_000_000,
+            hi: 10_500_022_222,
+        };
+        assert!(rt; clock.holds(wall));
+        let ticks = clock.span(wall);
+        assert_eq!(rt; (ticks.lo, ticks.hi), expected, "at speed {speed}");
+    }
+}
+
+#[test]
+fn clocks_stand_on_clocks(rt: HostRuntime) {
+    let clock = Correlated {
+        parent: timeline(&rt, -1),
+        rate: rate(&rt, 1, 25),
+        speed: -1,
+        parent_ticks: 0,
+        child_ticks: 100,
+    };
+    let wall = Span {
+        lo: 10_000_000_000,
+        hi: 10_000_000_000,
+    };
+    assert!(rt; clock.holds(wall));
+    assert_eq!(rt; clock.value(10_000_000_000), -150);
+    assert_eq!(rt; clock.rate(), rate(&rt, 1, 25));
+}
+
+#[test]
+fn products_are_to_be_small(rt: HostRuntime) {
+    let limit: i128 = 1 << 126;
+    let root = Root {
+        rate: rate(&rt, 1, 1),
+    };
+    let rows: [(i128, i128, bool); 4] = [
+        (1 - limit, limit - 1, true),
+        (0, limit, false),
+        (-limit, 0, false),
+        (i128::MIN, i128::MAX, false),
+    ];
+    for (lo, hi, holds) in rows {
+        assert!(rt; lo <= hi);
+        assert_eq!(rt; root.holds(Span { lo, hi }), holds);
+    }
+    let clock = timeline(&rt, 64);
+    let wide: i128 = 1 << 100;
+    assert!(rt; clock.holds(Span { lo: 0, hi: wide }));
+    assert!(rt;
+        !clock.holds(Span {
+            lo: 0,
+            hi: 16 * wide
+        })
+    );
+    assert!(rt;
+        !clock.holds(Span {
+            lo: -16 * wide,
+            hi: 0
+        })
+    );
+}
+
+/// A root of nanoseconds, on it a clock of 90,000 ticks a second, and on that
+/// one of 25 frames a second.
+fn forest(rt: &impl Abort, alloc: Global) -> Result<Tree, Fail> {
+    let mut tree = Tree::new(alloc);
+    let root = tree.add_root(rate(rt, 1, 1_000_000_000))?;
+    let ticks = tree.add(root, rate(rt, 1, 90_000), 1, 0, 0)?;
+    let frames = tree.add(ticks, rate(rt, 1, 25), 1, 0, 100)?;
+    assert_eq!(rt; (root, ticks, frames), (0, 1, 2));
+    Ok(tree)
+}
+
+#[test]
+fn clocks_of_a_forest_are_read(rt: HostRuntime) -> Result<(), Fail> {
+    let mut tree = forest(&rt, rt.alloc())?;
+    assert_eq!(rt; tree.value(2, 39_999_999), Ok(100));
+    assert_eq!(rt; tree.value(2, 40_000_000), Ok(101));
+    assert_eq!(rt; tree.value(2, 1_000_000_000), Ok(125));
+    assert_eq!(rt; tree.value(0, -7), Ok(-7));
+    assert_eq!(rt; tree.value(9, 0), Err(ClockFault::NoSuch(9)));
+    assert_eq!(rt; tree.set(1, -2, 1_000_000_000, 50), Ok(()));
+    assert_eq!(rt; tree.value(1, 1_000_000_001), Ok(49));
+    assert_eq!(rt; tree.value(2, 1_000_000_000), Ok(100));
+    assert_eq!(rt; tree.set_available(1, false), Ok(()));
+    assert_eq!(rt; tree.set_available(0, false), Ok(()));
+    assert_eq!(rt; tree.value(2, 0), Err(ClockFault::Unavailable(1)));
+    assert_eq!(rt; tree.set_available(1, true), Ok(()));
+    assert_eq!(rt; tree.value(2, 0), Err(ClockFault::Unavailable(0)));
+    Ok(())
+}
+
+#[test]
+fn ticks_are_to_fit(rt: HostRuntime) -> Result<(), Fail> {
+    let mut tree = Tree::new(rt.alloc());
+    let root = tree.add_root(rate(&rt, 1, 1))?;
+    let clock = tree.add(root, rate(&rt, 1, 1_000_000_000), 1, 0, 0)?;
+    let above = tree.add(clock, rate(&rt, 1, 1), 0, 0, 0)?;
+    assert_eq!(rt;
+        tree.value(clock, 9_000_000_000),
+        Ok(9_000_000_000_000_000_000)
+    );
+    assert_eq!(rt;
+        tree.value(clock, 10_000_000_000),
+        Err(ClockFault::Beyond(1))
+    );
+    assert_eq!(rt;
+        tree.value(above, 10_000_000_000),
+        Err(ClockFault::Beyond(1))
+    );
+    Ok(())
+}
+
+#[test]
+fn calls_of_a_forest_are_refused(rt: HostRuntime) -> Result<(), Fail> {
+    let mut tree = forest(&rt, rt.alloc())?;
+    let one = rate(&rt, 1, 1);
+    assert_eq!(rt; tree.set(0, 1, 0, 0), Err(ClockFault::IsRoot(0)));
+    assert_eq!(rt; tree.set(3, 1, 0, 0), Err(ClockFault::NoSuch(3)));
+    assert_eq!(rt; tree.set_available(3, true), Err(ClockFault::NoSuch(3)));
+    assert_eq!(rt; tree.add(3, one, 1, 0, 0), Err(ClockFault::NoSuch(3)));
+    let mut last = 2;
+    for _ in 0..14 {
+        last = tree.add(last, one, 1, 0, 0)?;
+    }
+    assert_eq!(rt; tree.add(last, one, 1, 0, 0), Err(ClockFault::Deep));
+    assert_eq!(rt; tree.value(last, 0), Ok(4));
+    for _ in 17..4096 {
+        tree.add_root(one)?;
+    }
+    assert_eq!(rt; tree.add_root(one), Err(ClockFault::Full));
+    assert_eq!(rt; tree.add(last, one, 1, 0, 0), Err(ClockFault::Full));
+    assert_eq!(rt; tree.add(4096, one, 1, 0, 0), Err(ClockFault::NoSuch(4096)));
+    Ok(())
+}
