@@ -1,6 +1,6 @@
 -- Forests as clocks are added and changed, and the clocks above a clock.
-use Rattle.std.proofs.Common.{◌≡◌, ℕ, ◌+◌, ◌<◌, ◌≤◌, ◌⊎◌, inl, inr, ◌∙◌, refl, sym, ap, subst, arith, suc, zero, List, [], ◌∷◌, ◌++◌, length}
-use Rattle.std.specs.Prelude.{Option, Some, None, Result, Ok, Err, Bool, true, false, if◌then◌else◌, slice_get, slice_set}
+use Rattle.std.proofs.Common.{◌≡◌, ℕ, ◌<◌, ◌⊎◌, inl, inr, ◌∙◌, refl, ap, subst, arith, suc, zero, List, [], ◌∷◌, ◌++◌, length}
+use Rattle.std.specs.Prelude.{Option, Some, None, Ok, Err, Bool, true, if◌then◌else◌, slice_get, slice_set}
 use Rattle.css_clock.specs.declared.node.Node.{Node}
 use Rattle.css_clock.specs.declared.node.Link.{Link}
 use Rattle.std.proofs.lemmas.Option.{slice_get_within}

@@ -1,6 +1,6 @@
 -- The span of a clock, by the span of its parent.
-use Rattle.std.proofs.Common.{◌≡◌, ℕ, ◌<◌, ◌↔◌, ◌∙◌, sym, ap, refl, subst, arith, true, false}
-use Rattle.std.specs.Prelude.{ℤ, pos, unsigned_abs, ◌+ℤ◌, ◌-ℤ◌, ◌*ℤ◌, int_lt, cond}
+use Rattle.std.proofs.Common.{◌≡◌, ◌↔◌, ◌∙◌, ap, refl, arith, true, false}
+use Rattle.std.specs.Prelude.{ℤ, pos, unsigned_abs, ◌+ℤ◌, int_lt, cond}
 use Rattle.std.specs.Int.{int_min, int_max}
 use Rattle.std.proofs.lemmas.Int.{ints, clamps}
 use Rattle.css_num.specs.Rates.{TickRate}

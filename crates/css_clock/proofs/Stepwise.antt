@@ -1,12 +1,12 @@
 -- What a clock reads by its parent, step by step.
-use Rattle.std.proofs.Common.{◌≡◌, ℕ, ◌∙◌, sym, ap, refl, Bool, true, false, List, ◌∷◌, []}
-use Rattle.std.specs.Prelude.{ℤ, pos, ◌+ℤ◌, ◌-ℤ◌, ◌*ℤ◌, unsigned_abs, Option, Some, None, Result, Ok, Err, if◌then◌else◌, ◌&&◌}
+use Rattle.std.proofs.Common.{◌≡◌, ℕ, ◌∙◌, sym, ap, refl, Bool, true, false, List}
+use Rattle.std.specs.Prelude.{ℤ, pos, ◌+ℤ◌, ◌-ℤ◌, ◌*ℤ◌, unsigned_abs, Some, None, Result, Ok, Err, if◌then◌else◌, ◌&&◌}
 use Rattle.css_num.specs.Division.{floor_div}
 use Rattle.css_clock.specs.Ticks.{factor_of, divisor_of}
 use Rattle.css_clock.specs.declared.fault.ClockFault.{ClockFault}
 use Rattle.css_clock.specs.declared.fault.ClockFault.TheVariants.{Beyond}
 use Rattle.css_clock.specs.declared.node.Gear.{Gear}
-use Rattle.css_clock.specs.Trees.{Clocks, IsForest, is_small, is_tick, gear_product, gear_value, gear_of, checked_value, checked_step, checked_down, then_with, parent_of, upwards, lineage}
+use Rattle.css_clock.specs.Trees.{Clocks, IsForest, is_small, is_tick, gear_product, gear_value, gear_of, checked_value, checked_step, checked_down, then_with, parent_of, lineage}
 use Rattle.css_clock.proofs.Forests.{lineage-up}
 
 -- what is there only under a test isn't there where the test fails

@@ -1,10 +1,10 @@
 -- How what a clock reads changes as its root rises.
-use Rattle.std.proofs.Common.{◌≡◌, ℕ, ◌+◌, ◌*◌, ◌/◌, ◌<◌, ◌≤◌, ◌⊎◌, inl, inr, refl, sym, ap, arith, suc, zero, true, false}
-use Rattle.std.specs.Prelude.{ℤ, pos, negsuc, ◌+ℤ◌, ◌-ℤ◌, ◌*ℤ◌, ◌≤ℤ◌, ◌<ℤ◌, unsigned_abs, cond, int_lt}
+use Rattle.std.proofs.Common.{◌≡◌, ℕ, ◌*◌, ◌⊎◌, inl, inr, refl, arith, suc, zero, true, false}
+use Rattle.std.specs.Prelude.{ℤ, pos, negsuc, ◌+ℤ◌, ◌-ℤ◌, ◌*ℤ◌, ◌≤ℤ◌, cond, int_lt}
 use Rattle.std.specs.Int.{int_min, int_max}
 use Rattle.std.proofs.lemmas.Int.{ints, clamps}
 use Rattle.std.proofs.Math.Nat.{div-zero}
-use borrow.Author.Differences.{up, down, product_is, same_in}
+use borrow.Author.Differences.{product_is}
 use Rattle.css_num.specs.Rates.{TickRate}
 use Rattle.css_num.specs.Division.{floor_div}
 use Rattle.css_num.specs.Spans.{Interval, Covers}

@@ -1,5 +1,5 @@
 -- A forest of clocks, numbered from 0 in the order in which they were added.
-use Rattle.std.specs.Prelude.{◌≡◌, ℕ, ◌+◌, ◌<◌, ◌≤◌, ◌^◌, ◌&&◌, ◌==◌, zero, suc, Bool, true, false, nat_lt, nat_le, if◌then◌else◌, List, [], ◌∷◌, ◌++◌, length, slice_get, slice_set, Option, Some, None, Result, Ok, Err, ⊤, ℤ, pos, negsuc, ◌≤ℤ◌, unsigned_abs, not, int_lt}
+use Rattle.std.specs.Prelude.{◌≡◌, ℕ, ◌<◌, ◌^◌, ◌&&◌, zero, suc, Bool, true, false, nat_lt, nat_le, if◌then◌else◌, List, [], ◌∷◌, ◌++◌, length, slice_get, slice_set, Option, Some, None, Result, Ok, Err, ⊤, ℤ, pos, negsuc, unsigned_abs, not, int_lt}
 use Rattle.css_num.specs.Rates.{TickRate, IsTickRate}
 use Rattle.css_clock.specs.Ticks.{Correlation, IsSpeed, product_of, child_value}
 use Rattle.css_clock.specs.declared.fault.ClockFault.{ClockFault}

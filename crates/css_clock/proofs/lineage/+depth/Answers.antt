@@ -1,6 +1,5 @@
 -- The parent comes before, and has one clock less above it.
-use Rattle.std.proofs.Common.{◌≡◌, ◌<◌, sym, ap, arith, length, Some}
-use Rattle.css_clock.specs.Trees.{parent_of}
+use Rattle.std.proofs.Common.{sym, ap, arith, length}
 use Rattle.css_clock.proofs.Forests.{parent-before, lineage-up}
 use Rattle.css_clock.proofs.lineage.+depth.Goals as goal
 

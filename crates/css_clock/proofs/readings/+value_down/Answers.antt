@@ -1,5 +1,5 @@
 -- The parent comes before, and what it reads is what the clocks above give.
-use Rattle.std.proofs.Common.{◌≡◌, ◌∙◌, sym, arith, rules}
+use Rattle.std.proofs.Common.{sym, arith, rules}
 use Rattle.css_clock.proofs.Forests.{parent-before}
 use Rattle.css_clock.proofs.Stepwise.{checked_down-up}
 use Rattle.css_clock.proofs.readings.+value_down.Goals as goal

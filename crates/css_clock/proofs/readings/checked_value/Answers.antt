@@ -1,7 +1,6 @@
 -- The two tests of the code are those of the definition.
-use Rattle.std.proofs.Common.{◌≡◌, rules}
-use Rattle.std.specs.Prelude.{ℤ}
-use Rattle.css_clock.proofs.Stepwise.{Steps, beyond-product, small-product, beyond-ticks, read-ticks}
+use Rattle.std.proofs.Common.{rules}
+use Rattle.css_clock.proofs.Stepwise.{beyond-product, small-product, beyond-ticks, read-ticks}
 use Rattle.css_clock.proofs.readings.checked_value.Goals as goal
 
 pub quotient-quotient-requires-clause-small : goal.quotient-quotient-requires-clause-small

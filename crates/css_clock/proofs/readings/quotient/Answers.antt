@@ -1,10 +1,8 @@
 -- The quotient of a small product is small.
-use Rattle.std.proofs.Common.{◌≡◌, ◌^◌, ◌<◌, ◌≤◌, arith, rules}
+use Rattle.std.proofs.Common.{◌^◌, ◌<◌, ◌≤◌, arith, rules}
 use Rattle.std.specs.Prelude.{unsigned_abs}
-use Rattle.std.proofs.lemmas.Int.{ints}
 use Rattle.std.proofs.lemmas.Bool.Decides.{nat_tests}
-use Rattle.css_num.specs.Division.{floor_div}
-use Rattle.css_clock.proofs.Near.{quotient-near, answer-near}
+use Rattle.css_clock.proofs.Near.{answer-near}
 use Rattle.css_clock.proofs.readings.quotient.Goals as goal
 
 pub returns-clause-near : goal.returns-clause-near

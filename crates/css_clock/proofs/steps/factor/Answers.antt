@@ -1,5 +1,5 @@
 -- A product of two parts and a speed is far below 2 ^ 127.
-use Rattle.std.proofs.Common.{arith, ◌^◌, ◌<◌, ◌≤◌, ◌*◌}
+use Rattle.std.proofs.Common.{arith, ◌^◌, ◌≤◌}
 use Rattle.std.specs.Prelude.{unsigned_abs, ℤ}
 use Rattle.std.proofs.lemmas.Int.{ints, fits_signed_mul}
 use mir.Syntax.{w128}

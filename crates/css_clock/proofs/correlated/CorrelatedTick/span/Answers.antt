@@ -1,8 +1,8 @@
 -- The image of the parent's span is the clock's.
 use Rattle.std.proofs.Common.{◌≡◌, rules, arith, ◌≤ℤ◌}
 use Rattle.std.proofs.lemmas.Int.{ints}
-use Rattle.css_num.specs.Spans.{Interval, ProductsFit}
-use Rattle.css_clock.specs.Ticks.{Correlation, HoldsOver, HoldsOn, product_of, child_value, span_of}
+use Rattle.css_num.specs.Spans.{ProductsFit}
+use Rattle.css_clock.specs.Ticks.{Correlation, child_value, span_of}
 use Rattle.css_clock.specs.Goes.{child_goes, IsSpanOf-answer}
 use Rattle.css_clock.proofs.Shapes.{holds-steps, span_of-steps}
 use Rattle.css_clock.proofs.correlated.CorrelatedTick.span.Goals as goal

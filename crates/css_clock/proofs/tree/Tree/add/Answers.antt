@@ -1,8 +1,8 @@
 -- The parent is known, so it comes before.
-use Rattle.std.proofs.Common.{◌≡◌, ◌∙◌, ap, ◌<◌, length, rules, subst, sym}
+use Rattle.std.proofs.Common.{◌≡◌, ◌<◌, length, rules, subst}
 use Rattle.std.specs.Prelude.{Ok}
 use Rattle.css_clock.specs.Ticks.{IsSpeed}
-use Rattle.css_clock.specs.Trees.{known, IsLink, Clocks}
+use Rattle.css_clock.specs.Trees.{known, Clocks}
 use mir.Syntax.{w32}
 use mir.Val.{to_z, of_z}
 use Rattle.css_clock.proofs.Forests.{known-within, same-link}

@@ -1,5 +1,5 @@
 -- One clock more, with a rate in range, is a forest.
-use Rattle.std.proofs.Common.{◌≡◌, sym, subst, length}
+use Rattle.std.proofs.Common.{sym, subst, length}
 use Rattle.css_clock.specs.declared.node.Node.{Node}
 use Rattle.css_clock.specs.Trees.{Clocks, IsClock, IsLink}
 use Rattle.css_clock.proofs.Forests.{IsForest-push}

@@ -1,8 +1,8 @@
 -- The clock keeps its parent, so the forest is one.
-use Rattle.std.proofs.Common.{◌≡◌, rules, arith, sym}
+use Rattle.std.proofs.Common.{◌≡◌, rules, arith}
 use Rattle.std.specs.Prelude.{Ok, Some}
 use Rattle.css_clock.specs.Ticks.{IsSpeed}
-use Rattle.css_clock.specs.Trees.{known, IsClock}
+use Rattle.css_clock.specs.Trees.{known}
 use mir.Syntax.{w32}
 use mir.Val.{to_z, of_z}
 use Rattle.css_clock.proofs.Forests.{known-get, same-link, IsForest-set}
