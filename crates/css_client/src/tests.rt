@@ -180,6 +180,9 @@ fn the_narrowest_of_two_answers_changes(rt: HostRuntime) -> Result<(), Fail> {
     Ok(())
 }
 
+/// Bytes that are too few for a datagram.
+const NO_DATAGRAM: &[u8] = b"a datagram has 32 bytes";
+
 /// Lands a datagram so often.
 fn land_often(client: &mut Client, bytes: &[u8], count: u32, reading: u64) -> Result<(), Memory>
     requires range { reading < 2 ^ 32 }
@@ -198,7 +201,7 @@ fn garbage_changes_nothing(rt: HostRuntime) -> Result<(), Fail> {
     let request = ask(&mut client, 1000);
     let answer = datagram(1, [1000, 5000, 5200], 0);
     assert_eq!(rt; land(&mut client, &answer, 1600)?, Landing::Accepted);
-    land_often(&mut client, &answer[..31], 40_000, 1700)?;
+    land_often(&mut client, NO_DATAGRAM, 40_000, 1700)?;
     land_often(&mut client, &request, 30_000, 1700)?;
     let unasked = datagram(2, [1001, 5000, 5200], 0);
     land_often(&mut client, &unasked, 30_000, 1700)?;
