@@ -107,6 +107,6 @@ fn faults_are_told_by_name(rt: HostRuntime) -> Result<(), Fail> {
     assert_eq!(rt; failed(), Err(OutFault::Failed));
     assert_eq!(rt; short_of_memory(), Err(OutFault::Memory));
     let told = format!(in rt.alloc(); "{}, {}", OutFault::Failed, OutFault::Memory)?;
-    assert_eq!(rt; told.as_str(), "the device failed, memory");
+    assert_eq!(rt; told.as_str(), "the device failed, out of memory");
     Ok(())
 }
