@@ -7,6 +7,8 @@ use Rattle.css_clock.specs.declared.fault.ClockFault.{ClockFault}
 use Rattle.css_clock.specs.declared.fault.ClockFault.TheVariants.{Beyond}
 use Rattle.css_clock.specs.declared.node.Gear.{Gear}
 use Rattle.css_clock.specs.Trees.{Clocks, IsForest, is_small, is_tick, gear_product, gear_value, gear_of, checked_value, checked_step, checked_down, then_with, parent_of, lineage}
+use Rattle.css_num.specs.Spans.{Interval}
+use Rattle.css_clock.specs.Conversions.{magnitude_of, scaled_span, turned, outward_by, outward}
 use Rattle.css_clock.proofs.Forests.{lineage-up}
 
 -- what is there only under a test isn't there where the test fails
@@ -88,3 +90,10 @@ read-ticks id gear value since factor found divisor quotient ticks told steps h 
 pub checked_down-up : (clocks : Clocks) (id p : ℕ) (root : ℤ) → IsForest clocks → parent_of clocks id ≡ Some p
     → checked_down clocks (lineage clocks id) root ≡ then_with (checked_down clocks (lineage clocks p) root) (checked_step id (gear_of clocks id))
 checked_down-up clocks id p root forest e = ap (λ (path : List ℕ). checked_down clocks path root) (lineage-up clocks id p forest e)
+
+-- the steps of the code give the outward span
+pub outward-steps : (gear : Gear) (span scaled of answer : Interval) (divisor magnitude : ℤ)
+    → divisor ≡ pos (divisor_of gear.rate gear.parent_rate) → magnitude ≡ pos (magnitude_of gear.rate gear.parent_rate gear.link.speed)
+    → scaled ≡ scaled_span span gear.link.child_ticks divisor → of ≡ turned gear.link.speed scaled
+    → answer ≡ outward_by of (unsigned_abs magnitude) gear.link.parent_ticks → answer ≡ outward gear span
+outward-steps gear span scaled of answer divisor magnitude d m s t e = rw (e, t, s, d, m) refl

@@ -24,7 +24,7 @@ floor_div-keeps (negsuc a) (negsuc b) zero h = omega (arith, ints, div-zero a, d
 floor_div-keeps x y (suc d) h = floor_div-mono x y (suc d) (omega arith) h
 
 -- a factor that isn't below zero keeps the order
-times_nonneg-mono : (x y k : ℤ) → pos 0 ≤ℤ k → x ≤ℤ y → (x *ℤ k) ≤ℤ (y *ℤ k)
+pub times_nonneg-mono : (x y k : ℤ) → pos 0 ≤ℤ k → x ≤ℤ y → (x *ℤ k) ≤ℤ (y *ℤ k)
 times_nonneg-mono x y (pos n) p h = times_pos-mono x y n h
 times_nonneg-mono x y (negsuc n) p h = absurd (omega (arith, ints))
 
@@ -50,7 +50,7 @@ scaled_nonpos n (pos (suc s)) p = absurd (omega (arith, ints))
 scaled_nonpos n (negsuc s) p = omega (arith, ints, product_is (pos n) (negsuc s))
 
 -- where the factor isn't below zero, the child goes the way of its parent
-child-along : (rate parent_rate : TickRate) (correlation : Correlation) (x y : ℤ) → pos 0 ≤ℤ correlation.speed → x ≤ℤ y
+pub child-along : (rate parent_rate : TickRate) (correlation : Correlation) (x y : ℤ) → pos 0 ≤ℤ correlation.speed → x ≤ℤ y
     → child_value rate parent_rate correlation x ≤ℤ child_value rate parent_rate correlation y
 child-along rate parent_rate correlation x y p h =
     let factor = factor_of rate parent_rate correlation.speed in
@@ -61,7 +61,7 @@ child-along rate parent_rate correlation x y p h =
     plus_left-mono correlation.child_ticks _ _ quotients
 
 -- where it isn't above zero, the child goes against its parent
-child-against : (rate parent_rate : TickRate) (correlation : Correlation) (x y : ℤ) → correlation.speed ≤ℤ pos 0 → x ≤ℤ y
+pub child-against : (rate parent_rate : TickRate) (correlation : Correlation) (x y : ℤ) → correlation.speed ≤ℤ pos 0 → x ≤ℤ y
     → child_value rate parent_rate correlation y ≤ℤ child_value rate parent_rate correlation x
 child-against rate parent_rate correlation x y p h =
     let negative : factor_of rate parent_rate correlation.speed ≤ℤ pos 0 = scaled_nonpos (rate.units_per_second * parent_rate.units_per_tick) correlation.speed p in
@@ -106,11 +106,11 @@ child_goes rate parent_rate correlation speeds value parent =
     }
 
 -- what lies between two numbers, in this order or the other, lies between the lesser and the greater
-between : (first number last : ℤ) → first ≤ℤ number → number ≤ℤ last → Covers (record { lo = int_min first last; hi = int_max first last }) number
+pub between : (first number last : ℤ) → first ≤ℤ number → number ≤ℤ last → Covers (record { lo = int_min first last; hi = int_max first last }) number
 between first number last p q = record { low = omega (arith, ints, clamps); high = omega (arith, ints, clamps) }
 
 -- the same where the first number is the greater
-between_back : (first number last : ℤ) → last ≤ℤ number → number ≤ℤ first → Covers (record { lo = int_min first last; hi = int_max first last }) number
+pub between_back : (first number last : ℤ) → last ≤ℤ number → number ≤ℤ first → Covers (record { lo = int_min first last; hi = int_max first last }) number
 between_back first number last p q = record { low = omega (arith, ints, clamps); high = omega (arith, ints, clamps) }
 
 -- the lesser of two numbers is one of them
@@ -128,7 +128,7 @@ reached value root end ordered (inl e) = (root.lo, record { low = omega (arith, 
 reached value root end ordered (inr e) = (root.hi, record { low = ordered; high = omega (arith, ints) }, e)
 
 -- one of two ways
-one_way : (speeds : ℤ) → (pos 0 ≤ℤ speeds) ⊎ (speeds ≤ℤ pos 0)
+pub one_way : (speeds : ℤ) → (pos 0 ≤ℤ speeds) ⊎ (speeds ≤ℤ pos 0)
 one_way (pos n) = inl (omega (arith, ints))
 one_way (negsuc n) = inr (omega (arith, ints))
 

@@ -1,3 +1,4 @@
+pub mod Conversions
 pub mod Goes
 pub mod Ticks
 pub mod Trees

@@ -90,11 +90,11 @@ abbrev pub not_deep : Clocks → ℕ → Result ⊤ ClockFault
 not_deep clocks parent = if nat_le (length (lineage clocks parent)) 16 then Ok tt else Err Deep
 
 -- a root joins the forest
-abbrev pub with_root : Clocks → TickRate → Result Clocks ClockFault
+unfoldable pub with_root : Clocks → TickRate → Result Clocks ClockFault
 with_root clocks rate = then_with (not_full clocks) (λ _. Ok (with_clock clocks rate None))
 
 -- a clock joins the forest, and goes by its parent
-abbrev pub with_child : Clocks → TickRate → Link → Result Clocks ClockFault
+unfoldable pub with_child : Clocks → TickRate → Link → Result Clocks ClockFault
 with_child clocks rate link =
     then_with (known clocks link.parent) (λ _.
     then_with (not_full clocks) (λ _.
@@ -156,7 +156,7 @@ checked_down clocks [] value = Ok value
 checked_down clocks (id ∷ above) value = then_with (checked_down clocks above value) (checked_step id (gear_of clocks id))
 
 -- what a clock reads at a value of its root
-abbrev pub value_of : Clocks → ℕ → ℤ → Result ℤ ClockFault
+unfoldable pub value_of : Clocks → ℕ → ℤ → Result ℤ ClockFault
 value_of clocks id root =
     then_with (known clocks id) (λ _.
     then_with (all_available clocks (lineage clocks id)) (λ _.
@@ -169,9 +169,9 @@ relinked clocks id correlation node (Some link) =
     Ok (slice_set clocks id (record node { link = Some (record { parent = link.parent; speed = correlation.speed; parent_ticks = correlation.parent_ticks; child_ticks = correlation.child_ticks }) }))
 
 -- the forest where one clock has another correlation
-abbrev pub with_correlation : Clocks → ℕ → Correlation → Result Clocks ClockFault
+unfoldable pub with_correlation : Clocks → ℕ → Correlation → Result Clocks ClockFault
 with_correlation clocks id correlation = then_with (known clocks id) (λ node. relinked clocks id correlation node node.link)
 
 -- the forest where one clock is available or isn't
-abbrev pub with_available : Clocks → ℕ → Bool → Result Clocks ClockFault
+unfoldable pub with_available : Clocks → ℕ → Bool → Result Clocks ClockFault
 with_available clocks id available = then_with (known clocks id) (λ node. Ok (slice_set clocks id (record node { available = available })))

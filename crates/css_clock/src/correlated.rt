@@ -6,7 +6,8 @@ use css_num::{Rate, Span, fits};
 
 /// A clock that goes by a parent clock: where the parent reads `parent_ticks`
 /// it reads `child_ticks`, and from there it goes at `speed` times its tick
-/// rate, each tick rounded down.
+/// rate, each tick rounded down. So does the correlated clock of companion
+/// screen libraries, by its parent, tick rate, speed and correlation.
 ///
 /// A speed is whole, -64 to 64: 0 where the clock is stopped, below 0 where it
 /// goes backward.

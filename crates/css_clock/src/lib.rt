@@ -3,10 +3,13 @@
 //! correlation with its parent.
 #![tactic(auto)]
 
+mod conversion;
 mod correlated;
 mod fault;
+pub mod laws;
 mod lineage;
 mod node;
+mod outward;
 mod readings;
 mod steps;
 mod tick;
@@ -17,5 +20,7 @@ pub use fault::ClockFault;
 pub use tick::{Root, Tick};
 pub use tree::Tree;
 
+#[cfg(test)]
+mod conversion_tests;
 #[cfg(test)]
 mod tests;

@@ -31,7 +31,7 @@ pub(crate) fn parent(nodes: &[Node], id: u32) -> Option<u32>
 }
 
 /// Whether a clock is available.
-fn is_available(nodes: &[Node], id: u32) -> bool
+pub(crate) fn is_available(nodes: &[Node], id: u32) -> bool
     ensures { result ≡ trees.is_available nodes.now id }
 {
     match find(nodes, id) {

@@ -23,14 +23,21 @@ fn small_product(number: i128, factor: i128) -> Option<i128>
     }
 }
 
+/// Whether the ticks fit an `i64`.
+pub(crate) fn is_tick(ticks: i128) -> bool
+    ensures { result ≡ trees.is_tick ticks }
+{
+    i128::from(i64::MIN) <= ticks && ticks <= i128::from(i64::MAX)
+}
+
 /// The ticks, where they fit.
 fn tick(ticks: i128) -> Option<i64>
     ensures { result ≡ (if trees.is_tick ticks then Some ticks else None) }
 {
-    if ticks < i128::from(i64::MIN) || i128::from(i64::MAX) < ticks {
-        None
-    } else {
+    if is_tick(ticks) {
         Some(ticks as i64)
+    } else {
+        None
     }
 }
 
@@ -63,7 +70,7 @@ fn checked_value(id: u32, gear: Gear, value: i64) -> Result<i64, ClockFault>
 }
 
 /// What a clock reads where its parent, or itself as a root, reads `value`.
-fn checked_step(nodes: &[Node], id: u32, value: i64) -> Result<i64, ClockFault>
+pub(crate) fn checked_step(nodes: &[Node], id: u32, value: i64) -> Result<i64, ClockFault>
     ensures { result ≡ trees.checked_step id (trees.gear_of nodes.now id) value }
 {
     match gear(nodes, id) {

@@ -1,6 +1,7 @@
-ghost use Rattle.std.specs.Prelude.{◌≡◌, ◌≤◌, ◌<◌, ◌+◌, ◌*◌, ◌^◌, pos, ◌<ℤ◌, ◌-ℤ◌, ◌+ℤ◌, unsigned_abs};
+ghost use Rattle.std.specs.Prelude.{◌≡◌, ◌≢◌, ◌≤◌, ◌<◌, ◌+◌, ◌*◌, ◌^◌, pos, ◌<ℤ◌, ◌-ℤ◌, ◌+ℤ◌, unsigned_abs};
 ghost use Rattle.css_num.specs.Spans.{ProductsFit, image_of};
 ghost use Rattle.css_clock.specs.Ticks as ticks;
+ghost use Rattle.css_clock.specs.Conversions.{magnitude_of};
 
 use css_num::{Rate, Span, image};
 
@@ -16,6 +17,16 @@ pub(crate) fn factor(rate: Rate, parent: Rate, speed: i32) -> i128
     ensures { result ≡ ticks.factor_of rate parent speed }
 {
     i128::from(parts(rate.units_per_second, parent.units_per_tick)) * i128::from(speed)
+}
+
+/// The absolute value of the factor.
+pub(crate) fn magnitude(rate: Rate, parent: Rate, speed: i32) -> i128
+    requires { speed ≢ pos 0 }
+    ensures value { result ≡ pos (magnitude_of rate parent speed) }
+    ensures positive { pos 0 <ℤ result }
+{
+    let units = parts(rate.units_per_second, parent.units_per_tick);
+    i128::from(units) * i128::from(speed.unsigned_abs())
 }
 
 /// What the product is divided by.

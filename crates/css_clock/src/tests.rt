@@ -4,7 +4,7 @@ use std::alloc::Global;
 use std::process::Abort;
 use std::test::Fail;
 
-fn rate(rt: &impl Abort, units_per_tick: u32, units_per_second: u32) -> Rate {
+pub(crate) fn rate(rt: &impl Abort, units_per_tick: u32, units_per_second: u32) -> Rate {
     Rate::of(units_per_tick, units_per_second).expect(rt, "no rate")
 }
 
@@ -96,7 +96,7 @@ fn products_are_to_be_small(rt: HostRuntime) {
 
 /// A root of nanoseconds, on it a clock of 90,000 ticks a second, and on that
 /// one of 25 frames a second.
-fn forest(rt: &impl Abort, alloc: Global) -> Result<Tree, Fail> {
+pub(crate) fn forest(rt: &impl Abort, alloc: Global) -> Result<Tree, Fail> {
     let mut tree = Tree::new(alloc);
     let root = tree.add_root(rate(rt, 1, 1_000_000_000))?;
     let ticks = tree.add(root, rate(rt, 1, 90_000), 1, 0, 0)?;
@@ -165,5 +165,31 @@ fn calls_of_a_forest_are_refused(rt: HostRuntime) -> Result<(), Fail> {
     assert_eq!(rt; tree.add_root(one), Err(ClockFault::Full));
     assert_eq!(rt; tree.add(last, one, 1, 0, 0), Err(ClockFault::Full));
     assert_eq!(rt; tree.add(4096, one, 1, 0, 0), Err(ClockFault::NoSuch(4096)));
+    Ok(())
+}
+
+#[test]
+fn faults_have_a_text(rt: HostRuntime) -> Result<(), Fail> {
+    let rows: [(ClockFault, &str); 9] = [
+        (ClockFault::NoSuch(7), "there is no clock 7"),
+        (ClockFault::Full, "there are 4096 clocks"),
+        (
+            ClockFault::Deep,
+            "the clock would have more than 16 clocks above it",
+        ),
+        (ClockFault::Unavailable(7), "clock 7 isn't available"),
+        (ClockFault::Stopped(7), "clock 7 is stopped"),
+        (ClockFault::NoCommon, "the two clocks have different roots"),
+        (
+            ClockFault::Beyond(7),
+            "the ticks of clock 7 are out of range",
+        ),
+        (ClockFault::IsRoot(7), "clock 7 is a root"),
+        (ClockFault::Memory, "out of memory"),
+    ];
+    for (fault, text) in rows {
+        let told = format!(in rt.alloc(); "{fault}")?;
+        assert_eq!(rt; told.as_str(), text);
+    }
     Ok(())
 }

@@ -6,6 +6,10 @@ ghost use Rattle.css_clock.specs.Goes.{root_goes};
 use css_num::{Rate, Span};
 
 /// A clock, by the values of the root clock that it stands on.
+///
+/// It is a clock object as companion screen libraries document it, with a tick
+/// rate and a conversion from root ticks, but its ticks are whole and it tells
+/// spans beside points.
 pub trait Tick {
     /// The clock's tick rate.
     ghost rate_of: { Self → TickRate };
@@ -29,7 +33,8 @@ pub trait Tick {
     fn holds(&self, root: Span) -> bool
         ensures { IsTrue result ↔ ticks.HoldsOver (holds_at self.now) root };
 
-    /// What the clock reads, in its ticks, at a value of the root.
+    /// What the clock reads, in its ticks, at a value of the root: a library's
+    /// conversion from root ticks, rounded down.
     fn value(&self, root: i128) -> i128
         requires { holds_at self.now root }
         ensures value { result ≡ value_at self.now root }
