@@ -1,10 +1,10 @@
 -- A datagram that lands.
-use Rattle.std.proofs.Common.{◌≡◌, ◌≢◌, ℕ, ◌<◌, ◌≤◌, arith, ap, sym, ◌∙◌, subst, Bool, true, false, cond, ◌&&◌, inl, inr, List, ◌∷◌, ◌++◌, refl}
-use Rattle.std.specs.Prelude.{Option, Some, None, IfSome, Result, Ok, Err, ◌==◌, not, int_lt, pos, is_some, unwrap_or, ⊤}
+use Rattle.std.proofs.Common.{◌≡◌, ◌≢◌, ℕ, ◌<◌, ◌≤◌, arith, ap, sym, ◌∙◌, subst, Bool, true, false, cond, inl, inr, List, ◌∷◌, ◌++◌, refl}
+use Rattle.std.specs.Prelude.{Option, Some, None, IfSome, Result, Ok, Err, ◌==◌, not, int_lt, pos, unwrap_or, ⊤}
 use Rattle.std.specs.List.{list_any}
 use Rattle.std.specs.Option.{option_or, option_map, option_and_then, option_to_list}
 use Rattle.std.specs.Result.{result_ok}
-use Rattle.std.proofs.lemmas.Bool.{and_parts}
+use Rattle.std.proofs.lemmas.Bool.Decides.{eqb_tells}
 use Rattle.std.proofs.lemmas.Option.{MatchOption-at_some}
 use Rattle.css_model.specs.declared.Stamp.{Stamp}
 use Rattle.css_model.specs.declared.Message.{Message}
@@ -16,18 +16,18 @@ use Rattle.css_model.specs.Wire.{stamp_of, reading_of, is_same_stamp, decoded}
 use Rattle.css_model.specs.World.{World, Errors, IsWorldFor}
 use Rattle.css_model.specs.History.{Clock, Took, History, sleeps, asking_at, is_asked, LandedAnswer, landed_answer, landed_answers, is_promise_of, first_promised_at, times_of, is_possible, possible_answers}
 use Rattle.css_model.specs.Explains.{IsLawful, HappensIn, IsTruthful, IsAccepted}
-use Rattle.css_model.proofs.Lately.{is_same_stamp-true}
 use Rattle.css_model.proofs.Wall.{truth_is_accepted}
 use Rattle.css_span.specs.Frontiers as frontiers
 use Rattle.css_span.specs.Frontiers.{Frontier, Accepts}
 use Rattle.css_client.specs.declared.promises.Promise.{Promise}
 use Rattle.css_client.specs.declared.landing.Landing.{Landing}
 use Rattle.css_client.specs.declared.landing.Landing.TheVariants as landings
-use Rattle.css_client.specs.Clients.{Client, local_of, is_promise, first_landed, with_promise, answer_of, promises_after}
+use Rattle.css_client.specs.Clients.{Client, local_of, first_landed, answer_of, Remembers}
 use Rattle.css_client.specs.Landings.{verdict, landing_of, landing_of_decoded}
 use Rattle.css_client.specs.Standing.{StandsFor, IsBelow, IsCurrent}
 use Rattle.css_client.proofs.Rings.{list_any-map}
 use Rattle.css_client.proofs.Aside.{each_weaker, stands_aside}
+use Rattle.css_client.proofs.Forgetting.{remembers_after, never_fall-later}
 
 -- whether an answer may come, by what the client knows
 pub asked_by_client : (client : Client) (history : History) (originate : Stamp) → StandsFor client history
@@ -43,6 +43,7 @@ pub unasked-none : (peer reading : ℕ) (bytes : List ℕ) (history : History) (
     → landed_answer (Clock why.Land reading) (Took peer bytes ∷ history) ≡ None
 unasked-none peer reading bytes history message e f g = rw (e, f, g) refl
 
+-- and is told so
 pub unasked-landing : (own : Local) (reading : ℕ) (bytes : List ℕ) (history : History) (message : Message) → decoded bytes ≡ Ok message
     → (message.message_type == 0) ≡ false → is_asked message.originate history ≡ false
     → landing_of own history reading bytes ≡ landings.Unasked
@@ -54,6 +55,7 @@ pub stands_taken : (client : Client) (history : History) (peer : ℕ) (bytes : L
 stands_taken client history peer bytes stands =
     stands_aside client history (Took peer bytes) stands (record { awake = refl; asks_none = refl; sends_none = refl; lands_none = refl })
 
+-- where nothing lands, the client stands for the history as it is
 pub stands_refused : (client : Client) (history : History) (peer reading : ℕ) (bytes : List ℕ) → StandsFor client history
     → landed_answer (Clock why.Land reading) (Took peer bytes ∷ history) ≡ None
     → StandsFor client (Clock why.Land reading ∷ Took peer bytes ∷ history)
@@ -82,6 +84,7 @@ same_times client history reading message stands g =
     } in
     ap of_first (stands.promises message (inl g))
 
+-- what becomes of an answer to a request that is asked, by what the client remembers
 pub asked-landing : (client : Client) (history : History) (reading : ℕ) (bytes : List ℕ) (message : Message) → StandsFor client history
     → decoded bytes ≡ Ok message → (message.message_type == 0) ≡ false → is_asked message.originate history ≡ true
     → landing_of (local_of client) history reading bytes ≡ verdict (local_of client) reading (answer_of client.promises reading message)
@@ -91,52 +94,19 @@ asked-landing client history reading bytes message stands e f g =
     of_message : landing_of (local_of client) history reading bytes ≡ verdict (local_of client) reading (times_of (record { message = message; reading = reading }) (landed_answers history))
     of_message = rw (e, f, g) refl
 
--- a promise, with one more
-first_landed-with : (originate receive : Stamp) (promise : Promise) (older : List Promise)
-    → first_landed originate receive (with_promise promise older)
-    ≡ option_or (first_landed originate receive older) (cond (is_promise originate receive promise) (Some promise.landed) None)
-first_landed-with o r p older = by (first_landed p.originate p.receive older) refl
-  where
-    none_too : (x : Option ℕ) → x ≡ option_or x None
-    none_too None = refl
-    none_too (Some y) = refl
-
-    known : (x : ℕ) → first_landed p.originate p.receive older ≡ Some x → is_promise o r p ≡ true → first_landed o r older ≡ Some x
-    known x e q =
-        let parts = and_parts (is_same_stamp p.originate o) (is_same_stamp p.receive r) q in
-        ap (λ (s : Stamp). first_landed s r older) (sym (is_same_stamp-true p.originate o parts.0))
-        ∙ ap (λ (s : Stamp). first_landed p.originate s older) (sym (is_same_stamp-true p.receive r parts.1)) ∙ e
-
-    kept : (x : ℕ) → first_landed p.originate p.receive older ≡ Some x → (t : Bool) → is_promise o r p ≡ t
-        → first_landed o r older ≡ option_or (first_landed o r older) (cond t (Some p.landed) None)
-    kept x e false q = none_too (first_landed o r older)
-    kept x e true q = rw (known x e q) refl
-
-    by : (first : Option ℕ) → first_landed p.originate p.receive older ≡ first
-        → first_landed o r (cond (is_some first) older (p ∷ older))
-        ≡ option_or (first_landed o r older) (cond (is_promise o r p) (Some p.landed) None)
-    by None e = refl
-    by (Some x) e = kept x e (is_promise o r p) refl
-
 -- what is known of promises after a landing
-first_landed-after : (follow_up message : Message) (reading : ℕ) (promises : List Promise)
-    → first_landed follow_up.originate follow_up.receive (promises_after promises reading message)
-    ≡ option_or (first_landed follow_up.originate follow_up.receive promises)
+first_landed-after : (follow_up message : Message) (reading : ℕ) (old new : List Promise) → Remembers reading message old new
+    → first_landed follow_up.originate follow_up.receive new
+    ≡ option_or (first_landed follow_up.originate follow_up.receive old)
     (cond (is_promise_of (record { message = message; reading = reading }) follow_up) (Some reading) None)
-first_landed-after m message reading promises = by (message.message_type == 2)
+first_landed-after m message reading old new remembers = elim (eqb_tells message.message_type 2) [
+  | inl same ↦ rw same.0 ((remembers.0 same.1).values m.originate m.receive)
+  | inr other ↦ rw other.0 (ap (λ (ps : List Promise). first_landed m.originate m.receive ps) (remembers.1 other.1) ∙ none_too (first_landed m.originate m.receive old))
+]
   where
-    new : Promise
-    new = record { originate = message.originate; receive = message.receive; landed = reading }
-
     none_too : (x : Option ℕ) → x ≡ option_or x None
     none_too None = refl
     none_too (Some y) = refl
-
-    by : (t : Bool) → first_landed m.originate m.receive (cond t (with_promise new promises) promises)
-        ≡ option_or (first_landed m.originate m.receive promises)
-        (cond (t && (is_same_stamp message.originate m.originate && is_same_stamp message.receive m.receive)) (Some reading) None)
-    by true = first_landed-with m.originate m.receive new promises
-    by false = none_too (first_landed m.originate m.receive promises)
 
 -- the client after an answer landed
 abbrev pub after_landing : Client → ℕ → List Promise → Frontier → Client
@@ -169,16 +139,18 @@ estimate_landed own reading message older old new landing local stands is accept
         let a = accepted e in
         (a.local ∙ local, a.stands (possible_answers own older) stands)
 
+-- the client after an answer landed stands for the history with it
 pub stands_landed : (client : Client) (history : History) (peer reading : ℕ) (bytes : List ℕ) (message : Message)
-    (estimate : Frontier) (landing : Landing)
+    (promises : List Promise) (estimate : Frontier) (landing : Landing)
     → StandsFor client history → client.floor ≤ reading
     → decoded bytes ≡ Ok message → (message.message_type == 0) ≡ false → is_asked message.originate history ≡ true
     → landing ≡ verdict (local_of client) reading (answer_of client.promises reading message)
     → (landing ≡ landings.Accepted → Accepts client.estimate estimate (answer_of client.promises reading message) reading)
     → (landing ≢ landings.Accepted → estimate ≡ client.estimate)
-    → StandsFor (after_landing client reading (promises_after client.promises reading message) estimate)
+    → Remembers reading message client.promises promises
+    → StandsFor (after_landing client reading promises estimate)
     (Clock why.Land reading ∷ Took peer bytes ∷ history)
-stands_landed client history peer reading bytes message estimate landing stands less e f g is accepted refused =
+stands_landed client history peer reading bytes message promises estimate landing stands less e f g is accepted refused remembers =
     let own = local_of client in
     let times = same_times client history reading message stands g in
     let is_landed : landed_answers (Clock why.Land reading ∷ Took peer bytes ∷ history) ≡ record { message = message; reading = reading } ∷ landed_answers history =
@@ -190,10 +162,12 @@ stands_landed client history peer reading bytes message estimate landing stands 
       lawful = record { rises = (tt, (tt, stands.lawful.rises)); asks = (tt, (tt, stands.lawful.asks)) };
       asked = stands.asked;
       promises = λ follow_up current.
-          first_landed-after follow_up message reading client.promises
+          first_landed-after follow_up message reading client.promises promises remembers
           ∙ ap (λ (o : Option ℕ). option_or o (cond (is_promise_of (record { message = message; reading = reading }) follow_up) (Some reading) None))
           (stands.promises follow_up (before follow_up.originate current))
           ∙ ap (λ (ls : List LandedAnswer). first_promised_at follow_up ls) (sym is_landed);
+      only = remembers_after client.asked client.promises promises reading message (sym (asked_by_client client history message.originate stands) ∙ g) remembers stands.only;
+      rising = never_fall-later client.floor reading client.asked less stands.rising;
       estimate =
           subst (λ (ls : List LandedAnswer). frontiers.StandsFor estimate (possible_answers estimate.local ls)) (sym is_landed)
           (subst (λ (l : Local). frontiers.StandsFor estimate (possible_answers l (record { message = message; reading = reading } ∷ landed_answers history))) (sym new.0) new.1);
@@ -202,7 +176,7 @@ stands_landed client history peer reading bytes message estimate landing stands 
         (
           tt,
           each_weaker (IsBelow client (sleeps history))
-              (IsBelow (after_landing client reading (promises_after client.promises reading message) estimate) (sleeps history))
+              (IsBelow (after_landing client reading promises estimate) (sleeps history))
               (λ earlier older below. raised (asking_at earlier) (sleeps older) below) history stands.below,
         ),
       );
@@ -254,6 +228,7 @@ accepted-possible own landed older = by (int_lt (scaled_width own (times_of land
     by true e = absurd (cc)
     by false e = refl
 
+-- so a truthful answer is accepted by every client that stands for the history
 pub truth_lands : (client : Client) (history : History) (peer reading : ℕ) (bytes : List ℕ) (errors : Errors) (world : World) (who : ℕ) (moment_of : ℕ → ℕ) (landed : LandedAnswer)
     → StandsFor client history → IsWorldFor errors world who (local_of client)
     → HappensIn world who (local_of client) (Clock why.Land reading ∷ Took peer bytes ∷ history) moment_of

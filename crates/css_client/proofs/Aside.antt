@@ -26,14 +26,17 @@ pub each_weaker : (P Q : Entry → History → Type 0) → ((entry : Entry) (old
 each_weaker P Q f [] h = tt
 each_weaker P Q f (entry ∷ older) h = (f entry older h.0, each_weaker P Q f older h.1)
 
+-- an entry that is no request leaves the requests
 requests-aside : (entry : Entry) (older : History) → is_sleep entry ≡ false → request_by entry ≡ None
     → requests (entry ∷ older) ≡ requests older
 requests-aside entry older e f = rw (e, f) refl
 
+-- and one with which no answer lands leaves the answers
 pub landed-aside : (entry : Entry) (older : History) → is_sleep entry ≡ false → landed_answer entry older ≡ None
     → landed_answers (entry ∷ older) ≡ landed_answers older
 landed-aside entry older e f = rw (e, f) refl
 
+-- so the client stands for the history with such an entry too
 pub stands_aside : StandsAside
 stands_aside client history entry stands a =
     let same_requests : requests (entry ∷ history) ≡ requests history = requests-aside entry history a.awake a.sends_none in
@@ -48,6 +51,8 @@ stands_aside client history entry stands a =
           stands.promises follow_up
           (subst (λ (rs : List Stamp). IsTrue (list_any (λ asked. is_same_stamp asked follow_up.originate) (take 64 rs)) ⊎ (client.floor ≤ reading_of follow_up.originate)) same_requests current)
           ∙ ap (λ (ls : List LandedAnswer). first_promised_at follow_up ls) (sym same_landed);
+      only = stands.only;
+      rising = stands.rising;
       estimate = subst (λ (ls : List LandedAnswer). frontiers.StandsFor client.estimate (possible_answers (local_of client) ls)) (sym same_landed) stands.estimate;
       below = (
         if_none (λ (asked : ℕ). (asked < client.after_sleep) × (sleeps history < sleeps (entry ∷ history) → asked < client.floor)) (asking_at entry) a.asks_none,

@@ -11,10 +11,11 @@ use Rattle.css_model.specs.Explains.{IsJustAsked}
 use Rattle.css_model.proofs.Lately.{is_same_stamp-true}
 use Rattle.css_model.proofs.Requests.{reading_of-stamp_of}
 use Rattle.css_client.specs.declared.promises.Promise.{Promise}
-use Rattle.css_client.specs.Clients.{Client, RemembersAll}
+use Rattle.css_client.specs.Clients.{Client, NeverFall, RemembersAll, RemembersOnly}
 use Rattle.css_client.specs.Standing.{StandsFor, IsBelow}
 use Rattle.css_client.proofs.Rings.{take-cons_take, take-map, list_any-map}
 use Rattle.css_client.proofs.Aside.{if_at, each_weaker}
+use Rattle.css_client.proofs.Forgetting.{never_fall-later, never_fall-ring}
 
 -- the request that was sent
 request-sent : (peer reading : ℕ) (bytes : List ℕ) → decoded bytes ≡ Ok (request_at reading) → request_by (Sent peer bytes) ≡ Some (stamp_of reading)
@@ -71,12 +72,15 @@ after_request client reading promises = record {
   after_sleep = reading + 1;
 }
 
+-- the client after a request stands for the history with it
 pub stands_asked : (client : Client) (history : History) (peer reading : ℕ) (bytes : List ℕ) (promises : List Promise)
     → StandsFor client history → client.floor ≤ reading → client.after_sleep ≤ suc client.floor
     → decoded bytes ≡ Ok (request_at reading)
-    → RemembersAll reading (take 64 (reading ∷ client.asked)) client.promises promises
+    → (NeverFall (reading ∷ client.asked) → RemembersAll reading (take 64 (reading ∷ client.asked)) client.promises promises)
+    → (NeverFall (reading ∷ client.asked) → RemembersOnly client.asked client.promises → RemembersOnly (take 64 (reading ∷ client.asked)) promises)
     → StandsFor (after_request client reading promises) (Sent peer bytes ∷ Clock why.Ask reading ∷ history)
-stands_asked client history peer reading bytes promises stands less later sent remembers =
+stands_asked client history peer reading bytes promises stands less later sent remembers only =
+    let never_fall : NeverFall (reading ∷ client.asked) = never_fall-later client.floor reading client.asked less stands.rising in
     let is_request : request_by (Sent peer bytes) ≡ Some (stamp_of reading) = request-sent peer reading bytes sent in
     let same_requests : requests (Sent peer bytes ∷ Clock why.Ask reading ∷ history) ≡ stamp_of reading ∷ requests history = rw is_request refl in
     let asked : asked_originates (Sent peer bytes ∷ Clock why.Ask reading ∷ history) ≡ map stamp_of (take 64 (reading ∷ client.asked)) =
@@ -102,9 +106,11 @@ stands_asked client history peer reading bytes promises stands less later sent r
           let o = follow_up.originate in
           let by_reading : list_any (λ s. is_same_stamp s o) (asked_originates (Sent peer bytes ∷ Clock why.Ask reading ∷ history)) ≡ list_any (λ r. is_same_stamp (stamp_of r) o) (take 64 (reading ∷ client.asked)) =
           ap (λ (rs : List Stamp). list_any (λ s. is_same_stamp s o) rs) asked ∙ list_any-map (λ s. is_same_stamp s o) stamp_of (take 64 (reading ∷ client.asked)) in
-          remembers o follow_up.receive (subst (λ (t : Bool). IsTrue t ⊎ (reading ≤ reading_of o)) by_reading current)
+          remembers never_fall o follow_up.receive (subst (λ (t : Bool). IsTrue t ⊎ (reading ≤ reading_of o)) by_reading current)
           ∙ stands.promises follow_up (current_before client.floor reading 64 o (requests history) less
           (subst (λ (rs : List Stamp). IsTrue (list_any (λ s. is_same_stamp s o) (take 64 rs)) ⊎ (reading ≤ reading_of o)) same_requests current));
+      only = only never_fall stands.only;
+      rising = never_fall-ring 64 reading client.asked never_fall;
       estimate = stands.estimate;
       below = (
         tt,

@@ -1,5 +1,6 @@
 pub mod Rings
-pub mod Remembered
+pub mod Exchanges
+pub mod Forgetting
 pub mod Aside
 pub mod Asking
 pub mod Answering

@@ -1,7 +1,7 @@
 -- The last requests, as a ring has them and as a history has them.
 use Rattle.std.proofs.Common.{◌≡◌, ℕ, zero, suc, ◌-◌, ◌/◌, ◌%◌, ◌<◌, ◌≤◌, arith, ap, sym, ◌∙◌, Bool, true, false, ◌&&◌, ◌||◌, List, [], ◌∷◌, ◌++◌, length, take, drop, refl}
-use Rattle.std.specs.Prelude.{reverse, map, nat_lt, ◌==◌}
-use Rattle.std.specs.List.{list_any}
+use Rattle.std.specs.Prelude.{reverse, map, nat_lt, ◌==◌, slice_get, Option, Some, None}
+use Rattle.std.specs.List.{list_any, last_or}
 use Rattle.std.proofs.lemmas.Bool.{and_parts, eqb-true, eq-eqb, ltb-true, ltb-false, false≢true}
 use Rattle.std.proofs.lemmas.List.{reverse-append, length-reverse, take-append-drop, length-drop, take-append-le}
 use Rattle.std.proofs.lemmas.List.Sorted.{list_any-IsPermutation, IsPermutation-reverse}
@@ -17,6 +17,7 @@ take-take zero (x ∷ xs) = refl
 take-take (suc n) [] = refl
 take-take (suc n) (x ∷ xs) = ap (λ ys. x ∷ ys) (take-take n xs)
 
+-- the first n of the first n and one more
 take-fewer : {A : Type 0} (n : ℕ) (xs : List A) → take n (take (suc n) xs) ≡ take n xs
 take-fewer zero [] = refl
 take-fewer zero (x ∷ xs) = refl
@@ -28,6 +29,7 @@ pub take-cons_take : {A : Type 0} (n : ℕ) (x : A) (xs : List A) → take n (x 
 take-cons_take zero x xs = refl
 take-cons_take (suc n) x xs = ap (λ ys. x ∷ ys) (take-fewer n xs)
 
+-- the images of the first n
 pub take-map : {A B : Type 0} (f : A → B) (n : ℕ) (xs : List A) → take n (map f xs) ≡ map f (take n xs)
 take-map f zero [] = refl
 take-map f zero (x ∷ xs) = refl
@@ -64,6 +66,16 @@ reverse-drop xs n = by (nat_lt (length xs) n) refl
 pub newest_of_ring : (n x : ℕ) (xs : List ℕ) → reverse (keep_last n (xs ++ x ∷ [])) ≡ take n (x ∷ reverse xs)
 newest_of_ring n x xs = reverse-drop (xs ++ x ∷ []) n ∙ ap (λ (ys : List ℕ). take n ys) (reverse-append xs (x ∷ []))
 
+-- the last of a list that ends with it
+last_or-end : (o : Option ℕ) (xs : List ℕ) (x : ℕ) → last_or o (xs ++ x ∷ []) ≡ Some x
+last_or-end o [] x = refl
+last_or-end o (y ∷ ys) x = last_or-end (Some y) ys x
+
+-- the oldest of a ring stands at its front
+pub oldest_of_ring : (xs : List ℕ) → last_or None (reverse xs) ≡ slice_get xs 0
+oldest_of_ring [] = refl
+oldest_of_ring (x ∷ xs) = ap (λ (ys : List ℕ). last_or None ys) (reverse-append (x ∷ []) xs) ∙ last_or-end None (reverse xs) x
+
 -- ---- whether a request is among them
 -- a test finds the same in a list from behind
 pub list_any-reverse : {A : Type 0} (p : A → Bool) (xs : List A) → list_any p (reverse xs) ≡ list_any p xs
@@ -88,7 +100,7 @@ both true false p q = absurd (false≢true q)
 both false b p q = absurd (false≢true p)
 
 -- an originate value with nanoseconds below a second is that of a request where its reading is the request's
-same_originate : (originate : Stamp) (r : ℕ) → originate.nanoseconds < second
+pub same_originate : (originate : Stamp) (r : ℕ) → originate.nanoseconds < second
     → is_same_stamp (stamp_of r) originate ≡ (r == reading_of originate)
 same_originate o r h =
     same_test (is_same_stamp (stamp_of r) o) (r == reading_of o)
@@ -109,11 +121,13 @@ no_originate o r h =
     absurd (omega arith))
     (λ e. absurd (false≢true e))
 
+-- such an originate value is among the requests where its reading is
 pub found_by_reading : (originate : Stamp) (xs : List ℕ) → originate.nanoseconds < second
     → list_any (λ r. is_same_stamp (stamp_of r) originate) xs ≡ list_any (λ r. r == reading_of originate) xs
 found_by_reading o [] h = refl
 found_by_reading o (x ∷ xs) h = rw (same_originate o x h, found_by_reading o xs h) refl
 
+-- and one with more nanoseconds is among none
 pub found_nowhere : (originate : Stamp) (xs : List ℕ) → second ≤ originate.nanoseconds
     → list_any (λ r. is_same_stamp (stamp_of r) originate) xs ≡ false
 found_nowhere o [] h = refl
@@ -124,10 +138,12 @@ either_true : (a b : Bool) → a ≡ true → (a || b) ≡ true
 either_true true b e = refl
 either_true false b e = absurd (false≢true e)
 
+-- where the first test is false the second decides
 either_false : (a b : Bool) → a ≡ false → (a || b) ≡ b
 either_false false b e = refl
 either_false true b e = absurd (false≢true (sym e))
 
+-- a request is in the ring where it is in one of its parts
 in_two_parts : (r : ℕ) (front back items : List ℕ) → front ++ back ≡ items
     → list_any (λ a. a == r) (reverse items) ≡ (list_any (λ a. a == r) front || list_any (λ a. a == r) back)
 in_two_parts r front back items e =
@@ -135,12 +151,14 @@ in_two_parts r front back items e =
     ∙ ap (λ (xs : List ℕ). list_any (λ a. a == r) xs) (sym e)
     ∙ list_any-append (λ (a : ℕ). a == r) front back
 
+-- so where the first part has it
 pub found_in_front : (r : ℕ) (front back items asked : List ℕ) (found : Bool) → front ++ back ≡ items → reverse items ≡ asked
     → found ≡ list_any (λ a. a == r) front → found ≡ true → found ≡ list_any (λ a. a == r) asked
 found_in_front r front back items asked found e v f t =
     t ∙ sym (ap (λ (xs : List ℕ). list_any (λ a. a == r) xs) (sym v) ∙ in_two_parts r front back items e
     ∙ either_true (list_any (λ a. a == r) front) (list_any (λ a. a == r) back) (sym f ∙ t))
 
+-- and otherwise where the second has it
 pub found_in_back : (r : ℕ) (front back items asked : List ℕ) (found found_too : Bool) → front ++ back ≡ items → reverse items ≡ asked
     → found ≡ list_any (λ a. a == r) front → found ≡ false → found_too ≡ list_any (λ a. a == r) back
     → found_too ≡ list_any (λ a. a == r) asked

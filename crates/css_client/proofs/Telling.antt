@@ -1,7 +1,8 @@
 -- What the wall clock is told as, and what a sleep leaves.
-use Rattle.std.proofs.Common.{ℕ, ◌<◌, arith, [], ◌∷◌, length, refl}
-use Rattle.std.specs.Prelude.{Option, Some, None, IfSome, max}
+use Rattle.std.proofs.Common.{ℕ, ◌<◌, ◌≤◌, arith, [], ◌∷◌, length, refl}
+use Rattle.std.specs.Prelude.{Option, Some, None, IfSome, IsTrue, max}
 use Rattle.std.specs.Option.{option_map}
+use Rattle.std.proofs.lemmas.List.Elements.{All-nil}
 use Rattle.css_model.specs.declared.Why.TheVariants as why
 use Rattle.css_model.specs.WallClock.{Answer, Local}
 use Rattle.css_model.specs.Truth.{Contains}
@@ -12,7 +13,7 @@ use Rattle.css_model.proofs.Wall.{wall_is_true}
 use Rattle.css_span.specs.Frontiers as frontiers
 use Rattle.css_span.specs.Frontiers.{Frontier}
 use Rattle.css_span.specs.WallSpans.{span_of, wall_span}
-use Rattle.css_client.specs.Clients.{Client, local_of}
+use Rattle.css_client.specs.Clients.{Client, local_of, is_among}
 use Rattle.css_client.specs.Standing.{StandsFor, IsBelow, SpanHolds}
 use Rattle.css_client.proofs.Aside.{each_weaker}
 
@@ -22,6 +23,7 @@ span_holds : (own : Local) (reading wall : ℕ) (narrowest : Option Answer) → 
 span_holds own reading wall None h = tt
 span_holds own reading wall (Some answer) h = (h.low, h.high)
 
+-- in a world that explains the history, what is told contains the wall clock
 pub wall_holds : (client : Client) (history : History) (reading : ℕ) (errors : Errors) (world : World) (who : ℕ) (moment_of : ℕ → ℕ)
     → StandsFor client history → IsWorldFor errors world who (local_of client)
     → Explains world who errors.tv (local_of client) (Clock why.Turn reading ∷ history) moment_of
@@ -41,12 +43,15 @@ after_sleep client estimate = record {
   after_sleep = client.after_sleep;
 }
 
+-- the client after a sleep stands for the history with it
 pub stands_slept : (client : Client) (history : History) (estimate : Frontier) → StandsFor client history
     → frontiers.StandsFor estimate [] → StandsFor (after_sleep client estimate) (Slept ∷ history)
 stands_slept client history estimate stands empty = record {
   lawful = record { rises = (tt, stands.lawful.rises); asks = (tt, stands.lawful.asks) };
   asked = refl;
   promises = λ follow_up current. refl;
+  only = record { of_asked = All-nil (λ promise. IsTrue (is_among promise.originate [])); once = tt };
+  rising = (All-nil (λ earlier. earlier ≤ max client.floor client.after_sleep), tt);
   estimate = empty;
   below = (
     tt,

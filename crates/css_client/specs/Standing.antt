@@ -10,7 +10,7 @@ use Rattle.css_model.specs.World.{World, Errors, IsWorldFor}
 use Rattle.css_model.specs.History.{Entry, Clock, Took, History, Each, is_sleep, sleeps, asking_at, request_by, is_asked, asked_originates, LandedAnswer, landed_answer, landed_answers, first_promised_at, accepted_answers}
 use Rattle.css_model.specs.Explains.{IsLawful, HappensIn, Explains, IsTruthful}
 use Rattle.css_span.specs.Frontiers as frontiers
-use Rattle.css_client.specs.Clients.{Client, local_of, first_landed}
+use Rattle.css_client.specs.Clients.{Client, local_of, first_landed, RemembersOnly, NeverFall}
 use Rattle.css_client.specs.declared.landing.Landing.{Landing}
 use Rattle.css_client.specs.declared.landing.Landing.TheVariants as landings
 
@@ -26,13 +26,16 @@ IsBelow client slept entry older = IfSome (asking_at entry) (λ asked.
     (asked < client.after_sleep) × (sleeps older < slept → asked < client.floor))
 
 -- The client stands for a history: this is lawful; its last requests are those that the client knows; the reading at
--- which the first promise of a follow-up landed is known for each request that is still asked; the estimate stands for
--- the accepted answers; and the floors are above the readings for requests.
+-- which the first promise of a follow-up landed is known for each request that is still asked, and nothing is remembered
+-- of any other; the readings of its requests never fall, up to the floor; the estimate stands for the accepted answers;
+-- and the floors are above the readings for requests.
 pub record StandsFor (client : Client) (history : History) : Type 0 where
   pub lawful : IsLawful history
   pub asked : asked_originates history ≡ map stamp_of client.asked
   pub promises : (follow_up : Message) → IsCurrent client.floor follow_up.originate history
       → first_landed follow_up.originate follow_up.receive client.promises ≡ first_promised_at follow_up (landed_answers history)
+  pub only : RemembersOnly client.asked client.promises
+  pub rising : NeverFall (client.floor ∷ client.asked)
   pub estimate : frontiers.StandsFor client.estimate (accepted_answers (local_of client) history)
   pub below : Each (IsBelow client (sleeps history)) history
 

@@ -1,6 +1,7 @@
-ghost use Rattle.std.specs.Prelude.{◌≡◌, ◌<◌, [], ◌∷◌, take, IfOk, IsTrue, ◌==◌};
-ghost use Rattle.std.specs.List.{list_any};
+ghost use Rattle.std.specs.Prelude.{◌≡◌, ◌<◌, [], ◌∷◌, take, None, IfOk, IsTrue, ◌==◌};
+ghost use Rattle.std.specs.List.{list_any, last_or};
 ghost use Rattle.css_model.specs.Wire as wire;
+ghost use Rattle.css_client.specs.Clients.{is_among};
 
 use circular_buffer::HeapCircularBuffer;
 use css_model::Stamp;
@@ -40,18 +41,26 @@ impl Asked {
         })
     }
 
-    /// Adds a request, and gives back the one that is forgotten for it.
+    /// Adds a request, and forgets the one before the last 64.
     #[tactic(auto, using(crate::proofs::Rings::newest_of_ring))]
-    pub(crate) fn note(&mut self, request: u64) -> Option<u64>
+    pub(crate) fn note(&mut self, request: u64)
         ensures { self.new ≡ take 64 (request ∷ self.old) }
     {
-        self.ring.push_back(request)
+        self.ring.push_back(request);
+    }
+
+    /// The oldest of the requests.
+    #[tactic(auto, using(crate::proofs::Rings::oldest_of_ring))]
+    pub(crate) fn oldest(&self) -> Option<u64>
+        ensures { result ≡ last_or None self.now }
+    {
+        self.ring.front().copied()
     }
 
     /// Whether one of the requests has this originate value.
     #[tactic(auto, using(crate::proofs::Rings::found_by_reading))]
     pub(crate) fn has_originate(&self, originate: Stamp) -> bool
-        ensures value { result ≡ list_any (λ request. wire.is_same_stamp (wire.stamp_of request) originate) self.now }
+        ensures value { result ≡ is_among originate self.now }
         ensures range { IsTrue result → originate.nanoseconds < wire.second }
     {
         if originate.nanoseconds >= SECOND {
@@ -60,7 +69,7 @@ impl Asked {
         self.contains(reading(originate))
     }
 
-    pub(crate) fn contains(&self, request: u64) -> bool
+    fn contains(&self, request: u64) -> bool
         ensures { result ≡ list_any (λ asked. asked == request) self.now }
     {
         let (front, back) = self.ring.as_slices();

@@ -32,7 +32,8 @@ const NO_TIME: Stamp = Stamp {
 /// sleep ends all that the client knows.
 ///
 /// It remembers when the first response with each pair of originate and receive values landed that promised a follow-up,
-/// for the requests to which an answer may still come. Nothing else grows without bound, and this only by a flood of
+/// for the requests to which an answer may still come: a response is forgotten with its request. A landing looks it up in
+/// an ordered map, so it costs a logarithm of their number. Nothing else grows without bound, and this only by a flood of
 /// such responses to one request, with ever new receive values.
 #[derive(Drop)]
 pub struct Client {

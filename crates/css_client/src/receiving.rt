@@ -1,8 +1,8 @@
-ghost use Rattle.std.specs.Prelude.{◌≡◌, ◌≢◌, ◌≤◌, ◌<◌, ◌∷◌, ◌==◌, if◌then◌else◌, take, drop, unwrap_or, IfOk, OnOk, OnErr};
+ghost use Rattle.std.specs.Prelude.{◌≡◌, ◌≢◌, ◌≤◌, ◌<◌, ◌∷◌, ◌==◌, if◌then◌else◌, take, unwrap_or, IfOk, OnOk, OnErr};
 ghost use Rattle.css_model.specs.Wire.{second};
 ghost use Rattle.css_wc.specs.Datagrams.{HasNoFault};
 ghost use Rattle.css_span.specs.Frontiers.{Accepts};
-ghost use Rattle.css_client.specs.Clients.{RemembersAll, first_landed, answer_of, promises_after};
+ghost use Rattle.css_client.specs.Clients.{NeverFall, RemembersAll, RemembersOnly, Remembers, first_landed, without_promise, answer_of};
 ghost use Rattle.css_client.specs.Landings.{verdict};
 ghost use Rattle.css_client.specs.declared.landing.Landing.TheVariants as landings;
 
@@ -12,19 +12,18 @@ use crate::promises::{Promise, Promises};
 use css_model::{LIMIT, Message};
 use css_num::Memory;
 use css_span::{AcceptFault, Answer, Estimate};
-use css_wc::{precision_ns, reading as reading_of, stamp_of};
+use css_wc::{precision_ns, reading as reading_of};
 
-/// Adds a request, and forgets the responses to the one that is forgotten for it. A request that was repeated at one
-/// reading is forgotten when its last copy is.
+/// Adds a request, and forgets the responses to those that are forgotten for it. Readings never fall, so these are the
+/// ones from before the oldest that is still asked.
 pub(crate) fn note_request(asked: &mut Asked, promises: &mut Promises, request: u64)
-    requires { request < LIMIT }
     ensures asked { asked.new ≡ take 64 (request ∷ asked.old) }
-    ensures promises { RemembersAll request asked.new promises.old promises.new }
+    ensures all { NeverFall (request ∷ asked.old) → RemembersAll request asked.new promises.old promises.new }
+    ensures only { NeverFall (request ∷ asked.old) → RemembersOnly asked.old promises.old → RemembersOnly asked.new promises.new }
 {
-    if let Some(gone) = asked.note(request) {
-        if gone < request && !asked.contains(gone) {
-            promises.forget(stamp_of(gone));
-        }
+    asked.note(request);
+    if let Some(oldest) = asked.oldest() {
+        promises.forget_before(oldest);
     }
 }
 
@@ -41,7 +40,7 @@ pub(crate) fn take_in(
     requires range { reading < LIMIT }
     requires floor { estimate.old.floor ≤ reading }
     ensures landing { IfOk result (λ landing. landing ≡ verdict estimate.old.local reading (answer_of promises.old reading message.now)) }
-    ensures promises { OnOk result (promises.new ≡ promises_after promises.old reading message.now) }
+    ensures promises { OnOk result (Remembers reading message.now promises.old promises.new) }
     ensures accepted { IfOk result (λ landing. landing ≡ landings.Accepted → Accepts estimate.old estimate.new (answer_of promises.old reading message.now) reading) }
     ensures refused { IfOk result (λ landing. landing ≢ landings.Accepted → estimate.new ≡ estimate.old) }
     ensures err { OnErr result ((promises.new ≡ promises.old) × (estimate.new ≡ estimate.old)) }
@@ -53,7 +52,7 @@ pub(crate) fn take_in(
         Err(AcceptFault::Impossible(width)) => Ok(Landing::Impossible(width)),
         Err(AcceptFault::Memory) => {
             if is_new {
-                promises.take_back();
+                promises.take_back(message.originate, message.receive);
             }
             Err(Memory)
         }
@@ -62,9 +61,11 @@ pub(crate) fn take_in(
 
 /// Remembers a response that promises a follow-up, and tells whether it is the first with its values.
 fn remember(promises: &mut Promises, message: &Message, reading: u64) -> Result<bool, Memory>
-    requires { reading < LIMIT }
-    ensures ok { OnOk result (promises.new ≡ promises_after promises.old reading message.now) }
-    ensures undone { IfOk result (λ is_new. promises.old ≡ (if is_new then drop 1 promises.new else promises.new)) }
+    requires valid { HasNoFault message.now }
+    requires originate { message.now.originate.nanoseconds < second }
+    requires range { reading < LIMIT }
+    ensures ok { OnOk result (Remembers reading message.now promises.old promises.new) }
+    ensures undone { IfOk result (λ is_new. promises.old ≡ (if is_new then without_promise message.now.originate message.now.receive promises.new else promises.new)) }
     ensures err { OnErr result (promises.new ≡ promises.old) }
 {
     if message.message_type == 2 {
@@ -97,7 +98,9 @@ fn answer_to(promises: &Promises, message: &Message, reading: u64) -> Answer
 }
 
 fn landing_of(promises: &Promises, message: &Message, reading: u64) -> u64
-    requires { reading < LIMIT }
+    requires valid { HasNoFault message.now }
+    requires originate { message.now.originate.nanoseconds < second }
+    requires range { reading < LIMIT }
     ensures value { result ≡ (if message.now.message_type == 3 then unwrap_or (first_landed message.now.originate message.now.receive promises.now) reading else reading) }
     ensures range { result < LIMIT }
 {

@@ -180,6 +180,101 @@ fn the_narrowest_of_two_answers_changes(rt: HostRuntime) -> Result<(), Fail> {
     Ok(())
 }
 
+fn ask_ten(client: &mut Client)
+    requires { client.old.floor ≤ 1000 }
+    ensures { client.new.floor ≤ 1090 }
+{
+    for i in 0..10 {
+        let _ = ask(client, 1000 + 10 * i);
+    }
+}
+
+/// Lands ten answers of one declared error, each 10 ns after the one before.
+fn land_ten(client: &mut Client) -> Result<(), Memory>
+    requires { client.old.floor ≤ 1600 }
+    ensures { OnOk result (client.new.floor ≤ 1690) }
+{
+    for i in 0..10_u16 {
+        let times = [1000 + 10 * i, 5000 + 10 * i, 5200 + 10 * i];
+        let _ = land(client, &datagram(1, times, 0), 1600 + 10 * u64::from(i))?;
+    }
+    Ok(())
+}
+
+#[test]
+fn one_answer_of_each_error_is_kept(rt: HostRuntime) -> Result<(), Fail> {
+    let mut client = new_client(rt.alloc())?;
+    ask_ten(&mut client);
+    land_ten(&mut client)?;
+    assert_eq!(rt; client.kept(), 1);
+    assert_eq!(rt; wall(&client, 1690), between(5287, 5693));
+    Ok(())
+}
+
+/// Two hundred responses to one request, each received 10 ns after the one before, land 10 ns after one another too.
+fn land_responses(client: &mut Client) -> Result<(), Memory>
+    requires { client.old.floor ≤ 2000 }
+    ensures { OnOk result (client.new.floor ≤ 4000) }
+{
+    for i in 0..200_u16 {
+        let received = 5000 + 10 * i;
+        let response = datagram(2, [1000, received, received], 0);
+        let _ = land(client, &response, 2000 + 10 * u64::from(i))?;
+    }
+    Ok(())
+}
+
+/// What becomes of a follow-up that was sent so long after its request was received.
+fn land_follow_up(client: &mut Client, received: u16, later: u16) -> Result<Landing, Memory>
+    requires floor { client.old.floor ≤ 5000 }
+    requires range { received + later < 2 ^ 16 }
+    ensures { OnOk result (client.new.floor ≤ 5000) }
+{
+    land(
+        client,
+        &datagram(3, [1000, received, received + later], 0),
+        5000,
+    )
+}
+
+/// The longest time for which each follow-up is possible tells the landing that it counts from.
+#[test]
+fn each_follow_up_counts_from_its_own_response(rt: HostRuntime) -> Result<(), Fail> {
+    let mut client = new_client(rt.alloc())?;
+    let _ = ask(&mut client, 1000);
+    land_responses(&mut client)?;
+    let impossible = Landing::Impossible(-WHOLE_SQUARED);
+    for i in 0..200_u16 {
+        let received = 5000 + 10 * i;
+        let longest = 1006 + 10 * i;
+        assert_eq!(rt;
+            land_follow_up(&mut client, received, longest)?,
+            Landing::Accepted
+        );
+        assert_eq!(rt;
+            land_follow_up(&mut client, received, longest + 1)?,
+            impossible
+        );
+    }
+    Ok(())
+}
+
+#[test]
+fn a_request_is_forgotten_with_its_last_copy(rt: HostRuntime) -> Result<(), Fail> {
+    let mut client = new_client(rt.alloc())?;
+    let _ = ask(&mut client, 1);
+    let _ = ask(&mut client, 1);
+    let response = datagram(2, [1, 5000, 5000], 0);
+    assert_eq!(rt; land(&mut client, &response, 1)?, Landing::Accepted);
+    ask_each(&mut client, 2, 63);
+    let too_late = datagram(3, [1, 5000, 5007], 0);
+    let impossible = Landing::Impossible(-WHOLE_SQUARED);
+    assert_eq!(rt; land(&mut client, &too_late, 100)?, impossible);
+    let _ = ask(&mut client, 100);
+    assert_eq!(rt; land(&mut client, &too_late, 101)?, Landing::Unasked);
+    Ok(())
+}
+
 /// Bytes that are too few for a datagram.
 const NO_DATAGRAM: &[u8] = b"a datagram has 32 bytes";
 

@@ -31,6 +31,7 @@ promises_rise follow (ticket ∷ older) promised = (
   promises_rise follow older promised.1,
 )
 
+-- so no promise is repeated, by what a server stands for
 pub no_promise_is_repeated : NoPromiseIsRepeated
 no_promise_is_repeated server tickets stands = promises_rise server.follow tickets stands.promised
 
@@ -65,6 +66,7 @@ same_reading r s e =
     let b = eqb-true (stamp_of r).nanoseconds (stamp_of s).nanoseconds p.1 in
     omega (arith, a, b)
 
+-- so a follow-up and a response that are paired are of one ticket
 pub pairs_are_exchanges : PairsAreExchanges
 pairs_are_exchanges server tickets i j a b answered told landed stands p q g pair = by a.follow_up refl pair
   where

@@ -1,17 +1,29 @@
--- The request that is gone is none of those that are asked, and its reading is below those that may still be.
-use Rattle.std.proofs.Common.{◌≡◌, ◌∙◌, sym, ap, subst, false, List}
-use Rattle.std.specs.Prelude.{◌==◌}
-use Rattle.std.specs.List.{list_any}
-use Rattle.css_model.specs.declared.Stamp.{Stamp}
+-- The ring has an oldest request, and what is remembered since that is what is asked.
+use Rattle.std.proofs.Common.{◌≡◌, ◌∙◌, sym, ap, subst, ℕ, List, ◌∷◌, take}
+use Rattle.std.specs.Prelude.{Option, None}
+use Rattle.std.specs.List.{last_or}
 use Rattle.css_client.specs.declared.promises.Promise.{Promise}
-use Rattle.css_client.specs.Clients.{RemembersAll, without_originate}
-use Rattle.css_client.proofs.Remembered.{remembers_without}
+use Rattle.css_client.specs.Clients.{RemembersAll, RemembersOnly}
+use Rattle.css_client.proofs.Forgetting.{remembers_all, remembers_only, last_or-none}
 use Rattle.css_client.proofs.receiving.note_request.Goals as goal
 
-pub returns-then-not-contains-clause-promises : goal.returns-then-not-contains-clause-promises
-returns-then-not-contains-clause-promises c =
+oldest : (kept asked : List ℕ) (result found : Option ℕ) → asked ≡ kept → result ≡ last_or None asked → result ≡ found → last_or None kept ≡ found
+oldest kept asked result found same is e = ap (λ (xs : List ℕ). last_or None xs) (sym same) ∙ sym is ∙ e
+
+pub returns-in-Some-clause-all : goal.returns-in-Some-clause-all
+returns-in-Some-clause-all c = λ rising.
     let old = c.args.promises.now in
-    let none : list_any (λ request. request == c.in-Some.gone) c.note.new.self ≡ false = cc in
-    subst (λ (ps : List Promise). RemembersAll c.args.request c.note.new.self old ps)
-    (sym (c.forget.ensures ∙ ap (λ (s : Stamp). without_originate s old) c.stamp_of.ensures.value))
-    (remembers_without c.in-Some.gone c.args.request c.note.new.self old c.if-gone-request.true none)
+    subst (λ (asked : List ℕ). RemembersAll c.args.request asked old c.forget_before.new.self) (sym c.note.ensures)
+    (subst (λ (ps : List Promise). RemembersAll c.args.request (take 64 (c.args.request ∷ c.args.asked.now)) old ps) (sym c.forget_before.ensures)
+    (remembers_all 63 c.args.request c.in-Some.oldest c.args.asked.now old (oldest _ _ _ _ c.note.ensures c.oldest.ensures c.in-Some.is) rising))
+
+pub returns-in-Some-clause-only : goal.returns-in-Some-clause-only
+returns-in-Some-clause-only c = λ rising only.
+    let old = c.args.promises.now in
+    subst (λ (asked : List ℕ). RemembersOnly asked c.forget_before.new.self) (sym c.note.ensures)
+    (subst (λ (ps : List Promise). RemembersOnly (take 64 (c.args.request ∷ c.args.asked.now)) ps) (sym c.forget_before.ensures)
+    (remembers_only 64 c.args.request c.in-Some.oldest c.args.asked.now old (oldest _ _ _ _ c.note.ensures c.oldest.ensures c.in-Some.is) rising only))
+
+pub returns-in_default-clause-only : goal.returns-in_default-clause-only
+returns-in_default-clause-only c = λ rising only.
+    absurd (last_or-none c.args.request (take 63 c.args.asked.now) (oldest _ _ _ _ c.note.ensures c.oldest.ensures c.in_default.is))

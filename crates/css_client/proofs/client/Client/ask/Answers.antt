@@ -4,7 +4,7 @@ use Rattle.std.specs.Prelude.{Ok}
 use Rattle.css_model.specs.declared.Message.{Message}
 use Rattle.css_model.specs.declared.Why.TheVariants as why
 use Rattle.css_model.specs.History.{Sent, Clock}
-use Rattle.css_client.specs.Clients.{Client, RemembersAll}
+use Rattle.css_client.specs.Clients.{Client, RemembersAll, RemembersOnly}
 use Rattle.css_client.specs.Standing.{StandsFor}
 use Rattle.css_client.proofs.Asking.{stands_asked}
 use Rattle.css_client.proofs.client.Client.ask.Goals as goal
@@ -20,4 +20,5 @@ returns-clause-stands c = λ history peer stands.
     (subst (λ (k : Client). k.floor ≤ c.args.reading) (sym c.self.view_is) c.requires.floor)
     c.self.invariant.1.later
     (c.encode.ensures.read_back ∙ ap (λ (m : Message). Ok m) c.request.ensures.value)
-    (subst (λ (asked : List ℕ). RemembersAll c.args.reading asked c.self.inside.promises promises) c.note_request.ensures.asked c.note_request.ensures.promises))
+    (λ rising. subst (λ (asked : List ℕ). RemembersAll c.args.reading asked c.self.inside.promises promises) c.note_request.ensures.asked (c.note_request.ensures.all rising))
+    (λ rising only. subst (λ (asked : List ℕ). RemembersOnly asked promises) c.note_request.ensures.asked (c.note_request.ensures.only rising only)))

@@ -1,10 +1,8 @@
 -- What becomes of a datagram of the protocol, by what the client knows.
-use Rattle.std.proofs.Common.{◌≡◌, ◌≢◌, ◌≤◌, ◌∙◌, ap, sym, subst, ℕ, List, ◌∷◌, true, false, inl, inr}
+use Rattle.std.proofs.Common.{◌≡◌, ◌≢◌, ◌≤◌, ◌∙◌, ap, sym, subst, ℕ, true, false, inl, inr}
 use Rattle.std.specs.Prelude.{◌==◌}
 use Rattle.std.proofs.lemmas.Bool.Decides.{eqb_tells}
-use Rattle.css_model.specs.declared.Why.TheVariants as why
-use Rattle.css_model.specs.History.{History, Took, Clock, is_asked}
-use Rattle.css_client.specs.declared.promises.Promise.{Promise}
+use Rattle.css_model.specs.History.{History, is_asked}
 use Rattle.css_client.specs.Clients.{Client, local_of}
 use Rattle.css_client.specs.Landings.{landing_of}
 use Rattle.css_client.specs.Standing.{StandsFor}
@@ -61,13 +59,11 @@ returns-clause-landing c = λ history stands.
 pub returns-clause-stands : goal.returns-clause-stands
 returns-clause-stands c = λ history peer stands.
     let client : Client = record { asked = c.self.inside.asked; promises = c.self.inside.promises; estimate = c.self.inside.estimate; floor = c.self.inside.floor; after_sleep = c.self.inside.after_sleep } in
-    subst (λ (ps : List Promise). StandsFor (record { asked = c.self.inside.asked; promises = ps; estimate = c.take_in.new.estimate; floor = c.args.reading; after_sleep = c.self.inside.after_sleep })
-    (Clock why.Land c.args.reading ∷ Took peer c.args.bytes.now ∷ history)) (sym c.in_ok-landing.ensures.promises)
-    (stands_landed client history peer c.args.reading c.args.bytes.now c.in-Ok.message c.take_in.new.estimate c.in_ok-landing.landing
+    stands_landed client history peer c.args.reading c.args.bytes.now c.in-Ok.message c.take_in.new.promises c.take_in.new.estimate c.in_ok-landing.landing
     (subst (λ (k : Client). StandsFor k history) (sym c.self.view_is) stands)
     (subst (λ (k : Client). k.floor ≤ c.args.reading) (sym c.self.view_is) c.requires.floor)
     (sym c.decode.ensures.value ∙ c.in-Ok.is) (not_zero c.in-Ok.message.message_type c.if-message-eq0.false) (asked c history stands)
-    c.in_ok-landing.ensures.landing c.in_ok-landing.ensures.accepted c.in_ok-landing.ensures.refused)
+    c.in_ok-landing.ensures.landing c.in_ok-landing.ensures.accepted c.in_ok-landing.ensures.refused c.in_ok-landing.ensures.promises
 
 pub returns-clause-truth : goal.returns-clause-truth
 returns-clause-truth c = λ history peer errors world who moment_of landed stands for happens lands truth.
