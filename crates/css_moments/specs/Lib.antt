@@ -1,0 +1,4 @@
+pub mod Drifts
+pub mod Numbers
+pub mod Steps
+pub mod Standing
