@@ -1,0 +1,4 @@
+pub mod CompactTexts
+pub mod Readings
+pub mod WholeSteps
+mod WorkedTexts

@@ -1,0 +1,5 @@
+pub mod CompactTexts
+pub mod Fields
+pub mod Numerals
+pub mod Readings
+pub mod WholeTexts
