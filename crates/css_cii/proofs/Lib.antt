@@ -1,0 +1,5 @@
+pub mod Listing
+pub mod RoundTrips
+pub mod Runs
+pub mod Same
+pub mod Sessions

@@ -1,0 +1,28 @@
+//! Content identification, CSS-CII of ETSI TS 103 286-2: the state that a
+//! television tells its companions, and the messages that change what they know
+//! of it.
+//!
+//! A message says some of nine properties. The first message of a connection
+//! gives the state, where each property that it leaves unsaid is null; each later
+//! one sets what it says and keeps the rest.
+#![tactic(auto)]
+
+mod change;
+mod fault;
+mod merging;
+mod name;
+mod reading;
+mod state;
+mod timelines;
+mod writing;
+
+pub use change::{Change, Told};
+pub use fault::CiiFault;
+pub use merging::{apply, diff, full, merge};
+pub use name::CiiName;
+pub use reading::read_message;
+pub use state::State;
+pub use writing::write_message;
+
+#[cfg(test)]
+mod tests;

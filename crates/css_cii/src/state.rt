@@ -1,0 +1,85 @@
+ghost use Rattle.std.specs.Prelude.{◌≡◌, ◌↔◌, IsTrue, bytes_eq};
+ghost use Rattle.css_num.specs.Timelines.{timelines_eq};
+ghost use Rattle.css_cii.specs.States as states;
+
+use css_num::{Text, Timelines};
+
+/// What a television tells its companions (ETSI TS 103 286-2, CSS-CII): nine
+/// properties, each a value or null.
+#[derive(Clone, Debug, Drop, PartialEq, Eq)]
+pub struct State {
+    /// The version of the protocol.
+    pub protocol_version: Option<Text>,
+    /// Where material is resolved (CSS-MRS).
+    pub mrs_url: Option<Text>,
+    /// Which content is presented.
+    pub content_id: Option<Text>,
+    /// Whether the content id is partial or final.
+    pub content_id_status: Option<Text>,
+    /// How the content is presented: `okay`, `transitioning` or `fault`, and
+    /// words of the television's own after it.
+    pub presentation_status: Option<Text>,
+    /// Where the wall clock is asked (CSS-WC).
+    pub wc_url: Option<Text>,
+    /// Where timelines are told (CSS-TS).
+    pub ts_url: Option<Text>,
+    /// Where trigger events are told (CSS-TE).
+    pub te_url: Option<Text>,
+    /// The timelines that may be asked for.
+    pub timelines: Option<Timelines>,
+}
+
+impl State {
+    /// The state before the first message: nine nulls.
+    #[tactic(auto, unfolding(crate::specs::States::empty))]
+    pub fn empty() -> State
+        ensures { result ≡ states.empty }
+    {
+        State {
+            protocol_version: None,
+            mrs_url: None,
+            content_id: None,
+            content_id_status: None,
+            presentation_status: None,
+            wc_url: None,
+            ts_url: None,
+            te_url: None,
+            timelines: None,
+        }
+    }
+
+    /// Whether two states are equal, property by property.
+    pub fn is_same(&self, other: &State) -> bool
+        ensures { IsTrue result ↔ (self.now ≡ other.now) }
+    {
+        has_same_properties(self, other)
+    }
+}
+
+fn has_same_words(one: &Option<Text>, other: &Option<Text>) -> bool
+    ensures { result ≡ states.is_same bytes_eq one.now other.now }
+{
+    *one == *other
+}
+
+fn has_same_timelines(one: &Option<Timelines>, other: &Option<Timelines>) -> bool
+    ensures { result ≡ states.is_same timelines_eq one.now other.now }
+{
+    *one == *other
+}
+
+/// Whether each property of two states is equal.
+#[tactic(auto, unfolding(crate::specs::States::is_same_state))]
+fn has_same_properties(one: &State, other: &State) -> bool
+    ensures { result ≡ states.is_same_state one.now other.now }
+{
+    has_same_words(&one.protocol_version, &other.protocol_version)
+        && has_same_words(&one.mrs_url, &other.mrs_url)
+        && has_same_words(&one.content_id, &other.content_id)
+        && has_same_words(&one.content_id_status, &other.content_id_status)
+        && has_same_words(&one.presentation_status, &other.presentation_status)
+        && has_same_words(&one.wc_url, &other.wc_url)
+        && has_same_words(&one.ts_url, &other.ts_url)
+        && has_same_words(&one.te_url, &other.te_url)
+        && has_same_timelines(&one.timelines, &other.timelines)
+}
