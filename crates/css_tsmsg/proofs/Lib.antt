@@ -1,0 +1,3 @@
+pub mod RoundTrips
+pub mod Values
+pub mod Windows

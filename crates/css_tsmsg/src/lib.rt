@@ -1,0 +1,24 @@
+//! The texts of the timeline protocol, CSS-TS of ETSI TS 103 286-2: what a
+//! companion asks of a television, and the control timestamps that it is told.
+#![tactic(auto)]
+
+mod bound;
+mod control;
+mod digits;
+mod fault;
+mod name;
+mod presentation;
+mod setup;
+mod writing;
+
+pub use bound::{Bound, Presentation};
+pub use control::{is_same, read_control};
+pub use css_num::Control;
+pub use fault::TsFault;
+pub use name::TsName;
+pub use presentation::read_presentation;
+pub use setup::{Setup, read_setup};
+pub use writing::{write_control, write_presentation, write_setup};
+
+#[cfg(test)]
+mod tests;
