@@ -1,4 +1,7 @@
-pub mod Landed
-pub mod Taken
+pub mod InRange
 pub mod OneWord
-pub mod TrueSpans
+pub mod Texts
+pub mod Answering
+pub mod Promise
+pub mod Runs
+pub mod Standing

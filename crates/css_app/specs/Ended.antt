@@ -11,9 +11,9 @@ use Rattle.css_lines.specs.Ending.{RanUntil}
 use Rattle.css_app.specs.declared.replay.Cause.{Cause}
 use Rattle.css_app.specs.declared.replay.Cause.TheVariants as causes
 use Rattle.css_app.specs.declared.status.LineWhy.{LineWhy}
-use Rattle.css_app.specs.declared.status.LineWhy.TheVariants.{Long, Form}
+use Rattle.css_app.specs.declared.status.LineWhy.TheVariants.{Long, Form, Absent}
 use Rattle.css_app.specs.declared.status.Status.{Status}
-use Rattle.css_app.specs.declared.status.Status.TheVariants.{Done, Usage, BadLine, ReadFault, WriteFault, Memory}
+use Rattle.css_app.specs.declared.status.Status.TheVariants.{Done, Usage, BadLine, Broken, ReadFault, WriteFault, Memory}
 use Rattle.css_app.specs.Replayed.{replayed}
 
 -- the words of `replay`: this one word
@@ -27,6 +27,7 @@ abbrev pub status_number : Status → ℕ
 status_number Done = 0
 status_number Usage = 1
 status_number (BadLine line why) = 2
+status_number (Broken line earlier excess) = 3
 status_number ReadFault = 4
 status_number WriteFault = 5
 status_number Memory = 14
@@ -35,6 +36,7 @@ status_number Memory = 14
 abbrev pub refusal_of : LineWhy → Refusal Cause
 refusal_of Long = refusals.Long
 refusal_of Form = refusals.Refused causes.Form
+refusal_of Absent = refusals.Refused causes.Absent
 
 -- The input was read to its end, no line of it is refused, and the sink grew by its whole output.
 pub record ReplaysAll (bytes : List ℕ) (left holds_old holds_new : Option (List ℕ)) : Type 0 where
@@ -47,6 +49,7 @@ abbrev pub Replays : List ℕ → Option (List ℕ) → Option (List ℕ) → Op
 Replays bytes left holds_old holds_new Done = ReplaysAll bytes left holds_old holds_new
 Replays bytes left holds_old holds_new Usage = ⊥
 Replays bytes left holds_old holds_new (BadLine line why) = RanUntil replayed bytes left holds_old holds_new (stops.BadLine line (refusal_of why))
+Replays bytes left holds_old holds_new (Broken line earlier excess) = RanUntil replayed bytes left holds_old holds_new (stops.BadLine line (refusals.Refused (causes.Broken earlier excess)))
 Replays bytes left holds_old holds_new ReadFault = RanUntil replayed bytes left holds_old holds_new stops.ReadFault
 Replays bytes left holds_old holds_new WriteFault = RanUntil replayed bytes left holds_old holds_new stops.WriteFault
 Replays bytes left holds_old holds_new Memory = RanUntil replayed bytes left holds_old holds_new stops.Memory
@@ -65,6 +68,8 @@ CountsWrites before now _ = now ≡ before
 abbrev pub status_of : Stop Cause → Status
 status_of (stops.BadLine line refusals.Long) = BadLine line Long
 status_of (stops.BadLine line (refusals.Refused causes.Form)) = BadLine line Form
+status_of (stops.BadLine line (refusals.Refused causes.Absent)) = BadLine line Absent
+status_of (stops.BadLine line (refusals.Refused (causes.Broken earlier excess))) = Broken line earlier excess
 status_of stops.ReadFault = ReadFault
 status_of stops.WriteFault = WriteFault
 status_of stops.Memory = Memory

@@ -1,43 +1,19 @@
--- What a replay makes of a schedule: a header, and the five lines of one exchange.
-use Rattle.std.specs.Prelude.{ℕ, ◌+◌, ◌==◌, ◌&&◌, nat_le, Bool, true, false, if◌then◌else◌, List, [], ◌∷◌, length, Option, Some, None, Result, Ok, Err}
-use Rattle.std.specs.Option.{option_map}
-use Rattle.std.specs.Result.{result_ok}
-use Rattle.std.specs.List.{filter_map}
-use Rattle.css_model.specs.WallClock.{Local}
-use Rattle.css_model.specs.History.{accepted_answers}
-use Rattle.css_num.specs.Spans.{Interval}
-use Rattle.css_span.specs.WallSpans.{wall_span}
+-- What a replay makes of the lines of a schedule.
+use Rattle.std.specs.Prelude.{ℕ, suc, ◌+◌, List, [], ◌∷◌, length, Option, Some, None, Result, Ok, Err}
 use Rattle.css_lines.specs.Meaning.{Meaning}
 use Rattle.css_schedule.specs.declared.fault.LineFault.{LineFault}
 use Rattle.css_schedule.specs.declared.header.Header.{Header}
 use Rattle.css_schedule.specs.declared.header.Start.{Start}
 use Rattle.css_schedule.specs.declared.header.Start.TheVariants.{One, Two}
-use Rattle.css_schedule.specs.declared.header.CompanionLine.{CompanionLine}
-use Rattle.css_schedule.specs.declared.line.Verb.{Verb}
-use Rattle.css_schedule.specs.declared.line.Verb.TheVariants.{Ask, Take, Give, Land, Wall}
 use Rattle.css_schedule.specs.declared.line.Line.{Line}
 use Rattle.css_schedule.specs.Headers.{header_of}
 use Rattle.css_schedule.specs.Lines.{line_of}
+use Rattle.css_world.specs.declared.fault.WorldFault.{WorldFault}
+use Rattle.css_world.specs.declared.fault.WorldFault.TheVariants as world
+use Rattle.css_world.specs.Happened.{Numbered}
+use Rattle.css_world.specs.Verdicts.{line_meant}
 use Rattle.css_app.specs.declared.replay.Cause.{Cause}
-use Rattle.css_app.specs.declared.replay.Cause.TheVariants.{Form}
-use Rattle.css_app.specs.Transcript.{history_of}
-use Rattle.css_app.specs.Printed.{wall_text}
-
--- The lines of one exchange come in this order, and the companion's readings never fall.
-abbrev pub is_due : List Verb → Verb → Bool
-is_due [] (Ask reading) = true
-is_due (Ask asked ∷ []) (Take request reading) = request == 1
-is_due (Ask asked ∷ Take request received ∷ []) (Give take reading) = take == 1
-is_due (Ask asked ∷ Take request received ∷ Give take answered ∷ []) (Land datagram reading) = (datagram == 1) && nat_le asked reading
-is_due (Ask asked ∷ Take request received ∷ Give take answered ∷ Land datagram landed ∷ []) (Wall reading) = nat_le landed reading
-is_due _ _ = false
-
--- the verbs of lines
-abbrev pub verb_of : List ℕ → Option Verb
-verb_of text = option_map (λ line. line.verb) (result_ok (line_of text))
-
-abbrev pub verbs_of : List (List ℕ) → List Verb
-verbs_of texts = filter_map verb_of texts
+use Rattle.css_app.specs.declared.replay.Cause.TheVariants.{Form, Absent, Broken}
 
 -- the header that version 1 has
 abbrev pub header_in : Result Start LineFault → Option Header
@@ -45,41 +21,45 @@ header_in (Ok (One header)) = Some header
 header_in (Ok (Two header companions)) = None
 header_in (Err fault) = None
 
--- the clock of the one companion
-abbrev pub only_local : List CompanionLine → Option Local
-only_local [] = None
-only_local (companion ∷ companions) = Some companion.local
+-- lines, the newest first, with one more of that number, if it was read
+abbrev pub with_line : ℕ → List Numbered → Result Line LineFault → List Numbered
+with_line number older (Ok line) = record { number = number; line = line } ∷ older
+with_line number older (Err fault) = older
 
--- the wall clock's span at a reading, by the narrowest answer that the companion accepted
-abbrev pub wall_span_of : Header → List Verb → ℕ → Option Local → Option Interval
-wall_span_of header before reading None = None
-wall_span_of header before reading (Some own) = wall_span own reading (accepted_answers own (history_of header before))
+-- lines with those of texts, the first of which has that number
+abbrev pub lines_after : ℕ → List Numbered → List (List ℕ) → List Numbered
+lines_after number older [] = older
+lines_after number older (text ∷ texts) = lines_after (suc number) (with_line number older (line_of text)) texts
 
--- what is printed for a line: at `wall` that span, and the value that the line gives the wall clock
-abbrev pub printed_for : Header → List Verb → ℕ → ℕ → Verb → List ℕ
-printed_for header before number w (Wall reading) = wall_text number (wall_span_of header before reading (only_local header.companions)) w
-printed_for header before number w _ = []
+-- the lines after the header, which is line 1; the newest stands first
+abbrev pub lines_in : List (List ℕ) → List Numbered
+lines_in texts = lines_after 2 [] texts
 
--- a line is printed where it is due, and refused elsewhere
-abbrev pub line_with : Header → List Verb → ℕ → Line → Result (List ℕ) Cause
-line_with header before number line = if is_due before line.verb then Ok (printed_for header before number line.w line.verb) else Err Form
+-- what is printed for a line, or why it is refused; want of memory is never meant
+abbrev pub caused : Result (List ℕ) WorldFault → Result (List ℕ) Cause
+caused (Ok printed) = Ok printed
+caused (Err (world.Broken earlier excess)) = Err (Broken earlier excess)
+caused (Err world.Absent) = Err Absent
+caused (Err world.Memory) = Err Form
 
-abbrev pub line_read : Header → List Verb → ℕ → Result Line LineFault → Result (List ℕ) Cause
-line_read header before number (Err fault) = Err Form
-line_read header before number (Ok line) = line_with header before number line
+-- a line that is read is carried out
+abbrev pub read_meant : Header → List Numbered → ℕ → Result Line LineFault → Result (List ℕ) Cause
+read_meant header older number (Err fault) = Err Form
+read_meant header older number (Ok line) = caused (line_meant header older (record { number = number; line = line }))
 
-abbrev pub line_after : Option Header → List Verb → ℕ → Result Line LineFault → Result (List ℕ) Cause
-line_after None before number line = Err Form
-line_after (Some header) before number line = line_read header before number line
+abbrev pub meant_after : Option Header → List Numbered → ℕ → Result Line LineFault → Result (List ℕ) Cause
+meant_after None older number line = Err Form
+meant_after (Some header) older number line = read_meant header older number line
 
+-- nothing is printed for a header
 abbrev pub opened : Option Header → Result (List ℕ) Cause
 opened None = Err Form
 opened (Some header) = Ok []
 
--- the header, or one of the five lines
-abbrev pub line_meant : List (List ℕ) → List ℕ → Result (List ℕ) Cause
-line_meant [] text = opened (header_in (header_of text))
-line_meant (first ∷ texts) text = line_after (header_in (header_of first)) (verbs_of texts) (length (first ∷ texts) + 1) (line_of text)
+-- the first line is the header; each other one is carried out after those before it
+abbrev pub text_meant : List (List ℕ) → List ℕ → Result (List ℕ) Cause
+text_meant [] text = opened (header_in (header_of text))
+text_meant (first ∷ texts) text = meant_after (header_in (header_of first)) (lines_in texts) (length (first ∷ texts) + 1) (line_of text)
 
 -- an input without a header is refused
 abbrev pub finish_meant : List (List ℕ) → Result (List ℕ) Cause
@@ -87,4 +67,4 @@ finish_meant [] = Err Form
 finish_meant (first ∷ texts) = Ok []
 
 abbrev pub replayed : Meaning Cause
-replayed = record { longest_line = λ before. 4096; longest_input = λ before. 67108864; line = line_meant; finish = finish_meant }
+replayed = record { longest_line = λ before. 4096; longest_input = λ before. 67108864; line = text_meant; finish = finish_meant }

@@ -1,10 +1,6 @@
 //! The program: what each command makes of its words and its devices.
 #![tactic(auto)]
 
-mod carrying;
-mod exchange;
-pub mod laws;
-mod printed;
 mod program;
 mod replay;
 mod status;

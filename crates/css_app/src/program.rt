@@ -1,6 +1,7 @@
 ghost use Rattle.std.specs.Prelude.{◌≡◌, ◌↔◌, List, ℕ, Some, IsTrue, false, map, string_bytes};
 ghost use Rattle.css_app.specs.Ended.{Replays, CountsReads, CountsWrites};
 ghost use Rattle.css_app.specs.Ended as ended;
+ghost use Rattle.css_app.specs.Headline.{Promised};
 
 use crate::replay::{Cause, Replay};
 use crate::status::{LineWhy, Status};
@@ -37,6 +38,21 @@ fn status_of(stop: Stop<Cause>) -> Status
             line,
             why: LineWhy::Form,
         },
+        Stop::BadLine {
+            line,
+            why: Refusal::Refused(Cause::Absent),
+        } => Status::BadLine {
+            line,
+            why: LineWhy::Absent,
+        },
+        Stop::BadLine {
+            line,
+            why: Refusal::Refused(Cause::Broken { earlier, excess }),
+        } => Status::Broken {
+            line,
+            earlier,
+            excess,
+        },
         Stop::ReadFault => Status::ReadFault,
         Stop::WriteFault => Status::WriteFault,
         Stop::Memory => Status::Memory,
@@ -61,6 +77,10 @@ pub fn run<S: Source, K: Sink>(
     // Of a source that tells its bytes: what became of them, and what the sink holds.
     ensures replays { IsTrue (ended.is_replay (map string_bytes words.now)) → (bytes : List ℕ) → S.left source.old ≡ Some bytes →
         Replays bytes (S.left source.new) (K.holds sink.old) (K.holds sink.new) result }
+
+    // Of every source: what the sink gained keeps the promise. Each interval comes from the narrowest accepted response, and
+    // contains the value that its line gives the television's wall clock; lacking a response the cause is printed.
+    ensures promise { IsTrue (ended.is_replay (map string_bytes words.now)) → Promised (S.left source.old) (S.left source.new) (K.holds sink.old) (K.holds sink.new) }
 
     // A fault is told only where the device has failed, and no other failure of a device goes untold.
     ensures counted_reads { CountsReads (S.faults source.old) (S.faults source.new) result }

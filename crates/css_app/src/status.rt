@@ -5,6 +5,8 @@ pub enum LineWhy {
     Long,
     /// It is outside the grammar, or outside what is accepted so far.
     Form,
+    /// It names a request that wasn't sent, a take that wasn't made or has its answer, or a datagram that wasn't made.
+    Absent,
 }
 
 /// How a run ended.
@@ -15,7 +17,19 @@ pub enum Status {
     /// The words are those of no command. No device was touched.
     Usage,
     /// This line, counted from 1, is the first one that is refused. The output of the lines before was written.
-    BadLine { line: u64, why: LineWhy },
+    BadLine {
+        line: u64,
+        why: LineWhy,
+    },
+    /// This line, counted from 1, is the first one that is refused, since its numbers contradict those of an earlier one:
+    /// true time fell, a clock drifted by more than its oscillator's error allows, or a reading fell. Where a reading
+    /// differs from its clock by more than the precision, the earlier line is the line itself. The excess is in
+    /// 1/256,000,000 ns where a clock drifted, and else in nanoseconds. The output of the lines before was written.
+    Broken {
+        line: u64,
+        earlier: u64,
+        excess: i128,
+    },
     /// A read failed. The output of each line whose line feed was read was written.
     ReadFault,
     /// A write failed. A part of the output of the lines that were read was written.
@@ -36,6 +50,7 @@ impl Status {
             Status::Done => 0,
             Status::Usage => 1,
             Status::BadLine { .. } => 2,
+            Status::Broken { .. } => 3,
             Status::ReadFault => 4,
             Status::WriteFault => 5,
             Status::Memory => 14,

@@ -3,6 +3,7 @@ ghost use Rattle.std.specs.Prelude.{◌<◌};
 use crate::{LineWhy, Status, run};
 use css_outside::{Memory, MemorySink, MemorySource};
 use std::alloc::{AllocError, Global};
+use std::process::Abort;
 use std::test::Fail;
 
 const SCHEDULE: &[u8] = b"css-schedule 1 plain 0 -30 0 0 urn:dvb:css:timeline:pts -
@@ -90,73 +91,293 @@ fn other_words_are_refused(rt: HostRuntime) -> Result<(), Fail> {
     Ok(())
 }
 
-/// The first line that is refused, and what was printed before.
-struct Refused {
+/// A schedule, how its replay ends, and what is printed before.
+struct Case {
     bytes: &'static [u8],
-    line: u64,
+    status: Status,
     printed: &'static [u8],
 }
 
-const REFUSED: [Refused; 8] = [
-    Refused {
-        bytes: b"",
-        line: 1,
+fn replay_each(rt: &impl Abort, alloc: Global, cases: &[Case]) -> Result<(), Fail> {
+    for case in cases {
+        for devices in [WHOLE, BYTES] {
+            let ran = replay(alloc, case.bytes, &devices)?;
+            assert_eq!(rt; ran.status, case.status);
+            assert_eq!(rt; ran.sink.bytes(), case.printed);
+        }
+    }
+    Ok(())
+}
+
+const FOLLOW_UPS: [Case; 2] = [
+    // The follow-up of a second take isn't paired with the response to the first.
+    Case {
+        bytes: b"css-schedule 1 follow 0 -30 0 0 urn:dvb:css:timeline:pts -
+1000 11000 1000 ask 1000
+1100 11100 1100 take 1 11100
+1200 11200 1200 give 1 11200
+1300 11300 1300 take 1 11300
+1400 11400 1400 land 1 1400
+2050 12050 2050 give 2 12050
+2100 12100 2100 land 4 2100
+2100 12100 2100 wall 2100
+",
+        status: Status::Done,
+        printed: b"9 wall 12047 12403 at 12100\n",
+    },
+    // A follow-up lands before its response.
+    Case {
+        bytes: b"css-schedule 1 follow 0 -30 0 0 urn:dvb:css:timeline:pts -
+1000 11000 1000 ask 1000
+1100 11100 1100 take 1 11100
+1200 11200 1200 give 1 11200
+1300 11300 1300 land 2 1300
+1400 11400 1400 land 1 1400
+1400 11400 1400 wall 1400
+",
+        status: Status::Done,
+        printed: b"7 wall 11297 11503 at 11400\n",
+    },
+];
+
+#[test]
+fn follow_ups_are_paired_with_their_responses(rt: HostRuntime) -> Result<(), Fail> {
+    replay_each(&rt, rt.alloc(), &FOLLOW_UPS)
+}
+
+const BROKEN: [Case; 8] = [
+    // Lines 2 and 3, and lines 3 and 4, keep the error; lines 2 and 4 don't.
+    Case {
+        bytes: b"css-schedule 1 plain 0 -30 0 0 urn:dvb:css:timeline:pts -
+0 100 0 ask 0
+10 111 10 wall 10
+20 122 20 wall 20
+",
+        status: Status::Broken {
+            line: 4,
+            earlier: 2,
+            excess: 256_000_000,
+        },
+        printed: b"3 none NoAnswer\n",
+    },
+    // A reading of the television that is farther from its clock than the precision allows.
+    Case {
+        bytes: b"css-schedule 1 plain 0 -30 0 0 urn:x -
+1000 4800 1000 ask 1000
+1200 5000 1200 take 1 5002
+",
+        status: Status::Broken {
+            line: 3,
+            earlier: 3,
+            excess: 1,
+        },
         printed: b"",
     },
-    Refused {
-        bytes: b"1000 4800 1000 ask 1000\n",
-        line: 1,
+    // True time falls.
+    Case {
+        bytes: b"css-schedule 1 plain 0 -30 0 0 urn:x -
+1000 4800 1000 wall 1000
+999 4800 1000 wall 1000
+",
+        status: Status::Broken {
+            line: 3,
+            earlier: 2,
+            excess: 1,
+        },
+        printed: b"2 none NoAnswer\n",
+    },
+    // The companion's clock drifts.
+    Case {
+        bytes: b"css-schedule 1 plain 0 -30 0 0 urn:x -
+1000 4800 1000 wall 1000
+1000 4800 1002 wall 1002
+",
+        status: Status::Broken {
+            line: 3,
+            earlier: 2,
+            excess: 256_000_000,
+        },
+        printed: b"2 none NoAnswer\n",
+    },
+    // Both clocks drift: the wall clock is tested first.
+    Case {
+        bytes: b"css-schedule 1 plain 0 -30 0 0 urn:x -
+1000 4800 1000 wall 1000
+1000 4804 1002 wall 1002
+",
+        status: Status::Broken {
+            line: 3,
+            earlier: 2,
+            excess: 768_000_000,
+        },
+        printed: b"2 none NoAnswer\n",
+    },
+    // A reading of the companion falls, within its precision.
+    Case {
+        bytes: b"css-schedule 1 plain 0 -30 0 5 urn:x -
+1000 4800 1000 wall 1004
+1000 4800 1000 wall 1001
+",
+        status: Status::Broken {
+            line: 3,
+            earlier: 2,
+            excess: 3,
+        },
+        printed: b"2 none NoAnswer\n",
+    },
+    // A reading of the television falls, within its precision.
+    Case {
+        bytes: b"css-schedule 1 plain 0 -28 0 0 urn:x -
+1000 4800 1000 ask 1000
+1000 4800 1000 take 1 4802
+1000 4800 1000 take 1 4800
+",
+        status: Status::Broken {
+            line: 4,
+            earlier: 3,
+            excess: 2,
+        },
         printed: b"",
     },
-    Refused {
-        bytes: b"css-schedule 1 plain 0 -30 0 0 urn:x -\n1000 4800 1000 ask 1000\n1200 5000 1200 take 2 5000\n",
-        line: 3,
-        printed: b"",
-    },
-    Refused {
-        bytes: b"css-schedule 1 plain 0 -30 0 0 urn:x -\n1000 4800 1000 ask 1000\n1600 5400 1600 wall 1600\n",
-        line: 3,
-        printed: b"",
-    },
-    Refused {
-        bytes: b"css-schedule 1 plain 0 -30 0 0 urn:x -\n1000 4800 1000 ask 1000\n1200 5000 1200 take 1 5000\n1400 5200 1400 give 1 5200\n1600 5400 1600 land 1 999\n",
-        line: 5,
-        printed: b"",
-    },
-    Refused {
-        bytes: b"css-schedule 1 plain 0 -30 0 0 urn:x -\n1000 4800 1000 ask 1000\n1200 5000 1200 take 1 5000\n1400 5200 1400 give 1 5200\n1600 5400 1600 land 1 1600\n1600 5400 1600 wall 1599\n",
-        line: 6,
-        printed: b"",
-    },
-    Refused {
-        bytes: b"css-schedule 1 plain 0 -30 0 0 urn:x -\n1000 4800 1000 ask 1000\n1200 5000 1200 take 1 5000\n1400 5200 1400 give 1 5200\n1600 5400 1600 land 1 1600\n1600 5400 1600 wall 1600\n1700 5500 1700 wall 1700\n",
-        line: 7,
-        printed: PRINTED,
-    },
-    Refused {
-        bytes: b"css-schedule 1 plain 0 -30 0 0 urn:x -\n\n",
-        line: 2,
+    // The clock is tested before the reading, and the reading before what happens.
+    Case {
+        bytes: b"css-schedule 1 plain 0 -30 0 0 urn:x -
+1000 4800 1000 ask 1000
+1000 4802 1000 take 2 4900
+",
+        status: Status::Broken {
+            line: 3,
+            earlier: 2,
+            excess: 256_000_000,
+        },
         printed: b"",
     },
 ];
 
 #[test]
+fn a_line_that_breaks_the_world_ends_the_run(rt: HostRuntime) -> Result<(), Fail> {
+    replay_each(&rt, rt.alloc(), &BROKEN)
+}
+
+const REFUSED: [Case; 9] = [
+    Case {
+        bytes: b"",
+        status: Status::BadLine {
+            line: 1,
+            why: LineWhy::Form,
+        },
+        printed: b"",
+    },
+    Case {
+        bytes: b"1000 4800 1000 ask 1000\n",
+        status: Status::BadLine {
+            line: 1,
+            why: LineWhy::Form,
+        },
+        printed: b"",
+    },
+    Case {
+        bytes: b"css-schedule 1 plain 0 -30 0 0 urn:x -\n1000 4800 1000 ask 1000\n1200 5000 1200 take 2 5000\n",
+        status: Status::BadLine {
+            line: 3,
+            why: LineWhy::Absent,
+        },
+        printed: b"",
+    },
+    Case {
+        bytes: b"css-schedule 1 plain 0 -30 0 0 urn:x -\n1000 4800 1000 ask 1000\n1200 5000 1200 take 1 5000\n1400 5200 1400 give 2 5200\n",
+        status: Status::BadLine {
+            line: 4,
+            why: LineWhy::Absent,
+        },
+        printed: b"",
+    },
+    // A take is answered once.
+    Case {
+        bytes: b"css-schedule 1 plain 0 -30 0 0 urn:x -\n1000 4800 1000 ask 1000\n1200 5000 1200 take 1 5000\n1400 5200 1400 give 1 5200\n1500 5300 1500 give 1 5300\n",
+        status: Status::BadLine {
+            line: 5,
+            why: LineWhy::Absent,
+        },
+        printed: b"",
+    },
+    // Without a promise there is no follow-up.
+    Case {
+        bytes: b"css-schedule 1 plain 0 -30 0 0 urn:x -\n1000 4800 1000 ask 1000\n1200 5000 1200 take 1 5000\n1400 5200 1400 give 1 5200\n1600 5400 1600 land 2 1600\n",
+        status: Status::BadLine {
+            line: 5,
+            why: LineWhy::Absent,
+        },
+        printed: b"",
+    },
+    Case {
+        bytes: b"css-schedule 1 plain 0 -30 0 0 urn:x -\n\n",
+        status: Status::BadLine {
+            line: 2,
+            why: LineWhy::Form,
+        },
+        printed: b"",
+    },
+    // A verb of a later version.
+    Case {
+        bytes: b"css-schedule 1 plain 0 -30 0 0 urn:x -\n1000 4800 1000 wall 1000\n1200 5000 1200 speed 5000 1\n",
+        status: Status::BadLine {
+            line: 3,
+            why: LineWhy::Form,
+        },
+        printed: b"2 none NoAnswer\n",
+    },
+    Case {
+        bytes: b"css-schedule 1 plain 0 -30 0 0 urn:x -\n1000 4800 1000 wall 1000\n1200 5000 1200  wall 1200\n1300 5100 1300 wall 1300\n",
+        status: Status::BadLine {
+            line: 3,
+            why: LineWhy::Form,
+        },
+        printed: b"2 none NoAnswer\n",
+    },
+];
+
+#[test]
 fn the_first_bad_line_ends_the_run(rt: HostRuntime) -> Result<(), Fail> {
-    for refused in &REFUSED {
-        for devices in [WHOLE, BYTES] {
-            let ran = replay(rt.alloc(), refused.bytes, &devices)?;
-            let line = refused.line;
-            assert_eq!(rt;
-                ran.status,
-                Status::BadLine {
-                    line,
-                    why: LineWhy::Form
-                }
-            );
-            assert_eq!(rt; ran.sink.bytes(), refused.printed);
-        }
-    }
-    Ok(())
+    replay_each(&rt, rt.alloc(), &REFUSED)
+}
+
+/// The first response is lost, the second lands twice, and the third overtakes it; the follow-up of the first lands, and
+/// that of the third.
+const LOSSY: Case = Case {
+    bytes: b"css-schedule 1 follow 12800 -20 12800 1000 urn:dvb:css:timeline:pts -
+0 5000000000 0 wall 0
+1000000 5001000000 1000000 ask 1000000
+2000000 5002000000 2000000 ask 2000000
+3000000 5003000000 3000000 ask 3000000
+4000000 5004000000 4000000 take 1 5004000000
+4200000 5004200000 4200000 give 1 5004200000
+4400000 5004400000 4400000 take 3 5004400000
+4500000 5004500000 4500000 take 2 5004500000
+4600000 5004600000 4600000 give 2 5004600000
+4700000 5004700000 4700000 give 3 5004700000
+5000000 5005000000 5000000 land 2 5000000
+5000000 5005000000 5000000 wall 5000000
+5500000 5005500000 5500000 land 3 5500000
+6000000 5006000000 6000000 wall 6000000
+6500000 5006500000 6500000 land 5 6500000
+6600000 5006600000 6600000 land 5 6600000
+7000000 5007000000 7000000 land 4 7000000
+7000000 5007000000 7000000 wall 7000000
+1007000000 6007000000 1007000000 wall 1007000000
+",
+    status: Status::Done,
+    printed: b"2 none NoAnswer
+13 wall 5004197044 5008003357 at 5005000000
+15 wall 5004896994 5007403257 at 5006000000
+19 wall 5006096894 5008403357 at 5007000000
+20 wall 6005996899 6008503362 at 6007000000
+",
+};
+
+#[test]
+fn what_was_lost_repeated_or_reordered_changes_no_truth(rt: HostRuntime) -> Result<(), Fail> {
+    replay_each(&rt, rt.alloc(), &[LOSSY])
 }
 
 #[test]
@@ -167,20 +388,33 @@ fn a_header_alone_prints_nothing(rt: HostRuntime) -> Result<(), Fail> {
     Ok(())
 }
 
-/// The television answers before it received, by its clock, and more than its precision allows.
-const IMPOSSIBLE: &[u8] = b"css-schedule 1 plain 0 -30 0 0 urn:x -
+/// A schedule that is cut off by a read fault after lines 1, 2, 6 and 7: after so many bytes.
+const CUT: &[u8] = b"css-schedule 1 plain 0 -30 0 0 urn:x -
+1000 4800 1000 wall 1000
 1000 4800 1000 ask 1000
 1200 5000 1200 take 1 5000
-1400 5200 1400 give 1 6000
+1400 5200 1400 give 1 5200
 1600 5400 1600 land 1 1600
 1600 5400 1600 wall 1600
 ";
 
 #[test]
-fn an_impossible_answer_is_no_answer(rt: HostRuntime) -> Result<(), Fail> {
-    let ran = replay(rt.alloc(), IMPOSSIBLE, &WHOLE)?;
-    assert_eq!(rt; ran.status, Status::Done);
-    assert_eq!(rt; ran.sink.bytes(), b"6 none NoAnswer\n".as_slice());
+fn a_line_is_carried_out_when_its_line_feed_was_read(rt: HostRuntime) -> Result<(), Fail> {
+    for (bytes, printed) in [
+        (39, b"".as_slice()),
+        (64, b"2 none NoAnswer\n"),
+        (169, b"2 none NoAnswer\n"),
+        (194, b"2 none NoAnswer\n7 wall 5197 5603 at 5400\n"),
+    ] {
+        let devices = Devices {
+            piece: 1,
+            reads: &[bytes + 1],
+            writes: &[],
+        };
+        let ran = replay(rt.alloc(), CUT, &devices)?;
+        assert_eq!(rt; ran.status, Status::ReadFault);
+        assert_eq!(rt; ran.sink.bytes(), printed);
+    }
     Ok(())
 }
 

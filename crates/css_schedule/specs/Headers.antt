@@ -1,25 +1,38 @@
 -- The header of a schedule, as words.
-use Rattle.std.specs.Prelude.{ℕ, ◌+◌, pos, negsuc, if◌then◌else◌, List, [], ◌∷◌, Result, Ok, codes, bytes_eq}
+use Rattle.std.specs.Prelude.{ℕ, ◌+◌, pos, negsuc, if◌then◌else◌, Bool, true, false, List, [], ◌∷◌, Result, Ok, Err, codes, bytes_eq}
 use Rattle.css_model.specs.Numbers.{max_error, max_local_error, max_local_precision}
 use Rattle.css_model.specs.WallClock.{Local}
 use Rattle.css_schedule.specs.declared.fault.LineFault.{LineFault}
+use Rattle.css_schedule.specs.declared.fault.LineFault.TheVariants.{Form}
 use Rattle.css_schedule.specs.declared.opening.Declared.{Declared}
 use Rattle.css_schedule.specs.declared.header.Header.{Header}
 use Rattle.css_schedule.specs.declared.header.Start.{Start}
 use Rattle.css_schedule.specs.declared.header.Start.TheVariants.{One}
-use Rattle.std.specs.Prelude.{false}
-use Rattle.css_schedule.specs.Words.{At, ◌>>=◌, number_at, signed_at, text_at, after_word, all_read, words_of}
+use Rattle.css_schedule.specs.Words.{At, ◌>>=◌, number_at, signed_at, text_at, after_word, word_at, all_read, words_of}
 
 -- `-` stands for the empty stem
 abbrev pub stem_of : List ℕ → List ℕ
 stem_of word = if bytes_eq word (codes "-") then [] else word
 
--- `css-schedule 1 MODE`, and the words after it; the one MODE so far is `plain`, without follow-ups
-unfoldable pub after_mode : List (List ℕ) → Result (List (List ℕ)) LineFault
-after_mode words = do
+-- the words after `css-schedule 1`
+unfoldable pub after_version : List (List ℕ) → Result (List (List ℕ)) LineFault
+after_version words = do
   name ← after_word (codes "css-schedule") words
-  version ← after_word (codes "1") name
-  after_word (codes "plain") version
+  after_word (codes "1") name
+
+-- whether the television promises follow-ups, by the word for it
+abbrev pub mode_of : List ℕ → Result Bool LineFault
+mode_of word =
+    if bytes_eq word (codes "plain") then Ok false
+    else if bytes_eq word (codes "follow") then Ok true
+    else Err Form
+
+-- `MODE`
+unfoldable pub mode_at : At Bool
+mode_at words = do
+  word ← word_at words
+  follow ← mode_of word.0
+  Ok (follow, word.1)
 
 -- `EW KW EL PL`: the errors and precisions of the two clocks
 unfoldable pub declared_at : At Declared
@@ -33,9 +46,9 @@ declared_at words = do
 abbrev pub local_of : Declared → Local
 local_of declared = record { error = declared.error; precision = declared.precision }
 
-abbrev pub header_with : Declared → List ℕ → List ℕ → Header
-header_with declared selector stem = record {
-  follow = false;
+abbrev pub header_with : Bool → Declared → List ℕ → List ℕ → Header
+header_with follow declared selector stem = record {
+  follow = follow;
   tv_error = declared.tv_error;
   tv_precision = declared.tv_precision;
   companions = record { local = local_of declared; selector = selector; stem = stem_of stem } ∷ [];
@@ -44,12 +57,13 @@ header_with declared selector stem = record {
 -- `css-schedule 1 MODE EW KW EL PL SELECTOR STEM`
 unfoldable pub header_of_words : List (List ℕ) → Result Start LineFault
 header_of_words words = do
-  mode ← after_mode words
-  declared ← declared_at mode
+  version ← after_version words
+  follow ← mode_at version
+  declared ← declared_at follow.1
   selector ← text_at declared.1
   stem ← text_at selector.1
   end ← all_read stem.1
-  Ok (One (header_with declared.0 selector.0 stem.0))
+  Ok (One (header_with follow.0 declared.0 selector.0 stem.0))
 
 abbrev pub header_of : List ℕ → Result Start LineFault
 header_of bytes = header_of_words (words_of bytes)

@@ -27,8 +27,10 @@ IsVerb (Give take reading) = reading < LIMIT
 IsVerb (Land datagram reading) = reading < LIMIT
 IsVerb (Wall reading) = reading < LIMIT
 
+-- so is each clock, and the companion is the one that there is in version 1
 pub record IsLine (line : Line) : Type 0 where
   pub t : line.t < LIMIT
   pub w : line.w < LIMIT
+  pub who : line.who ≡ 1
   pub l : line.l < LIMIT
   pub verb : IsVerb line.verb

@@ -2,11 +2,11 @@ ghost use Rattle.std.specs.Prelude.{◌≡◌, ◌≤◌, ◌≤ℤ◌, pos, ◌
 ghost use Rattle.css_model.specs.Numbers.{max_error, max_local_error, max_local_precision};
 ghost use Rattle.css_num.specs.Gives.{GivesBy};
 ghost use Rattle.css_schedule.specs.Words.{words_left};
-ghost use Rattle.css_schedule.specs.Headers.{after_mode, declared_at, stem_of, header_of};
+ghost use Rattle.css_schedule.specs.Headers.{after_version, mode_of, mode_at, declared_at, stem_of, header_of};
 ghost use Rattle.css_schedule.specs.Ranges.{IsStart};
 ghost use Rattle.css_schedule.specs.declared.fault.LineFault.TheVariants as faults;
 
-use crate::words::{Words, all_words, finish, number, signed, skip, text};
+use crate::words::{Words, all_words, finish, number, signed, skip, text, word};
 use crate::{CompanionLine, Companions, Header, LineFault, Start};
 use css_num::{Memory, Text};
 use css_span::Local;
@@ -36,14 +36,35 @@ struct Declared {
     precision: u64,
 }
 
-// The words after those of version 1 and its mode.
-#[tactic(auto, unfolding(crate::specs::Headers::after_mode))]
-fn after_front<'a>(words: Words<'a>) -> Result<Words<'a>, LineFault>
-    ensures { GivesBy words_left faults.Memory result (after_mode (words_left words.entry)) }
+// The words after those of version 1.
+#[tactic(auto, unfolding(crate::specs::Headers::after_version))]
+fn after_version<'a>(words: Words<'a>) -> Result<Words<'a>, LineFault>
+    ensures { GivesBy words_left faults.Memory result (after_version (words_left words.entry)) }
 {
     let rest = skip(words, b"css-schedule")?;
-    let rest = skip(rest, b"1")?;
-    skip(rest, b"plain")
+    skip(rest, b"1")
+}
+
+// Whether the television promises follow-ups, by the word for it.
+fn follows(word: &[u8]) -> Result<bool, LineFault>
+    ensures { GivesBy (λ follow. follow) faults.Memory result (mode_of word.now) }
+{
+    if word == b"plain".as_slice() {
+        Ok(false)
+    } else if word == b"follow".as_slice() {
+        Ok(true)
+    } else {
+        Err(LineFault::Form)
+    }
+}
+
+#[tactic(auto, unfolding(crate::specs::Headers::mode_at))]
+fn mode<'a>(words: Words<'a>) -> Result<(bool, Words<'a>), LineFault>
+    ensures { GivesBy (λ x. (x.0, words_left x.1)) faults.Memory result (mode_at (words_left words.entry)) }
+{
+    let (name, rest) = word(words)?;
+    let follow = follows(name)?;
+    Ok((follow, rest))
 }
 
 // The errors and precisions of the two clocks, each in its range.
@@ -94,7 +115,7 @@ fn only(alloc: Global, local: Local, selector: &[u8], word: &[u8]) -> Result<Com
 /// Reads the first line of a schedule, without its line feed.
 ///
 /// The words are `css-schedule 1 MODE EW KW EL PL SELECTOR STEM` with exactly one space between two of them. MODE is
-/// `plain`. EW is the television's oscillator error, 0 to 25,600,000 in 1/256 ppm, and KW its precision, -128 to 30 as
+/// `plain`, or `follow` where the television promises follow-ups. EW is the television's oscillator error, 0 to 25,600,000 in 1/256 ppm, and KW its precision, -128 to 30 as
 /// the base-2 logarithm of seconds. EL is the companion's oscillator error, 0 to 2,560,000, and PL its precision, 0 to
 /// 1,000,000,000 ns. SELECTOR and STEM are words of bytes from `!` to `~`; the STEM `-` is the empty stem. Anything else
 /// is `Form`.
@@ -103,7 +124,8 @@ pub fn read_header(alloc: Global, bytes: &[u8]) -> Result<Start, LineFault>
     ensures value { GivesBy (λ x. x) faults.Memory result (header_of bytes.now) }
     ensures range { IfOk result IsStart }
 {
-    let rest = after_front(all_words(bytes))?;
+    let rest = after_version(all_words(bytes))?;
+    let (follow, rest) = mode(rest)?;
     let (declared, rest) = declaration(rest)?;
     let (selector, rest) = text(rest)?;
     let (stem, rest) = text(rest)?;
@@ -113,7 +135,7 @@ pub fn read_header(alloc: Global, bytes: &[u8]) -> Result<Start, LineFault>
         precision: declared.precision,
     };
     Ok(Start::One(Header {
-        follow: false,
+        follow,
         tv_error: declared.tv_error,
         tv_precision: declared.tv_precision,
         companions: only(alloc, local, selector, stem)?,

@@ -1,6 +1,23 @@
-use Rattle.css_app.proofs.Taken.{stands_after}
+use Rattle.css_app.proofs.Standing.{next-number, some_lines, stands-after, answers-line, answers-header, stands-header}
 use Rattle.css_app.proofs.replay.ReplayLines.line.Goals as goal
 
-pub returns-in-Ok-clause-stands : goal.returns-in-Ok-clause-stands
-returns-in-Ok-clause-stands c =
-    stands_after c.carry_out.result c.args.self.now c.in-Some.exchange c.carry_out.new.exchange c.args.text.now c.in-Ok.line c.in-Some.is c.in-Ok.ensures.value c.carry_out.ensures.stands
+pub carry_out-requires : goal.carry_out-requires
+carry_out-requires c = record { stands = some_lines c.args.self.now c.in-Some.world c.args.number c.requires.0 c.in-Some.is c.requires.1 c.requires.2 }
+
+pub returns-in-Some-clause-answers : goal.returns-in-Some-clause-answers
+returns-in-Some-clause-answers c =
+    answers-line c.carry_out.result c.args.self.now c.in-Some.world c.args.number c.args.text.now c.args.out.now.items c.carry_out.new.out.items c.in-Some.is c.carry_out.ensures.answers
+
+pub returns-in-Some-clause-stands : goal.returns-in-Some-clause-stands
+returns-in-Some-clause-stands c =
+    stands-after c.carry_out.result c.args.self.now c.in-Some.world c.carry_out.new.world c.args.number c.args.text.now c.in-Some.is c.carry_out.ensures.header c.carry_out.ensures.stands
+    (λ other stood. next-number c.args.self.now c.args.number c.requires.0 other c.requires.1 c.requires.2 stood)
+
+pub returns-in_ok-open-in-None-clause-answers : goal.returns-in_ok-open-in-None-clause-answers
+returns-in_ok-open-in-None-clause-answers c = λ before stands number.
+    answers-header c.args.self.now c.in_ok-open-in-None.field-0 c.args.text.now c.args.out.now.items c.in-None.is c.in_ok-open-in-None.ensures.0 before stands
+
+pub returns-in_ok-open-in-None-clause-stands : goal.returns-in_ok-open-in-None-clause-stands
+returns-in_ok-open-in-None-clause-stands c =
+    stands-header c.args.self.now c.in_ok-open-in-None.field-0 c.args.number c.args.text.now c.in-None.is c.in_ok-open-in-None.ensures.0 c.in_ok-open-in-None.ensures.1
+    (λ other stood. next-number c.args.self.now c.args.number c.requires.0 other c.requires.1 c.requires.2 stood)

@@ -1,0 +1,131 @@
+#!/usr/bin/env python3
+"""Times `css replay` on schedules that this script makes.
+
+    bench/replay.py [COUNT ..]          10,000, 100,000 and 1,000,000 lines, where no counts are given
+
+For each count two schedules are made: one of exchanges in flight out of order, with follow-ups, in which one line in
+five is `wall`, and one of `wall` lines alone after a first exchange. Printed are nanoseconds of processor time a line,
+where that of a header alone is taken off, and the peak of resident memory.
+"""
+
+import os
+import random
+import shutil
+import subprocess
+import sys
+import tempfile
+import time
+
+HERE = os.path.dirname(os.path.dirname(os.path.abspath(__file__)))
+PROGRAM = os.path.join(HERE, "crates", "css", "out", "css")
+HEADER = "css-schedule 1 follow 12800 -20 12800 1000 urn:dvb:css:timeline:pts -\n"
+WHOLE = 256_000_000
+FASTER = 12_800
+
+
+class Clocks:
+    """True time, and the two clocks with their drifts."""
+
+    def __init__(self):
+        self.time = 0
+
+    def pass_time(self, nanoseconds):
+        self.time += nanoseconds
+
+    def wall(self):
+        return 1_000_000_000 + self.time + FASTER * self.time // WHOLE
+
+    def own(self):
+        return 1_000_000_000 + self.time - FASTER * self.time // WHOLE
+
+    def line(self, words):
+        return f"{self.time} {self.wall()} {self.own()} {words}\n"
+
+
+def mixed(count, out):
+    """Exchanges in flight: requests and datagrams are lost, repeated and reordered."""
+    draw = random.Random(1)
+    clocks = Clocks()
+    requests = takes = datagrams = 0
+    open_takes = []
+    for number in range(count):
+        clocks.pass_time(30_000 + draw.randrange(900_000))
+        wall, own = clocks.wall(), clocks.own()
+        kind = number % 5
+        if kind == 0:
+            out.write(clocks.line(f"wall {own}"))
+        elif kind == 1 or requests == 0:
+            requests += 1
+            out.write(clocks.line(f"ask {own}"))
+        elif kind == 2 or not open_takes and datagrams == 0:
+            takes += 1
+            open_takes.append(takes)
+            out.write(clocks.line(f"take {requests - draw.randrange(min(requests, 4))} {wall}"))
+        elif kind == 3 and open_takes:
+            take = open_takes.pop(draw.randrange(len(open_takes)))
+            datagrams += 2
+            out.write(clocks.line(f"give {take} {wall}"))
+        else:
+            out.write(clocks.line(f"land {datagrams - draw.randrange(min(datagrams, 8))} {own}"))
+
+
+def walls(count, out):
+    """One exchange, and then `wall` lines alone."""
+    clocks = Clocks()
+    for words in ("ask {own}", "take 1 {wall}", "give 1 {wall}", "land 1 {own}"):
+        clocks.pass_time(100_000)
+        out.write(clocks.line(words.format(own=clocks.own(), wall=clocks.wall())))
+    for _ in range(count - 4):
+        clocks.pass_time(100_000)
+        out.write(clocks.line(f"wall {clocks.own()}"))
+
+
+def run(path):
+    """Processor seconds of one replay."""
+    with open(path, "rb") as schedule, open(os.devnull, "wb") as nothing:
+        child = subprocess.Popen([PROGRAM, "replay"], stdin=schedule, stdout=nothing)
+        _, status, usage = os.wait4(child.pid, 0)
+    if status != 0:
+        sys.exit(f"{path}: status {os.waitstatus_to_exitcode(status)}")
+    return usage.ru_utime + usage.ru_stime
+
+
+def peak(path):
+    """The greatest resident memory of one replay in kilobytes, read when it has taken the whole schedule."""
+    with open(path, "rb") as schedule, open(os.devnull, "wb") as nothing:
+        child = subprocess.Popen([PROGRAM, "replay"], stdin=subprocess.PIPE, stdout=nothing)
+        shutil.copyfileobj(schedule, child.stdin)
+        child.stdin.flush()
+        time.sleep(0.2)
+        with open(f"/proc/{child.pid}/status", encoding="ascii") as told:
+            greatest = next(int(line.split()[1]) for line in told if line.startswith("VmHWM:"))
+        child.stdin.close()
+        child.wait()
+    return greatest
+
+
+def measure(name, count, write, empty, folder):
+    path = os.path.join(folder, f"{name}-{count}.schedule")
+    with open(path, "w", encoding="ascii") as out:
+        out.write(HEADER)
+        write(count, out)
+    seconds = min(run(path) for _ in range(5)) - empty
+    print(f"{name:6} {count:>9} lines  {seconds / count * 1e9:7.0f} ns a line  peak {peak(path):>7} kB")
+
+
+def main():
+    counts = [int(word) for word in sys.argv[1:]] or [10_000, 100_000, 1_000_000]
+    subprocess.run([os.path.join(HERE, "css"), "replay"], input=HEADER.encode(), check=True)
+    with tempfile.TemporaryDirectory() as folder:
+        path = os.path.join(folder, "empty.schedule")
+        with open(path, "w", encoding="ascii") as out:
+            out.write(HEADER)
+        empty = min(run(path) for _ in range(5))
+        print(f"header alone  {empty * 1e3:.1f} ms  peak {peak(path)} kB")
+        for count in counts:
+            measure("mixed", count, mixed, empty, folder)
+            measure("walls", count, walls, empty, folder)
+
+
+if __name__ == "__main__":
+    main()

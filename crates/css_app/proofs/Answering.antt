@@ -1,0 +1,59 @@
+-- What a line of the world answers, told to the line engine.
+use Rattle.std.proofs.Common.{◌≡◌, ℕ, ◌⊎◌, inl, inr, ap, sym, subst, refl, List, ◌++◌}
+use Rattle.std.specs.Prelude.{Result, Ok, Err}
+use Rattle.css_lines.specs.Answers.{MayFault, Answers}
+use Rattle.css_lines.specs.declared.reader.LineFault as engine
+use Rattle.css_schedule.specs.declared.fault.LineFault.{LineFault}
+use Rattle.css_schedule.specs.declared.header.Header.{Header}
+use Rattle.css_schedule.specs.declared.line.Line.{Line}
+use Rattle.css_schedule.specs.Lines.{line_of}
+use Rattle.css_world.specs.Happened.{Numbered}
+use Rattle.css_world.specs.Verdicts.{line_meant}
+use Rattle.css_app.specs.declared.replay.Cause.{Cause}
+use Rattle.css_world.specs.declared.fault.WorldFault.{WorldFault}
+use Rattle.css_world.specs.declared.fault.WorldFault.TheVariants.{Broken, Absent, Memory}
+use Rattle.css_world.specs.Standing.{appended}
+use Rattle.css_app.specs.Replayed.{caused, read_meant}
+use Rattle.css_app.specs.Stands.{refused_fault}
+
+-- what was added is what is meant
+pub added : (meant : Result (List ℕ) WorldFault) (old new : List ℕ) → appended old meant ≡ Ok new
+    → (printed : List ℕ) × (caused meant ≡ Ok printed) × (new ≡ old ++ printed)
+added (Ok printed) old new e = (printed, refl, cc)
+added (Err fault) old new e = absurd (cc)
+
+caused-err : (meant : Result (List ℕ) WorldFault) (old : List ℕ) (fault : WorldFault) → appended old meant ≡ Err fault → meant ≡ Err fault
+caused-err (Ok printed) old fault e = absurd (cc)
+caused-err (Err f) old fault e = cc
+
+-- a fault is the meant one, or want of memory
+pub faulted : (meant : Result (List ℕ) WorldFault) (old : List ℕ) (fault : WorldFault) → (appended old meant ≡ Err fault) ⊎ (fault ≡ Memory)
+    → MayFault (caused meant) (refused_fault fault)
+faulted meant old (Broken earlier excess) (inl e) = ap caused (caused-err meant old (Broken earlier excess) e)
+faulted meant old (Broken earlier excess) (inr e) = absurd (cc)
+faulted meant old Absent (inl e) = ap caused (caused-err meant old Absent e)
+faulted meant old Absent (inr e) = absurd (cc)
+faulted meant old Memory h = tt
+
+-- a line that was carried out answers what is meant
+pub answers-ok : (header : Header) (lines : List Numbered) (number : ℕ) (text : List ℕ) (line : Line) (old new : List ℕ) → line_of text ≡ Ok line
+    → appended old (line_meant header lines (record { number = number; line = line })) ≡ Ok new
+    → Answers {T = Unit {0}} (read_meant header lines number (line_of text)) old new (Ok tt)
+answers-ok header lines number text line old new is e =
+    subst (λ (r : Result Line LineFault). Answers {T = Unit {0}} (read_meant header lines number r) old new (Ok tt)) (sym is)
+    (record { cases = added (line_meant header lines (record { number = number; line = line })) old new e })
+
+-- and so does one that was refused
+pub answers-err : (header : Header) (lines : List Numbered) (number : ℕ) (text : List ℕ) (line : Line) (old new : List ℕ) (fault : WorldFault) (told : engine.LineFault Cause)
+    → line_of text ≡ Ok line → told ≡ refused_fault fault
+    → (new ≡ old) × ((appended old (line_meant header lines (record { number = number; line = line })) ≡ Err fault) ⊎ (fault ≡ Memory))
+    → Answers {T = Unit {0}} (read_meant header lines number (line_of text)) old new (Err told)
+answers-err header lines number text line old new fault told is same e =
+    subst (λ (r : Result Line LineFault). Answers {T = Unit {0}} (read_meant header lines number r) old new (Err told)) (sym is)
+    (record {
+      cases = (
+        subst (λ (f : engine.LineFault Cause). MayFault (caused (line_meant header lines (record { number = number; line = line }))) f) (sym same)
+            (faulted (line_meant header lines (record { number = number; line = line })) old fault e.1),
+        e.0,
+      );
+    })

@@ -1,0 +1,303 @@
+-- What a replay prints keeps the promise.
+use Rattle.std.proofs.Common.{◌≡◌, ℕ, ◌+◌, ◌⊎◌, inl, inr, arith, ap, sym, subst, ◌∙◌, refl, Bool, true, false, cond, List, [], ◌∷◌, ◌++◌, length}
+use Rattle.std.specs.Int.{w8}
+use Rattle.std.specs.Prelude.{ℤ, pos, negsuc, ◌≤ℤ◌, FitsSigned, Option, Some, None, unwrap_or, slice_get, IfSome, MatchOption, Result, Ok, Err}
+use Rattle.std.specs.Option.{option_map}
+use Rattle.std.proofs.lemmas.List.{append_assoc, append-nil}
+use Rattle.css_num.specs.Spans.{Covers}
+use Rattle.std.proofs.lemmas.Int.{ints}
+use Rattle.css_model.specs.WallClock.{Answer, Local, IsLocal, IsLeast, scaled_width, narrowest}
+use Rattle.css_model.proofs.Narrowest.{least_by-least}
+use Rattle.css_outside.specs.Bytes.{IsPrefix}
+use Rattle.css_lines.specs.Lines.{whole_lines, last_part, unless_empty, lines_of}
+use Rattle.css_lines.specs.Meaning.{Outcome, followed_by, followed_from, refused_at, reader_outcome, line_outcome, is_long, offset, outcome_from, end_outcome, finish_outcome, outcome, outcome_so_far}
+use Rattle.css_lines.specs.declared.reader.Refusal.{Refusal}
+use Rattle.css_lines.specs.declared.reader.Refusal.TheVariants.{Long, Refused}
+use Rattle.css_span.specs.WallSpans.{span_of}
+use Rattle.css_schedule.specs.declared.fault.LineFault.{LineFault}
+use Rattle.css_schedule.specs.declared.header.Header.{Header}
+use Rattle.css_schedule.specs.declared.header.Start.{Start}
+use Rattle.css_schedule.specs.declared.header.Start.TheVariants.{One, Two}
+use Rattle.css_schedule.specs.declared.line.Line.{Line}
+use Rattle.css_schedule.specs.declared.line.Verb.{Verb}
+use Rattle.css_schedule.specs.declared.line.Verb.TheVariants.{Ask, Take, Give, Land, Wall}
+use Rattle.css_schedule.specs.Headers.{header_of}
+use Rattle.css_schedule.specs.Lines.{line_of}
+use Rattle.css_world.specs.declared.fault.WorldFault.{WorldFault}
+use Rattle.css_world.specs.declared.fault.WorldFault.TheVariants.{Broken, Absent, Memory}
+use Rattle.css_world.specs.Happened.{Numbered}
+use Rattle.css_world.specs.Verdicts.{local_of, IsDeclared, span_at, can_happen, printed_for, carried_out, line_meant}
+use Rattle.css_world.specs.Printed.{wall_text}
+use Rattle.css_world.specs.Standing.{AreAccepted}
+use Rattle.css_world.specs.Truth.{IsTrueWall}
+use Rattle.css_world.proofs.Worlds.{carried_ok}
+use Rattle.css_world.proofs.Truth.{accepted_lines_are_true}
+use Rattle.css_app.specs.declared.replay.Cause.{Cause}
+use Rattle.css_app.specs.declared.replay.Cause.TheVariants.{Form}
+use Rattle.css_app.specs.Replayed.{header_in, with_line, lines_in, caused, read_meant, meant_after, opened, text_meant, replayed}
+use Rattle.css_app.specs.Headline.{accepted_before, IsTrueInterval, IsCause, IsKept, AreKept, KeepsPromise}
+use Rattle.css_app.proofs.InRange.{lines_are_in_range, headers_are_in_range}
+use Rattle.css_app.proofs.Texts.{lines_in-push, is_next}
+
+-- ---- one line
+-- what is printed for a line that was accepted
+printed-is : (header : Header) (older : List Numbered) (now : Numbered) (printed : List ℕ) → carried_out header older now ≡ Ok printed
+    → printed ≡ printed_for header older now now.line.verb
+printed-is header older now printed e = by (can_happen header older now.line.verb) e
+  where
+    by : (b : Bool) → cond b (Ok (printed_for header older now now.line.verb)) (Err Absent) ≡ Ok printed → printed ≡ printed_for header older now now.line.verb
+    by true p = cc
+    by false p = absurd (cc)
+
+kept-wall : (header : Header) (older : List Numbered) (now : Numbered) (reading : ℕ) (printed : List ℕ)
+    → printed ≡ wall_text now.number (span_at now.line.who header older reading) now.line.w
+    → IfSome (span_at now.line.who header older reading) (λ span. Covers span (pos now.line.w))
+    → IsTrueInterval header older now reading printed ⊎ IsCause header older now printed
+kept-wall header older now reading printed is covers =
+    by (narrowest own reading accepted) (least_by-least (λ answer. scaled_width own answer reading) accepted) is covers
+  where
+    own : Local
+    own = local_of now.line.who header
+
+    accepted : List Answer
+    accepted = accepted_before header older now
+
+    by : (o : Option Answer) → MatchOption o (accepted ≡ []) (IsLeast (λ answer. scaled_width own answer reading) accepted)
+        → printed ≡ wall_text now.number (option_map (span_of own reading) o) now.line.w
+        → IfSome (option_map (span_of own reading) o) (λ span. Covers span (pos now.line.w))
+        → IsTrueInterval header older now reading printed ⊎ IsCause header older now printed
+    by None least e c = inr (record { lacking = least; is_printed = e })
+    by (Some answer) least e c = inl (record { response = answer; narrowest = least; contains = c; is_printed = e })
+
+kept-by : (header : Header) (older : List Numbered) (now : Numbered) (verb : Verb) (printed : List ℕ) → now.line.verb ≡ verb → IsTrueWall header older now
+    → printed ≡ printed_for header older now verb → IsKept header older now verb printed
+kept-by header older now (Wall reading) printed is truth e = kept-wall header older now reading printed e (truth reading is)
+kept-by header older now (Ask reading) printed is truth e = e
+kept-by header older now (Take request reading) printed is truth e = e
+kept-by header older now (Give take reading) printed is truth e = e
+kept-by header older now (Land datagram reading) printed is truth e = e
+
+-- what is printed for an accepted line keeps the promise
+kept_line : (header : Header) (older : List Numbered) (now : Numbered) (printed : List ℕ) → IsDeclared header → AreAccepted header (now ∷ older)
+    → line_meant header older now ≡ Ok printed → IsKept header older now now.line.verb printed
+kept_line header older now printed declared accepted e =
+    kept-by header older now now.line.verb printed refl (accepted_lines_are_true header older now declared accepted).wall
+    (printed-is header older now printed (carried_ok header older now printed e))
+
+-- ---- the header
+header-read : (r : Result Start LineFault) (header : Header) → header_in r ≡ Some header → r ≡ Ok (One header)
+header-read (Ok (One h)) header e = cc
+header-read (Ok (Two h n)) header e = absurd (cc)
+header-read (Err fault) header e = absurd (cc)
+
+-- a precision exponent in its range is one byte
+fits-exponent : (z : ℤ) → negsuc 127 ≤ℤ z → z ≤ℤ pos 30 → FitsSigned w8 z
+fits-exponent (pos n) low high = record { sfits = omega (arith, ints, high) }
+fits-exponent (negsuc n) low high = record { sfits = omega (arith, ints, low) }
+
+-- what a header that was read declares is in range
+declared : (text : List ℕ) (header : Header) → header_in (header_of text) ≡ Some header → IsDeclared header
+declared text header e =
+    let known = headers_are_in_range text header (header-read (header_of text) header e) in
+    record {
+      tv = known.tv;
+      exponent = fits-exponent header.tv_precision known.least known.tv.tv_precision;
+      local = subst (λ companions. IsLocal (unwrap_or (option_map (λ c. c.local) (slice_get companions 0)) (record { error = 0; precision = 0 }))) (sym known.alone) known.local;
+    }
+
+-- ---- the texts that were taken
+-- Texts were taken, and this is what was printed for them: the first is the header, and the lines of the others are
+-- accepted, and what was printed keeps the promise.
+record Taken (header : Header) (first : List ℕ) (texts : List (List ℕ)) (printed : List ℕ) : Type 0 where
+  is_header : header_in (header_of first) ≡ Some header
+  accepted : AreAccepted header (lines_in texts)
+  kept : AreKept header (lines_in texts) printed
+
+abbrev TakenAll : List (List ℕ) → List ℕ → Type 0
+TakenAll [] printed = printed ≡ []
+TakenAll (first ∷ texts) printed = (header : Header) × Taken header first texts printed
+
+caused-ok : (meant : Result (List ℕ) WorldFault) (printed : List ℕ) → caused meant ≡ Ok printed → meant ≡ Ok printed
+caused-ok (Ok p) printed e = cc
+caused-ok (Err (Broken earlier excess)) printed e = absurd (cc)
+caused-ok (Err Absent) printed e = absurd (cc)
+caused-ok (Err Memory) printed e = absurd (cc)
+
+-- one line more
+taken-line : (header : Header) (first : List ℕ) (texts : List (List ℕ)) (text sofar printed : List ℕ) (line : Result Line LineFault) → line_of text ≡ line
+    → Taken header first texts sofar → read_meant header (lines_in texts) (length (first ∷ texts) + 1) line ≡ Ok printed
+    → Taken header first (texts ++ text ∷ []) (sofar ++ printed)
+taken-line header first texts text sofar printed (Err fault) is taken e = absurd (cc)
+taken-line header first texts text sofar printed (Ok line) is taken e =
+    let older = lines_in texts in
+    let now : Numbered = record { number = length (first ∷ texts) + 1; line = line } in
+    let ok : line_meant header older now ≡ Ok printed = caused-ok (line_meant header older now) printed e in
+    let range = lines_are_in_range text line is in
+    let accepted : AreAccepted header (now ∷ older) = (range, range.who, is_next first texts, (printed, ok), taken.accepted) in
+    let is_declared = declared first header taken.is_header in
+    let pushed : lines_in (texts ++ text ∷ []) ≡ now ∷ older = lines_in-push first texts text ∙ ap (with_line (length (first ∷ texts) + 1) older) is in
+    record {
+      is_header = taken.is_header;
+      accepted = subst (λ (ls : List Numbered). AreAccepted header ls) (sym pushed) accepted;
+      kept = subst (λ (ls : List Numbered). AreKept header ls (sofar ++ printed)) (sym pushed)
+          (sofar, printed, refl, kept_line header older now printed is_declared accepted ok, taken.kept);
+    }
+
+-- one text more: the header, or a line
+taken_text : (before : List (List ℕ)) (text sofar printed : List ℕ) → TakenAll before sofar → text_meant before text ≡ Ok printed
+    → TakenAll (before ++ text ∷ []) (sofar ++ printed)
+taken_text [] text sofar printed taken e = by (header_in (header_of text)) refl e
+  where
+    by : (o : Option Header) → header_in (header_of text) ≡ o → opened o ≡ Ok printed → TakenAll (text ∷ []) (sofar ++ printed)
+    by None is p = absurd (cc)
+    by (Some header) is p =
+        let none : sofar ++ printed ≡ [] = rw (taken, same p) refl in
+        (header, record { is_header = is; accepted = tt; kept = none })
+      where
+        same : opened (Some header) ≡ Ok printed → printed ≡ []
+        same q = cc
+taken_text (first ∷ texts) text sofar printed taken e =
+    let header = taken.0 in
+    let read : read_meant header (lines_in texts) (length (first ∷ texts) + 1) (line_of text) ≡ Ok printed =
+    subst (λ (o : Option Header). meant_after o (lines_in texts) (length (first ∷ texts) + 1) (line_of text) ≡ Ok printed) taken.1.is_header e in
+    (header, taken-line header first texts text sofar printed (line_of text) refl taken.1 read)
+
+-- ---- outcomes
+-- Some of the texts were taken after those before, and what is printed for them was added; all of them, where none is
+-- refused.
+record Goes (before texts : List (List ℕ)) (sofar : List ℕ) (outcome : Outcome Cause) : Type 0 where
+  more : List (List ℕ)
+  rest : List (List ℕ)
+  parts : texts ≡ more ++ rest
+  all : outcome.verdict ≡ None → rest ≡ []
+  taken : TakenAll (before ++ more) (sofar ++ outcome.printed)
+
+-- nothing was taken
+stays : (before texts : List (List ℕ)) (sofar : List ℕ) (verdict : Option (ℕ × Refusal Cause)) → TakenAll before sofar
+    → (verdict ≡ None → texts ≡ []) → Goes before texts sofar (record { printed = []; verdict = verdict })
+stays before texts sofar verdict taken all = record {
+  more = [];
+  rest = texts;
+  parts = refl;
+  all = all;
+  taken = subst (λ (b : List (List ℕ)). TakenAll b (sofar ++ [])) (sym (append-nil before)) (subst (λ (p : List ℕ). TakenAll before p) (sym (append-nil sofar)) taken);
+}
+
+not-none : {A : Type 0} {P : Type 0} (x : A) → Some x ≡ None → P
+not-none x e = absurd (cc)
+
+-- what a line's outcome adds
+line_goes : (before : List (List ℕ)) (text : List ℕ) (texts : List (List ℕ)) (sofar : List ℕ) (end : ℕ) (next : Outcome Cause)
+    → TakenAll before sofar
+    → ((printed : List ℕ) → TakenAll (before ++ text ∷ []) (sofar ++ printed) → Goes (before ++ text ∷ []) texts (sofar ++ printed) next)
+    → Goes before (text ∷ texts) sofar (followed_by (line_outcome replayed before text end) next)
+line_goes before text texts sofar end next taken go = by (is_long replayed before text end) (text_meant before text) refl
+  where
+    number : ℕ
+    number = length before + 1
+
+    by : (long : Bool) (meant : Result (List ℕ) Cause) → text_meant before text ≡ meant
+        → Goes before (text ∷ texts) sofar (followed_by (cond long (refused_at [] number Long) (reader_outcome number meant)) next)
+    by true meant is = stays before (text ∷ texts) sofar (Some (number, Long)) taken (not-none (number, Long))
+    by false (Err cause) is = stays before (text ∷ texts) sofar (Some (number, Refused cause)) taken (not-none (number, Refused cause))
+    by false (Ok printed) is =
+        let gone = go printed (taken_text before text sofar printed taken is) in
+        record {
+          more = text ∷ gone.more;
+          rest = gone.rest;
+          parts = ap (λ ts. text ∷ ts) gone.parts;
+          all = gone.all;
+          taken = subst (λ (b : List (List ℕ)). TakenAll b (sofar ++ (printed ++ next.printed))) (append_assoc before (text ∷ []) gone.more)
+              (subst (λ (p : List ℕ). TakenAll ((before ++ text ∷ []) ++ gone.more) p) (append_assoc sofar printed next.printed) gone.taken);
+        }
+
+-- what the outcome of lines adds
+lines_go : (before texts : List (List ℕ)) (sofar : List ℕ) → TakenAll before sofar → Goes before texts sofar (outcome_from replayed before texts)
+lines_go before [] sofar taken = stays before [] sofar None taken (λ none. refl)
+lines_go before (text ∷ texts) sofar taken =
+    line_goes before text texts sofar (offset before + length text + 1) (outcome_from replayed (before ++ text ∷ []) texts) taken
+    (λ printed taken_so. lines_go (before ++ text ∷ []) texts (sofar ++ printed) taken_so)
+
+-- nothing is printed at the end, whatever comes of it
+finishes : (before : List (List ℕ)) → (verdict : Option (ℕ × Refusal Cause)) × (finish_outcome replayed before ≡ record { printed = []; verdict = verdict })
+finishes [] = (Some (1, Refused Form), refl)
+finishes (first ∷ texts) = (None, refl)
+
+-- what was taken keeps the promise
+promise_of : (bytes : List ℕ) (texts rest : List (List ℕ)) (printed : List ℕ) → lines_of bytes ≡ texts ++ rest → TakenAll texts printed → KeepsPromise bytes printed
+promise_of bytes [] rest printed parts taken = inl taken
+promise_of bytes (first ∷ texts) rest printed parts taken = inr (record {
+  first = first;
+  texts = texts;
+  rest = rest;
+  are_lines = parts;
+  header = taken.0;
+  is_header = taken.1.is_header;
+  whole = printed;
+  front = ([], sym (append-nil printed));
+  kept = taken.1.kept;
+})
+
+-- what is printed for whole lines keeps the promise
+pub so_far : (bytes : List ℕ) → KeepsPromise bytes (outcome_so_far replayed bytes).printed
+unfolding outcome_so_far
+so_far bytes =
+    let went = lines_go [] (whole_lines bytes) [] refl in
+    promise_of bytes went.more (went.rest ++ unless_empty (last_part bytes)) (outcome_from replayed [] (whole_lines bytes)).printed
+    (ap (λ ts. ts ++ unless_empty (last_part bytes)) went.parts ∙ append_assoc went.more went.rest (unless_empty (last_part bytes))) went.taken
+
+-- the last line, and the end
+end_goes : (before : List (List ℕ)) (last sofar : List ℕ) → TakenAll before sofar → Goes before (unless_empty last) sofar (end_outcome replayed before last)
+end_goes before [] sofar taken =
+    let ends = finishes before in
+    subst (λ (o : Outcome Cause). Goes before [] sofar o) (sym ends.1) (stays before [] sofar ends.0 taken (λ none. refl))
+end_goes before (byte ∷ bytes) sofar taken =
+    let ends = finishes (before ++ (byte ∷ bytes) ∷ []) in
+    line_goes before (byte ∷ bytes) [] sofar (offset before + length (byte ∷ bytes)) (finish_outcome replayed (before ++ (byte ∷ bytes) ∷ [])) taken
+    (λ printed taken_so. subst (λ (o : Outcome Cause). Goes (before ++ (byte ∷ bytes) ∷ []) [] (sofar ++ printed) o) (sym ends.1)
+    (stays (before ++ (byte ∷ bytes) ∷ []) [] (sofar ++ printed) ends.0 taken_so (λ none. refl)))
+
+-- so does what is printed for the whole input
+pub in_all : (bytes : List ℕ) → KeepsPromise bytes (outcome replayed bytes).printed
+unfolding outcome
+in_all bytes = by (outcome_from replayed [] whole) (lines_go [] whole [] refl)
+  where
+    whole : List (List ℕ)
+    whole = whole_lines bytes
+
+    last : List ℕ
+    last = last_part bytes
+
+    by : (o : Outcome Cause) → Goes [] whole [] o → KeepsPromise bytes (followed_from o.printed o.verdict (end_outcome replayed whole last)).printed
+    by o went = of o.verdict went.all
+      where
+        parts : lines_of bytes ≡ went.more ++ (went.rest ++ unless_empty last)
+        parts = ap (λ ts. ts ++ unless_empty last) went.parts ∙ append_assoc went.more went.rest (unless_empty last)
+
+        of : (v : Option (ℕ × Refusal Cause)) → (v ≡ None → went.rest ≡ []) → KeepsPromise bytes (followed_from o.printed v (end_outcome replayed whole last)).printed
+        of (Some v) all = promise_of bytes went.more (went.rest ++ unless_empty last) o.printed parts went.taken
+        of None all =
+            let none : whole ≡ went.more = went.parts ∙ ap (λ r. went.more ++ r) (all refl) ∙ append-nil went.more in
+            let taken : TakenAll whole o.printed = subst (λ (ts : List (List ℕ)). TakenAll ts o.printed) (sym none) went.taken in
+            let ended = end_goes whole last o.printed taken in
+            promise_of bytes (whole ++ ended.more) ended.rest (o.printed ++ (end_outcome replayed whole last).printed)
+            (ap (λ ts. whole ++ ts) ended.parts ∙ sym (append_assoc whole ended.more ended.rest)) ended.taken
+
+-- a front part keeps it too
+pub front_keeps : (bytes front whole : List ℕ) → IsPrefix front whole → KeepsPromise bytes whole → KeepsPromise bytes front
+front_keeps bytes front whole prefix (inl none) = inl (no_front front prefix.0 (sym none ∙ prefix.1))
+  where
+    no_front : (xs ys : List ℕ) → [] ≡ xs ++ ys → xs ≡ []
+    no_front [] ys e = refl
+    no_front (x ∷ xs) ys e = absurd (cc)
+front_keeps bytes front whole prefix (inr kept) = inr (record {
+  first = kept.first;
+  texts = kept.texts;
+  rest = kept.rest;
+  are_lines = kept.are_lines;
+  header = kept.header;
+  is_header = kept.is_header;
+  whole = kept.whole;
+  front = (prefix.0 ++ kept.front.0, kept.front.1 ∙ ap (λ w. w ++ kept.front.0) prefix.1 ∙ append_assoc front prefix.0 kept.front.0);
+  kept = kept.kept;
+})

@@ -1,0 +1,11 @@
+-- What the run adds to the sink keeps the promise, however it ends.
+use Rattle.css_app.proofs.Runs.{promised_done, promised_stop}
+use Rattle.css_app.proofs.program.run.Goals as goal
+
+pub returns-in-Ok-clause-promise : goal.returns-in-Ok-clause-promise
+returns-in-Ok-clause-promise g c = λ replays.
+    promised_done (g.S.Source.left c.args.source.now) (g.S.Source.left c.drive.new.source) (g.K.Sink.holds c.args.sink.now) (g.K.Sink.holds c.drive.new.sink) c.drive.new.lines c.in-Ok.ensures.done
+
+pub returns-clause-promise : goal.returns-clause-promise
+returns-clause-promise g c = λ replays.
+    promised_stop (g.S.Source.left c.args.source.now) (g.S.Source.left c.drive.new.source) (g.K.Sink.holds c.args.sink.now) (g.K.Sink.holds c.drive.new.sink) c.in-Err.stop c.in-Err.ensures.stopped

@@ -1,0 +1,11 @@
+pub mod Worlds
+pub mod Lawful
+pub mod Moments
+pub mod Tickets
+pub mod Made
+pub mod Landed
+pub mod Truth
+pub mod Storing
+pub mod Carrying
+pub mod Going
+pub mod Appending

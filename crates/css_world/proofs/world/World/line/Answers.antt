@@ -1,0 +1,29 @@
+-- A line that was shown, read and carried out is one more.
+use Rattle.css_world.proofs.Going.{Steps, line_answers, line_stands, line_true}
+use Rattle.css_world.proofs.world.World.line.Goals as goal
+
+-- what each step of the line left
+steps : (c : goal.After-carry_out) → Steps c.args.self.now c.show.new.self c.read.new.self c.carry_out.new.self c.args.out.now.items c.carry_out.new.out.items c.carry_out.result (record { number = c.args.number; line = c.args.line })
+steps c = record {
+  range = c.requires.line.0;
+  one = c.requires.line.1;
+  shown_ends = c.in_ok-show.ensures.ends;
+  shown_lasts = c.in_ok-show.ensures.lasts;
+  shown_ok = c.in_ok-show.ensures.verdict;
+  shown_drifts = c.in_ok-show.ensures.stands;
+  read_ends = c.in_ok-read.ensures.ends;
+  read_drifts = c.in_ok-read.ensures.drifts;
+  read_ok = c.in_ok-read.ensures.verdict;
+  read_readings = c.in_ok-read.ensures.stands;
+  clocks = c.carry_out.ensures.clocks;
+  prints = c.carry_out.ensures.prints;
+}
+
+pub returns-clause-answers : goal.returns-clause-answers
+returns-clause-answers c = line_answers c.carry_out.result (steps c)
+
+pub returns-clause-stands : goal.returns-clause-stands
+returns-clause-stands c = line_stands c.carry_out.result (steps c)
+
+pub returns-clause-truth : goal.returns-clause-truth
+returns-clause-truth c = line_true c.carry_out.result (steps c)

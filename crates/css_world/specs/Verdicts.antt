@@ -1,0 +1,105 @@
+-- What becomes of a line of a schedule after the lines before it, the newest of which stands first.
+use Rattle.std.specs.Prelude.{ℕ, ◌-◌, ◌==◌, ◌&&◌, Bool, true, not, if◌then◌else◌, map, List, [], Option, Some, None, is_some, unwrap_or, slice_get, Result, Ok, Err, FitsSigned}
+use Rattle.std.specs.Int.{w8}
+use Rattle.std.specs.Option.{option_map}
+use Rattle.std.specs.List.{filter}
+use Rattle.std.specs.Result.{result_and}
+use Rattle.css_num.specs.Spans.{Interval}
+use Rattle.css_model.specs.Numbers.{precision_ns}
+use Rattle.css_model.specs.WallClock.{Local, IsLocal}
+use Rattle.css_model.specs.History.{accepted_answers}
+use Rattle.css_span.specs.WallSpans.{wall_span}
+use Rattle.css_schedule.specs.declared.header.Header.{Header}
+use Rattle.css_schedule.specs.Ranges.{IsHeader}
+use Rattle.css_schedule.specs.declared.line.Verb.{Verb}
+use Rattle.css_schedule.specs.declared.line.Verb.TheVariants.{Ask, Take, Give, Land, Wall}
+use Rattle.css_world.specs.declared.fault.WorldFault.{WorldFault}
+use Rattle.css_world.specs.declared.fault.WorldFault.TheVariants.{Absent}
+use Rattle.css_world.specs.Happened.{Numbered, numbered, requests, tickets, datagrams, is_given, history_of}
+use Rattle.css_world.specs.Clocks.{Seen, clock_verdict, last_reading, reading_verdict}
+use Rattle.css_world.specs.Printed.{wall_text}
+
+-- what companion `who` takes its own clock for; a header has so many companions
+abbrev pub local_of : ℕ → Header → Local
+local_of who header = unwrap_or (option_map (λ companion. companion.local) (slice_get header.companions (who - 1))) (record { error = 0; precision = 0 })
+
+-- What a header declares is in range: the precision exponent is one of a datagram, and the oscillators' errors and the
+-- precision of the companion's readings are bounded.
+pub record IsDeclared (header : Header) : Type 0 where
+  pub tv : IsHeader header
+  pub exponent : FitsSigned w8 header.tv_precision
+  pub local : IsLocal (local_of 1 header)
+
+-- ---- broken
+-- the television's reading of its wall clock at a verb
+abbrev pub tv_reading : Verb → Option ℕ
+tv_reading (Take request reading) = Some reading
+tv_reading (Give take reading) = Some reading
+tv_reading _ = None
+
+-- a companion's reading of its own clock at a verb
+abbrev pub own_reading : Verb → Option ℕ
+own_reading (Ask reading) = Some reading
+own_reading (Land datagram reading) = Some reading
+own_reading (Wall reading) = Some reading
+own_reading _ = None
+
+-- what a line tells of the wall clock
+abbrev pub tv_seen : Numbered → Seen
+tv_seen now = record { number = now.number; time = now.line.t; shown = now.line.w; reading = tv_reading now.line.verb }
+
+-- what a line tells of its companion's clock
+abbrev pub own_seen : Numbered → Seen
+own_seen now = record { number = now.number; time = now.line.t; shown = now.line.l; reading = own_reading now.line.verb }
+
+-- what lines tell of the wall clock
+abbrev pub seen_of_tv : List Numbered → List Seen
+seen_of_tv lines = map tv_seen lines
+
+-- what the lines of companion `who` tell of its clock
+abbrev pub seen_of : ℕ → List Numbered → List Seen
+seen_of who lines = map own_seen (filter (λ now. now.line.who == who) lines)
+
+-- True time and what the clocks show: first the wall clock is tested, then the companion's.
+abbrev pub shown_tested : Header → List Numbered → Numbered → Result (Unit {0}) WorldFault
+shown_tested header older now =
+    result_and (clock_verdict header.tv_error (seen_of_tv older) (tv_seen now))
+    (clock_verdict (local_of now.line.who header).error (seen_of now.line.who older) (own_seen now))
+
+-- the reading that an end takes of its clock
+abbrev pub reading_tested : Header → List Numbered → Numbered → Result (Unit {0}) WorldFault
+reading_tested header older now =
+    result_and (reading_verdict now.number (precision_ns header.tv_precision) now.line.w (last_reading (seen_of_tv older)) (tv_reading now.line.verb))
+    (reading_verdict now.number (local_of now.line.who header).precision now.line.l (last_reading (seen_of now.line.who older)) (own_reading now.line.verb))
+
+-- the tests of a line's numbers, in their order
+abbrev pub tested : Header → List Numbered → Numbered → Result (Unit {0}) WorldFault
+tested header older now = result_and (shown_tested header older now) (reading_tested header older now)
+
+-- ---- absent
+-- A request is received that was sent; an answer is given to a take that was made and has none; a datagram lands that was
+-- made.
+abbrev pub can_happen : Header → List Numbered → Verb → Bool
+can_happen header older (Take request reading) = is_some (numbered request (requests older))
+can_happen header older (Give take reading) = is_some (numbered take (tickets header older)) && not (is_given take older)
+can_happen header older (Land datagram reading) = is_some (numbered datagram (datagrams header older))
+can_happen header older _ = true
+
+-- ---- printed
+-- The span of the wall clock at a reading of companion `who`'s clock: that of the narrowest of all answers that it has
+-- accepted so far.
+abbrev pub span_at : ℕ → Header → List Numbered → ℕ → Option Interval
+span_at who header older reading = wall_span (local_of who header) reading (accepted_answers (local_of who header) (history_of who header older))
+
+-- what is printed for a line: at `wall` the span, and the value that the line gives the wall clock
+abbrev pub printed_for : Header → List Numbered → Numbered → Verb → List ℕ
+printed_for header older now (Wall reading) = wall_text now.number (span_at now.line.who header older reading) now.line.w
+printed_for header older now _ = []
+
+-- what is printed for a line that isn't broken, or that it can't happen
+abbrev pub carried_out : Header → List Numbered → Numbered → Result (List ℕ) WorldFault
+carried_out header older now = if can_happen header older now.line.verb then Ok (printed_for header older now now.line.verb) else Err Absent
+
+-- what is printed for a line, or why it is refused
+abbrev pub line_meant : Header → List Numbered → Numbered → Result (List ℕ) WorldFault
+line_meant header older now = result_and (tested header older now) (carried_out header older now)

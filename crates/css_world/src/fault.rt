@@ -1,0 +1,74 @@
+ghost use Rattle.std.specs.Prelude.{◌≡◌};
+ghost use Rattle.css_world.specs.Clocks.{broken_by};
+ghost use Rattle.css_world.specs.declared.fault.WorldFault.TheVariants as faults;
+
+use css_moments::DriftFault;
+use css_num::Memory;
+use std::alloc::{AllocError, AllocFailed};
+use std::error::Error;
+use std::fmt;
+
+/// Why a line of a schedule isn't carried out.
+#[derive(Clone, Copy, Debug, PartialEq, Eq)]
+pub enum WorldFault {
+    /// Its numbers contradict those of an earlier line, or each other: true time fell, a clock drifted by more than its
+    /// oscillator's error allows, a reading differs from its clock by more than the precision, or a reading fell.
+    Broken {
+        /// The number of the earlier line; the line's own where a reading differs from its clock.
+        earlier: u64,
+        /// By how much, above 0: in 1/256,000,000 nanoseconds where a clock drifted, and else in nanoseconds.
+        excess: i128,
+    },
+    /// It names a request that wasn't sent, a take that wasn't made or has its answer, or a datagram that wasn't made.
+    Absent,
+    /// Memory ran out.
+    Memory,
+}
+
+impl fmt::Display for WorldFault {
+    fn fmt<W: fmt::Write>(&self, f: &mut fmt::Formatter<W>) -> fmt::Result {
+        match self {
+            WorldFault::Broken { earlier, excess } => {
+                write!(f, "broken with line {earlier} by {excess}")
+            }
+            WorldFault::Absent => f.write_str("absent"),
+            WorldFault::Memory => f.write_str("memory"),
+        }
+    }
+}
+
+impl Error for WorldFault {}
+
+impl From<DriftFault> for WorldFault {
+    ghost from_gives = { λ drift fault. fault ≡ broken_by drift };
+
+    fn from(fault: DriftFault) -> WorldFault {
+        match fault {
+            DriftFault::Broken { earlier, excess } => WorldFault::Broken { earlier, excess },
+        }
+    }
+}
+
+impl From<Memory> for WorldFault {
+    ghost from_gives = { λ _ fault. fault ≡ faults.Memory };
+
+    fn from(_: Memory) -> WorldFault {
+        WorldFault::Memory
+    }
+}
+
+impl From<AllocError> for WorldFault {
+    ghost from_gives = { λ _ fault. fault ≡ faults.Memory };
+
+    fn from(_: AllocError) -> WorldFault {
+        WorldFault::Memory
+    }
+}
+
+impl<T: Drop> From<AllocFailed<T>> for WorldFault {
+    ghost from_gives = { λ _ fault. fault ≡ faults.Memory };
+
+    fn from(_: AllocFailed<T>) -> WorldFault {
+        WorldFault::Memory
+    }
+}

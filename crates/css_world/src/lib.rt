@@ -1,0 +1,19 @@
+//! The television and the companion of a schedule, carried from line to line.
+//!
+//! Each line gives true time and the clocks, and says what happens then. The numbers of the lines are a world, or the
+//! first line that contradicts one is refused. So what is printed is true of that world, with no premise left.
+#![tactic(auto)]
+
+mod fault;
+mod lane;
+pub mod laws;
+mod place;
+mod printed;
+mod television;
+#[cfg(test)]
+mod tests;
+mod watch;
+mod world;
+
+pub use fault::WorldFault;
+pub use world::World;
