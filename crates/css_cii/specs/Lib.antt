@@ -3,3 +3,4 @@ pub mod Names
 pub mod States
 pub mod Texts
 pub mod Timelines
+pub mod FaultWords

@@ -19,6 +19,11 @@ pub enum CiiFault {
 }
 
 impl fmt::Display for CiiFault {
+    ghost use Rattle.std.specs.Prelude.{Some};
+    ghost use Rattle.css_cii.specs.FaultWords.{fault_words};
+
+    ghost output = { λ fault. Some (fault_words fault) };
+
     fn fmt<W: fmt::Write>(&self, f: &mut fmt::Formatter<W>) -> fmt::Result {
         match self {
             CiiFault::NotJson => f.write_str("not json"),

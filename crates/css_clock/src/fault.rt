@@ -37,6 +37,11 @@ impl<T: Drop> From<AllocFailed<T>> for ClockFault {
 }
 
 impl fmt::Display for ClockFault {
+    ghost use Rattle.std.specs.Prelude.{Some};
+    ghost use Rattle.css_clock.specs.FaultWords.{fault_words};
+
+    ghost output = { λ fault. Some (fault_words fault) };
+
     fn fmt<W: fmt::Write>(&self, f: &mut fmt::Formatter<W>) -> fmt::Result {
         match self {
             ClockFault::NoSuch(id) => write!(f, "there is no clock {id}"),

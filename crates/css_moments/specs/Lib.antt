@@ -2,3 +2,4 @@ pub mod Drifts
 pub mod Numbers
 pub mod Steps
 pub mod Standing
+pub mod FaultWords

@@ -16,6 +16,11 @@ pub enum DriftFault {
 }
 
 impl fmt::Display for DriftFault {
+    ghost use Rattle.std.specs.Prelude.{Some};
+    ghost use Rattle.css_moments.specs.FaultWords.{fault_words};
+
+    ghost output = { λ fault. Some (fault_words fault) };
+
     fn fmt<W: fmt::Write>(&self, f: &mut fmt::Formatter<W>) -> fmt::Result {
         match self {
             DriftFault::Broken { earlier, excess } => {

@@ -11,6 +11,10 @@ use std::fmt;
 pub struct Failed;
 
 impl fmt::Display for Failed {
+    ghost use Rattle.std.specs.Prelude.{Some, codes};
+
+    ghost output = { λ _. Some (codes "the device failed") };
+
     fn fmt<W: fmt::Write>(&self, f: &mut fmt::Formatter<W>) -> fmt::Result {
         f.write_str("the device failed")
     }
@@ -28,6 +32,11 @@ pub enum OutFault {
 }
 
 impl fmt::Display for OutFault {
+    ghost use Rattle.std.specs.Prelude.{Some};
+    ghost use Rattle.css_outside.specs.FaultWords.{fault_words};
+
+    ghost output = { λ fault. Some (fault_words fault) };
+
     fn fmt<W: fmt::Write>(&self, f: &mut fmt::Formatter<W>) -> fmt::Result {
         match self {
             OutFault::Failed => Failed.fmt(f),

@@ -2,3 +2,4 @@ pub mod Words
 pub mod Lines
 pub mod Headers
 pub mod Ranges
+pub mod FaultWords

@@ -15,10 +15,15 @@ pub enum LineFault {
 }
 
 impl fmt::Display for LineFault {
+    ghost use Rattle.std.specs.Prelude.{Some};
+    ghost use Rattle.css_schedule.specs.FaultWords.{fault_words};
+
+    ghost output = { λ fault. Some (fault_words fault) };
+
     fn fmt<W: fmt::Write>(&self, f: &mut fmt::Formatter<W>) -> fmt::Result {
         f.write_str(match self {
             LineFault::Form => "no line of a schedule",
-            LineFault::Memory => "memory",
+            LineFault::Memory => "out of memory",
         })
     }
 }

@@ -15,9 +15,14 @@ pub enum ServeFault {
 }
 
 impl fmt::Display for ServeFault {
+    ghost use Rattle.std.specs.Prelude.{Some};
+    ghost use Rattle.css_server.specs.FaultWords.{fault_words};
+
+    ghost output = { λ fault. Some (fault_words fault) };
+
     fn fmt<W: fmt::Write>(&self, f: &mut fmt::Formatter<W>) -> fmt::Result {
         match self {
-            ServeFault::Undecodable(fault) => write!(f, "no datagram of the protocol: {fault:?}"),
+            ServeFault::Undecodable(fault) => write!(f, "no datagram of the protocol: {fault}"),
             ServeFault::NotARequest => f.write_str("an answer where a request was awaited"),
         }
     }

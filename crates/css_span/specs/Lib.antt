@@ -1,3 +1,4 @@
 pub mod WallSpans
 pub mod Frontiers
 pub mod Verdicts
+pub mod FaultWords

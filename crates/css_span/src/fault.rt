@@ -15,6 +15,11 @@ pub enum AcceptFault {
 }
 
 impl fmt::Display for AcceptFault {
+    ghost use Rattle.std.specs.Prelude.{Some};
+    ghost use Rattle.css_span.specs.FaultWords.{fault_words};
+
+    ghost output = { λ fault. Some (fault_words fault) };
+
     fn fmt<W: fmt::Write>(&self, f: &mut fmt::Formatter<W>) -> fmt::Result {
         match self {
             AcceptFault::Impossible(width) => write!(f, "impossible: the scaled width is {width}"),

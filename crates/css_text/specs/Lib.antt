@@ -3,3 +3,4 @@ pub mod Fields
 pub mod Numerals
 pub mod Readings
 pub mod WholeTexts
+pub mod FaultWords

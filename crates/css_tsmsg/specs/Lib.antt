@@ -4,3 +4,4 @@ pub mod Names
 pub mod Presentations
 pub mod Setups
 pub mod Times
+pub mod FaultWords

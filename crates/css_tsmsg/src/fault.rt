@@ -24,6 +24,11 @@ pub enum TsFault {
 }
 
 impl fmt::Display for TsFault {
+    ghost use Rattle.std.specs.Prelude.{Some};
+    ghost use Rattle.css_tsmsg.specs.FaultWords.{fault_words};
+
+    ghost output = { λ fault. Some (fault_words fault) };
+
     fn fmt<W: fmt::Write>(&self, f: &mut fmt::Formatter<W>) -> fmt::Result {
         match self {
             TsFault::NotJson => f.write_str("not json"),

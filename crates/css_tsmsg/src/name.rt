@@ -36,6 +36,10 @@ impl TsName {
 }
 
 impl fmt::Display for TsName {
+    ghost use Rattle.std.specs.Prelude.{Some};
+
+    ghost output = { λ name. Some (json_name name) };
+
     fn fmt<W: fmt::Write>(&self, f: &mut fmt::Formatter<W>) -> fmt::Result {
         f.write_str(self.as_str())
     }

@@ -5,3 +5,4 @@ pub mod Clocks
 pub mod Verdicts
 pub mod Standing
 pub mod Truth
+pub mod FaultWords

@@ -26,13 +26,18 @@ pub enum WorldFault {
 }
 
 impl fmt::Display for WorldFault {
+    ghost use Rattle.std.specs.Prelude.{Some};
+    ghost use Rattle.css_world.specs.FaultWords.{fault_words};
+
+    ghost output = { λ fault. Some (fault_words fault) };
+
     fn fmt<W: fmt::Write>(&self, f: &mut fmt::Formatter<W>) -> fmt::Result {
         match self {
             WorldFault::Broken { earlier, excess } => {
                 write!(f, "broken with line {earlier} by {excess}")
             }
             WorldFault::Absent => f.write_str("absent"),
-            WorldFault::Memory => f.write_str("memory"),
+            WorldFault::Memory => f.write_str("out of memory"),
         }
     }
 }

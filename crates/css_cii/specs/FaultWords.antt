@@ -1,0 +1,12 @@
+-- The words in which a fault is told.
+use Rattle.std.specs.Prelude.{ℕ, ◌++◌, List, codes}
+use Rattle.css_cii.specs.Names.{json_name}
+use Rattle.css_cii.specs.declared.fault.CiiFault.{CiiFault}
+use Rattle.css_cii.specs.declared.fault.CiiFault.TheVariants as fault
+
+-- the words of a fault
+abbrev pub fault_words : CiiFault → List ℕ
+fault_words fault.NotJson = codes "not json"
+fault_words fault.NotObject = codes "not object"
+fault_words (fault.Field name) = codes "field " ++ json_name name
+fault_words fault.Memory = codes "out of memory"
