@@ -31,15 +31,19 @@ unfoldable pub whole_from : Place → List ℕ → List ℕ → List ℕ
 whole_from place run [] = rewritten run
 whole_from place run (b ∷ bytes) = settled place run b ++ whole_from (place_after place b) (run_after place run b) bytes
 
+-- how many odd numerals `b` settles: 0 or 1
 abbrev pub odd_at : Place → List ℕ → ℕ → ℕ
 odd_at place run b = if is_in_run place b then 0 else from_bool (is_odd run)
 
+-- the number of odd numerals from a place on, where `run` was passed just before
 unfoldable pub odd_from : Place → List ℕ → List ℕ → ℕ
 odd_from place run [] = from_bool (is_odd run)
 odd_from place run (b ∷ bytes) = odd_at place run b + odd_from (place_after place b) (run_after place run b) bytes
 
+-- the whole text
 abbrev pub whole_text : List ℕ → List ℕ
 whole_text = whole_from Outside []
 
+-- how many of its numerals are odd
 abbrev pub odd_count : List ℕ → ℕ
 odd_count = odd_from Outside []

@@ -62,12 +62,14 @@ pub struct Whole {
     pub odd: u32,
 }
 
-/// Appends what stands for a run, and tells how many odd numerals it is: 0 or 1.
-fn push_run(text: &mut Text, run: &[u8]) -> Result<u32, Memory>
-    ensures { IfOk result (λ odd. (text.new ≡ text.old ++ numerals.rewritten run.now)
+/// Appends bytes that stay as they are and what stands for the run after them, and tells how many odd numerals the run
+/// is: 0 or 1.
+fn push_run(text: &mut Text, before: &[u8], run: &[u8]) -> Result<u32, Memory>
+    ensures { IfOk result (λ odd. (text.new ≡ (text.old ++ before.now) ++ numerals.rewritten run.now)
         × (odd ≡ from_bool (numerals.is_odd run.now))) }
 {
     let (written, is_odd) = rewritten(run);
+    text.push(before)?;
     text.push(written)?;
     Ok(u32::from(is_odd))
 }
@@ -86,17 +88,21 @@ pub fn rewrite_numerals(alloc: Global, bytes: &[u8]) -> Result<Whole, Memory>
     let mut text = Text::new(alloc);
     let mut odd: u32 = 0;
     let mut place = Place::Outside;
+    // Up to `copied` the text is written, and from `start` on there is a run.
+    let mut copied = 0;
     let mut start = 0;
     for (i, b) in bytes.iter().enumerate() {
         if !place.is_in_run(*b) {
-            let more = push_run(&mut text, &bytes[start..i])?;
-            odd = odd.saturating_add(more);
-            text.push(&bytes[i..i + 1])?;
+            if start < i {
+                let more = push_run(&mut text, &bytes[copied..start], &bytes[start..i])?;
+                odd = odd.saturating_add(more);
+                copied = i;
+            }
             start = i + 1;
         }
         place = place.after(*b);
     }
-    let more = push_run(&mut text, &bytes[start..])?;
+    let more = push_run(&mut text, &bytes[copied..start], &bytes[start..])?;
     odd = odd.saturating_add(more);
     Ok(Whole { text, odd })
 }
