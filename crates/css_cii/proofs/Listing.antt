@@ -20,14 +20,17 @@ pub record IsWritten (timelines : List Timeline) (values : List Value) (i : ℕ)
   pub in_range : RatesAreInRange (drop i timelines) → RatesAreInRange timelines
   pub utf8 : SelectorsAreUtf8 (drop i timelines)
 
+-- no items follow
 followed_none : (items : Items) → followed items no_items ≡ items
 followed_none no_items = refl
 followed_none (item value values) = ap (item value) (followed_none values)
 
+-- an item at the end stands before what follows
 followed_more : (values : List Value) (value : Value) (rest : Items) → followed (items_view (values ++ value ∷ [])) rest ≡ followed (items_view values) (item (view value) rest)
 followed_more [] value rest = refl
 followed_more (v ∷ values) value rest = ap (item (view v)) (followed_more values value rest)
 
+-- what is left begins with the next timeline
 left : (timelines : List Timeline) (i : ℕ) (timeline : Timeline) → i < length timelines → timeline ≡ get_or timelines i timeline → drop i timelines ≡ timeline ∷ drop (i + 1) timelines
 left timelines i timeline lt is = rw (add-one, drop-cons timelines i timeline) (ap (λ t. t ∷ drop (suc i) timelines) (sym is))
 
@@ -52,6 +55,7 @@ one_written timelines values i timeline value lt is told rate h =
 pub all_written : (timelines : List Timeline) (values : List Value) (i : ℕ) → length timelines ≤ i → IsWritten timelines values i → items_view values ≡ timelines_items timelines
 all_written timelines values i past h = sym (followed_none _) ∙ ap (λ ts. followed (items_view values) (timelines_items ts)) (sym (drop_all i timelines past)) ∙ h.items
 
+-- each of their rates is in range
 pub all_in_range : (timelines : List Timeline) (values : List Value) (i : ℕ) → length timelines ≤ i → IsWritten timelines values i → RatesAreInRange timelines
 all_in_range timelines values i past h = h.in_range (subst RatesAreInRange (sym (drop_all i timelines past)) tt)
 

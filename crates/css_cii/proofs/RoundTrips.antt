@@ -35,6 +35,7 @@ put_first : (k : List ℕ) (value : Data) (members : Members) → StandsBefore k
 put_first k value no_members h = refl
 put_first k value (member l first rest) h = rw h refl
 
+-- a property whose name stands before them goes in front
 with_told_first : {T : Type 0} (written : T → Data) (p : CiiName) (told : Told T) (members : Members) → StandsBefore (json_name p) members → with_told written p told members ≡ said_before written p told members
 with_told_first written p Unsaid rest h = refl
 with_told_first written p (Said value) rest h = put_first (json_name p) (or_null written value) rest h
@@ -138,6 +139,7 @@ abbrev told_data : {T : Type 0} → (T → Data) → Told T → Option Data
 told_data written Unsaid = None
 told_data written (Said value) = Some (or_null written value)
 
+-- a look-up goes on where the names differ
 passed : (o : Ordering) (a b : Option Data) → is_eq o ≡ false → match_ordering o a b a ≡ a
 passed Less a b h = refl
 passed Equal a b h = absurd (true≢false h)
@@ -153,6 +155,7 @@ here : {T : Type 0} (written : T → Data) (k : List ℕ) (p : CiiName) (told : 
 here written k p Unsaid rest h none = none
 here written k p (Said value) rest h none = rw h refl
 
+-- each property is found under its name
 found_content_id : (c : Change) → get_member (json_name name.ContentId) (change_members c) ≡ told_data string c.content_id
 found_content_id c = here string (json_name name.ContentId) name.ContentId c.content_id (from1 c) refl (skip string (json_name name.ContentId) name.ContentIdStatus c.content_id_status (from2 c) refl ∙ skip string (json_name name.ContentId) name.MrsUrl c.mrs_url (from3 c) refl ∙ skip string (json_name name.ContentId) name.PresentationStatus c.presentation_status (from4 c) refl ∙ skip string (json_name name.ContentId) name.ProtocolVersion c.protocol_version (from5 c) refl ∙ skip string (json_name name.ContentId) name.TeUrl c.te_url (from6 c) refl ∙ skip timelines_data (json_name name.ContentId) name.Timelines c.timelines (from7 c) refl ∙ skip string (json_name name.ContentId) name.TsUrl c.ts_url (from8 c) refl ∙ skip string (json_name name.ContentId) name.WcUrl c.wc_url (from9 c) refl)
 
@@ -188,6 +191,7 @@ words_back p Unsaid = refl
 words_back p (Said None) = refl
 words_back p (Said (Some words)) = refl
 
+-- the test of a part that is in range
 in_range : (n : ℕ) → 1 ≤ n → n ≤ 1000000000 → is_rate_part n ≡ true
 in_range n low high = rw (le-leb 1 n low, le-leb n 1000000000 high) refl
 
@@ -195,16 +199,19 @@ in_range n low high = rw (le-leb 1 n low, le-leb n 1000000000 high) refl
 rate_back : (r : TickRate) → IsTickRate r → rate_of r.units_per_tick r.units_per_second ≡ Some r
 rate_back r h = rw (in_range _ h.second_positive h.second_small, in_range _ h.tick_positive h.tick_small) refl
 
+-- a timeline is read back from its object
 timeline_back : (t : Timeline) → IsTickRate t.rate → timeline_of (timeline_data t) ≡ Some t
 timeline_back t h =
     let small : t.rate.units_per_second < 2 ^ 63 = omega (arith, h.second_small) in
     let little : t.rate.units_per_tick < 2 ^ 63 = omega (arith, h.tick_small) in
     rw (lt-ltb _ _ small, lt-ltb _ _ little, in_range _ h.second_positive h.second_small, in_range _ h.tick_positive h.tick_small) (ap (timeline_from (field.Words t.selector)) (rate_back t.rate h))
 
+-- a list is read back from its items
 timelines_back : (ts : List Timeline) → RatesAreInRange ts → timelines_of (timelines_items ts) ≡ Some ts
 timelines_back [] h = refl
 timelines_back (t ∷ ts) h = rw (timeline_back t h.0, timelines_back ts h.1) refl
 
+-- a list or null is read back
 list_back : (told : Told (List Timeline)) → EachOf RatesAreInRange told → timelines_from (told_data timelines_data told) ≡ Ok told
 list_back Unsaid h = refl
 list_back (Said None) h = refl
@@ -231,21 +238,25 @@ pub message_back : (c : Change) (text : List ℕ) → EachOf RatesAreInRange c.t
 unfolding message_of
 message_back c text h told = ap change_or_fault told ∙ change_back c h
 
+-- the text is that of the definition
 pub text_is : (c : Change) → compact_text (object (change_members c)) ≡ change_text c
 unfolding change_text
 text_is c = refl
 
 -- ---- what may be written
 
+-- a text adds nothing but plain members
 plain_words : (told : Told (List ℕ)) (p : CiiName) (rest : Members) → MembersArePlain rest → MembersArePlain (said_before string p told rest)
 plain_words Unsaid p rest h = h
 plain_words (Said None) p rest h = (tt, h)
 plain_words (Said (Some words)) p rest h = (tt, h)
 
+-- the items of timelines are plain
 plain_items : (ts : List Timeline) → RatesAreInRange ts → ItemsArePlain (timelines_items ts)
 plain_items [] h = tt
 plain_items (t ∷ ts) h = (((omega (arith, h.0.second_small), (omega (arith, h.0.tick_small), tt)), (tt, tt)), plain_items ts h.1)
 
+-- timelines add nothing but plain members
 plain_list : (told : Told (List Timeline)) (rest : Members) → EachOf RatesAreInRange told → MembersArePlain rest → MembersArePlain (said_before timelines_data name.Timelines told rest)
 plain_list Unsaid rest r h = h
 plain_list (Said None) rest r h = (tt, h)
@@ -256,15 +267,18 @@ pub plain_change : (c : Change) → EachOf RatesAreInRange c.timelines → IsPla
 plain_change c h =
     plain_words c.content_id name.ContentId (from1 c) (plain_words c.content_id_status name.ContentIdStatus (from2 c) (plain_words c.mrs_url name.MrsUrl (from3 c) (plain_words c.presentation_status name.PresentationStatus (from4 c) (plain_words c.protocol_version name.ProtocolVersion (from5 c) (plain_words c.te_url name.TeUrl (from6 c) (plain_list c.timelines (from7 c) h (plain_words c.ts_url name.TsUrl (from8 c) (plain_words c.wc_url name.WcUrl (from9 c) (tt)))))))))
 
+-- a text adds no level
 shallow_words : (told : Told (List ℕ)) (p : CiiName) (rest : Members) → members_depth rest ≤ 3 → members_depth (said_before string p told rest) ≤ 3
 shallow_words Unsaid p rest h = h
 shallow_words (Said None) p rest h = omega arith
 shallow_words (Said (Some words)) p rest h = omega arith
 
+-- the items of timelines nest two levels deep at most
 shallow_items : (ts : List Timeline) → items_depth (timelines_items ts) ≤ 2
 shallow_items [] = omega arith
 shallow_items (t ∷ ts) = let h = shallow_items ts in omega arith
 
+-- timelines nest three levels deep at most
 shallow_list : (told : Told (List Timeline)) (rest : Members) → members_depth rest ≤ 3 → members_depth (said_before timelines_data name.Timelines told rest) ≤ 3
 shallow_list Unsaid rest h = h
 shallow_list (Said None) rest h = omega arith

@@ -1,5 +1,5 @@
 -- States are told apart by their nine properties.
-use Rattle.std.proofs.Common.{◌≡◌, ℕ, Bool, true, false, ◌&&◌, List, Option, Decides, refl, ap, ◌∙◌, subst}
+use Rattle.std.proofs.Common.{◌≡◌, ℕ, Bool, true, ◌&&◌, List, Option, Decides, refl, subst}
 use Rattle.std.specs.Prelude.{bytes_eq}
 use Rattle.std.proofs.lemmas.Bool.{and_parts}
 use Rattle.std.proofs.lemmas.Slice.Eq.{bytes_eq-Decides}
@@ -9,15 +9,19 @@ use Rattle.css_cii.specs.States.{is_same, is_same_state}
 use Rattle.css_cii.specs.declared.state.State.{State}
 use Rattle.css_cii.proofs.Sessions.{is_same-Decides}
 
-both : (a b : Bool) → a ≡ true → b ≡ true → (a && b) ≡ true
+-- two tests that hold hold together
+pub both : (a b : Bool) → a ≡ true → b ≡ true → (a && b) ≡ true
 both a b h k = rw (h, k) refl
 
+-- the test of texts that may be null is exact
 same_words : (a b : Option (List ℕ)) → Decides (is_same bytes_eq a b) (a ≡ b)
 same_words a b = is_same-Decides bytes_eq bytes_eq-Decides a b
 
+-- such a text equals itself
 itself : (a : Option (List ℕ)) → is_same bytes_eq a a ≡ true
 itself a = (same_words a a).1 refl
 
+-- a state passes the test with itself
 same_itself : (s : State) → is_same_state s s ≡ true
 unfolding is_same_state
 same_itself s =

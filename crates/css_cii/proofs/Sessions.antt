@@ -14,10 +14,12 @@ use Rattle.css_cii.specs.declared.change.Told.TheVariants.{Unsaid, Said}
 
 -- ---- one property
 
+-- no value
 abbrev pub Nothing : {T : Type 0} → Option T → Type 0
 Nothing None = ⊤
 Nothing (Some value) = ⊥
 
+-- the value, or another where there is none
 abbrev pub value_or : {T : Type 0} → T → Option T → T
 value_or other None = other
 value_or other (Some value) = value
@@ -29,13 +31,16 @@ is_same-Decides eq exact None (Some b) = (λ e. absurd (true≢false (sym e)), �
 is_same-Decides eq exact (Some a) None = (λ e. absurd (true≢false (sym e)), λ e. absurd (subst Nothing (sym e) tt))
 is_same-Decides eq exact (Some a) (Some b) = (λ e. ap Some ((exact a b).0 e), λ e. (exact a b).1 (ap (value_or a) e))
 
+-- what a test decides to tell, where the test is exact
 told_by : {T : Type 0} (old new : Option T) (same : Bool) → Decides same (old ≡ new) → TellsExactly old new (cond same Unsaid (Said new))
 told_by old new true exact = exact.0 refl
 told_by old new false exact = (refl, λ e. true≢false (sym (exact.1 e)))
 
+-- so it is of texts
 told_words : (old new : Option (List ℕ)) → TellsExactly old new (told_new bytes_eq old new)
 told_words old new = told_by old new (is_same bytes_eq old new) (is_same-Decides bytes_eq bytes_eq-Decides old new)
 
+-- and of timelines
 told_timelines : (old new : Option (List Timeline)) → TellsExactly old new (told_new timelines_eq old new)
 told_timelines old new = told_by old new (is_same timelines_eq old new) (is_same-Decides timelines_eq timelines_eq-Decides old new)
 
@@ -44,6 +49,7 @@ weaker : {T : Type 0} (old new : Option T) (told : Told T) → TellsExactly old 
 weaker old new Unsaid h = h
 weaker old new (Said value) h = h.0
 
+-- a property becomes what is told of it
 after-Tells : {T : Type 0} (old new : Option T) (told : Told T) → Tells old new told → after old told ≡ new
 after-Tells old new Unsaid h = h
 after-Tells old new (Said value) h = h
@@ -65,6 +71,7 @@ difference-exact old new = record {
   timelines = told_timelines old.timelines new.timelines;
 }
 
+-- so the difference tells the new state
 exact_tells : (old new : State) (change : Change) → TellsDifference old new change → TellsChange old new change
 exact_tells old new change h = record {
   protocol_version = weaker _ _ change.protocol_version h.protocol_version;

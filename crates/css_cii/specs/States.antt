@@ -83,9 +83,11 @@ is_same_state one other =
 abbrev pub told_new : {T : Type 0} → (T → T → Bool) → Option T → Option T → Told T
 told_new eq old new = if is_same eq old new then Unsaid else Said new
 
+-- what is told of a text
 abbrev pub words_told : Option (List ℕ) → Option (List ℕ) → Told (List ℕ)
 words_told = told_new bytes_eq
 
+-- what is told of the timelines
 abbrev pub timelines_told : Option (List Timeline) → Option (List Timeline) → Told (List Timeline)
 timelines_told = told_new timelines_eq
 
@@ -116,6 +118,23 @@ full_change state = record {
   te_url = Said state.te_url;
   timelines = Said state.timelines;
 }
+
+-- ---- equal changes
+
+-- the same is said of a property
+abbrev pub is_same_told : {T : Type 0} → (T → T → Bool) → Told T → Told T → Bool
+is_same_told eq Unsaid Unsaid = true
+is_same_told eq Unsaid (Said b) = false
+is_same_told eq (Said a) Unsaid = false
+is_same_told eq (Said a) (Said b) = is_same eq a b
+
+-- the same is said of each of the nine properties
+unfoldable pub is_same_change : Change → Change → Bool
+is_same_change one other =
+    is_same_told bytes_eq one.protocol_version other.protocol_version && (is_same_told bytes_eq one.mrs_url other.mrs_url && (is_same_told bytes_eq one.content_id other.content_id
+    && (is_same_told bytes_eq one.content_id_status other.content_id_status && (is_same_told bytes_eq one.presentation_status other.presentation_status
+    && (is_same_told bytes_eq one.wc_url other.wc_url && (is_same_told bytes_eq one.ts_url other.ts_url && (is_same_told bytes_eq one.te_url other.te_url
+    && is_same_told timelines_eq one.timelines other.timelines)))))))
 
 -- ---- what may be said when one state follows another
 

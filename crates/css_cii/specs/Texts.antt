@@ -6,6 +6,7 @@ use Rattle.css_num.specs.declared.timeline.Timeline.{Timeline}
 use Rattle.serde_json.specs.Data.{Data, null, number, unsigned, string, array, object, Items, no_items, item, Members, no_members, member, put}
 use Rattle.serde_json.specs.Written.{compact_text}
 use Rattle.css_cii.specs.Names.{json_name}
+use Rattle.css_cii.specs.declared.state.State.{State}
 use Rattle.css_cii.specs.declared.change.Change.{Change}
 use Rattle.css_cii.specs.declared.change.Told.{Told}
 use Rattle.css_cii.specs.declared.change.Told.TheVariants.{Unsaid, Said}
@@ -16,13 +17,16 @@ use Rattle.css_cii.specs.declared.name.CiiName.TheVariants as name
 abbrev pub rate_data : TickRate → Data
 rate_data rate = object (member (codes "unitsPerSecond") (number (unsigned rate.units_per_second)) (member (codes "unitsPerTick") (number (unsigned rate.units_per_tick)) no_members))
 
+-- a timeline
 abbrev pub timeline_data : Timeline → Data
 timeline_data timeline = object (member (codes "timelineProperties") (rate_data timeline.rate) (member (codes "timelineSelector") (string timeline.selector) no_members))
 
+-- the entries of a list of timelines
 abbrev pub timelines_items : List Timeline → Items
 timelines_items [] = no_items
 timelines_items (timeline ∷ timelines) = item (timeline_data timeline) (timelines_items timelines)
 
+-- a list of timelines
 abbrev pub timelines_data : List Timeline → Data
 timelines_data timelines = array (timelines_items timelines)
 
@@ -36,6 +40,7 @@ abbrev pub said_before : {T : Type 0} → (T → Data) → CiiName → Told T �
 said_before written property Unsaid rest = rest
 said_before written property (Said value) rest = member (json_name property) (or_null written value) rest
 
+-- the same of a text
 abbrev pub words_before : CiiName → Told (List ℕ) → Members → Members
 words_before = said_before string
 
@@ -84,6 +89,23 @@ pub record IsUtf8Change (change : Change) : Type 0 where
   pub ts_url : EachOf IsUtf8 change.ts_url
   pub te_url : EachOf IsUtf8 change.te_url
   pub timelines : EachOf SelectorsAreUtf8 change.timelines
+
+-- each text of a state is UTF-8
+pub record IsUtf8State (state : State) : Type 0 where
+  pub protocol_version : EachIn IsUtf8 state.protocol_version
+  pub mrs_url : EachIn IsUtf8 state.mrs_url
+  pub content_id : EachIn IsUtf8 state.content_id
+  pub content_id_status : EachIn IsUtf8 state.content_id_status
+  pub presentation_status : EachIn IsUtf8 state.presentation_status
+  pub wc_url : EachIn IsUtf8 state.wc_url
+  pub ts_url : EachIn IsUtf8 state.ts_url
+  pub te_url : EachIn IsUtf8 state.te_url
+  pub timelines : EachIn SelectorsAreUtf8 state.timelines
+
+-- so is each text of these changes
+abbrev pub AreUtf8Changes : List Change → Type 0
+AreUtf8Changes [] = ⊤
+AreUtf8Changes (change ∷ changes) = IsUtf8Change change × AreUtf8Changes changes
 
 -- ---- for private clauses
 

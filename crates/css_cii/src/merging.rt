@@ -1,5 +1,6 @@
 ghost use Rattle.std.specs.Prelude.{◌≡◌, List, IfOk};
 ghost use Rattle.css_cii.specs.States as states;
+ghost use Rattle.css_cii.specs.Texts.{IsUtf8State, IsUtf8Change, AreUtf8Changes};
 ghost use Rattle.css_cii.specs.declared.change.Told.TheVariants.{Said as said};
 ghost use Rattle.css_cii.specs.declared.state.State.{State as state};
 
@@ -30,9 +31,9 @@ fn timelines_after(
     }
 }
 
-/// The state after a message: what the message says is set, and the rest stays.
+/// Each property after a message.
 #[tactic(auto, unfolding(crate::specs::States::applied))]
-pub fn apply(state: &State, change: &Change) -> Result<State, Memory>
+fn properties_after(state: &State, change: &Change) -> Result<State, Memory>
     ensures { IfOk result (λ new. new ≡ states.applied state.now change.now) }
 {
     Ok(State {
@@ -48,6 +49,15 @@ pub fn apply(state: &State, change: &Change) -> Result<State, Memory>
     })
 }
 
+/// The state after a message: what the message says is set, and the rest stays.
+/// Where the texts of both are UTF-8, so are those of the new state.
+pub fn apply(state: &State, change: &Change) -> Result<State, Memory>
+    ensures value { IfOk result (λ new. new ≡ states.applied state.now change.now) }
+    ensures utf8 { IfOk result (λ new. IsUtf8State state.now → IsUtf8Change change.now → IsUtf8State new) }
+{
+    properties_after(state, change)
+}
+
 /// The state after the messages of a connection so far.
 ///
 /// Where they tell the states of a television, one after another, it is the last
@@ -57,6 +67,7 @@ pub fn apply(state: &State, change: &Change) -> Result<State, Memory>
 pub fn merge(changes: &[Change]) -> Result<State, Memory>
     ensures value { IfOk result (λ last. last ≡ states.merged changes.now) }
     ensures session { IfOk result (λ last. (told : List state) → states.IsSession told changes.now → last ≡ states.last_state told) }
+    ensures utf8 { IfOk result (λ last. AreUtf8Changes changes.now → IsUtf8State last) }
 {
     let mut state = State::empty();
     for change in changes {
@@ -109,11 +120,12 @@ fn difference(old: &State, new: &State) -> Result<Change, Memory>
 }
 
 /// The change from one state to another: exactly the properties that differ,
-/// also those that became null.
+/// also those that became null. It is UTF-8 where the texts of the new state are.
 pub fn diff(old: &State, new: &State) -> Result<Change, Memory>
     ensures value { IfOk result (λ change. change ≡ states.difference old.now new.now) }
     ensures exact { IfOk result (states.TellsDifference old.now new.now) }
     ensures applied { IfOk result (λ change. states.applied old.now change ≡ new.now) }
+    ensures utf8 { IfOk result (λ change. IsUtf8State new.now → IsUtf8Change change) }
 {
     difference(old, new)
 }
@@ -132,10 +144,9 @@ fn timelines_said(value: &Option<Timelines>) -> Result<Told<Timelines>, Memory>
     Ok(Told::Said(value.clone()?))
 }
 
-/// The change that says all nine properties of a state, as the first message of
-/// a connection does.
+/// What is said of a state in whole.
 #[tactic(auto, unfolding(crate::specs::States::full_change))]
-pub fn full(state: &State) -> Result<Change, Memory>
+fn all_said(state: &State) -> Result<Change, Memory>
     ensures { IfOk result (λ change. change ≡ states.full_change state.now) }
 {
     Ok(Change {
@@ -149,4 +160,13 @@ pub fn full(state: &State) -> Result<Change, Memory>
         te_url: words_said(&state.te_url)?,
         timelines: timelines_said(&state.timelines)?,
     })
+}
+
+/// The change that says all nine properties of a state, as the first message of
+/// a connection does. It is UTF-8 where the texts of the state are.
+pub fn full(state: &State) -> Result<Change, Memory>
+    ensures value { IfOk result (λ change. change ≡ states.full_change state.now) }
+    ensures utf8 { IfOk result (λ change. IsUtf8State state.now → IsUtf8Change change) }
+{
+    all_said(state)
 }

@@ -1,6 +1,7 @@
 ghost use Rattle.std.specs.Prelude.{◌≡◌, ◌↔◌, IsTrue, bytes_eq};
 ghost use Rattle.css_num.specs.Timelines.{timelines_eq};
 ghost use Rattle.css_cii.specs.States as states;
+ghost use Rattle.css_cii.specs.Texts.{IsUtf8State};
 
 use css_num::{Text, Timelines};
 
@@ -33,7 +34,8 @@ impl State {
     /// The state before the first message: nine nulls.
     #[tactic(auto, unfolding(crate::specs::States::empty))]
     pub fn empty() -> State
-        ensures { result ≡ states.empty }
+        ensures value { result ≡ states.empty }
+        ensures utf8 { IsUtf8State result }
     {
         State {
             protocol_version: None,

@@ -1,4 +1,5 @@
-ghost use Rattle.css_cii.specs.Texts.{IsUtf8Change};
+ghost use Rattle.std.specs.Prelude.{IfOk};
+ghost use Rattle.css_cii.specs.Texts.{IsUtf8State};
 
 use crate::{
     Change, CiiFault, CiiName, State, Told, apply, diff, full, merge, read_message, write_message,
@@ -246,6 +247,41 @@ fn each_text_is_read_or_refused(rt: HostRuntime) -> Result<(), Fail> {
     Ok(())
 }
 
+/// A front part, a piece so many times, and an end.
+fn repeated(
+    alloc: Global,
+    front: &[u8],
+    piece: &[u8],
+    times: usize,
+    end: &[u8],
+) -> Result<Text, Fail> {
+    let mut text = Text::of(alloc, front)?;
+    for _ in 0..times {
+        text.push(piece)?;
+    }
+    text.push(end)?;
+    Ok(text)
+}
+
+#[test]
+fn long_and_deep_texts_are_read_or_refused(rt: HostRuntime) -> Result<(), Fail> {
+    let alloc = rt.alloc();
+    let words = repeated(alloc, b"{\"mrsUrl\":\"", b"1.5 ", 1 << 18, b"\"}")?;
+    assert_eq!(rt; outcome(alloc, words.bytes())?.bytes(), words.bytes());
+    let numeral = repeated(alloc, b"{\"mrsUrl\":", b"7", 400, b"}")?;
+    assert_eq!(rt;
+        outcome(alloc, numeral.bytes())?.bytes(),
+        b"{\"mrsUrl\":null}".as_slice()
+    );
+    let rows: [(usize, &[u8]); 2] = [(126, b"{}"), (127, b"json")];
+    for (arrays, expected) in rows {
+        let front = repeated(alloc, b"{\"private\":", b"[", arrays, b"")?;
+        let text = repeated(alloc, front.bytes(), b"]", arrays, b"}")?;
+        assert_eq!(rt; outcome(alloc, text.bytes())?.bytes(), expected, "{arrays}");
+    }
+    Ok(())
+}
+
 fn some(alloc: Global, words: &str) -> Result<Option<Text>, Fail> {
     Ok(Some(Text::of(alloc, words.as_bytes())?))
 }
@@ -283,7 +319,10 @@ const FULL: &str =
     r#"{"contentId":"dvb://1.2.3","contentIdStatus":"final","mrsUrl":null,"presentationStatus":"okay","protocolVersion":"1.1","teUrl":null,"timelines":[{"timelineProperties":{"unitsPerSecond":90000,"unitsPerTick":1},"timelineSelector":"urn:dvb:css:timeline:pts"}],"tsUrl":"ws://127.0.0.1:6678/ts","wcUrl":"udp://127.0.0.1:6677"}"#;
 
 /// The state after a text.
-fn after(alloc: Global, state: &State, text: &str) -> Result<State, Fail> {
+fn after(alloc: Global, state: &State, text: &str) -> Result<State, Fail>
+    requires { IsUtf8State state.now }
+    ensures { IfOk result IsUtf8State }
+{
     match read_message(alloc, text.as_bytes()) {
         Ok(change) => Ok(apply(state, &change)?),
         Err(_) => Err("refused".into()),
@@ -294,8 +333,12 @@ fn after(alloc: Global, state: &State, text: &str) -> Result<State, Fail> {
 fn a_full_state_is_read(rt: HostRuntime) -> Result<(), Fail> {
     let alloc = rt.alloc();
     let state = evening(alloc)?;
-    assert!(rt; after(alloc, &State::empty(), FULL)? == state);
-    assert_eq!(rt; outcome(alloc, FULL.as_bytes())?.bytes(), FULL.as_bytes());
+    let told = after(alloc, &State::empty(), FULL)?;
+    assert!(rt; told == state);
+    assert_eq!(rt;
+        write_message(alloc, &full(&told)?)?.bytes(),
+        FULL.as_bytes()
+    );
     Ok(())
 }
 
@@ -315,12 +358,11 @@ fn texts_change_what_they_say(rt: HostRuntime) -> Result<(), Fail> {
     let fourth = after(alloc, &third, text)?;
     expected.timelines = timelines(alloc, "urn:x:1", 50)?;
     assert!(rt; fourth == expected);
-    let change = diff(&third, &fourth)?;
+    let written = write_message(alloc, &diff(&third, &fourth)?)?;
     assert_eq!(rt;
-        change.timelines,
-        Told::Said(timelines(alloc, "urn:x:1", 50)?)
+        written.bytes(),
+        br#"{"timelines":[{"timelineProperties":{"unitsPerSecond":50,"unitsPerTick":1},"timelineSelector":"urn:x:1"}]}"#.as_slice()
     );
-    assert_eq!(rt; change.content_id, Told::Unsaid);
     Ok(())
 }
 
@@ -336,6 +378,9 @@ fn differences_say_what_differs(rt: HostRuntime) -> Result<(), Fail> {
     assert!(rt; state.is_same(&state));
     assert!(rt; !state.is_same(&other));
     let change = diff(&state, &other)?;
+    assert!(rt; change.is_same(&change));
+    assert!(rt; !change.is_same(&diff(&other, &state)?));
+    assert!(rt; !change.is_same(&full(&other)?));
     assert_eq!(rt; change.ts_url, Told::Said(None));
     assert_eq!(rt; change.mrs_url, Told::Said(some(alloc, "")?));
     assert_eq!(rt; change.wc_url, Told::Unsaid);

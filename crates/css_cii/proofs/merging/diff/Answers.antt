@@ -1,8 +1,10 @@
--- The difference says exactly what differs, and leads to the new state.
+-- The difference says exactly what differs, leads to the new state, and is UTF-8 where that is.
 use Rattle.std.proofs.Common.{◌∙◌, ap, sym, subst}
 use Rattle.std.proofs.lemmas.Result.{IfOk-weaker}
 use Rattle.css_cii.specs.States.{applied, TellsDifference}
+use Rattle.css_cii.specs.Texts.{IsUtf8Change}
 use Rattle.css_cii.proofs.Sessions.{difference-exact, applied-difference}
+use Rattle.css_cii.proofs.Utf8.{difference-utf8}
 use Rattle.css_cii.proofs.merging.diff.Goals as goal
 
 pub returns-clause-exact : goal.returns-clause-exact
@@ -10,3 +12,6 @@ returns-clause-exact c = IfOk-weaker c.difference.result _ _ (λ change is. subs
 
 pub returns-clause-applied : goal.returns-clause-applied
 returns-clause-applied c = IfOk-weaker c.difference.result _ _ (λ change is. ap (applied c.args.old.now) is ∙ applied-difference c.args.old.now c.args.new.now) c.difference.ensures
+
+pub returns-clause-utf8 : goal.returns-clause-utf8
+returns-clause-utf8 c = IfOk-weaker c.difference.result _ _ (λ change is h. subst IsUtf8Change (sym is) (difference-utf8 c.args.old.now c.args.new.now h)) c.difference.ensures

@@ -9,6 +9,7 @@ use Rattle.css_cii.specs.declared.name.CiiName.TheVariants as name
 use Rattle.css_cii.proofs.RoundTrips.{in_order0}
 use Rattle.css_cii.proofs.writing.change_map.Goals as goal
 
+-- the members with a text more
 abbrev words : CiiName → Told (List ℕ) → Members → Members
 words property told members = with_told string property told members
 

@@ -1,0 +1,9 @@
+-- What a state has and what is said are UTF-8.
+use Rattle.std.proofs.Common.{sym, subst}
+use Rattle.std.proofs.lemmas.Result.{IfOk-weaker}
+use Rattle.css_cii.specs.Texts.{IsUtf8State}
+use Rattle.css_cii.proofs.Utf8.{applied-utf8}
+use Rattle.css_cii.proofs.merging.apply.Goals as goal
+
+pub returns-clause-utf8 : goal.returns-clause-utf8
+returns-clause-utf8 c = IfOk-weaker c.properties_after.result _ _ (λ new is h k. subst IsUtf8State (sym is) (applied-utf8 c.args.state.now c.args.change.now h k)) c.properties_after.ensures
