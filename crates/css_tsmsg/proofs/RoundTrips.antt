@@ -25,14 +25,17 @@ use Rattle.css_tsmsg.specs.declared.setup.Setup.{Setup}
 
 -- ---- numbers
 
+-- a speed is a plain number
 small_speed : (s : ℤ) → neg_ℤ (pos 64) ≤ℤ s → s ≤ℤ pos 64 → IsPlainNumber (of_integer s)
 small_speed (pos n) low high = omega (arith, ints)
 small_speed (negsuc n) low high = omega (arith, ints)
 
+-- a speed is read back from its number
 speed_back : (s : ℤ) → neg_ℤ (pos 64) ≤ℤ s → s ≤ℤ pos 64 → as_i64 (of_integer s) ≡ Some s
 speed_back (pos n) low high = let lt : n < 2 ^ 63 = omega (arith, ints) in rw (lt-ltb _ _ lt) refl
 speed_back (negsuc n) low high = refl
 
+-- the test of a speed that is in range
 speed_fits : (s : ℤ) → neg_ℤ (pos 64) ≤ℤ s → s ≤ℤ pos 64 → is_speed s ≡ true
 speed_fits (pos n) low high = let le : n ≤ 64 = omega (arith, ints) in rw (le-ltb _ _ le) refl
 speed_fits (negsuc n) low high = let lt : n < 64 = omega (arith, ints) in rw (lt-leb 64 n lt) refl
@@ -43,13 +46,16 @@ pub record Reads (bytes : List ℕ) (z : ℤ) : Type 0 where
   pub few : length (without_minus bytes) ≤ 18
   pub value : content_value bytes ≡ z
 
+-- a number is written as digits, one or more
 pub wall_form : (n : ℕ) → n < 2 ^ 64 → is_wall (decimal n) ≡ true
 wall_form n h = rw (ne_eqb (length (decimal n)) 0 (let some = decimal_nonempty n h in λ e. omega arith), decimal_digits n h) refl
 
+-- with no `-`
 plain : (n : ℕ) → n < 2 ^ 64 → has_minus (decimal n) ≡ false
 plain zero h = rw (decimal_digit 0 (omega arith)) refl
 plain (suc n) h = let first = first_decimal (suc n) (omega arith) h in ne_eqb (get_or (decimal (suc n)) 0 0) 45 (λ e. omega arith)
 
+-- a content time without a `-`
 reads_decimal : (n : ℕ) → n < 10 ^ 18 → Reads (decimal n) (pos n)
 reads_decimal n h =
     let small : n < 2 ^ 64 = omega arith in
@@ -60,6 +66,7 @@ reads_decimal n h =
       value = rw sign (ap pos (decimal_is_IsNumeral n small).1);
     }
 
+-- a content time with a `-`
 reads_negative : (n : ℕ) → suc n < 10 ^ 18 → Reads (45 ∷ decimal (suc n)) (negsuc n)
 reads_negative n h =
     let small : suc n < 2 ^ 64 = omega arith in
@@ -78,6 +85,7 @@ reads_signed (negsuc n) h = let low = h.low in let high = h.high in reads_negati
 pub wall_few : (n : ℕ) → n < 2 ^ 63 → length (decimal n) ≤ 19
 wall_few n h = length-decimal-le 19 n (omega arith) (omega arith) (omega arith)
 
+-- and is read back from them
 pub wall_value : (n : ℕ) → n < 2 ^ 63 → digits_value 10 (decimal n) ≡ n
 wall_value n h = (decimal_is_IsNumeral n (omega arith)).1
 
@@ -90,10 +98,12 @@ fields_back content wall speed h =
     let c = reads_signed content h.content_time in
     rw (speed_back speed h.slow h.fast, c.form, wall_form wall (omega (arith, h.wall_time)), le-ltb _ _ c.few, speed_fits speed h.slow h.fast, le-ltb _ _ (wall_few wall h.wall_time), wall_value wall h.wall_time, c.value, lt-leb (2 ^ 63) wall h.wall_time) refl
 
+-- the object of a control timestamp is plain
 pub control_plain : (c : Control) → IsInRange c → IsPlain (control_data c)
 control_plain (Available content wall speed) h = (tt, (small_speed speed h.slow h.fast, (tt, tt)))
 control_plain Unavailable h = (tt, (tt, (tt, tt)))
 
+-- and nests one level deep
 pub control_shallow : (c : Control) → depth (control_data c) ≤ max_depth
 control_shallow (Available content wall speed) = omega arith
 control_shallow Unavailable = omega arith
@@ -104,26 +114,32 @@ unfolding control_in
 members_back (Available content wall speed) h = fields_back content wall speed h
 members_back Unavailable h = refl
 
+-- so its text is read back as the same control timestamp
 pub control_back : (c : Control) (text : List ℕ) → IsInRange c → object_of text ≡ members_or_fault (Ok (control_data c)) → odd_count text ≡ 0 → control_of text ≡ Ok c
 unfolding control_of
 control_back c text h told none = ap₂ (λ members odd. control_or_fault members (nat_lt 0 odd)) told none ∙ members_back c h
 
+-- the text is that of the definition
 pub control_text_is : (c : Control) → compact_text (control_data c) ≡ control_text c
 unfolding control_text
 control_text_is c = refl
 
 -- ---- setups
 
+-- the object of a setup is plain
 pub setup_plain : (s : Setup) → IsPlain (setup_data s)
 setup_plain s = (tt, (tt, tt))
 
+-- and nests one level deep
 pub setup_shallow : (s : Setup) → depth (setup_data s) ≤ max_depth
 setup_shallow s = omega arith
 
+-- so its text is read back as the same setup
 pub setup_back : (s : Setup) (text : List ℕ) → object_of text ≡ members_or_fault (Ok (setup_data s)) → setup_of text ≡ Ok s
 unfolding setup_of setup_in
 setup_back s text told = ap setup_or_fault told
 
+-- the text is that of the definition
 pub setup_text_is : (s : Setup) → compact_text (setup_data s) ≡ setup_text s
 unfolding setup_text
 setup_text_is s = refl

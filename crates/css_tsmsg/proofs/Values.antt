@@ -10,6 +10,7 @@ use Rattle.std.specs.Char.{is_ascii_digit}
 use Rattle.std.specs.Str.Parse.{AllDigits, digits_value}
 use Rattle.css_tsmsg.specs.Times.{is_wall, has_minus, without_minus}
 
+-- bytes that pass the test are digits
 all_digits : (ds : List ℕ) → list_all is_ascii_digit ds ≡ true → AllDigits 10 ds
 all_digits [] h = tt
 all_digits (d ∷ ds) h =
@@ -20,9 +21,11 @@ all_digits (d ∷ ds) h =
     let value = digit_value_digit d (low, high) in
     (omega arith, all_digits ds p.1)
 
+-- so are those of a wall time
 pub wall_digits : (ds : List ℕ) → is_wall ds ≡ true → AllDigits 10 ds
 wall_digits ds h = all_digits ds (and_parts _ _ h).1
 
+-- so many digits write a number below that power of ten
 pub wall_below : (ds : List ℕ) (k : ℕ) → is_wall ds ≡ true → length ds ≤ k → digits_value 10 ds < 10 ^ k
 wall_below ds k h few = digits_value_short (numerals_by_value (AllDigits 10) tells_digits) ds k (wall_digits ds h) few
 
@@ -37,8 +40,10 @@ digit_more ds i value h few lt is =
     let within = digits_value-take-le 10 ds (i + 1) (omega arith) in
     (omega arith, omega arith)
 
+-- at the end the number is that of all digits
 pub ended : (ds : List ℕ) (i value : ℕ) → length ds ≤ i → value ≡ digits_value 10 (take i ds) → value ≡ digits_value 10 ds
 ended ds i value past is = is ∙ ap (digits_value 10) (take_all i ds past)
 
+-- without a `-` no byte is left out
 pub no_minus_few : (bytes : List ℕ) (k : ℕ) → has_minus bytes ≡ false → length (without_minus bytes) ≤ k → length bytes ≤ k
 no_minus_few bytes k h few = rw h at few

@@ -20,6 +20,7 @@ use Rattle.css_tsmsg.specs.declared.fault.TsFault.{TsFault}
 use Rattle.css_tsmsg.specs.declared.fault.TsFault.TheVariants as fault
 use Rattle.css_tsmsg.specs.declared.name.TsName.TheVariants as name
 
+-- the member is null
 abbrev pub is_null : Field → Bool
 is_null field.Null = true
 is_null _ = false
@@ -77,6 +78,7 @@ pub record AreInRange (content : ℤ) (wall : ℕ) (speed : ℤ) : Type 0 where
   pub slow : neg_ℤ (pos 64) ≤ℤ speed
   pub fast : speed ≤ℤ pos 64
 
+-- the numbers of a control timestamp are in range
 abbrev pub IsInRange : Control → Type 0
 IsInRange (Available content wall speed) = AreInRange content wall speed
 IsInRange Unavailable = ⊤

@@ -54,6 +54,7 @@ form_or_fault end (Some members) = form_in end members
 abbrev pub form_of : TsName → Option Data → Result Form TsFault
 form_of end value = form_or_fault end (option_and_then as_object value)
 
+-- a form that is there
 abbrev pub some_form : Result Form TsFault → Result (Option Form) TsFault
 some_form (Err fault) = Err fault
 some_form (Ok form) = Ok (Some form)
@@ -87,6 +88,7 @@ abbrev pub infinite_bound : TsName → ℤ → Bound
 infinite_bound name.Earliest content = MinusInfinity content
 infinite_bound _ content = PlusInfinity content
 
+-- the bound at a wall time that is in range
 abbrev pub wall_in_range : TsName → ℤ → Option (List ℕ) → Result Bound TsFault
 wall_in_range end content None = Ok (infinite_bound end content)
 wall_in_range end content (Some wall) =
@@ -99,10 +101,12 @@ bound_of end form =
     if nat_lt 18 (length (without_minus form.content)) then Err (fault.Range end)
     else wall_in_range end (content_value form.content) form.wall
 
+-- a bound that is there
 abbrev pub some_bound : Result Bound TsFault → Result (Option Bound) TsFault
 some_bound (Err fault) = Err fault
 some_bound (Ok bound) = Ok (Some bound)
 
+-- the bound of a form that may be absent
 abbrev pub actual_bound : Option Form → Result (Option Bound) TsFault
 actual_bound None = Ok None
 actual_bound (Some form) = some_bound (bound_of name.Actual form)
@@ -136,21 +140,25 @@ pub record AreTimes (content : ℤ) (wall : ℕ) : Type 0 where
   pub content_time : IsContent content
   pub wall_time : wall < 2 ^ 63
 
+-- the earliest bound isn't +infinity
 abbrev pub IsEarliest : Bound → Type 0
 IsEarliest (At content wall) = AreTimes content wall
 IsEarliest (MinusInfinity content) = IsContent content
 IsEarliest (PlusInfinity content) = ⊥
 
+-- the latest bound isn't -infinity
 abbrev pub IsLatest : Bound → Type 0
 IsLatest (At content wall) = AreTimes content wall
 IsLatest (MinusInfinity content) = ⊥
 IsLatest (PlusInfinity content) = IsContent content
 
+-- the bound has a wall time
 abbrev pub IsFinite : Bound → Type 0
 IsFinite (At content wall) = AreTimes content wall
 IsFinite (MinusInfinity content) = ⊥
 IsFinite (PlusInfinity content) = ⊥
 
+-- the actual bound, where it is there, has a wall time
 abbrev pub IsActual : Option Bound → Type 0
 IsActual None = ⊤
 IsActual (Some bound) = IsFinite bound
@@ -199,6 +207,7 @@ window_data earliest latest = object (window_members earliest latest)
 abbrev pub told_data : Bound → Bound → Bound → Data
 told_data earliest latest actual = object (member (json_name name.Actual) (bound_data actual) (window_members earliest latest))
 
+-- the object of two bounds, and a third where it is there
 abbrev pub data_of : Bound → Bound → Option Bound → Data
 data_of earliest latest None = window_data earliest latest
 data_of earliest latest (Some actual) = told_data earliest latest actual

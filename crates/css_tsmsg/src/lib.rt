@@ -21,4 +21,6 @@ pub use setup::{Setup, read_setup};
 pub use writing::{write_control, write_presentation, write_setup};
 
 #[cfg(test)]
+mod tables;
+#[cfg(test)]
 mod tests;
