@@ -36,7 +36,7 @@ use Rattle.css_app.specs.declared.replay.Cause.{Cause}
 use Rattle.css_app.specs.declared.replay.Cause.TheVariants.{Form}
 use Rattle.css_app.specs.Replayed.{header_in, with_line, lines_in, caused, read_meant, meant_after, opened, text_meant, replayed}
 use Rattle.css_app.specs.Headline.{accepted_before, IsTrueInterval, IsCause, IsKept, AreKept, KeepsPromise}
-use Rattle.css_app.proofs.InRange.{lines_are_in_range, headers_are_in_range}
+use Rattle.css_schedule.proofs.InRange.{lines_are_in_range, headers_are_in_range}
 use Rattle.css_app.proofs.Texts.{lines_in-push, is_next}
 
 -- ---- one line
