@@ -6,7 +6,7 @@ use itoa::{Buffer, Integer};
 use std::alloc::AllocError;
 
 /// Adds the line that is printed for the span of the wall clock: `N wall LO HI at W`, or `N none NoAnswer`.
-pub fn print_wall(
+pub(crate) fn print_wall(
     number: u64,
     span: Option<Span>,
     w: u64,
