@@ -1,5 +1,6 @@
 -- How a run ends, as a status.
-use Rattle.std.specs.Prelude.{ℕ, ◌≡◌, Bool, false, bytes_eq, List, [], ◌∷◌, codes, Option, Some, None}
+use Rattle.std.specs.Prelude.{ℕ, ◌≡◌, Bool, false, bytes_eq, List, [], ◌∷◌, ◌++◌, codes, decimal, Option, Some, None}
+use Rattle.std.specs.Fmt.{signed_decimal}
 use Rattle.std.specs.Io.KnownBytes.{Appends}
 use Rattle.css_outside.specs.Faults.{HasRisen}
 use Rattle.css_lines.specs.declared.reader.Refusal.{Refusal}
@@ -31,6 +32,22 @@ status_number (Broken line earlier excess) = 3
 status_number ReadFault = 4
 status_number WriteFault = 5
 status_number Memory = 14
+
+-- why a line is refused, in a word
+abbrev pub why_words : LineWhy → List ℕ
+why_words Long = codes "long"
+why_words Form = codes "form"
+why_words Absent = codes "absent"
+
+-- the words of a status, which stand behind the program's name on standard error
+abbrev pub status_words : Status → List ℕ
+status_words Done = codes "done"
+status_words Usage = codes "usage"
+status_words (BadLine line why) = codes "line " ++ decimal line ++ codes ": " ++ why_words why
+status_words (Broken line earlier excess) = codes "line " ++ decimal line ++ codes ": broken with line " ++ decimal earlier ++ codes " by " ++ signed_decimal excess
+status_words ReadFault = codes "read fault"
+status_words WriteFault = codes "write fault"
+status_words Memory = codes "memory"
 
 -- why the line of a schedule is refused
 abbrev pub refusal_of : LineWhy → Refusal Cause

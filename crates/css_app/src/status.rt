@@ -1,3 +1,5 @@
+use std::fmt;
+
 /// Why a line of a schedule ends the run.
 #[derive(Clone, Copy, Debug, PartialEq, Eq)]
 pub enum LineWhy {
@@ -9,7 +11,22 @@ pub enum LineWhy {
     Absent,
 }
 
-/// How a run ended.
+impl fmt::Display for LineWhy {
+    ghost use Rattle.std.specs.Prelude.{Some};
+    ghost use Rattle.css_app.specs.Ended.{why_words};
+
+    ghost output = { λ why. Some (why_words why) };
+
+    fn fmt<W: fmt::Write>(&self, f: &mut fmt::Formatter<W>) -> fmt::Result {
+        f.write_str(match self {
+            LineWhy::Long => "long",
+            LineWhy::Form => "form",
+            LineWhy::Absent => "absent",
+        })
+    }
+}
+
+/// How a run ended. It is printed in the words of the program's status line.
 #[derive(Clone, Copy, Debug, PartialEq, Eq)]
 pub enum Status {
     /// The input was read to its end, and all output was written.
@@ -54,6 +71,29 @@ impl Status {
             Status::ReadFault => 4,
             Status::WriteFault => 5,
             Status::Memory => 14,
+        }
+    }
+}
+
+impl fmt::Display for Status {
+    ghost use Rattle.std.specs.Prelude.{Some};
+    ghost use Rattle.css_app.specs.Ended.{status_words};
+
+    ghost output = { λ status. Some (status_words status) };
+
+    fn fmt<W: fmt::Write>(&self, f: &mut fmt::Formatter<W>) -> fmt::Result {
+        match self {
+            Status::Done => f.write_str("done"),
+            Status::Usage => f.write_str("usage"),
+            Status::BadLine { line, why } => write!(f, "line {line}: {why}"),
+            Status::Broken {
+                line,
+                earlier,
+                excess,
+            } => write!(f, "line {line}: broken with line {earlier} by {excess}"),
+            Status::ReadFault => f.write_str("read fault"),
+            Status::WriteFault => f.write_str("write fault"),
+            Status::Memory => f.write_str("memory"),
         }
     }
 }

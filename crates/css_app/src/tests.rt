@@ -487,3 +487,48 @@ fn a_write_fault_leaves_a_part(rt: HostRuntime) -> Result<(), Fail> {
     }
     Ok(())
 }
+
+#[test]
+fn each_status_has_its_words(rt: HostRuntime) -> Result<(), Fail> {
+    let rows = [
+        (Status::Done, "done"),
+        (Status::Usage, "usage"),
+        (
+            Status::BadLine {
+                line: 1,
+                why: LineWhy::Long,
+            },
+            "line 1: long",
+        ),
+        (
+            Status::BadLine {
+                line: 20,
+                why: LineWhy::Form,
+            },
+            "line 20: form",
+        ),
+        (
+            Status::BadLine {
+                line: 3,
+                why: LineWhy::Absent,
+            },
+            "line 3: absent",
+        ),
+        (
+            Status::Broken {
+                line: 4,
+                earlier: 2,
+                excess: 256_000_000,
+            },
+            "line 4: broken with line 2 by 256000000",
+        ),
+        (Status::ReadFault, "read fault"),
+        (Status::WriteFault, "write fault"),
+        (Status::Memory, "memory"),
+    ];
+    for (status, expected) in rows {
+        let words = format!(in rt.alloc(); "{status}")?;
+        assert_eq!(rt; words.as_str(), expected);
+    }
+    Ok(())
+}
