@@ -22,6 +22,7 @@ pub added : (meant : Result (List ℕ) WorldFault) (old new : List ℕ) → appe
 added (Ok printed) old new e = (printed, refl, cc)
 added (Err fault) old new e = absurd (cc)
 
+-- where nothing is appended, the fault is that of the line
 caused-err : (meant : Result (List ℕ) WorldFault) (old : List ℕ) (fault : WorldFault) → appended old meant ≡ Err fault → meant ≡ Err fault
 caused-err (Ok printed) old fault e = absurd (cc)
 caused-err (Err f) old fault e = cc

@@ -49,6 +49,7 @@ printed-is header older now printed e = by (can_happen header older now.line.ver
     by true p = cc
     by false p = absurd (cc)
 
+-- the promise is kept at `wall`
 kept-wall : (header : Header) (older : List Numbered) (now : Numbered) (reading : ℕ) (printed : List ℕ)
     → printed ≡ wall_text now.number (span_at now.line.who header older reading) now.line.w
     → IfSome (span_at now.line.who header older reading) (λ span. Covers span (pos now.line.w))
@@ -69,6 +70,7 @@ kept-wall header older now reading printed is covers =
     by None least e c = inr (record { lacking = least; is_printed = e })
     by (Some answer) least e c = inl (record { response = answer; narrowest = least; contains = c; is_printed = e })
 
+-- so it is at each verb
 kept-by : (header : Header) (older : List Numbered) (now : Numbered) (verb : Verb) (printed : List ℕ) → now.line.verb ≡ verb → IsTrueWall header older now
     → printed ≡ printed_for header older now verb → IsKept header older now verb printed
 kept-by header older now (Wall reading) printed is truth e = kept-wall header older now reading printed e (truth reading is)
@@ -113,10 +115,12 @@ record Taken (header : Header) (first : List ℕ) (texts : List (List ℕ)) (pri
   accepted : AreAccepted header (lines_in texts)
   kept : AreKept header (lines_in texts) printed
 
+-- so it is of all texts; where there is none nothing is printed
 abbrev TakenAll : List (List ℕ) → List ℕ → Type 0
 TakenAll [] printed = printed ≡ []
 TakenAll (first ∷ texts) printed = (header : Header) × Taken header first texts printed
 
+-- what is printed is what the world printed
 caused-ok : (meant : Result (List ℕ) WorldFault) (printed : List ℕ) → caused meant ≡ Ok printed → meant ≡ Ok printed
 caused-ok (Ok p) printed e = cc
 caused-ok (Err (Broken earlier excess)) printed e = absurd (cc)
@@ -183,6 +187,7 @@ stays before texts sofar verdict taken all = record {
   taken = subst (λ (b : List (List ℕ)). TakenAll b (sofar ++ [])) (sym (append-nil before)) (subst (λ (p : List ℕ). TakenAll before p) (sym (append-nil sofar)) taken);
 }
 
+-- what is there is not missing
 not-none : {A : Type 0} {P : Type 0} (x : A) → Some x ≡ None → P
 not-none x e = absurd (cc)
 

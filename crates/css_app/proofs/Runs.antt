@@ -18,15 +18,18 @@ use Rattle.css_app.proofs.Promise.{so_far, in_all, front_keeps}
 whole_keeps : (read printed : List ℕ) (o : Outcome Cause) → outcome replayed read ≡ o → o.printed ≡ printed → KeepsPromise read printed
 whole_keeps read printed o e p = subst (λ (x : List ℕ). KeepsPromise read x) (ap (λ (y : Outcome Cause). y.printed) e ∙ p) (in_all read)
 
+-- a run that ends at a refused line keeps the promise
 refused_keeps : (read printed : List ℕ) (left : Option (List ℕ)) (line : ℕ) (why : Refusal Cause) → IsRefused replayed read left printed line why → KeepsPromise read printed
 refused_keeps read printed left line why (inl each) =
     whole_keeps read printed (refused_at printed line why) (ap (λ (bytes : List ℕ). outcome replayed bytes) (sym (append-nil read)) ∙ each []) refl
 refused_keeps read printed left line why (inr ended) = whole_keeps read printed (refused_at printed line why) ended.1 refl
 
+-- so does one that is cut off
 cut_keeps : (read printed : List ℕ) (left : Option (List ℕ)) → IsCutOff replayed read left printed → KeepsPromise read printed
 cut_keeps read printed left (inl front) = front_keeps read printed (outcome_so_far replayed read).printed front (so_far read)
 cut_keeps read printed left (inr ended) = front_keeps read printed (outcome replayed read).printed ended.1 (in_all read)
 
+-- and one that ends for any cause
 stop_keeps : (read printed : List ℕ) (left : Option (List ℕ)) (stop : Stop Cause) → MayStop replayed read left printed stop → KeepsPromise read printed
 stop_keeps read printed left (BadLine line why) may = refused_keeps read printed left line why may.0
 stop_keeps read printed left ReadFault may = subst (λ (x : List ℕ). KeepsPromise read x) (sym may.1) (so_far read)

@@ -16,9 +16,11 @@ use Rattle.css_app.specs.Replayed.{header_in, lines_in, with_line, read_meant, m
 use Rattle.css_app.specs.Stands.{Stands}
 use Rattle.css_app.proofs.Texts.{lines_in-push, is_next}
 
+-- equal values that are there are equal
 same_Some : {A : Type 0} (x y : A) → Some x ≡ Some y → x ≡ y
 same_Some x y e = cc
 
+-- a text more is one more
 push-length : (texts : List (List ℕ)) (text : List ℕ) → length (texts ++ text ∷ []) ≡ length texts + 1
 push-length [] text = omega arith
 push-length (t ∷ texts) text = omega (arith, push-length texts text)
@@ -62,6 +64,7 @@ after_text replay old new number text is header goes (first ∷ texts) e stands 
       ),
     )
 
+-- the replay stands for one text more
 pub stands-after : {T : Type 0} (result : Result T (engine.LineFault Cause)) (replay : Replay) (old new : World) (number : ℕ) (text : List ℕ) → replay.world ≡ Some old → new.header ≡ old.header
     → ((lines : List Numbered) → worlds.StandsFor old lines → worlds.IsNext number lines → OnOk result (worlds.StandsFor new (with_line number lines (line_of text))))
     → ((other : List (List ℕ)) → Stands replay other → number ≡ length other + 1)

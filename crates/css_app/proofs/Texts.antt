@@ -16,6 +16,7 @@ lines_after-push number older (t ∷ texts) text =
     lines_after-push (suc number) (with_line number older (line_of t)) texts text
     ∙ ap (λ (n : ℕ). with_line n (lines_after (suc number) (with_line number older (line_of t)) texts) (line_of text)) (omega arith)
 
+-- the lines of one text more
 pub lines_in-push : (first : List ℕ) (texts : List (List ℕ)) (text : List ℕ)
     → lines_in (texts ++ text ∷ []) ≡ with_line (length (first ∷ texts) + 1) (lines_in texts) (line_of text)
 lines_in-push first texts text =
@@ -26,10 +27,12 @@ next-later : (number later : ℕ) (older : List Numbered) → number ≤ later �
 next-later number later [] le next = tt
 next-later number later (last ∷ older) le next = omega (arith, le, next)
 
+-- the number after a line is next
 next-line : (number : ℕ) (older : List Numbered) (line : Result Line LineFault) → IsNext number older → IsNext (suc number) (with_line number older line)
 next-line number older (Ok line) next = omega arith
 next-line number older (Err fault) next = next-later number (suc number) older (omega arith) next
 
+-- and so is the number after several
 next-after : (number : ℕ) (older : List Numbered) (texts : List (List ℕ)) → IsNext number older → IsNext (number + length texts) (lines_after number older texts)
 next-after number older [] next = next-later number (number + 0) older (omega arith) next
 next-after number older (t ∷ texts) next =

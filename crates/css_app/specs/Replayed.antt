@@ -47,6 +47,7 @@ abbrev pub read_meant : Header → List Numbered → ℕ → Result Line LineFau
 read_meant header older number (Err fault) = Err Form
 read_meant header older number (Ok line) = caused (line_meant header older (record { number = number; line = line }))
 
+-- a line is carried out where the header was read
 abbrev pub meant_after : Option Header → List Numbered → ℕ → Result Line LineFault → Result (List ℕ) Cause
 meant_after None older number line = Err Form
 meant_after (Some header) older number line = read_meant header older number line
@@ -66,5 +67,6 @@ abbrev pub finish_meant : List (List ℕ) → Result (List ℕ) Cause
 finish_meant [] = Err Form
 finish_meant (first ∷ texts) = Ok []
 
+-- what a replay makes of its lines: each has at most 4,096 bytes, and all have at most 67,108,864
 abbrev pub replayed : Meaning Cause
 replayed = record { longest_line = λ before. 4096; longest_input = λ before. 67108864; line = text_meant; finish = finish_meant }

@@ -11,10 +11,12 @@ use Rattle.std.specs.List.{onto_first}
 use Rattle.css_schedule.specs.declared.fault.LineFault.TheVariants.{Form}
 use Rattle.css_schedule.specs.Words.{is_space, words_of, all_read}
 
+-- nothing is chosen where the choice says no
 chosen_none : {A : Type 0} (b : Bool) (x : A) → cond b (Some x) None ≡ None → b ≡ false
 chosen_none true x e = absurd (cc)
 chosen_none false x e = refl
 
+-- what is chosen is the value, where the choice says yes
 chosen_some : {A : Type 0} (b : Bool) (x y : A) → cond b (Some x) None ≡ Some y → (b ≡ true) × (x ≡ y)
 chosen_some true x y e = (refl, cc)
 chosen_some false x y e = absurd (cc)
@@ -36,6 +38,7 @@ words_of-first bytes at e =
 pub take-drop_end : (n : ℕ) (bytes : List ℕ) → take (length bytes - n) (drop n bytes) ≡ drop n bytes
 take-drop_end n bytes = ap (λ k. take k (drop n bytes)) (sym (length-drop n bytes)) ∙ take-length (drop n bytes)
 
+-- words that have a first one are not all read
 onto_first-some : (byte : ℕ) (parts : List (List ℕ)) → all_read (onto_first byte parts) ≡ Err Form
 onto_first-some byte [] = refl
 onto_first-some byte (part ∷ parts) = refl

@@ -38,12 +38,15 @@ first_step (Err fault) next y e = absurd (cc)
 step : {A B : Type 0} (y : B) (r : Result A LineFault) (next : A → Result B LineFault) → (r >>= next) ≡ Ok y → (x : A) × (r ≡ Ok x) × (next x ≡ Ok y)
 step y r next e = first_step r next y e
 
+-- `Ok`, at this type of fault
 abbrev good : {A : Type 0} → A → Result A LineFault
 good x = Ok x
 
+-- equal successes have equal values
 same_Ok : {A : Type 0} (x y : A) → good x ≡ good y → x ≡ y
 same_Ok x y e = cc
 
+-- a value that is read is there
 or_form-some : {A : Type 0} (o : Option A) (x : A) → or_form o ≡ Ok x → o ≡ Some x
 or_form-some None x e = absurd (cc)
 or_form-some (Some y) x e = ap Some (same_Ok y x e)
@@ -53,6 +56,7 @@ or_form-some (Some y) x e = ap Some (same_Ok y x e)
 not_less : (a b : ℤ) → int_lt a b ≡ false → b ≤ℤ a
 not_less a b e = omega (arith, ints, e)
 
+-- a number that passes the test is below the bound
 below : (limit : ℕ) (o : Option ℕ) (n : ℕ) → below_limit limit o ≡ Some n → n < limit
 below limit None n e = absurd (cc)
 below limit (Some m) n e = by (nat_lt m limit) refl e
@@ -61,6 +65,7 @@ below limit (Some m) n e = by (nat_lt m limit) refl e
     by true p q = let same : m ≡ n = cc in subst (λ (k : ℕ). k < limit) same (ltb-true m limit p)
     by false p q = absurd (cc)
 
+-- so is a number that is read
 number-range : (limit : ℕ) (words : List (List ℕ)) (x : ℕ × List (List ℕ)) → number_at limit words ≡ Ok x → x.0 < limit
 unfolding number_at
 number-range limit words x e =
@@ -73,6 +78,7 @@ number-range limit words x e =
 abbrev pub IsVerbAt : Verb × List (List ℕ) → Type 0
 IsVerbAt x = IsVerb x.0
 
+-- a verb's reading is below 2^32 seconds
 reading-range : (words : List (List ℕ)) (make : ℕ → Verb) (x : Verb × List (List ℕ)) → ((reading : ℕ) → reading < LIMIT → IsVerb (make reading))
     → (time_at words >>= (λ reading. Ok (make reading.0, reading.1))) ≡ Ok x → IsVerb x.0
 reading-range words make x in_range e =
@@ -80,35 +86,42 @@ reading-range words make x in_range e =
     let same = same_Ok (make reading.0.0, reading.0.1) x reading.2 in
     subst IsVerbAt same (in_range reading.0.0 (number-range LIMIT words reading.0 reading.1))
 
+-- that of `ask`
 ask-range : (words : List (List ℕ)) (x : Verb × List (List ℕ)) → ask_at words ≡ Ok x → IsVerb x.0
 unfolding ask_at
 ask-range words x e = reading-range words verbs.Ask x (λ r h. h) e
 
+-- that of `wall`
 wall-range : (words : List (List ℕ)) (x : Verb × List (List ℕ)) → wall_at words ≡ Ok x → IsVerb x.0
 unfolding wall_at
 wall-range words x e = reading-range words verbs.Wall x (λ r h. h) e
 
+-- that of `take`
 take-range : (words : List (List ℕ)) (x : Verb × List (List ℕ)) → take_at words ≡ Ok x → IsVerb x.0
 unfolding take_at
 take-range words x e =
     let number = first_step (ordinal_at words) (λ n. time_at n.1 >>= (λ r. Ok (verbs.Take n.0 r.0, r.1))) x e in
     reading-range number.0.1 (verbs.Take number.0.0) x (λ r h. h) number.2
 
+-- that of `give`
 give-range : (words : List (List ℕ)) (x : Verb × List (List ℕ)) → give_at words ≡ Ok x → IsVerb x.0
 unfolding give_at
 give-range words x e =
     let number = first_step (ordinal_at words) (λ n. time_at n.1 >>= (λ r. Ok (verbs.Give n.0 r.0, r.1))) x e in
     reading-range number.0.1 (verbs.Give number.0.0) x (λ r h. h) number.2
 
+-- that of `land`
 land-range : (words : List (List ℕ)) (x : Verb × List (List ℕ)) → land_at words ≡ Ok x → IsVerb x.0
 unfolding land_at
 land-range words x e =
     let number = first_step (ordinal_at words) (λ n. time_at n.1 >>= (λ r. Ok (verbs.Land n.0 r.0, r.1))) x e in
     reading-range number.0.1 (verbs.Land number.0.0) x (λ r h. h) number.2
 
+-- a word that is no verb has none
 no_verb : (x : Verb × List (List ℕ)) → Err Form ≡ good x → IsVerb x.0
 no_verb x e = absurd (cc)
 
+-- the reading of the verb with this name
 operands-range : (name : List ℕ) (words : List (List ℕ)) (x : Verb × List (List ℕ)) → operands_at name words ≡ Ok x → IsVerb x.0
 unfolding operands_at
 operands-range name words x e =
@@ -122,6 +135,7 @@ operands-range name words x e =
     by false false false false true p = wall-range words x p
     by false false false false false p = no_verb x p
 
+-- that of any verb
 verb-range : (words : List (List ℕ)) (x : Verb × List (List ℕ)) → verb_at words ≡ Ok x → IsVerb x.0
 unfolding verb_at
 verb-range words x e =
@@ -129,6 +143,7 @@ verb-range words x e =
     operands-range name.0.0 name.0.1 x name.2
 
 -- ---- lines
+-- the words of a line are in range
 words-range : (words : List (List ℕ)) (line : Line) → line_of_words words ≡ Ok line → IsLine line
 unfolding line_of_words
 words-range words line e =
@@ -175,6 +190,7 @@ record AreInRange (tv_error : ℕ) (tv_precision : ℤ) (error precision : ℕ) 
   of_own : error ≤ max_local_error
   of_reading : precision ≤ max_local_precision
 
+-- those that a header declares are
 declared-range : (words : List (List ℕ)) (x : _) → declared_at words ≡ Ok x → AreInRange x.0.tv_error x.0.tv_precision x.0.error x.0.precision
 unfolding declared_at
 declared-range words x e =
@@ -192,9 +208,11 @@ declared-range words x e =
       of_reading = omega (arith, number-range (max_local_precision + 1) c.0.1 d.0 d.1, ap (λ y. y.0.precision) same);
     }
 
+-- equal starts have equal headers
 same_One : (a b : Header) → good (One a) ≡ good (One b) → a ≡ b
 same_One a b e = cc
 
+-- the words of a header are in range
 header-range : (words : List (List ℕ)) (header : Header) → header_of_words words ≡ Ok (One header) → IsReadHeader header
 unfolding header_of_words
 header-range words header e =

@@ -43,9 +43,11 @@ declared_at words = do
   precision ← number_at (max_local_precision + 1) error.1
   Ok (record { tv_error = tv_error.0; tv_precision = tv_precision.0; error = error.0; precision = precision.0 }, precision.1)
 
+-- the companion's error and precision
 abbrev pub local_of : Declared → Local
 local_of declared = record { error = declared.error; precision = declared.precision }
 
+-- the header with these words
 abbrev pub header_with : Bool → Declared → List ℕ → List ℕ → Header
 header_with follow declared selector stem = record {
   follow = follow;
@@ -65,5 +67,6 @@ header_of_words words = do
   end ← all_read stem.1
   Ok (One (header_with follow.0 declared.0 selector.0 stem.0))
 
+-- the header that bytes are, or that they are none
 abbrev pub header_of : List ℕ → Result Start LineFault
 header_of bytes = header_of_words (words_of bytes)

@@ -13,29 +13,34 @@ abbrev pub time_at : At ℕ
 time_at words = number_at LIMIT words
 
 -- ---- the operands of each verb
+-- `ask R`
 unfoldable pub ask_at : At Verb
 ask_at words = do
   reading ← time_at words
   Ok (verbs.Ask reading.0, reading.1)
 
+-- `take I R`
 unfoldable pub take_at : At Verb
 take_at words = do
   request ← ordinal_at words
   reading ← time_at request.1
   Ok (verbs.Take request.0 reading.0, reading.1)
 
+-- `give J R`
 unfoldable pub give_at : At Verb
 give_at words = do
   take ← ordinal_at words
   reading ← time_at take.1
   Ok (verbs.Give take.0 reading.0, reading.1)
 
+-- `land I R`
 unfoldable pub land_at : At Verb
 land_at words = do
   datagram ← ordinal_at words
   reading ← time_at datagram.1
   Ok (verbs.Land datagram.0 reading.0, reading.1)
 
+-- `wall R`
 unfoldable pub wall_at : At Verb
 wall_at words = do
   reading ← time_at words
@@ -51,6 +56,7 @@ operands_at name words =
     else if bytes_eq name (codes "wall") then wall_at words
     else Err Form
 
+-- a verb and its operands
 unfoldable pub verb_at : At Verb
 verb_at words = do
   name ← word_at words
@@ -66,5 +72,6 @@ line_of_words words = do
   end ← all_read verb.1
   Ok (record { t = t.0; w = w.0; who = 1; l = l.0; verb = verb.0 })
 
+-- the line that bytes are, or that they are none
 abbrev pub line_of : List ℕ → Result Line LineFault
 line_of bytes = line_of_words (words_of bytes)

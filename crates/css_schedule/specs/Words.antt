@@ -11,6 +11,7 @@ use Rattle.css_schedule.specs.declared.words.Words.{Words}
 abbrev pub is_space : ℕ → Bool
 is_space byte = byte == 32
 
+-- what stands between the spaces of bytes, be it a word or not
 abbrev pub words_of : List ℕ → List (List ℕ)
 words_of bytes = slice_split is_space bytes
 
@@ -22,6 +23,7 @@ is_graphic byte = nat_le 33 byte && nat_le byte 126
 abbrev pub is_word : List ℕ → Bool
 is_word word = not (length word == 0) && list_all is_graphic word
 
+-- the same of bytes that may be missing
 abbrev pub words_in : Option (List ℕ) → List (List ℕ)
 words_in None = []
 words_in (Some bytes) = words_of bytes
@@ -36,6 +38,7 @@ abbrev pub ◌>>=◌ : {A B : Type 0} → Result A LineFault → (A → Result B
 (Ok x) >>= next = next x
 (Err fault) >>= next = Err fault
 
+-- a value that may be missing, or the fault of the form
 abbrev pub or_form : {A : Type 0} → Option A → Result A LineFault
 or_form None = Err Form
 or_form (Some x) = Ok x
@@ -44,6 +47,7 @@ or_form (Some x) = Ok x
 abbrev pub At : Type 0 → Type 0
 At A = List (List ℕ) → Result (A × List (List ℕ)) LineFault
 
+-- the first word
 abbrev pub word_at : At (List ℕ)
 word_at [] = Err Form
 word_at (word ∷ rest) = Ok (word, rest)

@@ -100,6 +100,7 @@ ticket_same server header older reading asked follow greatest =
     let by_greatest : Option ℕ → Ticket = λ g. record { originate = stamp_of asked; reading = reading; follow_up = header.follow && is_greater reading g } in
     ap by_follow follow ∙ ap by_greatest greatest
 
+-- `take` leaves ends that stand for one line more
 pub taken : (old : World) (lines : List Numbered) (number t w l request reading asked : ℕ) (tv : Television)
     → EndsStand old lines → numbered request (requests lines) ≡ Some asked
     → servers.StandsFor tv.server (ticket_at old.header (tickets old.header lines) reading asked ∷ tickets old.header lines)
@@ -210,6 +211,7 @@ both_made header ticket reading answered bytes items first made older is some pu
     subst (λ (kept : List (List ℕ)). AreDatagrams kept (answers_to (server_of header) reading (Some ticket) ++ older)) (sym both)
     (both_stored items older response (follow_up_for (server_of header) ticket reading) bytes (sym some ∙ is.follow_up) are)
 
+-- so does `give`
 pub given : (old : World) (lines : List Numbered) (number t w l take reading : ℕ) (ticket : Ticket) (tv : Television) (made : List (List ℕ))
     → EndsStand old lines → option_flatten (stored old.tv.takes.items take) ≡ Some ticket
     → tv.server ≡ old.tv.server → tv.takes.items ≡ spent old.tv.takes.items take

@@ -36,6 +36,7 @@ is_stamp r range =
     let nanoseconds : r % 1000000000 < 2 ^ 32 = omega arith in
     record { seconds = seconds; nanoseconds = nanoseconds }
 
+-- an answer that passes every test has no fault
 sound : (a b c d e : Bool) → a ≡ false → b ≡ false → c ≡ false → d ≡ true → e ≡ true
     → cond a None (cond b (Some wc.Precision) (cond c (Some wc.Error) (cond (d && e) None (Some wc.Nanoseconds)))) ≡ None
 sound a b c d e p q r s t = rw (p, q, r, s, t) refl
@@ -72,6 +73,7 @@ pub record IsAnswer (world : World) (header : Header) (d : Made) (received_at : 
   pub at_once : message_type ≢ 2 → transmit_at ≡ d.given_at
   pub promised : (message_type ≡ 2 → d.ticket.follow_up ≡ true) × (message_type ≡ 3 → d.ticket.follow_up ≡ true)
 
+-- a datagram that was made is an answer in the world
 pub is_answer : (world : World) (moment_of : ℕ → ℕ) (header : Header) (lines : List Numbered) (d : Made) (is : IsMade world moment_of header lines d)
     → IsAnswer world header d is.taken.received_at
 is_answer world moment_of header lines d is = by is.tells
@@ -144,6 +146,7 @@ pub record Lands (header : Header) (older : List Numbered) (datagram : ℕ) : Ty
   pub is_made : IsIn d (made header older)
   pub bytes : bytes_of (numbered datagram (datagrams header older)) ≡ encoded d.message
 
+-- what lands is a datagram that was made
 pub lands : (header : Header) (older : List Numbered) (datagram : ℕ) → is_some (numbered datagram (datagrams header older)) ≡ true → Lands header older datagram
 lands header older datagram can = by (numbered datagram (datagrams header older)) refl can
   where
@@ -157,6 +160,7 @@ lands header older datagram can = by (numbered datagram (datagrams header older)
 abbrev pub landing_if : Bool → Message → ℕ → Option LandedAnswer
 landing_if asked message reading = option_map (λ m. record { message = m; reading = reading }) (cond asked (Some message) None)
 
+-- the landing of its bytes is that of its message
 pub landing-is : (message : Message) (bytes : List ℕ) (reading : ℕ) (older : History) → answer_in bytes ≡ Some message
     → landed_answer (Clock why.Land reading) (Took peer bytes ∷ older) ≡ landing_if (is_asked message.originate (Took peer bytes ∷ older)) message reading
 landing-is message bytes reading older e =
@@ -167,13 +171,16 @@ landing-is message bytes reading older e =
 abbrev pub CameFrom : Header → List Numbered → (ℕ → ℕ) → LandedAnswer → History → Type 0
 CameFrom header lines moment_of response before = (d : Made) × IsIn d (made header lines) × (d.message ≡ response.message) × (d.given_at ≤ moment_of (length before))
 
+-- an answer that lands at this entry came from a line
 abbrev pub CameAt : Header → List Numbered → (ℕ → ℕ) → Entry → History → Type 0
 CameAt header lines moment_of entry before = IfSome (landed_answer entry before) (λ response. CameFrom header lines moment_of response before)
 
+-- what follows from a fact of each entry holds of each
 pub each-map : (P Q : Entry → History → Type 0) (history : History) → ((entry : Entry) (older : History) → P entry older → Q entry older) → Each P history → Each Q history
 each-map P Q [] f each = tt
 each-map P Q (entry ∷ older) f each = (f entry older each.0, each-map P Q older f each.1)
 
+-- what is in a list is in a longer one
 in-after : {A : Type 0} (xs ys : List A) (a : A) → IsIn a ys → IsIn a (xs ++ ys)
 in-after [] ys a h = h
 in-after (x ∷ xs) ys a h = inr (in-after xs ys a h)
@@ -187,6 +194,7 @@ came-longer header now older moment_of entry before came = by (landed_answer ent
     by None h = tt
     by (Some response) h = (h.0, in-after _ (made header older) h.0 h.1, h.2, h.3)
 
+-- so it is of the entries of one verb
 came_by : (world : World) (moment_of : ℕ → ℕ) (header : Header) (now : Numbered) (older : List Numbered) (verb : Verb) → IsDeclared header
     → AreAccepted header older → Agrees world moment_of header older → can_happen header older verb ≡ true
     → ((entry : ℕ) → length (history_of 1 header older) ≤ entry → entry < length (done_by (datagrams header older) verb (history_of 1 header older)) → moment_of entry ≡ length older)

@@ -44,6 +44,7 @@ awake_by made (Give take reading) older e = e
 awake_by made (Land datagram reading) older e = e
 awake_by made (Wall reading) older e = e
 
+-- nobody slept
 pub no_sleeps : (header : Header) (lines : List Numbered) → AreAccepted header lines → sleeps (history_of 1 header lines) ≡ 0
 no_sleeps header [] accepted = refl
 no_sleeps header (now ∷ older) accepted =
@@ -60,6 +61,7 @@ rises-any entry (first ∷ history) older e reading = (at (asking_at first), ris
     at None = tt
     at (Some asked) = λ below. absurd (omega (arith, below, e))
 
+-- without a sleep no reading need rise above earlier ones
 rises-at : (entry : Entry) (older : History) → sleeps older ≡ 0 → RisesAt entry older
 rises-at entry older e = at (asking_at entry)
   where
@@ -67,6 +69,7 @@ rises-at entry older e = at (asking_at entry)
     at None = tt
     at (Some reading) = rises-any entry older older e reading
 
+-- nor need those of one verb
 rises_by : (made : _) (verb : Verb) (older : History) → sleeps older ≡ 0 → Each RisesAt older → Each RisesAt (done_by made verb older)
 rises_by made (Ask reading) older e each = (tt, (rises-at (Clock why.Ask reading) older e, each))
 rises_by made (Take request reading) older e each = each
@@ -94,10 +97,12 @@ AsksBy asked older sent =
     IfSome (option_map (λ message. message.originate) (option_and_then (λ message. cond (message.message_type == 0) (Some message) None) (result_ok sent)))
     (λ originate. IsJustAsked originate (Clock why.Ask asked ∷ older))
 
+-- a request has its reading as originate
 asks-by : (asked : ℕ) (older : History) → asked < LIMIT → AsksBy asked older (decoded (encoded (request_at asked)))
 asks-by asked older range =
     subst (AsksBy asked older) (sym (request_back asked range)) (record { reading = asked; before = older; just_before = refl; same = refl })
 
+-- so has that of one verb
 asks_by : (made : _) (verb : Verb) (older : History) → IsVerb verb → Each AsksAt older → Each AsksAt (done_by made verb older)
 asks_by made (Ask reading) older range each = (asks-by reading older range, (tt, each))
 asks_by made (Take request reading) older range each = each

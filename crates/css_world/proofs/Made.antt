@@ -42,11 +42,13 @@ pub record Made : Type 0 where
   pub ticket : Ticket
   pub reading : ℕ
 
+-- the datagrams of a ticket that may be missing
 abbrev made_to : Header → ℕ → ℕ → ℕ → Option Ticket → List Made
 made_to header at take reading None = []
 made_to header at take reading (Some ticket) =
     map (λ (m : Message). record { message = m; given_at = at; take = take; ticket = ticket; reading = reading }) (answers_to (server_of header) reading (Some ticket))
 
+-- those that a verb makes
 abbrev made_by : Header → ℕ → List Ticket → Verb → List Made
 made_by header at taken (Give take reading) = made_to header at take reading (numbered take taken)
 made_by header at taken _ = []
@@ -60,19 +62,23 @@ made header (now ∷ older) = made_by header (length older) (tickets header olde
 abbrev message_of : Made → Message
 message_of d = d.message
 
+-- messages of two lists
 messages-append : (xs ys : List Made) → map message_of (xs ++ ys) ≡ map message_of xs ++ map message_of ys
 messages-append [] ys = refl
 messages-append (x ∷ xs) ys = ap (λ ms. message_of x ∷ ms) (messages-append xs ys)
 
+-- the messages of datagrams are those that they were made of
 messages-map : (header : Header) (at take reading : ℕ) (ticket : Ticket) (ms : List Message)
     → map message_of (map (λ (m : Message). record { message = m; given_at = at; take = take; ticket = ticket; reading = reading }) ms) ≡ ms
 messages-map header at take reading ticket [] = refl
 messages-map header at take reading ticket (m ∷ ms) = ap (λ xs. m ∷ xs) (messages-map header at take reading ticket ms)
 
+-- those of a ticket are its answers
 messages-to : (header : Header) (at take reading : ℕ) (o : Option Ticket) → map message_of (made_to header at take reading o) ≡ answers_to (server_of header) reading o
 messages-to header at take reading None = refl
 messages-to header at take reading (Some ticket) = messages-map header at take reading ticket (answers_to (server_of header) reading (Some ticket))
 
+-- those of a verb are its answers
 messages-by : (header : Header) (at : ℕ) (taken : List Ticket) (verb : Verb) → map message_of (made_by header at taken verb) ≡ answers_by header taken verb
 messages-by header at taken (Give take reading) = messages-to header at take reading (numbered take taken)
 messages-by header at taken (Ask reading) = refl
@@ -80,6 +86,7 @@ messages-by header at taken (Take request reading) = refl
 messages-by header at taken (Land datagram reading) = refl
 messages-by header at taken (Wall reading) = refl
 
+-- those of all lines are the datagrams of the definition
 messages-made : (header : Header) (lines : List Numbered) → map message_of (made header lines) ≡ datagrams header lines
 messages-made header [] = refl
 messages-made header (now ∷ older) =
@@ -87,6 +94,7 @@ messages-made header (now ∷ older) =
     ∙ ap (λ xs. xs ++ map message_of (made header older)) (messages-by header (length older) (tickets header older) now.line.verb)
     ∙ ap (λ ys. answers_by header (tickets header older) now.line.verb ++ ys) (messages-made header older)
 
+-- there are as many of them
 length-map : (xs : List Made) → length (map message_of xs) ≡ length xs
 length-map [] = refl
 length-map (x ∷ xs) = ap suc (length-map xs)
@@ -141,6 +149,7 @@ numbered-stays : {A : Type 0} (number : ℕ) (item : A) (older : List A) (a : A)
 numbered-stays number item older a e =
     ap (λ b. cond b (Some item) (numbered number older)) (ne_eqb number (suc (length older)) (λ same. absurd (omega (arith, numbered-le number older a e, same)))) ∙ e
 
+-- the number of what was there stays
 numbered-with : {A : Type 0} (number : ℕ) (o : Option A) (older : List A) (a : A) → numbered number older ≡ Some a → numbered number (option_to_list o ++ older) ≡ Some a
 numbered-with number None older a e = e
 numbered-with number (Some item) older a e = numbered-stays number item older a e
@@ -239,10 +248,12 @@ record IsGivenNow (older : List Numbered) (d : Made) : Type 0 where
   at : d.given_at ≡ length older
   fresh : is_given d.take older ≡ false
 
+-- what is not true is false
 not-true : (b : Bool) → not b ≡ true → b ≡ false
 not-true true e = absurd (cc)
 not-true false e = refl
 
+-- what this verb makes is given at this line
 given_now : (header : Header) (older : List Numbered) (d : Made) (verb : Verb) → can_happen header older verb ≡ true
     → IsIn d (made_by header (length older) (tickets header older) verb) → IsGivenNow older d
 given_now header older d (Give take reading) can h = by (numbered take (tickets header older)) h

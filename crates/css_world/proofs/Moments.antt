@@ -31,6 +31,7 @@ Agrees world moment_of header (now ∷ older) =
     × ((entry : ℕ) → length (history_of 1 header older) ≤ entry → entry < length (history_of 1 header (now ∷ older)) → moment_of entry ≡ length older)
     × Agrees world moment_of header older
 
+-- no verb shortens a history
 longer_by : (made : List Message) (verb : Verb) (older : History) → length older ≤ length (done_by made verb older)
 longer_by made (Ask reading) older = omega arith
 longer_by made (Take request reading) older = omega arith
@@ -118,6 +119,7 @@ reading_ok number precision shown last reading e =
 abbrev pub NearBy : ℕ → ℕ → Option ℕ → Type 0
 NearBy precision shown reading = IfSome reading (λ r. IsWithin precision r shown)
 
+-- a reading that passes is near its clock
 near_by : (number precision shown : ℕ) (last : Option Reading) (reading : Option ℕ) → reading_verdict number precision shown last reading ≡ Ok tt → NearBy precision shown reading
 near_by number precision shown last None e = tt
 near_by number precision shown last (Some reading) e = reading_ok number precision shown last reading e
@@ -154,6 +156,7 @@ reads-line world header now i reading slept at one awake near = record {
   near = near;
 }
 
+-- the entries of one verb read the line's clocks
 reads_by : (world : World) (moment_of : ℕ → ℕ) (header : Header) (now : Numbered) (made : List Message) (index : ℕ) (verb : Verb) (older : History)
     → world index ≡ moment now.line → now.line.who ≡ 1 → sleeps older ≡ 0
     → ((entry : ℕ) → length older ≤ entry → entry < length (done_by made verb older) → moment_of entry ≡ index)
@@ -181,6 +184,7 @@ pub entries-here : (moment_of : ℕ → ℕ) (header : Header) (now : Numbered) 
 entries-here moment_of header now older one here entry from below =
     here entry from (subst (λ (h : History). entry < length h) (sym (history-now header now older one)) below)
 
+-- so do those of all lines
 pub reads_each : (world : World) (moment_of : ℕ → ℕ) (header : Header) (lines : List Numbered) → AreAccepted header lines → Agrees world moment_of header lines
     → Each (ReadsAt world 1 (local_of 1 header) moment_of) (history_of 1 header lines)
 reads_each world moment_of header [] accepted agreed = tt

@@ -76,6 +76,7 @@ once_by P made (Give take reading) older h = h
 once_by P made (Land datagram reading) older h = inr (inr h)
 once_by P made (Wall reading) older h = inr h
 
+-- what was asked stays so
 pub was-longer : (header : Header) (now : Numbered) (older : List Numbered) (originate : Stamp) (ask : ℕ) → now.line.who ≡ 1
     → WasAsked originate ask (history_of 1 header older) → WasAsked originate ask (history_of 1 header (now ∷ older))
 was-longer header now older originate ask one h =
@@ -83,6 +84,7 @@ was-longer header now older originate ask one h =
     subst (λ (x : History). WasAsked originate ask x) (sym (history-now header now older one))
     (once_by P (datagrams header older) now.line.verb (history_of 1 header older) h)
 
+-- what was sent stays so
 sent-longer : (moment_of : ℕ → ℕ) (header : Header) (now : Numbered) (older : List Numbered) (reading : ℕ) → now.line.who ≡ 1
     → IsSent moment_of header older reading → IsSent moment_of header (now ∷ older) reading
 sent-longer moment_of header now older reading one sent = record {
@@ -104,6 +106,7 @@ sent-now : (moment_of : ℕ → ℕ) (made : List Message) (older : History) (re
 sent-now moment_of made older reading index range =
     inl (request_by-sent reading range, record { reading = reading; before = older; just_before = refl; same = refl }, refl)
 
+-- a request of this line was sent at its moment
 sent_by-line : (moment_of : ℕ → ℕ) (header : Header) (now : Numbered) (older : List Numbered) (reading : ℕ) (verb : Verb) → now.line.verb ≡ verb → now.line.who ≡ 1
     → IsVerb verb → ((entry : ℕ) → length (history_of 1 header older) ≤ entry → entry < length (done_by (datagrams header older) now.line.verb (history_of 1 header older)) → moment_of entry ≡ length older)
     → asked_by verb ≡ Some reading → IsSent moment_of header (now ∷ older) reading
@@ -153,6 +156,7 @@ pub record IsTaken (world : World) (moment_of : ℕ → ℕ) (header : Header) (
   pub asked_range : asked < LIMIT
   pub range : ticket.reading < LIMIT
 
+-- what was taken stays so
 abbrev pub taken-longer : (world : World) (moment_of : ℕ → ℕ) (header : Header) (now : Numbered) (older : List Numbered) (ticket : Ticket) → now.line.who ≡ 1
     → IsTaken world moment_of header older ticket → IsTaken world moment_of header (now ∷ older) ticket
 taken-longer world moment_of header now older ticket one taken = record {
@@ -173,6 +177,7 @@ from_map : {A B : Type 0} (f : A → B) (o : Option A) (b : B) → option_map f 
 from_map f None b e = absurd (cc)
 from_map f (Some a) b e = (a, refl, cc)
 
+-- a ticket of this line was taken at its moment
 taken_by-line : (world : World) (moment_of : ℕ → ℕ) (header : Header) (now : Numbered) (older : List Numbered) (ticket : Ticket) (verb : Verb)
     → now.line.who ≡ 1 → IsVerb verb → world (length older) ≡ moment now.line → NearBy (precision_ns header.tv_precision) now.line.w (tv_reading verb)
     → ((reading : ℕ) → IsIn reading (requests older) → IsSent moment_of header older reading)

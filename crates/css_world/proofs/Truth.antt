@@ -115,6 +115,7 @@ truthful world moment_of header older d bytes reading accepted agreed declared i
         subst (λ (m : Message). is_promise_of (record { message = m; reading = response.reading }) d.message ≡ true) (sym came.2) pair in
         omega (arith, given_together world moment_of header older d came.0 accepted agreed is_made came.1 response.reading three pair_so, came.3)
 
+-- what lands by one verb is truthful
 truthful_by : (world : World) (moment_of : ℕ → ℕ) (header : Header) (older : List Numbered) (verb : Verb) → AreAccepted header older
     → Agrees world moment_of header older → IsDeclared header → can_happen header older verb ≡ true
     → ((entry : ℕ) → length (history_of 1 header older) ≤ entry → entry < length (done_by (datagrams header older) verb (history_of 1 header older)) → moment_of entry ≡ length older)
@@ -141,6 +142,7 @@ truthful_by world moment_of header older (Take request reading) accepted agreed 
 truthful_by world moment_of header older (Give take reading) accepted agreed declared can here each = each
 truthful_by world moment_of header older (Wall reading) accepted agreed declared can here each = (tt, each)
 
+-- so is what lands by all lines
 truthful_each : (world : World) (moment_of : ℕ → ℕ) (header : Header) (lines : List Numbered) → IsDeclared header → AreAccepted header lines → Agrees world moment_of header lines
     → Each (TruthfulAt world header.tv_error (local_of 1 header) moment_of) (history_of 1 header lines)
 truthful_each world moment_of header [] declared accepted agreed = tt
@@ -181,6 +183,7 @@ wall-history : (header : Header) (now : Numbered) (older : List Numbered) (readi
 wall-history header now older reading one is =
     history-now header now older one ∙ ap (λ (v : Verb). done_by (datagrams header older) v (history_of 1 header older)) is
 
+-- the interval at `wall` contains the value of the line
 true_wall : (header : Header) (older : List Numbered) (now : Numbered) → IsDeclared header → AreAccepted header (now ∷ older) → IsTrueWall header older now
 true_wall header older now declared accepted = λ reading is.
     let own : Local = local_of 1 header in
@@ -205,6 +208,7 @@ possible-accepted own reading answer possible = by (int_lt (scaled_width own ans
     by true e = absurd (cc)
     by false e = refl
 
+-- the history after a landing
 land-history : (header : Header) (now : Numbered) (older : List Numbered) (datagram reading : ℕ) → now.line.who ≡ 1 → now.line.verb ≡ Land datagram reading
     → history_of 1 header (now ∷ older) ≡ Clock why.Land reading ∷ Took peer (bytes_of (numbered datagram (datagrams header older))) ∷ history_of 1 header older
 land-history header now older datagram reading one is =
@@ -219,6 +223,7 @@ abbrev TakenIn : Local → History → World → ℕ → (ℕ → ℕ) → List 
 TakenIn own h world tv_error moment_of bytes reading landed =
     IsTruthful world tv_error moment_of landed (Took peer bytes ∷ h) → IsAccepted own landed (Clock why.Land reading) (Took peer bytes ∷ h)
 
+-- a truthful answer is accepted, or its request left the last 64
 lands_well : (own : Local) (h : History) (world : World) (tv_error : ℕ) (moment_of : ℕ → ℕ) (bytes : List ℕ) (message : Message) (reading : ℕ)
     → (message.message_type == 0) ≡ false → answer_in bytes ≡ Some message
     → IsTruthful world tv_error moment_of (record { message = message; reading = reading }) (Took peer bytes ∷ h)
@@ -235,6 +240,7 @@ lands_well own h world tv_error moment_of bytes message reading answer is_answer
     by true taken = inl (possible-accepted own reading (times_of item (landed_answers h)) (taken true_so).possible)
     by false taken = inr refl
 
+-- so no landing contradicts itself
 possible_landing : (header : Header) (older : List Numbered) (now : Numbered) → IsDeclared header → AreAccepted header (now ∷ older) → IsPossibleLanding header older now
 possible_landing header older now declared accepted = λ datagram reading is.
     let own : Local = local_of 1 header in
@@ -258,6 +264,7 @@ possible_landing header older now declared accepted = λ datagram reading is.
     (lands_well own h world header.tv_error moment_of bytes l.d.message reading (ap (λ (m : Message). m.message_type == 0) a.is ∙ a.answer)
     (ap answer_in l.bytes ∙ answer-in world moment_of header older l.d declared made_so) true_so there.0))
 
+-- the law
 pub accepted_lines_are_true : AcceptedLinesAreTrue
 accepted_lines_are_true header older now declared accepted = record {
   wall = true_wall header older now declared accepted;

@@ -19,6 +19,7 @@ use Rattle.css_world.specs.Standing.{AreAccepted, IsNext}
 pub all-head : {A : Type 0} (P : A → Type 0) (x : A) (xs : List A) → All P (x ∷ xs) → P x
 all-head P x xs each = each 0 x (omega arith)
 
+-- what holds of all holds of the rest
 pub all-tail : {A : Type 0} (P : A → Type 0) (x : A) (xs : List A) → All P (x ∷ xs) → All P xs
 all-tail P x xs each = λ k d h. each (suc k) d (omega (arith, h))
 
@@ -27,6 +28,7 @@ all-tail P x xs each = λ k d h. each (suc k) d (omega (arith, h))
 line_at-older : (now : Numbered) (older : List Numbered) (i : ℕ) → i < length older → line_at (now ∷ older) i ≡ line_at older i
 line_at-older now older i h = ap (λ b. cond b (line_at older i) (Some now)) (lt-ltb i (length older) h)
 
+-- the newest line stands for every later number
 pub line_at-now : (now : Numbered) (older : List Numbered) (i : ℕ) → length older ≤ i → line_at (now ∷ older) i ≡ Some now
 line_at-now now older i h = ap (λ b. cond b (line_at older i) (Some now)) (le-ltb i (length older) h)
 
@@ -38,6 +40,7 @@ place {P = P} i n older now = by (ltb i n) refl
     by true p = older (ltb-true i n p)
     by false p = now (ltb-false i n p)
 
+-- equal values that are there are equal
 same_Some : {A : Type 0} (x y : A) → Some x ≡ Some y → x ≡ y
 same_Some x y e = cc
 
@@ -177,6 +180,7 @@ record IsClock (who : ℕ) (clock : OwnClock) (a : Numbered) : Type 0 where
   value : a.line.l ≡ clock.value
   sleeps : clock.sleeps ≡ 0
 
+-- a companion's clock is that of its line
 clock-is : (who : ℕ) (clock : OwnClock) (a : Numbered) → clock_of a.line who ≡ Some clock → IsClock who clock a
 clock-is who clock a e = by (a.line.who == who) refl e
   where
@@ -237,5 +241,6 @@ keeps_errors header now older accepted =
 pub world-older : (now : Numbered) (older : List Numbered) (i : ℕ) → i < length older → world_of (now ∷ older) i ≡ world_of older i
 world-older now older i h = ap moment_or_none (line_at-older now older i h)
 
+-- the newest moment stands for every later one
 pub world-now : (now : Numbered) (older : List Numbered) (i : ℕ) → length older ≤ i → world_of (now ∷ older) i ≡ moment now.line
 world-now now older i h = ap moment_or_none (line_at-now now older i h)

@@ -11,6 +11,7 @@ wall_line number span w = decimal number ++ codes " wall " ++ signed_decimal spa
 abbrev pub no_answer_line : ℕ → List ℕ
 no_answer_line number = decimal number ++ (codes " none NoAnswer" ++ 10 ∷ [])
 
+-- what is printed at `wall`
 abbrev pub wall_text : ℕ → Option Interval → ℕ → List ℕ
 wall_text number None w = no_answer_line number
 wall_text number (Some span) w = wall_line number span w

@@ -25,6 +25,7 @@ pub record IsTrueLine (header : Header) (older : List Numbered) (now : Numbered)
   pub wall : IsTrueWall header older now
   pub landing : IsPossibleLanding header older now
 
+-- of whatever header and accepted lines
 abbrev pub AcceptedLinesAreTrue : Type 0
 AcceptedLinesAreTrue = (header : Header) (older : List Numbered) (now : Numbered)
     → IsDeclared header → AreAccepted header (now ∷ older) → IsTrueLine header older now

@@ -10,6 +10,7 @@ use Rattle.css_world.specs.Verdicts.{local_of}
 abbrev pub clock_of : Line → ℕ → Option OwnClock
 clock_of line who = if line.who == who then Some (record { value = line.l; sleeps = 0 }) else None
 
+-- the moment of a line
 abbrev pub moment : Line → Moment
 moment line = record { time = line.t; wall = line.w; companion = clock_of line }
 
@@ -18,6 +19,7 @@ abbrev pub line_at : List Numbered → ℕ → Option Numbered
 line_at [] = λ i. None
 line_at (now ∷ older) = λ i. if nat_lt i (length older) then line_at older i else Some now
 
+-- the moment of a line, and one in which nothing is known where there is none
 abbrev pub moment_or_none : Option Numbered → Moment
 moment_or_none None = record { time = 0; wall = 0; companion = λ who. None }
 moment_or_none (Some now) = moment now.line
