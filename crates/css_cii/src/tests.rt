@@ -247,37 +247,28 @@ fn each_text_is_read_or_refused(rt: HostRuntime) -> Result<(), Fail> {
     Ok(())
 }
 
-/// A front part, a piece so many times, and an end.
-fn repeated(
-    alloc: Global,
-    front: &[u8],
-    piece: &[u8],
-    times: usize,
-    end: &[u8],
-) -> Result<Text, Fail> {
-    let mut text = Text::of(alloc, front)?;
-    for _ in 0..times {
-        text.push(piece)?;
-    }
-    text.push(end)?;
-    Ok(text)
-}
-
 #[test]
 fn long_and_deep_texts_are_read_or_refused(rt: HostRuntime) -> Result<(), Fail> {
     let alloc = rt.alloc();
-    let words = repeated(alloc, b"{\"mrsUrl\":\"", b"1.5 ", 1 << 18, b"\"}")?;
-    assert_eq!(rt; outcome(alloc, words.bytes())?.bytes(), words.bytes());
-    let numeral = repeated(alloc, b"{\"mrsUrl\":", b"7", 400, b"}")?;
+    let words = "1.5 ".repeat(alloc, 1 << 18)?;
+    let text = format!(in alloc; "{{\"mrsUrl\":\"{words}\"}}")?;
+    assert_eq!(rt; outcome(alloc, text.as_bytes())?.bytes(), text.as_bytes());
+    let numeral = "7".repeat(alloc, 400)?;
+    let text = format!(in alloc; "{{\"mrsUrl\":{numeral}}}")?;
     assert_eq!(rt;
-        outcome(alloc, numeral.bytes())?.bytes(),
+        outcome(alloc, text.as_bytes())?.bytes(),
         b"{\"mrsUrl\":null}".as_slice()
     );
     let rows: [(usize, &[u8]); 2] = [(126, b"{}"), (127, b"json")];
     for (arrays, expected) in rows {
-        let front = repeated(alloc, b"{\"private\":", b"[", arrays, b"")?;
-        let text = repeated(alloc, front.bytes(), b"]", arrays, b"}")?;
-        assert_eq!(rt; outcome(alloc, text.bytes())?.bytes(), expected, "{arrays}");
+        let open = "[".repeat(alloc, arrays)?;
+        let close = "]".repeat(alloc, arrays)?;
+        let text = format!(in alloc; "{{\"private\":{open}{close}}}")?;
+        assert_eq!(rt;
+            outcome(alloc, text.as_bytes())?.bytes(),
+            expected,
+            "{arrays}"
+        );
     }
     Ok(())
 }

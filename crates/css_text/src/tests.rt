@@ -282,22 +282,6 @@ fn bytes_beyond_printed_ascii_are_read_or_refused(rt: HostRuntime) {
     }
 }
 
-/// A front part, a piece so many times, and an end.
-fn repeated(
-    alloc: Global,
-    front: &[u8],
-    piece: &[u8],
-    times: usize,
-    end: &[u8],
-) -> Result<Text, Fail> {
-    let mut text = Text::of(alloc, front)?;
-    for _ in 0..times {
-        text.push(piece)?;
-    }
-    text.push(end)?;
-    Ok(text)
-}
-
 #[test]
 fn a_hundred_and_twenty_seven_levels_are_read(rt: HostRuntime) -> Result<(), Fail> {
     let rows: [(usize, Result<u32, TextFault>); 4] = [
@@ -307,9 +291,10 @@ fn a_hundred_and_twenty_seven_levels_are_read(rt: HostRuntime) -> Result<(), Fai
         (100_000, Err(TextFault::NotJson)),
     ];
     for (arrays, expected) in rows {
-        let front = repeated(rt.alloc(), b"{\"a\":", b"[", arrays, b"")?;
-        let text = repeated(rt.alloc(), front.bytes(), b"]", arrays, b"}")?;
-        assert_eq!(rt; odd(rt.alloc(), text.bytes()), expected, "{arrays}");
+        let open = "[".repeat(rt.alloc(), arrays)?;
+        let close = "]".repeat(rt.alloc(), arrays)?;
+        let text = format!(in rt.alloc(); "{{\"a\":{open}{close}}}")?;
+        assert_eq!(rt; odd(rt.alloc(), text.as_bytes()), expected, "{arrays}");
     }
     Ok(())
 }
@@ -318,25 +303,30 @@ const MIB: usize = 1 << 20;
 
 #[test]
 fn long_numerals_are_read(rt: HostRuntime) -> Result<(), Fail> {
-    let numeral = repeated(rt.alloc(), b"{\"a\":", b"7", 400, b"}")?;
-    assert_eq!(rt; odd(rt.alloc(), numeral.bytes()), Ok(1));
-    let digits = repeated(rt.alloc(), b"{\"a\":", b"7", MIB, b"}")?;
-    assert_eq!(rt; odd(rt.alloc(), digits.bytes()), Ok(1));
-    let zeros = repeated(rt.alloc(), b"{\"a\":1.", b"0", MIB, b"}")?;
-    assert_eq!(rt; odd(rt.alloc(), zeros.bytes()), Ok(0));
-    let halves = repeated(rt.alloc(), b"{\"a\":[0.5", b",0.5", MIB / 4, b"]}")?;
-    assert_eq!(rt; odd(rt.alloc(), halves.bytes()), Ok(262_145));
+    let numeral = "7".repeat(rt.alloc(), 400)?;
+    let text = format!(in rt.alloc(); "{{\"a\":{numeral}}}")?;
+    assert_eq!(rt; odd(rt.alloc(), text.as_bytes()), Ok(1));
+    let digits = "7".repeat(rt.alloc(), MIB)?;
+    let text = format!(in rt.alloc(); "{{\"a\":{digits}}}")?;
+    assert_eq!(rt; odd(rt.alloc(), text.as_bytes()), Ok(1));
+    let zeros = "0".repeat(rt.alloc(), MIB)?;
+    let text = format!(in rt.alloc(); "{{\"a\":1.{zeros}}}")?;
+    assert_eq!(rt; odd(rt.alloc(), text.as_bytes()), Ok(0));
+    let halves = ",0.5".repeat(rt.alloc(), MIB / 4)?;
+    let text = format!(in rt.alloc(); "{{\"a\":[0.5{halves}]}}")?;
+    assert_eq!(rt; odd(rt.alloc(), text.as_bytes()), Ok(262_145));
     Ok(())
 }
 
 #[test]
 fn long_words_are_read(rt: HostRuntime) -> Result<(), Fail> {
-    let words = repeated(rt.alloc(), b"{\"a\":\"", b"1.5 ", MIB / 4, b"\"}")?;
-    assert_eq!(rt; odd(rt.alloc(), words.bytes()), Ok(0));
-    let open = repeated(rt.alloc(), b"{\"a\":\"", b"b   ", MIB / 4, b"")?;
-    assert_eq!(rt; odd(rt.alloc(), open.bytes()), Err(TextFault::NotJson));
-    let spaces = repeated(rt.alloc(), b"", b"    ", MIB / 4, b"")?;
-    assert_eq!(rt; odd(rt.alloc(), spaces.bytes()), Err(TextFault::NotJson));
+    let words = "1.5 ".repeat(rt.alloc(), MIB / 4)?;
+    let text = format!(in rt.alloc(); "{{\"a\":\"{words}\"}}")?;
+    assert_eq!(rt; odd(rt.alloc(), text.as_bytes()), Ok(0));
+    let open = format!(in rt.alloc(); "{{\"a\":\"{words}")?;
+    assert_eq!(rt; odd(rt.alloc(), open.as_bytes()), Err(TextFault::NotJson));
+    let spaces = " ".repeat(rt.alloc(), MIB)?;
+    assert_eq!(rt; odd(rt.alloc(), spaces.as_bytes()), Err(TextFault::NotJson));
     Ok(())
 }
 

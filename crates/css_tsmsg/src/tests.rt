@@ -143,53 +143,25 @@ fn a_setup_is_read(rt: HostRuntime) -> Result<(), Fail> {
     Ok(())
 }
 
-/// A front part, a piece so many times, and an end.
-fn repeated(
-    alloc: Global,
-    front: &[u8],
-    piece: &[u8],
-    times: usize,
-    end: &[u8],
-) -> Result<Text, Fail> {
-    let mut text = Text::of(alloc, front)?;
-    for _ in 0..times {
-        text.push(piece)?;
-    }
-    text.push(end)?;
-    Ok(text)
-}
-
 #[test]
 fn long_texts_are_read_or_refused(rt: HostRuntime) -> Result<(), Fail> {
     let alloc = rt.alloc();
-    let setup = repeated(
-        alloc,
-        b"{\"contentIdStem\":\"",
-        b"1.5 ",
-        1 << 18,
-        b"\",\"timelineSelector\":\"\"}",
-    )?;
-    assert!(rt; read_setup(alloc, setup.bytes()).is_ok());
-    let control = repeated(
-        alloc,
-        b"{\"contentTime\":\"",
-        b"7",
-        400,
-        b"\",\"timelineSpeedMultiplier\":1,\"wallClockTime\":\"0\"}",
+    let stem = "1.5 ".repeat(alloc, 1 << 18)?;
+    let setup = format!(in alloc; "{{\"contentIdStem\":\"{stem}\",\"timelineSelector\":\"\"}}")?;
+    assert!(rt; read_setup(alloc, setup.as_bytes()).is_ok());
+    let digits = "7".repeat(alloc, 400)?;
+    let control = format!(in alloc;
+        "{{\"contentTime\":\"{digits}\",\"timelineSpeedMultiplier\":1,\"wallClockTime\":\"0\"}}"
     )?;
     assert_eq!(rt;
-        read_control(alloc, control.bytes()),
+        read_control(alloc, control.as_bytes()),
         Err(TsFault::Range(TsName::ContentTime))
     );
-    let speed = repeated(
-        alloc,
-        b"{\"contentTime\":\"0\",\"timelineSpeedMultiplier\":",
-        b"7",
-        400,
-        b"}",
+    let speed = format!(in alloc;
+        "{{\"contentTime\":\"0\",\"timelineSpeedMultiplier\":{digits}}}"
     )?;
     assert_eq!(rt;
-        read_control(alloc, speed.bytes()),
+        read_control(alloc, speed.as_bytes()),
         Err(TsFault::Fractional)
     );
     Ok(())
@@ -203,10 +175,11 @@ fn deep_texts_are_read_or_refused(rt: HostRuntime) -> Result<(), Fail> {
         (127, TsFault::NotJson),
     ];
     for (arrays, expected) in rows {
-        let front = repeated(alloc, b"{\"private\":", b"[", arrays, b"")?;
-        let text = repeated(alloc, front.bytes(), b"]", arrays, b"}")?;
+        let open = "[".repeat(alloc, arrays)?;
+        let close = "]".repeat(alloc, arrays)?;
+        let text = format!(in alloc; "{{\"private\":{open}{close}}}")?;
         assert_eq!(rt;
-            read_presentation(alloc, text.bytes()),
+            read_presentation(alloc, text.as_bytes()),
             Err(expected),
             "{arrays}"
         );
