@@ -5,3 +5,4 @@ pub mod Same
 pub mod SameChanges
 pub mod Sessions
 pub mod Utf8
+pub mod Laws

@@ -18,7 +18,7 @@ mod writing;
 
 pub use change::{Change, Told};
 pub use fault::CiiFault;
-pub use merging::{apply, diff, full, merge};
+pub use merging::{apply, apply_to, diff, full, merge};
 pub use name::CiiName;
 pub use reading::read_message;
 pub use state::State;
@@ -26,3 +26,13 @@ pub use writing::write_message;
 
 #[cfg(test)]
 mod tests;
+
+ghost use Rattle.std.specs.Prelude.{◌≡◌, Ok};
+ghost use Rattle.css_cii.specs.Messages.{message_of};
+ghost use Rattle.css_cii.specs.Texts.{change_text, EachOf, RatesAreInRange, IsUtf8Change};
+ghost use Rattle.css_cii.specs.declared.change.Change.{Change as said};
+
+/// A message that is written is read back as the same change.
+pub fn messages_are_read_back()
+    ensures { (c : said) → IsUtf8Change c → EachOf RatesAreInRange c.timelines → message_of (change_text c) ≡ Ok c }
+{}

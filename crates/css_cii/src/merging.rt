@@ -1,4 +1,4 @@
-ghost use Rattle.std.specs.Prelude.{◌≡◌, List, IfOk};
+ghost use Rattle.std.specs.Prelude.{◌≡◌, ◌↔◌, List, IfOk, IsTrue};
 ghost use Rattle.css_cii.specs.States as states;
 ghost use Rattle.css_cii.specs.Texts.{IsUtf8State, IsUtf8Change, AreUtf8Changes};
 ghost use Rattle.css_cii.specs.declared.change.Told.TheVariants.{Said as said};
@@ -56,6 +56,49 @@ pub fn apply(state: &State, change: &Change) -> Result<State, Memory>
     ensures utf8 { IfOk result (λ new. IsUtf8State state.now → IsUtf8Change change.now → IsUtf8State new) }
 {
     properties_after(state, change)
+}
+
+/// Sets a property to what a message says of it.
+fn set_words(property: &mut Option<Text>, told: Told<Text>)
+    ensures { property.new ≡ states.after property.old told }
+{
+    if let Told::Said(value) = told {
+        *property = value;
+    }
+}
+
+/// Sets the timelines to what a message says of them.
+fn set_timelines(property: &mut Option<Timelines>, told: Told<Timelines>)
+    ensures { property.new ≡ states.after property.old told }
+{
+    if let Told::Said(value) = told {
+        *property = value;
+    }
+}
+
+/// Applies a message to a state in place: what the message says is set, and the rest stays. This takes no memory, and
+/// copies nothing. Where the texts of both are UTF-8, so are those of the new state.
+pub fn apply_to(state: &mut State, change: Change)
+    ensures value { state.new ≡ states.applied state.old change }
+    ensures utf8 { IsUtf8State state.old → IsUtf8Change change → IsUtf8State state.new }
+{
+    set_properties(state, change);
+}
+
+/// Sets each property to what a message says of it.
+#[tactic(auto, unfolding(crate::specs::States::applied))]
+fn set_properties(state: &mut State, change: Change)
+    ensures { state.new ≡ states.applied state.old change }
+{
+    set_words(&mut state.protocol_version, change.protocol_version);
+    set_words(&mut state.mrs_url, change.mrs_url);
+    set_words(&mut state.content_id, change.content_id);
+    set_words(&mut state.content_id_status, change.content_id_status);
+    set_words(&mut state.presentation_status, change.presentation_status);
+    set_words(&mut state.wc_url, change.wc_url);
+    set_words(&mut state.ts_url, change.ts_url);
+    set_words(&mut state.te_url, change.te_url);
+    set_timelines(&mut state.timelines, change.timelines);
 }
 
 /// The state after the messages of a connection so far.
@@ -124,6 +167,7 @@ fn difference(old: &State, new: &State) -> Result<Change, Memory>
 pub fn diff(old: &State, new: &State) -> Result<Change, Memory>
     ensures value { IfOk result (λ change. change ≡ states.difference old.now new.now) }
     ensures exact { IfOk result (states.TellsDifference old.now new.now) }
+    ensures empty { IfOk result (λ change. IsTrue (states.is_empty change) ↔ (old.now ≡ new.now)) }
     ensures applied { IfOk result (λ change. states.applied old.now change ≡ new.now) }
     ensures utf8 { IfOk result (λ change. IsUtf8State new.now → IsUtf8Change change) }
 {

@@ -1,13 +1,14 @@
-ghost use Rattle.std.specs.Prelude.{◌≡◌, ◌↔◌, IsTrue, bytes_eq};
+ghost use Rattle.std.specs.Prelude.{◌≡◌, ◌↔◌, IsTrue, IfOk, bytes_eq};
 ghost use Rattle.css_num.specs.Timelines.{timelines_eq};
 ghost use Rattle.css_cii.specs.States as states;
 ghost use Rattle.css_cii.specs.Texts.{IsUtf8State};
 
 use css_num::{Text, Timelines};
+use std::alloc::AllocError;
 
 /// What a television tells its companions (ETSI TS 103 286-2, CSS-CII): nine
 /// properties, each a value or null.
-#[derive(Clone, Debug, Drop, PartialEq, Eq)]
+#[derive(Debug, Drop, PartialEq, Eq)]
 pub struct State {
     /// The version of the protocol.
     pub protocol_version: Option<Text>,
@@ -52,9 +53,51 @@ impl State {
 
     /// Whether two states are equal, property by property.
     pub fn is_same(&self, other: &State) -> bool
-        ensures { IsTrue result ↔ (self.now ≡ other.now) }
+        ensures value { result ≡ states.is_same_state self.now other.now }
+        ensures exact { IsTrue result ↔ (self.now ≡ other.now) }
     {
         has_same_properties(self, other)
+    }
+}
+
+/// An equal text.
+fn words_copied(words: &Option<Text>) -> Result<Option<Text>, AllocError>
+    ensures { IfOk result (λ copy. copy ≡ words.now) }
+{
+    Ok(words.clone()?)
+}
+
+/// Equal timelines.
+fn timelines_copied(timelines: &Option<Timelines>) -> Result<Option<Timelines>, AllocError>
+    ensures { IfOk result (λ copy. copy ≡ timelines.now) }
+{
+    Ok(timelines.clone()?)
+}
+
+/// An equal state.
+fn state_copied(state: &State) -> Result<State, AllocError>
+    ensures { IfOk result (λ copy. copy ≡ state.now) }
+{
+    Ok(State {
+        protocol_version: words_copied(&state.protocol_version)?,
+        mrs_url: words_copied(&state.mrs_url)?,
+        content_id: words_copied(&state.content_id)?,
+        content_id_status: words_copied(&state.content_id_status)?,
+        presentation_status: words_copied(&state.presentation_status)?,
+        wc_url: words_copied(&state.wc_url)?,
+        ts_url: words_copied(&state.ts_url)?,
+        te_url: words_copied(&state.te_url)?,
+        timelines: timelines_copied(&state.timelines)?,
+    })
+}
+
+impl Clone for State {
+    ghost use Rattle.std.specs.Prelude.{◌≡◌};
+
+    ghost is_clone = { λ state copy. copy ≡ state };
+
+    fn clone(&self) -> Result<State, AllocError> {
+        state_copied(self)
     }
 }
 

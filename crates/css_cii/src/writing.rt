@@ -159,6 +159,7 @@ pub fn write_message(alloc: Global, change: &Change) -> Result<Text, Memory>
     requires { texts.IsUtf8Change change.now }
     ensures text { IfOk result (λ text. text ≡ texts.change_text change.now) }
     ensures read_back { IfOk result (λ text. message_of text ≡ Ok change.now) }
+    ensures in_range { OnOk result (texts.EachOf texts.RatesAreInRange change.now.timelines) }
 {
     let map = change_map(alloc, change)?;
     write_value(alloc, &Value::Object(map))

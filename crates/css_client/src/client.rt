@@ -1,9 +1,9 @@
-ghost use Rattle.std.specs.Prelude.{◌≡◌, ◌≤◌, ◌<◌, ◌+◌, ℕ, [], ◌∷◌, length, max, IfOk, OnOk, OnErr};
+ghost use Rattle.std.specs.Prelude.{◌≡◌, ◌≤◌, ◌<◌, ◌+◌, ℕ, [], ◌∷◌, length, max, IfOk, IfSome, OnOk, OnErr};
 ghost use Rattle.css_model.specs.declared.Why.TheVariants as why;
 ghost use Rattle.css_model.specs.Wire.{encoded, request_at};
 ghost use Rattle.css_model.specs.History.{History, Clock, Sent, Took, Slept, accepted_answers};
 ghost use Rattle.css_span.specs.Frontiers.{error_count};
-ghost use Rattle.css_span.specs.WallSpans.{wall_span};
+ghost use Rattle.css_span.specs.WallSpans.{wall_span, IsNear};
 ghost use Rattle.css_wc.specs.Datagrams.{HasNoFault};
 ghost use Rattle.css_client.specs.Clients.{local_of};
 ghost use Rattle.css_client.specs.Landings.{landing_of, IsRefusal};
@@ -134,6 +134,7 @@ impl Client {
         requires floor { self.now.floor ≤ reading }
         ensures span { (history : History) → StandsFor self.now history → result ≡ wall_span (local_of self.now) reading (accepted_answers (local_of self.now) history) }
         ensures holds { ContainsTheWall self.now reading result }
+        ensures near { IfSome result IsNear }
     {
         self.estimate.at(reading)
     }

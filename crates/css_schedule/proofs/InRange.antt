@@ -3,6 +3,9 @@ use Rattle.std.proofs.Common.{◌≡◌, ℕ, ◌+◌, ◌<◌, ◌≤◌, arith
 use Rattle.std.specs.Prelude.{if◌then◌else◌, ℤ, pos, negsuc, ◌≤ℤ◌, int_lt, nat_lt, Option, Some, None, Result, Ok, Err, bytes_eq, codes}
 use Rattle.std.proofs.lemmas.Bool.{ltb-true}
 use Rattle.std.proofs.lemmas.Int.{ints}
+use Rattle.std.specs.Str.{IsUtf8}
+use Rattle.std.proofs.lemmas.List.Elements.{All-nil, All-cons}
+use Rattle.css_schedule.proofs.Graphic.{word-utf8, stem-utf8}
 use Rattle.css_num.specs.Words.{below_limit, number_of, whole_number_of, signed_number_of}
 use Rattle.css_model.specs.declared.TheConstants.{LIMIT}
 use Rattle.css_model.specs.Numbers.{max_error, max_local_error, max_local_precision}
@@ -15,10 +18,10 @@ use Rattle.css_schedule.specs.declared.header.Start.TheVariants.{One}
 use Rattle.css_schedule.specs.declared.line.Line.{Line}
 use Rattle.css_schedule.specs.declared.line.Verb.{Verb}
 use Rattle.css_schedule.specs.declared.line.Verb.TheVariants as verbs
-use Rattle.css_schedule.specs.Words.{◌>>=◌, or_form, word_at, number_at, ordinal_at, signed_at, text_at, all_read, words_of}
+use Rattle.css_schedule.specs.Words.{is_word, ◌>>=◌, or_form, word_at, number_at, ordinal_at, signed_at, text_at, all_read, words_of}
 use Rattle.css_schedule.specs.Lines.{time_at, ask_at, take_at, give_at, land_at, wall_at, operands_at, verb_at, line_of_words, line_of}
 use Rattle.css_schedule.specs.Headers.{after_version, mode_at, declared_at, header_with, local_of, stem_of, header_of_words, header_of}
-use Rattle.css_schedule.specs.Ranges.{IsHeader, IsVerb, IsLine}
+use Rattle.css_schedule.specs.Ranges.{IsCompanion, IsHeader, IsVerb, IsLine}
 
 -- what a whole header of version 1 declares is in range
 pub record IsReadHeader (header : Header) : Type 0 where
@@ -212,6 +215,19 @@ declared-range words x e =
 same_One : (a b : Header) → good (One a) ≡ good (One b) → a ≡ b
 same_One a b e = cc
 
+-- a word that is chosen by a test passes it
+passes : (b : Bool) (word x : List ℕ × List (List ℕ)) → (if b then good word else Err Form) ≡ Ok x → (b ≡ true) × (word ≡ x)
+passes true word x e = (refl, same_Ok word x e)
+passes false word x e = absurd (cc)
+
+-- a text is UTF-8
+text-utf8 : (words : List (List ℕ)) (x : List ℕ × List (List ℕ)) → text_at words ≡ Ok x → IsUtf8 x.0
+unfolding text_at
+text-utf8 words x e =
+    let word = step x (word_at words) (λ word. if is_word word.0 then Ok word else Err Form) e in
+    let passed = passes (is_word word.0.0) word.0 x word.2 in
+    subst (λ (y : List ℕ × List (List ℕ)). IsUtf8 y.0) passed.1 (word-utf8 word.0.0 passed.0)
+
 -- the words of a header are in range
 header-range : (words : List (List ℕ)) (header : Header) → header_of_words words ≡ Ok (One header) → IsReadHeader header
 unfolding header_of_words
@@ -225,7 +241,14 @@ header-range words header e =
     let known = declared-range mode.0.1 declared.0 declared.1 in
     let read : Header = header_with mode.0.0 declared.0.0 selector.0.0 stem.0.0 in
     subst IsReadHeader {x = read} (same_One read header end.2) (record {
-      tv = record { tv_error = known.of_tv; tv_precision = known.greatest };
+      tv = record {
+        tv_error = known.of_tv;
+        tv_precision = known.greatest;
+        companions = All-cons IsCompanion _ [] (record {
+          selector = text-utf8 declared.0.1 selector.0 selector.1;
+          stem = stem-utf8 stem.0.0 (text-utf8 selector.0.1 stem.0 stem.1);
+        }) (All-nil IsCompanion);
+      };
       least = known.least;
       companion = record { local = local_of declared.0.0; selector = selector.0.0; stem = stem_of stem.0.0 };
       alone = refl;

@@ -1,9 +1,10 @@
-ghost use Rattle.std.specs.Prelude.{◌≡◌, ◌≤◌, ◌≤ℤ◌, pos, ◌∷◌, [], IfOk};
+ghost use Rattle.std.specs.Prelude.{◌≡◌, ◌≤◌, ◌≤ℤ◌, pos, ◌∷◌, [], IfOk, All};
+ghost use Rattle.std.specs.Str.{IsUtf8};
 ghost use Rattle.css_model.specs.Numbers.{max_error, max_local_error, max_local_precision};
 ghost use Rattle.css_num.specs.Gives.{GivesBy};
 ghost use Rattle.css_schedule.specs.Words.{words_left};
 ghost use Rattle.css_schedule.specs.Headers.{after_version, mode_of, mode_at, declared_at, stem_of, header_of};
-ghost use Rattle.css_schedule.specs.Ranges.{IsStart};
+ghost use Rattle.css_schedule.specs.Ranges.{IsStart, IsCompanion};
 ghost use Rattle.css_schedule.specs.declared.fault.LineFault.TheVariants as faults;
 
 use crate::words::{Words, all_words, finish, number, signed, skip, text, word};
@@ -91,7 +92,9 @@ fn declaration<'a>(words: Words<'a>) -> Result<(Declared, Words<'a>), LineFault>
 
 // The stem that a word stands for: `-` for the empty one.
 fn stem(alloc: Global, word: &[u8]) -> Result<Text, Memory>
-    ensures { IfOk result (λ stem. stem ≡ stem_of word.now) }
+    requires { IsUtf8 word.now }
+    ensures value { IfOk result (λ stem. stem ≡ stem_of word.now) }
+    ensures utf8 { IfOk result IsUtf8 }
 {
     if word == b"-".as_slice() {
         Ok(Text::of(alloc, b"")?)
@@ -102,7 +105,10 @@ fn stem(alloc: Global, word: &[u8]) -> Result<Text, Memory>
 
 // A companion with this selector and stem, alone.
 fn only(alloc: Global, local: Local, selector: &[u8], word: &[u8]) -> Result<Companions, Memory>
-    ensures { IfOk result (λ companions. companions ≡ record { local = local; selector = selector.now; stem = stem_of word.now } ∷ []) }
+    requires selector { IsUtf8 selector.now }
+    requires stem { IsUtf8 word.now }
+    ensures utf8 { IfOk result (λ companions. All IsCompanion companions) }
+    ensures value { IfOk result (λ companions. companions ≡ record { local = local; selector = selector.now; stem = stem_of word.now } ∷ []) }
 {
     let companion = CompanionLine {
         local,

@@ -1,6 +1,7 @@
 ghost use Rattle.std.specs.Prelude.{◌≡◌, ◌≤◌, ◌<◌, length, ℕ, IfOk, Some, pos, ◌≤ℤ◌, IsTrue, ◌↔◌, [], ◌∷◌, position};
 ghost use Rattle.std.specs.Option.{option_copied};
 ghost use Rattle.std.specs.List.{list_all};
+ghost use Rattle.std.specs.Str.{IsUtf8};
 ghost use Rattle.css_num.specs.Gives.{GivesBy};
 ghost use Rattle.css_schedule.specs.Words.{words_left, is_space, words_of, words_in, is_graphic, is_word, word_at, text_at, number_at, ordinal_at, signed_at, after_word, all_read};
 ghost use Rattle.css_schedule.specs.declared.fault.LineFault.TheVariants as faults;
@@ -115,7 +116,8 @@ fn is_text(word: &[u8]) -> bool
 /// A word that stands for itself: at least one byte, each from `!` to `~`.
 #[tactic(auto, unfolding(crate::specs::Words::text_at))]
 pub fn text<'a>(words: Words<'a>) -> Result<(&'a [u8], Words<'a>), LineFault>
-    ensures { GivesBy (λ x. (x.0.now, words_left x.1)) faults.Memory result (text_at (words_left words.entry)) }
+    ensures value { GivesBy (λ x. (x.0.now, words_left x.1)) faults.Memory result (text_at (words_left words.entry)) }
+    ensures utf8 { IfOk result (λ x. IsUtf8 x.0.now) }
 {
     let (text, rest) = word(words)?;
     if !is_text(text) {

@@ -3,3 +3,4 @@ pub mod Declared
 pub mod Standing
 pub mod Counting
 pub mod Leasts
+pub mod Nearness

@@ -1,7 +1,7 @@
-ghost use Rattle.std.specs.Prelude.{◌≡◌, ◌≤◌, ◌<◌, ◌↔◌, [], length, OnOk, OnErr, IsNone};
+ghost use Rattle.std.specs.Prelude.{◌≡◌, ◌≤◌, ◌<◌, ◌↔◌, [], length, OnOk, OnErr, IsNone, IfSome};
 ghost use Rattle.css_num.specs.Gives.{GivesBy};
 ghost use Rattle.css_span.specs.Frontiers.{Answers, StandsFor, Accepts, error_count};
-ghost use Rattle.css_span.specs.WallSpans.{wall_span};
+ghost use Rattle.css_span.specs.WallSpans.{wall_span, IsNear};
 ghost use Rattle.css_span.specs.Verdicts.{verdict};
 
 use crate::answer::{Answer, Local};
@@ -78,6 +78,7 @@ impl Estimate {
         requires floor { self.now.floor ≤ reading }
         ensures span { (accepted : Answers) → StandsFor self.now accepted → result ≡ wall_span self.now.local reading accepted }
         ensures none { (accepted : Answers) → StandsFor self.now accepted → IsNone result ↔ (accepted ≡ []) }
+        ensures near { IfSome result IsNear }
     {
         let answer = narrowest(&self.kept, &self.local, reading)?;
         Some(span(&answer, &self.local, reading))

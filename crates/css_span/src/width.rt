@@ -1,6 +1,6 @@
-ghost use Rattle.std.specs.Prelude.{◌≡◌, ◌<◌, ◌^◌, ◌≤ℤ◌, ◌*ℤ◌, ◌-ℤ◌, pos, unsigned_abs};
+ghost use Rattle.std.specs.Prelude.{◌≡◌, ◌<◌, ◌≤◌, ◌^◌, ◌≤ℤ◌, ◌*ℤ◌, ◌-ℤ◌, pos, unsigned_abs};
 ghost use Rattle.css_model.specs.WallClock as wall_clock;
-ghost use Rattle.css_span.specs.WallSpans.{span_of};
+ghost use Rattle.css_span.specs.WallSpans.{span_of, IsNear};
 
 use crate::answer::{Answer, Local};
 use css_model::LIMIT;
@@ -28,7 +28,8 @@ pub fn scaled_width(answer: &Answer, local: &Local, reading: u64) -> i128
 pub fn span(answer: &Answer, local: &Local, reading: u64) -> Span
     requires range { reading < LIMIT }
     requires possible { pos 0 ≤ℤ wall_clock.scaled_width local.now answer.now reading }
-    ensures { result ≡ span_of local.now reading answer.now }
+    ensures value { result ≡ span_of local.now reading answer.now }
+    ensures near { IsNear result }
 {
     Span {
         lo: lowest(answer, local, reading),
@@ -41,6 +42,7 @@ fn lowest(answer: &Answer, local: &Local, reading: u64) -> i128
     requires { reading < LIMIT }
     ensures value { result ≡ wall_clock.lo local.now answer.now reading }
     ensures local { wall_clock.IsLocal local.now }
+    ensures near { unsigned_abs result ≤ 2 ^ 68 }
 {
     floor_div(
         lower_end(answer, local, reading),
@@ -51,7 +53,8 @@ fn lowest(answer: &Answer, local: &Local, reading: u64) -> i128
 #[tactic(auto, unfolding(css_model::specs::WallClock::hi))]
 fn highest(answer: &Answer, local: &Local, reading: u64) -> i128
     requires { reading < LIMIT }
-    ensures { result ≡ wall_clock.hi local.now answer.now reading }
+    ensures value { result ≡ wall_clock.hi local.now answer.now reading }
+    ensures near { unsigned_abs result ≤ 2 ^ 68 }
 {
     ceil_div(
         upper_end(answer, local, reading),

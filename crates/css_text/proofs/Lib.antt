@@ -2,3 +2,4 @@ pub mod CompactTexts
 pub mod Readings
 pub mod WholeSteps
 mod WorkedTexts
+pub mod Laws

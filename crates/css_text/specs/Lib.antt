@@ -4,3 +4,4 @@ pub mod Numerals
 pub mod Readings
 pub mod WholeTexts
 pub mod FaultWords
+pub mod Ordered

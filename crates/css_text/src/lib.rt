@@ -22,3 +22,16 @@ pub use writing::write_value;
 
 #[cfg(test)]
 mod tests;
+
+ghost use Rattle.std.specs.Prelude.{◌≡◌, ◌≤◌, Ok};
+ghost use Rattle.serde_json.specs.Data.{Data, depth};
+ghost use Rattle.serde_json.specs.Read.{max_depth};
+ghost use Rattle.serde_json.specs.Written.{compact_text};
+ghost use Rattle.css_text.specs.CompactTexts.{IsPlain};
+ghost use Rattle.css_text.specs.Ordered.{HasUtf8, IsOrdered};
+ghost use Rattle.css_text.specs.Readings.{object_of, members_or_fault};
+
+/// The compact text of a plain value is read back as that value.
+pub fn compact_texts_are_read_back()
+    ensures { (d : Data) → IsPlain d → depth d ≤ max_depth → HasUtf8 d → IsOrdered d → object_of (compact_text d) ≡ members_or_fault (Ok d) }
+{}

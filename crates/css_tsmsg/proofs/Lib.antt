@@ -1,3 +1,5 @@
 pub mod RoundTrips
 pub mod Values
 pub mod Windows
+pub mod Never
+pub mod ReadBack

@@ -15,3 +15,13 @@ text_fault text.Memory = fault.Memory
 abbrev pub and_then : {T U : Type 0} → Result T TsFault → (T → Result U TsFault) → Result U TsFault
 and_then (Err fault) go_on = Err fault
 and_then (Ok value) go_on = go_on value
+
+-- a result that isn't want of memory
+abbrev pub NotMemory : {T : Type 0} → Result T TsFault → Type 0
+NotMemory (Ok value) = Unit {0}
+NotMemory (Err fault.Memory) = ⊥
+NotMemory (Err fault.NotJson) = Unit {0}
+NotMemory (Err fault.NotObject) = Unit {0}
+NotMemory (Err fault.Fractional) = Unit {0}
+NotMemory (Err (fault.Field name)) = Unit {0}
+NotMemory (Err (fault.Range name)) = Unit {0}
