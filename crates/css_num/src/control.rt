@@ -1,6 +1,8 @@
+ghost use Rattle.std.specs.Prelude.{◌≡◌, ◌↔◌, IsTrue};
+
 /// The value of a control timestamp (ETSI TS 103 286-2, CSS-TS): which tick of
 /// the timeline the television presents at which value of the wall clock.
-#[derive(Clone, Copy, Debug, PartialEq, Eq)]
+#[derive(Clone, Copy, Debug)]
 pub enum Control {
     /// At wall clock value `wall`, in nanoseconds, the television presents tick
     /// `content` of the timeline, which goes at `speed` times its tick rate: 0
@@ -8,4 +10,79 @@ pub enum Control {
     Available { content: i64, wall: u64, speed: i32 },
     /// The timeline isn't being presented.
     Unavailable,
+}
+
+impl PartialEq for Control {
+    ghost use Rattle.std.specs.Prelude.{◌≡◌, ◌↔◌, IsTrue};
+    ghost use Rattle.std.proofs.Common.{rules};
+    ghost use Rattle.std.specs.Cmp.Rules.{comparing};
+    ghost use Rattle.css_num.specs.Controls.{control_eq};
+
+    ghost eq = { control_eq };
+
+    ghost laws = { Prim.search (comparing, rules) depth 9 };
+
+    fn eq(&self, other: &Control) -> bool
+        ensures value { result ≡ control_eq self.now other.now }
+        ensures exact { IsTrue result ↔ (self.now ≡ other.now) }
+    {
+        match (self, other) {
+            (Control::Unavailable, Control::Unavailable) => true,
+            (
+                Control::Available {
+                    content,
+                    wall,
+                    speed,
+                },
+                Control::Available {
+                    content: other_content,
+                    wall: other_wall,
+                    speed: other_speed,
+                },
+            ) => content == other_content && wall == other_wall && speed == other_speed,
+            _ => false,
+        }
+    }
+}
+
+impl Eq for Control {
+    ghost use Rattle.std.proofs.Common.{rules};
+    ghost use Rattle.std.specs.Cmp.Rules.{comparing};
+
+    ghost laws = { Prim.search (comparing, rules) depth 9 };
+}
+
+#[cfg(test)]
+mod tests {
+    use super::*;
+
+    const PLAYING: Control = Control::Available {
+        content: -90_000,
+        wall: 7,
+        speed: 1,
+    };
+
+    fn control(content: i64, wall: u64, speed: i32) -> Control {
+        Control::Available {
+            content,
+            wall,
+            speed,
+        }
+    }
+
+    #[test]
+    fn equal_controls_agree_in_all_three_numbers(rt: HostRuntime) {
+        let rows: [(Control, bool); 5] = [
+            (control(-90_000, 7, 1), true),
+            (control(90_000, 7, 1), false),
+            (control(-90_000, 8, 1), false),
+            (control(-90_000, 7, -1), false),
+            (Control::Unavailable, false),
+        ];
+        for (other, equal) in rows {
+            assert_eq!(rt; PLAYING == other, equal);
+            assert_eq!(rt; other == PLAYING, equal);
+        }
+        assert!(rt; Control::Unavailable == Control::Unavailable);
+    }
 }
