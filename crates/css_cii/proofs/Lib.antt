@@ -6,3 +6,4 @@ pub mod SameChanges
 pub mod Sessions
 pub mod Utf8
 pub mod Laws
+pub mod Never

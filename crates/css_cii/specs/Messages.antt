@@ -92,3 +92,11 @@ change_or_fault (Ok members) = change_in members
 -- what a message says, or its first fault
 unfoldable pub message_of : List ℕ → Result Change CiiFault
 message_of bytes = change_or_fault (object_of bytes)
+
+-- a result that isn't want of memory
+abbrev pub NotMemory : {T : Type 0} → Result T CiiFault → Type 0
+NotMemory (Ok value) = Unit {0}
+NotMemory (Err fault.Memory) = ⊥
+NotMemory (Err fault.NotJson) = Unit {0}
+NotMemory (Err fault.NotObject) = Unit {0}
+NotMemory (Err (fault.Field name)) = Unit {0}

@@ -27,12 +27,17 @@ pub use writing::write_message;
 #[cfg(test)]
 mod tests;
 
-ghost use Rattle.std.specs.Prelude.{◌≡◌, Ok};
-ghost use Rattle.css_cii.specs.Messages.{message_of};
+ghost use Rattle.std.specs.Prelude.{◌≡◌, Ok, ℕ, List};
+ghost use Rattle.css_cii.specs.Messages.{NotMemory, message_of};
 ghost use Rattle.css_cii.specs.Texts.{change_text, EachOf, RatesAreInRange, IsUtf8Change};
 ghost use Rattle.css_cii.specs.declared.change.Change.{Change as said};
 
 /// A message that is written is read back as the same change.
 pub fn messages_are_read_back()
     ensures { (c : said) → IsUtf8Change c → EachOf RatesAreInRange c.timelines → message_of (change_text c) ≡ Ok c }
+{}
+
+/// Want of memory is never what a message's text is to be read as.
+pub fn messages_are_total()
+    ensures { (bytes : List ℕ) → NotMemory (message_of bytes) }
 {}

@@ -60,21 +60,21 @@ impl State {
     }
 }
 
-/// An equal text.
+/// A copy of a property that is a text. It has a contract of its own, since a clone's only says that it is a clone.
 fn words_copied(words: &Option<Text>) -> Result<Option<Text>, AllocError>
     ensures { IfOk result (λ copy. copy ≡ words.now) }
 {
     Ok(words.clone()?)
 }
 
-/// Equal timelines.
+/// A copy of the timelines.
 fn timelines_copied(timelines: &Option<Timelines>) -> Result<Option<Timelines>, AllocError>
     ensures { IfOk result (λ copy. copy ≡ timelines.now) }
 {
     Ok(timelines.clone()?)
 }
 
-/// An equal state.
+/// A copy of a state, which is equal to it.
 fn state_copied(state: &State) -> Result<State, AllocError>
     ensures { IfOk result (λ copy. copy ≡ state.now) }
 {
