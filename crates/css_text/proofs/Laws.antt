@@ -29,12 +29,14 @@ use Rattle.css_text.specs.CompactTexts.{IsPlain, IsPlainNumber, ItemsArePlain, M
 use Rattle.css_text.specs.Readings.{object_of, members_or_fault}
 use Rattle.css_text.proofs.CompactTexts.{object_written}
 
+-- a plain number is written as one
 plain_number : (n : Num) → IsPlainNumber n → IsNumber (number_text n)
 plain_number (unsigned n) h = IsNumber-decimal n (omega arith)
 plain_number (negative (pos n)) h = IsNumber-signed_decimal (pos n) (omega arith)
 plain_number (negative (negsuc n)) h = IsNumber-signed_decimal (negsuc n) (omega arith)
 plain_number (float x) h = absurd h
 
+-- each number in a plain value is written as one
 mutual
   numbers : (d : Data) → IsPlain d → HasNumbers (outline d)
   numbers null h = tt
@@ -52,6 +54,7 @@ mutual
   members_numbers no_members h = tt
   members_numbers (member k d ms) h = (numbers d h.0, members_numbers ms h.1)
 
+-- a value's outline nests as deep as the value
 mutual
   same_depth : (d : Data) → tree.depth (outline d) ≡ depth d
   same_depth null = refl
@@ -73,25 +76,30 @@ mutual
 compact_tokens : (d : Data) → IsPlain d → tokens (compact_text d) ≡ json_tokens (outline d)
 compact_tokens d plain = ap tokens (sym (print-outline d)) ∙ tokens-print (json_tokens (outline d)) (ArePrintable-json_tokens (outline d) (numbers d plain))
 
+-- so the text is read as the outline is
 pub read_compact : (d : Data) → IsPlain d → depth d ≤ max_depth → read (compact_text d) ≡ of_json (outline d)
 read_compact d plain shallow =
     ap (λ ts. option_and_then of_json (option_and_then (λ p. json.if_last p.0 p.1) (json.value max_depth ts))) (compact_tokens d plain ∙ sym (append-nil (json_tokens (outline d))))
     ∙ ap (λ r. option_and_then of_json (option_and_then (λ p. json.if_last p.0 p.1) r)) (value-json_tokens (outline d) max_depth [] (omega (arith, same_depth d)))
 
 -- ---- UTF-8
+-- a byte before a text
 led : (byte : ℕ) (text : List ℕ) → IsUtf8 (byte ∷ []) → IsUtf8 text → IsUtf8 (byte ∷ text)
 led byte text b t = IsUtf8-append (byte ∷ []) text b t
 
+-- the comma before a later item
 comma_utf8 : (later : Bool) → IsUtf8 (comma_if later)
 comma_utf8 true = IsUtf8-are_ascii (44 ∷ []) refl
 comma_utf8 false = IsUtf8-nil
 
+-- a plain number's text is ASCII
 number_utf8 : (n : Num) → IsPlainNumber n → IsUtf8 (number_text n)
 number_utf8 (unsigned n) h = IsUtf8-from_ascii (decimal n) (IsAscii-decimal n (omega arith))
 number_utf8 (negative (pos n)) h = IsUtf8-from_ascii (decimal n) (IsAscii-decimal n (omega arith))
 number_utf8 (negative (negsuc n)) h = led 45 (decimal (suc n)) (IsUtf8-are_ascii (45 ∷ []) refl) (IsUtf8-from_ascii (decimal (suc n)) (IsAscii-decimal (suc n) (omega arith)))
 number_utf8 (float x) h = absurd h
 
+-- the compact text is UTF-8 where the value's texts are
 mutual
   text_utf8 : (d : Data) → IsPlain d → HasUtf8 d → IsUtf8 (compact_text d)
   text_utf8 null p h = IsUtf8-are_ascii (compact_text null) refl
@@ -112,24 +120,29 @@ mutual
       (led 58 (compact_text d ++ members_text true ms) (IsUtf8-are_ascii (58 ∷ []) refl) (IsUtf8-append (compact_text d) _ (text_utf8 d p.0 h.1) (members_utf8 true ms p.1 h.2))))
 
 -- ---- names in order
+-- a name after all others is put at the end
 put_last : (k : List ℕ) (d : Data) (ms : Members) → IsAfter k ms → put k d ms ≡ followed_by ms (member k d no_members)
 put_last k d no_members h = refl
 put_last k d (member l e ms) h = ap (λ o. match_ordering o (member k d (member l e ms)) (member l d ms) (member l e (put k d ms))) h.0 ∙ ap (member l e) (put_last k d ms h.1)
 
+-- members one after another, however they are grouped
 followed-assoc : (a b c : Members) → followed_by (followed_by a b) c ≡ followed_by a (followed_by b c)
 followed-assoc no_members b c = refl
 followed-assoc (member k d a) b c = ap (member k d) (followed-assoc a b c)
 
+-- members with none after them
 followed_none : (a : Members) → followed_by a no_members ≡ a
 followed_none no_members = refl
 followed_none (member k d a) = ap (member k d) (followed_none a)
 
+-- a plain number is read back from its text
 number_back : (n : Num) → IsPlainNumber n → IsCanonical n → number_of (number_text n) ≡ Some n
 number_back (unsigned n) h c = number_of-decimal n (omega arith)
 number_back (negative (pos n)) h c = absurd c
 number_back (negative (negsuc n)) h c = number_of-negative n (omega arith)
 number_back (float x) h c = absurd h
 
+-- a value whose names are in order is read back from its outline
 mutual
   outline_back : (d : Data) → IsPlain d → IsOrdered d → of_json (outline d) ≡ Some d
   outline_back null p h = refl
@@ -151,7 +164,7 @@ mutual
       ∙ members_back ms (followed_by found (member k d no_members)) p.1 h.2
       ∙ ap Some (followed-assoc found (member k d no_members) ms)
 
--- so its object is the value's
+-- so the object of its text is the value's
 pub object_compact : (d : Data) → IsPlain d → depth d ≤ max_depth → HasUtf8 d → IsOrdered d → object_of (compact_text d) ≡ members_or_fault (Ok d)
 object_compact d plain shallow utf8 ordered =
     object_written d (compact_text d) plain refl (text_utf8 d plain utf8) (read_compact d plain shallow ∙ outline_back d plain ordered)
