@@ -1,12 +1,16 @@
 -- Bytes cut into lines, part after part.
-use Rattle.std.proofs.Common.{◌≡◌, ℕ, suc, ◌+◌, ◌<◌, Bool, true, false, cond, List, [], ◌∷◌, ◌++◌, length, sym, ◌∙◌, ap, refl, arith, append_assoc, append-nil}
+use Rattle.std.proofs.Common.{◌≡◌, ℕ, suc, ◌+◌, ◌-◌, ◌<◌, Bool, true, false, cond, List, [], ◌∷◌, ◌++◌, length, sym, ◌∙◌, ap, refl, arith, append_assoc, append-nil, take, drop, get_or}
 use Rattle.std.specs.List.{slice_split, All}
-use Rattle.std.proofs.lemmas.List.{length-append}
+use Rattle.std.proofs.Math.Seq.{take-length}
+use Rattle.std.proofs.lemmas.Bool.{eqb-true}
+use Rattle.std.proofs.lemmas.List.{length-append, length-drop, length-take, get_or-take, drop_more, take-append-drop}
 use Rattle.std.proofs.lemmas.List.Sums.{sum_by-cons}
-use Rattle.std.proofs.lemmas.List.Elements.{All-nil, All-push}
+use Rattle.std.proofs.lemmas.List.Elements.{All-nil, All-head, All-tail, All-push, All-from_get_or}
 use Rattle.std.proofs.lemmas.List.Splits.{slice_split_none, slice_split_at}
+use Rattle.memchr.specs.Find.{Nowhere, NoneBefore, Passes, is_byte}
 use Rattle.css_lines.specs.Lines.{is_feed, all_but_last, last_of, unless_empty, whole_lines, last_part}
 use Rattle.css_lines.specs.Meaning.{offset}
+use Rattle.css_lines.specs.Progress.{HasNoFeed, IsCut}
 
 -- the whole lines of bytes that come after this part of a line
 abbrev pub whole_from : List ℕ → List ℕ → List (List ℕ)
@@ -89,20 +93,39 @@ whole_lines_feed read b e =
     ∙ ap (λ v. whole_from [] read ++ cond v (last_from [] read ∷ []) []) e
     ∙ ap (λ l. l ++ last_from [] read ∷ []) (sym (whole_lines_is read)) ∙ ap (λ l. whole_lines read ++ l ∷ []) (sym (last_part_is read))
 
--- a byte that is no line feed ends no line
-pub whole_lines_other : (read : List ℕ) (b : ℕ) → is_feed b ≡ false → whole_lines (read ++ b ∷ []) ≡ whole_lines read
-whole_lines_other read b e =
-    whole_lines_is (read ++ b ∷ []) ∙ whole_from-append [] read (b ∷ [])
-    ∙ ap (λ v. whole_from [] read ++ cond v (last_from [] read ∷ []) []) e
-    ∙ append-nil (whole_from [] read) ∙ sym (whole_lines_is read)
+-- bytes without a line feed go on with the line
+pub whole_from-free : (part bytes rest : List ℕ) → HasNoFeed bytes → whole_from part (bytes ++ rest) ≡ whole_from (part ++ bytes) rest
+whole_from-free part [] rest free = ap (λ l. whole_from l rest) (sym (append-nil part))
+whole_from-free part (b ∷ bytes) rest free =
+    let other = All-head (λ x. is_feed x ≡ false) b bytes free in
+    let more = All-tail (λ x. is_feed x ≡ false) b bytes free in
+    ap (λ v. cond v (part ∷ whole_from [] (bytes ++ rest)) (whole_from (part ++ b ∷ []) (bytes ++ rest))) other
+    ∙ whole_from-free (part ++ b ∷ []) bytes rest more ∙ ap (λ l. whole_from l rest) (append_assoc part (b ∷ []) bytes)
+
+-- bytes without a line feed are a part of the line
+pub last_from-free : (part bytes rest : List ℕ) → HasNoFeed bytes → last_from part (bytes ++ rest) ≡ last_from (part ++ bytes) rest
+last_from-free part [] rest free = ap (λ l. last_from l rest) (sym (append-nil part))
+last_from-free part (b ∷ bytes) rest free =
+    let other = All-head (λ x. is_feed x ≡ false) b bytes free in
+    let more = All-tail (λ x. is_feed x ≡ false) b bytes free in
+    ap (λ v. cond v (last_from [] (bytes ++ rest)) (last_from (part ++ b ∷ []) (bytes ++ rest))) other
+    ∙ last_from-free (part ++ b ∷ []) bytes rest more ∙ ap (λ l. last_from l rest) (append_assoc part (b ∷ []) bytes)
+
+-- bytes without a line feed end no line
+pub whole_lines_free : (read bytes : List ℕ) → HasNoFeed bytes → whole_lines (read ++ bytes) ≡ whole_lines read
+whole_lines_free read bytes free =
+    whole_lines-append read bytes
+    ∙ ap (λ l. whole_lines read ++ l) (ap (whole_from (last_part read)) (sym (append-nil bytes)) ∙ whole_from-free (last_part read) bytes [] free)
+    ∙ append-nil (whole_lines read)
 
 -- after a line feed nothing is left
 pub last_part_feed : (read : List ℕ) (b : ℕ) → is_feed b ≡ true → last_part (read ++ b ∷ []) ≡ []
 last_part_feed read b e = last_part_is (read ++ b ∷ []) ∙ last_from-append [] read (b ∷ []) ∙ ap (λ v. cond v [] (last_from [] read ++ b ∷ [])) e
 
--- a byte that is no line feed is a byte of the line
-pub last_part_other : (read : List ℕ) (b : ℕ) → is_feed b ≡ false → last_part (read ++ b ∷ []) ≡ last_part read ++ b ∷ []
-last_part_other read b e = last_part_is (read ++ b ∷ []) ∙ last_from-append [] read (b ∷ []) ∙ ap (λ v. cond v [] (last_from [] read ++ b ∷ [])) e ∙ ap (λ l. l ++ b ∷ []) (sym (last_part_is read))
+-- bytes without a line feed are bytes of the line
+pub last_part_free : (read bytes : List ℕ) → HasNoFeed bytes → last_part (read ++ bytes) ≡ last_part read ++ bytes
+last_part_free read bytes free =
+    last_part-append read bytes ∙ ap (last_from (last_part read)) (sym (append-nil bytes)) ∙ last_from-free (last_part read) bytes [] free
 
 -- the bytes of the lines, with their line feeds, and of the part are all
 length_from : (part bytes : List ℕ) → offset (whole_from part bytes) + length (last_from part bytes) ≡ length part + length bytes
@@ -121,3 +144,26 @@ length_read read = ap (λ l. offset l + length (last_part read)) (whole_lines_is
 pub unless_empty_some : (part : List ℕ) → 0 < length part → unless_empty part ≡ part ∷ []
 unless_empty_some [] some = absurd (omega arith)
 unless_empty_some (b ∷ bs) some = refl
+
+-- a byte that is not found to be a line feed is none
+no_feed_here : (byte : ℕ) → ¬ (is_byte 10 byte ≡ true) → is_feed byte ≡ false
+no_feed_here byte other = elim (is_feed byte) as (λ v. ¬ (v ≡ true) → v ≡ false) [ true ↦ (λ h. absurd (h refl)) | false ↦ (λ h. refl) ] other
+
+-- where no line feed is found, the bytes have none
+pub no_feed : (bytes : List ℕ) → Nowhere (Passes (is_byte 10) bytes) 0 (length bytes) → HasNoFeed bytes
+no_feed bytes nowhere = All-from_get_or (λ b. is_feed b ≡ false) bytes 0 (λ k below. no_feed_here (get_or bytes k 0) (nowhere k (omega arith) below))
+
+-- a line feed that is found ends the bytes before it
+pub cut_at : (bytes : List ℕ) (feed : ℕ) → NoneBefore (Passes (is_byte 10) bytes) 0 (length bytes) feed → Passes (is_byte 10) bytes feed
+    → IsCut bytes (take feed bytes) (take (length bytes - (feed + 1)) (drop (feed + 1) bytes))
+cut_at bytes feed first found =
+    let rest : take (length bytes - (feed + 1)) (drop (feed + 1) bytes) ≡ drop (feed + 1) bytes =
+    ap (λ k. take k (drop (feed + 1) bytes)) (sym (length-drop (feed + 1) bytes)) ∙ take-length (drop (feed + 1) bytes) in
+    record {
+      whole =
+          sym (take-append-drop feed bytes) ∙ ap (λ l. take feed bytes ++ l) (drop_more bytes feed 0 first.high)
+          ∙ ap (λ b. take feed bytes ++ b ∷ drop (feed + 1) bytes) (eqb-true (get_or bytes feed 0) 10 found) ∙ ap (λ l. take feed bytes ++ 10 ∷ l) (sym rest);
+      free = All-from_get_or (λ b. is_feed b ≡ false) (take feed bytes) 0
+          (λ k below. let within : k < feed = omega (arith, below, length-take feed bytes) in
+          ap is_feed (get_or-take feed bytes k 0 within) ∙ no_feed_here (get_or bytes k 0) (first.before k (omega arith) within));
+    }

@@ -1,5 +1,5 @@
 -- What is meant by lines, line after line.
-use Rattle.std.proofs.Common.{◌≡◌, ℕ, ◌+◌, ◌<◌, ◌≤◌, Bool, true, false, cond, ◌||◌, ltb, List, [], ◌∷◌, ◌++◌, length, Option, Some, None, Result, Ok, Err, sym, ◌∙◌, ap, refl, arith, append_assoc, append-nil}
+use Rattle.std.proofs.Common.{◌≡◌, ℕ, ◌+◌, ◌<◌, ◌≤◌, true, false, cond, ◌||◌, ltb, List, [], ◌∷◌, ◌++◌, length, Option, Some, None, Result, Ok, Err, sym, ◌∙◌, ap, refl, arith, append_assoc, append-nil}
 use Rattle.std.proofs.lemmas.Bool.{lt-ltb, le-ltb}
 use Rattle.std.proofs.lemmas.List.{length-append}
 use Rattle.css_outside.specs.Bytes.{IsPrefix}
@@ -9,8 +9,8 @@ use Rattle.css_lines.specs.declared.ending.Stop.{Stop}
 use Rattle.css_lines.specs.declared.ending.Stop.TheVariants.{BadLine, ReadFault, WriteFault, Memory}
 use Rattle.css_lines.specs.Lines.{is_feed, whole_lines, last_part}
 use Rattle.css_lines.specs.Meaning.{Meaning, Outcome, accepted, refused_at, followed_from, followed_by, offset, reader_outcome, line_outcome, outcome_from, finish_outcome, end_outcome, outcome_so_far, outcome}
-use Rattle.css_lines.specs.Progress.{StopsAt, StopsAfter, StopsWith}
-use Rattle.css_lines.proofs.Cut.{whole_from, last_from, whole_lines-append, last_part-append, whole_lines_feed, whole_lines_other}
+use Rattle.css_lines.specs.Progress.{HasNoFeed, StopsAt, StopsAfter, StopsWith}
+use Rattle.css_lines.proofs.Cut.{whole_from, last_from, whole_lines-append, last_part-append, whole_from-free, last_from-free, whole_lines_feed, whole_lines_free}
 
 -- what was printed before stays in front
 followed_from-append : {C : Type 0} (verdict : Option (ℕ × Refusal C)) (p q : List ℕ) (next : Outcome C) → followed_from (p ++ q) verdict next ≡ followed_by (accepted p) (followed_from q verdict next)
@@ -98,10 +98,17 @@ so_far_grows meaning read rest =
     let grown = prefix_followed first.verdict first.printed (outcome_from meaning (whole_lines read) (whole_from (last_part read) rest)) in
     (grown.0, ap (λ o. o.printed) (so_far-append meaning read rest) ∙ grown.1)
 
--- a byte that is no line feed changes nothing
-pub so_far_other : {C : Type 0} (meaning : Meaning C) (read : List ℕ) (b : ℕ) → is_feed b ≡ false → outcome_so_far meaning (read ++ b ∷ []) ≡ outcome_so_far meaning read
+-- bytes without a line feed change nothing
+pub so_far_free : {C : Type 0} (meaning : Meaning C) (read bytes : List ℕ) → HasNoFeed bytes → outcome_so_far meaning (read ++ bytes) ≡ outcome_so_far meaning read
 unfolding outcome_so_far
-so_far_other meaning read b other = ap (outcome_from meaning []) (whole_lines_other read b other)
+so_far_free meaning read bytes free = ap (outcome_from meaning []) (whole_lines_free read bytes free)
+
+-- bytes without a line feed go on with the line
+pub outcome_after-free : {C : Type 0} (meaning : Meaning C) (before : List (List ℕ)) (part bytes rest : List ℕ) → HasNoFeed bytes
+    → outcome_after meaning before part (bytes ++ rest) ≡ outcome_after meaning before (part ++ bytes) rest
+outcome_after-free meaning before part bytes rest free =
+    ap (λ l. followed_by (outcome_from meaning before l) (end_outcome meaning (before ++ l) (last_from part (bytes ++ rest)))) (whole_from-free part bytes rest free)
+    ∙ ap (λ l. followed_by (outcome_from meaning before (whole_from (part ++ bytes) rest)) (end_outcome meaning (before ++ whole_from (part ++ bytes) rest) l)) (last_from-free part bytes rest free)
 
 -- a line feed adds what becomes of its line
 pub so_far_feed : {C : Type 0} (meaning : Meaning C) (read : List ℕ) (b : ℕ) → is_feed b ≡ true
@@ -152,7 +159,7 @@ nearer : {C : Type 0} (meaning : Meaning C) (before : List (List ℕ)) (whole : 
 nearer meaning before whole least reach least' reach' shorter sooner next = record { line = next.line; end = next.end; tail = next.tail; is = next.is; long = omega (arith, next.long); far = omega (arith, next.far) }
 
 -- the line that has begun goes on with these bytes
-some_next : {C : Type 0} (meaning : Meaning C) (before : List (List ℕ)) (part bytes : List ℕ) → 0 < length part → NextLine meaning before (outcome_after meaning before part bytes) (length part) (length part)
+pub some_next : {C : Type 0} (meaning : Meaning C) (before : List (List ℕ)) (part bytes : List ℕ) → 0 < length part → NextLine meaning before (outcome_after meaning before part bytes) (length part) (length part)
 some_next meaning before [] [] some = absurd (omega arith)
 some_next meaning before (p ∷ ps) [] some = record {
   line = p ∷ ps;
@@ -172,7 +179,7 @@ some_next meaning before part (b ∷ bytes) some =
     NextLine meaning before (followed_by (outcome_from meaning before lines) (end_outcome meaning (before ++ lines) last)) (length part) (length part))
     [ true ↦ fed | false ↦ other ]
 
--- with a line feed, or with a byte more
+-- the line, where a line feed follows
 pub fed_line : {C : Type 0} (meaning : Meaning C) (before : List (List ℕ)) (part : List ℕ) (b : ℕ) (bytes : List ℕ) → is_feed b ≡ true
     → (tail : Outcome C) × (outcome_after meaning before part (b ∷ bytes) ≡ followed_by (line_outcome meaning before part (offset before + length part + 1)) tail)
 fed_line meaning before part b bytes fed = (
@@ -183,35 +190,6 @@ fed_line meaning before part b bytes fed = (
       followed_by (outcome_from meaning before lines) (end_outcome meaning (before ++ lines) last)) fed
       ∙ fed_line_at meaning before part bytes,
 )
-
-pub longer_line : {C : Type 0} (meaning : Meaning C) (before : List (List ℕ)) (part : List ℕ) (b : ℕ) (bytes : List ℕ) → is_feed b ≡ false → NextLine meaning before (outcome_after meaning before part (b ∷ bytes)) (length part + 1) (length part + 1)
-longer_line meaning before part b bytes other =
-    let longer : 0 < length (part ++ b ∷ []) = omega (arith, length-append part (b ∷ [])) in
-    let next = nearer meaning before _ _ _ (length part + 1) (length part + 1) (omega (arith, length-append part (b ∷ []))) (omega (arith, length-append part (b ∷ []))) (some_next meaning before (part ++ b ∷ []) bytes longer) in
-    record {
-      line = next.line;
-      end = next.end;
-      tail = next.tail;
-      is =
-          ap (λ v.
-          let lines = cond v (part ∷ whole_from [] bytes) (whole_from (part ++ b ∷ []) bytes) in
-          let last = cond v (last_from [] bytes) (last_from (part ++ b ∷ []) bytes) in
-          followed_by (outcome_from meaning before lines) (end_outcome meaning (before ++ lines) last)) other
-          ∙ next.is;
-      long = next.long;
-      far = next.far;
-    }
-
--- the line that is being read, where a byte follows that is a line feed or not
-next_line_at : {C : Type 0} (meaning : Meaning C) (before : List (List ℕ)) (part : List ℕ) (b : ℕ) (bytes : List ℕ) (v : Bool) → is_feed b ≡ v → NextLine meaning before (outcome_after meaning before part (b ∷ bytes)) (length part) (length part + 1)
-next_line_at meaning before part b bytes true fed =
-    let line = fed_line meaning before part b bytes fed in
-    record { line = part; end = offset before + length part + 1; tail = line.0; is = line.1; long = omega arith; far = omega arith }
-next_line_at meaning before part b bytes false other = nearer meaning before _ _ _ (length part) (length part + 1) (omega arith) (omega arith) (longer_line meaning before part b bytes other)
-
--- the line that is being read, where a byte follows
-pub next_line : {C : Type 0} (meaning : Meaning C) (before : List (List ℕ)) (part : List ℕ) (b : ℕ) (bytes : List ℕ) → NextLine meaning before (outcome_after meaning before part (b ∷ bytes)) (length part) (length part + 1)
-next_line meaning before part b bytes = next_line_at meaning before part b bytes (is_feed b) refl
 
 -- too many bytes in all
 pub long_input : {C : Type 0} (meaning : Meaning C) (before : List (List ℕ)) (line : List ℕ) (end : ℕ) → meaning.longest_input before < end → line_outcome meaning before line end ≡ refused_at [] (length before + 1) Long

@@ -1,7 +1,7 @@
--- What a byte, and the end of the source, do to a run that has come so far.
-use Rattle.std.proofs.Common.{◌≡◌, ℕ, ◌+◌, ◌<◌, ◌≤◌, true, false, List, [], ◌∷◌, ◌++◌, length, Option, Result, Ok, Err, sym, ◌∙◌, ap, subst, refl, arith, append_assoc, append-nil, take, drop, get_or}
+-- What a stretch of bytes, a line feed, and the end of the source do to a run that has come so far.
+use Rattle.std.proofs.Common.{◌≡◌, ℕ, zero, suc, ◌+◌, ◌-◌, ◌<◌, ◌≤◌, true, List, [], ◌∷◌, ◌++◌, length, Option, Result, Ok, Err, sym, ◌∙◌, ap, subst, refl, arith, append_assoc, append-nil}
 use Rattle.std.specs.Prelude.{MatchResult}
-use Rattle.std.proofs.lemmas.List.{length-append, drop_more, take-append-drop}
+use Rattle.std.proofs.lemmas.List.{length-append}
 use Rattle.css_outside.specs.Bytes.{IsPrefix}
 use Rattle.css_outside.proofs.Known.{appends_none, appends_more}
 use Rattle.css_lines.specs.declared.reader.Refusal.TheVariants.{Long}
@@ -10,9 +10,9 @@ use Rattle.css_lines.specs.declared.ending.Stop.TheVariants.{BadLine, ReadFault,
 use Rattle.css_lines.specs.declared.pending.Pending.{Pending}
 use Rattle.css_lines.specs.Lines.{is_feed, unless_empty, lines_of, whole_lines, last_part}
 use Rattle.css_lines.specs.Meaning.{Meaning, Outcome, accepted, refused_at, followed_by, offset, reader_outcome, line_outcome, finish_outcome, end_outcome, outcome_so_far, outcome, IsSound}
-use Rattle.css_lines.specs.Progress.{Progress, AllTaken, TakesLine, StopsAfter, StopsWith, Stopped, StoppedAtEnd, Finished}
-use Rattle.css_lines.proofs.Cut.{length_read, whole_lines_feed, whole_lines_other, last_part_feed, last_part_other, unless_empty_some}
-use Rattle.css_lines.proofs.Meant.{followed_by-assoc, followed_by-nil, prefix_trans, outcome_after, outcome-append, outcome_at_end, so_far_grows, so_far_other, so_far_feed, end_outcome_some, fed_line, longer_line, next_line, long_input, long_line, fits_line, stops_with, stops_after}
+use Rattle.css_lines.specs.Progress.{HasNoFeed, Progress, AllTaken, TakesLine, StopsAfter, StopsWith, Stopped, StoppedAtEnd, Finished}
+use Rattle.css_lines.proofs.Cut.{length_read, whole_lines_feed, whole_lines_free, last_part_feed, last_part_free, unless_empty_some}
+use Rattle.css_lines.proofs.Meant.{followed_by-assoc, followed_by-nil, prefix_trans, outcome_after, outcome-append, outcome_at_end, so_far_grows, so_far_free, so_far_feed, outcome_after-free, end_outcome_some, NextLine, some_next, fed_line, long_input, long_line, fits_line, stops_with, stops_after}
 
 -- nothing was read
 pub begins : {L Cause : Type 0} (meaning : Meaning Cause) (stands : L → List (List ℕ) → Type 0) (start : Option (List ℕ)) (lines : L) (pending : Pending)
@@ -30,6 +30,11 @@ begins meaning stands start lines pending stood text taken count = record {
   so_far = refl;
 }
 
+-- bytes within a limit and some more that fit below it, where a part with a byte makes sure of the former
+within_more : (part more count most : ℕ) → (0 < part → count ≤ most) → more ≤ most - count → 0 < part + more → count + more ≤ most
+within_more zero more count most within fits some = omega arith
+within_more (suc part) more count most within fits some = omega (arith, within (omega arith))
+
 module _ {L Cause : Type 0} (meaning : Meaning Cause) (stands : L → List (List ℕ) → Type 0) (start : Option (List ℕ)) (read : List ℕ) (lines : L) (pending : Pending) (holds : Option (List ℕ)) (p : Progress meaning stands start read lines pending holds) where
   -- no line is refused as yet
   pub sound : IsSound meaning read
@@ -43,69 +48,101 @@ module _ {L Cause : Type 0} (meaning : Meaning Cause) (stands : L → List (List
   pub whole : (rest : List ℕ) → outcome meaning (read ++ rest) ≡ followed_by (accepted p.printed) (outcome_after meaning (whole_lines read) (last_part read) rest)
   whole rest = outcome-append meaning read rest ∙ ap (λ o. followed_by o (outcome_after meaning (whole_lines read) (last_part read) rest)) p.so_far
 
-  -- a byte and what follows it
+  -- a line feed and what follows it
   pub whole_byte : (b : ℕ) (rest : List ℕ) → outcome meaning ((read ++ b ∷ []) ++ rest) ≡ followed_by (accepted p.printed) (outcome_after meaning (whole_lines read) (last_part read) (b ∷ rest))
   whole_byte b rest = ap (outcome meaning) (append_assoc read (b ∷ []) rest) ∙ whole (b ∷ rest)
 
+  -- bytes without a line feed and what follows them
+  whole_stretch : (bytes rest : List ℕ) → HasNoFeed bytes
+      → outcome meaning ((read ++ bytes) ++ rest) ≡ followed_by (accepted p.printed) (outcome_after meaning (whole_lines read) (last_part read ++ bytes) rest)
+  whole_stretch bytes rest free =
+      ap (outcome meaning) (append_assoc read bytes rest) ∙ whole (bytes ++ rest)
+      ∙ ap (followed_by (accepted p.printed)) (outcome_after-free meaning (whole_lines read) (last_part read) bytes rest free)
+
   -- the line that is being read is refused as too long, whatever follows
-  stops_long : (b : ℕ) (rest : List ℕ) (line : List ℕ) (end : ℕ) (tail : Outcome Cause)
-      → outcome_after meaning (whole_lines read) (last_part read) (b ∷ rest) ≡ followed_by (line_outcome meaning (whole_lines read) line end) tail
+  stops_long : (whole : Outcome Cause) (line : List ℕ) (end : ℕ) (tail : Outcome Cause)
+      → whole ≡ followed_by (accepted p.printed) (followed_by (line_outcome meaning (whole_lines read) line end) tail)
       → line_outcome meaning (whole_lines read) line end ≡ refused_at [] (length (whole_lines read) + 1) Long
-      → outcome meaning ((read ++ b ∷ []) ++ rest) ≡ refused_at p.printed (pending.taken + 1) Long
-  stops_long b rest line end tail is long =
-      whole_byte b rest ∙ ap (followed_by (accepted p.printed)) (is ∙ ap (λ o. followed_by o tail) long)
+      → whole ≡ refused_at p.printed (pending.taken + 1) Long
+  stops_long whole line end tail is long =
+      is ∙ ap (λ o. followed_by (accepted p.printed) (followed_by o tail)) long
       ∙ ap (λ l. refused_at l (length (whole_lines read) + 1) Long) (append-nil p.printed) ∙ ap (λ n. refused_at p.printed (n + 1) Long) (sym p.taken)
 
-  -- a byte too many in all
-  pub stop_input : (b : ℕ) → meaning.longest_input (whole_lines read) ≤ pending.count → Stopped meaning start read (read ++ b ∷ []) holds (BadLine (pending.taken + 1) Long)
-  stop_input b past = record {
+  -- a line feed too many in all
+  pub stop_feed : (b : ℕ) → is_feed b ≡ true → meaning.longest_input (whole_lines read) ≤ pending.count → Stopped meaning start read (read ++ b ∷ []) holds (BadLine (pending.taken + 1) Long)
+  stop_feed b fed past = record {
     printed = p.printed;
     grew = p.grew;
     kept = rw (append-nil p.printed) at (kept []);
     ends = λ rest.
-        let next = next_line meaning (whole_lines read) (last_part read) b rest in
-        let over : meaning.longest_input (whole_lines read) < next.end = omega (arith, length_read read, next.far, p.count) in
-        stops_long b rest next.line next.end next.tail next.is (long_input meaning (whole_lines read) next.line next.end over);
+        let line = fed_line meaning (whole_lines read) (last_part read) b rest fed in
+        let end = offset (whole_lines read) + length (last_part read) + 1 in
+        let over : meaning.longest_input (whole_lines read) < end = omega (arith, length_read read, p.count) in
+        stops_long _ (last_part read) end line.0 (whole_byte b rest ∙ ap (followed_by (accepted p.printed)) line.1) (long_input meaning (whole_lines read) (last_part read) end over);
   }
 
-  -- a byte too many for a line
-  pub stop_line : (b : ℕ) → is_feed b ≡ false → meaning.longest_line (whole_lines read) ≤ length (last_part read) → Stopped meaning start read (read ++ b ∷ []) holds (BadLine (pending.taken + 1) Long)
-  stop_line b other past = record {
+  -- the line that these bytes go on with, whatever follows
+  longer : (bytes rest : List ℕ) → 0 < length bytes
+      → NextLine meaning (whole_lines read) (outcome_after meaning (whole_lines read) (last_part read ++ bytes) rest) (length (last_part read ++ bytes)) (length (last_part read ++ bytes))
+  longer bytes rest some = some_next meaning (whole_lines read) (last_part read ++ bytes) rest (omega (arith, length-append (last_part read) bytes))
+
+  -- too many bytes in all
+  pub stop_input : (bytes : List ℕ) → HasNoFeed bytes → meaning.longest_input (whole_lines read) - pending.count < length bytes → Stopped meaning start read (read ++ bytes) holds (BadLine (pending.taken + 1) Long)
+  stop_input bytes free past = record {
     printed = p.printed;
     grew = p.grew;
     kept = rw (append-nil p.printed) at (kept []);
     ends = λ rest.
-        let next = longer_line meaning (whole_lines read) (last_part read) b rest other in
-        let over : meaning.longest_line (whole_lines read) < length next.line = omega (arith, next.long) in
-        stops_long b rest next.line next.end next.tail next.is (long_line meaning (whole_lines read) next.line next.end over);
+        let next = longer bytes rest (omega arith) in
+        let over : meaning.longest_input (whole_lines read) < next.end = omega (arith, length_read read, next.far, p.count, length-append (last_part read) bytes) in
+        stops_long _ next.line next.end next.tail (whole_stretch bytes rest free ∙ ap (followed_by (accepted p.printed)) next.is) (long_input meaning (whole_lines read) next.line next.end over);
   }
 
-  -- no memory for the byte
-  pub stop_memory : (b : ℕ) → Stopped meaning start read (read ++ b ∷ []) holds Memory
-  stop_memory b = record {
+  -- too many bytes for a line
+  pub stop_line : (bytes : List ℕ) → HasNoFeed bytes → meaning.longest_line (whole_lines read) - length (last_part read) < length bytes → Stopped meaning start read (read ++ bytes) holds (BadLine (pending.taken + 1) Long)
+  stop_line bytes free past = record {
     printed = p.printed;
     grew = p.grew;
     kept = rw (append-nil p.printed) at (kept []);
-    ends = let grown = so_far_grows meaning read (b ∷ []) in (grown.0, grown.1 ∙ ap (λ o. o.printed ++ grown.0) p.so_far);
+    ends = λ rest.
+        let next = longer bytes rest (omega arith) in
+        let over : meaning.longest_line (whole_lines read) < length next.line = omega (arith, next.long, length-append (last_part read) bytes) in
+        stops_long _ next.line next.end next.tail (whole_stretch bytes rest free ∙ ap (followed_by (accepted p.printed)) next.is) (long_line meaning (whole_lines read) next.line next.end over);
   }
 
-  -- a byte of the line
-  pub goes_on : (pending' : Pending) (b : ℕ) → is_feed b ≡ false → length (last_part read) < meaning.longest_line (whole_lines read) → pending.count < meaning.longest_input (whole_lines read)
-      → pending'.text.items ≡ pending.text.items ++ b ∷ [] → pending'.taken ≡ pending.taken → pending'.count ≡ pending.count + 1
-      → Progress meaning stands start (read ++ b ∷ []) lines pending' holds
-  goes_on pending' b other short within text taken count =
-      let same = whole_lines_other read b other in
-      let longer = last_part_other read b other in
+  -- no memory for the bytes
+  pub stop_memory : (bytes : List ℕ) → Stopped meaning start read (read ++ bytes) holds Memory
+  stop_memory bytes = record {
+    printed = p.printed;
+    grew = p.grew;
+    kept = rw (append-nil p.printed) at (kept []);
+    ends = let grown = so_far_grows meaning read bytes in (grown.0, grown.1 ∙ ap (λ o. o.printed ++ grown.0) p.so_far);
+  }
+
+  -- bytes of the line
+  pub goes_on : (pending' : Pending) (bytes : List ℕ) → HasNoFeed bytes
+      → length bytes ≤ meaning.longest_line (whole_lines read) - length (last_part read) → length bytes ≤ meaning.longest_input (whole_lines read) - pending.count
+      → pending'.text.items ≡ pending.text.items ++ bytes → pending'.taken ≡ pending.taken → pending'.count ≡ pending.count + length bytes
+      → Progress meaning stands start (read ++ bytes) lines pending' holds
+  goes_on pending' bytes free short within text taken count =
+      let same = whole_lines_free read bytes free in
+      let longer = last_part_free read bytes free in
       record {
         stood = subst (stands lines) (sym same) p.stood;
-        text = text ∙ ap (λ l. l ++ b ∷ []) p.text ∙ sym longer;
-        short = rw (same, longer) (omega (arith, length-append (last_part read) (b ∷ [])));
-        within = λ _. rw same (omega (arith, length-append read (b ∷ []), p.count));
+        text = text ∙ ap (λ l. l ++ bytes) p.text ∙ sym longer;
+        short = rw (same, longer) (omega (arith, length-append (last_part read) bytes, p.short));
+        within = λ some. rw same
+            (omega (
+              arith,
+              length-append read bytes,
+              within_more (length (last_part read)) (length bytes) (length read) (meaning.longest_input (whole_lines read))
+                  p.within (omega (arith, p.count)) (omega (arith, some, ap length longer, length-append (last_part read) bytes)),
+            ));
         taken = taken ∙ p.taken ∙ ap length (sym same);
-        count = omega (arith, length-append read (b ∷ []), p.count);
+        count = omega (arith, length-append read bytes, p.count);
         printed = p.printed;
         grew = p.grew;
-        so_far = so_far_other meaning read b other ∙ p.so_far;
+        so_far = so_far_free meaning read bytes free ∙ p.so_far;
       }
 
   -- the line that a line feed ends is up to its reader
@@ -266,8 +303,38 @@ concludes meaning stands start read lines lines' pending holds holds' (Err stop)
       ends = subst (λ o. StopsWith o (p.printed ++ takes.front) stop) (sym is) (stops_with meant (pending.taken + 1) (accepted []) p.printed takes.front stop takes.cases);
     }
 
--- the bytes before an index, the one there, and the rest
-pub around : (read bytes : List ℕ) (i : ℕ) → i < length bytes → ((read ++ take i bytes) ++ get_or bytes i 0 ∷ []) ++ drop (i + 1) bytes ≡ read ++ bytes
-around read bytes i within =
-    append_assoc (read ++ take i bytes) (get_or bytes i 0 ∷ []) (drop (i + 1) bytes) ∙ append_assoc read (take i bytes) (get_or bytes i 0 ∷ drop (i + 1) bytes)
-    ∙ ap (λ l. read ++ (take i bytes ++ l)) (sym (drop_more bytes i 0 within)) ∙ ap (λ l. read ++ l) (take-append-drop i bytes)
+-- what was read before a line, and that line, in a piece
+pub joined : (read fed line more rest bytes : List ℕ) → bytes ≡ fed ++ rest → rest ≡ line ++ more → ((read ++ fed) ++ line) ++ more ≡ read ++ bytes
+joined read fed line more rest bytes whole cut =
+    append_assoc (read ++ fed) line more ∙ append_assoc read fed (line ++ more)
+    ∙ ap (λ l. read ++ (fed ++ l)) (sym cut) ∙ ap (λ l. read ++ l) (sym whole)
+
+-- the same with the line feed that ends the line
+pub joined_feed : (read fed line after rest bytes : List ℕ) (b : ℕ) → bytes ≡ fed ++ rest → rest ≡ line ++ b ∷ after → (((read ++ fed) ++ line) ++ b ∷ []) ++ after ≡ read ++ bytes
+joined_feed read fed line after rest bytes b whole cut = append_assoc ((read ++ fed) ++ line) (b ∷ []) after ∙ joined read fed line (b ∷ after) rest bytes whole cut
+
+-- a piece ends with bytes that have no line feed
+pub last_stretch : {L T Cause : Type 0} (meaning : Meaning Cause) (stands : L → List (List ℕ) → Type 0) (start : Option (List ℕ)) (read fed rest bytes : List ℕ)
+    (lines : L) (pending : Pending) (holds : Option (List ℕ)) (result : Result T (Stop Cause)) → bytes ≡ fed ++ rest
+    → MatchResult result (λ _. Progress meaning stands start ((read ++ fed) ++ rest) lines pending holds) (Stopped meaning start (read ++ fed) ((read ++ fed) ++ rest) holds)
+    → MatchResult result (λ _. Progress meaning stands start (read ++ bytes) lines pending holds) (Stopped meaning start read (read ++ bytes) holds)
+last_stretch meaning stands start read fed rest bytes lines pending holds (Ok x) whole p =
+    subst (λ l. Progress meaning stands start l lines pending holds) (append_assoc read fed rest ∙ ap (λ l. read ++ l) (sym whole)) p
+last_stretch meaning stands start read fed rest bytes lines pending holds (Err stop) whole s =
+    stopped_more meaning start read fed ((read ++ fed) ++ rest) [] (read ++ bytes) holds stop
+    (append-nil ((read ++ fed) ++ rest) ∙ append_assoc read fed rest ∙ ap (λ l. read ++ l) (sym whole)) s
+
+-- it stops at the line feed of a line in a piece
+pub stopped_feed : {Cause : Type 0} (meaning : Meaning Cause) (start : Option (List ℕ)) (read fed line after rest bytes : List ℕ) (b : ℕ) (holds : Option (List ℕ)) (stop : Stop Cause)
+    → bytes ≡ fed ++ rest → rest ≡ line ++ b ∷ after → Stopped meaning start ((read ++ fed) ++ line) (((read ++ fed) ++ line) ++ b ∷ []) holds stop
+    → Stopped meaning start read (read ++ bytes) holds stop
+stopped_feed meaning start read fed line after rest bytes b holds stop whole cut s =
+    let read' = ((read ++ fed) ++ line) ++ b ∷ [] in
+    stopped_more meaning start read (fed ++ line) read' after (read ++ bytes) holds stop (joined_feed read fed line after rest bytes b whole cut)
+    (subst (λ l. Stopped meaning start l read' holds stop) (append_assoc read fed line) s)
+
+-- the same progress, where a line and its line feed were read after a part of a piece
+pub progress_fed : {L Cause : Type 0} (meaning : Meaning Cause) (stands : L → List (List ℕ) → Type 0) (start : Option (List ℕ)) (read fed line : List ℕ) (b : ℕ) (lines : L) (pending : Pending)
+    (holds : Option (List ℕ)) → Progress meaning stands start (((read ++ fed) ++ line) ++ b ∷ []) lines pending holds → Progress meaning stands start (read ++ (fed ++ (line ++ b ∷ []))) lines pending holds
+progress_fed meaning stands start read fed line b lines pending holds p =
+    subst (λ l. Progress meaning stands start l lines pending holds) (append_assoc (read ++ fed) line (b ∷ []) ∙ append_assoc read fed (line ++ b ∷ [])) p

@@ -1,5 +1,5 @@
 -- How far a run over lines has come, and how its parts stop it.
-use Rattle.std.specs.Prelude.{◌≡◌, ℕ, ◌≤◌, ◌<◌, List, [], ◌++◌, length, Option, Result, Ok, Err, MatchResult}
+use Rattle.std.specs.Prelude.{◌≡◌, ℕ, ◌≤◌, ◌<◌, false, List, [], ◌∷◌, ◌++◌, All, length, Option, Result, Ok, Err, MatchResult}
 use Rattle.std.specs.Io.KnownBytes.{Appends}
 use Rattle.css_outside.specs.declared.fault.OutFault.{OutFault}
 use Rattle.css_outside.specs.declared.fault.OutFault.TheVariants as fault
@@ -10,7 +10,7 @@ use Rattle.css_lines.specs.declared.reader.Refusal.TheVariants.{Refused}
 use Rattle.css_lines.specs.declared.ending.Stop.{Stop}
 use Rattle.css_lines.specs.declared.ending.Stop.TheVariants.{BadLine, ReadFault, WriteFault, Memory}
 use Rattle.css_lines.specs.declared.pending.Pending.{Pending}
-use Rattle.css_lines.specs.Lines.{lines_of, whole_lines, last_part}
+use Rattle.css_lines.specs.Lines.{is_feed, lines_of, whole_lines, last_part}
 use Rattle.css_lines.specs.Meaning.{Meaning, Outcome, outcome, outcome_so_far, accepted, refused_at, followed_by, finish_outcome}
 
 -- the stop that a reader's fault makes at the line of that number
@@ -22,6 +22,15 @@ line_stop line refused.Memory = Memory
 abbrev pub sink_stop : {Cause : Type 0} → OutFault → Stop Cause
 sink_stop fault.Failed = WriteFault
 sink_stop fault.Memory = Memory
+
+-- no line feed stands in the bytes
+abbrev pub HasNoFeed : List ℕ → Type 0
+HasNoFeed bytes = All (λ byte. is_feed byte ≡ false) bytes
+
+-- the bytes are a line, its line feed, and what stands after it
+pub record IsCut (bytes line after : List ℕ) : Type 0 where
+  pub whole : bytes ≡ line ++ 10 ∷ after
+  pub free : HasNoFeed line
 
 -- the reader stands for as many lines as were taken
 abbrev pub IsPlaced : {L : Type 0} → (L → List (List ℕ) → Type 0) → L → Pending → Type 0
@@ -70,6 +79,13 @@ pub record Stopped {Cause : Type 0} (meaning : Meaning Cause) (start : Option (L
   pub grew : Appends start holds printed
   pub kept : IsPrefix (outcome_so_far meaning before).printed printed
   pub ends : StopsAfter meaning read printed stop
+
+-- Where a run has a reader, a pending line and a sink at one point, and at a later one, it has taken these bytes between
+-- them, or it stopped in them.
+abbrev pub Advances : {L T Cause : Type 0} → Meaning Cause → (L → List (List ℕ) → Type 0) → List ℕ
+    → L × Pending × Option (List ℕ) → L × Pending × Option (List ℕ) → Result T (Stop Cause) → Type 0
+Advances meaning stands bytes old new result = (start : Option (List ℕ)) (read : List ℕ) → Progress meaning stands start read old.0 old.1 old.2 →
+    MatchResult result (λ _. Progress meaning stands start (read ++ bytes) new.0 new.1 new.2) (Stopped meaning start read (read ++ bytes) new.2)
 
 -- The source ended after these bytes, and each line is taken.
 pub record AllTaken {L Cause : Type 0} (meaning : Meaning Cause) (stands : L → List (List ℕ) → Type 0) (start : Option (List ℕ)) (read : List ℕ) (lines : L) (pending : Pending) (holds : Option (List ℕ)) : Type 0 where

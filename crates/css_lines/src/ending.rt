@@ -1,6 +1,6 @@
 use crate::reader::{LineFault, Refusal};
 use css_outside::{Failed, OutFault};
-use std::alloc::AllocFailed;
+use std::alloc::AllocError;
 
 /// Why a run over lines stopped before the end of its source.
 #[derive(Clone, Copy, Debug, PartialEq, Eq, Drop)]
@@ -40,13 +40,13 @@ impl<C> From<OutFault> for Stop<C> {
     }
 }
 
-impl<C, T: Drop> From<AllocFailed<T>> for Stop<C> {
+impl<C> From<AllocError> for Stop<C> {
     ghost use Rattle.std.specs.Prelude.{◌≡◌};
     ghost use Rattle.css_lines.specs.declared.ending.Stop.TheVariants.{Memory};
 
     ghost from_gives = { λ _ stop. stop ≡ Memory };
 
-    fn from(_: AllocFailed<T>) -> Stop<C> {
+    fn from(_: AllocError) -> Stop<C> {
         Stop::Memory
     }
 }

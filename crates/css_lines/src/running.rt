@@ -1,11 +1,13 @@
-ghost use Rattle.std.specs.Prelude.{◌≡◌, ◌+◌, ◌^◌, ◌<◌, ◌≤◌, List, ℕ, [], ◌∷◌, ◌++◌, Option, Some, length, MatchResult, OnOk, IfErr};
-ghost use Rattle.css_lines.specs.Progress.{IsPlaced, Progress, AllTaken, TakesLine, Stopped, StoppedAtEnd, Finished};
+ghost use Rattle.std.specs.Prelude.{◌≡◌, ◌+◌, ◌^◌, ◌<◌, ◌≤◌, List, ℕ, [], ◌∷◌, ◌++◌, Option, Some, length, MatchOption, MatchResult, OnOk, IfErr};
+ghost use Rattle.css_lines.specs.Progress.{HasNoFeed, IsCut, IsPlaced, Progress, Advances, AllTaken, TakesLine};
+ghost use Rattle.css_lines.specs.Progress.{StoppedAtEnd, Finished};
 ghost use Rattle.css_lines.specs.Ending.{Finishes, Stops, RanToEnd, RanUntil, CountsReads, CountsWrites};
 
 use crate::ending::Stop;
 use crate::pending::Pending;
 use crate::reader::Lines;
 use css_outside::{Sink, Source, write_all};
+use memchr::memchr;
 use std::alloc::Global;
 
 /// The most bytes that are read at a time.
@@ -59,19 +61,51 @@ fn conclude<K: Sink, L: Lines>(
     Ok(write_all(sink, &pending.out)?)
 }
 
-// Takes the next byte.
-fn feed<K: Sink, L: Lines>(
-    byte: u8,
+// The bytes before the first line feed, and those after it.
+fn split_line(bytes: &[u8]) -> Option<(&[u8], &[u8])>
+    ensures { MatchOption result (HasNoFeed bytes.now) (λ cut. IsCut bytes.now cut.0.now cut.1.now) }
+{
+    match memchr(LINE_FEED, bytes) {
+        None => None,
+        Some(feed) => Some((&bytes[..feed], &bytes[feed + 1..])),
+    }
+}
+
+// Takes the next bytes, which have no line feed.
+fn take_stretch<L: Lines>(
+    bytes: &[u8],
+    pending: &mut Pending,
+    lines: &L,
+) -> Result<(), Stop<L::Cause>>
+    requires free { HasNoFeed bytes.now }
+    requires placed { IsPlaced L.stands lines.now pending.old }
+
+    ensures progress { (holds : Option (List ℕ)) →
+        Advances L.meaning L.stands bytes.now (lines.now, pending.old, holds) (lines.now, pending.new, holds) result }
+    ensures count { OnOk result (pending.new.count ≡ pending.old.count + length bytes.now) }
+    ensures placed { OnOk result (IsPlaced L.stands lines.now pending.new) }
+    ensures counted { (count : ℕ) → CountsWrites count count result }
+{
+    let room = lines.longest_line().saturating_sub(pending.text.len());
+    let room_in_all = lines.longest_input().saturating_sub(pending.count);
+    if bytes.len() > room || bytes.len() as u64 > room_in_all {
+        return Err(Stop::too_long(pending.taken + 1));
+    }
+    pending.text.extend_from_slice(bytes)?;
+    pending.count += bytes.len() as u64;
+    Ok(())
+}
+
+// Takes a line feed.
+fn take_feed<K: Sink, L: Lines>(
     pending: &mut Pending,
     lines: &mut L,
     sink: &mut K,
 ) -> Result<(), Stop<L::Cause>>
     requires { IsPlaced L.stands lines.old pending.old }
 
-    ensures progress { (start : Option (List ℕ)) (read : List ℕ) → Progress L.meaning L.stands start read lines.old pending.old (K.holds sink.old) →
-        MatchResult result
-        (λ _. Progress L.meaning L.stands start (read ++ byte ∷ []) lines.new pending.new (K.holds sink.new))
-        (Stopped L.meaning start read (read ++ byte ∷ []) (K.holds sink.new)) }
+    ensures progress { Advances L.meaning L.stands (10 ∷ [])
+        (lines.old, pending.old, K.holds sink.old) (lines.new, pending.new, K.holds sink.new) result }
     ensures count { OnOk result (pending.new.count ≡ pending.old.count + 1) }
     ensures placed { OnOk result (IsPlaced L.stands lines.new pending.new) }
     ensures counted { CountsWrites (K.faults sink.old) (K.faults sink.new) result }
@@ -79,19 +113,11 @@ fn feed<K: Sink, L: Lines>(
     if pending.count >= lines.longest_input() {
         return Err(Stop::too_long(pending.taken + 1));
     }
-    if byte == LINE_FEED {
-        pending.count += 1;
-        return take_line(pending, lines, sink);
-    }
-    if pending.text.len() >= lines.longest_line() {
-        return Err(Stop::too_long(pending.taken + 1));
-    }
-    pending.text.push(byte)?;
     pending.count += 1;
-    Ok(())
+    take_line(pending, lines, sink)
 }
 
-// Takes the next bytes.
+// Takes the next bytes, line after line.
 fn feed_all<K: Sink, L: Lines>(
     bytes: &[u8],
     pending: &mut Pending,
@@ -100,18 +126,19 @@ fn feed_all<K: Sink, L: Lines>(
 ) -> Result<(), Stop<L::Cause>>
     requires { IsPlaced L.stands lines.old pending.old }
 
-    ensures progress { (start : Option (List ℕ)) (read : List ℕ) → Progress L.meaning L.stands start read lines.old pending.old (K.holds sink.old) →
-        MatchResult result
-        (λ _. Progress L.meaning L.stands start (read ++ bytes.now) lines.new pending.new (K.holds sink.new))
-        (Stopped L.meaning start read (read ++ bytes.now) (K.holds sink.new)) }
+    ensures progress { Advances L.meaning L.stands bytes.now
+        (lines.old, pending.old, K.holds sink.old) (lines.new, pending.new, K.holds sink.new) result }
     ensures count { OnOk result (pending.new.count ≡ pending.old.count + length bytes.now) }
     ensures placed { OnOk result (IsPlaced L.stands lines.new pending.new) }
     ensures counted { CountsWrites (K.faults sink.old) (K.faults sink.new) result }
 {
-    for byte in bytes {
-        feed(*byte, pending, lines, sink)?;
+    let mut rest = bytes;
+    'lines: while let Some((line, after)) = split_line(rest) {
+        take_stretch(line, pending, lines)?;
+        take_feed(pending, lines, sink)?;
+        rest = after;
     }
-    Ok(())
+    take_stretch(rest, pending, lines)
 }
 
 // Takes the last line, which lacks its line feed.

@@ -168,8 +168,10 @@ fn a_refusal_keeps_earlier_output(rt: HostRuntime) -> Result<(), Fail> {
 fn the_input_has_a_longest_length(rt: HostRuntime) -> Result<(), Fail> {
     let four = b"1 abcd\n2 abcd\n3 abcd\n4 abcd\n".as_slice();
     let blank = b"1 abcd\n2 abcd\n3 abcd\n4 \n".as_slice();
-    let rows: [(&[u8], Result<(), Stop<Cause>>, &[u8]); 3] = [
+    let short = b"1 abcd\n2 abcd\n3 abcd\n4 a\n".as_slice();
+    let rows: [(&[u8], Result<(), Stop<Cause>>, &[u8]); 4] = [
         (b"abcd\nabcd\nabcd\nabcd\n\n", long(5), four),
+        (b"abcd\nabcd\nabcd\na\nabcd", long(5), short),
         (b"abcd\nabcd\nabcd\nabcd\nstop", long(5), four),
         (b"abcd\nabcd\nabcd\n\nabcd\n", long(5), blank),
     ];
