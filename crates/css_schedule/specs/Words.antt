@@ -1,8 +1,8 @@
 -- The words of a line, read from left to right.
-use Rattle.std.specs.Prelude.{ℕ, ◌&&◌, ◌==◌, ℤ, int_lt, Bool, not, nat_le, if◌then◌else◌, List, [], ◌∷◌, length, Option, Some, None, Result, Ok, Err, bytes_eq}
+use Rattle.std.specs.Prelude.{◌≡◌, ℕ, ◌&&◌, ◌==◌, ℤ, int_lt, Bool, not, nat_le, if◌then◌else◌, List, [], ◌∷◌, length, Option, Some, None, Result, Ok, Err, bytes_eq}
 use Rattle.std.specs.Option.{option_copied}
 use Rattle.std.specs.List.{slice_split, list_all}
-use Rattle.css_num.specs.Words.{whole_number_of, signed_number_of}
+use Rattle.css_num.specs.Words.{number_of, whole_number_of, signed_number_of}
 use Rattle.css_schedule.specs.declared.fault.LineFault.{LineFault}
 use Rattle.css_schedule.specs.declared.fault.LineFault.TheVariants.{Form}
 use Rattle.css_schedule.specs.declared.words.Words.{Words}
@@ -83,6 +83,12 @@ unfoldable pub after_word : List ℕ → List (List ℕ) → Result (List (List 
 after_word name words = do
   word ← word_at words
   if bytes_eq word.0 name then Ok word.1 else Err Form
+
+-- the first word spells this number, and these are the words after it
+pub record SpellsFirst (words : List (List ℕ)) (number : ℕ) (rest : List (List ℕ)) : Type 0 where
+  pub word : List ℕ
+  pub first : words ≡ word ∷ rest
+  pub spelled : number_of word ≡ Some number
 
 -- that no word is left
 abbrev pub all_read : List (List ℕ) → Result (Unit {0}) LineFault

@@ -1,9 +1,10 @@
-ghost use Rattle.std.specs.Prelude.{◌≡◌, ◌≤◌, ◌<◌, length, ℕ, IfOk, Some, pos, ◌≤ℤ◌, IsTrue, ◌↔◌, [], ◌∷◌, position};
+ghost use Rattle.std.specs.Prelude.{◌≡◌, ◌≤◌, ◌<◌, length, take, ℕ, IfOk, IfSome, Some, pos, ◌≤ℤ◌, IsTrue, ◌↔◌, [], ◌∷◌, position};
 ghost use Rattle.std.specs.Option.{option_copied};
 ghost use Rattle.std.specs.List.{list_all};
 ghost use Rattle.std.specs.Str.{IsUtf8};
 ghost use Rattle.css_num.specs.Gives.{GivesBy};
-ghost use Rattle.css_schedule.specs.Words.{words_left, is_space, words_of, words_in, is_graphic, is_word, word_at, text_at, number_at, ordinal_at, signed_at, after_word, all_read};
+ghost use Rattle.css_num.specs.Words.{digits_after, has_leading_zero};
+ghost use Rattle.css_schedule.specs.Words.{words_left, is_space, words_of, words_in, is_graphic, is_word, SpellsFirst, word_at, text_at, number_at, ordinal_at, signed_at, after_word, all_read};
 ghost use Rattle.css_schedule.specs.declared.fault.LineFault.TheVariants as faults;
 
 use crate::LineFault;
@@ -13,6 +14,9 @@ const SPACE: u8 = b' ';
 
 /// The numbers of requests, takes and datagrams are below this.
 const ORDINAL_LIMIT: u64 = 1 << 32;
+
+/// A number of so many digits is below 2^64, whatever they are.
+const QUICK_DIGITS: usize = 19;
 
 /// The words of a line that are still to be read.
 #[derive(Clone, Copy, Debug)]
@@ -55,15 +59,75 @@ pub fn word<'a>(words: Words<'a>) -> Result<(&'a [u8], Words<'a>), LineFault>
     Ok((first, Words { rest }))
 }
 
-/// A whole number below the bound.
+// The digits at the front of bytes, up to 19 of them: the number that they write, and how many they are.
+fn leading_digits(bytes: &[u8]) -> (u64, usize)
+    ensures within { result.1 ≤ length bytes.now }
+    ensures value { digits_after 0 (take result.1 bytes.now) ≡ Some result.0 }
+{
+    let most = bytes.len().min(QUICK_DIGITS);
+    let mut number = 0u64;
+    let mut count = 0;
+    'digits: while count < most && bytes[count].is_ascii_digit() {
+        number = number * 10 + u64::from(bytes[count] - b'0');
+        count += 1;
+    }
+    (number, count)
+}
+
+// Whether a zero stands before other digits.
+fn leads_with_zero(digits: &[u8]) -> bool
+    ensures { result ≡ has_leading_zero digits.now }
+{
+    matches!(digits, [b'0', _, ..])
+}
+
+// The number that the first word spells, read in one pass, and the words after it. It is None where that word is no
+// number, or has more digits than 19.
+fn quick_number<'a>(words: Words<'a>) -> Option<(u64, Words<'a>)>
+    ensures { IfSome result (λ x. SpellsFirst (words_left words.entry) x.0 (words_left x.1)) }
+{
+    let Some(bytes) = words.rest else {
+        return None;
+    };
+    let (number, count) = leading_digits(bytes);
+    if count == 0 || leads_with_zero(&bytes[..count]) {
+        return None;
+    }
+    if count == bytes.len() {
+        return Some((number, Words { rest: None }));
+    }
+    if bytes[count] != SPACE {
+        return None;
+    }
+    Some((
+        number,
+        Words {
+            rest: Some(&bytes[count + 1..]),
+        },
+    ))
+}
+
+// A whole number below the bound, of any length.
 #[tactic(auto, unfolding(crate::specs::Words::number_at))]
-pub fn number<'a>(words: Words<'a>, below: u64) -> Result<(u64, Words<'a>), LineFault>
+fn any_number<'a>(words: Words<'a>, below: u64) -> Result<(u64, Words<'a>), LineFault>
     ensures value { GivesBy (λ x. (x.0, words_left x.1)) faults.Memory result (number_at below (words_left words.entry)) }
     ensures below { IfOk result (λ x. x.0 < below) }
 {
     let (text, rest) = word(words)?;
     let number = whole_number(text, below).ok_or(LineFault::Form)?;
     Ok((number, rest))
+}
+
+/// A whole number below the bound.
+pub fn number<'a>(words: Words<'a>, below: u64) -> Result<(u64, Words<'a>), LineFault>
+    ensures value { GivesBy (λ x. (x.0, words_left x.1)) faults.Memory result (number_at below (words_left words.entry)) }
+    ensures below { IfOk result (λ x. x.0 < below) }
+{
+    match quick_number(words) {
+        Some((number, rest)) if number < below => Ok((number, rest)),
+        Some(_) => Err(LineFault::Form),
+        None => any_number(words, below),
+    }
 }
 
 /// The number of a request, a take or a datagram: 1 to 2^32 - 1.
