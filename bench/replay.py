@@ -5,11 +5,13 @@
 
 For each count two schedules are made: one of exchanges in flight out of order, with follow-ups, in which one line in
 five is `wall`, and one of `wall` lines alone after a first exchange. Printed are nanoseconds of processor time a line,
-where that of a header alone is taken off, and the peak of resident memory.
+where that of a header alone is taken off, and the peak of resident memory. Where valgrind is installed, the smallest
+count is run under it too, and instructions a line are printed: they don't depend on the machine's load.
 """
 
 import os
 import random
+import re
 import shutil
 import subprocess
 import sys
@@ -104,11 +106,24 @@ def peak(path):
     return greatest
 
 
-def measure(name, count, write, empty, folder):
+def instructions(path):
+    """The instructions of one replay, counted by valgrind."""
+    words = ["valgrind", "--tool=callgrind", "--callgrind-out-file=/dev/null", PROGRAM, "replay"]
+    with open(path, "rb") as schedule:
+        told = subprocess.run(words, stdin=schedule, stdout=subprocess.DEVNULL, stderr=subprocess.PIPE, check=True)
+    return int(re.search(rb"Collected : (\d+)", told.stderr).group(1))
+
+
+def write_schedule(name, count, write, folder):
     path = os.path.join(folder, f"{name}-{count}.schedule")
     with open(path, "w", encoding="ascii") as out:
         out.write(HEADER)
         write(count, out)
+    return path
+
+
+def measure(name, count, write, empty, folder):
+    path = write_schedule(name, count, write, folder)
     seconds = min(run(path) for _ in range(5)) - empty
     print(f"{name:6} {count:>9} lines  {seconds / count * 1e9:7.0f} ns a line  peak {peak(path):>7} kB")
 
@@ -125,6 +140,11 @@ def main():
         for count in counts:
             measure("mixed", count, mixed, empty, folder)
             measure("walls", count, walls, empty, folder)
+        if shutil.which("valgrind"):
+            count, alone = min(counts), instructions(path)
+            for name, write in (("mixed", mixed), ("walls", walls)):
+                counted = instructions(write_schedule(name, count, write, folder)) - alone
+                print(f"{name:6} {count:>9} lines  {counted / count:7.0f} instructions a line")
 
 
 if __name__ == "__main__":
