@@ -93,9 +93,9 @@ number_at-below below number words rest s small = number_at-first below number w
 pub number_at-beyond : (below number : ℕ) (words rest : List (List ℕ)) → SpellsFirst words number rest → below ≤ number → number_at below words ≡ Err Form
 number_at-beyond below number words rest s large = number_at-first below number words rest s ∙ ap (λ v. if v then read rest number else Err Form) (le-ltb number below large)
 
--- a digit is at most `9`
-pub digit_most : (byte : ℕ) → is_ascii_digit byte ≡ true → byte ≤ 57
-digit_most byte digit = grind (arith, nat_tests)
+-- a byte from `0` to `9` is a digit
+pub digit_here : (byte : ℕ) → 48 ≤ byte → byte ≤ 57 → is_ascii_digit byte ≡ true
+digit_here byte low high = grind (arith, nat_tests)
 
 -- one digit more in front of the rest
 pub digits_next : (bytes : List ℕ) (count number : ℕ) → count < length bytes → is_ascii_digit (get_or bytes count 0) ≡ true → digits_after 0 (take count bytes) ≡ Some number

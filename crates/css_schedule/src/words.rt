@@ -67,8 +67,12 @@ fn leading_digits(bytes: &[u8]) -> (u64, usize)
     let most = bytes.len().min(QUICK_DIGITS);
     let mut number = 0u64;
     let mut count = 0;
-    'digits: while count < most && bytes[count].is_ascii_digit() {
-        number = number * 10 + u64::from(bytes[count] - b'0');
+    'digits: while count < most {
+        let digit = u64::from(bytes[count]).wrapping_sub(u64::from(b'0'));
+        if digit > 9 {
+            break 'digits;
+        }
+        number = number * 10 + digit;
         count += 1;
     }
     (number, count)

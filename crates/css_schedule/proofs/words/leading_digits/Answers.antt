@@ -1,5 +1,5 @@
-use Rattle.std.proofs.Common.{ℕ, ◌+◌, ◌*◌, arith, ap, sym, ◌∙◌, Some, get_or}
-use Rattle.css_schedule.proofs.Quick.{digit_most, digits_next, small_next, fits_next}
+use Rattle.std.proofs.Common.{ℕ, ◌+◌, ◌-◌, ◌*◌, arith, ap, ◌∙◌, Some, get_or}
+use Rattle.css_schedule.proofs.Quick.{digit_here, digits_next, small_next, fits_next}
 use Rattle.css_schedule.proofs.words.leading_digits.Goals as goal
 
 pub overflow_mul-number : goal.overflow_mul-number
@@ -7,16 +7,16 @@ overflow_mul-number c = omega (arith, fits_next c.digits.count c.digits.number 0
 
 pub overflow_add-number : goal.overflow_add-number
 overflow_add-number c =
-    let digit = sym c.is_ascii_digit.ensures.value ∙ c.if-is_ascii_digit.true in
-    omega (arith, fits_next c.digits.count c.digits.number c.from.result c.digits.invariant.small (omega arith) (omega (arith, digit_most (get_or c.args.bytes.now c.digits.count 0) digit)))
+    let byte = get_or c.args.bytes.now c.digits.count 0 in
+    omega (arith, fits_next c.digits.count c.digits.number (byte - 48) c.digits.invariant.small (omega arith) (omega arith))
 
 pub digits-preserved : goal.digits-preserved
 digits-preserved c =
-    let digit = sym c.is_ascii_digit.ensures.value ∙ c.if-is_ascii_digit.true in
+    let digit = digit_here (get_or c.args.bytes.now c.digits.count 0) (omega arith) (omega arith) in
     record {
       value =
           digits_next c.args.bytes.now c.digits.count c.digits.number (omega arith) digit c.digits.invariant.value
           ∙ ap (λ (k : ℕ). Some (c.digits.number * 10 + k)) (omega arith);
-      small = small_next c.digits.count c.digits.number c.from.result c.digits.invariant.small (omega (arith, digit_most (get_or c.args.bytes.now c.digits.count 0) digit));
+      small = omega (arith, small_next c.digits.count c.digits.number (get_or c.args.bytes.now c.digits.count 0 - 48) c.digits.invariant.small (omega arith));
       within = omega arith;
     }
