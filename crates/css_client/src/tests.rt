@@ -2,6 +2,7 @@ ghost use Rattle.std.specs.Prelude.{◌≡◌, ◌≤◌, ◌<◌, ◌+◌, ◌^
 
 use crate::{Client, Landing, Local, Memory, Span, WcFault};
 use std::alloc::Global;
+use std::process::Abort;
 use std::test::Fail;
 
 const EXACT: Local = Local {
@@ -11,6 +12,20 @@ const EXACT: Local = Local {
 
 /// The square of one whole, `256_000_000`.
 const WHOLE_SQUARED: i128 = 65_536_000_000_000_000;
+
+/// What happens at a client, and what comes of it.
+#[derive(Clone, Copy)]
+enum Step {
+    /// Requests at so many readings, from one on.
+    Ask(u64, u64),
+    /// A datagram of this type, with these times and this error, lands at a reading.
+    Land(u8, [u16; 3], u16, u64, Landing),
+    /// The wall clock's span at a reading.
+    Wall(u64, Option<(i128, i128)>),
+    Sleep,
+    /// How many answers are kept.
+    Kept(usize),
+}
 
 /// A datagram whose times are below 2^16 ns, with the precision 2^-30 s and an error in multiples of 256.
 fn datagram(message_type: u8, times: [u16; 3], error: u16) -> [u8; 32] {
@@ -78,16 +93,89 @@ fn ask_each(client: &mut Client, from: u64, count: u64)
     }
 }
 
+/// A reading that may be handed to the client next.
+fn next_reading(rt: &impl Abort, floor: u64, reading: u64) -> u64
+    ensures rises { floor ≤ result }
+    ensures range { result < 2 ^ 31 }
+    ensures same { result ≡ reading }
+{
+    assert!(rt; floor <= reading && reading < 1 << 31);
+    reading
+}
+
+fn assert_wall(rt: &impl Abort, client: &Client, reading: u64, ends: Option<(i128, i128)>)
+    requires range { reading < 2 ^ 32 }
+    requires floor { client.now.floor ≤ reading }
+{
+    let wanted = match ends {
+        None => None,
+        Some((lo, hi)) => between(lo, hi),
+    };
+    assert_eq!(rt; wall(client, reading), wanted);
+}
+
+/// Carries out a step where the floor is so high, and tells the floor after it.
+fn carry_out(rt: &impl Abort, client: &mut Client, floor: u64, step: Step) -> Result<u64, Memory>
+    requires { client.old.floor ≤ floor }
+    ensures { IfOk result (λ next. client.new.floor ≤ next) }
+{
+    match step {
+        Step::Ask(from, count) => {
+            let from = next_reading(rt, floor, from);
+            assert!(rt; count <= 64);
+            ask_each(client, from, count);
+            Ok(from + count)
+        }
+        Step::Land(message_type, times, error, reading, landing) => {
+            let reading = next_reading(rt, floor, reading);
+            let bytes = datagram(message_type, times, error);
+            assert_eq!(rt; land(client, &bytes, reading)?, landing);
+            Ok(reading)
+        }
+        Step::Wall(reading, ends) => {
+            let reading = next_reading(rt, floor, reading);
+            assert_wall(rt, client, reading, ends);
+            Ok(floor)
+        }
+        Step::Sleep => {
+            sleep(client);
+            Ok(floor.saturating_add(1))
+        }
+        Step::Kept(count) => {
+            assert_eq!(rt; client.kept(), count);
+            Ok(floor)
+        }
+    }
+}
+
+/// Carries out steps at a new client.
+fn carry_out_all(rt: &impl Abort, alloc: Global, steps: &[Step]) -> Result<(), Memory> {
+    let mut client = new_client(alloc)?;
+    let mut floor = 0;
+    for step in steps {
+        floor = carry_out(rt, &mut client, floor, *step)?;
+    }
+    Ok(())
+}
+
 #[test]
 fn an_answer_is_to_one_of_the_last_64_requests(rt: HostRuntime) -> Result<(), Fail> {
+    let steps = [
+        Step::Ask(1, 64),
+        Step::Ask(65, 1),
+        Step::Land(1, [1, 5000, 5000], 0, 100, Landing::Unasked),
+        Step::Wall(100, None),
+        Step::Land(1, [2, 5000, 5000], 0, 100, Landing::Accepted),
+        Step::Wall(100, Some((4997, 5101))),
+        Step::Land(0, [100, 0, 0], 0, 100, Landing::NotAnAnswer),
+    ];
+    carry_out_all(&rt, rt.alloc(), &steps)?;
+    Ok(())
+}
+
+#[test]
+fn no_bytes_are_undecodable(rt: HostRuntime) -> Result<(), Fail> {
     let mut client = new_client(rt.alloc())?;
-    ask_each(&mut client, 1, 65);
-    let first = datagram(1, [1, 5000, 5000], 0);
-    assert_eq!(rt; land(&mut client, &first, 100)?, Landing::Unasked);
-    assert_eq!(rt; wall(&client, 100), None);
-    let second = datagram(1, [2, 5000, 5000], 0);
-    assert_eq!(rt; land(&mut client, &second, 100)?, Landing::Accepted);
-    assert_eq!(rt; wall(&client, 100), between(4997, 5101));
     let request = ask(&mut client, 100);
     assert_eq!(rt; land(&mut client, &request, 100)?, Landing::NotAnAnswer);
     let none = Landing::Undecodable(WcFault::Length);
@@ -97,86 +185,101 @@ fn an_answer_is_to_one_of_the_last_64_requests(rt: HostRuntime) -> Result<(), Fa
 
 #[test]
 fn a_follow_up_is_of_the_response_with_its_receive_value(rt: HostRuntime) -> Result<(), Fail> {
-    let mut client = new_client(rt.alloc())?;
-    let _ = ask(&mut client, 1000);
-    let response = datagram(2, [1000, 11100, 11100], 0);
-    assert_eq!(rt; land(&mut client, &response, 1400)?, Landing::Accepted);
-    let other = datagram(3, [1000, 11300, 12050], 0);
-    assert_eq!(rt; land(&mut client, &other, 2100)?, Landing::Accepted);
-    assert_eq!(rt; wall(&client, 2100), between(12047, 12403));
+    let steps = [
+        Step::Ask(1000, 1),
+        Step::Land(2, [1000, 11100, 11100], 0, 1400, Landing::Accepted),
+        Step::Land(3, [1000, 11300, 12050], 0, 2100, Landing::Accepted),
+        Step::Wall(2100, Some((12047, 12403))),
+    ];
+    carry_out_all(&rt, rt.alloc(), &steps)?;
     Ok(())
 }
 
 #[test]
 fn a_follow_up_may_land_before_its_response(rt: HostRuntime) -> Result<(), Fail> {
-    let mut client = new_client(rt.alloc())?;
-    let _ = ask(&mut client, 1000);
-    let follow_up = datagram(3, [1000, 11100, 11200], 0);
-    assert_eq!(rt; land(&mut client, &follow_up, 1300)?, Landing::Accepted);
-    let response = datagram(2, [1000, 11100, 11100], 0);
-    assert_eq!(rt; land(&mut client, &response, 1400)?, Landing::Accepted);
-    assert_eq!(rt; wall(&client, 1400), between(11297, 11503));
+    let steps = [
+        Step::Ask(1000, 1),
+        Step::Land(3, [1000, 11100, 11200], 0, 1300, Landing::Accepted),
+        Step::Land(2, [1000, 11100, 11100], 0, 1400, Landing::Accepted),
+        Step::Wall(1400, Some((11297, 11503))),
+    ];
+    carry_out_all(&rt, rt.alloc(), &steps)?;
     Ok(())
 }
 
 #[test]
 fn a_follow_up_counts_from_an_impossible_response(rt: HostRuntime) -> Result<(), Fail> {
-    let mut client = new_client(rt.alloc())?;
-    let _ = ask(&mut client, 1000);
-    let response = datagram(2, [1000, 5000, 6000], 0);
     let impossible = Landing::Impossible(-394 * WHOLE_SQUARED);
-    assert_eq!(rt; land(&mut client, &response, 1600)?, impossible);
-    assert_eq!(rt; wall(&client, 1600), None);
-    let follow_up = datagram(3, [1000, 5000, 5200], 0);
-    assert_eq!(rt; land(&mut client, &follow_up, 1700)?, Landing::Accepted);
-    assert_eq!(rt; wall(&client, 1700), between(5297, 5703));
+    let steps = [
+        Step::Ask(1000, 1),
+        Step::Land(2, [1000, 5000, 6000], 0, 1600, impossible),
+        Step::Wall(1600, None),
+        Step::Land(3, [1000, 5000, 5200], 0, 1700, Landing::Accepted),
+        Step::Wall(1700, Some((5297, 5703))),
+    ];
+    carry_out_all(&rt, rt.alloc(), &steps)?;
     Ok(())
 }
 
 #[test]
 fn a_follow_up_after_its_request_is_forgotten(rt: HostRuntime) -> Result<(), Fail> {
-    let mut client = new_client(rt.alloc())?;
-    let _ = ask(&mut client, 1);
-    let response = datagram(2, [1, 5000, 5000], 0);
-    assert_eq!(rt; land(&mut client, &response, 2)?, Landing::Accepted);
-    ask_each(&mut client, 2, 64);
-    let follow_up = datagram(3, [1, 5000, 5000], 0);
-    assert_eq!(rt; land(&mut client, &follow_up, 100)?, Landing::Unasked);
+    let steps = [
+        Step::Ask(1, 1),
+        Step::Land(2, [1, 5000, 5000], 0, 2, Landing::Accepted),
+        Step::Ask(2, 64),
+        Step::Land(3, [1, 5000, 5000], 0, 100, Landing::Unasked),
+    ];
+    carry_out_all(&rt, rt.alloc(), &steps)?;
     Ok(())
 }
 
 #[test]
 fn a_sleep_ends_what_is_known(rt: HostRuntime) -> Result<(), Fail> {
-    let mut client = new_client(rt.alloc())?;
-    let _ = ask(&mut client, 1000);
-    sleep(&mut client);
-    let response = datagram(2, [1000, 5000, 5000], 0);
-    assert_eq!(rt; land(&mut client, &response, 1600)?, Landing::Unasked);
-    let _ = ask(&mut client, 1601);
-    let response = datagram(2, [1601, 5000, 5000], 0);
-    assert_eq!(rt; land(&mut client, &response, 2201)?, Landing::Accepted);
-    assert_eq!(rt; client.kept(), 1);
-    sleep(&mut client);
-    assert_eq!(rt; client.kept(), 0);
-    assert_eq!(rt; wall(&client, 2300), None);
-    let follow_up = datagram(3, [1601, 5000, 5000], 0);
-    assert_eq!(rt; land(&mut client, &follow_up, 2300)?, Landing::Unasked);
+    let steps = [
+        Step::Ask(1000, 1),
+        Step::Sleep,
+        Step::Land(2, [1000, 5000, 5000], 0, 1600, Landing::Unasked),
+        Step::Ask(1601, 1),
+        Step::Land(2, [1601, 5000, 5000], 0, 2201, Landing::Accepted),
+        Step::Kept(1),
+        Step::Sleep,
+        Step::Kept(0),
+        Step::Wall(2300, None),
+        Step::Land(3, [1601, 5000, 5000], 0, 2300, Landing::Unasked),
+    ];
+    carry_out_all(&rt, rt.alloc(), &steps)?;
     Ok(())
 }
 
 #[test]
 fn the_narrowest_of_two_answers_changes(rt: HostRuntime) -> Result<(), Fail> {
+    let steps = [
+        Step::Ask(1000, 1),
+        Step::Land(1, [1000, 5000, 5200], 1000, 1600, Landing::Accepted),
+        Step::Ask(2000, 1),
+        Step::Land(1, [2000, 6000, 6200], 0, 4000, Landing::Accepted),
+        Step::Wall(4000, Some((7594, 8007))),
+        Step::Wall(701_300, Some((704_197, 706_004))),
+        Step::Wall(701_301, Some((703_498, 705_304))),
+        Step::Kept(2),
+    ];
+    carry_out_all(&rt, rt.alloc(), &steps)?;
+    Ok(())
+}
+
+#[test]
+fn a_request_is_forgotten_with_its_last_copy(rt: HostRuntime) -> Result<(), Fail> {
+    let impossible = Landing::Impossible(-WHOLE_SQUARED);
     let mut client = new_client(rt.alloc())?;
-    let _ = ask(&mut client, 1000);
-    let first = datagram(1, [1000, 5000, 5200], 1000);
-    assert_eq!(rt; land(&mut client, &first, 1600)?, Landing::Accepted);
-    let _ = ask(&mut client, 2000);
-    let second = datagram(1, [2000, 6000, 6200], 0);
-    assert_eq!(rt; land(&mut client, &second, 4000)?, Landing::Accepted);
-    assert_eq!(rt; wall(&client, 4000), between(7594, 8007));
-    assert_eq!(rt; wall(&client, 701_300), between(704_197, 706_004));
-    assert_eq!(rt; wall(&client, 701_301), between(703_498, 705_304));
-    assert_eq!(rt; client.kept(), 2);
+    let _ = ask(&mut client, 1);
+    let _ = ask(&mut client, 1);
+    let response = datagram(2, [1, 5000, 5000], 0);
+    assert_eq!(rt; land(&mut client, &response, 1)?, Landing::Accepted);
+    ask_each(&mut client, 2, 63);
+    let too_late = datagram(3, [1, 5000, 5007], 0);
+    assert_eq!(rt; land(&mut client, &too_late, 100)?, impossible);
+    let _ = ask(&mut client, 100);
+    assert_eq!(rt; land(&mut client, &too_late, 101)?, Landing::Unasked);
     Ok(())
 }
 
@@ -256,22 +359,6 @@ fn each_follow_up_counts_from_its_own_response(rt: HostRuntime) -> Result<(), Fa
             impossible
         );
     }
-    Ok(())
-}
-
-#[test]
-fn a_request_is_forgotten_with_its_last_copy(rt: HostRuntime) -> Result<(), Fail> {
-    let mut client = new_client(rt.alloc())?;
-    let _ = ask(&mut client, 1);
-    let _ = ask(&mut client, 1);
-    let response = datagram(2, [1, 5000, 5000], 0);
-    assert_eq!(rt; land(&mut client, &response, 1)?, Landing::Accepted);
-    ask_each(&mut client, 2, 63);
-    let too_late = datagram(3, [1, 5000, 5007], 0);
-    let impossible = Landing::Impossible(-WHOLE_SQUARED);
-    assert_eq!(rt; land(&mut client, &too_late, 100)?, impossible);
-    let _ = ask(&mut client, 100);
-    assert_eq!(rt; land(&mut client, &too_late, 101)?, Landing::Unasked);
     Ok(())
 }
 
