@@ -1,0 +1,225 @@
+ghost use Rattle.std.specs.Prelude.{◌<◌, IfSome, unsigned_abs};
+
+use crate::{Chosen, Window, choose};
+use std::alloc::Global;
+use std::process::Abort;
+use std::test::Fail;
+
+/// The greatest delay of a television, in nanoseconds.
+const TOP: u64 = 10_000_000_000;
+
+/// The greatest offset.
+const FAR: i128 = 21_267_647_932_558_653_966_460_912_964_485_513_215;
+
+/// The least and the greatest delay at which a plain scan looks for a bound of the generated windows.
+const SCANNED: (i64, i64) = (-200, 200);
+
+const FREE: Window = Window {
+    ups: 90_000,
+    own: 0,
+    earliest: None,
+    latest: None,
+};
+
+/// From 40 ms on.
+const LATE: Window = Window {
+    ups: 90_000,
+    own: 0,
+    earliest: Some(3_600_000_000_000),
+    latest: None,
+};
+
+/// Up to 30 ms.
+const SOON: Window = Window {
+    ups: 90_000,
+    own: 0,
+    earliest: None,
+    latest: Some(2_700_000_000_000),
+};
+
+/// Only at a delay of 1.5 ns, which is no whole number.
+const BETWEEN: Window = Window {
+    ups: 2,
+    own: -3,
+    earliest: Some(0),
+    latest: Some(0),
+};
+
+/// The greatest offsets: only at delay 0, and only from about 4 * 10^28 ns on.
+const FARTHEST: Window = Window {
+    ups: 1_000_000_000,
+    own: -FAR,
+    earliest: Some(FAR),
+    latest: Some(-FAR),
+};
+
+/// Up to the greatest delay.
+const AT_THE_TOP: Window = Window {
+    ups: 1,
+    own: -10_000_000_000,
+    earliest: Some(0),
+    latest: Some(0),
+};
+
+#[test]
+fn the_least_delay_that_fits_is_chosen(rt: HostRuntime) {
+    let rows: [(&[Window], u64, Option<usize>); 7] = [
+        (&[], 0, None),
+        (&[FREE], 0, None),
+        (&[SOON, FREE], 0, None),
+        (&[FREE, LATE], 40_000_000, Some(1)),
+        (&[LATE, FREE, LATE], 40_000_000, Some(0)),
+        (&[AT_THE_TOP], TOP, Some(0)),
+        (&[LATE, AT_THE_TOP, AT_THE_TOP], TOP, Some(1)),
+    ];
+    for (windows, delay, by) in rows {
+        assert_eq!(rt; choose(windows, TOP), Chosen::Fits { delay, by });
+    }
+}
+
+#[test]
+fn two_windows_tell_why_no_delay_fits(rt: HostRuntime) {
+    let rows: [(&[Window], u64, Option<usize>, Option<usize>); 6] = [
+        (&[FREE, LATE, SOON], TOP, Some(1), Some(2)),
+        (&[SOON, LATE, SOON, LATE], TOP, Some(1), Some(0)),
+        (&[FREE, LATE], 39_999_999, Some(1), None),
+        (&[AT_THE_TOP], 9_999_999_999, Some(0), None),
+        (&[BETWEEN], TOP, Some(0), Some(0)),
+        (&[FARTHEST], TOP, Some(0), Some(0)),
+    ];
+    for (windows, max_delay, low, high) in rows {
+        assert_eq!(rt; choose(windows, max_delay), Chosen::Nothing { low, high });
+    }
+}
+
+/// The offset of a window's content at a delay.
+fn offset(window: &Window, delay: i64) -> i128 {
+    let turned = i128::from(window.ups).wrapping_mul(i128::from(delay));
+    window.own.wrapping_add(turned)
+}
+
+fn is_early(window: &Window, delay: i64) -> bool {
+    match window.earliest {
+        None => false,
+        Some(earliest) => offset(window, delay) < earliest,
+    }
+}
+
+fn is_late(window: &Window, delay: i64) -> bool {
+    match window.latest {
+        None => false,
+        Some(latest) => latest < offset(window, delay),
+    }
+}
+
+fn first_early(windows: &[Window], delay: i64) -> Option<usize> {
+    for (i, window) in windows.iter().enumerate() {
+        if is_early(window, delay) {
+            return Some(i);
+        }
+    }
+    None
+}
+
+fn first_late(windows: &[Window], delay: i64) -> Option<usize> {
+    for (i, window) in windows.iter().enumerate() {
+        if is_late(window, delay) {
+            return Some(i);
+        }
+    }
+    None
+}
+
+/// The first window that comes too early at the last delay at which any does.
+fn plain_low(windows: &[Window]) -> Option<usize> {
+    let mut found = None;
+    for delay in 0..SCANNED.1 {
+        found = first_early(windows, delay).or(found);
+    }
+    found
+}
+
+/// The first window that comes too late at the first delay at which any does.
+fn plain_high(windows: &[Window], max_delay: i64) -> Option<usize> {
+    for delay in SCANNED.0..max_delay.wrapping_add(1) {
+        if let Some(i) = first_late(windows, delay) {
+            return Some(i);
+        }
+    }
+    None
+}
+
+/// What a scan of every delay finds.
+fn plain_choice(windows: &[Window], max_delay: i64) -> Chosen {
+    for delay in 0..max_delay.wrapping_add(1) {
+        if first_early(windows, delay).is_none() && first_late(windows, delay).is_none() {
+            return Chosen::Fits {
+                delay: delay.unsigned_abs(),
+                by: first_early(windows, delay.wrapping_sub(1)).filter(|_| delay != 0),
+            };
+        }
+    }
+    Chosen::Nothing {
+        low: plain_low(windows),
+        high: plain_high(windows, max_delay),
+    }
+}
+
+fn drawn_bound(word: u64, least: i8) -> Option<i128>
+    ensures { IfSome result (λ bound. unsigned_abs bound < 1000) }
+{
+    if word % 3 == 0 {
+        None
+    } else {
+        Some(i128::from(word / 3 % 60) + i128::from(least))
+    }
+}
+
+/// A window whose bounds are within 100 ns of delay 0.
+fn drawn(word: u64) -> Window {
+    Window {
+        ups: 1 + (word % 3) as u32,
+        own: i128::from(word / 3 % 40) - 20,
+        earliest: drawn_bound(word / 120, -20),
+        latest: drawn_bound(word / 21_600, -10),
+    }
+}
+
+fn next_word(word: u64) -> u64 {
+    word.wrapping_mul(6_364_136_223_846_793_005)
+        .wrapping_add(1_442_695_040_888_963_407)
+}
+
+/// Up to five windows.
+fn drawn_windows(alloc: Global, word: u64) -> Result<Vec<Window>, Fail> {
+    let mut windows = Vec::new(alloc);
+    let mut word = word;
+    for _ in 0..word >> 40 & 3 {
+        word = next_word(word);
+        windows.push(drawn(word >> 33))?;
+    }
+    Ok(windows)
+}
+
+fn compare(rt: &impl Abort, windows: &[Window], max_delay: u32) -> bool {
+    let plain = plain_choice(windows, i64::from(max_delay));
+    let chosen = choose(windows, u64::from(max_delay));
+    assert_eq!(rt; chosen, plain);
+    matches!(chosen, Chosen::Fits { .. })
+}
+
+#[test]
+fn chooses_what_a_scan_of_every_delay_finds(rt: HostRuntime) -> Result<(), Fail> {
+    let mut word: u64 = 1;
+    let mut fitting: u32 = 0;
+    for _ in 0..2000 {
+        word = next_word(word);
+        let windows = drawn_windows(rt.alloc(), word)?;
+        if compare(&rt, windows.as_slice(), (word >> 50) as u32 % 40) {
+            fitting = fitting.wrapping_add(1);
+        }
+    }
+    assert!(rt; 500 < fitting);
+    assert!(rt; fitting < 1500);
+    Ok(())
+}
