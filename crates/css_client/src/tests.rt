@@ -138,8 +138,9 @@ fn carry_out(rt: &impl Abort, client: &mut Client, floor: u64, step: Step) -> Re
             Ok(floor)
         }
         Step::Sleep => {
+            assert!(rt; floor < 1 << 31);
             sleep(client);
-            Ok(floor.saturating_add(1))
+            Ok(floor + 1)
         }
         Step::Kept(count) => {
             assert_eq!(rt; client.kept(), count);
