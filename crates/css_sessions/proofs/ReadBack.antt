@@ -1,6 +1,6 @@
 -- Each text of a session reads as what it was written for.
-use Rattle.std.proofs.Common.{◌≡◌, ℕ, zero, suc, Bool, true, false, cond, eqb, List, [], ◌∷◌, ◌++◌, take, Option, Some, None, Result, Ok, Err, refl, sym, ap, ◌∙◌, subst}
-use Rattle.std.specs.Prelude.{⊤, ℤ, ◌&&◌, map, reverse, All, option_map}
+use Rattle.std.proofs.Common.{◌≡◌, ℕ, zero, suc, Bool, true, false, cond, eqb, List, [], ◌∷◌, ◌++◌, take, Option, Some, None, Result, Ok, refl, sym, ap, ◌∙◌, subst}
+use Rattle.std.specs.Prelude.{⊤, map, reverse, All, option_map}
 use Rattle.std.proofs.lemmas.List.{reverse-append}
 use Rattle.std.proofs.lemmas.List.Elements.{All-head, All-tail}
 use Rattle.std.proofs.lemmas.Bool.{and_parts}
@@ -9,8 +9,8 @@ use Rattle.css_num.specs.declared.control.Control.{Control}
 use Rattle.css_num.specs.declared.control.Control.TheVariants.{Available, Unavailable}
 use Rattle.css_player.specs.Player.{Player}
 use Rattle.css_cii.specs.Messages.{message_of}
-use Rattle.css_cii.specs.States.{empty, difference, full_change, is_empty, is_same_state, Tells, TellsChange, TellsExactly, TellsDifference, IsSession, IsSessionFrom, last_from}
-use Rattle.css_cii.specs.Texts.{change_text, EachIn, EachOf, RatesAreInRange, IsUtf8Change}
+use Rattle.css_cii.specs.States.{empty, difference, full_change, is_empty, Tells, TellsChange, TellsExactly, IsSessionFrom, last_from}
+use Rattle.css_cii.specs.Texts.{change_text, EachIn, EachOf, RatesAreInRange}
 use Rattle.css_cii.specs.declared.state.State.{State}
 use Rattle.css_cii.specs.declared.change.Change.{Change}
 use Rattle.css_cii.specs.declared.change.Told.{Told}
@@ -28,7 +28,6 @@ use Rattle.css_sessions.specs.declared.session.Kind.{Kind}
 use Rattle.css_sessions.specs.declared.session.Kind.TheVariants as kind
 use Rattle.css_sessions.specs.declared.session.Session.{Session}
 use Rattle.css_sessions.specs.declared.session.Talk.{Talk}
-use Rattle.css_sessions.specs.declared.session.Talk.TheVariants as talk
 use Rattle.css_sessions.specs.Offsets.{control_for}
 use Rattle.css_sessions.specs.Kept.{Event, Opened, SetUp, Published, Closed, Presented, Dropped, difference_text, full_text, other_control, same_control, talk_of}
 use Rattle.css_sessions.specs.Told.{Life, CiiLife, Unset, TsLife, Lived, born, set_life, grown_life, living, ended, when, life_of, state_of, window_of, latest, with_text, cii_texts, ts_texts, IsReadable, IsControlled, IsLawful, AreTellable, sessions_of}

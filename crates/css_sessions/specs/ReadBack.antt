@@ -1,5 +1,6 @@
 -- What a companion reads of a session's texts: the changes of the states that it is told, or the controls.
-use Rattle.std.specs.Prelude.{◌≡◌, ℕ, false, List, [], ◌∷◌, map, reverse, take, Option, Some, None, Ok, if◌then◌else◌, ⊤}
+use Rattle.std.specs.Prelude.{◌≡◌, ℕ, false, if◌then◌else◌, ⊤}
+use Rattle.std.specs.Prelude.{List, [], ◌∷◌, map, reverse, take, Option, Some, None, Ok}
 use Rattle.css_num.specs.declared.control.Control.{Control}
 use Rattle.css_player.specs.Player.{Player}
 use Rattle.css_cii.specs.declared.change.Change.{Change}
@@ -9,8 +10,8 @@ use Rattle.css_cii.specs.States.{difference, full_change, is_empty, IsSession}
 use Rattle.css_tsmsg.specs.Controls.{control_of}
 use Rattle.css_tsmsg.specs.declared.setup.Setup.{Setup}
 use Rattle.css_sessions.specs.Offsets.{control_for}
-use Rattle.css_sessions.specs.Kept.{Event, same_control}
-use Rattle.css_sessions.specs.Told.{Life, CiiLife, Unset, TsLife, Lived, life_of, latest, state_of, cii_texts, ts_texts}
+use Rattle.css_sessions.specs.Kept.{same_control}
+use Rattle.css_sessions.specs.Told.{Life, CiiLife, Unset, TsLife, Lived, latest, cii_texts, ts_texts}
 
 -- the published states that a CII session was told, newest first: each that differs from the one before
 abbrev pub cii_states : State → List State → List State
@@ -32,8 +33,8 @@ ts_controls u p (player ∷ ps) =
     if same_control (control_for u (latest p ps)) (control_for u player) then ts_controls u p ps
     else control_for u player ∷ ts_controls u p ps
 
--- each text of a CII session reads as the change that it was written for; the first k of these changes are the messages
--- of a connection that tells the first k states; the newest state is the one published last
+-- each text of a CII session reads as the change that it was written for; the first k of these changes are the
+-- messages of a connection that tells the first k states; the newest state is the one published last
 pub record ReadsAsStates (s : State) (ss : List State) : Type 0 where
   pub texts : map message_of (cii_texts s ss) ≡ map Ok (cii_changes s ss)
   pub session : (k : ℕ) → IsSession (take k (reverse (cii_states s ss))) (take k (reverse (cii_changes s ss)))

@@ -1,4 +1,4 @@
-use Rattle.std.proofs.Common.{◌≡◌, Result, Ok, Err, IfOk, ap, ◌∙◌}
+use Rattle.std.proofs.Common.{Result, Ok, Err, IfOk, ap, ◌∙◌}
 use Rattle.css_sessions.specs.Kept.{Kept, windows_in}
 use Rattle.css_sessions.proofs.InForce.{windows_stand}
 use Rattle.css_sessions.proofs.sessions.Sessions.windows.Goals as goal
