@@ -7,7 +7,6 @@ use crate::Kind;
 use css_cii::{State, apply, diff, full, read_message, write_message};
 use css_num::{Rate, Text};
 use css_player::{Command, Player, PlayerFault};
-use css_tsmsg::{Control, write_control};
 use std::alloc::Global;
 use std::test::Fail;
 
@@ -149,27 +148,15 @@ pub fn window(bounds: u32, shown: u32) -> (u32, i128, Option<i128>, Option<i128>
     }
 }
 
-/// The control timestamp that is published for a setup.
-fn control(setup: u32, shown: u32) -> Control {
+/// The text of the control timestamp that is published for a setup.
+fn control_text(setup: u32, shown: u32) -> &'static str {
     if !is_available(setup, shown) {
-        return Control::Unavailable;
+        return r#"{"contentTime":null,"timelineSpeedMultiplier":null,"wallClockTime":"0"}"#;
     }
     match shown {
-        1 => Control::Available {
-            content: 900_000,
-            wall: 5_000_000_000,
-            speed: 1,
-        },
-        2 => Control::Available {
-            content: 901_800,
-            wall: 5_020_000_000,
-            speed: 0,
-        },
-        _ => Control::Available {
-            content: 900_000,
-            wall: 6_000_000_000,
-            speed: 1,
-        },
+        1 => r#"{"contentTime":"900000","timelineSpeedMultiplier":1,"wallClockTime":"5000000000"}"#,
+        2 => r#"{"contentTime":"901800","timelineSpeedMultiplier":0,"wallClockTime":"5020000000"}"#,
+        _ => r#"{"contentTime":"900000","timelineSpeedMultiplier":1,"wallClockTime":"6000000000"}"#,
     }
 }
 
@@ -281,15 +268,13 @@ fn cii_texts(alloc: Global, steps: &[Step], from: usize, to: usize) -> Result<Te
 }
 
 /// Appends the text of a control where it isn't that of the one before.
-fn push_control(texts: &mut Text, old: &Text, new: &Text) -> Result<(), Fail> {
-    if old.bytes() == new.bytes() {
+fn push_control(texts: &mut Text, old: &str, new: &str) -> Result<(), Fail> {
+    if old == new {
         return Ok(());
     }
-    push_line(texts, new)
-}
-
-fn control_text(alloc: Global, setup: u32, shown: u32) -> Result<Text, Fail> {
-    Ok(write_control(alloc, &control(setup, shown))?)
+    texts.push(new.as_bytes())?;
+    texts.push(b"\n")?;
+    Ok(())
 }
 
 /// The texts of a TS session with this setup, from it to another call.
@@ -302,11 +287,11 @@ fn ts_texts(
     shown: u32,
 ) -> Result<Text, Fail> {
     let mut texts = Text::new(alloc);
-    let mut last = control_text(alloc, setup, shown)?;
-    push_line(&mut texts, &last)?;
+    let mut last = control_text(setup, shown);
+    push_control(&mut texts, "", last)?;
     for shown in published_between(alloc, steps, from, to)?.iter() {
-        let next = control_text(alloc, setup, *shown)?;
-        push_control(&mut texts, &last, &next)?;
+        let next = control_text(setup, *shown);
+        push_control(&mut texts, last, next)?;
         last = next;
     }
     Ok(texts)
