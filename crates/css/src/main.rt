@@ -2,11 +2,11 @@
 #![tactic(auto)]
 
 mod devices;
-mod told;
 
-use css_app::{Status, run};
+use css_app::{Status, run, tell};
 use devices::{StdSink, StdSource};
 use std::env::Env;
+use std::io::{Error, ErrorKind};
 use std::process::ExitCode;
 use std::{env, io};
 
@@ -19,13 +19,21 @@ fn words<R: Env + AllocGlobal>(rt: &R) -> io::Result<Vec<String>> {
     Ok(words)
 }
 
+// How the program ends where its words weren't read. Those that aren't UTF-8 are the words of no command.
+fn without_words(error: &Error) -> Status {
+    match error.kind() {
+        ErrorKind::OutOfMemory => Status::Memory,
+        _ => Status::Usage,
+    }
+}
+
 fn main(rt: HostRuntime) -> ExitCode {
     let mut source = StdSource::new(rt.reader());
     let mut sink = StdSink::new(io::writer(&rt));
     let status = match words(&rt) {
         Ok(words) => run(rt.alloc(), &words, &mut source, &mut sink),
-        Err(_) => Status::Memory,
+        Err(error) => without_words(&error),
     };
-    told::tell(&rt, &status);
-    ExitCode::from(status.number())
+    let mut errors = StdSink::new(rt.stderr().lock());
+    ExitCode::from(tell(rt.alloc(), &status, &mut errors).number)
 }

@@ -4,3 +4,4 @@ pub mod Answering
 pub mod Promise
 pub mod Runs
 pub mod Standing
+pub mod Completeness

@@ -31,7 +31,7 @@ use Rattle.css_world.specs.Printed.{wall_text}
 use Rattle.css_world.specs.Standing.{AreAccepted}
 use Rattle.css_world.specs.Truth.{IsTrueWall}
 use Rattle.css_world.proofs.Worlds.{carried_ok}
-use Rattle.css_world.proofs.Truth.{accepted_lines_are_true}
+use Rattle.css_world.proofs.Truth.{accepted_lines_are_true, accepted_lines_are_world}
 use Rattle.css_app.specs.declared.replay.Cause.{Cause}
 use Rattle.css_app.specs.declared.replay.Cause.TheVariants.{Form}
 use Rattle.css_app.specs.Replayed.{header_in, with_line, lines_in, caused, read_meant, meant_after, opened, text_meant, replayed}
@@ -238,6 +238,7 @@ promise_of bytes (first ∷ texts) rest printed parts taken = inr (record {
   are_lines = parts;
   header = taken.0;
   is_header = taken.1.is_header;
+  world = accepted_lines_are_world taken.0 (lines_in texts) (declared first taken.0 taken.1.is_header) taken.1.accepted;
   whole = printed;
   front = ([], sym (append-nil printed));
   kept = taken.1.kept;
@@ -302,6 +303,7 @@ front_keeps bytes front whole prefix (inr kept) = inr (record {
   are_lines = kept.are_lines;
   header = kept.header;
   is_header = kept.is_header;
+  world = kept.world;
   whole = kept.whole;
   front = (prefix.0 ++ kept.front.0, kept.front.1 ∙ ap (λ w. w ++ kept.front.0) prefix.1 ∙ append_assoc front prefix.0 kept.front.0);
   kept = kept.kept;

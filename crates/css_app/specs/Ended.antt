@@ -1,5 +1,5 @@
 -- How a run ends, as a status.
-use Rattle.std.specs.Prelude.{ℕ, ◌≡◌, Bool, false, bytes_eq, List, [], ◌∷◌, ◌++◌, codes, decimal, Option, Some, None}
+use Rattle.std.specs.Prelude.{ℕ, ◌≡◌, ◌<◌, ◌-◌, ◌^◌, Bool, false, bytes_eq, List, [], ◌∷◌, ◌++◌, codes, decimal, Option, Some, None}
 use Rattle.std.specs.Fmt.{signed_decimal}
 use Rattle.std.specs.Io.KnownBytes.{Appends}
 use Rattle.css_outside.specs.Faults.{HasRisen}
@@ -49,6 +49,15 @@ status_words ReadFault = codes "read fault"
 status_words WriteFault = codes "write fault"
 status_words Memory = codes "memory"
 
+-- the program's name, the words of a status, and a line feed
+abbrev pub words_line : Status → List ℕ
+words_line status = codes "css: " ++ status_words status ++ codes "\n"
+
+-- The line that tells a status on standard error. Done is told by no line.
+abbrev pub status_line : Status → List ℕ
+status_line Done = []
+status_line status = words_line status
+
 -- why the line of a schedule is refused
 abbrev pub refusal_of : LineWhy → Refusal Cause
 refusal_of Long = refusals.Long
@@ -80,6 +89,21 @@ CountsReads before now _ = now ≡ before
 abbrev pub CountsWrites : ℕ → ℕ → Status → Type 0
 CountsWrites before now WriteFault = HasRisen before now
 CountsWrites before now _ = now ≡ before
+
+-- No call of a device failed: its count of faults is as it was, and below its greatest value, where it would stay.
+pub record HasNotFailed (before now : ℕ) : Type 0 where
+  pub below : before < 2 ^ 64 - 1
+  pub same : now ≡ before
+
+-- the input was read to its end, unless memory ran out
+abbrev pub IsDoneUnlessMemory : Status → Type 0
+IsDoneUnlessMemory Done = Unit {0}
+IsDoneUnlessMemory Memory = Unit {0}
+IsDoneUnlessMemory _ = ⊥
+
+-- no line of the schedule is refused
+abbrev pub IsAccepted : List ℕ → Type 0
+IsAccepted bytes = (outcome replayed bytes).verdict ≡ None
 
 -- the status of a replay that stopped
 abbrev pub status_of : Stop Cause → Status

@@ -14,6 +14,7 @@ use Rattle.css_schedule.specs.Headers.{header_of}
 use Rattle.css_world.specs.Happened.{Numbered, history_of}
 use Rattle.css_world.specs.Verdicts.{local_of}
 use Rattle.css_world.specs.Printed.{wall_line, no_answer_line}
+use Rattle.css_world.specs.Truth.{AreWorld}
 use Rattle.css_app.specs.Replayed.{header_in, lines_in}
 
 -- the responses and follow-ups that the companion of a line has accepted before it, whatever was lost, repeated or reordered
@@ -45,7 +46,7 @@ AreKept header (now ∷ older) printed =
     (before : List ℕ) × (last : List ℕ) × (printed ≡ before ++ last) × IsKept header older now now.line.verb last × AreKept header older before
 
 -- What was printed is a front part of what is printed for lines of the schedule, from its header on, and for each of these
--- it keeps the promise.
+-- it keeps the promise. The lines are a world that keeps the declared errors and explains what the companion did.
 pub record PromiseKept (bytes printed : List ℕ) : Type 0 where
   pub first : List ℕ
   pub texts : List (List ℕ)
@@ -53,6 +54,7 @@ pub record PromiseKept (bytes printed : List ℕ) : Type 0 where
   pub are_lines : lines_of bytes ≡ (first ∷ texts) ++ rest
   pub header : Header
   pub is_header : header_in (header_of first) ≡ Some header
+  pub world : AreWorld header (lines_in texts)
   pub whole : List ℕ
   pub front : IsPrefix printed whole
   pub kept : AreKept header (lines_in texts) whole

@@ -6,6 +6,8 @@ mod replay;
 mod status;
 #[cfg(test)]
 mod tests;
+mod told;
 
 pub use program::run;
 pub use status::{LineWhy, Status};
+pub use told::{Ending, tell};

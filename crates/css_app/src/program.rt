@@ -1,5 +1,5 @@
 ghost use Rattle.std.specs.Prelude.{◌≡◌, ◌↔◌, List, ℕ, Some, IsTrue, false, map, string_bytes};
-ghost use Rattle.css_app.specs.Ended.{Replays, CountsReads, CountsWrites};
+ghost use Rattle.css_app.specs.Ended.{Replays, IsAccepted, HasNotFailed, IsDoneUnlessMemory, CountsReads, CountsWrites};
 ghost use Rattle.css_app.specs.Ended as ended;
 ghost use Rattle.css_app.specs.Headline.{Promised};
 
@@ -77,6 +77,11 @@ pub fn run<S: Source, K: Sink>(
     // Of a source that tells its bytes: what became of them, and what the sink holds.
     ensures replays { IsTrue (ended.is_replay (map string_bytes words.now)) → (bytes : List ℕ) → S.left source.old ≡ Some bytes →
         Replays bytes (S.left source.new) (K.holds sink.old) (K.holds sink.new) result }
+
+    // A schedule of which no line is refused is replayed to its end, over devices that don't fail.
+    ensures complete { IsTrue (ended.is_replay (map string_bytes words.now)) → (bytes : List ℕ) → S.left source.old ≡ Some bytes →
+        IsAccepted bytes → HasNotFailed (S.faults source.old) (S.faults source.new) → HasNotFailed (K.faults sink.old) (K.faults sink.new) →
+        IsDoneUnlessMemory result }
 
     // Of every source: what the sink gained keeps the promise. Each interval comes from the narrowest accepted response, and
     // contains the value that its line gives the television's wall clock; lacking a response the cause is printed.

@@ -1,7 +1,7 @@
 ghost use Rattle.std.specs.Prelude.{◌<◌};
 
-use crate::{LineWhy, Status, run};
-use css_outside::{Memory, MemorySink, MemorySource};
+use crate::{LineWhy, Status, run, tell};
+use css_outside::{Memory, MemorySink, MemorySource, OutFault};
 use std::alloc::{AllocError, Global};
 use std::process::Abort;
 use std::test::Fail;
@@ -488,47 +488,98 @@ fn a_write_fault_leaves_a_part(rt: HostRuntime) -> Result<(), Fail> {
     Ok(())
 }
 
+/// Each status, its exit status, and its line on standard error.
+const TOLD: [(Status, u8, &str); 9] = [
+    (Status::Done, 0, ""),
+    (Status::Usage, 1, "css: usage\n"),
+    (
+        Status::BadLine {
+            line: 1,
+            why: LineWhy::Long,
+        },
+        2,
+        "css: line 1: long\n",
+    ),
+    (
+        Status::BadLine {
+            line: 20,
+            why: LineWhy::Form,
+        },
+        2,
+        "css: line 20: form\n",
+    ),
+    (
+        Status::BadLine {
+            line: 3,
+            why: LineWhy::Absent,
+        },
+        2,
+        "css: line 3: absent\n",
+    ),
+    (
+        Status::Broken {
+            line: 4,
+            earlier: 2,
+            excess: 256_000_000,
+        },
+        3,
+        "css: line 4: broken with line 2 by 256000000\n",
+    ),
+    (Status::ReadFault, 4, "css: read fault\n"),
+    (Status::WriteFault, 5, "css: write fault\n"),
+    (Status::Memory, 14, "css: memory\n"),
+];
+
 #[test]
-fn each_status_has_its_words(rt: HostRuntime) -> Result<(), Fail> {
-    let rows = [
-        (Status::Done, "done"),
-        (Status::Usage, "usage"),
-        (
-            Status::BadLine {
-                line: 1,
-                why: LineWhy::Long,
-            },
-            "line 1: long",
-        ),
-        (
-            Status::BadLine {
-                line: 20,
-                why: LineWhy::Form,
-            },
-            "line 20: form",
-        ),
-        (
-            Status::BadLine {
-                line: 3,
-                why: LineWhy::Absent,
-            },
-            "line 3: absent",
-        ),
-        (
-            Status::Broken {
-                line: 4,
-                earlier: 2,
-                excess: 256_000_000,
-            },
-            "line 4: broken with line 2 by 256000000",
-        ),
-        (Status::ReadFault, "read fault"),
-        (Status::WriteFault, "write fault"),
-        (Status::Memory, "memory"),
-    ];
-    for (status, expected) in rows {
-        let words = format!(in rt.alloc(); "{status}")?;
-        assert_eq!(rt; words.as_str(), expected);
+fn each_status_is_told(rt: HostRuntime) -> Result<(), Fail> {
+    let alloc = rt.alloc();
+    for (status, number, line) in TOLD {
+        let mut sink = MemorySink::new(alloc, 1, &[])?;
+        let ending = tell(alloc, &status, &mut sink);
+        assert_eq!(rt; ending.number, number);
+        assert_eq!(rt; ending.told, Ok(()));
+        assert_eq!(rt; sink.bytes(), line.as_bytes());
     }
+    Ok(())
+}
+
+#[test]
+fn a_line_that_is_not_printed_changes_no_number(rt: HostRuntime) -> Result<(), Fail> {
+    let alloc = rt.alloc();
+    let mut sink = MemorySink::new(alloc, 7, &[2])?;
+    let ending = tell(alloc, &Status::ReadFault, &mut sink);
+    assert_eq!(rt; ending.number, 4);
+    assert_eq!(rt; ending.told, Err(OutFault::Failed));
+    assert_eq!(rt; sink.bytes(), b"css: re".as_slice());
+    Ok(())
+}
+
+/// An exchange, and `count` requests after it, each with a `wall` line; and what is printed for them.
+fn many_lines(alloc: Global, count: u32) -> Result<(String, String), AllocError> {
+    let mut lines = String::new(alloc);
+    let mut printed = String::new(alloc);
+    lines.push_str(FRONT)?;
+    for i in 0..u64::from(count) {
+        writeln!(lines, "{} {} {} ask {}", 1600 + i, 5400 + i, 1600 + i, 1600 + i)?;
+        writeln!(lines, "{} {} {} wall {}", 1600 + i, 5400 + i, 1600 + i, 1600 + i)?;
+        writeln!(printed, "{} wall {} {} at {}", 7 + 2 * i, 5197 + i, 5603 + i, 5400 + i)?;
+    }
+    Ok((lines, printed))
+}
+
+const FRONT: &str = "\
+css-schedule 1 plain 0 -30 0 0 urn:dvb:css:timeline:pts -
+1000 4800 1000 ask 1000
+1200 5000 1200 take 1 5000
+1400 5200 1400 give 1 5200
+1600 5400 1600 land 1 1600
+";
+
+#[test]
+fn five_thousand_lines_are_replayed(rt: HostRuntime) -> Result<(), Fail> {
+    let (lines, printed) = many_lines(rt.alloc(), 2500)?;
+    let ran = replay(rt.alloc(), lines.as_bytes(), &WHOLE)?;
+    assert_eq!(rt; ran.status, Status::Done);
+    assert_eq!(rt; ran.sink.bytes(), printed.as_bytes());
     Ok(())
 }

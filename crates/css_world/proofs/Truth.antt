@@ -31,8 +31,8 @@ use Rattle.css_world.specs.Happened.{Numbered, numbered, tickets, datagrams, byt
 use Rattle.css_world.specs.Worlds.{world_of, moment_number, errors_of}
 use Rattle.css_world.specs.Verdicts.{local_of, IsDeclared, span_at, can_happen}
 use Rattle.css_world.specs.Standing.{AreAccepted}
-use Rattle.css_world.specs.Truth.{IsTrueWall, IsPossibleLanding, AcceptedLinesAreTrue}
-use Rattle.css_world.proofs.Worlds.{carried_ok, keeps_errors}
+use Rattle.css_world.specs.Truth.{IsTrueWall, IsPossibleLanding, AcceptedLinesAreTrue, AreWorld, AcceptedLinesAreWorld}
+use Rattle.css_world.proofs.Worlds.{carried_ok, keeps_errors, keeps_errors-none}
 use Rattle.css_world.proofs.Lawful.{history-now, is_lawful}
 use Rattle.css_world.proofs.Moments.{Agrees, agrees, entries-here, happens}
 use Rattle.css_world.proofs.Tickets.{are_promised, one_promise}
@@ -168,6 +168,24 @@ world_for header now older declared accepted = record {
   keeps = keeps_errors header now older accepted;
   declared = omega arith;
   ranges = declared.local;
+}
+
+-- also where there is no line yet
+world_for_all : (header : Header) (lines : List Numbered) → IsDeclared header → AreAccepted header lines
+    → IsWorldFor (errors_of header) (world_of lines) 1 (local_of 1 header)
+world_for_all header [] declared accepted = record {
+  keeps = keeps_errors-none header;
+  declared = omega arith;
+  ranges = declared.local;
+}
+world_for_all header (now ∷ older) declared accepted = world_for header now older declared accepted
+
+-- the law of the world
+pub accepted_lines_are_world : AcceptedLinesAreWorld
+accepted_lines_are_world header lines declared accepted = record {
+  keeps = world_for_all header lines declared accepted;
+  lawful = is_lawful header lines accepted;
+  explains = explained header lines declared accepted;
 }
 
 -- ---- the wall clock

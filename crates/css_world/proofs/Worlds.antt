@@ -237,6 +237,15 @@ keeps_errors header now older accepted =
           (subst (λ (v : ℕ). RunsWithin (local_of 1 header).error a.0.line.t a.0.line.l b.0.line.t v) last.value runs))));
     }
 
+-- a world of no line shows nothing that could break them
+pub keeps_errors-none : (header : Header) → KeepsErrors (errors_of header) (world_of [])
+keeps_errors-none header = record {
+  order = λ i j le. omega arith;
+  tv = λ i j le. (omega arith, omega arith);
+  sleeps = λ who i j earlier later le p q. absurd (cc);
+  companion = λ who i j earlier later le p q same. absurd (cc);
+}
+
 -- the moment of each line, by how many came before it
 pub world-older : (now : Numbered) (older : List Numbered) (i : ℕ) → i < length older → world_of (now ∷ older) i ≡ world_of older i
 world-older now older i h = ap moment_or_none (line_at-older now older i h)

@@ -8,6 +8,9 @@ use Rattle.css_client.specs.declared.landing.Landing.TheVariants as landings
 use Rattle.css_world.specs.Happened.{Numbered, numbered, datagrams, bytes_of, history_of}
 use Rattle.css_world.specs.Verdicts.{local_of, IsDeclared, span_at}
 use Rattle.css_world.specs.Standing.{AreAccepted}
+use Rattle.css_world.specs.Worlds.{world_of, moment_number, errors_of}
+use Rattle.css_model.specs.World.{IsWorldFor}
+use Rattle.css_model.specs.Explains.{IsLawful, Explains}
 
 -- At a `wall` line the span, if there is one, contains the value that the line gives the television's wall clock.
 abbrev pub IsTrueWall : Header → List Numbered → Numbered → Type 0
@@ -29,3 +32,17 @@ pub record IsTrueLine (header : Header) (older : List Numbered) (now : Numbered)
 abbrev pub AcceptedLinesAreTrue : Type 0
 AcceptedLinesAreTrue = (header : Header) (older : List Numbered) (now : Numbered)
     → IsDeclared header → AreAccepted header (now ∷ older) → IsTrueLine header older now
+
+-- ---- the world of lines
+-- The lines of a schedule are the moments of a world. It keeps the errors that the header declares, and it explains, within
+-- the declared precisions, what the companion of the lines did, whose history is lawful.
+pub record AreWorld (header : Header) (lines : List Numbered) : Type 0 where
+  pub keeps : IsWorldFor (errors_of header) (world_of lines) 1 (local_of 1 header)
+  pub lawful : IsLawful (history_of 1 header lines)
+  pub explains : Explains (world_of lines) 1 header.tv_error (local_of 1 header) (history_of 1 header lines)
+      (moment_number 1 header lines)
+
+-- of whatever header and accepted lines
+abbrev pub AcceptedLinesAreWorld : Type 0
+AcceptedLinesAreWorld = (header : Header) (lines : List Numbered)
+    → IsDeclared header → AreAccepted header lines → AreWorld header lines

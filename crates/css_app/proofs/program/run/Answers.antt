@@ -1,4 +1,7 @@
 -- What the run adds to the sink keeps the promise, however it ends.
+use Rattle.std.proofs.Common.{subst, sym}
+use Rattle.css_app.specs.Ended.{IsDoneUnlessMemory}
+use Rattle.css_app.proofs.Completeness.{completes}
 use Rattle.css_app.proofs.Runs.{promised_done, promised_stop}
 use Rattle.css_app.proofs.program.run.Goals as goal
 
@@ -9,3 +12,10 @@ returns-in-Ok-clause-promise g c = λ replays.
 pub returns-clause-promise : goal.returns-clause-promise
 returns-clause-promise g c = λ replays.
     promised_stop (g.S.Source.left c.args.source.now) (g.S.Source.left c.drive.new.source) (g.K.Sink.holds c.args.sink.now) (g.K.Sink.holds c.drive.new.sink) c.in-Err.stop c.in-Err.ensures.stopped
+
+pub returns-clause-complete : goal.returns-clause-complete
+returns-clause-complete g c = λ replays bytes is accepted read written.
+    subst IsDoneUnlessMemory (sym c.status_of.ensures)
+    (completes bytes (g.S.Source.left c.drive.new.source) (g.K.Sink.holds c.args.sink.now) (g.K.Sink.holds c.drive.new.sink) c.in-Err.stop
+    (g.S.Source.faults c.args.source.now) (g.S.Source.faults c.drive.new.source) (g.K.Sink.faults c.args.sink.now) (g.K.Sink.faults c.drive.new.sink)
+    (c.in-Err.ensures.ran bytes is) accepted c.in-Err.ensures.counted_reads c.in-Err.ensures.counted_writes read written)
