@@ -1,4 +1,6 @@
-ghost use Rattle.std.specs.Prelude.{◌≡◌, ◌≤◌, length, IfOk};
+ghost use Rattle.std.specs.Prelude.{◌≡◌, ◌≤◌, List, length, suc, IfOk, IfNone};
+ghost use Rattle.css_world.specs.Happened.{Numbered};
+ghost use Rattle.css_world.specs.Standing.{StandsFor, IsNext};
 ghost use Rattle.css_schedule.specs.Ranges.{IsHeader};
 
 use crate::{World, WorldFault};
@@ -98,6 +100,29 @@ struct Refused {
     fault: WorldFault,
 }
 
+/// Carries out the line of a text, and tells why it is refused, if it is.
+fn carry_out(
+    world: &mut World,
+    number: u64,
+    text: &str,
+    out: &mut Vec<u8>,
+) -> Result<Option<Refused>, Fail>
+    requires stands { (lines : List Numbered) × StandsFor world.old lines × IsNext number lines }
+    ensures stands { IfOk result (λ refused. IfNone refused ((lines : List Numbered) × StandsFor world.new lines × IsNext (suc number) lines)) }
+{
+    let line = read_line(text.as_bytes(), 1, 1)?;
+    if line.who != 1 {
+        return Err(Fail::from("another companion"));
+    }
+    match world.line(number, line, out) {
+        Ok(()) => Ok(None),
+        Err(fault) => Ok(Some(Refused {
+            line: number,
+            fault,
+        })),
+    }
+}
+
 /// Carries out the lines of a schedule after its header, up to the first that is refused.
 fn run(alloc: Global, declared: Declared, lines: &str) -> Result<Ran, Fail> {
     let mut world = World::new(alloc, header(alloc, declared)?)?;
@@ -109,15 +134,8 @@ fn run(alloc: Global, declared: Declared, lines: &str) -> Result<Ran, Fail> {
             return Err(Fail::from("too many lines"));
         }
         number += 1;
-        let line = read_line(text.as_bytes(), 1, 1)?;
-        if line.who != 1 {
-            return Err(Fail::from("another companion"));
-        }
-        if let Err(fault) = world.line(number, line, &mut out) {
-            refused = Some(Refused {
-                line: number,
-                fault,
-            });
+        refused = carry_out(&mut world, number, text, &mut out)?;
+        if refused.is_some() {
             break;
         }
     }
