@@ -560,9 +560,30 @@ fn many_lines(alloc: Global, count: u32) -> Result<(String, String), AllocError>
     let mut printed = String::new(alloc);
     lines.push_str(FRONT)?;
     for i in 0..u64::from(count) {
-        writeln!(lines, "{} {} {} ask {}", 1600 + i, 5400 + i, 1600 + i, 1600 + i)?;
-        writeln!(lines, "{} {} {} wall {}", 1600 + i, 5400 + i, 1600 + i, 1600 + i)?;
-        writeln!(printed, "{} wall {} {} at {}", 7 + 2 * i, 5197 + i, 5603 + i, 5400 + i)?;
+        writeln!(
+            lines,
+            "{} {} {} ask {}",
+            1600 + i,
+            5400 + i,
+            1600 + i,
+            1600 + i
+        )?;
+        writeln!(
+            lines,
+            "{} {} {} wall {}",
+            1600 + i,
+            5400 + i,
+            1600 + i,
+            1600 + i
+        )?;
+        writeln!(
+            printed,
+            "{} wall {} {} at {}",
+            7 + 2 * i,
+            5197 + i,
+            5603 + i,
+            5400 + i
+        )?;
     }
     Ok((lines, printed))
 }
