@@ -1,0 +1,100 @@
+-- The best of what is kept is the best of all answers added.
+use Rattle.std.proofs.Common.{◌≡◌, ℕ, ◌+◌, ◌-◌, ◌≤◌, arith, refl, ap, sym, subst, ◌∙◌, inl, inr, List, [], ◌∷◌}
+use Rattle.std.specs.Prelude.{◌≤ℤ◌, Some, None, All, Contains, reverse}
+use Rattle.std.proofs.lemmas.Int.{ints}
+use Rattle.std.proofs.lemmas.List.{reverse-reverse}
+use Rattle.std.proofs.lemmas.List.Elements.{All-head, All-tail, All-weaker}
+use Rattle.css_model.specs.declared.TheConstants.{F}
+use Rattle.css_model.specs.WallClock.{Answer, Local, IsLocal, lower, upper, lo, hi}
+use Rattle.css_num.proofs.Rounding.{floor_div-mono, ceil_div-mono}
+use Rattle.css_span.specs.Frontiers.{Answers, IsPossible}
+use Rattle.css_agree.specs.declared.best.Best.{Best}
+use Rattle.css_agree.specs.Bests.{best_of}
+use Rattle.css_agree.specs.Agreements.{HasGreatestLow, HasLeastHigh}
+use Rattle.css_agree.specs.Keeping.{Kept, OfBoth, IsMatched, StandsFor}
+use Rattle.css_agree.proofs.Choices.{IsBeaten, best_of-beats, best_of-low, best_of-high, best_of-none, All-reversed, All-unreversed}
+use Rattle.css_agree.proofs.Standing.{both-later}
+
+-- rounding keeps the order
+lo-mono : (own : Local) (a b : Answer) (r : ℕ) → lower own a r ≤ℤ lower own b r → lo own a r ≤ℤ lo own b r
+unfolding lo
+lo-mono own a b r h = floor_div-mono (lower own a r) (lower own b r) (F + own.error) (omega arith) h
+
+hi-mono : (own : Local) (a b : Answer) (r : ℕ) → IsLocal own → upper own a r ≤ℤ upper own b r → hi own a r ≤ℤ hi own b r
+unfolding hi
+hi-mono own a b r local h = ceil_div-mono (upper own a r) (upper own b r) (F - own.error) (omega arith) h
+
+-- an answer that is matched is no better than the best
+low-matched : (own : Local) (r : ℕ) (best : Best) (xs : List Best) (a : Answer) → All (IsBeaten own r best) xs
+    → IsMatched own xs a → lower own a r ≤ℤ lower own best.low r
+low-matched own r best [] a beaten m = absurd m
+low-matched own r best (x ∷ xs) a beaten (inl here) =
+    let x_beaten : IsBeaten own r best x = All-head (IsBeaten own r best) x xs beaten in
+    omega (arith, ints, here.low r, x_beaten.low)
+low-matched own r best (x ∷ xs) a beaten (inr rest) =
+    low-matched own r best xs a (All-tail (IsBeaten own r best) x xs beaten) rest
+
+high-matched : (own : Local) (r : ℕ) (best : Best) (xs : List Best) (a : Answer) → All (IsBeaten own r best) xs
+    → IsMatched own xs a → upper own best.high r ≤ℤ upper own a r
+high-matched own r best [] a beaten m = absurd m
+high-matched own r best (x ∷ xs) a beaten (inl here) =
+    let x_beaten : IsBeaten own r best x = All-head (IsBeaten own r best) x xs beaten in
+    omega (arith, ints, here.high r, x_beaten.high)
+high-matched own r best (x ∷ xs) a beaten (inr rest) =
+    high-matched own r best xs a (All-tail (IsBeaten own r best) x xs beaten) rest
+
+-- ---- the best of what is kept
+-- what holds of both answers of each that is kept holds of both of the best
+pub best-of_both : (own : Local) (r : ℕ) (P : Answer → Type 0) (xs : List Best) (best : Best) → All (OfBoth P) xs
+    → best_of own r (reverse xs) ≡ Some best → OfBoth P best
+best-of_both own r P xs best h e =
+    let turned : All (OfBoth P) (reverse xs) = All-reversed (OfBoth P) xs h in
+    record {
+      low = best_of-low own r P (reverse xs) best (All-weaker (OfBoth P) (λ b. P b.low) (λ b k. k.low) (reverse xs) turned) e;
+      high = best_of-high own r P (reverse xs) best (All-weaker (OfBoth P) (λ b. P b.high) (λ b k. k.high) (reverse xs) turned) e;
+    }
+
+pub best-possible : (own : Local) (r s : ℕ) (xs : List Best) (best : Best) → IsLocal own → r ≤ s
+    → All (OfBoth (IsPossible own r)) xs → best_of own s (reverse xs) ≡ Some best → OfBoth (IsPossible own s) best
+best-possible own r s xs best local later h e =
+    best-of_both own s (IsPossible own s) xs best (both-later own r s xs local later h) e
+
+pub best-low : (kept : Kept) (r : ℕ) (added : Answers) (best : Best) → StandsFor kept added
+    → best_of kept.local r (reverse kept.bests) ≡ Some best → HasGreatestLow kept.local r added best.low
+best-low kept r added best stands e =
+    let own = kept.local in
+    let beaten : All (IsBeaten own r best) kept.bests =
+    All-unreversed (IsBeaten own r best) kept.bests (best_of-beats own r (reverse kept.bests) best e) in
+    let both : OfBoth (Contains added) best = best-of_both own r (Contains added) kept.bests best stands.from e in
+    record {
+      is_among = both.low;
+      greatest = All-weaker (IsMatched own kept.bests) (λ other. lo own other r ≤ℤ lo own best.low r)
+          (λ other m. lo-mono own other best.low r (low-matched own r best kept.bests other beaten m)) added stands.matched;
+    }
+
+pub best-high : (kept : Kept) (r : ℕ) (added : Answers) (best : Best) → IsLocal kept.local → StandsFor kept added
+    → best_of kept.local r (reverse kept.bests) ≡ Some best → HasLeastHigh kept.local r added best.high
+best-high kept r added best local stands e =
+    let own = kept.local in
+    let beaten : All (IsBeaten own r best) kept.bests =
+    All-unreversed (IsBeaten own r best) kept.bests (best_of-beats own r (reverse kept.bests) best e) in
+    let both : OfBoth (Contains added) best = best-of_both own r (Contains added) kept.bests best stands.from e in
+    record {
+      is_among = both.high;
+      least = All-weaker (IsMatched own kept.bests) (λ other. hi own best.high r ≤ℤ hi own other r)
+          (λ other m. hi-mono own best.high other r local (high-matched own r best kept.bests other beaten m))
+          added stands.matched;
+    }
+
+-- where nothing is kept, nothing was added
+nothing_matched : (own : Local) (added : Answers) → All (IsMatched own []) added → added ≡ []
+nothing_matched own [] h = refl
+nothing_matched own (a ∷ added) h = absurd (All-head (IsMatched own []) a added h)
+
+pub nothing-added : (kept : Kept) (r : ℕ) (added : Answers) → StandsFor kept added
+    → best_of kept.local r (reverse kept.bests) ≡ None → added ≡ []
+nothing-added kept r added stands e =
+    let turned : reverse kept.bests ≡ [] = best_of-none kept.local r (reverse kept.bests) e in
+    let empty : kept.bests ≡ [] = sym (reverse-reverse kept.bests) ∙ ap reverse turned in
+    nothing_matched kept.local added
+    (subst (λ (xs : List Best). All (IsMatched kept.local xs) added) empty stands.matched)

@@ -1,0 +1,104 @@
+ghost use Rattle.std.specs.Prelude.{◌≡◌, ◌≤◌, ◌<◌, ◌*◌, [], length, OnOk, OnErr};
+ghost use Rattle.css_num.specs.Gives.{GivesBy};
+ghost use Rattle.css_span.specs.Frontiers.{Answers, error_count};
+ghost use Rattle.css_agree.specs.Agreements.{AgreesAt, TellsTruth};
+ghost use Rattle.css_agree.specs.Keeping.{StandsFor, Adds};
+ghost use Rattle.css_agree.specs.Verdicts.{verdict};
+
+use crate::agreed::Agreed;
+use crate::best::{Best, best_of_all, keep};
+use crate::fault::AgreeFault;
+use css_model::LIMIT;
+use css_span::{Answer, Local, Span, scaled_width, span};
+use std::alloc::Global;
+use std::marker::Model;
+
+/// What all answers that were added say together of the television's wall clock.
+///
+/// Of each declared error it keeps two answers at most, the best at each end of the span. Contracts see the companion's
+/// own clock, what is kept, and the least reading that may be handed next.
+#[derive(Debug, Drop)]
+pub struct Agree {
+    local: Local,
+    kept: Vec<Best>,
+    floor: u64,
+}
+
+impl Model for Agree {
+    ghost use Rattle.css_agree.specs.Keeping.{Kept, IsKept};
+
+    ghost Value = { Kept };
+
+    ghost view = { λ a. record { local = a.local; bests = a.kept.items; floor = a.floor } };
+
+    ghost invariant = { λ a. IsKept (record { local = a.local; bests = a.kept.items; floor = a.floor }) };
+}
+
+impl Agree {
+    /// The agreement of no answers yet, for a companion with this clock.
+    pub fn new(alloc: Global, local: Local) -> Agree
+        ensures value { result ≡ record { local = local; bests = []; floor = 0 } }
+        ensures stands { StandsFor result [] }
+    {
+        Agree {
+            local,
+            kept: Vec::new(alloc),
+            floor: 0,
+        }
+    }
+
+    /// Adds an answer at a reading that isn't below that of the last answer added.
+    ///
+    /// It is `Impossible`, with its scaled width at the reading, exactly where this is below zero. After a refusal the
+    /// agreement is as it was. The work grows with the number of declared errors alone.
+    pub fn add(&mut self, answer: Answer, reading: u64) -> Result<(), AgreeFault>
+        requires range { reading < LIMIT }
+        requires floor { self.old.floor ≤ reading }
+        ensures verdict { GivesBy (λ done. done) AgreeFault.Memory result (verdict self.old.local reading answer) }
+        ensures ok { OnOk result (Adds self.old self.new answer reading) }
+        ensures err { OnErr result (self.new ≡ self.old) }
+
+        // Whatever the answer, this reading may be handed next.
+        ensures next { self.new.floor ≤ reading }
+    {
+        let width = scaled_width(&answer, &self.local, reading);
+        if width < 0 {
+            return Err(AgreeFault::Impossible(width));
+        }
+        keep(&mut self.kept, &self.local, answer, reading)?;
+        self.floor = reading;
+        Ok(())
+    }
+
+    /// What the answers say at a reading that isn't below that of the last answer added: the span from the greatest
+    /// lower end of their spans at the reading to the least upper end. Where these are out of order, it names an answer
+    /// that has the one and an answer that has the other.
+    pub fn at(&self, reading: u64) -> Agreed
+        requires range { reading < LIMIT }
+        requires floor { self.now.floor ≤ reading }
+        ensures agrees { (added : Answers) → StandsFor self.now added → AgreesAt self.now.local reading added result }
+        ensures truth { (added : Answers) → StandsFor self.now added → TellsTruth self.now.local reading added result }
+    {
+        let Some(best) = best_of_all(&self.kept, &self.local, reading) else {
+            return Agreed::Nothing;
+        };
+        let lo = span(&best.low, &self.local, reading).lo;
+        let hi = span(&best.high, &self.local, reading).hi;
+        if lo <= hi {
+            Agreed::Within(Span { lo, hi })
+        } else {
+            Agreed::Disagree {
+                low: best.low,
+                high: best.high,
+            }
+        }
+    }
+
+    /// How many answers are kept: two for each different error that the answers declare.
+    pub fn kept(&self) -> usize
+        ensures count { result ≡ 2 * length self.now.bests }
+        ensures errors { (added : Answers) → StandsFor self.now added → result ≡ 2 * error_count added }
+    {
+        2 * self.kept.len()
+    }
+}

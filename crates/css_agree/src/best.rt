@@ -1,0 +1,76 @@
+ghost use Rattle.std.specs.Prelude.{◌≡◌, ◌≢◌, ◌==◌, ◌<◌, reverse, position, All, IfNone, OnOk, OnErr};
+ghost use Rattle.css_model.specs.WallClock.{IsAnswer};
+ghost use Rattle.css_agree.specs.Bests as bests;
+
+use crate::ends::{lower_end, upper_end};
+use css_model::LIMIT;
+use css_num::Memory;
+use css_span::{Answer, Local};
+
+/// The best of some answers at each end of the span: both may be the same answer.
+#[derive(Clone, Copy, Debug)]
+pub(crate) struct Best {
+    /// The answer whose lower end, before it is rounded, is greatest.
+    pub(crate) low: Answer,
+    /// The answer whose upper end, before it is rounded, is least.
+    pub(crate) high: Answer,
+}
+
+/// The better answer of the two at each end; of equals the first.
+fn better(first: &Best, second: &Best, local: &Local, reading: u64) -> Best
+    requires { reading < LIMIT }
+    ensures { result ≡ bests.better_of local.now reading first.now second.now }
+{
+    let is_higher = lower_end(&first.low, local, reading) < lower_end(&second.low, local, reading);
+    let is_lower = upper_end(&second.high, local, reading) < upper_end(&first.high, local, reading);
+    Best {
+        low: if is_higher { second.low } else { first.low },
+        high: if is_lower { second.high } else { first.high },
+    }
+}
+
+/// The best at the reading of all that are kept, whatever errors they declare.
+pub(crate) fn best_of_all(kept: &[Best], local: &Local, reading: u64) -> Option<Best>
+    requires { reading < LIMIT }
+    ensures { result ≡ bests.best_of local.now reading (reverse kept.now) }
+{
+    let mut found: Option<Best> = None;
+    for best in kept {
+        found = Some(match &found {
+            None => *best,
+            Some(found) => better(found, best, local, reading),
+        });
+    }
+    found
+}
+
+/// Takes an answer in: of those of its declared error the best at each end are kept. The ends of answers of one error
+/// move alike, so none that is dropped would be the best later.
+pub(crate) fn keep(
+    kept: &mut Vec<Best>,
+    local: &Local,
+    answer: Answer,
+    reading: u64,
+) -> Result<(), Memory>
+    requires { reading < LIMIT }
+    ensures ok { OnOk result (kept.new.items ≡ bests.kept_with local.now reading answer kept.old.items) }
+    ensures err { OnErr result (kept.new.items ≡ kept.old.items) }
+    ensures ranges { IsAnswer answer }
+{
+    let alone = Best {
+        low: answer,
+        high: answer,
+    };
+    match place_of(kept, answer.error) {
+        None => kept.push(alone)?,
+        Some(place) => kept[place] = better(&kept[place], &alone, local, reading),
+    }
+    Ok(())
+}
+
+fn place_of(kept: &[Best], error: u32) -> Option<usize>
+    ensures first { result ≡ position (λ best. best.low.error == error) kept.now }
+    ensures none { IfNone result (All (λ best. best.low.error ≢ error) kept.now) }
+{
+    kept.iter().position(|best| best.low.error == error)
+}

@@ -1,0 +1,21 @@
+//! What is proved of answers and worlds alone, with no program. Each law is the contract of a function that does nothing.
+
+ghost use Rattle.css_agree.specs.Agreements.{AgreementIsTrue, ContradictionIsFalse};
+ghost use Rattle.css_agree.specs.Bests.{EndsMoveAlike};
+
+/// The ends of two answers of one declared error, before they are rounded, move alike: which answer has the greater
+/// lower end, and which has the lesser upper end, is the same at every reading.
+pub fn ends_move_alike()
+    ensures { EndsMoveAlike }
+{}
+
+/// In each world that keeps the oscillators' errors and in which all answers are truthful, the span that they share
+/// contains the television's wall clock.
+pub fn agreement_is_true()
+    ensures { AgreementIsTrue }
+{}
+
+/// Where the answers share no span, no world that keeps the oscillators' errors makes the two named ones truthful.
+pub fn contradiction_is_false()
+    ensures { ContradictionIsFalse }
+{}
