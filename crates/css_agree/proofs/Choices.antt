@@ -73,7 +73,10 @@ beaten-itself : (own : Local) (r : ℕ) (a : Best) → IsBeaten own r a a
 beaten-itself own r a = record { low = omega (arith, ints); high = omega (arith, ints) }
 
 beaten-through : (own : Local) (r : ℕ) (a b c : Best) → IsBeaten own r a b → IsBeaten own r b c → IsBeaten own r a c
-beaten-through own r a b c h k = record { low = omega (arith, ints, h.low, k.low); high = omega (arith, ints, h.high, k.high) }
+beaten-through own r a b c h k = record {
+  low = omega (arith, ints, h.low, k.low);
+  high = omega (arith, ints, h.high, k.high);
+}
 
 -- there is a best of any
 pub best_of-none : (own : Local) (r : ℕ) (xs : List Best) → best_of own r xs ≡ None → xs ≡ []
@@ -143,7 +146,8 @@ best_of-high own r P (x ∷ xs) best h e =
 pub All-reversed : {A : Type 0} (P : A → Type 0) (xs : List A) → All P xs → All P (reverse xs)
 All-reversed P [] h = h
 All-reversed P (x ∷ xs) h =
-    rw (reverse-append (x ∷ []) xs) (All-push P (reverse xs) x (All-reversed P xs (All-tail P x xs h)) (All-head P x xs h))
+    rw (reverse-append (x ∷ []) xs)
+    (All-push P (reverse xs) x (All-reversed P xs (All-tail P x xs h)) (All-head P x xs h))
 
 pub All-unreversed : {A : Type 0} (P : A → Type 0) (xs : List A) → All P (reverse xs) → All P xs
 All-unreversed P xs h = rw reverse-reverse at (All-reversed P (reverse xs) h)

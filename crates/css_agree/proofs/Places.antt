@@ -1,5 +1,6 @@
 -- What is kept with one more answer, by the place of the one of its declared error.
-use Rattle.std.proofs.Common.{◌≡◌, ◌≢◌, ℕ, zero, suc, ◌<◌, arith, refl, ap, true, false, List, [], ◌∷◌, ◌++◌, length, get_or}
+use Rattle.std.proofs.Common.{◌≡◌, ◌≢◌, ℕ, zero, suc, ◌<◌, arith, refl, ap, true, false}
+use Rattle.std.proofs.Common.{List, [], ◌∷◌, ◌++◌, length, get_or}
 use Rattle.std.specs.Prelude.{◌==◌, All}
 use Rattle.std.proofs.Math.ListN.{set}
 use Rattle.std.proofs.lemmas.Bool.{ne_eqb}

@@ -1,18 +1,21 @@
 -- The best of what is kept is the best of all answers added.
 use Rattle.std.proofs.Common.{◌≡◌, ℕ, ◌+◌, ◌-◌, ◌≤◌, arith, refl, ap, sym, subst, ◌∙◌, inl, inr, List, [], ◌∷◌}
-use Rattle.std.specs.Prelude.{◌≤ℤ◌, Some, None, All, Contains, reverse}
+use Rattle.std.specs.Prelude.{◌≤ℤ◌, Option, Some, None, All, Contains, reverse}
 use Rattle.std.proofs.lemmas.Int.{ints}
 use Rattle.std.proofs.lemmas.List.{reverse-reverse}
 use Rattle.std.proofs.lemmas.List.Elements.{All-head, All-tail, All-weaker}
 use Rattle.css_model.specs.declared.TheConstants.{F}
 use Rattle.css_model.specs.WallClock.{Answer, Local, IsLocal, lower, upper, lo, hi}
 use Rattle.css_num.proofs.Rounding.{floor_div-mono, ceil_div-mono}
+use Rattle.css_num.specs.Spans.{Interval}
+use Rattle.css_span.specs.WallSpans.{span_of}
 use Rattle.css_span.specs.Frontiers.{Answers, IsPossible}
 use Rattle.css_agree.specs.declared.best.Best.{Best}
 use Rattle.css_agree.specs.Bests.{best_of}
 use Rattle.css_agree.specs.Agreements.{HasGreatestLow, HasLeastHigh}
-use Rattle.css_agree.specs.Keeping.{Kept, OfBoth, IsMatched, StandsFor}
-use Rattle.css_agree.proofs.Choices.{IsBeaten, best_of-beats, best_of-low, best_of-high, best_of-none, All-reversed, All-unreversed}
+use Rattle.css_agree.specs.Keeping.{Kept, IsKept, OfBoth, IsMatched, StandsFor}
+use Rattle.css_agree.proofs.Choices.{IsBeaten, best_of-beats, best_of-low, best_of-high, best_of-none}
+use Rattle.css_agree.proofs.Choices.{All-reversed, All-unreversed}
 use Rattle.css_agree.proofs.Standing.{both-later}
 
 -- rounding keeps the order
@@ -50,8 +53,10 @@ pub best-of_both : (own : Local) (r : ℕ) (P : Answer → Type 0) (xs : List Be
 best-of_both own r P xs best h e =
     let turned : All (OfBoth P) (reverse xs) = All-reversed (OfBoth P) xs h in
     record {
-      low = best_of-low own r P (reverse xs) best (All-weaker (OfBoth P) (λ b. P b.low) (λ b k. k.low) (reverse xs) turned) e;
-      high = best_of-high own r P (reverse xs) best (All-weaker (OfBoth P) (λ b. P b.high) (λ b k. k.high) (reverse xs) turned) e;
+      low = best_of-low own r P (reverse xs) best
+          (All-weaker (OfBoth P) (λ b. P b.low) (λ b k. k.low) (reverse xs) turned) e;
+      high = best_of-high own r P (reverse xs) best
+          (All-weaker (OfBoth P) (λ b. P b.high) (λ b k. k.high) (reverse xs) turned) e;
     }
 
 pub best-possible : (own : Local) (r s : ℕ) (xs : List Best) (best : Best) → IsLocal own → r ≤ s
@@ -69,7 +74,8 @@ best-low kept r added best stands e =
     record {
       is_among = both.low;
       greatest = All-weaker (IsMatched own kept.bests) (λ other. lo own other r ≤ℤ lo own best.low r)
-          (λ other m. lo-mono own other best.low r (low-matched own r best kept.bests other beaten m)) added stands.matched;
+          (λ other m. lo-mono own other best.low r (low-matched own r best kept.bests other beaten m))
+          added stands.matched;
     }
 
 pub best-high : (kept : Kept) (r : ℕ) (added : Answers) (best : Best) → IsLocal kept.local → StandsFor kept added
@@ -98,3 +104,30 @@ nothing-added kept r added stands e =
     let empty : kept.bests ≡ [] = sym (reverse-reverse kept.bests) ∙ ap reverse turned in
     nothing_matched kept.local added
     (subst (λ (xs : List Best). All (IsMatched kept.local xs) added) empty stands.matched)
+
+-- ---- from the fields of the code to what contracts see of them
+-- what was found of the items is the best of what is kept
+pub found-is : (r : ℕ) (inside now : Kept) (ys : List Best) (found : Option Best) → inside ≡ now → ys ≡ inside.bests
+    → found ≡ best_of inside.local r (reverse ys) → best_of now.local r (reverse now.bests) ≡ found
+found-is r inside now ys found same items e =
+    sym (e ∙ ap (λ (xs : List Best). best_of inside.local r (reverse xs)) items
+    ∙ ap (λ (k : Kept). best_of k.local r (reverse k.bests)) same)
+
+-- the best is still possible
+pub found-possible : (r : ℕ) (inside now : Kept) (best : Best) → inside ≡ now → IsKept inside → now.floor ≤ r
+    → best_of now.local r (reverse now.bests) ≡ Some best → OfBoth (IsPossible inside.local r) best
+found-possible r inside now best same held later found =
+    best-possible inside.local inside.floor r inside.bests best held.local
+    (subst (λ (k : Kept). k.floor ≤ r) (sym same) later) held.possible
+    (subst (λ (k : Kept). best_of k.local r (reverse k.bests) ≡ Some best) (sym same) found)
+
+-- the lower end and the upper end of a span that was computed
+pub low-is : (r : ℕ) (inside now : Kept) (a : Answer) (held computed : Interval) → inside ≡ now → held ≡ computed
+    → computed ≡ span_of inside.local r a → held.lo ≡ lo now.local a r
+low-is r inside now a held computed same h e =
+    ap (λ (s : Interval). s.lo) (h ∙ e) ∙ ap (λ (k : Kept). lo k.local a r) same
+
+pub high-is : (r : ℕ) (inside now : Kept) (a : Answer) (held computed : Interval) → inside ≡ now → held ≡ computed
+    → computed ≡ span_of inside.local r a → held.hi ≡ hi now.local a r
+high-is r inside now a held computed same h e =
+    ap (λ (s : Interval). s.hi) (h ∙ e) ∙ ap (λ (k : Kept). hi k.local a r) same

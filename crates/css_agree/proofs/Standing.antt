@@ -1,5 +1,6 @@
 -- What stands for the answers added goes on standing for them with one more.
-use Rattle.std.proofs.Common.{◌≡◌, ℕ, suc, ◌≤◌, arith, refl, ap, sym, ◌∙◌, inl, inr, Bool, true, false, List, [], ◌∷◌, length}
+use Rattle.std.proofs.Common.{◌≡◌, ℕ, suc, ◌≤◌, arith, refl, ap, sym, ◌∙◌, inl, inr, Bool, true, false}
+use Rattle.std.proofs.Common.{List, [], ◌∷◌, length}
 use Rattle.std.specs.Prelude.{◌==◌, ◌||◌, ◌≤ℤ◌, if◌then◌else◌, All, Contains}
 use Rattle.std.proofs.lemmas.Int.{ints}
 use Rattle.std.proofs.lemmas.Bool.{eqb-true}
@@ -12,7 +13,8 @@ use Rattle.css_agree.specs.declared.best.Best.{Best}
 use Rattle.css_agree.specs.Bests.{better_of, alone, kept_with}
 use Rattle.css_agree.specs.Keeping.{OfBoth, DeclareOne, IsNoWorse, IsMatched, keeps, StandsFor}
 use Rattle.css_agree.proofs.Alike.{ends_move_alike}
-use Rattle.css_agree.proofs.Choices.{higher-of_both, higher-first, higher-second, lesser-of_both, lesser-first, lesser-second}
+use Rattle.css_agree.proofs.Choices.{higher-of_both, higher-first, higher-second}
+use Rattle.css_agree.proofs.Choices.{lesser-of_both, lesser-first, lesser-second}
 
 -- ---- what holds of each answer that is kept, and of the new one, goes on holding of each that is kept
 pub of_both-with : (own : Local) (r : ℕ) (P : Answer → Type 0) (a : Answer) (xs : List Best) → P a → All (OfBoth P) xs
@@ -44,7 +46,8 @@ high_error : (own : Local) (r : ℕ) (x : Best) (a : Answer) → x.high.error �
     → (better_of own r x (alone a)).high.error ≡ a.error
 high_error own r x a same = lesser-of_both own r (λ b. b.error ≡ a.error) x.high a same refl
 
-pub of_one-with : (own : Local) (r : ℕ) (a : Answer) (xs : List Best) → All DeclareOne xs → All DeclareOne (kept_with own r a xs)
+pub of_one-with : (own : Local) (r : ℕ) (a : Answer) (xs : List Best) → All DeclareOne xs
+    → All DeclareOne (kept_with own r a xs)
 of_one-with own r a [] h = All-cons DeclareOne (alone a) [] refl (All-nil DeclareOne)
 of_one-with own r a (x ∷ xs) h = by (x.low.error == a.error) refl (of_one-with own r a xs (All-tail DeclareOne x xs h))
   where
@@ -159,7 +162,8 @@ matched-with own r a b (x ∷ xs) h = by (x.low.error == a.error) refl (matched-
 pub matched-new : (own : Local) (r : ℕ) (a : Answer) (xs : List Best) → All DeclareOne xs
     → IsMatched own (kept_with own r a xs) a
 matched-new own r a [] one = inl (no_worse-alone own a)
-matched-new own r a (x ∷ xs) one = by (x.low.error == a.error) refl (matched-new own r a xs (All-tail DeclareOne x xs one))
+matched-new own r a (x ∷ xs) one =
+    by (x.low.error == a.error) refl (matched-new own r a xs (All-tail DeclareOne x xs one))
   where
     by : (t : Bool) → (x.low.error == a.error) ≡ t → IsMatched own (kept_with own r a xs) a
         → IsMatched own (if t then better_of own r x (alone a) ∷ xs else x ∷ kept_with own r a xs) a
@@ -193,7 +197,8 @@ stands-with own r s a xs added local later possible stands =
       count = length-with own s a xs
           ∙ ap (λ t. if t then length xs else suc (length xs)) (stands.errors a.error)
           ∙ ap (λ n. if declares a.error added then n else suc n) stands.count;
-      possible = All-cons (IsPossible own s) a added possible (possible-later own r s added local later stands.possible);
+      possible = All-cons (IsPossible own s) a added possible
+          (possible-later own r s added local later stands.possible);
     }
 
 -- what is kept stays possible
@@ -205,7 +210,10 @@ pub both-later : (own : Local) (r s : ℕ) (xs : List Best) → IsLocal own → 
     → All (OfBoth (IsPossible own s)) xs
 both-later own r s xs local later =
     All-weaker (OfBoth (IsPossible own r)) (OfBoth (IsPossible own s))
-    (λ b h. record { low = one-later own r s b.low local later h.low; high = one-later own r s b.high local later h.high })
+    (λ b h. record {
+      low = one-later own r s b.low local later h.low;
+      high = one-later own r s b.high local later h.high;
+    })
     xs
 
 pub possible-with : (own : Local) (r s : ℕ) (a : Answer) (xs : List Best) → IsLocal own → r ≤ s → IsPossible own s a

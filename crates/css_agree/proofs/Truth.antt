@@ -16,8 +16,8 @@ contains : (errors : Errors) (world : World) (who : ℕ) (own : Local) (sleeps i
     → IsWorldFor errors world who own → Reads world who i own.precision reading sleeps → answer.error ≤ max_error
     → IsTruthful errors world who own sleeps i answer → truth.Contains own answer reading (world i).wall
 contains errors world who own sleeps i reading answer for reads most told =
-    spans_are_true errors world who own answer told.exchange sleeps i reading for told.declared most told.timed told.landed
-    reads
+    spans_are_true errors world who own answer told.exchange sleeps i reading
+    for told.declared most told.timed told.landed reads
 
 pub agreement_is_true : AgreementIsTrue
 agreement_is_true own reading added span most shared errors world who sleeps i for reads told =
@@ -38,16 +38,17 @@ agreement_is_true own reading added span most shared errors world who sleeps i f
     }
 
 pub contradiction_is_false : ContradictionIsFalse
-contradiction_is_false own reading added low high most contradict errors world who sleeps i for reads low_told high_told =
+contradiction_is_false own reading added low high most apart errors world who sleeps i for reads low_told high_told =
     let low_contains : truth.Contains own low reading (world i).wall =
     contains errors world who own sleeps i reading low for reads
-    (All-contains (λ a. a.error ≤ max_error) added low most contradict.greatest_low.is_among) low_told in
+    (All-contains (λ a. a.error ≤ max_error) added low most apart.greatest_low.is_among) low_told in
     let high_contains : truth.Contains own high reading (world i).wall =
     contains errors world who own sleeps i reading high for reads
-    (All-contains (λ a. a.error ≤ max_error) added high most contradict.least_high.is_among) high_told in
-    omega (arith, ints, low_contains.low, high_contains.high, contradict.apart)
+    (All-contains (λ a. a.error ≤ max_error) added high most apart.least_high.is_among) high_told in
+    omega (arith, ints, low_contains.low, high_contains.high, apart.apart)
 
 -- what was added is in range
 pub added-in_range : (kept : Kept) (added : Answers) → StandsFor kept added → DeclareInRange added
 added-in_range kept added stands =
-    All-weaker (IsPossible kept.local kept.floor) (λ a. a.error ≤ max_error) (λ a h. h.ranges.error) added stands.possible
+    All-weaker (IsPossible kept.local kept.floor) (λ a. a.error ≤ max_error) (λ a h. h.ranges.error)
+    added stands.possible

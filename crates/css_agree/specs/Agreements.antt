@@ -19,6 +19,11 @@ pub record HasLeastHigh (own : Local) (reading : ℕ) (added : Answers) (answer 
   pub is_among : Contains added answer
   pub least : All (λ other. hi own answer reading ≤ℤ hi own other reading) added
 
+-- the span lies in the answer's span at the reading
+pub record LiesIn (own : Local) (reading : ℕ) (span : Interval) (answer : Answer) : Type 0 where
+  pub low : lo own answer reading ≤ℤ span.lo
+  pub high : span.hi ≤ℤ hi own answer reading
+
 -- The span goes from the greatest lower end to the least upper end. So it lies in the span of each answer added.
 pub record IsShared (own : Local) (reading : ℕ) (added : Answers) (span : Interval) : Type 0 where
   pub low : Answer
@@ -28,6 +33,7 @@ pub record IsShared (own : Local) (reading : ℕ) (added : Answers) (span : Inte
   pub lower_end : span.lo ≡ lo own low reading
   pub upper_end : span.hi ≡ hi own high reading
   pub ordered : span.lo ≤ℤ span.hi
+  pub lies_in_each : All (LiesIn own reading span) added
 
 -- the greatest lower end is that of `low`, the least upper end is that of `high`, and the first is above the second
 pub record Contradict (own : Local) (reading : ℕ) (added : Answers) (low high : Answer) : Type 0 where
@@ -43,8 +49,9 @@ AgreesAt own reading added (Disagree low high) = Contradict own reading added lo
 
 -- ---- truth
 -- At moment i of the world companion `who`, which has slept so often, reads its clock. The answer tells of an exchange
--- of the world that landed before, with no sleep since its request, and it declares no less than the television's error.
-pub record IsTruthful (errors : Errors) (world : World) (who : ℕ) (own : Local) (sleeps i : ℕ) (answer : Answer) : Type 0 where
+-- of the world that landed before, with no sleep since its request. It declares no less than the television's error.
+pub record IsTruthful (errors : Errors) (world : World) (who : ℕ) (own : Local) (sleeps i : ℕ) (answer : Answer)
+    : Type 0 where
   pub exchange : Exchange
   pub timed : IsTimed world who own answer exchange sleeps
   pub landed : exchange.landed ≤ i

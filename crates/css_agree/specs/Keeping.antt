@@ -1,5 +1,6 @@
 -- What is kept of the answers that were added. In each list of answers the newest stands first.
-use Rattle.std.specs.Prelude.{ℕ, ◌≡◌, ◌<◌, ◌*◌, ◌^◌, ◌⊎◌, ◌≤ℤ◌, List, [], ◌∷◌, length, Bool, false, ◌==◌, ◌||◌, All, Contains}
+use Rattle.std.specs.Prelude.{ℕ, ◌≡◌, ◌<◌, ◌*◌, ◌^◌, ◌⊎◌, ◌≤ℤ◌, Bool, false, ◌==◌, ◌||◌}
+use Rattle.std.specs.Prelude.{List, [], ◌∷◌, length, All, Contains}
 use Rattle.css_model.specs.Wire.{second}
 use Rattle.css_model.specs.WallClock.{Answer, Local, IsLocal, lower, upper}
 use Rattle.css_span.specs.Frontiers.{Answers, IsPossible, declares, error_count}
@@ -26,8 +27,8 @@ pub record IsKept (kept : Kept) : Type 0 where
   pub floor : kept.floor < 2 ^ 32 * second
   pub possible : All (OfBoth (IsPossible kept.local kept.floor)) kept.bests
 
--- Both declare the answer's error. At every reading the lower end of the one isn't below the answer's, and the upper end
--- of the other isn't above it, before they are rounded.
+-- Both declare the answer's error. At every reading the lower end of the one isn't below the answer's, and the upper
+-- end of the other isn't above it, before they are rounded.
 pub record IsNoWorse (own : Local) (answer : Answer) (best : Best) : Type 0 where
   pub same_low : best.low.error ≡ answer.error
   pub same_high : best.high.error ≡ answer.error
@@ -44,8 +45,8 @@ abbrev pub keeps : ℕ → List Best → Bool
 keeps error [] = false
 keeps error (best ∷ bests) = (best.low.error == error) || keeps error bests
 
--- What is kept stands for the answers added: each kept one was added; for each answer added one of the kept is no worse;
--- there are as many kept as different errors are declared, and the same ones; and each answer added was possible.
+-- What is kept stands for the answers added: each kept answer was added; for each answer added one of the kept is no
+-- worse; the same errors are declared, and by one of the kept each; and each answer added was possible.
 pub record StandsFor (kept : Kept) (added : Answers) : Type 0 where
   pub from : All (OfBoth (Contains added)) kept.bests
   pub same : All DeclareOne kept.bests

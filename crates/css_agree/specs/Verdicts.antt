@@ -7,4 +7,5 @@ use Rattle.css_agree.specs.declared.fault.AgreeFault.TheVariants.{Impossible}
 -- it is impossible where its scaled width at the reading is below zero
 abbrev pub verdict : Local → ℕ → Answer → Result (Unit {0}) AgreeFault
 verdict own reading answer =
-    if int_lt (scaled_width own answer reading) (pos 0) then Err (Impossible (scaled_width own answer reading)) else Ok tt
+    let width = scaled_width own answer reading in
+    if int_lt width (pos 0) then Err (Impossible width) else Ok tt

@@ -7,7 +7,7 @@ pub enum Agreed {
     Nothing,
     /// The spans of all answers share this one, in nanoseconds of the television's wall clock.
     Within(Span),
-    /// The spans share nothing, and these two answers already don't: the span of `low` begins after that of `high` ends.
+    /// The spans share nothing, nor do those of these two answers: the span of `low` begins after that of `high` ends.
     Disagree {
         /// The answer whose span has the greatest lower end.
         low: Answer,

@@ -1,4 +1,5 @@
-//! What is proved of answers and worlds alone, with no program. Each law is the contract of a function that does nothing.
+//! What is proved of answers and worlds alone, with no program. Each law is the contract of a function that does
+//! nothing.
 
 ghost use Rattle.css_agree.specs.Agreements.{AgreementIsTrue, ContradictionIsFalse};
 ghost use Rattle.css_agree.specs.Bests.{EndsMoveAlike};

@@ -21,7 +21,10 @@ returns-in-Some-clause-ok c =
     let kept = c.args.kept.now.items in
     let b = c.index.result.now in
     let place = rw (c.deref.ensures.value, ap (λ (a : Answer). a.error) c.answer.view_is) at c.in-Some.ensures.first in
-    let first = position-Some (λ (best : Best). best.low.error == c.args.answer.error) kept c.in-Some.place b (sym place) in
-    let replaced = kept_with-at c.args.local.now c.args.reading c.args.answer kept c.in-Some.place b first.0 first.2 first.1 in
-    let better = c.better.ensures ∙ ap (λ (best : Best). bests.better_of c.args.local.now c.args.reading best (bests.alone c.args.answer)) c.index.ensures in
+    let own = c.args.local.now in
+    let r = c.args.reading in
+    let a = c.args.answer in
+    let first = position-Some (λ (best : Best). best.low.error == a.error) kept c.in-Some.place b (sym place) in
+    let replaced = kept_with-at own r a kept c.in-Some.place b first.0 first.2 first.1 in
+    let better = c.better.ensures ∙ ap (λ (best : Best). bests.better_of own r best (bests.alone a)) c.index.ensures in
     ap (λ (best : Best). set kept c.in-Some.place best) better ∙ sym replaced
