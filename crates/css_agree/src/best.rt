@@ -7,7 +7,7 @@ use css_model::LIMIT;
 use css_num::Memory;
 use css_span::{Answer, Local};
 
-/// The best of some answers at each end of the span: both may be the same answer.
+/// The best of some answers at each end of the span. One answer may be both.
 #[derive(Clone, Copy, Debug)]
 pub(crate) struct Best {
     /// The answer whose lower end, before it is rounded, is greatest.
@@ -55,6 +55,8 @@ pub(crate) fn keep(
     requires { reading < LIMIT }
     ensures ok { OnOk result (kept.new.items ≡ bests.kept_with local.now reading answer kept.old.items) }
     ensures err { OnErr result (kept.new.items ≡ kept.old.items) }
+
+    // The caller never reads the answer's fields, so it learns of their ranges here.
     ensures ranges { IsAnswer answer }
 {
     let alone = Best {

@@ -1,15 +1,14 @@
 -- The best of what is kept is the best of all answers added, and it is still possible.
 use Rattle.std.proofs.Common.{◌≡◌, subst, arith}
-use Rattle.std.specs.Prelude.{Some, reverse}
+use Rattle.std.specs.Prelude.{Some}
 use Rattle.std.proofs.lemmas.Int.{ints}
 use mir.Syntax.{w128}
 use mir.Val.{to_z, of_z}
 use Rattle.css_num.specs.Spans.{Interval}
 use Rattle.css_model.specs.WallClock.{IsLocal, lo, hi}
-use Rattle.css_span.specs.Frontiers.{Answers, IsPossible}
-use Rattle.css_agree.specs.Bests.{best_of}
+use Rattle.css_span.specs.Frontiers.{Answers}
 use Rattle.css_agree.specs.Agreements.{HasGreatestLow, HasLeastHigh, IsShared, Contradict}
-use Rattle.css_agree.specs.Keeping.{Kept, OfBoth, StandsFor}
+use Rattle.css_agree.specs.Keeping.{Kept, StandsFor}
 use Rattle.css_agree.proofs.Shared.{best-low, best-high, nothing-added, found-is, found-possible, low-is, high-is}
 use Rattle.css_agree.proofs.Truth.{agreement_is_true, contradiction_is_false, added-in_range}
 use Rattle.css_agree.proofs.agree.Agree.at.Goals as goal
