@@ -8,7 +8,7 @@ use Rattle.css_outside.specs.declared.fault.OutFault.TheVariants as fault
 use Rattle.css_outside.specs.declared.fault.OutFault.{OutFault}
 use Rattle.css_outside.specs.declared.fault.Failed as plain
 use Rattle.css_outside.specs.Bytes.{AppendsPrefix}
-use Rattle.css_outside.specs.Faults.{CountsReadFaults, CountsWriteFaults}
+use Rattle.css_outside.specs.Faults.{CountsReadFaults, CountsCall}
 
 -- nothing was appended
 pub appends_none : (a : Option (List ℕ)) → Appends a a []
@@ -73,7 +73,7 @@ read_faults_never_fall before now (Ok answer) counted = omega (arith, counted)
 read_faults_never_fall before now (Err failed) counted = counted.kept
 
 -- nor does that of a sink's
-pub write_faults_never_fall : {T : Type 0} (before now : ℕ) (result : Result T OutFault) → CountsWriteFaults before now result → before ≤ now
+pub write_faults_never_fall : {T : Type 0} (before now : ℕ) (result : Result T OutFault) → CountsCall before now result → before ≤ now
 write_faults_never_fall before now (Ok answer) counted = omega (arith, counted)
 write_faults_never_fall before now (Err fault.Failed) counted = counted.kept
 write_faults_never_fall before now (Err fault.Memory) counted = omega (arith, counted)

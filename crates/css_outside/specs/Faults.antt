@@ -18,6 +18,6 @@ abbrev pub CountsOutFault : ℕ → ℕ → OutFault → Type 0
 CountsOutFault before now Failed = HasRisen before now
 CountsOutFault before now Memory = now ≡ before
 
--- a write that succeeds leaves the count as it was, and so does want of memory; one that fails has it risen
-abbrev pub CountsWriteFaults : {T : Type 0} → ℕ → ℕ → Result T OutFault → Type 0
-CountsWriteFaults before now result = MatchResult result (λ _. now ≡ before) (CountsOutFault before now)
+-- a call that succeeds leaves the count as it was, and so does want of memory; one that fails has it risen
+abbrev pub CountsCall : {T : Type 0} → ℕ → ℕ → Result T OutFault → Type 0
+CountsCall before now result = MatchResult result (λ _. now ≡ before) (CountsOutFault before now)

@@ -1,7 +1,7 @@
 ghost use Rattle.std.specs.Prelude.{◌≡◌, ◌<◌, ◌≤◌, ◌↔◌, [], Some, length, min, IfOk, OnErr, IsErr, IsErrOf, Contains};
 ghost use Rattle.std.specs.Io.{ReadsAtMost};
 ghost use Rattle.std.specs.Io.KnownBytes.{ReadConsumes, WriteAppends};
-ghost use Rattle.css_outside.specs.Faults.{CountsReadFaults, CountsWriteFaults};
+ghost use Rattle.css_outside.specs.Faults.{CountsReadFaults, CountsCall};
 ghost use Rattle.css_outside.specs.Devices.{next_count, read_count};
 
 use crate::buffers::{FailingCalls, Incoming, Outgoing};
@@ -114,7 +114,7 @@ impl Sink for MemorySink {
         ensures bound { IfOk result (λ count. count ≤ length bytes.now) }
         ensures some { IfOk result (λ count. 0 < length bytes.now → 0 < count) }
         ensures bytes { WriteAppends (Some self.old.holds) (Some self.new.holds) result bytes.now }
-        ensures counted { CountsWriteFaults self.old.faults self.new.faults result }
+        ensures counted { CountsCall self.old.faults self.new.faults result }
 
         // Which writes fail, and how many bytes the others take.
         ensures fails { IsErrOf result OutFault.Failed ↔ Contains self.old.fails (next_count self.old.calls) }

@@ -1,7 +1,7 @@
 ghost use Rattle.std.specs.Prelude.{◌≡◌, ◌<◌, ◌≤◌, [], Ok, Some, length, min, IfOk, IfErr};
 ghost use Rattle.std.specs.Io.{ReadsAtMost};
 ghost use Rattle.std.specs.Io.KnownBytes.{ReadConsumes, WriteAppends};
-ghost use Rattle.css_outside.specs.Faults.{CountsReadFaults, CountsWriteFaults};
+ghost use Rattle.css_outside.specs.Faults.{CountsReadFaults, CountsCall};
 ghost use Rattle.css_outside.specs.Devices.{read_count};
 
 use crate::buffers::{Incoming, Outgoing};
@@ -97,7 +97,7 @@ impl Sink for NeverFailsSink {
         ensures bound { IfOk result (λ count. count ≤ length bytes.now) }
         ensures some { IfOk result (λ count. 0 < length bytes.now → 0 < count) }
         ensures bytes { WriteAppends (Some self.old.holds) (Some self.new.holds) result bytes.now }
-        ensures counted { CountsWriteFaults 0 0 result }
+        ensures counted { CountsCall 0 0 result }
 
         ensures count { IfOk result (λ count. count ≡ min self.old.piece (length bytes.now)) }
         ensures memory { IfErr result (λ fault. fault ≡ OutFault.Memory) }

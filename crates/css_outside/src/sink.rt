@@ -1,6 +1,6 @@
 ghost use Rattle.std.specs.Prelude.{◌<◌, ◌≤◌, List, ℕ, Option, length, IfOk, OnOk, OnErr};
 ghost use Rattle.std.specs.Io.KnownBytes.{Appends, WriteAppends};
-ghost use Rattle.css_outside.specs.Faults.{CountsWriteFaults};
+ghost use Rattle.css_outside.specs.Faults.{CountsCall};
 ghost use Rattle.css_outside.specs.Bytes.{AppendsPrefix};
 
 use crate::fault::OutFault;
@@ -19,14 +19,14 @@ pub trait Sink {
         ensures bound { IfOk result (λ count. count ≤ length bytes.now) }
         ensures some { IfOk result (λ count. 0 < length bytes.now → 0 < count) }
         ensures bytes { WriteAppends (holds self.old) (holds self.new) result bytes.now }
-        ensures counted { CountsWriteFaults (faults self.old) (faults self.new) result };
+        ensures counted { CountsCall (faults self.old) (faults self.new) result };
 }
 
 /// Writes all of the bytes, or at a fault a part of them from their front on. No failed write is tried again.
 pub fn write_all<K: Sink>(sink: &mut K, bytes: &[u8]) -> Result<(), OutFault>
     ensures ok { OnOk result (Appends (K.holds sink.old) (K.holds sink.new) bytes.now) }
     ensures err { OnErr result (AppendsPrefix (K.holds sink.old) (K.holds sink.new) bytes.now) }
-    ensures counted { CountsWriteFaults (K.faults sink.old) (K.faults sink.new) result }
+    ensures counted { CountsCall (K.faults sink.old) (K.faults sink.new) result }
 {
     let mut written = 0;
     while written < bytes.len() {
