@@ -1,12 +1,12 @@
 -- What each call of an outside adds to its history, and what is counted.
-use Rattle.std.specs.Prelude.{◌≡◌, ℕ, ◌<◌, ◌≤◌, List, [], ◌∷◌, ◌++◌, take, Bool, true, false, not, ◌==◌, IsTrue, Option, Some, None, Result, Ok, Err, MatchResult, IfOk, ⊤}
+use Rattle.std.specs.Prelude.{◌≡◌, ℕ, ◌<◌, ◌≤◌, List, [], ◌∷◌, ◌++◌, take, Bool, true, false, IsTrue, Option, Some, None, Result, Ok, Err, MatchResult, ⊤}
 use Rattle.std.specs.Option.{option_map}
 use Rattle.css_model.specs.declared.TheConstants.{LIMIT}
 use Rattle.css_model.specs.declared.Why.{Why}
 use Rattle.css_model.specs.declared.Kind.{Kind}
 use Rattle.css_model.specs.declared.Kind.TheVariants as kind
 use Rattle.css_model.specs.History.{Address, History, Slept, Clock, Dialling, Dialled, NotDialled, Accepted, NoneCame, Took, TookNone, Quiet, Heard, Closed, Wrote, Gone}
-use Rattle.css_outside.specs.Faults.{HasRisen, CountsCall}
+use Rattle.css_outside.specs.Faults.{CountsCall}
 use Rattle.css_outside.specs.declared.calls.Clocked.{Clocked}
 use Rattle.css_outside.specs.declared.calls.Heard.{Heard as SessionHeard}
 use Rattle.css_outside.specs.declared.calls.Heard.TheVariants as heard

@@ -1,5 +1,5 @@
 -- What an outside in memory gives, and what it has told.
-use Rattle.std.specs.Prelude.{ℕ, ◌≤◌, ◌<◌, IsTrue, ◌+◌, ◌-◌, ◌^◌, min, ◌&&◌, ◌||◌, ◌==◌, not, nat_le, nat_lt, List, [], ◌∷◌, ◌++◌, take, drop, length, fold, position, Bool, true, false, Option, Some, None, if◌then◌else◌, nat_eq, slice_get, remove, Result, IsErr, IsErrOf, Contains, ◌↔◌}
+use Rattle.std.specs.Prelude.{◌≡◌, ℕ, ◌≤◌, ◌<◌, IsTrue, ◌+◌, ◌&&◌, ◌||◌, ◌==◌, not, nat_le, nat_lt, List, [], ◌∷◌, ◌++◌, take, drop, length, fold, position, Bool, true, false, Option, Some, None, if◌then◌else◌, nat_eq, slice_get, remove, Result, Ok, Err, MatchResult, IsErr, IsErrOf, Contains, ◌↔◌}
 use Rattle.std.specs.List.{list_any}
 use Rattle.std.specs.Option.{option_and_then, option_map}
 use Rattle.css_model.specs.declared.Why.{Why}
@@ -223,3 +223,25 @@ FailsWhereTold state result = IsErrOf result fault.Failed ↔ Contains state.fai
 pub record DialFailsWhereTold {T : Type 0} (state : Scripted) (result : Result T OutFault) : Type 0 where
   pub only : IsErrOf result fault.Failed → Contains state.fails (next_count state.calls)
   pub always : Contains state.fails (next_count state.calls) → IsErr result
+
+-- ---- what a call leaves
+-- one more call was made
+abbrev pub counted : Scripted → Scripted
+counted state = record state { calls = next_count state.calls }
+
+-- a call that is Ok makes a step, and any other call takes nothing
+abbrev pub Steps : {T E : Type 0} → Scripted → Scripted → Result T E → Scripted → Type 0
+Steps before now result stepped = MatchResult result (λ _. now ≡ stepped) (λ _. now ≡ before)
+
+-- the same of a call that may fail, which is counted
+abbrev pub StepsCounted : {T E : Type 0} → Scripted → Scripted → Result T E → Scripted → Type 0
+StepsCounted before now result stepped = Steps (counted before) now result (counted stepped)
+
+-- a dial that fails is told
+abbrev pub dial_failed : Kind → Address → Scripted → Scripted
+dial_failed kind to state = telling (NotDialled kind ∷ Dialling kind to ∷ []) state
+
+abbrev pub StepsDial : Kind → Address → Scripted → Scripted → Result ℕ OutFault → Type 0
+StepsDial kind to before now (Ok peer) = now ≡ counted (dialled kind to before)
+StepsDial kind to before now (Err fault.Failed) = now ≡ counted (dial_failed kind to before)
+StepsDial kind to before now (Err fault.Memory) = now ≡ counted before

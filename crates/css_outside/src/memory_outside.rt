@@ -3,7 +3,7 @@ ghost use Rattle.css_model.specs.History.{Listening, Sent, HungUp};
 ghost use Rattle.css_outside.specs.Outsides.{Tells, TellsDial, CountsPlain, CountsClock, CountsDial, CountsOpening, FitsRoom};
 ghost use Rattle.css_outside.specs.Outsides as calls;
 ghost use Rattle.css_outside.specs.Scripts as scripts;
-ghost use Rattle.css_outside.specs.Scripts.{are_readings, are_sessions, counts_of, FailsWhereTold, DialFailsWhereTold};
+ghost use Rattle.css_outside.specs.Scripts.{are_readings, are_sessions, counts_of, FailsWhereTold, DialFailsWhereTold, StepsCounted, StepsDial, telling};
 
 use crate::calls::{Address, Clocked, Heard, Wrote};
 use crate::fault::OutFault;
@@ -56,6 +56,7 @@ impl Outside for MemoryOutside {
         ensures told { Tells (Some self.old.devices.told) (Some self.new.devices.told) result (λ _. Listening host.now port ∷ []) }
         ensures counted { CountsPlain (counts_of self.old) (counts_of self.new) result }
         ensures fails { FailsWhereTold self.old.devices result }
+        ensures steps { StepsCounted self.old.devices self.new.devices result (telling (Listening host.now port ∷ []) self.old.devices) }
     {
         if self.devices.next_fails() {
             self.faults = self.faults.saturating_add(1);
@@ -69,6 +70,7 @@ impl Outside for MemoryOutside {
         ensures counted { CountsClock (counts_of self.old) (counts_of self.new) result }
         ensures fails { FailsWhereTold self.old.devices result }
         ensures value { IfOk result (λ clocked. clocked ≡ scripts.next_reading self.old.devices.last self.old.devices.readings) }
+        ensures steps { StepsCounted self.old.devices self.new.devices result (scripts.read_once why self.old.devices) }
     {
         if self.devices.next_fails() {
             self.faults = self.faults.saturating_add(1);
@@ -82,6 +84,7 @@ impl Outside for MemoryOutside {
         ensures counted { CountsDial (counts_of self.old) (counts_of self.new) result }
         ensures fails { DialFailsWhereTold self.old.devices result }
         ensures value { IfOk result (λ peer. peer ≡ self.old.devices.peers + 1) }
+        ensures steps { StepsDial kind to.now self.old.devices self.new.devices result }
     {
         if self.devices.next_fails() {
             self.devices.fail_dial(kind, to)?;
@@ -96,6 +99,7 @@ impl Outside for MemoryOutside {
         ensures counted { CountsOpening (counts_of self.old) (counts_of self.new) result }
         ensures fails { FailsWhereTold self.old.devices result }
         ensures value { IfOk result (λ came. came ≡ scripts.next_opening self.old.devices) }
+        ensures steps { StepsCounted self.old.devices self.new.devices result (scripts.opened_once self.old.devices) }
     {
         if self.devices.next_fails() {
             self.faults = self.faults.saturating_add(1);
@@ -108,6 +112,7 @@ impl Outside for MemoryOutside {
         ensures told { Tells (Some self.old.devices.told) (Some self.new.devices.told) result (λ _. Sent peer bytes.now ∷ []) }
         ensures counted { CountsPlain (counts_of self.old) (counts_of self.new) result }
         ensures fails { FailsWhereTold self.old.devices result }
+        ensures steps { StepsCounted self.old.devices self.new.devices result (telling (Sent peer bytes.now ∷ []) self.old.devices) }
     {
         if self.devices.next_fails() {
             self.faults = self.faults.saturating_add(1);
@@ -122,6 +127,7 @@ impl Outside for MemoryOutside {
         ensures counted { CountsPlain (counts_of self.old) (counts_of self.new) result }
         ensures fails { FailsWhereTold self.old.devices result }
         ensures value { IfOk result (λ came. came ≡ scripts.taken_from (scripts.next_item self.old.devices.datagrams)) }
+        ensures steps { StepsCounted self.old.devices self.new.devices result (scripts.took_once self.old.devices) }
     {
         if self.devices.next_fails() {
             self.faults = self.faults.saturating_add(1);
@@ -135,6 +141,7 @@ impl Outside for MemoryOutside {
         ensures counted { CountsPlain (counts_of self.old) (counts_of self.new) result }
         ensures fails { FailsWhereTold self.old.devices result }
         ensures value { IfOk result (λ said. said ≡ scripts.next_heard peer self.old.devices) }
+        ensures steps { StepsCounted self.old.devices self.new.devices result (scripts.heard_once peer self.old.devices) }
     {
         if self.devices.next_fails() {
             self.faults = self.faults.saturating_add(1);
@@ -148,6 +155,7 @@ impl Outside for MemoryOutside {
         ensures counted { CountsPlain (counts_of self.old) (counts_of self.new) result }
         ensures fails { FailsWhereTold self.old.devices result }
         ensures value { IfOk result (λ wrote. wrote ≡ scripts.next_wrote self.old.devices) }
+        ensures steps { StepsCounted self.old.devices self.new.devices result (scripts.wrote_once peer text.now self.old.devices) }
     {
         if self.devices.next_fails() {
             self.faults = self.faults.saturating_add(1);
@@ -160,6 +168,7 @@ impl Outside for MemoryOutside {
         ensures told { Tells (Some self.old.devices.told) (Some self.new.devices.told) result (λ _. HungUp peer ∷ []) }
         ensures counted { CountsPlain (counts_of self.old) (counts_of self.new) result }
         ensures fails { FailsWhereTold self.old.devices result }
+        ensures steps { StepsCounted self.old.devices self.new.devices result (telling (HungUp peer ∷ []) self.old.devices) }
     {
         if self.devices.next_fails() {
             self.faults = self.faults.saturating_add(1);

@@ -3,7 +3,7 @@ ghost use Rattle.css_model.specs.History.{Listening, Sent, HungUp};
 ghost use Rattle.css_outside.specs.Outsides.{Tells, TellsDial, CountsPlain, CountsClock, CountsDial, CountsOpening, FitsRoom};
 ghost use Rattle.css_outside.specs.Outsides as calls;
 ghost use Rattle.css_outside.specs.Scripts as scripts;
-ghost use Rattle.css_outside.specs.Scripts.{are_readings, are_sessions, counts_at};
+ghost use Rattle.css_outside.specs.Scripts.{are_readings, are_sessions, counts_at, Steps, telling};
 
 use crate::calls::{Address, Clocked, Heard, Wrote};
 use crate::fault::OutFault;
@@ -53,6 +53,7 @@ impl Outside for NeverFailsOutside {
         ensures told { Tells (Some self.old.told) (Some self.new.told) result (λ _. Listening host.now port ∷ []) }
         ensures counted { CountsPlain (counts_at self.old) (counts_at self.new) result }
         ensures never { result ≢ Err OutFault.Failed }
+        ensures steps { Steps self.old self.new result (telling (Listening host.now port ∷ []) self.old) }
     {
         Ok(self.devices.listen(host, port)?)
     }
@@ -62,6 +63,7 @@ impl Outside for NeverFailsOutside {
         ensures counted { CountsClock (counts_at self.old) (counts_at self.new) result }
         ensures never { result ≢ Err OutFault.Failed }
         ensures value { IfOk result (λ clocked. clocked ≡ scripts.next_reading self.old.last self.old.readings) }
+        ensures steps { Steps self.old self.new result (scripts.read_once why self.old) }
     {
         Ok(self.devices.now(why)?)
     }
@@ -71,6 +73,7 @@ impl Outside for NeverFailsOutside {
         ensures counted { CountsDial (counts_at self.old) (counts_at self.new) result }
         ensures never { result ≢ Err OutFault.Failed }
         ensures value { IfOk result (λ peer. peer ≡ self.old.peers + 1) }
+        ensures steps { Steps self.old self.new result (scripts.dialled kind to.now self.old) }
     {
         Ok(self.devices.dial(kind, to)?)
     }
@@ -80,6 +83,7 @@ impl Outside for NeverFailsOutside {
         ensures counted { CountsOpening (counts_at self.old) (counts_at self.new) result }
         ensures never { result ≢ Err OutFault.Failed }
         ensures value { IfOk result (λ came. came ≡ scripts.next_opening self.old) }
+        ensures steps { Steps self.old self.new result (scripts.opened_once self.old) }
     {
         Ok(self.devices.accept()?)
     }
@@ -88,6 +92,7 @@ impl Outside for NeverFailsOutside {
         ensures told { Tells (Some self.old.told) (Some self.new.told) result (λ _. Sent peer bytes.now ∷ []) }
         ensures counted { CountsPlain (counts_at self.old) (counts_at self.new) result }
         ensures never { result ≢ Err OutFault.Failed }
+        ensures steps { Steps self.old self.new result (telling (Sent peer bytes.now ∷ []) self.old) }
     {
         Ok(self.devices.send_datagram(peer, bytes)?)
     }
@@ -98,6 +103,7 @@ impl Outside for NeverFailsOutside {
         ensures counted { CountsPlain (counts_at self.old) (counts_at self.new) result }
         ensures never { result ≢ Err OutFault.Failed }
         ensures value { IfOk result (λ came. came ≡ scripts.taken_from (scripts.next_item self.old.datagrams)) }
+        ensures steps { Steps self.old self.new result (scripts.took_once self.old) }
     {
         Ok(self.devices.take_datagram(into)?)
     }
@@ -107,6 +113,7 @@ impl Outside for NeverFailsOutside {
         ensures counted { CountsPlain (counts_at self.old) (counts_at self.new) result }
         ensures never { result ≢ Err OutFault.Failed }
         ensures value { IfOk result (λ said. said ≡ scripts.next_heard peer self.old) }
+        ensures steps { Steps self.old self.new result (scripts.heard_once peer self.old) }
     {
         Ok(self.devices.take_text(peer)?)
     }
@@ -116,6 +123,7 @@ impl Outside for NeverFailsOutside {
         ensures counted { CountsPlain (counts_at self.old) (counts_at self.new) result }
         ensures never { result ≢ Err OutFault.Failed }
         ensures value { IfOk result (λ wrote. wrote ≡ scripts.next_wrote self.old) }
+        ensures steps { Steps self.old self.new result (scripts.wrote_once peer text.now self.old) }
     {
         Ok(self.devices.send_text(peer, text)?)
     }
@@ -124,6 +132,7 @@ impl Outside for NeverFailsOutside {
         ensures told { Tells (Some self.old.told) (Some self.new.told) result (λ _. HungUp peer ∷ []) }
         ensures counted { CountsPlain (counts_at self.old) (counts_at self.new) result }
         ensures never { result ≢ Err OutFault.Failed }
+        ensures steps { Steps self.old self.new result (telling (HungUp peer ∷ []) self.old) }
     {
         Ok(self.devices.hang_up(peer)?)
     }

@@ -1,4 +1,4 @@
-use Rattle.std.proofs.Common.{◌≡◌, ℕ, ◌≤◌, min, List, ◌++◌, length, take, ◌∙◌, ap, arith}
+use Rattle.std.proofs.Common.{◌≡◌, ℕ, ◌≤◌, min, length, take, ◌∙◌, ap, arith}
 use Rattle.std.proofs.lemmas.List.{take_at, length-take-le, take_min}
 use Rattle.std.proofs.lemmas.Grind.{common_steps}
 use Rattle.css_outside.proofs.scripted.front.Goals as goal
