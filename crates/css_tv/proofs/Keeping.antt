@@ -7,7 +7,7 @@ use Rattle.std.proofs.lemmas.Bool.Decides.{nat_tests}
 use Rattle.css_num.specs.Rates.{TickRate}
 use Rattle.css_cii.specs.declared.state.State.{State}
 use Rattle.css_player.specs.Player.{Track, Programme, Segment, Player, media_limit, max_delay}
-use Rattle.css_player.specs.Segments.{present, numbered, told_of, turned, delayed, changed_to, sped, sped_to, sought, sought_to, media_at, with_segment, commanded, with_delay, with_programme, with_track, with_timeline}
+use Rattle.css_player.specs.Segments.{control_of, control_in, control_from, present, numbered, told_of, turned, delayed, changed_to, sped, sped_to, sought, sought_to, media_at, with_segment, commanded, with_delay, with_programme, with_track, with_timeline}
 use Rattle.css_player.specs.Events.{Event as PlayerCall}
 use Rattle.css_player.specs.declared.command.Command.{Command}
 use Rattle.css_player.specs.declared.command.Command.TheVariants as command
@@ -100,6 +100,13 @@ programme_present content_id p q is shown = ap present (sym (programmed content_
 
 programme_shown : (content_id : List ℕ) (p q : Player) → with_programme content_id p ≡ Ok q → IsShown p → IsShown q
 programme_shown content_id p q is shown = subst IsShown (programmed content_id p q is) (shown-append p.programmes (record { content_id = content_id; tracks = [] } ∷ []) p.segment shown)
+
+control-append : (stem selector : List ℕ) (ps qs : List Programme) (o : Option Segment) → IsShownOf (record { programmes = ps; segment = o }) o → control_from stem selector (ps ++ qs) o ≡ control_from stem selector ps o
+control-append stem selector ps qs None shown = refl
+control-append stem selector ps qs (Some s) shown = ap (control_in stem selector s) (numbered-append ps qs s.programme shown)
+
+pub programme_controls : (stem selector content_id : List ℕ) (p q : Player) → with_programme content_id p ≡ Ok q → IsShown p → control_of stem selector q ≡ control_of stem selector p
+programme_controls stem selector content_id p q is shown = ap (control_of stem selector) (sym (programmed content_id p q is)) ∙ control-append stem selector p.programmes (record { content_id = content_id; tracks = [] } ∷ []) p.segment shown
 
 -- ---- one more timeline
 shown-set : (ps : List Programme) (k : ℕ) (x : Programme) (o : Option Segment) → IsShownOf (record { programmes = ps; segment = o }) o → IsShownOf (record { programmes = set ps k x; segment = o }) o

@@ -91,7 +91,7 @@ told_now_too e old new before after h (Ok o) is done grows stands fresh told =
     let calls = calls_of old.addresses h in
     let lawful : IsLawful (o.called ++ calls.sessions) = (grows.sessions calls.sessions stands.sessions fresh).lawful in
     let said : filter_map said_by after ≡ filter_map said_by before ++ said_after o.called (sessions_of calls.sessions) =
-        ap (λ xs. filter_map said_by xs) done.out ∙ said_in o old.sessions before ∙ ap (λ k. filter_map said_by before ++ said_after o.called k) stands.sessions.same in
+    ap (λ xs. filter_map said_by xs) done.out ∙ said_in o old.sessions before ∙ ap (λ k. filter_map said_by before ++ said_after o.called k) stands.sessions.same in
     subst (λ (x : Calls). IsTold after x.sessions) (sym (more_calls e old h o is stands))
     (subst (λ xs. AreSaid xs (o.called ++ calls.sessions)) (sym said) (said_all o.called calls.sessions (filter_map said_by before) lawful told))
 

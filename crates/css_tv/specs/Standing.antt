@@ -106,7 +106,7 @@ Stands result old new e =
 abbrev pub Tells : {T : Type 0} → Result T TvFault → Stage → List TvOut → List TvOut → TvEvent → Type 0
 Tells result old before after e =
     OnOk result ((h : List TvEvent) → StandsFor old h → IsFresh e (calls_of old.addresses h).sessions
-        → IsTold before (calls_of old.addresses h).sessions → IsTold after (calls_of old.addresses (e ∷ h)).sessions)
+    → IsTold before (calls_of old.addresses h).sessions → IsTold after (calls_of old.addresses (e ∷ h)).sessions)
 
 -- what a stage shows after events
 abbrev pub player_after : Addresses → List TvEvent → Player

@@ -15,12 +15,6 @@ pub fn other_delay(windows: &[Window], present: u64) -> Option<u64>
 {
     match choose(windows, MAX_DELAY) {
         Chosen::Nothing { .. } => None,
-        Chosen::Fits { delay, .. } => {
-            if delay == present {
-                None
-            } else {
-                Some(delay)
-            }
-        }
+        Chosen::Fits { delay, .. } => { if delay == present { None } else { Some(delay) } }
     }
 }

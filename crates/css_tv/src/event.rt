@@ -15,13 +15,24 @@ pub enum TvEvent {
         base: i64,
     },
     /// A viewer's command, when the wall clock reads so, in nanoseconds.
-    Viewer { command: Command, reading: u64 },
+    Viewer {
+        command: Command,
+        reading: u64,
+    },
     /// A session was opened. Its number was never used before.
-    Opened { peer: u32, kind: Kind },
+    Opened {
+        peer: u32,
+        kind: Kind,
+    },
     /// A text came on a session.
-    Heard { peer: u32, text: Text },
+    Heard {
+        peer: u32,
+        text: Text,
+    },
     /// A session was closed.
-    Closed { peer: u32 },
+    Closed {
+        peer: u32,
+    },
 }
 
 /// What a television does at its sessions.

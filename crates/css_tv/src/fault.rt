@@ -1,5 +1,7 @@
 use css_num::Memory;
 use css_player::PlayerFault;
+use std::error::Error;
+use std::fmt;
 
 /// Why an event is refused.
 #[derive(Clone, Copy, Debug, PartialEq, Eq)]
@@ -9,6 +11,22 @@ pub enum TvFault {
     /// Want of memory.
     Memory,
 }
+
+impl fmt::Display for TvFault {
+    ghost use Rattle.std.specs.Prelude.{Some};
+    ghost use Rattle.css_tv.specs.FaultWords.{fault_words};
+
+    ghost output = { λ fault. Some (fault_words fault) };
+
+    fn fmt<W: fmt::Write>(&self, f: &mut fmt::Formatter<W>) -> fmt::Result {
+        match self {
+            TvFault::Player(fault) => write!(f, "{fault}"),
+            TvFault::Memory => f.write_str("out of memory"),
+        }
+    }
+}
+
+impl Error for TvFault {}
 
 impl From<Memory> for TvFault {
     ghost use Rattle.std.specs.Prelude.{◌≡◌};
@@ -20,7 +38,6 @@ impl From<Memory> for TvFault {
         TvFault::Memory
     }
 }
-
 
 impl From<PlayerFault> for TvFault {
     ghost use Rattle.std.specs.Prelude.{◌≡◌};

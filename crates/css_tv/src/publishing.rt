@@ -61,8 +61,10 @@ pub fn publish(
     requires ts_url { IsUtf8 addresses.now.ts_url }
     requires few { length sessions.old.list ≤ max_sessions }
     ensures kept { OnOk result (sessions.new ≡ (step_of (published addresses.now player.now) sessions.old).kept) }
-    ensures said { OnOk result (out.new.items ≡ out.old.items ++ map say (step_of (published addresses.now player.now) sessions.old).said) }
-    ensures stands { OnOk result ((h : List Event) → told.StandsFor sessions.old h → told.StandsFor sessions.new (published addresses.now player.now ∷ h)) }
+    ensures said { OnOk result (out.new.items ≡ out.old.items ++ map say (step_of
+        (published addresses.now player.now) sessions.old).said) }
+    ensures stands { OnOk result ((h : List Event) → told.StandsFor sessions.old h → told.StandsFor sessions.new
+        (published addresses.now player.now ∷ h)) }
     ensures err { OnErr result ((sessions.new ≡ sessions.old) × (out.new.items ≡ out.old.items)) }
 {
     make_room(out, MAX_SESSIONS)?;

@@ -55,8 +55,10 @@ impl Stage {
     /// Adds a programme. Nothing is told, since it isn't shown yet.
     fn programme(&mut self, content_id: &[u8], out: &mut Vec<TvOut>) -> Result<(), TvFault>
         requires { IsUtf8 content_id.now }
-        ensures steps { Steps result self.old self.new out.old.items out.new.items (spec.outcome_at (event.Programme content_id.now) self.old) }
-        ensures stands { OnOk result (GrowsBy Any self.old self.new (spec.outcome_at (event.Programme content_id.now) self.old)) }
+        ensures steps { Steps result self.old self.new out.old.items out.new.items (spec.outcome_at
+            (event.Programme content_id.now) self.old) }
+        ensures stands { OnOk result (GrowsBy Any self.old self.new (spec.outcome_at
+            (event.Programme content_id.now) self.old)) }
     {
         self.player.add_programme(self.alloc, content_id)?;
         Ok(())
@@ -73,8 +75,10 @@ impl Stage {
     ) -> Result<(), TvFault>
         requires stage { IsStage self.old }
         requires selector { IsUtf8 selector.now }
-        ensures steps { Steps result self.old self.new out.old.items out.new.items (spec.outcome_at (event.AddTimeline programme selector.now rate base) self.old) }
-        ensures stands { OnOk result (GrowsBy Any self.old self.new (spec.outcome_at (event.AddTimeline programme selector.now rate base) self.old)) }
+        ensures steps { Steps result self.old self.new out.old.items out.new.items (spec.outcome_at
+            (event.AddTimeline programme selector.now rate base) self.old) }
+        ensures stands { OnOk result (GrowsBy Any self.old self.new (spec.outcome_at
+            (event.AddTimeline programme selector.now rate base) self.old)) }
     {
         let mut player = self.player.copy()?;
         player.add_timeline(self.alloc, programme, selector, rate, base)?;
@@ -98,8 +102,10 @@ impl Stage {
     ) -> Result<(), TvFault>
         requires stage { IsStage self.old }
         requires reading { reading < 4294967296000000000 }
-        ensures steps { Steps result self.old self.new out.old.items out.new.items (spec.outcome_at (event.Viewer command reading) self.old) }
-        ensures stands { OnOk result (GrowsBy Any self.old self.new (spec.outcome_at (event.Viewer command reading) self.old)) }
+        ensures steps { Steps result self.old self.new out.old.items out.new.items (spec.outcome_at
+            (event.Viewer command reading) self.old) }
+        ensures stands { OnOk result (GrowsBy Any self.old self.new (spec.outcome_at
+            (event.Viewer command reading) self.old)) }
     {
         let before = self.player.segment();
         self.player.command(command, reading)?;
@@ -120,7 +126,8 @@ impl Stage {
 
     /// Closes a session, where there is one.
     fn hang_up(&mut self, peer: u32, out: &mut Vec<TvOut>) -> Result<(), TvFault>
-        ensures steps { Steps result self.old self.new out.old.items out.new.items (Ok (spec.hung_up peer self.old.player)) }
+        ensures steps { Steps result self.old self.new out.old.items out.new.items (Ok
+            (spec.hung_up peer self.old.player)) }
         ensures stands { OnOk result (GrowsBy Any self.old self.new (Ok (spec.hung_up peer self.old.player))) }
     {
         hung_up(peer, out)?;
@@ -132,8 +139,10 @@ impl Stage {
     fn opened(&mut self, peer: u32, kind: Kind, out: &mut Vec<TvOut>) -> Result<(), TvFault>
         requires stage { IsStage self.old }
         requires absent { talk_of peer self.old.sessions.list ≡ None }
-        ensures steps { Steps result self.old self.new out.old.items out.new.items (spec.outcome_at (event.Opened peer kind) self.old) }
-        ensures stands { OnOk result (GrowsBy (IsFresh (event.Opened peer kind)) self.old self.new (spec.outcome_at (event.Opened peer kind) self.old)) }
+        ensures steps { Steps result self.old self.new out.old.items out.new.items (spec.outcome_at
+            (event.Opened peer kind) self.old) }
+        ensures stands { OnOk result (GrowsBy (IsFresh (event.Opened peer kind)) self.old self.new
+            (spec.outcome_at (event.Opened peer kind) self.old)) }
     {
         make_room(out, 1)?;
         let mut said = Vec::new(self.alloc);
@@ -150,8 +159,10 @@ impl Stage {
     /// Takes the first text of a TS session, which is its setup.
     fn setup(&mut self, peer: u32, bytes: &[u8], out: &mut Vec<TvOut>) -> Result<(), TvFault>
         requires { set_up_in (talk_of peer self.old.sessions.list) ≡ Some false }
-        ensures steps { Steps result self.old self.new out.old.items out.new.items (Ok (spec.by_setup peer self.old.player (setup_of bytes.now))) }
-        ensures stands { OnOk result (GrowsBy Any self.old self.new (Ok (spec.by_setup peer self.old.player (setup_of bytes.now)))) }
+        ensures steps { Steps result self.old self.new out.old.items out.new.items (Ok
+            (spec.by_setup peer self.old.player (setup_of bytes.now))) }
+        ensures stands { OnOk result (GrowsBy Any self.old self.new (Ok (spec.by_setup peer self.old.player
+            (setup_of bytes.now)))) }
     {
         make_room(out, 1)?;
         let mut said = Vec::new(self.alloc);
@@ -172,7 +183,8 @@ impl Stage {
     fn choice(&self, peer: u32, presentation: &Presentation) -> Result<Option<u64>, Memory>
         requires earliest { IsBound presentation.now.earliest }
         requires latest { IsBound presentation.now.latest }
-        ensures value { IfOk result (λ delay. delay ≡ spec.choice self.now.player.segment (spec.windows_after peer presentation.now self.now.player self.now.sessions)) }
+        ensures value { IfOk result (λ delay. delay ≡ spec.choice self.now.player.segment
+            (spec.windows_after peer presentation.now self.now.player self.now.sessions)) }
         ensures small { IfOk result (λ delay. IfSome delay (λ d. d ≤ max_delay)) }
     {
         let Some(segment) = self.player.segment() else {
@@ -181,9 +193,9 @@ impl Stage {
         if segment.speed != 1 {
             return Ok(None);
         }
-        let windows =
-            self.sessions
-                .windows_after(self.alloc, peer, presentation, &self.player)?;
+        let windows = self
+            .sessions
+            .windows_after(self.alloc, peer, presentation, &self.player)?;
         Ok(other_delay(windows.as_slice(), segment.delay))
     }
 
@@ -199,8 +211,10 @@ impl Stage {
         requires small { delay ≤ max_delay }
         requires earliest { IsBound presentation.now.earliest }
         requires latest { IsBound presentation.now.latest }
-        ensures steps { Steps result self.old self.new out.old.items out.new.items (Ok (spec.presented self.old.addresses peer presentation.now self.old.player (Some delay))) }
-        ensures stands { OnOk result (GrowsBy Any self.old self.new (Ok (spec.presented self.old.addresses peer presentation.now self.old.player (Some delay)))) }
+        ensures steps { Steps result self.old self.new out.old.items out.new.items (Ok
+            (spec.presented self.old.addresses peer presentation.now self.old.player (Some delay))) }
+        ensures stands { OnOk result (GrowsBy Any self.old self.new (Ok
+            (spec.presented self.old.addresses peer presentation.now self.old.player (Some delay)))) }
     {
         let before = self.player.segment();
         self.player.delay(delay);
@@ -231,8 +245,10 @@ impl Stage {
         requires stage { IsStage self.old }
         requires earliest { IsBound presentation.now.earliest }
         requires latest { IsBound presentation.now.latest }
-        ensures steps { Steps result self.old self.new out.old.items out.new.items (Ok (spec.by_presentation self.old.addresses peer self.old.player self.old.sessions (Ok presentation.now))) }
-        ensures stands { OnOk result (GrowsBy Any self.old self.new (Ok (spec.by_presentation self.old.addresses peer self.old.player self.old.sessions (Ok presentation.now)))) }
+        ensures steps { Steps result self.old self.new out.old.items out.new.items (Ok
+            (spec.by_presentation self.old.addresses peer self.old.player self.old.sessions (Ok presentation.now))) }
+        ensures stands { OnOk result (GrowsBy Any self.old self.new (Ok
+            (spec.by_presentation self.old.addresses peer self.old.player self.old.sessions (Ok presentation.now)))) }
     {
         match self.choice(peer, presentation)? {
             None => {
@@ -244,15 +260,14 @@ impl Stage {
     }
 
     /// Takes a later text of a TS session, which is a presentation.
-    fn presentation(
-        &mut self,
-        peer: u32,
-        bytes: &[u8],
-        out: &mut Vec<TvOut>,
-    ) -> Result<(), TvFault>
+    fn presentation(&mut self, peer: u32, bytes: &[u8], out: &mut Vec<TvOut>) -> Result<(), TvFault>
         requires { IsStage self.old }
-        ensures steps { Steps result self.old self.new out.old.items out.new.items (Ok (spec.by_presentation self.old.addresses peer self.old.player self.old.sessions (presentation_of bytes.now))) }
-        ensures stands { OnOk result (GrowsBy Any self.old self.new (Ok (spec.by_presentation self.old.addresses peer self.old.player self.old.sessions (presentation_of bytes.now)))) }
+        ensures steps { Steps result self.old self.new out.old.items out.new.items (Ok
+            (spec.by_presentation self.old.addresses peer self.old.player self.old.sessions
+            (presentation_of bytes.now))) }
+        ensures stands { OnOk result (GrowsBy Any self.old self.new (Ok
+            (spec.by_presentation self.old.addresses peer self.old.player self.old.sessions
+            (presentation_of bytes.now)))) }
     {
         match read_presentation(self.alloc, bytes) {
             Ok(presentation) => self.present(peer, &presentation, out),
@@ -266,8 +281,10 @@ impl Stage {
     /// Takes a text of a session.
     fn heard(&mut self, peer: u32, bytes: &[u8], out: &mut Vec<TvOut>) -> Result<(), TvFault>
         requires { IsStage self.old }
-        ensures steps { Steps result self.old self.new out.old.items out.new.items (spec.outcome_at (event.Heard peer bytes.now) self.old) }
-        ensures stands { OnOk result (GrowsBy Any self.old self.new (spec.outcome_at (event.Heard peer bytes.now) self.old)) }
+        ensures steps { Steps result self.old self.new out.old.items out.new.items (spec.outcome_at
+            (event.Heard peer bytes.now) self.old) }
+        ensures stands { OnOk result (GrowsBy Any self.old self.new (spec.outcome_at
+            (event.Heard peer bytes.now) self.old)) }
     {
         match self.sessions.is_setup(peer) {
             None => self.hang_up(peer, out),

@@ -1,9 +1,11 @@
-ghost use Rattle.std.specs.Prelude.{◌≡◌, ◌≤◌, ◌<◌, ◌≤ℤ◌, pos, List, [], Ok, OnOk, OnErr, IfOk, IfSome, take, drop, option_map};
+ghost use Rattle.std.specs.Prelude.{◌≡◌, ◌↔◌, IsTrue, IsSome, ◌≤◌, ◌<◌, ◌≤ℤ◌, pos, List};
+ghost use Rattle.std.specs.Prelude.{[], Ok, OnOk, OnErr, IfOk, IfSome, take, drop, option_map};
 ghost use Rattle.std.specs.Str.{IsUtf8};
 ghost use Rattle.css_model.specs.Numbers.{max_error};
 ghost use Rattle.css_model.specs.Wire.{encoded, decoded, stamp_bytes};
 ghost use Rattle.css_server.specs.Tickets.{received, after_ticket, response_to, follow_up_to, follow_up_for};
 ghost use Rattle.css_server.specs.Exchanges as server;
+ghost use Rattle.css_sessions.specs.Kept.{talk_of};
 ghost use Rattle.css_tv.specs.States.{published_state, addresses_of};
 ghost use Rattle.css_tv.specs.Outcomes.{outcome_at};
 ghost use Rattle.css_tv.specs.Serving.{server_of, Serves};
@@ -78,12 +80,20 @@ impl Tv {
     /// chooses the least delay that fits all windows in force, where there is one.
     pub fn step(&mut self, event: TvEvent, out: &mut Vec<TvOut>) -> Result<(), TvFault>
         requires { IsEvent event self.old.stage }
-        ensures outcome { Steps result self.old.stage self.new.stage out.old.items out.new.items (outcome_at event self.old.stage) }
+        ensures outcome { Steps result self.old.stage self.new.stage out.old.items out.new.items
+            (outcome_at event self.old.stage) }
         ensures stands { Stands result self.old.stage self.new.stage event }
         ensures told { Tells result self.old.stage out.old.items out.new.items event }
         ensures server { self.new.server ≡ self.old.server }
     {
         self.stage.step(event, out)
+    }
+
+    /// Whether a peer has a session.
+    pub fn is_open(&self, peer: u32) -> bool
+        ensures { IsTrue result ↔ IsSome (talk_of peer self.now.stage.sessions.list) }
+    {
+        self.stage.sessions.is_open(peer)
     }
 
     /// Takes a request of CSS-WC: [`Server::receive`].
@@ -105,7 +115,8 @@ impl Tv {
         ensures response { result.response ≡ encoded (response_to self.now.server ticket reading) }
         ensures response_read_back { decoded result.response ≡ Ok (response_to self.now.server ticket reading) }
         ensures follow_up { result.follow_up ≡ option_map encoded (follow_up_for self.now.server ticket reading) }
-        ensures follow_up_read_back { IfSome result.follow_up (λ bytes. decoded bytes ≡ Ok (follow_up_to self.now.server ticket reading)) }
+        ensures follow_up_read_back { IfSome result.follow_up (λ bytes. decoded bytes ≡ Ok (follow_up_to
+            self.now.server ticket reading)) }
     {
         self.server.answer(ticket, reading)
     }
@@ -113,7 +124,8 @@ impl Tv {
     /// What can be shown and what is shown.
     pub fn player(&self) -> &Player
         ensures value { result.now ≡ self.now.stage.player }
-        ensures meaning { (h : List TvEvents) → StandsFor self.now.stage h → result.now ≡ player_after self.now.stage.addresses h }
+        ensures meaning { (h : List TvEvents) → StandsFor self.now.stage h → result.now ≡ player_after
+            self.now.stage.addresses h }
     {
         &self.stage.player
     }
@@ -121,7 +133,8 @@ impl Tv {
     /// The published state.
     pub fn state(&self) -> &State
         ensures value { result.now ≡ published_state self.now.stage.addresses self.now.stage.player }
-        ensures meaning { (h : List TvEvents) → StandsFor self.now.stage h → result.now ≡ published_state self.now.stage.addresses (player_after self.now.stage.addresses h) }
+        ensures meaning { (h : List TvEvents) → StandsFor self.now.stage h → result.now ≡ published_state
+            self.now.stage.addresses (player_after self.now.stage.addresses h) }
     {
         self.stage.sessions.state()
     }
