@@ -1,0 +1,69 @@
+-- The headline, of a history: the span is true, and a control timestamp takes each value of it to a tick of the report.
+use Rattle.std.proofs.Common.{◌≡◌, ℕ, arith, refl, subst, List, ◌∷◌, length}
+use Rattle.std.proofs.lemmas.Int.{ints}
+use Rattle.std.specs.Prelude.{ℤ, pos, ◌≤ℤ◌, ◌*ℤ◌, Option, Some, None, IfSome, Result, Ok, Err}
+use Rattle.std.specs.Option.{option_map}
+use Rattle.css_model.specs.declared.Why.TheVariants as why
+use Rattle.css_model.specs.WallClock.{Answer, Local}
+use Rattle.css_model.specs.Truth.{Contains}
+use Rattle.css_model.specs.History.{Clock, History, wall_answer}
+use Rattle.css_model.specs.Explains.{IsLawful}
+use Rattle.css_model.proofs.Wall.{wall_is_true}
+use Rattle.css_num.specs.Spans.{Interval, Covers}
+use Rattle.css_span.specs.WallSpans as walls
+use Rattle.css_clock.specs.Goes.{root_goes, child_goes, span_of-all}
+use Rattle.css_clock.specs.Ticks.{Correlation, child_value, span_of}
+use Rattle.css_companion.specs.Positions.{nanoseconds, position}
+use Rattle.css_companion.specs.Reports.{tick_at, ticks_at, report_by, assigned_by, HasTickOf}
+use Rattle.css_companion.specs.Meanings.{timing_after, report_after}
+use Rattle.css_companion.specs.Headline.{ContainsThePosition, TheHeadline}
+use Rattle.css_companion.specs.declared.knowledge.Timing.{Timing}
+use Rattle.css_companion.specs.declared.report.Cause.{Cause}
+use Rattle.css_companion.proofs.Telling.{told_is_published}
+use Rattle.css_companion.proofs.Timelines.{reads, same_span}
+
+-- the ticks at the ends of a span have between them the tick at each value of the span
+has_tick : (span : Interval) (timing : Timing) (wall : ℕ) → Covers span (pos wall)
+    → HasTickOf (ticks_at span timing) (Some (tick_at timing wall))
+has_tick span timing wall inside =
+    let correlation : Correlation =
+    record { speed = timing.speed; parent_ticks = pos timing.wall; child_ticks = timing.content } in
+    let clock = λ (value : ℤ). child_value timing.rate nanoseconds correlation value in
+    let tick = λ (value : ℤ). position timing.content timing.wall timing.speed timing.rate value in
+    let same : (value : ℤ) → clock value ≡ tick value =
+    λ value. reads timing.rate nanoseconds correlation timing.wall value refl refl in
+    let goes = child_goes timing.rate nanoseconds correlation (pos 1) (λ root. root) root_goes in
+    let ordered : span.lo ≤ℤ span.hi = omega (arith, ints, inside.low, inside.high) in
+    let read : Covers (span_of clock span) (clock (pos wall)) =
+    (span_of-all (pos 1 *ℤ timing.speed) clock span goes ordered).covered (pos wall) inside in
+    let covered : Covers (span_of tick span) (tick (pos wall)) =
+    subst (λ (i : Interval). Covers i (tick (pos wall))) (same_span clock tick span same)
+    (subst (λ (n : ℤ). Covers (span_of clock span) n) (same (pos wall)) read) in
+    (covered.low, covered.high)
+
+-- where the narrowest answer's span contains the wall clock, the report contains its position
+reported : (own : Local) (reading wall : ℕ) (answer : Option Answer) (timing : Result Timing Cause)
+    → IfSome answer (λ narrowest. Contains own narrowest reading wall)
+    → HasTickOf (report_by (option_map (walls.span_of own reading) answer) timing) (assigned_by timing wall)
+reported own reading wall None timing h = tt
+reported own reading wall (Some answer) (Err cause) h = tt
+reported own reading wall (Some answer) (Ok timing) h =
+    has_tick (walls.span_of own reading answer) timing wall (record { low = h.low; high = h.high })
+
+-- each world that explains the history has its wall clock in that span
+contains : (own : Local) (selector : List ℕ) (history : History) (reading : ℕ) → IsLawful history
+    → ContainsThePosition own selector history reading (report_after own selector history reading)
+contains own selector history reading lawful errors world who moment_of for explains =
+    let read : IsLawful (Clock why.Turn reading ∷ history) =
+    record { rises = (tt, lawful.rises); asks = (tt, lawful.asks) } in
+    reported own reading (world (moment_of (length history))).wall (wall_answer own history reading)
+    (timing_after selector history)
+    (wall_is_true errors world who own (Clock why.Turn reading ∷ history) moment_of for read explains).0
+
+-- the headline
+pub headline : TheHeadline
+headline own selector history reading lawful = record {
+  contains = contains own selector history reading lawful;
+  narrowest = refl;
+  published = told_is_published history;
+}
