@@ -1,21 +1,29 @@
 -- The headline, of a history: the span is true, and a control timestamp takes each value of it to a tick of the report.
-use Rattle.std.proofs.Common.{◌≡◌, ℕ, arith, refl, subst, List, ◌∷◌, length}
+use Rattle.std.proofs.Common.{◌≡◌, ℕ, arith, refl, subst, Bool, true, false, List, [], ◌∷◌, length}
 use Rattle.std.proofs.lemmas.Int.{ints}
 use Rattle.std.specs.Prelude.{ℤ, pos, ◌≤ℤ◌, ◌*ℤ◌, Option, Some, None, IfSome, Result, Ok, Err}
-use Rattle.std.specs.Option.{option_map}
+use Rattle.std.specs.Option.{option_map, option_or}
 use Rattle.css_model.specs.declared.Why.TheVariants as why
 use Rattle.css_model.specs.WallClock.{Answer, Local}
 use Rattle.css_model.specs.Truth.{Contains}
-use Rattle.css_model.specs.History.{Clock, History, wall_answer}
+use Rattle.css_model.specs.History.{Clock, History, accepted_answers, wall_answer}
 use Rattle.css_model.specs.Explains.{IsLawful}
 use Rattle.css_model.proofs.Wall.{wall_is_true}
+use Rattle.css_num.specs.Rates.{TickRate}
 use Rattle.css_num.specs.Spans.{Interval, Covers}
+use Rattle.css_num.specs.declared.control.Control.{Control}
+use Rattle.css_num.specs.declared.control.Control.TheVariants.{Available, Unavailable}
 use Rattle.css_span.specs.WallSpans as walls
+use Rattle.css_span.specs.WallSpans.{wall_span}
 use Rattle.css_clock.specs.Goes.{root_goes, child_goes, span_of-all}
 use Rattle.css_clock.specs.Ticks.{Correlation, child_value, span_of}
+use Rattle.css_tsmsg.specs.Controls.{control_of}
+use Rattle.css_tsmsg.specs.Faults.{NotMemory}
+use Rattle.css_tsmsg.specs.declared.fault.TsFault.{TsFault}
+use Rattle.css_tsmsg.proofs.Never.{not_memory}
 use Rattle.css_companion.specs.Positions.{nanoseconds, position}
-use Rattle.css_companion.specs.Reports.{tick_at, ticks_at, report_by, assigned_by, HasTickOf}
-use Rattle.css_companion.specs.Meanings.{timing_after, report_after}
+use Rattle.css_companion.specs.Reports.{tick_at, ticks_at, timing_of, report_by, assigned_by, HasTickOf, SaysNoMemory}
+use Rattle.css_companion.specs.Meanings.{ts_text, control_by, is_closed, rate_after, timing_after, report_after}
 use Rattle.css_companion.specs.Headline.{ContainsThePosition, TheHeadline}
 use Rattle.css_companion.specs.declared.knowledge.Timing.{Timing}
 use Rattle.css_companion.specs.declared.report.Cause.{Cause}
@@ -60,10 +68,38 @@ contains own selector history reading lawful errors world who moment_of for expl
     (timing_after selector history)
     (wall_is_true errors world who own (Clock why.Turn reading ∷ history) moment_of for read explains).0
 
+-- the last text of the TS session is never read as want of memory
+newest : (text : Option (List ℕ)) (before : Option (Result Control TsFault)) → IfSome before NotMemory
+    → IfSome (option_or (option_map control_of text) before) NotMemory
+newest None before h = h
+newest (Some bytes) before h = not_memory bytes
+
+known : (history : History) → IfSome (control_by history) NotMemory
+known [] = tt
+known (entry ∷ older) = newest (ts_text entry older) (control_by older) (known older)
+
+-- so no cause is
+timed : (span : Option Interval) (control : Option (Result Control TsFault)) (closed : Bool) (rate : Option TickRate)
+    → IfSome control NotMemory → SaysNoMemory (report_by span (timing_of control closed rate))
+timed None control closed rate h = tt
+timed (Some span) None closed rate h = tt
+timed (Some span) (Some told) true rate h = tt
+timed (Some span) (Some (Err fault)) false rate h = h
+timed (Some span) (Some (Ok Unavailable)) false rate h = tt
+timed (Some span) (Some (Ok (Available content wall speed))) false None h = tt
+timed (Some span) (Some (Ok (Available content wall speed))) false (Some rate) h = tt
+
+no_memory : (own : Local) (selector : List ℕ) (history : History) (reading : ℕ)
+    → SaysNoMemory (report_after own selector history reading)
+no_memory own selector history reading =
+    timed (wall_span own reading (accepted_answers own history)) (control_by history) (is_closed history)
+    (rate_after selector history) (known history)
+
 -- the headline
 pub headline : TheHeadline
 headline own selector history reading lawful = record {
   contains = contains own selector history reading lawful;
   narrowest = refl;
+  has_cause = no_memory own selector history reading;
   published = told_is_published history;
 }

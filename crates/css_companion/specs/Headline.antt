@@ -9,7 +9,7 @@ use Rattle.css_model.specs.Explains.{Explains, IsLawful}
 use Rattle.css_cii.specs.declared.state.State.{State}
 use Rattle.css_companion.specs.Meanings.{state_of, report_after, assigned_after}
 use Rattle.css_companion.specs.Published.{latest, TellsStates}
-use Rattle.css_companion.specs.Reports.{HasTickOf}
+use Rattle.css_companion.specs.Reports.{HasTickOf, SaysNoMemory}
 use Rattle.css_companion.specs.declared.report.Report.{Report}
 
 -- Whatever datagrams were lost, repeated or reordered: in each world that keeps the declared errors of both oscillators
@@ -26,10 +26,12 @@ abbrev pub IsPublished : History → Type 0
 IsPublished history = (states : List State) → TellsStates states history → state_of history ≡ latest states
 
 -- What is promised of a report: its ticks contain the position; they come from the narrowest accepted answer, and without
--- an answer or a usable control timestamp it is the cause; and the state that was told by then was published.
+-- an answer or a usable control timestamp it is the cause, which is never want of memory; and the state that was told by
+-- then was published.
 pub record IsPromised (own : Local) (selector : List ℕ) (history : History) (reading : ℕ) (report : Report) : Type 0 where
   pub contains : ContainsThePosition own selector history reading report
   pub narrowest : report ≡ report_after own selector history reading
+  pub has_cause : SaysNoMemory report
   pub published : IsPublished history
 
 -- The headline: of each lawful history and each reading, the report that is defined for them keeps the promise.
