@@ -16,14 +16,14 @@ use std::alloc::Global;
 use std::process::Abort;
 use std::test::Fail;
 
-const EXACT: Local = Local {
+pub(crate) const EXACT: Local = Local {
     error: 0,
     precision: 0,
 };
 
 const STAMPS: &str = "urn:dvb:css:timeline:pts";
 
-fn new_companion(alloc: Global, selector: &str, local: Local) -> Result<Companion, Fail>
+pub(crate) fn new_companion(alloc: Global, selector: &str, local: Local) -> Result<Companion, Fail>
     ensures { IfOk result (λ companion. companion.client.floor ≡ 0) }
 {
     let config = CompanionConfig {
@@ -35,7 +35,7 @@ fn new_companion(alloc: Global, selector: &str, local: Local) -> Result<Companio
 }
 
 /// An answer with one value for its receive and transmit times, in seconds and nanoseconds.
-fn answer(asked: (u32, u32), told: (u32, u32), precision: u8, error: u32) -> [u8; 32] {
+pub(crate) fn answer(asked: (u32, u32), told: (u32, u32), precision: u8, error: u32) -> [u8; 32] {
     let mut bytes = [0; 32];
     bytes[1] = 1;
     bytes[2] = precision;
