@@ -1,5 +1,5 @@
--- The promise of the whole project, of one report. It is said of a history, that is of what happened at a companion, and
--- of the worlds that it can have happened in. What a companion keeps isn't in it.
+-- The promise of the whole project, of one report. It is said of a history, that is of what happened at a companion,
+-- and of the worlds that it can have happened in. What a companion keeps isn't in it.
 use Rattle.std.specs.Prelude.{ℕ, ◌≡◌, List, ◌∷◌, length}
 use Rattle.css_model.specs.declared.Why.TheVariants as why
 use Rattle.css_model.specs.WallClock.{Local}
@@ -25,10 +25,11 @@ ContainsThePosition own selector history reading report =
 abbrev pub IsPublished : History → Type 0
 IsPublished history = (states : List State) → TellsStates states history → state_of history ≡ latest states
 
--- What is promised of a report: its ticks contain the position; they come from the narrowest accepted answer, and without
--- an answer or a usable control timestamp it is the cause, which is never want of memory; and the state that was told by
--- then was published.
-pub record IsPromised (own : Local) (selector : List ℕ) (history : History) (reading : ℕ) (report : Report) : Type 0 where
+-- What is promised of a report. Its ticks contain the position. They come from the narrowest accepted answer, and
+-- without an answer or a usable control timestamp it is the cause, which is never want of memory. The state that was
+-- told by then was published.
+pub record IsPromised (own : Local) (selector : List ℕ) (history : History) (reading : ℕ) (report : Report)
+    : Type 0 where
   pub contains : ContainsThePosition own selector history reading report
   pub narrowest : report ≡ report_after own selector history reading
   pub has_cause : SaysNoMemory report

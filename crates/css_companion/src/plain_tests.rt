@@ -1,6 +1,6 @@
 //! Reports of long generated lists of what happens, against a plain second computation that reads the whole list anew.
 
-ghost use Rattle.std.specs.Prelude.{◌≤◌, ◌<◌, ◌+◌, ◌^◌, OnOk};
+ghost use Rattle.std.specs.Prelude.{◌≡◌, ◌≤◌, ◌<◌, ◌+◌, ◌^◌, OnOk};
 ghost use Rattle.css_companion.specs.Steps.{IsEvent};
 
 use crate::tests::{EXACT, answer, new_companion};
@@ -61,9 +61,7 @@ const TS_TEXTS: [(&str, Result<(i64, u64, i64), Cause>); 6] = [
     ),
     (
         r#"{"contentTime":"1","wallClockTime":"1"}"#,
-        Err(Cause::Unreadable(TsFault::Field(
-            TsName::TimelineSpeedMultiplier,
-        ))),
+        Err(Cause::Unreadable(TsFault::Field(TsName::TimelineSpeedMultiplier))),
     ),
     (
         r#"{"contentTime":"1","wallClockTime":"1","timelineSpeedMultiplier":0.5}"#,
@@ -130,7 +128,13 @@ impl Plain {
 
     /// An answer to one of the last 64 requests counts, and of two that were as long on their way the first one.
     fn land(&mut self, asked: u64, told: u64, landed: u64) {
-        if !self.asked.iter().rev().take(64).any(|request| *request == asked) {
+        if !self
+            .asked
+            .iter()
+            .rev()
+            .take(64)
+            .any(|request| *request == asked)
+        {
             return;
         }
         let way = landed.wrapping_sub(asked);
@@ -159,8 +163,8 @@ impl Plain {
         Ok((content, wall, speed.wrapping_mul(rate)))
     }
 
-    /// With exact clocks and a precision of 1 ns, the wall clock is from what was told, and what passed since the landing,
-    /// to what was told, and what passed since the request. Each end has 3 ns for rounding.
+    /// With exact clocks and a precision of 1 ns, the wall clock is from what was told, and what passed since the
+    /// landing, to what was told, and what passed since the request. Each end has 3 ns for rounding.
     fn report(&self, reading: u64) -> Report {
         let Some(answer) = self.narrowest else {
             return Report::None(Cause::NoAnswer);
@@ -169,7 +173,10 @@ impl Plain {
             Err(cause) => return Report::None(cause),
             Ok(timing) => timing,
         };
-        let lo = answer.told.wrapping_add(reading).wrapping_sub(answer.landed);
+        let lo = answer
+            .told
+            .wrapping_add(reading)
+            .wrapping_sub(answer.landed);
         let hi = answer.told.wrapping_add(reading).wrapping_sub(answer.asked);
         let first = position(timing, lo.wrapping_sub(3));
         let last = position(timing, hi.wrapping_add(3));
@@ -182,7 +189,9 @@ impl Plain {
 
 fn position(timing: (i64, u64, i64), wall: u64) -> i128 {
     let since = i128::from(wall).wrapping_sub(i128::from(timing.1));
-    let gone = since.wrapping_mul(i128::from(timing.2)).div_euclid(1_000_000_000);
+    let gone = since
+        .wrapping_mul(i128::from(timing.2))
+        .div_euclid(1_000_000_000);
     i128::from(timing.0).wrapping_add(gone)
 }
 
@@ -228,7 +237,12 @@ fn step(companion: &mut Companion, event: CompanionEvent)
     let _ = companion.step(event);
 }
 
-fn carry_out(companion: &mut Companion, alloc: Global, happened: Happened, reading: u64) -> Result<(), Fail>
+fn carry_out(
+    companion: &mut Companion,
+    alloc: Global,
+    happened: Happened,
+    reading: u64,
+) -> Result<(), Fail>
     requires range { reading < 2 ^ 32 }
     requires floor { companion.old.client.floor ≤ reading }
     ensures { OnOk result (companion.new.client.floor ≤ reading + 1) }
@@ -243,11 +257,17 @@ fn carry_out(companion: &mut Companion, alloc: Global, happened: Happened, readi
         Happened::Slept => companion.slept(),
         Happened::Cii(number) => {
             let text = CII_TEXTS.get(number).map_or("", |(text, _)| *text);
-            step(companion, CompanionEvent::CiiText(Text::of(alloc, text.as_bytes())?));
+            step(
+                companion,
+                CompanionEvent::CiiText(Text::of(alloc, text.as_bytes())?),
+            );
         }
         Happened::Ts(number) => {
             let text = TS_TEXTS.get(number).map_or("", |(text, _)| *text);
-            step(companion, CompanionEvent::TsText(Text::of(alloc, text.as_bytes())?));
+            step(
+                companion,
+                CompanionEvent::TsText(Text::of(alloc, text.as_bytes())?),
+            );
         }
         Happened::TsClosed => step(companion, CompanionEvent::TsClosed),
     }
@@ -257,7 +277,12 @@ fn carry_out(companion: &mut Companion, alloc: Global, happened: Happened, readi
 fn datagram(asked: u64, told: u64) -> [u8; 32] {
     let second = 1_000_000_000;
     let nanoseconds = (told % second) as u32;
-    answer((0, (asked % second) as u32), ((told / second % 60) as u32, nanoseconds), 226, 0)
+    answer(
+        (0, (asked % second) as u32),
+        ((told / second % 60) as u32, nanoseconds),
+        226,
+        0,
+    )
 }
 
 /// Both reports and both positions are equal. Whether they have ticks.
@@ -275,7 +300,10 @@ fn compare(
     let report = companion.report(reading);
     assert_eq!(rt; report, plain.report(reading), "at {reading}");
     let assigned = companion.assigned(10_000_000_017);
-    let expected = plain.timing().ok().map(|timing| position(timing, 10_000_000_017));
+    let expected = plain
+        .timing()
+        .ok()
+        .map(|timing| position(timing, 10_000_000_017));
     assert_eq!(rt; assigned, expected, "at {reading}");
     Ok(matches!(report, Report::Ticks { .. }))
 }

@@ -1,5 +1,5 @@
-//! What happens at a companion, the text that is then owed to the TS session, and the report after it. `-` is no text; a
-//! refused event has its fault in the text's place.
+//! What happens at a companion, the text that is then owed to the TS session, and the report after it. `-` is no text;
+//! a refused event has its fault in the text's place.
 
 /// An event, what is owed, and the report.
 pub type Row = (&'static str, &'static str, &'static str);
@@ -146,7 +146,8 @@ pub const RATES_OF_STAMPS: &[Row] = &[
     (r#"cii {"timelines":null}"#, "-", "ticks 945000 945001"),
 ];
 
-/// The refusals of CII texts, and the addresses that aren't moved. A text that is refused is counted and changes nothing.
+/// The refusals of CII texts, and the addresses that aren't moved. A text that is refused is counted and changes
+/// nothing else.
 pub const REFUSALS: &[Row] = &[
     (FULL, "-", "none NoAnswer"),
     ("cii ", "cii text 2: not json", "none NoAnswer"),
@@ -220,27 +221,99 @@ const DOWN_TO_2_63: &str =
 /// At a wall clock from -1,073,741,825,782,178,220 to 1,073,741,826,222,222,225 ns.
 pub const NEAR_ZERO: &[Row] = &[
     (SLOWEST, "-", "none NoTimestamp"),
-    (UP_FROM_0, "-", "ticks 999999999999999930 1000000000000000067"),
-    (DOWN_FROM_0, "-", "ticks -1000000000000000068 -999999999999999931"),
-    (UP_TO_2_63, "-", "ticks -1000000000000000659 -1000000000000000521"),
-    (DOWN_TO_2_63, "-", "ticks 1000000000000000520 1000000000000000658"),
-    (FASTEST, "-", "ticks 522576333480483429247 660015287208765057727"),
-    (UP_FROM_0, "-", "ticks -67719476850059406081 69719476878222222399"),
-    (DOWN_FROM_0, "-", "ticks -69719476878222222399 67719476850059406081"),
-    (UP_TO_2_63, "-", "ticks -660015287208765057727 -522576333480483429247"),
-    (DOWN_TO_2_63, "-", "ticks 522576333480483429247 660015287208765057727"),
+    (
+        UP_FROM_0,
+        "-",
+        "ticks 999999999999999930 1000000000000000067",
+    ),
+    (
+        DOWN_FROM_0,
+        "-",
+        "ticks -1000000000000000068 -999999999999999931",
+    ),
+    (
+        UP_TO_2_63,
+        "-",
+        "ticks -1000000000000000659 -1000000000000000521",
+    ),
+    (
+        DOWN_TO_2_63,
+        "-",
+        "ticks 1000000000000000520 1000000000000000658",
+    ),
+    (
+        FASTEST,
+        "-",
+        "ticks 522576333480483429247 660015287208765057727",
+    ),
+    (
+        UP_FROM_0,
+        "-",
+        "ticks -67719476850059406081 69719476878222222399",
+    ),
+    (
+        DOWN_FROM_0,
+        "-",
+        "ticks -69719476878222222399 67719476850059406081",
+    ),
+    (
+        UP_TO_2_63,
+        "-",
+        "ticks -660015287208765057727 -522576333480483429247",
+    ),
+    (
+        DOWN_TO_2_63,
+        "-",
+        "ticks 522576333480483429247 660015287208765057727",
+    ),
 ];
 
 /// At a wall clock from 3,221,225,470,217,821,779 to 10,140,895,006,666,666,667 ns.
 pub const NEAR_LIMIT: &[Row] = &[
     (SLOWEST, "-", "none NoTimestamp"),
-    (UP_FROM_0, "-", "ticks 1000000000000000205 1000000000000000648"),
-    (DOWN_FROM_0, "-", "ticks -1000000000000000649 -1000000000000000206"),
-    (UP_TO_2_63, "-", "ticks -1000000000000000384 -999999999999999941"),
-    (DOWN_TO_2_63, "-", "ticks 999999999999999940 1000000000000000383"),
-    (FASTEST, "-", "ticks -57721470067961015041 385137380264765057791"),
-    (UP_FROM_0, "-", "ticks 207158430093940593855 650017280426666666687"),
-    (DOWN_FROM_0, "-", "ticks -650017280426666666687 -207158430093940593855"),
-    (UP_TO_2_63, "-", "ticks -385137380264765057791 57721470067961015041"),
-    (DOWN_TO_2_63, "-", "ticks -57721470067961015041 385137380264765057791"),
+    (
+        UP_FROM_0,
+        "-",
+        "ticks 1000000000000000205 1000000000000000648",
+    ),
+    (
+        DOWN_FROM_0,
+        "-",
+        "ticks -1000000000000000649 -1000000000000000206",
+    ),
+    (
+        UP_TO_2_63,
+        "-",
+        "ticks -1000000000000000384 -999999999999999941",
+    ),
+    (
+        DOWN_TO_2_63,
+        "-",
+        "ticks 999999999999999940 1000000000000000383",
+    ),
+    (
+        FASTEST,
+        "-",
+        "ticks -57721470067961015041 385137380264765057791",
+    ),
+    (
+        UP_FROM_0,
+        "-",
+        "ticks 207158430093940593855 650017280426666666687",
+    ),
+    (
+        DOWN_FROM_0,
+        "-",
+        "ticks -650017280426666666687 -207158430093940593855",
+    ),
+    (
+        UP_TO_2_63,
+        "-",
+        "ticks -385137380264765057791 57721470067961015041",
+    ),
+    (
+        DOWN_TO_2_63,
+        "-",
+        "ticks -57721470067961015041 385137380264765057791",
+    ),
 ];

@@ -11,7 +11,7 @@ use css_cii::{CiiFault, CiiName, State, diff, full, write_message};
 use css_client::{Landing, Local};
 use css_model::LIMIT;
 use css_num::{Memory, Text};
-use css_tsmsg::{Bound, TsFault, TsName};
+use css_tsmsg::Bound;
 use std::alloc::Global;
 use std::process::Abort;
 use std::test::Fail;
@@ -128,38 +128,79 @@ fn play(
     Ok(())
 }
 
+/// A companion that took in the answer which makes the wall clock 10,500,000,000 to 10,500,022,222 ns at 23,216.
+fn answered(rt: &impl Abort, alloc: Global, selector: &str) -> Result<Companion, Fail>
+    ensures { IfOk result (λ companion. companion.client.floor ≤ 23216) }
+{
+    let mut companion = new_companion(alloc, selector, EXACT)?;
+    let told = answer((0, 1000), (10, 500_000_003), 226, 0);
+    let landing = hear(&mut companion, 1000, &told, 23_216)?;
+    assert_eq!(rt; landing, Landing::Accepted);
+    Ok(companion)
+}
+
 #[test]
 fn a_report_tells_ticks_or_the_first_cause(rt: HostRuntime) -> Result<(), Fail> {
-    let alloc = rt.alloc();
-    let mut companion = new_companion(alloc, STAMPS, EXACT)?;
-    let told = answer((0, 1000), (10, 500_000_003), 226, 0);
-    assert_eq!(rt; hear(&mut companion, 1000, &told, 23_216)?, Landing::Accepted);
-    assert_eq!(rt; companion.kept(), 1);
-    assert_eq!(rt; companion.assigned(10_500_000_000), None);
-    play(&rt, alloc, &mut companion, 23_216, CONTROLS)?;
-    assert_eq!(rt; companion.assigned(10_500_000_000), None);
-    let mut companion = new_companion(alloc, "urn:x:1", EXACT)?;
-    assert_eq!(rt; hear(&mut companion, 1000, &told, 23_216)?, Landing::Accepted);
-    assert!(rt; companion.rate().is_none());
-    play(&rt, alloc, &mut companion, 23_216, RATES)?;
-    let mut companion = new_companion(alloc, STAMPS, EXACT)?;
-    assert_eq!(rt; hear(&mut companion, 1000, &told, 23_216)?, Landing::Accepted);
-    play(&rt, alloc, &mut companion, 23_216, RATES_OF_STAMPS)?;
-    assert_eq!(rt; companion.assigned(10_500_000_000), Some(945_000));
-    assert_eq!(rt; companion.assigned(10_000_000_000), Some(900_000));
-    assert_eq!(rt; companion.assigned(9_999_999_999), Some(899_999));
-    Ok(())
+    let mut companion = answered(&rt, rt.alloc(), STAMPS)?;
+    play(&rt, rt.alloc(), &mut companion, 23_216, CONTROLS)
+}
+
+#[test]
+fn a_session_may_close_first(rt: HostRuntime) -> Result<(), Fail> {
+    let mut companion = answered(&rt, rt.alloc(), STAMPS)?;
+    play(&rt, rt.alloc(), &mut companion, 23_216, CLOSED_FIRST)
 }
 
 #[test]
 fn without_an_answer_nothing_else_counts(rt: HostRuntime) -> Result<(), Fail> {
-    let alloc = rt.alloc();
-    let mut companion = new_companion(alloc, STAMPS, EXACT)?;
-    play(&rt, alloc, &mut companion, 0, UNANSWERED)?;
-    let mut companion = new_companion(alloc, STAMPS, EXACT)?;
-    let told = answer((0, 1000), (10, 500_000_003), 226, 0);
-    assert_eq!(rt; hear(&mut companion, 1000, &told, 23_216)?, Landing::Accepted);
-    play(&rt, alloc, &mut companion, 23_216, CLOSED_FIRST)?;
+    let mut companion = new_companion(rt.alloc(), STAMPS, EXACT)?;
+    play(&rt, rt.alloc(), &mut companion, 0, UNANSWERED)
+}
+
+#[test]
+fn a_rate_is_that_of_the_first_entry(rt: HostRuntime) -> Result<(), Fail> {
+    let mut companion = answered(&rt, rt.alloc(), "urn:x:1")?;
+    assert!(rt; companion.rate().is_none());
+    play(&rt, rt.alloc(), &mut companion, 23_216, RATES)
+}
+
+#[test]
+fn stamps_have_a_rate_of_their_own(rt: HostRuntime) -> Result<(), Fail> {
+    let mut companion = answered(&rt, rt.alloc(), STAMPS)?;
+    assert_eq!(rt; companion.assigned(10_500_000_000), None);
+    play(&rt, rt.alloc(), &mut companion, 23_216, RATES_OF_STAMPS)?;
+    for (wall, tick) in [
+        (10_500_000_000, 945_000),
+        (10_000_000_000, 900_000),
+        (9_999_999_999, 899_999),
+    ] {
+        assert_eq!(rt; companion.assigned(wall), Some(tick), "at {wall}");
+    }
+    Ok(())
+}
+
+/// Asks at a reading and takes in the answer 300 ns later, which makes the wall clock 10 s more, and up to 503 ns.
+fn answered_at(rt: &impl Abort, companion: &mut Companion, asked: u32) -> Result<(), Fail>
+    requires floor { companion.old.client.floor ≤ asked }
+    requires range { asked < 2 ^ 16 }
+    ensures { OnOk result (companion.new.client.floor ≤ asked + 300) }
+{
+    let told = answer((0, asked), (10, asked + 200), 226, 0);
+    let landing = hear(companion, u64::from(asked), &told, u64::from(asked) + 300)?;
+    assert_eq!(rt; landing, Landing::Accepted);
+    Ok(())
+}
+
+/// The companion slept and has no wall clock any more. An answer to a request from before the sleep comes too late.
+fn sleeps(rt: &impl Abort, companion: &mut Companion, late: &[u8]) -> Result<(), Fail>
+    requires { companion.old.client.floor ≤ 400 }
+    ensures { OnOk result (companion.new.client.floor ≤ 401) }
+{
+    companion.slept();
+    assert_eq!(rt; companion.kept(), 0);
+    assert_eq!(rt; companion.wall(401), None);
+    assert_eq!(rt; companion.report(401), Report::None(Cause::NoAnswer));
+    assert_eq!(rt; companion.land(late, 401)?, Landing::Unasked);
     Ok(())
 }
 
@@ -167,43 +208,36 @@ fn without_an_answer_nothing_else_counts(rt: HostRuntime) -> Result<(), Fail> {
 fn a_sleep_ends_the_wall_clock_alone(rt: HostRuntime) -> Result<(), Fail> {
     let alloc = rt.alloc();
     let mut companion = new_companion(alloc, STAMPS, EXACT)?;
-    let told = answer((0, 100), (10, 300), 226, 0);
-    assert_eq!(rt; hear(&mut companion, 100, &told, 400)?, Landing::Accepted);
+    answered_at(&rt, &mut companion, 100)?;
+    assert_eq!(rt; companion.kept(), 1);
     play(&rt, alloc, &mut companion, 400, PRESENTS)?;
+    sleeps(&rt, &mut companion, &answer((0, 100), (10, 300), 226, 0))?;
     assert_eq!(rt; companion.assigned(10_000_000_400), Some(896_400));
-    companion.slept();
-    assert_eq!(rt; companion.kept(), 0);
-    assert_eq!(rt; companion.wall(401), None);
-    assert_eq!(rt; companion.report(401), Report::None(Cause::NoAnswer));
-    assert_eq!(rt; companion.assigned(10_000_000_400), Some(896_400));
-    assert_eq!(rt; companion.land(&told, 401)?, Landing::Unasked);
-    let told = answer((0, 500), (10, 700), 226, 0);
-    assert_eq!(rt; hear(&mut companion, 500, &told, 800)?, Landing::Accepted);
-    let ticks = Report::Ticks {
-        lo: 896_400,
-        hi: 896_400,
-    };
-    assert_eq!(rt; companion.report(800), ticks);
-    Ok(())
+    answered_at(&rt, &mut companion, 500)?;
+    play(&rt, alloc, &mut companion, 800, PRESENTS)
+}
+
+/// The greatest errors that a companion may have.
+const WIDEST: Local = Local {
+    error: 2_560_000,
+    precision: 1_000_000_000,
+};
+
+#[test]
+fn the_least_wall_clock_is_exact(rt: HostRuntime) -> Result<(), Fail> {
+    let mut companion = new_companion(rt.alloc(), "urn:x:1", WIDEST)?;
+    let told = answer((0, 0), (0, 0), 30, 25_600_000);
+    let _ = hear(&mut companion, 0, &told, 0)?;
+    play(&rt, rt.alloc(), &mut companion, 0, NEAR_ZERO)
 }
 
 #[test]
-fn the_greatest_numbers_are_exact(rt: HostRuntime) -> Result<(), Fail> {
-    let alloc = rt.alloc();
-    let widest = Local {
-        error: 2_560_000,
-        precision: 1_000_000_000,
-    };
-    let mut companion = new_companion(alloc, "urn:x:1", widest)?;
-    let told = answer((0, 0), (0, 0), 30, 25_600_000);
-    assert_eq!(rt; hear(&mut companion, 0, &told, 0)?, Landing::Accepted);
-    play(&rt, alloc, &mut companion, 0, NEAR_ZERO)?;
-    let mut companion = new_companion(alloc, "urn:x:1", widest)?;
+fn the_greatest_wall_clock_is_exact(rt: HostRuntime) -> Result<(), Fail> {
+    let mut companion = new_companion(rt.alloc(), "urn:x:1", WIDEST)?;
     let told = answer((0, 0), (u32::MAX, 999_999_999), 30, 25_600_000);
     let last = LIMIT - 1;
-    assert_eq!(rt; hear(&mut companion, 0, &told, last)?, Landing::Accepted);
-    play(&rt, alloc, &mut companion, last, NEAR_LIMIT)?;
-    Ok(())
+    let _ = hear(&mut companion, 0, &told, last)?;
+    play(&rt, rt.alloc(), &mut companion, last, NEAR_LIMIT)
 }
 
 /// The state that a companion was told, as a television writes it in full.
@@ -213,10 +247,12 @@ fn told_state(alloc: Global, companion: &Companion) -> Result<Text, Fail> {
 
 /// A full state with this content id and these timelines.
 fn written(alloc: Global, content_id: &str, timelines: &str) -> Result<Text, Fail> {
-    let rest = r#""contentIdStatus":"final","mrsUrl":null,"presentationStatus":"okay","protocolVersion":"1.1","teUrl":null"#;
+    let rest =
+        r#""contentIdStatus":"final","mrsUrl":null,"presentationStatus":"okay","protocolVersion":"1.1","teUrl":null"#;
     let urls = r#""tsUrl":"ws://127.0.0.1:6678/ts","wcUrl":"udp://127.0.0.1:6677""#;
-    let words =
-        format!(in alloc; "{{\"contentId\":\"{content_id}\",{rest},\"timelines\":{timelines},{urls}}}")?;
+    let words = format!(in alloc;
+        "{{\"contentId\":\"{content_id}\",{rest},\"timelines\":{timelines},{urls}}}"
+    )?;
     Ok(Text::of(alloc, words.as_bytes())?)
 }
 
@@ -226,36 +262,59 @@ const LISTED: &str =
 const ONE: &str =
     r#"[{"timelineProperties":{"unitsPerSecond":50,"unitsPerTick":1},"timelineSelector":"urn:x:1"}]"#;
 
+const OTHER_CONTENT: &str = r#"cii {"contentId":"dvb://1.2.4"}"#;
+
+const NO_TIMELINES: &str = r#"cii {"timelines":null,"private":0.2}"#;
+
+const GREATEST: &[u8] =
+    b"18446744073709551615 ticks -170141183460469231731687303715884105728 170141183460469231731687303715884105727\n";
+
 const ONE_TOLD: &str =
     r#"cii {"timelines":[{"timelineSelector":"urn:x:1","timelineProperties":{"unitsPerTick":1,"unitsPerSecond":50,"accuracy":0.2}}]}"#;
+
+/// An event leaves this state, and owes nothing.
+fn leaves(
+    rt: &impl Abort,
+    alloc: Global,
+    companion: &mut Companion,
+    event: &str,
+    expected: &Text,
+) -> Result<(), Fail> {
+    let owed = happen(companion, alloc, event)?;
+    assert_eq!(rt; owed.bytes(), b"-".as_slice(), "{event}");
+    let told = told_state(alloc, companion)?;
+    assert_eq!(rt; told.bytes(), expected.bytes(), "{event}");
+    Ok(())
+}
 
 #[test]
 fn a_text_changes_what_it_names(rt: HostRuntime) -> Result<(), Fail> {
     let alloc = rt.alloc();
     let mut companion = new_companion(alloc, STAMPS, EXACT)?;
-    let mut earlier = new_companion(alloc, STAMPS, EXACT)?;
     assert!(rt; *companion.state() == State::empty());
     let rows = [
         (FULL, "dvb://1.2.3", LISTED),
-        (r#"cii {"contentId":"dvb://1.2.4"}"#, "dvb://1.2.4", LISTED),
-        (
-            r#"cii {"timelines":null,"private":0.2}"#,
-            "dvb://1.2.4",
-            "null",
-        ),
+        (OTHER_CONTENT, "dvb://1.2.4", LISTED),
+        (NO_TIMELINES, "dvb://1.2.4", "null"),
         (ONE_TOLD, "dvb://1.2.4", ONE),
     ];
     for (event, content_id, timelines) in rows {
-        assert_eq!(rt; happen(&mut companion, alloc, event)?.bytes(), b"-".as_slice());
         let expected = written(alloc, content_id, timelines)?;
-        assert_eq!(rt; told_state(alloc, &companion)?.bytes(), expected.bytes(), "{event}");
-        if event != ONE_TOLD {
-            let _ = happen(&mut earlier, alloc, event)?;
-        }
+        leaves(&rt, alloc, &mut companion, event, &expected)?;
     }
-    let change = diff(earlier.state(), companion.state())?;
+    Ok(())
+}
+
+#[test]
+fn the_difference_of_two_states_is_what_a_text_names(rt: HostRuntime) -> Result<(), Fail> {
+    let alloc = rt.alloc();
+    let mut before = new_companion(alloc, STAMPS, EXACT)?;
+    let mut after = new_companion(alloc, STAMPS, EXACT)?;
+    let _ = happen(&mut before, alloc, NO_TIMELINES)?;
+    let _ = happen(&mut after, alloc, ONE_TOLD)?;
+    let change = write_message(alloc, &diff(before.state(), after.state())?)?;
     let expected = format!(in alloc; "{{\"timelines\":{ONE}}}")?;
-    assert_eq!(rt; write_message(alloc, &change)?.bytes(), expected.as_bytes());
+    assert_eq!(rt; change.bytes(), expected.as_bytes());
     Ok(())
 }
 
@@ -265,58 +324,62 @@ fn a_refused_text_changes_nothing(rt: HostRuntime) -> Result<(), Fail> {
     let mut companion = new_companion(alloc, STAMPS, EXACT)?;
     play(&rt, alloc, &mut companion, 0, REFUSALS)?;
     let expected = written(alloc, "dvb://1.2.3", LISTED)?;
-    assert_eq!(rt; told_state(alloc, &companion)?.bytes(), expected.bytes());
-    let event = event_of(alloc, r#"cii {"wcUrl":"udp://b:1"}"#)?;
+    let told = told_state(alloc, &companion)?;
+    assert_eq!(rt; told.bytes(), expected.bytes());
+    play(&rt, alloc, &mut companion, 0, RELEASES)
+}
+
+/// The fault of an event after the full state.
+fn fault_of(alloc: Global, words: &str) -> Result<CompanionFault, Fail> {
+    let mut companion = new_companion(alloc, STAMPS, EXACT)?;
+    let _ = happen(&mut companion, alloc, FULL)?;
+    let event = event_of(alloc, words)?;
     match companion.step(event) {
-        Err(CompanionFault::Moved { property, old, new }) => {
+        Err(fault) => Ok(fault),
+        Ok(_) => Err("not refused".into()),
+    }
+}
+
+#[test]
+fn a_fault_tells_what_it_is_of(rt: HostRuntime) -> Result<(), Fail> {
+    let alloc = rt.alloc();
+    match fault_of(alloc, r#"cii {"wcUrl":"udp://b:1"}"#)? {
+        CompanionFault::Moved { property, old, new } => {
             assert_eq!(rt; property, CiiName::WcUrl);
             assert_eq!(rt; old.bytes(), b"udp://127.0.0.1:6677".as_slice());
             assert_eq!(rt; new.bytes(), b"udp://b:1".as_slice());
         }
         _ => return Err("not moved".into()),
     }
-    let event = event_of(alloc, r#"cii {"teUrl":5}"#)?;
-    match companion.step(event) {
-        Err(CompanionFault::BadCii { text, fault }) => {
-            assert_eq!(rt; (text, fault), (12, CiiFault::Field(CiiName::TeUrl)));
+    match fault_of(alloc, r#"cii {"teUrl":5}"#)? {
+        CompanionFault::BadCii { text, fault } => {
+            assert_eq!(rt; text, 2);
+            assert_eq!(rt; fault, CiiFault::Field(CiiName::TeUrl));
         }
-        _ => return Err("not refused".into()),
+        _ => return Err("not bad".into()),
     }
-    play(&rt, alloc, &mut companion, 0, RELEASES)?;
     let told = format!(in alloc; "{}", CompanionFault::Memory)?;
     assert_eq!(rt; told.as_str(), "out of memory");
+    Ok(())
+}
+
+fn prints(rt: &impl Abort, alloc: Global, report: Report, expected: &str) -> Result<(), Fail> {
+    let printed = line(alloc, 7, &report, Some(-1))?;
+    assert_eq!(rt; printed.bytes(), expected.as_bytes());
     Ok(())
 }
 
 #[test]
 fn lines_are_printed(rt: HostRuntime) -> Result<(), Fail> {
     let alloc = rt.alloc();
-    let field = TsFault::Field(TsName::WallClockTime);
-    let range = TsFault::Range(TsName::ContentTime);
-    let rows = [
-        (Report::Ticks { lo: -3, hi: 12 }, None, "7 ticks -3 12\n"),
-        (Report::Ticks { lo: -3, hi: 12 }, Some(-1), "7 ticks -3 12 at -1\n"),
-        (Report::None(Cause::NoAnswer), Some(5), "7 none NoAnswer\n"),
-        (Report::None(Cause::NoTimestamp), None, "7 none NoTimestamp\n"),
-        (Report::None(Cause::SessionClosed), None, "7 none SessionClosed\n"),
-        (Report::None(Cause::Unavailable), None, "7 none Unavailable\n"),
-        (Report::None(Cause::NoRate), None, "7 none NoRate\n"),
-        (Report::None(Cause::Unreadable(TsFault::NotJson)), None, "7 none Unreadable NotJson\n"),
-        (Report::None(Cause::Unreadable(TsFault::NotObject)), None, "7 none Unreadable NotObject\n"),
-        (Report::None(Cause::Unreadable(TsFault::Fractional)), None, "7 none Unreadable Fractional\n"),
-        (Report::None(Cause::Unreadable(field)), None, "7 none Unreadable Field wallClockTime\n"),
-        (Report::None(Cause::Unreadable(range)), None, "7 none Unreadable Range contentTime\n"),
-    ];
-    for (report, assigned, expected) in rows {
-        let printed = line(alloc, 7, &report, assigned)?;
-        assert_eq!(rt; printed.bytes(), expected.as_bytes());
-    }
+    let ticks = Report::Ticks { lo: -3, hi: 12 };
+    prints(&rt, alloc, ticks, "7 ticks -3 12 at -1\n")?;
+    prints(&rt, alloc, Report::None(Cause::NoRate), "7 none NoRate\n")?;
     let greatest = Report::Ticks {
         lo: i128::MIN,
         hi: i128::MAX,
     };
     let printed = line(alloc, u64::MAX, &greatest, None)?;
-    let expected = b"18446744073709551615 ticks -170141183460469231731687303715884105728 170141183460469231731687303715884105727\n";
-    assert_eq!(rt; printed.bytes(), expected.as_slice());
+    assert_eq!(rt; printed.bytes(), GREATEST);
     Ok(())
 }

@@ -1,0 +1,6 @@
+-- No event changes the client.
+use Rattle.std.proofs.Common.{◌≡◌}
+use Rattle.css_companion.proofs.tests.play.Given as goal
+
+abbrev pub invariant-loop-event : goal.invariant-loop-event
+invariant-loop-event g l = l.companion.client ≡ l.fn.companion.client
