@@ -269,6 +269,9 @@ const NO_TIMELINES: &str = r#"cii {"timelines":null,"private":0.2}"#;
 const GREATEST: &[u8] =
     b"18446744073709551615 ticks -170141183460469231731687303715884105728 170141183460469231731687303715884105727\n";
 
+const ONE_WRITTEN: &str =
+    r#"{"timelines":[{"timelineProperties":{"unitsPerSecond":50,"unitsPerTick":1},"timelineSelector":"urn:x:1"}]}"#;
+
 const ONE_TOLD: &str =
     r#"cii {"timelines":[{"timelineSelector":"urn:x:1","timelineProperties":{"unitsPerTick":1,"unitsPerSecond":50,"accuracy":0.2}}]}"#;
 
@@ -305,16 +308,23 @@ fn a_text_changes_what_it_names(rt: HostRuntime) -> Result<(), Fail> {
     Ok(())
 }
 
+fn companion_after(alloc: Global, event: &str) -> Result<Companion, Fail> {
+    let mut companion = new_companion(alloc, STAMPS, EXACT)?;
+    let _ = happen(&mut companion, alloc, event)?;
+    Ok(companion)
+}
+
+fn difference(alloc: Global, before: &Companion, after: &Companion) -> Result<Text, Fail> {
+    let change = diff(before.state(), after.state())?;
+    Ok(write_message(alloc, &change)?)
+}
+
 #[test]
 fn the_difference_of_two_states_is_what_a_text_names(rt: HostRuntime) -> Result<(), Fail> {
-    let alloc = rt.alloc();
-    let mut before = new_companion(alloc, STAMPS, EXACT)?;
-    let mut after = new_companion(alloc, STAMPS, EXACT)?;
-    let _ = happen(&mut before, alloc, NO_TIMELINES)?;
-    let _ = happen(&mut after, alloc, ONE_TOLD)?;
-    let change = write_message(alloc, &diff(before.state(), after.state())?)?;
-    let expected = format!(in alloc; "{{\"timelines\":{ONE}}}")?;
-    assert_eq!(rt; change.bytes(), expected.as_bytes());
+    let before = companion_after(rt.alloc(), NO_TIMELINES)?;
+    let after = companion_after(rt.alloc(), ONE_TOLD)?;
+    let change = difference(rt.alloc(), &before, &after)?;
+    assert_eq!(rt; change.bytes(), ONE_WRITTEN.as_bytes());
     Ok(())
 }
 
@@ -331,8 +341,7 @@ fn a_refused_text_changes_nothing(rt: HostRuntime) -> Result<(), Fail> {
 
 /// The fault of an event after the full state.
 fn fault_of(alloc: Global, words: &str) -> Result<CompanionFault, Fail> {
-    let mut companion = new_companion(alloc, STAMPS, EXACT)?;
-    let _ = happen(&mut companion, alloc, FULL)?;
+    let mut companion = companion_after(alloc, FULL)?;
     let event = event_of(alloc, words)?;
     match companion.step(event) {
         Err(fault) => Ok(fault),
@@ -341,24 +350,33 @@ fn fault_of(alloc: Global, words: &str) -> Result<CompanionFault, Fail> {
 }
 
 #[test]
-fn a_fault_tells_what_it_is_of(rt: HostRuntime) -> Result<(), Fail> {
-    let alloc = rt.alloc();
-    match fault_of(alloc, r#"cii {"wcUrl":"udp://b:1"}"#)? {
+fn a_move_tells_both_addresses(rt: HostRuntime) -> Result<(), Fail> {
+    match fault_of(rt.alloc(), r#"cii {"wcUrl":"udp://b:1"}"#)? {
         CompanionFault::Moved { property, old, new } => {
             assert_eq!(rt; property, CiiName::WcUrl);
             assert_eq!(rt; old.bytes(), b"udp://127.0.0.1:6677".as_slice());
             assert_eq!(rt; new.bytes(), b"udp://b:1".as_slice());
+            Ok(())
         }
-        _ => return Err("not moved".into()),
+        _ => Err("not moved".into()),
     }
-    match fault_of(alloc, r#"cii {"teUrl":5}"#)? {
+}
+
+#[test]
+fn a_bad_text_has_its_number(rt: HostRuntime) -> Result<(), Fail> {
+    match fault_of(rt.alloc(), r#"cii {"teUrl":5}"#)? {
         CompanionFault::BadCii { text, fault } => {
             assert_eq!(rt; text, 2);
             assert_eq!(rt; fault, CiiFault::Field(CiiName::TeUrl));
+            Ok(())
         }
-        _ => return Err("not bad".into()),
+        _ => Err("not bad".into()),
     }
-    let told = format!(in alloc; "{}", CompanionFault::Memory)?;
+}
+
+#[test]
+fn want_of_memory_has_its_words(rt: HostRuntime) -> Result<(), Fail> {
+    let told = format!(in rt.alloc(); "{}", CompanionFault::Memory)?;
     assert_eq!(rt; told.as_str(), "out of memory");
     Ok(())
 }
