@@ -115,9 +115,14 @@ change_ordered c =
 -- each timeline's object is UTF-8 where its selector is
 timelines_utf8 : (ts : List Timeline) → SelectorsAreUtf8 ts → ItemsHaveUtf8 (timelines_items ts)
 timelines_utf8 [] h = tt
-timelines_utf8 (t ∷ ts) h =
-    ((IsUtf8-are_ascii _ refl, (IsUtf8-are_ascii _ refl, tt, (IsUtf8-are_ascii _ refl, tt, tt)),
-    (IsUtf8-are_ascii _ refl, h.0, tt)), timelines_utf8 ts h.1)
+timelines_utf8 (t ∷ ts) h = (
+  (
+    IsUtf8-are_ascii _ refl,
+    (IsUtf8-are_ascii _ refl, tt, (IsUtf8-are_ascii _ refl, tt, tt)),
+    (IsUtf8-are_ascii _ refl, h.0, tt),
+  ),
+  timelines_utf8 ts h.1,
+)
 
 -- each name is ASCII
 name_utf8 : (p : CiiName) → IsUtf8 (json_name p)
