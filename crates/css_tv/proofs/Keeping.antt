@@ -1,13 +1,11 @@
 -- What always holds of a stage is kept by each event.
-use Rattle.std.proofs.Common.{◌≡◌, ℕ, zero, suc, ◌+◌, ◌-◌, ◌<◌, ◌≤◌, Bool, true, false, cond, eqb, not, List, [], ◌∷◌, ◌++◌, length, set, Option, Some, None, Result, Ok, Err, refl, sym, ap, subst, ◌∙◌, arith, nat_lt, nat_le}
-use Rattle.std.specs.Prelude.{is_some, ℤ, pos, map, filter, codes, option_map, option_and_then, unsigned_abs, slice_get, slice_set, IsSome, int_lt}
-use Rattle.std.specs.Ordering.{int_eq}
+use Rattle.std.proofs.Common.{◌≡◌, ℕ, zero, suc, ◌-◌, ◌<◌, ◌≤◌, Bool, true, false, cond, eqb, not, List, [], ◌∷◌, ◌++◌, length, set, Option, Some, None, Result, Ok, Err, refl, sym, ap, subst, ◌∙◌, arith, nat_lt, nat_le}
+use Rattle.std.specs.Prelude.{is_some, ℤ, pos, map, filter, codes, option_map, option_and_then, unsigned_abs, slice_get, IsSome, int_lt}
 use Rattle.std.proofs.lemmas.List.{length-map}
 use Rattle.std.proofs.lemmas.Bool.Decides.{nat_tests}
-use Rattle.css_num.specs.Rates.{TickRate}
 use Rattle.css_cii.specs.declared.state.State.{State}
-use Rattle.css_player.specs.Player.{Track, Programme, Segment, Player, media_limit, max_delay}
-use Rattle.css_player.specs.Segments.{control_of, control_in, control_from, present, numbered, told_of, turned, delayed, changed_to, sped, sped_to, sought, sought_to, media_at, with_segment, commanded, with_delay, with_programme, with_track, with_timeline}
+use Rattle.css_player.specs.Player.{Track, Programme, Segment, Player, media_limit}
+use Rattle.css_player.specs.Segments.{control_of, control_in, control_from, present, numbered, told_of, turned, changed_to, sped, sped_to, sought, sought_to, media_at, with_segment, commanded, with_delay, with_programme, with_track, with_timeline}
 use Rattle.css_player.specs.Events.{Event as PlayerCall}
 use Rattle.css_player.specs.declared.command.Command.{Command}
 use Rattle.css_player.specs.declared.command.Command.TheVariants as command
@@ -21,10 +19,10 @@ use Rattle.css_tsmsg.specs.declared.fault.TsFault.{TsFault}
 use Rattle.css_sessions.specs.declared.session.Kind.{Kind}
 use Rattle.css_sessions.specs.declared.session.Talk.{Talk}
 use Rattle.css_sessions.specs.declared.session.Session.{Session}
-use Rattle.css_sessions.specs.Kept.{Event as SessionsCall, Kept, Opened, SetUp, Published, Presented, Dropped, Closed, step_of, with_session, with_talk, begun, talk_of, set_up_in}
+use Rattle.css_sessions.specs.Kept.{Opened, SetUp, Closed, with_session, with_talk, begun, talk_of, set_up_in}
 use Rattle.css_tv.specs.States.{published_state, status_of}
 use Rattle.css_tv.specs.Stages.{Stage, IsStage, IsShown, IsShownOf, max_sessions}
-use Rattle.css_tv.specs.Outcomes.{Outcome, by_player, published, programme_added, timeline_added, viewed, only, hung_up, opened, by_setup, choice, windows_after, presented, by_presentation, heard, outcome, outcome_at, kept_after, stage_after, tv_fault}
+use Rattle.css_tv.specs.Outcomes.{Outcome, by_player, programme_added, timeline_added, viewed, only, hung_up, opened, by_setup, choice, windows_after, presented, by_presentation, heard, outcome_at, kept_after, stage_after}
 use Rattle.css_tv.specs.declared.state.Addresses.{Addresses}
 use Rattle.css_tv.specs.declared.event.TvEvent.{TvEvent}
 use Rattle.css_tv.specs.declared.event.TvEvent.TheVariants as event

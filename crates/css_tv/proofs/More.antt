@@ -1,20 +1,19 @@
 -- One event more.
-use Rattle.std.proofs.Common.{◌≡◌, ℕ, true, false, List, [], ◌∷◌, ◌++◌, Result, Ok, Err, refl, sym, ap, subst, ◌∙◌, append_assoc}
+use Rattle.std.proofs.Common.{◌≡◌, ℕ, List, [], ◌∷◌, ◌++◌, Result, Ok, Err, refl, sym, ap, subst, ◌∙◌, append_assoc}
 use Rattle.std.proofs.Common.{ap₂}
 use Rattle.std.specs.Prelude.{eqb, filter, map, reverse, OnOk}
 use Rattle.std.specs.List.{filter_map}
 use Rattle.std.proofs.lemmas.List.{append-nil, map-append, reverse-append}
 use Rattle.std.proofs.lemmas.List.Elements.{filter-append, filter_map-append}
 use Rattle.css_player.specs.Player.{Player}
-use Rattle.css_player.specs.Events.{player_of}
 use Rattle.css_player.specs.Events.{StandsFor as PlayerStandsFor}
 use Rattle.css_sessions.specs.declared.session.Said.{Said}
 use Rattle.css_sessions.specs.Kept.{Event as SessionsCall, Kept, step_of}
 use Rattle.css_sessions.specs.Told.{StandsFor as SessionsStandFor, IsTold as AreSaid, IsLawful, sessions_of, said_to, texts_of}
 use Rattle.css_sessions.proofs.Telling.{told_now}
 use Rattle.css_tv.specs.Stages.{Stage, IsStage}
-use Rattle.css_tv.specs.Outcomes.{Outcome, outcome, outcome_at, kept_after, said_after, stage_after, outs, say}
-use Rattle.css_tv.specs.Standing.{Calls, StandsFor, IsFresh, IsAfterBy, Steps, Grows, GrowsBy, Stands, Tells, IsTold, calls_of, with_outcome, said_by}
+use Rattle.css_tv.specs.Outcomes.{Outcome, outcome, outcome_at, kept_after, said_after, outs, say}
+use Rattle.css_tv.specs.Standing.{Calls, StandsFor, IsFresh, IsAfterBy, Steps, GrowsBy, Stands, Tells, IsTold, calls_of, with_outcome, said_by}
 use Rattle.css_tv.specs.declared.event.TvEvent.{TvEvent}
 use Rattle.css_tv.specs.declared.event.TvOut.{TvOut}
 use Rattle.css_tv.specs.declared.event.TvOut.TheVariants as out

@@ -1,8 +1,7 @@
 -- What an event of a television does: what is shown after it, what it adds to the player's calls and to the sessions'
 -- calls, whose session is hung up, and so what is told.
-use Rattle.std.specs.Prelude.{◌≡◌, ◌⊎◌, ℕ, ◌==◌, ◌<◌, nat_lt, ℤ, pos, Bool, true, false, List, [], ◌∷◌, ◌++◌, map, length, Option, Some, None, Result, Ok, Err, MatchResult, if◌then◌else◌, ⊤}
+use Rattle.std.specs.Prelude.{ℕ, ◌==◌, nat_lt, pos, Bool, true, false, List, [], ◌∷◌, ◌++◌, map, length, Option, Some, None, Result, Ok, Err, if◌then◌else◌}
 use Rattle.std.specs.Ordering.{int_eq}
-use Rattle.std.specs.Str.{IsUtf8}
 use Rattle.css_player.specs.Player.{Player, Segment, max_delay}
 use Rattle.css_player.specs.Segments.{commanded, with_delay, with_programme, with_timeline}
 use Rattle.css_player.specs.Events.{Event as PlayerCall, ProgrammeAdded, TimelineAdded, Commanded, Delayed}

@@ -1,4 +1,4 @@
-use Rattle.std.proofs.Common.{◌≡◌, sym, ap, ◌∙◌}
+use Rattle.std.proofs.Common.{sym, ap, ◌∙◌}
 use Rattle.css_sessions.specs.Told.{life_of, texts_of_lived}
 use Rattle.css_sessions.proofs.Telling.{life_of-own}
 use Rattle.css_tv.specs.Standing.{calls_of}

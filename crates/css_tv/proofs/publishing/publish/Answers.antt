@@ -1,4 +1,4 @@
-use Rattle.std.proofs.Common.{◌≡◌, ◌+◌, ◌≤◌, ◌++◌, length, ap, sym, ◌∙◌, arith}
+use Rattle.std.proofs.Common.{◌≡◌, ◌++◌, length, ap, ◌∙◌, arith}
 use Rattle.css_sessions.specs.Kept.{Published, step_of}
 use Rattle.css_tv.proofs.Room.{few_news}
 use Rattle.css_tv.proofs.publishing.publish.Goals as goal

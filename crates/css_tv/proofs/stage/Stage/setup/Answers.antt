@@ -1,4 +1,4 @@
-use Rattle.std.proofs.Common.{◌≡◌, ◌+◌, ◌≤◌, Ok, length, refl, ap, sym, subst, ◌∙◌, arith}
+use Rattle.std.proofs.Common.{Ok, refl, subst, arith}
 use Rattle.css_tsmsg.specs.Setups.{setup_of}
 use Rattle.css_tv.specs.Stages.{Stage}
 use Rattle.css_tv.specs.Outcomes.{by_setup}
