@@ -1,7 +1,7 @@
 ghost use Rattle.std.specs.Prelude.{◌≡◌, OnOk, OnErr};
 ghost use Rattle.std.specs.Io.KnownBytes.{Appends};
 ghost use Rattle.css_outside.specs.Bytes.{AppendsPrefix};
-ghost use Rattle.css_outside.specs.Faults.{CountsWriteFaults};
+ghost use Rattle.css_outside.specs.Faults.{CountsCall};
 ghost use Rattle.css_app.specs.Ended.{status_line, status_number, words_line};
 
 use crate::status::Status;
@@ -23,7 +23,7 @@ pub fn tell<K: Sink>(alloc: Global, status: &Status, sink: &mut K) -> Ending
     ensures number { result.number ≡ status_number status.now }
     ensures told { OnOk result.told (Appends (K.holds sink.old) (K.holds sink.new) (status_line status.now)) }
     ensures part { OnErr result.told (AppendsPrefix (K.holds sink.old) (K.holds sink.new) (status_line status.now)) }
-    ensures counted { CountsWriteFaults (K.faults sink.old) (K.faults sink.new) result.told }
+    ensures counted { CountsCall (K.faults sink.old) (K.faults sink.new) result.told }
 {
     Ending {
         number: status.number(),
@@ -34,7 +34,7 @@ pub fn tell<K: Sink>(alloc: Global, status: &Status, sink: &mut K) -> Ending
 fn print_line<K: Sink>(alloc: Global, status: &Status, sink: &mut K) -> Result<(), OutFault>
     ensures told { OnOk result (Appends (K.holds sink.old) (K.holds sink.new) (status_line status.now)) }
     ensures part { OnErr result (AppendsPrefix (K.holds sink.old) (K.holds sink.new) (status_line status.now)) }
-    ensures counted { CountsWriteFaults (K.faults sink.old) (K.faults sink.new) result }
+    ensures counted { CountsCall (K.faults sink.old) (K.faults sink.new) result }
 {
     match status {
         Status::Done => write_all(sink, b""),
@@ -46,7 +46,7 @@ fn print_line<K: Sink>(alloc: Global, status: &Status, sink: &mut K) -> Result<(
 fn print_words<K: Sink>(alloc: Global, status: &Status, sink: &mut K) -> Result<(), OutFault>
     ensures told { OnOk result (Appends (K.holds sink.old) (K.holds sink.new) (words_line status.now)) }
     ensures part { OnErr result (AppendsPrefix (K.holds sink.old) (K.holds sink.new) (words_line status.now)) }
-    ensures counted { CountsWriteFaults (K.faults sink.old) (K.faults sink.new) result }
+    ensures counted { CountsCall (K.faults sink.old) (K.faults sink.new) result }
 {
     match format!(in alloc; "css: {status}\n") {
         Ok(line) => write_all(sink, line.as_bytes()),
