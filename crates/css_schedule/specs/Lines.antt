@@ -1,16 +1,115 @@
--- The lines of a schedule after its header, as words.
-use Rattle.std.specs.Prelude.{ℕ, if◌then◌else◌, List, Result, Ok, Err, codes, bytes_eq}
+-- The lines of a schedule after its header, and those of a script, as words.
+use Rattle.std.specs.Prelude.{ℕ, ℤ, ◌^◌, ◌+◌, if◌then◌else◌, List, Option, Some, None, Result, Ok, Err, codes, bytes_eq}
 use Rattle.css_model.specs.declared.TheConstants.{LIMIT}
+use Rattle.css_num.specs.Rates.{TickRate, rate_of}
+use Rattle.css_num.specs.Words.{whole_number_of}
+use Rattle.css_player.specs.declared.command.Command.{Command}
+use Rattle.css_player.specs.declared.command.Command.TheVariants.{Change, Speed, Seek}
+use Rattle.css_sessions.specs.declared.session.Kind.{Kind}
+use Rattle.css_sessions.specs.declared.session.Kind.TheVariants.{Cii, Ts}
+use Rattle.css_tsmsg.specs.declared.bound.Bound.{Bound}
+use Rattle.css_tsmsg.specs.declared.bound.Bound.TheVariants as bounds
 use Rattle.css_schedule.specs.declared.fault.LineFault.{LineFault}
 use Rattle.css_schedule.specs.declared.fault.LineFault.TheVariants.{Form}
 use Rattle.css_schedule.specs.declared.line.Verb.{Verb}
 use Rattle.css_schedule.specs.declared.line.Verb.TheVariants as verbs
 use Rattle.css_schedule.specs.declared.line.Line.{Line}
-use Rattle.css_schedule.specs.Words.{At, ◌>>=◌, word_at, number_at, ordinal_at, all_read, words_of}
+use Rattle.css_schedule.specs.declared.line.ScriptLine.{ScriptLine}
+use Rattle.css_schedule.specs.Words.{At, ◌>>=◌, or_form, word_at, number_at, ordinal_at, integer_at, text_at, after_word, all_read, words_of}
 
+-- ---- what several verbs have
 -- a time in nanoseconds: below 2^32 seconds
 abbrev pub time_at : At ℕ
 time_at words = number_at LIMIT words
+
+-- a tick or a media position: at most 18 digits
+abbrev pub position_at : At ℤ
+position_at words = integer_at 18 words
+
+-- the kind of a session, by the word for it
+abbrev pub kind_of : List ℕ → Result Kind LineFault
+kind_of word =
+    if bytes_eq word (codes "cii") then Ok Cii
+    else if bytes_eq word (codes "ts") then Ok Ts
+    else Err Form
+
+-- the kind of a session
+unfoldable pub kind_at : At Kind
+kind_at words = do
+  word ← word_at words
+  kind ← kind_of word.0
+  Ok (kind, word.1)
+
+-- `UPT UPS`: a tick rate, each part 1 to 10^9
+unfoldable pub rate_at : At TickRate
+rate_at words = do
+  units_per_tick ← ordinal_at words
+  units_per_second ← ordinal_at units_per_tick.1
+  rate ← or_form (rate_of units_per_tick.0 units_per_second.0)
+  Ok (rate, units_per_second.1)
+
+-- a wall time below 2^63 ns
+unfoldable pub finite_at : At (Option ℕ)
+finite_at words = do
+  wall ← number_at (2 ^ 63) words
+  Ok (Some wall.0, wall.1)
+
+-- a wall time, and None where the word is the infinite one
+unfoldable pub wall_time_at : List ℕ → At (Option ℕ)
+wall_time_at infinite words = do
+  word ← word_at words
+  if bytes_eq word.0 infinite then Ok (None, word.1) else finite_at words
+
+-- the earliest bound with these times
+abbrev pub earliest_of : ℤ → Option ℕ → Bound
+earliest_of content None = bounds.MinusInfinity content
+earliest_of content (Some wall) = bounds.At content wall
+
+-- the latest bound with these times
+abbrev pub latest_of : ℤ → Option ℕ → Bound
+latest_of content None = bounds.PlusInfinity content
+latest_of content (Some wall) = bounds.At content wall
+
+-- `EC EW`: the earliest bound of a presentation
+unfoldable pub earliest_at : At Bound
+earliest_at words = do
+  content ← position_at words
+  wall ← wall_time_at (codes "minusinfinity") content.1
+  Ok (earliest_of content.0 wall.0, wall.1)
+
+-- `LC LW`: its latest bound
+unfoldable pub latest_at : At Bound
+latest_at words = do
+  content ← position_at words
+  wall ← wall_time_at (codes "plusinfinity") content.1
+  Ok (latest_of content.0 wall.0, wall.1)
+
+-- ---- a viewer's command
+-- `N` of `change`
+unfoldable pub change_at : At Command
+change_at words = do
+  programme ← ordinal_at words
+  Ok (Change programme.0, programme.1)
+
+-- `S` of `speed`: at most 3 digits
+unfoldable pub speed_at : At Command
+speed_at words = do
+  speed ← integer_at 3 words
+  Ok (Speed speed.0, speed.1)
+
+-- `M` of `seek`
+unfoldable pub seek_at : At Command
+seek_at words = do
+  media ← position_at words
+  Ok (Seek media.0, media.1)
+
+-- the command of the verb with this name
+unfoldable pub command_at : List ℕ → At Command
+command_at name words =
+    if bytes_eq name (codes "change") then change_at words
+    else if bytes_eq name (codes "speed") then speed_at words
+    else if bytes_eq name (codes "seek") then seek_at words
+    else Err Form
 
 -- ---- the operands of each verb
 -- `ask R`
@@ -46,6 +145,76 @@ wall_at words = do
   reading ← time_at words
   Ok (verbs.Wall reading.0, reading.1)
 
+-- `print R`
+unfoldable pub print_at : At Verb
+print_at words = do
+  reading ← time_at words
+  Ok (verbs.Print reading.0, reading.1)
+
+-- `programme ID`
+unfoldable pub programme_at : At Verb
+programme_at words = do
+  content_id ← text_at words
+  Ok (verbs.Programme content_id.0, content_id.1)
+
+-- `timeline N SELECTOR UPT UPS BASE`
+unfoldable pub timeline_at : At Verb
+timeline_at words = do
+  programme ← ordinal_at words
+  selector ← text_at programme.1
+  rate ← rate_at selector.1
+  base ← position_at rate.1
+  Ok (verbs.Timeline programme.0 selector.0 rate.0 base.0, base.1)
+
+-- `change R N`, `speed R S` and `seek R M`, by their name
+unfoldable pub viewer_at : List ℕ → At Verb
+viewer_at name words = do
+  reading ← time_at words
+  command ← command_at name reading.1
+  Ok (verbs.Viewer reading.0 command.0, command.1)
+
+-- `open KIND`
+unfoldable pub opening_at : At Verb
+opening_at words = do
+  kind ← kind_at words
+  Ok (verbs.Opening kind.0, kind.1)
+
+-- `text KIND`
+unfoldable pub bring_at : At Verb
+bring_at words = do
+  kind ← kind_at words
+  Ok (verbs.Bring kind.0, kind.1)
+
+-- `up ts`
+unfoldable pub up_at : At Verb
+up_at words = do
+  rest ← after_word (codes "ts") words
+  Ok (verbs.Up, rest)
+
+-- `present EC EW LC LW`
+unfoldable pub present_at : At Verb
+present_at words = do
+  earliest ← earliest_at words
+  latest ← latest_at earliest.1
+  Ok (verbs.Present earliest.0 latest.0, latest.1)
+
+-- `close KIND`
+unfoldable pub close_at : At Verb
+close_at words = do
+  kind ← kind_at words
+  Ok (verbs.Close kind.0, kind.1)
+
+-- ---- lines
+-- the operands of the verb with this name, where it is one of a session; else it is a viewer's, or none
+unfoldable pub session_at : List ℕ → At Verb
+session_at name words =
+    if bytes_eq name (codes "open") then opening_at words
+    else if bytes_eq name (codes "text") then bring_at words
+    else if bytes_eq name (codes "up") then up_at words
+    else if bytes_eq name (codes "present") then present_at words
+    else if bytes_eq name (codes "close") then close_at words
+    else viewer_at name words
+
 -- the operands of the verb with this name
 unfoldable pub operands_at : List ℕ → At Verb
 operands_at name words =
@@ -54,7 +223,10 @@ operands_at name words =
     else if bytes_eq name (codes "give") then give_at words
     else if bytes_eq name (codes "land") then land_at words
     else if bytes_eq name (codes "wall") then wall_at words
-    else Err Form
+    else if bytes_eq name (codes "print") then print_at words
+    else if bytes_eq name (codes "programme") then programme_at words
+    else if bytes_eq name (codes "timeline") then timeline_at words
+    else session_at name words
 
 -- a verb and its operands
 unfoldable pub verb_at : At Verb
@@ -75,3 +247,35 @@ line_of_words words = do
 -- the line that bytes are, or that they are none
 abbrev pub line_of : List ℕ → Result Line LineFault
 line_of bytes = line_of_words (words_of bytes)
+
+-- ---- lines of a script
+-- a viewer's command without a reading, in whose place 0 stands
+unfoldable pub due_command_at : List ℕ → At Verb
+due_command_at name words = do
+  command ← command_at name words
+  Ok (verbs.Viewer 0 command.0, command.1)
+
+-- the operands of the verb with this name in a script
+unfoldable pub script_operands_at : List ℕ → At Verb
+script_operands_at name words =
+    if bytes_eq name (codes "programme") then programme_at words
+    else if bytes_eq name (codes "timeline") then timeline_at words
+    else due_command_at name words
+
+-- a verb of a script and its operands
+unfoldable pub script_verb_at : At Verb
+script_verb_at words = do
+  name ← word_at words
+  script_operands_at name.0 name.1
+
+-- `W VERB ..`: when the line is due, by the television's wall clock, and what happens then
+unfoldable pub script_of_words : List (List ℕ) → Result ScriptLine LineFault
+script_of_words words = do
+  due ← time_at words
+  verb ← script_verb_at due.1
+  end ← all_read verb.1
+  Ok (record { due = due.0; verb = verb.0 })
+
+-- the line of a script that bytes are, or that they are none
+abbrev pub script_of : List ℕ → Result ScriptLine LineFault
+script_of bytes = script_of_words (words_of bytes)

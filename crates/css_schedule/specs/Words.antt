@@ -59,18 +59,24 @@ number_at below words = do
   number ← or_form (whole_number_of word.0 below)
   Ok (number, word.1)
 
--- the number of a request, a take or a datagram: 1 to 2^32 - 1
+-- the number of a request, a take, a datagram or a programme: 1 to 2^32 - 1
 unfoldable pub ordinal_at : At ℕ
 ordinal_at words = do
   number ← number_at 4294967296 words
   if number.0 == 0 then Err Form else Ok number
 
--- a signed number of at most so many digits, from low to high
-unfoldable pub signed_at : ℕ → ℤ → ℤ → At ℤ
-signed_at digits low high words = do
+-- a signed number of at most so many digits
+unfoldable pub integer_at : ℕ → At ℤ
+integer_at digits words = do
   word ← word_at words
   number ← or_form (signed_number_of word.0 digits)
-  if int_lt number low then Err Form else if int_lt high number then Err Form else Ok (number, word.1)
+  Ok (number, word.1)
+
+-- the same, from low to high
+unfoldable pub signed_at : ℕ → ℤ → ℤ → At ℤ
+signed_at digits low high words = do
+  number ← integer_at digits words
+  if int_lt number.0 low then Err Form else if int_lt high number.0 then Err Form else Ok number
 
 -- a word that stands for itself
 unfoldable pub text_at : At (List ℕ)

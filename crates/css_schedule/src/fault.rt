@@ -2,6 +2,7 @@ ghost use Rattle.std.specs.Prelude.{◌≡◌};
 ghost use Rattle.css_schedule.specs.declared.fault.LineFault.TheVariants as faults;
 
 use css_num::Memory;
+use css_player::PlayerFault;
 use std::error::Error;
 use std::fmt;
 
@@ -35,5 +36,35 @@ impl From<Memory> for LineFault {
 
     fn from(_: Memory) -> LineFault {
         LineFault::Memory
+    }
+}
+
+/// Why a line of a schedule or a script ends the run.
+#[derive(Clone, Copy, Debug, PartialEq, Eq)]
+pub enum LineWhy {
+    /// It has more than 4,096 bytes, or the 67,108,865th byte of the input stands in it.
+    Long,
+    /// It is outside the grammar, or a number is outside its range.
+    Form,
+    /// What it names isn't there: a request that wasn't sent, a take that wasn't made or has its answer, a datagram that
+    /// wasn't made, a session that isn't open, or a text where none is in flight; or it opens a session a second time.
+    Absent,
+    /// The television's player refuses it. Want of memory never stands here.
+    Player(PlayerFault),
+}
+
+impl fmt::Display for LineWhy {
+    ghost use Rattle.std.specs.Prelude.{Some};
+    ghost use Rattle.css_schedule.specs.FaultWords.{why_words};
+
+    ghost output = { λ why. Some (why_words why) };
+
+    fn fmt<W: fmt::Write>(&self, f: &mut fmt::Formatter<W>) -> fmt::Result {
+        match self {
+            LineWhy::Long => f.write_str("long"),
+            LineWhy::Form => f.write_str("form"),
+            LineWhy::Absent => f.write_str("absent"),
+            LineWhy::Player(fault) => write!(f, "{fault}"),
+        }
     }
 }

@@ -13,9 +13,13 @@ mod reading;
 mod tests;
 mod words;
 
+pub use css_num::{Rate, Text};
+pub use css_player::{Command, PlayerFault};
+pub use css_sessions::Kind;
 pub use css_span::Local;
-pub use fault::LineFault;
+pub use css_tsmsg::Bound;
+pub use fault::{LineFault, LineWhy};
 pub use header::{CompanionLine, Companions, Header, Start};
-pub use line::{Line, Verb};
+pub use line::{Line, ScriptLine, Verb};
 pub use opening::read_header;
 pub use reading::read_line;

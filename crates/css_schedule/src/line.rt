@@ -1,4 +1,9 @@
-/// What happens at a line.
+use css_num::{Rate, Text};
+use css_player::Command;
+use css_sessions::Kind;
+use css_tsmsg::Bound;
+
+/// What happens at a line. A reading is in nanoseconds, below 2^32 seconds, and a number is 1 to 2^32 - 1.
 #[derive(Debug, Drop, PartialEq, Eq)]
 pub enum Verb {
     /// The companion sends its next request, at this reading of its clock. Requests are numbered from 1.
@@ -11,6 +16,32 @@ pub enum Verb {
     Land { datagram: u32, reading: u64 },
     /// The span of the television's wall clock is printed, at this reading of the companion's clock.
     Wall { reading: u64 },
+    /// The companion's report is printed, at this reading of its clock.
+    Print { reading: u64 },
+    /// The television adds a programme with this content id. Programmes are numbered from 1.
+    Programme { content_id: Text },
+    /// The television adds a timeline to a programme, by number. Its base is the tick at the media position 0, and has
+    /// at most 18 digits.
+    Timeline {
+        programme: u32,
+        selector: Text,
+        rate: Rate,
+        base: i64,
+    },
+    /// A viewer's command, at this reading of the television's wall clock. A speed has at most 3 digits and a media
+    /// position, in nanoseconds, at most 18.
+    Viewer { reading: u64, command: Command },
+    /// The companion's session of this kind opens at both ends.
+    Opening { kind: Kind },
+    /// The next text in flight to the companion, on its session of this kind, comes to it.
+    Bring { kind: Kind },
+    /// The next text in flight to the television, on the TS session, comes to it.
+    Up,
+    /// The companion sends a presentation. Its earliest bound is never `PlusInfinity`, its latest never
+    /// `MinusInfinity`; a content time has at most 18 digits, and a wall time is below 2^63 ns.
+    Present { earliest: Bound, latest: Bound },
+    /// Both ends learn that the session of this kind closed. Its texts in flight are lost.
+    Close { kind: Kind },
 }
 
 /// A line of a schedule after the header. Its times are nanoseconds below 2^32 seconds.
@@ -25,5 +56,15 @@ pub struct Line {
     /// What that companion's clock shows.
     pub l: u64,
     /// What happens.
+    pub verb: Verb,
+}
+
+/// A line of a television's script.
+#[derive(Debug, Drop, PartialEq, Eq)]
+pub struct ScriptLine {
+    /// When it is due, by the television's wall clock, in nanoseconds below 2^32 seconds.
+    pub due: u64,
+    /// What happens then: a `Programme`, a `Timeline` or a `Viewer`. The reading of its `Viewer` is 0: the reading at
+    /// which the line is carried out stands in its place.
     pub verb: Verb,
 }
