@@ -2,9 +2,10 @@
 use Rattle.std.specs.Prelude.{◌≡◌, ℕ, ◌&&◌, ◌==◌, ℤ, int_lt, Bool, not, nat_le, if◌then◌else◌, List, [], ◌∷◌, length, Option, Some, None, Result, Ok, Err, bytes_eq}
 use Rattle.std.specs.Option.{option_copied}
 use Rattle.std.specs.List.{slice_split, list_all}
+use Rattle.css_num.specs.Gives.{GivesBy}
 use Rattle.css_num.specs.Words.{number_of, whole_number_of, signed_number_of}
 use Rattle.css_schedule.specs.declared.fault.LineFault.{LineFault}
-use Rattle.css_schedule.specs.declared.fault.LineFault.TheVariants.{Form}
+use Rattle.css_schedule.specs.declared.fault.LineFault.TheVariants.{Form, Memory}
 use Rattle.css_schedule.specs.declared.words.Words.{Words}
 
 -- exactly one space stands between two words
@@ -46,6 +47,10 @@ or_form (Some x) = Ok x
 -- What is read at the front of words, and the words after it.
 abbrev pub At : Type 0 → Type 0
 At A = List (List ℕ) → Result (A × List (List ℕ)) LineFault
+
+-- the call answers what is read at the front of words, and the words after it, or it answers want of memory
+abbrev pub Reads : {A : Type 0} → Result (A × Words) LineFault → Result (A × List (List ℕ)) LineFault → Type 0
+Reads result expected = GivesBy (λ x. (x.0, words_left x.1)) Memory result expected
 
 -- the first word
 abbrev pub word_at : At (List ℕ)

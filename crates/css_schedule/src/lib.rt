@@ -1,13 +1,16 @@
 //! Schedules: what happens at a television and its companions, line by line, as a text that a person can write.
 //!
 //! Line 1 is the header, which names the declared errors and precisions of the clocks. Each other line gives the true
-//! time, the two clocks, and what happens then.
+//! time, the two clocks, and what happens then. A television's script has lines of its own: when each is due, and what the
+//! television does then.
 #![tactic(auto)]
 
 mod fault;
 mod header;
 mod line;
 mod opening;
+mod parts;
+mod printing;
 mod reading;
 #[cfg(test)]
 mod tests;
@@ -22,4 +25,5 @@ pub use fault::{LineFault, LineWhy};
 pub use header::{CompanionLine, Companions, Header, Start};
 pub use line::{Line, ScriptLine, Verb};
 pub use opening::read_header;
-pub use reading::read_line;
+pub use printing::{print_header, print_line};
+pub use reading::{read_line, read_script};

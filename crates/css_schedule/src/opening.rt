@@ -2,7 +2,7 @@ ghost use Rattle.std.specs.Prelude.{◌≡◌, ◌≤◌, ◌≤ℤ◌, pos, ◌
 ghost use Rattle.std.specs.Str.{IsUtf8};
 ghost use Rattle.css_model.specs.Numbers.{max_error, max_local_error, max_local_precision};
 ghost use Rattle.css_num.specs.Gives.{GivesBy};
-ghost use Rattle.css_schedule.specs.Words.{words_left};
+ghost use Rattle.css_schedule.specs.Words.{words_left, Reads};
 ghost use Rattle.css_schedule.specs.Headers.{after_version, mode_of, mode_at, declared_at, stem_of, header_of};
 ghost use Rattle.css_schedule.specs.Ranges.{IsStart, IsCompanion};
 ghost use Rattle.css_schedule.specs.declared.fault.LineFault.TheVariants as faults;
@@ -61,7 +61,7 @@ fn follows(word: &[u8]) -> Result<bool, LineFault>
 
 #[tactic(auto, unfolding(crate::specs::Headers::mode_at))]
 fn mode<'a>(words: Words<'a>) -> Result<(bool, Words<'a>), LineFault>
-    ensures { GivesBy (λ x. (x.0, words_left x.1)) faults.Memory result (mode_at (words_left words.entry)) }
+    ensures { Reads result (mode_at (words_left words.entry)) }
 {
     let (name, rest) = word(words)?;
     let follow = follows(name)?;
@@ -71,7 +71,7 @@ fn mode<'a>(words: Words<'a>) -> Result<(bool, Words<'a>), LineFault>
 // The errors and precisions of the two clocks, each in its range.
 #[tactic(auto, unfolding(crate::specs::Headers::declared_at))]
 fn declaration<'a>(words: Words<'a>) -> Result<(Declared, Words<'a>), LineFault>
-    ensures value { GivesBy (λ x. (x.0, words_left x.1)) faults.Memory result (declared_at (words_left words.entry)) }
+    ensures value { Reads result (declared_at (words_left words.entry)) }
     ensures tv_error { IfOk result (λ x. x.0.tv_error ≤ max_error) }
     ensures tv_precision { IfOk result (λ x. x.0.tv_precision ≤ℤ pos 30) }
     ensures error { IfOk result (λ x. x.0.error ≤ max_local_error) }

@@ -1,26 +1,19 @@
-ghost use Rattle.std.specs.Prelude.{◌≡◌, ◌<◌, IfOk};
+ghost use Rattle.std.specs.Prelude.{◌≡◌, IfOk};
 ghost use Rattle.css_num.specs.Gives.{GivesBy};
-ghost use Rattle.css_schedule.specs.Words.{words_left};
-ghost use Rattle.css_schedule.specs.Lines.{time_at, verb_at, operands_at, ask_at, take_at, give_at, land_at, wall_at, line_of};
-ghost use Rattle.css_schedule.specs.Ranges.{IsVerb, IsLine};
+ghost use Rattle.css_schedule.specs.Words.{words_left, Reads};
+ghost use Rattle.css_schedule.specs.Lines as lines;
+ghost use Rattle.css_schedule.specs.Ranges.{IsLine, IsScriptLine};
 ghost use Rattle.css_schedule.specs.declared.fault.LineFault.TheVariants as faults;
 
-use crate::words::{Words, all_words, finish, number, ordinal, word};
-use crate::{Line, LineFault, Verb};
-use css_model::LIMIT;
-
-// A time in nanoseconds: below 2^32 seconds.
-fn time<'a>(words: Words<'a>) -> Result<(u64, Words<'a>), LineFault>
-    ensures value { GivesBy (λ x. (x.0, words_left x.1)) faults.Memory result (time_at (words_left words.entry)) }
-    ensures range { IfOk result (λ x. x.0 < LIMIT) }
-{
-    number(words, LIMIT)
-}
+use crate::parts::{command, earliest, kind, latest, position, rate, time};
+use crate::words::{Words, all_words, finish, ordinal, skip, text, word};
+use crate::{Line, LineFault, ScriptLine, Verb};
+use css_num::Text;
+use std::alloc::Global;
 
 #[tactic(auto, unfolding(crate::specs::Lines::ask_at))]
 fn ask<'a>(words: Words<'a>) -> Result<(Verb, Words<'a>), LineFault>
-    ensures value { GivesBy (λ x. (x.0, words_left x.1)) faults.Memory result (ask_at (words_left words.entry)) }
-    ensures range { IfOk result (λ x. IsVerb x.0) }
+    ensures { Reads result (lines.ask_at (words_left words.entry)) }
 {
     let (reading, rest) = time(words)?;
     Ok((Verb::Ask { reading }, rest))
@@ -28,8 +21,7 @@ fn ask<'a>(words: Words<'a>) -> Result<(Verb, Words<'a>), LineFault>
 
 #[tactic(auto, unfolding(crate::specs::Lines::take_at))]
 fn take<'a>(words: Words<'a>) -> Result<(Verb, Words<'a>), LineFault>
-    ensures value { GivesBy (λ x. (x.0, words_left x.1)) faults.Memory result (take_at (words_left words.entry)) }
-    ensures range { IfOk result (λ x. IsVerb x.0) }
+    ensures { Reads result (lines.take_at (words_left words.entry)) }
 {
     let (request, rest) = ordinal(words)?;
     let (reading, rest) = time(rest)?;
@@ -38,8 +30,7 @@ fn take<'a>(words: Words<'a>) -> Result<(Verb, Words<'a>), LineFault>
 
 #[tactic(auto, unfolding(crate::specs::Lines::give_at))]
 fn give<'a>(words: Words<'a>) -> Result<(Verb, Words<'a>), LineFault>
-    ensures value { GivesBy (λ x. (x.0, words_left x.1)) faults.Memory result (give_at (words_left words.entry)) }
-    ensures range { IfOk result (λ x. IsVerb x.0) }
+    ensures { Reads result (lines.give_at (words_left words.entry)) }
 {
     let (take, rest) = ordinal(words)?;
     let (reading, rest) = time(rest)?;
@@ -48,8 +39,7 @@ fn give<'a>(words: Words<'a>) -> Result<(Verb, Words<'a>), LineFault>
 
 #[tactic(auto, unfolding(crate::specs::Lines::land_at))]
 fn land<'a>(words: Words<'a>) -> Result<(Verb, Words<'a>), LineFault>
-    ensures value { GivesBy (λ x. (x.0, words_left x.1)) faults.Memory result (land_at (words_left words.entry)) }
-    ensures range { IfOk result (λ x. IsVerb x.0) }
+    ensures { Reads result (lines.land_at (words_left words.entry)) }
 {
     let (datagram, rest) = ordinal(words)?;
     let (reading, rest) = time(rest)?;
@@ -58,18 +48,120 @@ fn land<'a>(words: Words<'a>) -> Result<(Verb, Words<'a>), LineFault>
 
 #[tactic(auto, unfolding(crate::specs::Lines::wall_at))]
 fn wall<'a>(words: Words<'a>) -> Result<(Verb, Words<'a>), LineFault>
-    ensures value { GivesBy (λ x. (x.0, words_left x.1)) faults.Memory result (wall_at (words_left words.entry)) }
-    ensures range { IfOk result (λ x. IsVerb x.0) }
+    ensures { Reads result (lines.wall_at (words_left words.entry)) }
 {
     let (reading, rest) = time(words)?;
     Ok((Verb::Wall { reading }, rest))
 }
 
-// The operands of the verb with this name.
+#[tactic(auto, unfolding(crate::specs::Lines::print_at))]
+fn report<'a>(words: Words<'a>) -> Result<(Verb, Words<'a>), LineFault>
+    ensures { Reads result (lines.print_at (words_left words.entry)) }
+{
+    let (reading, rest) = time(words)?;
+    Ok((Verb::Print { reading }, rest))
+}
+
+#[tactic(auto, unfolding(crate::specs::Lines::programme_at))]
+fn programme<'a>(alloc: Global, words: Words<'a>) -> Result<(Verb, Words<'a>), LineFault>
+    ensures { Reads result (lines.programme_at (words_left words.entry)) }
+{
+    let (content_id, rest) = text(words)?;
+    let content_id = Text::of(alloc, content_id)?;
+    Ok((Verb::Programme { content_id }, rest))
+}
+
+#[tactic(auto, unfolding(crate::specs::Lines::timeline_at))]
+fn timeline<'a>(alloc: Global, words: Words<'a>) -> Result<(Verb, Words<'a>), LineFault>
+    ensures { Reads result (lines.timeline_at (words_left words.entry)) }
+{
+    let (programme, rest) = ordinal(words)?;
+    let (selector, rest) = text(rest)?;
+    let (rate, rest) = rate(rest)?;
+    let (base, rest) = position(rest)?;
+    let timeline = Verb::Timeline {
+        programme,
+        selector: Text::of(alloc, selector)?,
+        rate,
+        base,
+    };
+    Ok((timeline, rest))
+}
+
+// A viewer's command, by its name, after the television's reading.
+#[tactic(auto, unfolding(crate::specs::Lines::viewer_at))]
+fn viewer<'a>(name: &[u8], words: Words<'a>) -> Result<(Verb, Words<'a>), LineFault>
+    ensures { Reads result (lines.viewer_at name.now (words_left words.entry)) }
+{
+    let (reading, rest) = time(words)?;
+    let (command, rest) = command(name, rest)?;
+    Ok((Verb::Viewer { reading, command }, rest))
+}
+
+#[tactic(auto, unfolding(crate::specs::Lines::opening_at))]
+fn opening<'a>(words: Words<'a>) -> Result<(Verb, Words<'a>), LineFault>
+    ensures { Reads result (lines.opening_at (words_left words.entry)) }
+{
+    let (kind, rest) = kind(words)?;
+    Ok((Verb::Opening { kind }, rest))
+}
+
+#[tactic(auto, unfolding(crate::specs::Lines::bring_at))]
+fn bring<'a>(words: Words<'a>) -> Result<(Verb, Words<'a>), LineFault>
+    ensures { Reads result (lines.bring_at (words_left words.entry)) }
+{
+    let (kind, rest) = kind(words)?;
+    Ok((Verb::Bring { kind }, rest))
+}
+
+#[tactic(auto, unfolding(crate::specs::Lines::up_at))]
+fn up<'a>(words: Words<'a>) -> Result<(Verb, Words<'a>), LineFault>
+    ensures { Reads result (lines.up_at (words_left words.entry)) }
+{
+    let rest = skip(words, b"ts")?;
+    Ok((Verb::Up, rest))
+}
+
+#[tactic(auto, unfolding(crate::specs::Lines::present_at))]
+fn present<'a>(words: Words<'a>) -> Result<(Verb, Words<'a>), LineFault>
+    ensures { Reads result (lines.present_at (words_left words.entry)) }
+{
+    let (earliest, rest) = earliest(words)?;
+    let (latest, rest) = latest(rest)?;
+    Ok((Verb::Present { earliest, latest }, rest))
+}
+
+#[tactic(auto, unfolding(crate::specs::Lines::close_at))]
+fn close<'a>(words: Words<'a>) -> Result<(Verb, Words<'a>), LineFault>
+    ensures { Reads result (lines.close_at (words_left words.entry)) }
+{
+    let (kind, rest) = kind(words)?;
+    Ok((Verb::Close { kind }, rest))
+}
+
+// The operands of the verb with this name, where it is one of a session; else it is a viewer's, or none.
+#[tactic(auto, unfolding(crate::specs::Lines::session_at))]
+fn session<'a>(name: &[u8], words: Words<'a>) -> Result<(Verb, Words<'a>), LineFault>
+    ensures { Reads result (lines.session_at name.now (words_left words.entry)) }
+{
+    match name {
+        b"open" => opening(words),
+        b"text" => bring(words),
+        b"up" => up(words),
+        b"present" => present(words),
+        b"close" => close(words),
+        _ => viewer(name, words),
+    }
+}
+
+// The operands of the verb with this name. Those of the wall clock come first: they are the most lines.
 #[tactic(auto, unfolding(crate::specs::Lines::operands_at))]
-fn operands<'a>(name: &[u8], words: Words<'a>) -> Result<(Verb, Words<'a>), LineFault>
-    ensures value { GivesBy (λ x. (x.0, words_left x.1)) faults.Memory result (operands_at name.now (words_left words.entry)) }
-    ensures range { IfOk result (λ x. IsVerb x.0) }
+fn operands<'a>(
+    alloc: Global,
+    name: &[u8],
+    words: Words<'a>,
+) -> Result<(Verb, Words<'a>), LineFault>
+    ensures { Reads result (lines.operands_at name.now (words_left words.entry)) }
 {
     match name {
         b"ask" => ask(words),
@@ -77,36 +169,31 @@ fn operands<'a>(name: &[u8], words: Words<'a>) -> Result<(Verb, Words<'a>), Line
         b"give" => give(words),
         b"land" => land(words),
         b"wall" => wall(words),
-        _ => Err(LineFault::Form),
+        b"print" => report(words),
+        b"programme" => programme(alloc, words),
+        b"timeline" => timeline(alloc, words),
+        _ => session(name, words),
     }
 }
 
 #[tactic(auto, unfolding(crate::specs::Lines::verb_at))]
-fn verb<'a>(words: Words<'a>) -> Result<(Verb, Words<'a>), LineFault>
-    ensures value { GivesBy (λ x. (x.0, words_left x.1)) faults.Memory result (verb_at (words_left words.entry)) }
-    ensures range { IfOk result (λ x. IsVerb x.0) }
+fn verb<'a>(alloc: Global, words: Words<'a>) -> Result<(Verb, Words<'a>), LineFault>
+    ensures { Reads result (lines.verb_at (words_left words.entry)) }
 {
     let (name, rest) = word(words)?;
-    operands(name, rest)
+    operands(alloc, name, rest)
 }
 
-/// Reads a line of a schedule after its header, without its line feed.
-///
-/// The words are `T W L VERB ..` with exactly one space between two of them. T, W and L are true time, the
-/// television's wall clock and the companion's clock, in nanoseconds below 2^32 seconds. So far the verbs are
-/// `ask R`, `take I R`, `give J R`, `land I R` and `wall R`, with readings R below 2^32 seconds and numbers I and J
-/// from 1 to 2^32 - 1. Anything else is `Form`.
+// The line of the one companion that these words are.
 #[tactic(auto, unfolding(crate::specs::Lines::line_of_words))]
-pub fn read_line(bytes: &[u8], version: u32, companions: u32) -> Result<Line, LineFault>
-    requires version { version ≡ 1 }
-    requires companions { companions ≡ 1 }
-    ensures value { GivesBy (λ x. x) faults.Memory result (line_of bytes.now) }
-    ensures range { IfOk result IsLine }
+fn line(alloc: Global, words: Words<'_>, companions: u32) -> Result<Line, LineFault>
+    requires { companions ≡ 1 }
+    ensures { GivesBy (λ x. x) faults.Memory result (lines.line_of_words (words_left words.entry)) }
 {
-    let (t, rest) = time(all_words(bytes))?;
+    let (t, rest) = time(words)?;
     let (w, rest) = time(rest)?;
     let (l, rest) = time(rest)?;
-    let (verb, rest) = verb(rest)?;
+    let (verb, rest) = verb(alloc, rest)?;
     finish(rest)?;
     Ok(Line {
         t,
@@ -115,4 +202,91 @@ pub fn read_line(bytes: &[u8], version: u32, companions: u32) -> Result<Line, Li
         l,
         verb,
     })
+}
+
+/// Reads a line of a schedule after its header, without its line feed.
+///
+/// The words are `T W L VERB ..` with exactly one space between two of them. T, W and L are true time, the
+/// television's wall clock and the companion's clock, in nanoseconds below 2^32 seconds. The verbs, with readings R
+/// below 2^32 seconds and numbers I, J and N from 1 to 2^32 - 1:
+///
+/// - `ask R`, `take I R`, `give J R`, `land I R`, `wall R` and `print R`
+/// - `programme ID` and `timeline N SELECTOR UPT UPS BASE`: ID and SELECTOR are words of bytes from `!` to `~`, UPT
+///   units per tick and UPS units per second are 1 to 10^9, and BASE is signed with at most 18 digits
+/// - `change R N`, `speed R S` and `seek R M`: S is signed with at most 3 digits, M with at most 18
+/// - `open KIND`, `text KIND` and `close KIND`, where KIND is `cii` or `ts`, and `up ts`
+/// - `present EC EW LC LW`: the content times EC and LC are signed with at most 18 digits; the wall time EW is a number
+///   below 2^63 or `minusinfinity`, and LW a number below 2^63 or `plusinfinity`
+///
+/// Anything else is `Form`.
+#[tactic(auto, using(crate::proofs::InRange::line_in_range))]
+pub fn read_line(
+    alloc: Global,
+    bytes: &[u8],
+    version: u32,
+    companions: u32,
+) -> Result<Line, LineFault>
+    requires version { version ≡ 1 }
+    requires companions { companions ≡ 1 }
+    ensures value { GivesBy (λ x. x) faults.Memory result (lines.line_of bytes.now) }
+    ensures range { IfOk result IsLine }
+{
+    line(alloc, all_words(bytes), companions)
+}
+
+// A viewer's command of a script, by its name. It has no reading, and 0 stands in its place.
+#[tactic(auto, unfolding(crate::specs::Lines::due_command_at))]
+fn due_command<'a>(name: &[u8], words: Words<'a>) -> Result<(Verb, Words<'a>), LineFault>
+    ensures { Reads result (lines.due_command_at name.now (words_left words.entry)) }
+{
+    let (command, rest) = command(name, words)?;
+    Ok((Verb::Viewer { reading: 0, command }, rest))
+}
+
+// The operands of the verb with this name in a script.
+#[tactic(auto, unfolding(crate::specs::Lines::script_operands_at))]
+fn script_operands<'a>(
+    alloc: Global,
+    name: &[u8],
+    words: Words<'a>,
+) -> Result<(Verb, Words<'a>), LineFault>
+    ensures { Reads result (lines.script_operands_at name.now (words_left words.entry)) }
+{
+    match name {
+        b"programme" => programme(alloc, words),
+        b"timeline" => timeline(alloc, words),
+        _ => due_command(name, words),
+    }
+}
+
+#[tactic(auto, unfolding(crate::specs::Lines::script_verb_at))]
+fn script_verb<'a>(alloc: Global, words: Words<'a>) -> Result<(Verb, Words<'a>), LineFault>
+    ensures { Reads result (lines.script_verb_at (words_left words.entry)) }
+{
+    let (name, rest) = word(words)?;
+    script_operands(alloc, name, rest)
+}
+
+// The line of a script that these words are.
+#[tactic(auto, unfolding(crate::specs::Lines::script_of_words))]
+fn script_line(alloc: Global, words: Words<'_>) -> Result<ScriptLine, LineFault>
+    ensures { GivesBy (λ x. x) faults.Memory result (lines.script_of_words (words_left words.entry)) }
+{
+    let (due, rest) = time(words)?;
+    let (verb, rest) = script_verb(alloc, rest)?;
+    finish(rest)?;
+    Ok(ScriptLine { due, verb })
+}
+
+/// Reads a line of a television's script, without its line feed.
+///
+/// The words are `W VERB ..` with exactly one space between two of them. W is the television's wall clock at which the
+/// line is due, in nanoseconds below 2^32 seconds. The verbs are `programme ID`, `timeline N SELECTOR UPT UPS BASE`,
+/// `change N`, `speed S` and `seek M`, with the operands of a schedule's line. Anything else is `Form`.
+#[tactic(auto, using(crate::proofs::InRange::script_in_range))]
+pub fn read_script(alloc: Global, bytes: &[u8]) -> Result<ScriptLine, LineFault>
+    ensures value { GivesBy (λ x. x) faults.Memory result (lines.script_of bytes.now) }
+    ensures range { IfOk result IsScriptLine }
+{
+    script_line(alloc, all_words(bytes))
 }

@@ -1,10 +1,10 @@
-ghost use Rattle.std.specs.Prelude.{◌≡◌, ◌≤◌, ◌<◌, length, take, ℕ, IfOk, IfSome, Some, pos, ◌≤ℤ◌, IsTrue, ◌↔◌, [], ◌∷◌, position};
+ghost use Rattle.std.specs.Prelude.{◌≡◌, ◌≤◌, ◌<◌, length, take, ℕ, IfOk, IfSome, Some, pos, ◌≤ℤ◌, IsTrue, ◌↔◌, [], ◌∷◌, ◌^◌, position, unsigned_abs};
 ghost use Rattle.std.specs.Option.{option_copied};
 ghost use Rattle.std.specs.List.{list_all};
 ghost use Rattle.std.specs.Str.{IsUtf8};
 ghost use Rattle.css_num.specs.Gives.{GivesBy};
 ghost use Rattle.css_num.specs.Words.{digits_after, has_leading_zero};
-ghost use Rattle.css_schedule.specs.Words.{words_left, is_space, words_of, words_in, is_graphic, is_word, SpellsFirst, word_at, text_at, number_at, ordinal_at, signed_at, after_word, all_read};
+ghost use Rattle.css_schedule.specs.Words.{words_left, Reads, is_space, words_of, words_in, is_graphic, is_word, SpellsFirst, word_at, text_at, number_at, ordinal_at, integer_at, signed_at, after_word, all_read};
 ghost use Rattle.css_schedule.specs.declared.fault.LineFault.TheVariants as faults;
 
 use crate::LineFault;
@@ -12,7 +12,7 @@ use css_num::{signed_number, whole_number};
 
 const SPACE: u8 = b' ';
 
-/// The numbers of requests, takes and datagrams are below this.
+/// The numbers of requests, takes, datagrams and programmes are below this.
 const ORDINAL_LIMIT: u64 = 1 << 32;
 
 /// A number of so many digits is below 2^64, whatever they are.
@@ -114,7 +114,7 @@ fn quick_number<'a>(words: Words<'a>) -> Option<(u64, Words<'a>)>
 // A whole number below the bound, of any length.
 #[tactic(auto, unfolding(crate::specs::Words::number_at))]
 fn any_number<'a>(words: Words<'a>, below: u64) -> Result<(u64, Words<'a>), LineFault>
-    ensures value { GivesBy (λ x. (x.0, words_left x.1)) faults.Memory result (number_at below (words_left words.entry)) }
+    ensures value { Reads result (number_at below (words_left words.entry)) }
     ensures below { IfOk result (λ x. x.0 < below) }
 {
     let (text, rest) = word(words)?;
@@ -124,7 +124,7 @@ fn any_number<'a>(words: Words<'a>, below: u64) -> Result<(u64, Words<'a>), Line
 
 /// A whole number below the bound.
 pub fn number<'a>(words: Words<'a>, below: u64) -> Result<(u64, Words<'a>), LineFault>
-    ensures value { GivesBy (λ x. (x.0, words_left x.1)) faults.Memory result (number_at below (words_left words.entry)) }
+    ensures value { Reads result (number_at below (words_left words.entry)) }
     ensures below { IfOk result (λ x. x.0 < below) }
 {
     match quick_number(words) {
@@ -134,16 +134,28 @@ pub fn number<'a>(words: Words<'a>, below: u64) -> Result<(u64, Words<'a>), Line
     }
 }
 
-/// The number of a request, a take or a datagram: 1 to 2^32 - 1.
+/// The number of a request, a take, a datagram or a programme: 1 to 2^32 - 1.
 #[tactic(auto, unfolding(crate::specs::Words::ordinal_at))]
 pub fn ordinal<'a>(words: Words<'a>) -> Result<(u32, Words<'a>), LineFault>
-    ensures { GivesBy (λ x. (x.0, words_left x.1)) faults.Memory result (ordinal_at (words_left words.entry)) }
+    ensures { Reads result (ordinal_at (words_left words.entry)) }
 {
     let (number, rest) = number(words, ORDINAL_LIMIT)?;
     if number == 0 {
         return Err(LineFault::Form);
     }
     Ok((number as u32, rest))
+}
+
+/// A signed number of at most so many digits.
+#[tactic(auto, unfolding(crate::specs::Words::integer_at))]
+pub fn integer<'a>(words: Words<'a>, digits: u32) -> Result<(i64, Words<'a>), LineFault>
+    requires { digits ≤ 18 }
+    ensures value { Reads result (integer_at digits (words_left words.entry)) }
+    ensures small { IfOk result (λ x. unsigned_abs x.0 < 10 ^ digits) }
+{
+    let (text, rest) = word(words)?;
+    let number = signed_number(text, digits).ok_or(LineFault::Form)?;
+    Ok((number, rest))
 }
 
 /// A signed number of at most so many digits, from `low` to `high`.
@@ -155,12 +167,11 @@ pub fn signed<'a>(
     high: i64,
 ) -> Result<(i64, Words<'a>), LineFault>
     requires { digits ≤ 18 }
-    ensures value { GivesBy (λ x. (x.0, words_left x.1)) faults.Memory result (signed_at digits low high (words_left words.entry)) }
+    ensures value { Reads result (signed_at digits low high (words_left words.entry)) }
     ensures low { IfOk result (λ x. low ≤ℤ x.0) }
     ensures high { IfOk result (λ x. x.0 ≤ℤ high) }
 {
-    let (text, rest) = word(words)?;
-    let number = signed_number(text, digits).ok_or(LineFault::Form)?;
+    let (number, rest) = integer(words, digits)?;
     if number < low || number > high {
         return Err(LineFault::Form);
     }

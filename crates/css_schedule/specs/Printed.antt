@@ -1,0 +1,100 @@
+-- Headers and lines as texts: the words of each, with one space between two of them.
+use Rattle.std.specs.Prelude.{ℕ, ◌==◌, ◌++◌, Bool, true, false, if◌then◌else◌, List, [], ◌∷◌, length, codes, decimal}
+use Rattle.std.specs.Fmt.{signed_decimal}
+use Rattle.css_num.specs.Rates.{TickRate}
+use Rattle.css_player.specs.declared.command.Command.{Command}
+use Rattle.css_player.specs.declared.command.Command.TheVariants.{Change, Speed, Seek}
+use Rattle.css_sessions.specs.declared.session.Kind.{Kind}
+use Rattle.css_sessions.specs.declared.session.Kind.TheVariants.{Cii, Ts}
+use Rattle.css_tsmsg.specs.declared.bound.Bound.{Bound}
+use Rattle.css_tsmsg.specs.Presentations.{content_text, wall_text}
+use Rattle.css_schedule.specs.declared.header.CompanionLine.{CompanionLine}
+use Rattle.css_schedule.specs.declared.header.Header.{Header}
+use Rattle.css_schedule.specs.declared.line.Verb.{Verb}
+use Rattle.css_schedule.specs.declared.line.Verb.TheVariants as verbs
+use Rattle.css_schedule.specs.declared.line.Line.{Line}
+
+-- a text with words after it, a space before each
+abbrev pub with_words : List ℕ → List (List ℕ) → List ℕ
+with_words text [] = text
+with_words text (word ∷ words) = with_words (text ++ 32 ∷ word) words
+
+-- ---- headers
+-- the word for whether the television promises follow-ups
+abbrev pub mode_word : Bool → List ℕ
+mode_word true = codes "follow"
+mode_word false = codes "plain"
+
+-- `-` stands for the empty stem
+abbrev pub stem_word : List ℕ → List ℕ
+stem_word stem = if length stem == 0 then codes "-" else stem
+
+-- `EL PL SELECTOR STEM`
+abbrev pub companion_words : CompanionLine → List (List ℕ)
+companion_words companion =
+    decimal companion.local.error ∷ decimal companion.local.precision ∷ companion.selector ∷ stem_word companion.stem ∷ []
+
+-- those of the first companion, which is the one that there is in version 1
+abbrev pub first_words : List CompanionLine → List (List ℕ)
+first_words [] = []
+first_words (companion ∷ companions) = companion_words companion
+
+-- `1 MODE EW KW EL PL SELECTOR STEM`
+abbrev pub header_words : Header → List (List ℕ)
+header_words header =
+    codes "1" ∷ mode_word header.follow ∷ decimal header.tv_error ∷ signed_decimal header.tv_precision
+    ∷ first_words header.companions
+
+-- the header's line
+abbrev pub header_text : Header → List ℕ
+header_text header = with_words (codes "css-schedule") (header_words header)
+
+-- ---- lines
+-- the word for a kind of session
+abbrev pub kind_word : Kind → List ℕ
+kind_word Cii = codes "cii"
+kind_word Ts = codes "ts"
+
+-- the name of a viewer's command
+abbrev pub command_name : Command → List ℕ
+command_name (Change programme) = codes "change"
+command_name (Speed speed) = codes "speed"
+command_name (Seek media) = codes "seek"
+
+-- and its operand
+abbrev pub command_word : Command → List ℕ
+command_word (Change programme) = decimal programme
+command_word (Speed speed) = signed_decimal speed
+command_word (Seek media) = signed_decimal media
+
+-- `UPT UPS`
+abbrev pub rate_words : TickRate → List (List ℕ)
+rate_words rate = decimal rate.units_per_tick ∷ decimal rate.units_per_second ∷ []
+
+-- a bound of a presentation: its content time and its wall time
+abbrev pub bound_words : Bound → List (List ℕ)
+bound_words bound = content_text bound ∷ wall_text bound ∷ []
+
+-- a verb and its operands
+abbrev pub verb_words : Verb → List (List ℕ)
+verb_words (verbs.Ask reading) = codes "ask" ∷ decimal reading ∷ []
+verb_words (verbs.Take request reading) = codes "take" ∷ decimal request ∷ decimal reading ∷ []
+verb_words (verbs.Give take reading) = codes "give" ∷ decimal take ∷ decimal reading ∷ []
+verb_words (verbs.Land datagram reading) = codes "land" ∷ decimal datagram ∷ decimal reading ∷ []
+verb_words (verbs.Wall reading) = codes "wall" ∷ decimal reading ∷ []
+verb_words (verbs.Print reading) = codes "print" ∷ decimal reading ∷ []
+verb_words (verbs.Programme content_id) = codes "programme" ∷ content_id ∷ []
+verb_words (verbs.Timeline programme selector rate base) =
+    codes "timeline" ∷ decimal programme ∷ selector
+    ∷ decimal rate.units_per_tick ∷ decimal rate.units_per_second ∷ signed_decimal base ∷ []
+verb_words (verbs.Viewer reading command) = command_name command ∷ decimal reading ∷ command_word command ∷ []
+verb_words (verbs.Opening kind) = codes "open" ∷ kind_word kind ∷ []
+verb_words (verbs.Bring kind) = codes "text" ∷ kind_word kind ∷ []
+verb_words verbs.Up = codes "up" ∷ codes "ts" ∷ []
+verb_words (verbs.Present earliest latest) =
+    codes "present" ∷ content_text earliest ∷ wall_text earliest ∷ content_text latest ∷ wall_text latest ∷ []
+verb_words (verbs.Close kind) = codes "close" ∷ kind_word kind ∷ []
+
+-- the line of the one companion that there is in version 1
+abbrev pub line_text : Line → List ℕ
+line_text line = with_words (decimal line.t) (decimal line.w ∷ decimal line.l ∷ verb_words line.verb)
