@@ -1,148 +1,270 @@
 -- What is read is in its range.
-use Rattle.std.proofs.Common.{◌≡◌, ℕ, ◌+◌, ◌<◌, ◌≤◌, arith, ap, subst, refl, Bool, true, false, cond, List, [], ◌∷◌}
-use Rattle.std.specs.Prelude.{if◌then◌else◌, ℤ, pos, negsuc, ◌≤ℤ◌, int_lt, nat_lt, Option, Some, None, Result, Ok, Err, bytes_eq, codes}
-use Rattle.std.proofs.lemmas.Bool.{ltb-true}
+use Rattle.std.proofs.Common.{◌≡◌, ℕ, ◌+◌, ◌^◌, ◌<◌, ◌≤◌, arith, ap, subst, refl, sym, Bool, true, false, cond, List, [], ◌∷◌, length}
+use Rattle.std.specs.Prelude.{if◌then◌else◌, ◌==◌, ◌||◌, ◌&&◌, not, ℤ, pos, negsuc, ◌≤ℤ◌, nat_le, unsigned_abs, Option, Some, None, Result, Ok, Err, IfOk, bytes_eq, codes, ⊤}
+use Rattle.std.proofs.lemmas.Bool.{leb-true}
 use Rattle.std.proofs.lemmas.Int.{ints}
-use Rattle.std.specs.Str.{IsUtf8}
 use Rattle.std.proofs.lemmas.List.Elements.{All-nil, All-cons}
-use Rattle.css_schedule.proofs.Graphic.{word-utf8, stem-utf8}
-use Rattle.css_num.specs.Words.{below_limit, number_of, whole_number_of, signed_number_of}
+use Rattle.css_num.specs.Gives.{GivesBy}
+use Rattle.css_num.specs.Rates.{TickRate, IsTickRate, is_rate_part, rate_of}
 use Rattle.css_model.specs.declared.TheConstants.{LIMIT}
 use Rattle.css_model.specs.Numbers.{max_error, max_local_error, max_local_precision}
 use Rattle.css_model.specs.WallClock.{IsLocal}
+use Rattle.css_player.specs.declared.command.Command.{Command}
+use Rattle.css_player.specs.declared.command.Command.TheVariants.{Change, Speed, Seek}
+use Rattle.css_sessions.specs.declared.session.Kind.{Kind}
+use Rattle.css_tsmsg.specs.Presentations.{IsEarliest, IsLatest}
+use Rattle.css_tsmsg.specs.Times.{IsContent}
+use Rattle.css_tsmsg.specs.declared.bound.Bound.{Bound}
+use Rattle.css_schedule.proofs.Graphic.{both, word-utf8, stem-utf8}
+use Rattle.css_schedule.proofs.Steps.{Front, first_step, step, good, same_Ok, or_form-some, made-range, passes, number-range, ordinal-range, integer-range, signed-range, text-range}
 use Rattle.css_schedule.specs.declared.fault.LineFault.{LineFault}
-use Rattle.css_schedule.specs.declared.fault.LineFault.TheVariants.{Form}
+use Rattle.css_schedule.specs.declared.fault.LineFault.TheVariants.{Form, Memory}
 use Rattle.css_schedule.specs.declared.header.CompanionLine.{CompanionLine}
 use Rattle.css_schedule.specs.declared.header.Header.{Header}
-use Rattle.css_schedule.specs.declared.header.Start.TheVariants.{One}
+use Rattle.css_schedule.specs.declared.header.Start.{Start}
+use Rattle.css_schedule.specs.declared.header.Start.TheVariants.{One, Two}
 use Rattle.css_schedule.specs.declared.line.Line.{Line}
+use Rattle.css_schedule.specs.declared.line.ScriptLine.{ScriptLine}
 use Rattle.css_schedule.specs.declared.line.Verb.{Verb}
 use Rattle.css_schedule.specs.declared.line.Verb.TheVariants as verbs
-use Rattle.css_schedule.specs.Words.{is_word, ◌>>=◌, or_form, word_at, number_at, ordinal_at, signed_at, text_at, all_read, words_of}
-use Rattle.css_schedule.specs.Lines.{time_at, ask_at, take_at, give_at, land_at, wall_at, operands_at, verb_at, line_of_words, line_of}
+use Rattle.css_schedule.specs.Words.{is_word, ◌>>=◌, or_form, word_at, number_at, ordinal_at, integer_at, signed_at, text_at, after_word, all_read, words_of}
+use Rattle.css_schedule.specs.Lines.{time_at, position_at, kind_at, finite_at, wall_time_at, earliest_of, latest_of, earliest_at, latest_at}
+use Rattle.css_schedule.specs.Lines.{change_at, speed_at, seek_at, command_at}
+use Rattle.css_schedule.specs.Lines.{ask_at, take_at, give_at, land_at, wall_at, print_at, programme_at, timeline_at, viewer_at}
+use Rattle.css_schedule.specs.Lines.{opening_at, bring_at, up_at, present_at, close_at, session_at, timelines_at, operands_at, verb_at, line_of_words, line_of}
+use Rattle.css_schedule.specs.Lines.{due_command_at, script_operands_at, script_verb_at, script_of_words, script_of}
 use Rattle.css_schedule.specs.Headers.{after_version, mode_at, declared_at, header_with, local_of, stem_of, header_of_words, header_of}
-use Rattle.css_schedule.specs.Ranges.{IsCompanion, IsHeader, IsVerb, IsLine}
+use Rattle.css_schedule.specs.Ranges.{IsCompanion, IsHeader, is_stem, IsPrintableCompanion, IsPrintable, IsStart}
+use Rattle.css_schedule.specs.Ranges.{IsOrdinal, IsNumbered, IsText, IsTimeline, IsCommand, IsViewer, IsVerb, IsLine, IsScripted, IsScriptLine}
 
 -- what a whole header of version 1 declares is in range
 pub record IsReadHeader (header : Header) : Type 0 where
   pub tv : IsHeader header
+  pub printable : IsPrintable header
   pub least : negsuc 127 ≤ℤ header.tv_precision
   pub companion : CompanionLine
   pub alone : header.companions ≡ companion ∷ []
   pub local : IsLocal companion.local
 
--- ---- one after another
--- where two steps succeed, the first does, and the second from there
-first_step : {A B : Type 0} (r : Result A LineFault) (next : A → Result B LineFault) (y : B) → (r >>= next) ≡ Ok y → (x : A) × (r ≡ Ok x) × (next x ≡ Ok y)
-first_step (Ok x) next y e = (x, refl, e)
-first_step (Err fault) next y e = absurd (cc)
+-- ---- what several verbs have
+-- a tick or a media position
+abbrev pub IsPosition : ℤ → Type 0
+IsPosition number = unsigned_abs number < 10 ^ 18
 
--- the same, from what comes of both
-step : {A B : Type 0} (y : B) (r : Result A LineFault) (next : A → Result B LineFault) → (r >>= next) ≡ Ok y → (x : A) × (r ≡ Ok x) × (next x ≡ Ok y)
-step y r next e = first_step r next y e
+position-range : (words : List (List ℕ)) (x : Front ℤ) → position_at words ≡ Ok x → IsPosition x.0
+position-range words x e = integer-range 18 (omega arith) words x e
 
--- `Ok`, at this type of fault
-abbrev good : {A : Type 0} → A → Result A LineFault
-good x = Ok x
+-- a part of a rate that passes its test
+part-range : (part : ℕ) → is_rate_part part ≡ true → (1 ≤ part) × (part ≤ 1000000000)
+part-range part h =
+    let tests = both (nat_le 1 part) (nat_le part 1000000000) h in
+    (leb-true 1 part tests.0, leb-true part 1000000000 tests.1)
 
--- equal successes have equal values
-same_Ok : {A : Type 0} (x y : A) → good x ≡ good y → x ≡ y
-same_Ok x y e = cc
-
--- a value that is read is there
-or_form-some : {A : Type 0} (o : Option A) (x : A) → or_form o ≡ Ok x → o ≡ Some x
-or_form-some None x e = absurd (cc)
-or_form-some (Some y) x e = ap Some (same_Ok y x e)
-
--- ---- numbers
--- what isn't less is at least as great
-not_less : (a b : ℤ) → int_lt a b ≡ false → b ≤ℤ a
-not_less a b e = omega (arith, ints, e)
-
--- a number that passes the test is below the bound
-below : (limit : ℕ) (o : Option ℕ) (n : ℕ) → below_limit limit o ≡ Some n → n < limit
-below limit None n e = absurd (cc)
-below limit (Some m) n e = by (nat_lt m limit) refl e
+-- a rate that is made of two parts
+made_rate-range : (a b : ℕ) (rate : TickRate) → rate_of a b ≡ Some rate → IsTickRate rate
+made_rate-range a b rate e = by (is_rate_part a && is_rate_part b) refl e
   where
-    by : (b : Bool) → nat_lt m limit ≡ b → cond b (Some m) None ≡ Some n → n < limit
-    by true p q = let same : m ≡ n = cc in subst (λ (k : ℕ). k < limit) same (ltb-true m limit p)
+    by : (test : Bool) → (is_rate_part a && is_rate_part b) ≡ test → cond test (Some (record { units_per_tick = a; units_per_second = b })) None ≡ Some rate → IsTickRate rate
+    by true p q =
+        let made : TickRate = record { units_per_tick = a; units_per_second = b } in
+        let same : made ≡ rate = cc in
+        let tests = both (is_rate_part a) (is_rate_part b) p in
+        let tick = part-range a tests.0 in
+        let second = part-range b tests.1 in
+        subst IsTickRate {x = made} same (record { tick_positive = tick.0; tick_small = tick.1; second_positive = second.0; second_small = second.1 })
     by false p q = absurd (cc)
 
--- so is a number that is read
-number-range : (limit : ℕ) (words : List (List ℕ)) (x : ℕ × List (List ℕ)) → number_at limit words ≡ Ok x → x.0 < limit
-unfolding number_at
-number-range limit words x e =
-    let word = first_step (word_at words) (λ w. or_form (whole_number_of w.0 limit) >>= (λ n. Ok (n, w.1))) x e in
-    let number = first_step (or_form (whole_number_of word.0.0 limit)) (λ n. Ok (n, word.0.1)) x word.2 in
-    let same = same_Ok (number.0, word.0.1) x number.2 in
-    subst (λ (y : ℕ × List (List ℕ)). y.0 < limit) same (below limit (number_of word.0.0) number.0 (or_form-some (whole_number_of word.0.0 limit) number.0 number.1))
+-- ---- the bounds of a presentation
+-- a wall time is below 2^63 where it is a number
+abbrev IsWallTime : Option ℕ → Type 0
+IsWallTime None = ⊤
+IsWallTime (Some wall) = wall < 2 ^ 63
 
--- a verb's number and its reading
-abbrev pub IsVerbAt : Verb × List (List ℕ) → Type 0
-IsVerbAt x = IsVerb x.0
+finite-range : (words : List (List ℕ)) (x : Front (Option ℕ)) → finite_at words ≡ Ok x → IsWallTime x.0
+unfolding finite_at
+finite-range words x e = made-range (λ wall. wall < 2 ^ 63) IsWallTime (number_at (2 ^ 63) words) Some x (number-range (2 ^ 63) words) (λ wall h. h) e
 
--- a verb's reading is below 2^32 seconds
-reading-range : (words : List (List ℕ)) (make : ℕ → Verb) (x : Verb × List (List ℕ)) → ((reading : ℕ) → reading < LIMIT → IsVerb (make reading))
+wall_time-range : (infinite : List ℕ) (words : List (List ℕ)) (x : Front (Option ℕ)) → wall_time_at infinite words ≡ Ok x → IsWallTime x.0
+unfolding wall_time_at
+wall_time-range infinite words x e =
+    let word = step x (word_at words) (λ word. if bytes_eq word.0 infinite then Ok (None, word.1) else finite_at words) e in
+    by (bytes_eq word.0.0 infinite) word.0.1 word.2
+  where
+    by : (b : Bool) (rest : List (List ℕ)) → cond b (Ok (None, rest)) (finite_at words) ≡ good x → IsWallTime x.0
+    by true rest p = let same = same_Ok (None, rest) x p in subst (λ (y : Front (Option ℕ)). IsWallTime y.0) same tt
+    by false rest p = finite-range words x p
+
+-- a content time has at most 18 digits
+content-range : (content : ℤ) → IsPosition content → IsContent content
+content-range (pos n) h = record { low = omega (arith, ints); high = omega (arith, ints, h) }
+content-range (negsuc n) h = record { low = omega (arith, ints, h); high = omega (arith, ints) }
+
+earliest_of-range : (content : ℤ) (wall : Option ℕ) → IsPosition content → IsWallTime wall → IsEarliest (earliest_of content wall)
+earliest_of-range content None c w = content-range content c
+earliest_of-range content (Some wall) c w = record { content_time = content-range content c; wall_time = w }
+
+latest_of-range : (content : ℤ) (wall : Option ℕ) → IsPosition content → IsWallTime wall → IsLatest (latest_of content wall)
+latest_of-range content None c w = content-range content c
+latest_of-range content (Some wall) c w = record { content_time = content-range content c; wall_time = w }
+
+earliest-range : (words : List (List ℕ)) (x : Front Bound) → earliest_at words ≡ Ok x → IsEarliest x.0
+unfolding earliest_at
+earliest-range words x e =
+    let content = step x (position_at words) (λ c. wall_time_at (codes "minusinfinity") c.1 >>= (λ wall. Ok (earliest_of c.0 wall.0, wall.1))) e in
+    made-range IsWallTime IsEarliest (wall_time_at (codes "minusinfinity") content.0.1) (earliest_of content.0.0) x
+    (wall_time-range (codes "minusinfinity") content.0.1)
+    (λ wall h. earliest_of-range content.0.0 wall (position-range words content.0 content.1) h) content.2
+
+latest-range : (words : List (List ℕ)) (x : Front Bound) → latest_at words ≡ Ok x → IsLatest x.0
+unfolding latest_at
+latest-range words x e =
+    let content = step x (position_at words) (λ c. wall_time_at (codes "plusinfinity") c.1 >>= (λ wall. Ok (latest_of c.0 wall.0, wall.1))) e in
+    made-range IsWallTime IsLatest (wall_time_at (codes "plusinfinity") content.0.1) (latest_of content.0.0) x
+    (wall_time-range (codes "plusinfinity") content.0.1)
+    (λ wall h. latest_of-range content.0.0 wall (position-range words content.0 content.1) h) content.2
+
+-- ---- viewers' commands
+change-range : (words : List (List ℕ)) (x : Front Command) → change_at words ≡ Ok x → IsCommand x.0
+unfolding change_at
+change-range words x e = made-range IsOrdinal IsCommand (ordinal_at words) Change x (ordinal-range words) (λ n h. h) e
+
+speed-range : (words : List (List ℕ)) (x : Front Command) → speed_at words ≡ Ok x → IsCommand x.0
+unfolding speed_at
+speed-range words x e = made-range (λ s. unsigned_abs s < 10 ^ 3) IsCommand (integer_at 3 words) Speed x (integer-range 3 (omega arith) words) (λ s h. h) e
+
+seek-range : (words : List (List ℕ)) (x : Front Command) → seek_at words ≡ Ok x → IsCommand x.0
+unfolding seek_at
+seek-range words x e = made-range IsPosition IsCommand (position_at words) Seek x (position-range words) (λ m h. h) e
+
+command-range : (name : List ℕ) (words : List (List ℕ)) (x : Front Command) → command_at name words ≡ Ok x → IsCommand x.0
+unfolding command_at
+command-range name words x e =
+    by (bytes_eq name (codes "change")) (bytes_eq name (codes "speed")) (bytes_eq name (codes "seek")) e
+  where
+    by : (a b c : Bool) → cond a (change_at words) (cond b (speed_at words) (cond c (seek_at words) (Err Form))) ≡ Ok x → IsCommand x.0
+    by true b c p = change-range words x p
+    by false true c p = speed-range words x p
+    by false false true p = seek-range words x p
+    by false false false p = absurd (cc)
+
+-- ---- verbs
+-- a verb that a script may have
+record IsDue (verb : Verb) : Type 0 where
+  range : IsVerb verb
+  scripted : IsScripted verb
+
+-- a verb with a reading alone
+reading-range : (words : List (List ℕ)) (make : ℕ → Verb) (x : Front Verb) → ((reading : ℕ) → reading < LIMIT → IsVerb (make reading))
     → (time_at words >>= (λ reading. Ok (make reading.0, reading.1))) ≡ Ok x → IsVerb x.0
-reading-range words make x in_range e =
-    let reading = first_step (time_at words) (λ r. Ok (make r.0, r.1)) x e in
-    let same = same_Ok (make reading.0.0, reading.0.1) x reading.2 in
-    subst IsVerbAt same (in_range reading.0.0 (number-range LIMIT words reading.0 reading.1))
+reading-range words make x in_range e = made-range (λ reading. reading < LIMIT) IsVerb (time_at words) make x (number-range LIMIT words) in_range e
 
--- that of `ask`
-ask-range : (words : List (List ℕ)) (x : Verb × List (List ℕ)) → ask_at words ≡ Ok x → IsVerb x.0
-unfolding ask_at
-ask-range words x e = reading-range words verbs.Ask x (λ r h. h) e
+-- a verb with a number and a reading
+numbered-range : (words : List (List ℕ)) (make : ℕ → ℕ → Verb) (x : Front Verb) → ((number reading : ℕ) → IsNumbered number reading → IsVerb (make number reading))
+    → (ordinal_at words >>= (λ number. time_at number.1 >>= (λ reading. Ok (make number.0 reading.0, reading.1)))) ≡ Ok x → IsVerb x.0
+numbered-range words make x in_range e =
+    let number = step x (ordinal_at words) (λ n. time_at n.1 >>= (λ r. Ok (make n.0 r.0, r.1))) e in
+    reading-range number.0.1 (make number.0.0) x (λ r h. in_range number.0.0 r (record { number = ordinal-range words number.0 number.1; reading = h })) number.2
 
--- that of `wall`
-wall-range : (words : List (List ℕ)) (x : Verb × List (List ℕ)) → wall_at words ≡ Ok x → IsVerb x.0
-unfolding wall_at
-wall-range words x e = reading-range words verbs.Wall x (λ r h. h) e
+-- a verb with a kind of session alone
+kind-range : (words : List (List ℕ)) (make : Kind → Verb) (x : Front Verb) → ((kind : Kind) → IsVerb (make kind))
+    → (kind_at words >>= (λ kind. Ok (make kind.0, kind.1))) ≡ Ok x → IsVerb x.0
+kind-range words make x in_range e = made-range (λ kind. ⊤) IsVerb (kind_at words) make x (λ kind p. tt) (λ kind h. in_range kind) e
 
--- that of `take`
-take-range : (words : List (List ℕ)) (x : Verb × List (List ℕ)) → take_at words ≡ Ok x → IsVerb x.0
-unfolding take_at
-take-range words x e =
-    let number = first_step (ordinal_at words) (λ n. time_at n.1 >>= (λ r. Ok (verbs.Take n.0 r.0, r.1))) x e in
-    reading-range number.0.1 (verbs.Take number.0.0) x (λ r h. h) number.2
+programme-range : (words : List (List ℕ)) (x : Front Verb) → programme_at words ≡ Ok x → IsVerb x.0
+unfolding programme_at
+programme-range words x e = made-range IsText IsVerb (text_at words) verbs.Programme x (text-range words) (λ id h. h) e
 
--- that of `give`
-give-range : (words : List (List ℕ)) (x : Verb × List (List ℕ)) → give_at words ≡ Ok x → IsVerb x.0
-unfolding give_at
-give-range words x e =
-    let number = first_step (ordinal_at words) (λ n. time_at n.1 >>= (λ r. Ok (verbs.Give n.0 r.0, r.1))) x e in
-    reading-range number.0.1 (verbs.Give number.0.0) x (λ r h. h) number.2
+-- after its programme's number and its selector, a timeline has its rate and its base
+after_selector-range : (programme : ℕ) (selector : List ℕ) (words : List (List ℕ)) (x : Front Verb) → IsOrdinal programme → IsText selector
+    → (ordinal_at words >>= (λ a. ordinal_at a.1 >>= (λ b. position_at b.1 >>= (λ base. or_form (rate_of a.0 b.0) >>= (λ rate. Ok (verbs.Timeline programme selector rate base.0, base.1)))))) ≡ Ok x
+    → IsDue x.0
+after_selector-range programme selector words x n s e =
+    let a = step x (ordinal_at words) (λ a. ordinal_at a.1 >>= (λ b. position_at b.1 >>= (λ base. or_form (rate_of a.0 b.0) >>= (λ rate. Ok (verbs.Timeline programme selector rate base.0, base.1))))) e in
+    let b = step x (ordinal_at a.0.1) (λ b. position_at b.1 >>= (λ base. or_form (rate_of a.0.0 b.0) >>= (λ rate. Ok (verbs.Timeline programme selector rate base.0, base.1)))) a.2 in
+    let base = step x (position_at b.0.1) (λ base. or_form (rate_of a.0.0 b.0.0) >>= (λ rate. Ok (verbs.Timeline programme selector rate base.0, base.1))) b.2 in
+    let rate = step x (or_form (rate_of a.0.0 b.0.0)) (λ rate. Ok (verbs.Timeline programme selector rate base.0.0, base.0.1)) base.2 in
+    let same = same_Ok (verbs.Timeline programme selector rate.0 base.0.0, base.0.1) x rate.2 in
+    let made = made_rate-range a.0.0 b.0.0 rate.0 (or_form-some (rate_of a.0.0 b.0.0) rate.0 rate.1) in
+    subst (λ (y : Front Verb). IsDue y.0) same (record {
+      range = record { programme = n; selector = s; rate = made; base = position-range b.0.1 base.0 base.1 };
+      scripted = tt;
+    })
 
--- that of `land`
-land-range : (words : List (List ℕ)) (x : Verb × List (List ℕ)) → land_at words ≡ Ok x → IsVerb x.0
-unfolding land_at
-land-range words x e =
-    let number = first_step (ordinal_at words) (λ n. time_at n.1 >>= (λ r. Ok (verbs.Land n.0 r.0, r.1))) x e in
-    reading-range number.0.1 (verbs.Land number.0.0) x (λ r h. h) number.2
+-- a timeline, which a script may have too
+timeline-due : (words : List (List ℕ)) (x : Front Verb) → timeline_at words ≡ Ok x → IsDue x.0
+unfolding timeline_at
+timeline-due words x e =
+    let programme = step x (ordinal_at words) (λ n. text_at n.1 >>= (λ s. ordinal_at s.1 >>= (λ a. ordinal_at a.1 >>= (λ b. position_at b.1 >>= (λ base. or_form (rate_of a.0 b.0) >>= (λ rate. Ok (verbs.Timeline n.0 s.0 rate base.0, base.1))))))) e in
+    let selector = step x (text_at programme.0.1) (λ s. ordinal_at s.1 >>= (λ a. ordinal_at a.1 >>= (λ b. position_at b.1 >>= (λ base. or_form (rate_of a.0 b.0) >>= (λ rate. Ok (verbs.Timeline programme.0.0 s.0 rate base.0, base.1)))))) programme.2 in
+    after_selector-range programme.0.0 selector.0.0 selector.0.1 x (ordinal-range words programme.0 programme.1) (text-range programme.0.1 selector.0 selector.1) selector.2
 
--- a word that is no verb has none
-no_verb : (x : Verb × List (List ℕ)) → Err Form ≡ good x → IsVerb x.0
-no_verb x e = absurd (cc)
+viewer-range : (name : List ℕ) (words : List (List ℕ)) (x : Front Verb) → viewer_at name words ≡ Ok x → IsVerb x.0
+unfolding viewer_at
+viewer-range name words x e =
+    let reading = step x (time_at words) (λ r. command_at name r.1 >>= (λ c. Ok (verbs.Viewer r.0 c.0, c.1))) e in
+    made-range IsCommand IsVerb (command_at name reading.0.1) (verbs.Viewer reading.0.0) x (command-range name reading.0.1)
+    (λ command h. record { reading = number-range LIMIT words reading.0 reading.1; command = h }) reading.2
 
--- the reading of the verb with this name
-operands-range : (name : List ℕ) (words : List (List ℕ)) (x : Verb × List (List ℕ)) → operands_at name words ≡ Ok x → IsVerb x.0
-unfolding operands_at
+up-range : (words : List (List ℕ)) (x : Front Verb) → up_at words ≡ Ok x → IsVerb x.0
+unfolding up_at
+up-range words x e =
+    let rest = step x (after_word (codes "ts") words) (λ rest. Ok (verbs.Up, rest)) e in
+    subst (λ (y : Front Verb). IsVerb y.0) (same_Ok (verbs.Up, rest.0) x rest.2) tt
+
+present-range : (words : List (List ℕ)) (x : Front Verb) → present_at words ≡ Ok x → IsVerb x.0
+unfolding present_at
+present-range words x e =
+    let earliest = step x (earliest_at words) (λ a. latest_at a.1 >>= (λ b. Ok (verbs.Present a.0 b.0, b.1))) e in
+    made-range IsLatest IsVerb (latest_at earliest.0.1) (verbs.Present earliest.0.0) x (latest-range earliest.0.1)
+    (λ latest h. record { earliest = earliest-range words earliest.0 earliest.1; latest = h; actual = tt }) earliest.2
+
+-- the verb with this name, where it is one of a session or a viewer's
+session-range : (name : List ℕ) (words : List (List ℕ)) (x : Front Verb) → session_at name words ≡ Ok x → IsVerb x.0
+unfolding session_at opening_at bring_at close_at
+session-range name words x e =
+    by (bytes_eq name (codes "open")) (bytes_eq name (codes "text")) (bytes_eq name (codes "up")) (bytes_eq name (codes "present")) (bytes_eq name (codes "close")) e
+  where
+    by : (a b c d f : Bool)
+        → cond a (opening_at words) (cond b (bring_at words) (cond c (up_at words) (cond d (present_at words) (cond f (close_at words) (viewer_at name words))))) ≡ Ok x → IsVerb x.0
+    by true b c d f p = kind-range words verbs.Opening x (λ kind. tt) p
+    by false true c d f p = kind-range words verbs.Bring x (λ kind. tt) p
+    by false false true d f p = up-range words x p
+    by false false false true f p = present-range words x p
+    by false false false false true p = kind-range words verbs.Close x (λ kind. tt) p
+    by false false false false false p = viewer-range name words x p
+
+-- the verb with this name, where it isn't one of the wall clock
+timelines-range : (name : List ℕ) (words : List (List ℕ)) (x : Front Verb) → timelines_at name words ≡ Ok x → IsVerb x.0
+unfolding timelines_at print_at
+timelines-range name words x e =
+    by (bytes_eq name (codes "print")) (bytes_eq name (codes "programme")) (bytes_eq name (codes "timeline")) e
+  where
+    by : (a b c : Bool) → cond a (print_at words) (cond b (programme_at words) (cond c (timeline_at words) (session_at name words))) ≡ Ok x → IsVerb x.0
+    by true b c p = reading-range words verbs.Print x (λ r k. k) p
+    by false true c p = programme-range words x p
+    by false false true p = (timeline-due words x p).range
+    by false false false p = session-range name words x p
+
+-- the verb with this name
+operands-range : (name : List ℕ) (words : List (List ℕ)) (x : Front Verb) → operands_at name words ≡ Ok x → IsVerb x.0
+unfolding operands_at ask_at take_at give_at land_at wall_at
 operands-range name words x e =
     by (bytes_eq name (codes "ask")) (bytes_eq name (codes "take")) (bytes_eq name (codes "give")) (bytes_eq name (codes "land")) (bytes_eq name (codes "wall")) e
   where
-    by : (a b c d f : Bool) → cond a (ask_at words) (cond b (take_at words) (cond c (give_at words) (cond d (land_at words) (cond f (wall_at words) (Err Form))))) ≡ Ok x → IsVerb x.0
-    by true b c d f p = ask-range words x p
-    by false true c d f p = take-range words x p
-    by false false true d f p = give-range words x p
-    by false false false true f p = land-range words x p
-    by false false false false true p = wall-range words x p
-    by false false false false false p = no_verb x p
+    by : (a b c d f : Bool)
+        → cond a (ask_at words) (cond b (take_at words) (cond c (give_at words) (cond d (land_at words) (cond f (wall_at words) (timelines_at name words))))) ≡ Ok x
+        → IsVerb x.0
+    by true b c d f p = reading-range words verbs.Ask x (λ r k. k) p
+    by false true c d f p = numbered-range words verbs.Take x (λ n r k. k) p
+    by false false true d f p = numbered-range words verbs.Give x (λ n r k. k) p
+    by false false false true f p = numbered-range words verbs.Land x (λ n r k. k) p
+    by false false false false true p = reading-range words verbs.Wall x (λ r k. k) p
+    by false false false false false p = timelines-range name words x p
 
--- that of any verb
-verb-range : (words : List (List ℕ)) (x : Verb × List (List ℕ)) → verb_at words ≡ Ok x → IsVerb x.0
+verb-range : (words : List (List ℕ)) (x : Front Verb) → verb_at words ≡ Ok x → IsVerb x.0
 unfolding verb_at
 verb-range words x e =
-    let name = first_step (word_at words) (λ n. operands_at n.0 n.1) x e in
+    let name = step x (word_at words) (λ name. operands_at name.0 name.1) e in
     operands-range name.0.0 name.0.1 x name.2
 
 -- ---- lines
@@ -168,23 +290,60 @@ words-range words line e =
 pub lines_are_in_range : (bytes : List ℕ) (line : Line) → line_of bytes ≡ Ok line → IsLine line
 lines_are_in_range bytes line e = words-range (words_of bytes) line e
 
--- ---- headers
--- a signed number that is read is between its bounds
-signed-range : (digits : ℕ) (low high : ℤ) (words : List (List ℕ)) (x : ℤ × List (List ℕ)) → signed_at digits low high words ≡ Ok x → (low ≤ℤ x.0) × (x.0 ≤ℤ high)
-unfolding signed_at
-signed-range digits low high words x e =
-    let word = first_step (word_at words) (λ w. or_form (signed_number_of w.0 digits) >>= (λ n. if int_lt n low then Err Form else if int_lt high n then Err Form else Ok (n, w.1))) x e in
-    let number = first_step (or_form (signed_number_of word.0.0 digits)) (λ n. if int_lt n low then Err Form else if int_lt high n then Err Form else Ok (n, word.0.1)) x word.2 in
-    by number.0 word.0.1 (int_lt number.0 low) (int_lt high number.0) refl refl number.2
-  where
-    by : (n : ℤ) (rest : List (List ℕ)) (a b : Bool) → int_lt n low ≡ a → int_lt high n ≡ b
-        → cond a (Err Form) (cond b (Err Form) (Ok (n, rest))) ≡ good x → (low ≤ℤ x.0) × (x.0 ≤ℤ high)
-    by n rest true b p q r = absurd (cc)
-    by n rest false true p q r = absurd (cc)
-    by n rest false false p q r =
-        let same = same_Ok (n, rest) x r in
-        subst (λ (y : ℤ × List (List ℕ)). (low ≤ℤ y.0) × (y.0 ≤ℤ high)) same (not_less n low p, not_less high n q)
+-- so is that of a call that answers it
+pub line_in_range : (bytes : List ℕ) (answer : Result Line LineFault) → GivesBy (λ line. line) Memory answer (line_of bytes) → IfOk answer IsLine
+line_in_range bytes (Ok line) e = lines_are_in_range bytes line e
+line_in_range bytes (Err fault) e = tt
 
+-- ---- lines of a script
+-- the verb of a programme is a script's too
+programme-due : (words : List (List ℕ)) (x : Front Verb) → programme_at words ≡ Ok x → IsDue x.0
+unfolding programme_at
+programme-due words x e = made-range IsText IsDue (text_at words) verbs.Programme x (text-range words) (λ id h. record { range = h; scripted = tt }) e
+
+-- a viewer's command has no reading yet
+command-due : (name : List ℕ) (words : List (List ℕ)) (x : Front Verb) → due_command_at name words ≡ Ok x → IsDue x.0
+unfolding due_command_at
+command-due name words x e =
+    made-range IsCommand IsDue (command_at name words) (verbs.Viewer 0) x (command-range name words)
+    (λ command h. record { range = record { reading = omega arith; command = h }; scripted = refl }) e
+
+operands-due : (name : List ℕ) (words : List (List ℕ)) (x : Front Verb) → script_operands_at name words ≡ Ok x → IsDue x.0
+unfolding script_operands_at
+operands-due name words x e = by (bytes_eq name (codes "programme")) (bytes_eq name (codes "timeline")) e
+  where
+    by : (a b : Bool) → cond a (programme_at words) (cond b (timeline_at words) (due_command_at name words)) ≡ Ok x → IsDue x.0
+    by true b p = programme-due words x p
+    by false true p = timeline-due words x p
+    by false false p = command-due name words x p
+
+verb-due : (words : List (List ℕ)) (x : Front Verb) → script_verb_at words ≡ Ok x → IsDue x.0
+unfolding script_verb_at
+verb-due words x e =
+    let name = step x (word_at words) (λ name. script_operands_at name.0 name.1) e in
+    operands-due name.0.0 name.0.1 x name.2
+
+-- the words of a script's line are in range
+script_words-range : (words : List (List ℕ)) (script : ScriptLine) → script_of_words words ≡ Ok script → IsScriptLine script
+unfolding script_of_words
+script_words-range words script e =
+    let due = first_step (time_at words) (λ due. script_verb_at due.1 >>= (λ verb. all_read verb.1 >>= (λ end. Ok (record { due = due.0; verb = verb.0 })))) script e in
+    let verb = first_step (script_verb_at due.0.1) (λ verb. all_read verb.1 >>= (λ end. Ok (record { due = due.0.0; verb = verb.0 }))) script due.2 in
+    let end = first_step (all_read verb.0.1) (λ end. Ok (record { due = due.0.0; verb = verb.0.0 })) script verb.2 in
+    let read : ScriptLine = record { due = due.0.0; verb = verb.0.0 } in
+    let known = verb-due due.0.1 verb.0 verb.1 in
+    subst IsScriptLine {x = read} (same_Ok read script end.2) (record { due = number-range LIMIT words due.0 due.1; verb = known.range; scripted = known.scripted })
+
+-- every line of a script that is read is in range
+pub scripts_are_in_range : (bytes : List ℕ) (script : ScriptLine) → script_of bytes ≡ Ok script → IsScriptLine script
+scripts_are_in_range bytes script e = script_words-range (words_of bytes) script e
+
+-- so is that of a call that answers it
+pub script_in_range : (bytes : List ℕ) (answer : Result ScriptLine LineFault) → GivesBy (λ script. script) Memory answer (script_of bytes) → IfOk answer IsScriptLine
+script_in_range bytes (Ok script) e = scripts_are_in_range bytes script e
+script_in_range bytes (Err fault) e = tt
+
+-- ---- headers
 -- the numbers that are declared are in range
 record AreInRange (tv_error : ℕ) (tv_precision : ℤ) (error precision : ℕ) : Type 0 where
   of_tv : tv_error ≤ max_error
@@ -215,18 +374,27 @@ declared-range words x e =
 same_One : (a b : Header) → good (One a) ≡ good (One b) → a ≡ b
 same_One a b e = cc
 
--- a word that is chosen by a test passes it
-passes : (b : Bool) (word x : List ℕ × List (List ℕ)) → (if b then good word else Err Form) ≡ Ok x → (b ≡ true) × (word ≡ x)
-passes true word x e = (refl, same_Ok word x e)
-passes false word x e = absurd (cc)
+-- no start of version 1 is one of version 2
+not_Two : (a b : Header) (companions : ℕ) → good (One a) ≡ good (Two b companions) → ⊥
+not_Two a b companions e = cc
 
--- a text is UTF-8
-text-utf8 : (words : List (List ℕ)) (x : List ℕ × List (List ℕ)) → text_at words ≡ Ok x → IsUtf8 x.0
-unfolding text_at
-text-utf8 words x e =
-    let word = step x (word_at words) (λ word. if is_word word.0 then Ok word else Err Form) e in
-    let passed = passes (is_word word.0.0) word.0 x word.2 in
-    subst (λ (y : List ℕ × List (List ℕ)). IsUtf8 y.0) passed.1 (word-utf8 word.0.0 passed.0)
+-- whatever else holds, a truth does
+or_true : (a b : Bool) → b ≡ true → (a || b) ≡ true
+or_true true b h = refl
+or_true false b h = h
+
+-- two truths
+and_true : (a b : Bool) → a ≡ true → b ≡ true → (a && b) ≡ true
+and_true true b p q = q
+and_true false b p q = absurd (cc)
+
+-- the stem that a word stands for is a stem
+stem-range : (word : List ℕ) → is_word word ≡ true → is_stem (stem_of word) ≡ true
+stem-range word h = by (bytes_eq word (codes "-")) refl
+  where
+    by : (b : Bool) → bytes_eq word (codes "-") ≡ b → is_stem (if b then [] else word) ≡ true
+    by true p = refl
+    by false p = or_true (length word == 0) (is_word word && not (bytes_eq word (codes "-"))) (and_true (is_word word) (not (bytes_eq word (codes "-"))) h (ap not p))
 
 -- the words of a header are in range
 header-range : (words : List (List ℕ)) (header : Header) → header_of_words words ≡ Ok (One header) → IsReadHeader header
@@ -239,22 +407,53 @@ header-range words header e =
     let stem = first_step (text_at selector.0.1) (λ stem. all_read stem.1 >>= (λ end. Ok (One (header_with mode.0.0 declared.0.0 selector.0.0 stem.0)))) (One header) selector.2 in
     let end = first_step (all_read stem.0.1) (λ end. Ok (One (header_with mode.0.0 declared.0.0 selector.0.0 stem.0.0))) (One header) stem.2 in
     let known = declared-range mode.0.1 declared.0 declared.1 in
+    let wanted = text-range declared.0.1 selector.0 selector.1 in
+    let begun = text-range selector.0.1 stem.0 stem.1 in
+    let own : IsLocal (local_of declared.0.0) = record { error = known.of_own; precision = known.of_reading } in
     let read : Header = header_with mode.0.0 declared.0.0 selector.0.0 stem.0.0 in
     subst IsReadHeader {x = read} (same_One read header end.2) (record {
       tv = record {
         tv_error = known.of_tv;
         tv_precision = known.greatest;
-        companions = All-cons IsCompanion _ [] (record {
-          selector = text-utf8 declared.0.1 selector.0 selector.1;
-          stem = stem-utf8 stem.0.0 (text-utf8 selector.0.1 stem.0 stem.1);
-        }) (All-nil IsCompanion);
+        companions = All-cons IsCompanion _ [] (record { selector = wanted.utf8; stem = stem-utf8 stem.0.0 begun.utf8 }) (All-nil IsCompanion);
+      };
+      printable = record {
+        tv_error = known.of_tv;
+        least = known.least;
+        greatest = known.greatest;
+        companions = All-cons IsPrintableCompanion _ [] (record { local = own; selector = wanted.word; stem = stem-range stem.0.0 begun.word }) (All-nil IsPrintableCompanion);
       };
       least = known.least;
       companion = record { local = local_of declared.0.0; selector = selector.0.0; stem = stem_of stem.0.0 };
       alone = refl;
-      local = record { error = known.of_own; precision = known.of_reading };
+      local = own;
     })
 
--- and every header
+-- every header that is read is in range
 pub headers_are_in_range : (bytes : List ℕ) (header : Header) → header_of bytes ≡ Ok (One header) → IsReadHeader header
 headers_are_in_range bytes header e = header-range (words_of bytes) header e
+
+-- no header of version 2 is read
+no_second_version : (words : List (List ℕ)) (header : Header) (companions : ℕ) → header_of_words words ≡ Ok (Two header companions) → ⊥
+unfolding header_of_words
+no_second_version words header companions e =
+    let start : Start = Two header companions in
+    let version = first_step (after_version words) (λ v. mode_at v >>= (λ f. declared_at f.1 >>= (λ d. text_at d.1 >>= (λ selector. text_at selector.1 >>= (λ stem. all_read stem.1 >>= (λ end. Ok (One (header_with f.0 d.0 selector.0 stem.0)))))))) start e in
+    let mode = first_step (mode_at version.0) (λ f. declared_at f.1 >>= (λ d. text_at d.1 >>= (λ selector. text_at selector.1 >>= (λ stem. all_read stem.1 >>= (λ end. Ok (One (header_with f.0 d.0 selector.0 stem.0))))))) start version.2 in
+    let declared = first_step (declared_at mode.0.1) (λ d. text_at d.1 >>= (λ selector. text_at selector.1 >>= (λ stem. all_read stem.1 >>= (λ end. Ok (One (header_with mode.0.0 d.0 selector.0 stem.0)))))) start mode.2 in
+    let selector = first_step (text_at declared.0.1) (λ selector. text_at selector.1 >>= (λ stem. all_read stem.1 >>= (λ end. Ok (One (header_with mode.0.0 declared.0.0 selector.0 stem.0))))) start declared.2 in
+    let stem = first_step (text_at selector.0.1) (λ stem. all_read stem.1 >>= (λ end. Ok (One (header_with mode.0.0 declared.0.0 selector.0.0 stem.0)))) start selector.2 in
+    let end = first_step (all_read stem.0.1) (λ end. Ok (One (header_with mode.0.0 declared.0.0 selector.0.0 stem.0.0))) start stem.2 in
+    not_Two (header_with mode.0.0 declared.0.0 selector.0.0 stem.0.0) header companions end.2
+
+-- one companion is in a list of one
+one_companion : (header : Header) (companion : CompanionLine) → header.companions ≡ companion ∷ [] → length header.companions ≡ 1
+one_companion header companion e = ap length e
+
+-- the start that a call answers is in range
+pub start_in_range : (bytes : List ℕ) (answer : Result Start LineFault) → GivesBy (λ start. start) Memory answer (header_of bytes) → IfOk answer IsStart
+start_in_range bytes (Ok (One header)) e =
+    let known = headers_are_in_range bytes header e in
+    (known.tv, one_companion header known.companion known.alone, known.printable)
+start_in_range bytes (Ok (Two header companions)) e = absurd (no_second_version (words_of bytes) header companions e)
+start_in_range bytes (Err fault) e = tt

@@ -33,7 +33,7 @@ digit_no_space : (byte : ℕ) → is_ascii_digit byte ≡ true → is_space byte
 digit_no_space byte digit = grind (arith, nat_tests)
 
 -- no space stands in digits
-no_space : (number n : ℕ) (bytes : List ℕ) → digits_after number bytes ≡ Some n → All (λ b. is_space b ≡ false) bytes
+pub no_space : (number n : ℕ) (bytes : List ℕ) → digits_after number bytes ≡ Some n → All (λ b. is_space b ≡ false) bytes
 no_space number n [] is = All-nil (λ b. is_space b ≡ false)
 no_space number n (b ∷ bytes) is =
     let parts = then_some (is_ascii_digit b) (digits_after (number * 10 + (b - 48)) bytes) n is in

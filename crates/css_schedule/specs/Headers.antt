@@ -5,6 +5,7 @@ use Rattle.css_model.specs.WallClock.{Local}
 use Rattle.css_schedule.specs.declared.fault.LineFault.{LineFault}
 use Rattle.css_schedule.specs.declared.fault.LineFault.TheVariants.{Form}
 use Rattle.css_schedule.specs.declared.opening.Declared.{Declared}
+use Rattle.css_schedule.specs.declared.header.CompanionLine.{CompanionLine}
 use Rattle.css_schedule.specs.declared.header.Header.{Header}
 use Rattle.css_schedule.specs.declared.header.Start.{Start}
 use Rattle.css_schedule.specs.declared.header.Start.TheVariants.{One}
@@ -47,13 +48,17 @@ declared_at words = do
 abbrev pub local_of : Declared → Local
 local_of declared = record { error = declared.error; precision = declared.precision }
 
+-- a companion with this selector, and the stem that a word stands for, alone
+abbrev pub companions_with : Local → List ℕ → List ℕ → List CompanionLine
+companions_with local selector word = record { local = local; selector = selector; stem = stem_of word } ∷ []
+
 -- the header with these words
 abbrev pub header_with : Bool → Declared → List ℕ → List ℕ → Header
 header_with follow declared selector stem = record {
   follow = follow;
   tv_error = declared.tv_error;
   tv_precision = declared.tv_precision;
-  companions = record { local = local_of declared; selector = selector; stem = stem_of stem } ∷ [];
+  companions = companions_with (local_of declared) selector stem;
 }
 
 -- `css-schedule 1 MODE EW KW EL PL SELECTOR STEM`

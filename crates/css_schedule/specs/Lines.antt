@@ -1,7 +1,7 @@
 -- The lines of a schedule after its header, and those of a script, as words.
 use Rattle.std.specs.Prelude.{ℕ, ℤ, ◌^◌, ◌+◌, if◌then◌else◌, List, Option, Some, None, Result, Ok, Err, codes, bytes_eq}
 use Rattle.css_model.specs.declared.TheConstants.{LIMIT}
-use Rattle.css_num.specs.Rates.{TickRate, rate_of}
+use Rattle.css_num.specs.Rates.{rate_of}
 use Rattle.css_num.specs.Words.{whole_number_of}
 use Rattle.css_player.specs.declared.command.Command.{Command}
 use Rattle.css_player.specs.declared.command.Command.TheVariants.{Change, Speed, Seek}
@@ -39,14 +39,6 @@ kind_at words = do
   word ← word_at words
   kind ← kind_of word.0
   Ok (kind, word.1)
-
--- `UPT UPS`: a tick rate, each part 1 to 10^9
-unfoldable pub rate_at : At TickRate
-rate_at words = do
-  units_per_tick ← ordinal_at words
-  units_per_second ← ordinal_at units_per_tick.1
-  rate ← or_form (rate_of units_per_tick.0 units_per_second.0)
-  Ok (rate, units_per_second.1)
 
 -- a wall time below 2^63 ns
 unfoldable pub finite_at : At (Option ℕ)
@@ -157,14 +149,16 @@ programme_at words = do
   content_id ← text_at words
   Ok (verbs.Programme content_id.0, content_id.1)
 
--- `timeline N SELECTOR UPT UPS BASE`
+-- `timeline N SELECTOR UPT UPS BASE`: each part of the rate is 1 to 10^9
 unfoldable pub timeline_at : At Verb
 timeline_at words = do
   programme ← ordinal_at words
   selector ← text_at programme.1
-  rate ← rate_at selector.1
-  base ← position_at rate.1
-  Ok (verbs.Timeline programme.0 selector.0 rate.0 base.0, base.1)
+  units_per_tick ← ordinal_at selector.1
+  units_per_second ← ordinal_at units_per_tick.1
+  base ← position_at units_per_second.1
+  rate ← or_form (rate_of units_per_tick.0 units_per_second.0)
+  Ok (verbs.Timeline programme.0 selector.0 rate base.0, base.1)
 
 -- `change R N`, `speed R S` and `seek R M`, by their name
 unfoldable pub viewer_at : List ℕ → At Verb
@@ -215,7 +209,15 @@ session_at name words =
     else if bytes_eq name (codes "close") then close_at words
     else viewer_at name words
 
--- the operands of the verb with this name
+-- those of a report, a programme or a timeline, or else of a session
+unfoldable pub timelines_at : List ℕ → At Verb
+timelines_at name words =
+    if bytes_eq name (codes "print") then print_at words
+    else if bytes_eq name (codes "programme") then programme_at words
+    else if bytes_eq name (codes "timeline") then timeline_at words
+    else session_at name words
+
+-- those of the wall clock, or else of the timelines: so each verb's
 unfoldable pub operands_at : List ℕ → At Verb
 operands_at name words =
     if bytes_eq name (codes "ask") then ask_at words
@@ -223,10 +225,7 @@ operands_at name words =
     else if bytes_eq name (codes "give") then give_at words
     else if bytes_eq name (codes "land") then land_at words
     else if bytes_eq name (codes "wall") then wall_at words
-    else if bytes_eq name (codes "print") then print_at words
-    else if bytes_eq name (codes "programme") then programme_at words
-    else if bytes_eq name (codes "timeline") then timeline_at words
-    else session_at name words
+    else timelines_at name words
 
 -- a verb and its operands
 unfoldable pub verb_at : At Verb

@@ -61,9 +61,9 @@ pub record IsOrdinal (number : ℕ) : Type 0 where
   pub high : number < 4294967296
 
 -- a number of something and a reading
-pub record IsNumbered (number reading : ℕ) : Type 0 where
-  pub number : IsOrdinal number
-  pub reading : reading < LIMIT
+pub record IsNumbered (i r : ℕ) : Type 0 where
+  pub number : IsOrdinal i
+  pub reading : r < LIMIT
 
 -- a text is a word, so it is UTF-8
 pub record IsText (text : List ℕ) : Type 0 where
@@ -71,11 +71,11 @@ pub record IsText (text : List ℕ) : Type 0 where
   pub utf8 : IsUtf8 text
 
 -- a timeline's programme, selector, rate and base
-pub record IsTimeline (programme : ℕ) (selector : List ℕ) (rate : TickRate) (base : ℤ) : Type 0 where
-  pub programme : IsOrdinal programme
-  pub selector : IsText selector
-  pub rate : IsTickRate rate
-  pub base : unsigned_abs base < 10 ^ 18
+pub record IsTimeline (n : ℕ) (s : List ℕ) (r : TickRate) (b : ℤ) : Type 0 where
+  pub programme : IsOrdinal n
+  pub selector : IsText s
+  pub rate : IsTickRate r
+  pub base : unsigned_abs b < 10 ^ 18
 
 -- a speed has at most 3 digits and a media position at most 18, whatever the player takes of them
 abbrev pub IsCommand : Command → Type 0
@@ -84,9 +84,9 @@ IsCommand (Speed speed) = unsigned_abs speed < 1000
 IsCommand (Seek media) = unsigned_abs media < 10 ^ 18
 
 -- a viewer's command and its reading
-pub record IsViewer (reading : ℕ) (command : Command) : Type 0 where
-  pub reading : reading < LIMIT
-  pub command : IsCommand command
+pub record IsViewer (r : ℕ) (c : Command) : Type 0 where
+  pub reading : r < LIMIT
+  pub command : IsCommand c
 
 -- the presentation of two bounds
 abbrev pub window : Bound → Bound → Presentation

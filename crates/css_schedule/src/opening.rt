@@ -1,10 +1,10 @@
-ghost use Rattle.std.specs.Prelude.{◌≡◌, ◌≤◌, ◌≤ℤ◌, pos, ◌∷◌, [], IfOk, All};
-ghost use Rattle.std.specs.Str.{IsUtf8};
-ghost use Rattle.css_model.specs.Numbers.{max_error, max_local_error, max_local_precision};
+ghost use Rattle.std.specs.Prelude.{◌≡◌, ◌≤◌, IfOk};
+ghost use Rattle.css_model.specs.Numbers.{max_local_error, max_local_precision};
 ghost use Rattle.css_num.specs.Gives.{GivesBy};
 ghost use Rattle.css_schedule.specs.Words.{words_left, Reads};
-ghost use Rattle.css_schedule.specs.Headers.{after_version, mode_of, mode_at, declared_at, stem_of, header_of};
-ghost use Rattle.css_schedule.specs.Ranges.{IsStart, IsCompanion};
+ghost use Rattle.css_schedule.specs.Headers.{after_version, mode_of, mode_at, declared_at, stem_of};
+ghost use Rattle.css_schedule.specs.Headers.{companions_with, header_of_words, header_of};
+ghost use Rattle.css_schedule.specs.Ranges.{IsStart};
 ghost use Rattle.css_schedule.specs.declared.fault.LineFault.TheVariants as faults;
 
 use crate::words::{Words, all_words, finish, number, signed, skip, text, word};
@@ -72,8 +72,6 @@ fn mode<'a>(words: Words<'a>) -> Result<(bool, Words<'a>), LineFault>
 #[tactic(auto, unfolding(crate::specs::Headers::declared_at))]
 fn declaration<'a>(words: Words<'a>) -> Result<(Declared, Words<'a>), LineFault>
     ensures value { Reads result (declared_at (words_left words.entry)) }
-    ensures tv_error { IfOk result (λ x. x.0.tv_error ≤ max_error) }
-    ensures tv_precision { IfOk result (λ x. x.0.tv_precision ≤ℤ pos 30) }
     ensures error { IfOk result (λ x. x.0.error ≤ max_local_error) }
     ensures precision { IfOk result (λ x. x.0.precision ≤ max_local_precision) }
 {
@@ -92,12 +90,10 @@ fn declaration<'a>(words: Words<'a>) -> Result<(Declared, Words<'a>), LineFault>
 
 // The stem that a word stands for: `-` for the empty one.
 fn stem(alloc: Global, word: &[u8]) -> Result<Text, Memory>
-    requires { IsUtf8 word.now }
-    ensures value { IfOk result (λ stem. stem ≡ stem_of word.now) }
-    ensures utf8 { IfOk result IsUtf8 }
+    ensures { IfOk result (λ stem. stem ≡ stem_of word.now) }
 {
     if word == b"-".as_slice() {
-        Ok(Text::of(alloc, b"")?)
+        Ok(Text::new(alloc))
     } else {
         Text::of(alloc, word)
     }
@@ -105,10 +101,7 @@ fn stem(alloc: Global, word: &[u8]) -> Result<Text, Memory>
 
 // A companion with this selector and stem, alone.
 fn only(alloc: Global, local: Local, selector: &[u8], word: &[u8]) -> Result<Companions, Memory>
-    requires selector { IsUtf8 selector.now }
-    requires stem { IsUtf8 word.now }
-    ensures utf8 { IfOk result (λ companions. All IsCompanion companions) }
-    ensures value { IfOk result (λ companions. companions ≡ record { local = local; selector = selector.now; stem = stem_of word.now } ∷ []) }
+    ensures { IfOk result (λ companions. companions ≡ companions_with local selector.now word.now) }
 {
     let companion = CompanionLine {
         local,
@@ -118,19 +111,12 @@ fn only(alloc: Global, local: Local, selector: &[u8], word: &[u8]) -> Result<Com
     Ok(Companions::of(vec![in alloc; companion]?))
 }
 
-/// Reads the first line of a schedule, without its line feed.
-///
-/// The words are `css-schedule 1 MODE EW KW EL PL SELECTOR STEM` with exactly one space between two of them. MODE is
-/// `plain`, or `follow` where the television promises follow-ups. EW is the television's oscillator error, 0 to 25,600,000 in 1/256 ppm, and KW its precision, -128 to 30 as
-/// the base-2 logarithm of seconds. EL is the companion's oscillator error, 0 to 2,560,000, and PL its precision, 0 to
-/// 1,000,000,000 ns. SELECTOR and STEM are words of bytes from `!` to `~`; the STEM `-` is the empty stem. Anything else
-/// is `Form`.
+// The start of version 1 that these words are.
 #[tactic(auto, unfolding(crate::specs::Headers::header_of_words))]
-pub fn read_header(alloc: Global, bytes: &[u8]) -> Result<Start, LineFault>
-    ensures value { GivesBy (λ x. x) faults.Memory result (header_of bytes.now) }
-    ensures range { IfOk result IsStart }
+fn start(alloc: Global, words: Words<'_>) -> Result<Start, LineFault>
+    ensures { GivesBy (λ x. x) faults.Memory result (header_of_words (words_left words.entry)) }
 {
-    let rest = after_version(all_words(bytes))?;
+    let rest = after_version(words)?;
     let (follow, rest) = mode(rest)?;
     let (declared, rest) = declaration(rest)?;
     let (selector, rest) = text(rest)?;
@@ -146,4 +132,19 @@ pub fn read_header(alloc: Global, bytes: &[u8]) -> Result<Start, LineFault>
         tv_precision: declared.tv_precision,
         companions: only(alloc, local, selector, stem)?,
     }))
+}
+
+/// Reads the first line of a schedule, without its line feed.
+///
+/// The words are `css-schedule 1 MODE EW KW EL PL SELECTOR STEM` with exactly one space between two of them. MODE is
+/// `plain`, or `follow` where the television promises follow-ups. EW is the television's oscillator error, 0 to
+/// 25,600,000 in 1/256 ppm, and KW its precision, -128 to 30 as the base-2 logarithm of seconds. EL is the companion's
+/// oscillator error, 0 to 2,560,000, and PL its precision, 0 to 1,000,000,000 ns. SELECTOR and STEM are words of bytes
+/// from `!` to `~`; the STEM `-` is the empty stem. Anything else is `Form`.
+#[tactic(auto, using(crate::proofs::InRange::start_in_range))]
+pub fn read_header(alloc: Global, bytes: &[u8]) -> Result<Start, LineFault>
+    ensures value { GivesBy (λ x. x) faults.Memory result (header_of bytes.now) }
+    ensures range { IfOk result IsStart }
+{
+    start(alloc, all_words(bytes))
 }

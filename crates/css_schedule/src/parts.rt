@@ -7,7 +7,6 @@ ghost use Rattle.css_schedule.specs.declared.fault.LineFault.TheVariants as faul
 use crate::LineFault;
 use crate::words::{Words, integer, number, ordinal, word};
 use css_model::LIMIT;
-use css_num::Rate;
 use css_player::Command;
 use css_sessions::Kind;
 use css_tsmsg::Bound;
@@ -55,17 +54,6 @@ pub fn kind<'a>(words: Words<'a>) -> Result<(Kind, Words<'a>), LineFault>
     let (name, rest) = word(words)?;
     let kind = kind_named(name)?;
     Ok((kind, rest))
-}
-
-/// A tick rate: units per tick and then units per second, each 1 to 10^9.
-#[tactic(auto, unfolding(crate::specs::Lines::rate_at))]
-pub fn rate<'a>(words: Words<'a>) -> Result<(Rate, Words<'a>), LineFault>
-    ensures { Reads result (lines.rate_at (words_left words.entry)) }
-{
-    let (units_per_tick, rest) = ordinal(words)?;
-    let (units_per_second, rest) = ordinal(rest)?;
-    let rate = Rate::of(units_per_tick, units_per_second).ok_or(LineFault::Form)?;
-    Ok((rate, rest))
 }
 
 // A wall time below 2^63 ns.
@@ -161,10 +149,13 @@ fn seek<'a>(words: Words<'a>) -> Result<(Command, Words<'a>), LineFault>
 pub fn command<'a>(name: &[u8], words: Words<'a>) -> Result<(Command, Words<'a>), LineFault>
     ensures { Reads result (lines.command_at name.now (words_left words.entry)) }
 {
-    match name {
-        b"change" => change(words),
-        b"speed" => speed(words),
-        b"seek" => seek(words),
-        _ => Err(LineFault::Form),
+    if name == b"change".as_slice() {
+        change(words)
+    } else if name == b"speed".as_slice() {
+        speed(words)
+    } else if name == b"seek".as_slice() {
+        seek(words)
+    } else {
+        Err(LineFault::Form)
     }
 }

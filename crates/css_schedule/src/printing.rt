@@ -229,6 +229,17 @@ fn add_companions(text: &mut Text, companions: &Companions) -> Result<(), Memory
     }
 }
 
+// The words of version 1 after `css-schedule`.
+fn add_header(text: &mut Text, header: &Header) -> Result<(), Memory>
+    ensures { OnOk result (text.new ≡ with_words text.old (printed.header_words header.now)) }
+{
+    add_word(text, b"1")?;
+    add_word(text, mode_word(header.follow))?;
+    add_number(text, u64::from(header.tv_error))?;
+    add_signed(text, i64::from(header.tv_precision))?;
+    add_companions(text, &header.companions)
+}
+
 /// Writes the first line of a schedule, without its line feed. `read_header` reads the same header back.
 ///
 /// The header's selector is a word of bytes from `!` to `~`, and its stem is empty or such a word other than `-`.
@@ -241,10 +252,6 @@ pub fn print_header(alloc: Global, header: &Header, version: u32) -> Result<Text
     ensures read_back { IfOk result (λ text. header_of text ≡ Ok (starts.One header.now)) }
 {
     let mut text = Text::of(alloc, b"css-schedule")?;
-    add_number(&mut text, u64::from(version))?;
-    add_word(&mut text, mode_word(header.follow))?;
-    add_number(&mut text, u64::from(header.tv_error))?;
-    add_signed(&mut text, i64::from(header.tv_precision))?;
-    add_companions(&mut text, &header.companions)?;
+    add_header(&mut text, header)?;
     Ok(text)
 }

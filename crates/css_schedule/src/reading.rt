@@ -5,10 +5,10 @@ ghost use Rattle.css_schedule.specs.Lines as lines;
 ghost use Rattle.css_schedule.specs.Ranges.{IsLine, IsScriptLine};
 ghost use Rattle.css_schedule.specs.declared.fault.LineFault.TheVariants as faults;
 
-use crate::parts::{command, earliest, kind, latest, position, rate, time};
+use crate::parts::{command, earliest, kind, latest, position, time};
 use crate::words::{Words, all_words, finish, ordinal, skip, text, word};
 use crate::{Line, LineFault, ScriptLine, Verb};
-use css_num::Text;
+use css_num::{Rate, Text};
 use std::alloc::Global;
 
 #[tactic(auto, unfolding(crate::specs::Lines::ask_at))]
@@ -77,8 +77,10 @@ fn timeline<'a>(alloc: Global, words: Words<'a>) -> Result<(Verb, Words<'a>), Li
 {
     let (programme, rest) = ordinal(words)?;
     let (selector, rest) = text(rest)?;
-    let (rate, rest) = rate(rest)?;
+    let (units_per_tick, rest) = ordinal(rest)?;
+    let (units_per_second, rest) = ordinal(rest)?;
     let (base, rest) = position(rest)?;
+    let rate = Rate::of(units_per_tick, units_per_second).ok_or(LineFault::Form)?;
     let timeline = Verb::Timeline {
         programme,
         selector: Text::of(alloc, selector)?,
@@ -144,17 +146,42 @@ fn close<'a>(words: Words<'a>) -> Result<(Verb, Words<'a>), LineFault>
 fn session<'a>(name: &[u8], words: Words<'a>) -> Result<(Verb, Words<'a>), LineFault>
     ensures { Reads result (lines.session_at name.now (words_left words.entry)) }
 {
-    match name {
-        b"open" => opening(words),
-        b"text" => bring(words),
-        b"up" => up(words),
-        b"present" => present(words),
-        b"close" => close(words),
-        _ => viewer(name, words),
+    if name == b"open".as_slice() {
+        opening(words)
+    } else if name == b"text".as_slice() {
+        bring(words)
+    } else if name == b"up".as_slice() {
+        up(words)
+    } else if name == b"present".as_slice() {
+        present(words)
+    } else if name == b"close".as_slice() {
+        close(words)
+    } else {
+        viewer(name, words)
     }
 }
 
-// The operands of the verb with this name. Those of the wall clock come first: they are the most lines.
+// Those of a report, a programme or a timeline, or else of a session.
+#[tactic(auto, unfolding(crate::specs::Lines::timelines_at))]
+fn timelines<'a>(
+    alloc: Global,
+    name: &[u8],
+    words: Words<'a>,
+) -> Result<(Verb, Words<'a>), LineFault>
+    ensures { Reads result (lines.timelines_at name.now (words_left words.entry)) }
+{
+    if name == b"print".as_slice() {
+        report(words)
+    } else if name == b"programme".as_slice() {
+        programme(alloc, words)
+    } else if name == b"timeline".as_slice() {
+        timeline(alloc, words)
+    } else {
+        session(name, words)
+    }
+}
+
+// Those of the wall clock, or else of the timelines. The wall clock comes first, since most lines are its.
 #[tactic(auto, unfolding(crate::specs::Lines::operands_at))]
 fn operands<'a>(
     alloc: Global,
@@ -163,16 +190,18 @@ fn operands<'a>(
 ) -> Result<(Verb, Words<'a>), LineFault>
     ensures { Reads result (lines.operands_at name.now (words_left words.entry)) }
 {
-    match name {
-        b"ask" => ask(words),
-        b"take" => take(words),
-        b"give" => give(words),
-        b"land" => land(words),
-        b"wall" => wall(words),
-        b"print" => report(words),
-        b"programme" => programme(alloc, words),
-        b"timeline" => timeline(alloc, words),
-        _ => session(name, words),
+    if name == b"ask".as_slice() {
+        ask(words)
+    } else if name == b"take".as_slice() {
+        take(words)
+    } else if name == b"give".as_slice() {
+        give(words)
+    } else if name == b"land".as_slice() {
+        land(words)
+    } else if name == b"wall".as_slice() {
+        wall(words)
+    } else {
+        timelines(alloc, name, words)
     }
 }
 
@@ -252,10 +281,12 @@ fn script_operands<'a>(
 ) -> Result<(Verb, Words<'a>), LineFault>
     ensures { Reads result (lines.script_operands_at name.now (words_left words.entry)) }
 {
-    match name {
-        b"programme" => programme(alloc, words),
-        b"timeline" => timeline(alloc, words),
-        _ => due_command(name, words),
+    if name == b"programme".as_slice() {
+        programme(alloc, words)
+    } else if name == b"timeline".as_slice() {
+        timeline(alloc, words)
+    } else {
+        due_command(name, words)
     }
 }
 
