@@ -27,7 +27,6 @@ use Rattle.css_tsmsg.specs.declared.bound.Bound.{Bound}
 use Rattle.css_tsmsg.specs.declared.bound.Bound.TheVariants.{At, MinusInfinity, PlusInfinity}
 use Rattle.css_schedule.proofs.Graphic.{both}
 use Rattle.css_schedule.proofs.Quick.{no_space, read}
-use Rattle.css_schedule.proofs.Steps.{good}
 use Rattle.css_schedule.specs.declared.fault.LineFault.{LineFault}
 use Rattle.css_schedule.specs.declared.fault.LineFault.TheVariants.{Form}
 use Rattle.css_schedule.specs.declared.header.CompanionLine.{CompanionLine}
@@ -108,6 +107,10 @@ decimal-solid number small = number-solid (decimal number) number (number_of-dec
 signed-solid : (number : ℤ) → unsigned_abs number < 10 ^ 18 → Solid (signed_decimal number)
 signed-solid (pos n) small = decimal-solid n (omega (arith, small))
 signed-solid (negsuc n) small = All-cons (λ byte. is_space byte ≡ false) 45 (decimal (suc n)) refl (decimal-solid (suc n) (omega (arith, small)))
+
+-- `Ok`, at this type of fault
+abbrev good : {A : Type 0} → A → Result A LineFault
+good x = Ok x
 
 -- ---- numbers
 -- a number below the bound

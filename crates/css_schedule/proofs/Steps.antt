@@ -1,125 +1,123 @@
 -- One step of reading after another, and the ranges of what each step reads.
-use Rattle.std.proofs.Common.{◌≡◌, ℕ, ◌^◌, ◌<◌, ◌≤◌, arith, ap, subst, refl, sym, Bool, true, false, cond, List, [], ◌∷◌}
-use Rattle.std.specs.Prelude.{if◌then◌else◌, ℤ, ◌≤ℤ◌, int_lt, nat_lt, ◌==◌, unsigned_abs, Option, Some, None, Result, Ok, Err}
+use Rattle.std.proofs.Common.{◌≡◌, ℕ, ◌^◌, ◌<◌, ◌≤◌, arith, refl, sym, subst, Bool, true, false, cond, List}
+use Rattle.std.specs.Prelude.{if◌then◌else◌, ℤ, ◌≤ℤ◌, int_lt, nat_lt, ◌==◌, unsigned_abs, Option, Some, None, IfSome}
+use Rattle.std.specs.Prelude.{Result, Ok, Err, IfOk, ⊤}
 use Rattle.std.proofs.lemmas.Bool.{ltb-true, eqb-false}
 use Rattle.std.proofs.lemmas.Int.{ints}
+use Rattle.css_num.specs.Gives.{GivesBy}
 use Rattle.css_num.specs.Words.{below_limit, number_of, whole_number_of, signed_number_of}
 use Rattle.css_num.proofs.Spellings.{signed_number_of-small}
 use Rattle.css_schedule.proofs.Graphic.{word-utf8}
 use Rattle.css_schedule.specs.declared.fault.LineFault.{LineFault}
-use Rattle.css_schedule.specs.declared.fault.LineFault.TheVariants.{Form}
-use Rattle.css_schedule.specs.Words.{is_word, ◌>>=◌, or_form, word_at, number_at, ordinal_at, integer_at, signed_at, text_at}
+use Rattle.css_schedule.specs.declared.fault.LineFault.TheVariants.{Form, Memory}
+use Rattle.css_schedule.specs.Words.{is_word, ◌>>=◌, or_form}
+use Rattle.css_schedule.specs.Words.{word_at, number_at, ordinal_at, integer_at, signed_at, text_at}
 use Rattle.css_schedule.specs.Ranges.{IsOrdinal, IsText}
 
+-- ---- one after another
 -- what is read, and the words after it
 abbrev pub Front : Type 0 → Type 0
 Front A = A × List (List ℕ)
 
--- where two steps succeed, the first does, and the second from there
-pub first_step : {A B : Type 0} (r : Result A LineFault) (next : A → Result B LineFault) (y : B) → (r >>= next) ≡ Ok y → (x : A) × (r ≡ Ok x) × (next x ≡ Ok y)
-first_step (Ok x) next y e = (x, refl, e)
-first_step (Err fault) next y e = absurd (cc)
+-- what is read is in range
+abbrev pub First : {A : Type 0} → (A → Type 0) → Front A → Type 0
+First In front = In front.0
 
--- the same, from what comes of both
-pub step : {A B : Type 0} (y : B) (r : Result A LineFault) (next : A → Result B LineFault) → (r >>= next) ≡ Ok y → (x : A) × (r ≡ Ok x) × (next x ≡ Ok y)
-step y r next e = first_step r next y e
+-- the same, where it is read
+abbrev pub Gets : {A : Type 0} → (A → Type 0) → Result (Front A) LineFault → Type 0
+Gets In read = IfOk read (First In)
 
--- `Ok`, at this type of fault
-abbrev pub good : {A : Type 0} → A → Result A LineFault
-good x = Ok x
+-- after a step of whose value nothing is to be known
+pub pass : {A B : Type 0} (Out : B → Type 0) (read : Result A LineFault) (next : A → Result B LineFault)
+    → ((value : A) → IfOk (next value) Out) → IfOk (read >>= next) Out
+pass Out (Ok value) next go = go value
+pass Out (Err fault) next go = tt
 
--- equal successes have equal values
-pub same_Ok : {A : Type 0} (x y : A) → good x ≡ good y → x ≡ y
-same_Ok x y e = cc
+-- after a step that reads what is in range
+pub after : {A B : Type 0} (In : A → Type 0) (Out : B → Type 0) (read : Result (Front A) LineFault) (next : Front A → Result B LineFault)
+    → Gets In read → ((value : A) (rest : List (List ℕ)) → In value → IfOk (next (value, rest)) Out) → IfOk (read >>= next) Out
+after In Out (Ok front) next in_range go = go front.0 front.1 in_range
+after In Out (Err fault) next in_range go = tt
 
--- a value that is read is there
-pub or_form-some : {A : Type 0} (o : Option A) (x : A) → or_form o ≡ Ok x → o ≡ Some x
-or_form-some None x e = absurd (cc)
-or_form-some (Some y) x e = ap Some (same_Ok y x e)
+-- after a value that may be missing
+pub after_some : {A B : Type 0} (In : A → Type 0) (Out : B → Type 0) (value : Option A) (next : A → Result B LineFault)
+    → IfSome value In → ((a : A) → In a → IfOk (next a) Out) → IfOk (or_form value >>= next) Out
+after_some In Out None next in_range go = tt
+after_some In Out (Some a) next in_range go = go a in_range
 
--- what is made of a value that is read is in range where the value is
-pub made-range : {A B : Type 0} (In : A → Type 0) (Out : B → Type 0) (read : Result (Front A) LineFault) (make : A → B) (x : Front B)
-    → ((a : Front A) → read ≡ Ok a → In a.0) → ((a : A) → In a → Out (make a)) → (read >>= (λ a. Ok (make a.0, a.1))) ≡ Ok x → Out x.0
-made-range {A} {B} In Out read make x in_range made e =
-    let a = first_step read (λ a. Ok (make a.0, a.1)) x e in
-    let same = same_Ok (make a.0.0, a.0.1) x a.2 in
-    subst (λ (y : Front B). Out y.0) same (made a.0.0 (in_range a.0 a.1))
+-- what passes a test
+pub where_true : {B : Type 0} (Out : B → Type 0) (test : Bool) (result : Result B LineFault)
+    → (test ≡ true → IfOk result Out) → IfOk (if test then result else Err Form) Out
+where_true Out true result h = h refl
+where_true Out false result h = tt
 
--- what passes a test is the value, and the test says yes
-pub passes : {A : Type 0} (b : Bool) (value x : A) → (if b then good value else Err Form) ≡ Ok x → (b ≡ true) × (value ≡ x)
-passes true value x e = (refl, same_Ok value x e)
-passes false value x e = absurd (cc)
+-- what a test spares
+pub where_false : {B : Type 0} (Out : B → Type 0) (test : Bool) (result : Result B LineFault)
+    → (test ≡ false → IfOk result Out) → IfOk (if test then Err Form else result) Out
+where_false Out true result h = tt
+where_false Out false result h = h refl
 
--- what is refused by a test is the value, and the test says no
-pub spared : {A : Type 0} (b : Bool) (value x : A) → (if b then Err Form else good value) ≡ Ok x → (b ≡ false) × (value ≡ x)
-spared true value x e = absurd (cc)
-spared false value x e = (refl, same_Ok value x e)
+-- a value that is the success is in range
+pub ok-range : {B : Type 0} (Out : B → Type 0) (result : Result B LineFault) (value : B) → IfOk result Out → result ≡ Ok value → Out value
+ok-range {B} Out result value h e = subst (λ (r : Result B LineFault). IfOk r Out) e h
+
+-- so is what a call answers
+pub answer-range : {B : Type 0} (Out : B → Type 0) (answer expected : Result B LineFault)
+    → IfOk expected Out → GivesBy (λ value. value) Memory answer expected → IfOk answer Out
+answer-range Out (Ok value) expected h e = ok-range Out expected value h e
+answer-range Out (Err fault) expected h e = tt
 
 -- ---- numbers
 -- a number that passes the test is below the bound
-below : (limit : ℕ) (o : Option ℕ) (n : ℕ) → below_limit limit o ≡ Some n → n < limit
-below limit None n e = absurd (cc)
-below limit (Some m) n e = by (nat_lt m limit) refl e
+below : (limit : ℕ) (number : Option ℕ) → IfSome (below_limit limit number) (λ n. n < limit)
+below limit None = tt
+below limit (Some n) = by (nat_lt n limit) refl
   where
-    by : (b : Bool) → nat_lt m limit ≡ b → cond b (Some m) None ≡ Some n → n < limit
-    by true p q = let same : m ≡ n = cc in subst (λ (k : ℕ). k < limit) same (ltb-true m limit p)
-    by false p q = absurd (cc)
+    by : (b : Bool) → nat_lt n limit ≡ b → IfSome (cond b (Some n) None) (λ k. k < limit)
+    by true p = ltb-true n limit p
+    by false p = tt
 
 -- so is a number that is read
-pub number-range : (limit : ℕ) (words : List (List ℕ)) (x : Front ℕ) → number_at limit words ≡ Ok x → x.0 < limit
+pub number-range : (limit : ℕ) (words : List (List ℕ)) → Gets (λ n. n < limit) (number_at limit words)
 unfolding number_at
-number-range limit words x e =
-    let word = first_step (word_at words) (λ w. or_form (whole_number_of w.0 limit) >>= (λ n. Ok (n, w.1))) x e in
-    let number = first_step (or_form (whole_number_of word.0.0 limit)) (λ n. Ok (n, word.0.1)) x word.2 in
-    let same = same_Ok (number.0, word.0.1) x number.2 in
-    subst (λ (y : Front ℕ). y.0 < limit) same (below limit (number_of word.0.0) number.0 (or_form-some (whole_number_of word.0.0 limit) number.0 number.1))
+number-range limit words =
+    pass (First (λ n. n < limit)) (word_at words) _ (λ word.
+    after_some (λ n. n < limit) (First (λ n. n < limit)) _ _ (below limit (number_of word.0)) (λ n small. small))
 
 -- the number of something isn't 0
-pub ordinal-range : (words : List (List ℕ)) (x : Front ℕ) → ordinal_at words ≡ Ok x → IsOrdinal x.0
+pub ordinal-range : (words : List (List ℕ)) → Gets IsOrdinal (ordinal_at words)
 unfolding ordinal_at
-ordinal-range words x e =
-    let number = first_step (number_at 4294967296 words) (λ n. if n.0 == 0 then Err Form else Ok n) x e in
-    let some = spared (number.0.0 == 0) number.0 x number.2 in
-    let apart = eqb-false number.0.0 0 some.0 in
-    let small = number-range 4294967296 words number.0 number.1 in
-    subst (λ (y : Front ℕ). IsOrdinal y.0) some.1 (record { low = positive number.0.0 apart; high = small })
+ordinal-range words =
+    after (λ n. n < 4294967296) (First IsOrdinal) _ _ (number-range 4294967296 words) (λ number rest small.
+    where_false (First IsOrdinal) (number == 0) _ (λ some. record { low = positive number (eqb-false number 0 some); high = small }))
   where
     positive : (n : ℕ) → (n ≡ 0 → ⊥) → 1 ≤ n
     positive n apart = omega arith
 
 -- a signed number has at most so many digits
-pub integer-range : (digits : ℕ) → digits ≤ 18 → (words : List (List ℕ)) (x : Front ℤ) → integer_at digits words ≡ Ok x → unsigned_abs x.0 < 10 ^ digits
+pub integer-range : (digits : ℕ) → digits ≤ 18 → (words : List (List ℕ)) → Gets (λ n. unsigned_abs n < 10 ^ digits) (integer_at digits words)
 unfolding integer_at
-integer-range digits few words x e =
-    let word = first_step (word_at words) (λ w. or_form (signed_number_of w.0 digits) >>= (λ n. Ok (n, w.1))) x e in
-    let number = first_step (or_form (signed_number_of word.0.0 digits)) (λ n. Ok (n, word.0.1)) x word.2 in
-    let same = same_Ok (number.0, word.0.1) x number.2 in
-    let is = or_form-some (signed_number_of word.0.0 digits) number.0 number.1 in
-    subst (λ (y : Front ℤ). unsigned_abs y.0 < 10 ^ digits) same (signed_number_of-small word.0.0 digits (Some number.0) few (sym is))
+integer-range digits few words =
+    pass (First (λ n. unsigned_abs n < 10 ^ digits)) (word_at words) _ (λ word.
+    after_some (λ n. unsigned_abs n < 10 ^ digits) (First (λ n. unsigned_abs n < 10 ^ digits)) _ _
+    (signed_number_of-small word.0 digits (signed_number_of word.0 digits) few refl) (λ n small. small))
 
 -- what isn't less is at least as great
 not_less : (a b : ℤ) → int_lt a b ≡ false → b ≤ℤ a
 not_less a b e = omega (arith, ints, e)
 
 -- a signed number that is read is between its bounds
-pub signed-range : (digits : ℕ) (low high : ℤ) (words : List (List ℕ)) (x : Front ℤ) → signed_at digits low high words ≡ Ok x → (low ≤ℤ x.0) × (x.0 ≤ℤ high)
+pub signed-range : (digits : ℕ) (low high : ℤ) (words : List (List ℕ)) → Gets (λ n. (low ≤ℤ n) × (n ≤ℤ high)) (signed_at digits low high words)
 unfolding signed_at
-signed-range digits low high words x e =
-    let number = first_step (integer_at digits words) (λ n. if int_lt n.0 low then Err Form else if int_lt high n.0 then Err Form else Ok n) x e in
-    by number.0 (int_lt number.0.0 low) (int_lt high number.0.0) refl refl number.2
-  where
-    by : (n : Front ℤ) (a b : Bool) → int_lt n.0 low ≡ a → int_lt high n.0 ≡ b
-        → cond a (Err Form) (cond b (Err Form) (Ok n)) ≡ good x → (low ≤ℤ x.0) × (x.0 ≤ℤ high)
-    by n true b p q r = absurd (cc)
-    by n false true p q r = absurd (cc)
-    by n false false p q r =
-        let same = same_Ok n x r in
-        subst (λ (y : Front ℤ). (low ≤ℤ y.0) × (y.0 ≤ℤ high)) same (not_less n.0 low p, not_less high n.0 q)
+signed-range digits low high words =
+    pass (First (λ n. (low ≤ℤ n) × (n ≤ℤ high))) (integer_at digits words) _ (λ number.
+    where_false (First (λ n. (low ≤ℤ n) × (n ≤ℤ high))) (int_lt number.0 low) _ (λ over.
+    where_false (First (λ n. (low ≤ℤ n) × (n ≤ℤ high))) (int_lt high number.0) _ (λ under.
+    (not_less number.0 low over, not_less high number.0 under))))
 
 -- a text is a word
-pub text-range : (words : List (List ℕ)) (x : Front (List ℕ)) → text_at words ≡ Ok x → IsText x.0
+pub text-range : (words : List (List ℕ)) → Gets IsText (text_at words)
 unfolding text_at
-text-range words x e =
-    let word = step x (word_at words) (λ word. if is_word word.0 then Ok word else Err Form) e in
-    let passed = passes (is_word word.0.0) word.0 x word.2 in
-    subst (λ (y : Front (List ℕ)). IsText y.0) passed.1 (record { word = passed.0; utf8 = word-utf8 word.0.0 passed.0 })
+text-range words =
+    pass (First IsText) (word_at words) _ (λ word.
+    where_true (First IsText) (is_word word.0) _ (λ passed. record { word = passed; utf8 = word-utf8 word.0 passed }))
