@@ -1,5 +1,6 @@
 -- The first word of bytes, and the words after it.
-use Rattle.std.proofs.Common.{◌≡◌, ℕ, ◌+◌, ◌-◌, ◌≤◌, arith, Bool, true, false, cond, List, [], ◌∷◌, length, take, drop, refl, sym, ◌∙◌, ap, Some, None, ltb}
+use Rattle.std.proofs.Common.{◌≡◌, ℕ, ◌+◌, ◌-◌, ◌≤◌, arith, Bool, true, false, cond, List, [], ◌∷◌, length, take, drop}
+use Rattle.std.proofs.Common.{refl, sym, ◌∙◌, ap, Some, None, ltb}
 use Rattle.std.specs.List.{position, position_or_len}
 use Rattle.std.proofs.lemmas.Bool.{ltb-true, ltb-false}
 use Rattle.std.proofs.lemmas.List.{length-drop}
@@ -24,13 +25,16 @@ chosen_some false x y e = absurd (cc)
 -- where no space is, the bytes are one word
 pub words_of-one : (bytes : List ℕ) → position is_space bytes ≡ None → words_of bytes ≡ bytes ∷ []
 words_of-one bytes e =
-    let past : length bytes ≤ position_or_len is_space bytes = ltb-false (position_or_len is_space bytes) (length bytes) (chosen_none (ltb (position_or_len is_space bytes) (length bytes)) (position_or_len is_space bytes) e) in
+    let first = position_or_len is_space bytes in
+    let past : length bytes ≤ first = ltb-false first (length bytes) (chosen_none (ltb first (length bytes)) first e) in
     slice_split_none is_space bytes (λ k d below. fails_before_first is_space bytes k d (omega arith))
 
 -- the first word ends at the first space
-pub words_of-first : (bytes : List ℕ) (at : ℕ) → position is_space bytes ≡ Some at → words_of bytes ≡ take at bytes ∷ words_of (drop (at + 1) bytes)
+pub words_of-first : (bytes : List ℕ) (at : ℕ) → position is_space bytes ≡ Some at
+    → words_of bytes ≡ take at bytes ∷ words_of (drop (at + 1) bytes)
 words_of-first bytes at e =
-    let some = chosen_some (ltb (position_or_len is_space bytes) (length bytes)) (position_or_len is_space bytes) at e in
+    let first = position_or_len is_space bytes in
+    let some = chosen_some (ltb first (length bytes)) first at e in
     slice_split_first is_space bytes 0 (ltb-true (position_or_len is_space bytes) (length bytes) some.0)
     ∙ ap (λ n. take n bytes ∷ words_of (drop (n + 1) bytes)) some.1
 

@@ -1,9 +1,8 @@
 -- Words of bytes from `!` to `~` are UTF-8.
-use Rattle.std.proofs.Common.{◌≡◌, ℕ, ◌<◌, ◌≤◌, arith, refl, Bool, true, false, cond, List, [], ◌∷◌, length, rules}
+use Rattle.std.proofs.Common.{◌≡◌, ℕ, ◌<◌, arith, refl, Bool, true, false, List, [], ◌∷◌, length}
 use Rattle.std.specs.Prelude.{◌&&◌, not, nat_le, ◌==◌, bytes_eq, codes, if◌then◌else◌}
 use Rattle.std.specs.List.{list_all}
 use Rattle.std.specs.Str.{IsUtf8, IsAscii}
-use Rattle.std.proofs.lemmas.Bool.{leb-true}
 use Rattle.std.proofs.lemmas.Str.{IsUtf8-from_ascii}
 use Rattle.std.proofs.lemmas.Str.Ascii.{IsAscii-nil, IsAscii-cons}
 use Rattle.css_schedule.specs.Words.{is_graphic, is_word}
@@ -16,7 +15,8 @@ both false b h = absurd (cc)
 
 -- such a byte is ASCII
 graphic-ascii : (byte : ℕ) → is_graphic byte ≡ true → byte < 128
-graphic-ascii byte h = let high : nat_le byte 126 ≡ true = (both (nat_le 33 byte) (nat_le byte 126) h).1 in grind (arith, high)
+graphic-ascii byte h =
+    let high : nat_le byte 126 ≡ true = (both (nat_le 33 byte) (nat_le byte 126) h).1 in grind (arith, high)
 
 -- so are such bytes
 all-ascii : (bytes : List ℕ) → list_all is_graphic bytes ≡ true → IsAscii bytes

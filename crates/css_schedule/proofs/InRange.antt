@@ -1,5 +1,5 @@
 -- What is read is in its range.
-use Rattle.std.proofs.Common.{◌≡◌, ℕ, ◌+◌, ◌^◌, ◌<◌, ◌≤◌, arith, ap, refl, Bool, true, false, cond, List, [], ◌∷◌}
+use Rattle.std.proofs.Common.{◌≡◌, ℕ, ◌+◌, ◌^◌, ◌<◌, ◌≤◌, arith, ap, refl, Bool, true, false, List, [], ◌∷◌}
 use Rattle.std.specs.Prelude.{if◌then◌else◌, ◌==◌, ◌||◌, ◌&&◌, not, length, ℤ, pos, negsuc, ◌≤ℤ◌, nat_le, unsigned_abs}
 use Rattle.std.specs.Prelude.{Option, Some, None, IfSome, Result, Ok, Err, IfOk, bytes_eq, codes, ⊤}
 use Rattle.std.proofs.lemmas.Bool.{leb-true}
@@ -10,16 +10,13 @@ use Rattle.css_num.specs.Rates.{IsTickRate, is_rate_part, rate_of}
 use Rattle.css_model.specs.declared.TheConstants.{LIMIT}
 use Rattle.css_model.specs.Numbers.{max_error, max_local_error, max_local_precision}
 use Rattle.css_model.specs.WallClock.{IsLocal}
-use Rattle.css_player.specs.declared.command.Command.{Command}
-use Rattle.css_player.specs.declared.command.Command.TheVariants.{Change, Speed, Seek}
-use Rattle.css_sessions.specs.declared.session.Kind.{Kind}
 use Rattle.css_tsmsg.specs.Presentations.{IsEarliest, IsLatest}
 use Rattle.css_tsmsg.specs.Times.{IsContent}
 use Rattle.css_schedule.proofs.Graphic.{both, stem-utf8}
-use Rattle.css_schedule.proofs.Steps.{Front, First, Gets, pass, after, after_some, where_true, ok-range, answer-range}
+use Rattle.css_schedule.proofs.Steps.{Front, First, Gets, pass, after, after_some, ok-range, answer-range}
 use Rattle.css_schedule.proofs.Steps.{number-range, ordinal-range, integer-range, signed-range, text-range}
 use Rattle.css_schedule.specs.declared.fault.LineFault.{LineFault}
-use Rattle.css_schedule.specs.declared.fault.LineFault.TheVariants.{Form, Memory}
+use Rattle.css_schedule.specs.declared.fault.LineFault.TheVariants.{Memory}
 use Rattle.css_schedule.specs.declared.header.CompanionLine.{CompanionLine}
 use Rattle.css_schedule.specs.declared.header.Header.{Header}
 use Rattle.css_schedule.specs.declared.header.Start.{Start}
@@ -27,18 +24,18 @@ use Rattle.css_schedule.specs.declared.header.Start.TheVariants.{One, Two}
 use Rattle.css_schedule.specs.declared.line.Line.{Line}
 use Rattle.css_schedule.specs.declared.line.ScriptLine.{ScriptLine}
 use Rattle.css_schedule.specs.declared.line.Verb.{Verb}
-use Rattle.css_schedule.specs.declared.line.Verb.TheVariants as verbs
 use Rattle.css_schedule.specs.declared.opening.Declared.{Declared}
-use Rattle.css_schedule.specs.Words.{is_word, ◌>>=◌, words_of, word_at, number_at, ordinal_at, after_word, all_read}
+use Rattle.css_schedule.specs.Words.{is_word, words_of, word_at, number_at, after_word, all_read}
 use Rattle.css_schedule.specs.Lines.{time_at, position_at, kind_at, finite_at, wall_time_at, earliest_of, latest_of}
 use Rattle.css_schedule.specs.Lines.{earliest_at, latest_at, change_at, speed_at, seek_at, command_at}
 use Rattle.css_schedule.specs.Lines.{ask_at, take_at, give_at, land_at, wall_at, print_at, programme_at, timeline_at}
 use Rattle.css_schedule.specs.Lines.{viewer_at, opening_at, bring_at, up_at, present_at, close_at, session_at}
 use Rattle.css_schedule.specs.Lines.{timelines_at, operands_at, verb_at, line_of_words, line_of}
 use Rattle.css_schedule.specs.Lines.{due_command_at, script_operands_at, script_verb_at, script_of_words, script_of}
-use Rattle.css_schedule.specs.Headers.{after_version, mode_at, declared_at, local_of, stem_of, header_of_words, header_of}
+use Rattle.css_schedule.specs.Headers.{after_version, mode_at, declared_at, local_of, stem_of, header_of_words}
+use Rattle.css_schedule.specs.Headers.{header_of}
 use Rattle.css_schedule.specs.Ranges.{IsCompanion, IsHeader, is_stem, IsPrintableCompanion, IsPrintable, IsStart}
-use Rattle.css_schedule.specs.Ranges.{IsOrdinal, IsNumbered, IsText, IsTimeline, IsCommand, IsViewer}
+use Rattle.css_schedule.specs.Ranges.{IsOrdinal, IsText, IsCommand}
 use Rattle.css_schedule.specs.Ranges.{IsVerb, IsLine, IsScripted, IsScriptLine}
 
 -- ---- what several verbs have
@@ -83,11 +80,13 @@ IsWallTime (Some wall) = wall < 2 ^ 63
 
 finite-range : (words : List (List ℕ)) → Gets IsWallTime (finite_at words)
 unfolding finite_at
-finite-range words = after (λ n. n < 2 ^ 63) (First IsWallTime) _ _ (number-range (2 ^ 63) words) (λ wall rest small. small)
+finite-range words =
+    after (λ n. n < 2 ^ 63) (First IsWallTime) _ _ (number-range (2 ^ 63) words) (λ wall rest small. small)
 
 wall_time-range : (infinite : List ℕ) (words : List (List ℕ)) → Gets IsWallTime (wall_time_at infinite words)
 unfolding wall_time_at
-wall_time-range infinite words = pass (First IsWallTime) (word_at words) _ (λ word. by (bytes_eq word.0 infinite) word.1)
+wall_time-range infinite words =
+    pass (First IsWallTime) (word_at words) _ (λ word. by (bytes_eq word.0 infinite) word.1)
   where
     by : (b : Bool) (rest : List (List ℕ)) → Gets IsWallTime (if b then Ok (None, rest) else finite_at words)
     by true rest = tt
@@ -98,11 +97,13 @@ content-range : (content : ℤ) → IsPosition content → IsContent content
 content-range (pos n) h = record { low = omega (arith, ints); high = omega (arith, ints, h) }
 content-range (negsuc n) h = record { low = omega (arith, ints, h); high = omega (arith, ints) }
 
-earliest_of-range : (content : ℤ) (wall : Option ℕ) → IsPosition content → IsWallTime wall → IsEarliest (earliest_of content wall)
+earliest_of-range : (content : ℤ) (wall : Option ℕ) → IsPosition content → IsWallTime wall
+    → IsEarliest (earliest_of content wall)
 earliest_of-range content None c w = content-range content c
 earliest_of-range content (Some wall) c w = record { content_time = content-range content c; wall_time = w }
 
-latest_of-range : (content : ℤ) (wall : Option ℕ) → IsPosition content → IsWallTime wall → IsLatest (latest_of content wall)
+latest_of-range : (content : ℤ) (wall : Option ℕ) → IsPosition content → IsWallTime wall
+    → IsLatest (latest_of content wall)
 latest_of-range content None c w = content-range content c
 latest_of-range content (Some wall) c w = record { content_time = content-range content c; wall_time = w }
 
@@ -226,7 +227,8 @@ present-range : (words : List (List ℕ)) → Gets IsVerb (present_at words)
 unfolding present_at
 present-range words =
     after IsEarliest (First IsVerb) _ _ (earliest-range words) (λ earliest rest e.
-    after IsLatest (First IsVerb) _ _ (latest-range rest) (λ latest end l. record { earliest = e; latest = l; actual = tt }))
+    after IsLatest (First IsVerb) _ _ (latest-range rest) (λ latest end l.
+    record { earliest = e; latest = l; actual = tt }))
 
 close-range : (words : List (List ℕ)) → Gets IsVerb (close_at words)
 unfolding close_at
@@ -245,8 +247,8 @@ timelines-range : (name words : _) → Gets IsVerb (timelines_at name words)
 unfolding timelines_at
 timelines-range name words =
     either (First IsVerb) (bytes_eq name (codes "print")) _ _ (print-range words)
-    (either (First IsVerb) (bytes_eq name (codes "programme")) _ _ (due-range (programme_at words) (programme-range words))
-    (either (First IsVerb) (bytes_eq name (codes "timeline")) _ _ (due-range (timeline_at words) (timeline-range words))
+    (either (First IsVerb) (bytes_eq name (codes "programme")) _ _ (due-range _ (programme-range words))
+    (either (First IsVerb) (bytes_eq name (codes "timeline")) _ _ (due-range _ (timeline-range words))
     (session-range name words)))
 
 operands-range : (name words : _) → Gets IsVerb (operands_at name words)
@@ -329,18 +331,33 @@ record AreInRange (declared : Declared) : Type 0 where
   greatest : declared.tv_precision ≤ℤ pos 30
   own : IsLocal (local_of declared)
 
+-- a number that may reach its bound
+abbrev IsUpTo : ℕ → ℕ → Type 0
+IsUpTo most number = number ≤ most
+
+up_to-range : (most : ℕ) (words : List (List ℕ)) → Gets (IsUpTo most) (number_at (most + 1) words)
+up_to-range most words = weaker (number_at (most + 1) words) (number-range (most + 1) words)
+  where
+    weaker : (read : Result (Front ℕ) LineFault) → Gets (λ n. n < most + 1) read → Gets (IsUpTo most) read
+    weaker (Ok front) h = omega (arith, h)
+    weaker (Err fault) h = tt
+
+-- the television's precision, as the base-2 logarithm of seconds
+abbrev IsPrecision : ℤ → Type 0
+IsPrecision number = (negsuc 127 ≤ℤ number) × (number ≤ℤ pos 30)
+
 declared-range : (words : List (List ℕ)) → Gets AreInRange (declared_at words)
 unfolding declared_at
 declared-range words =
-    after (λ n. n < max_error + 1) (First AreInRange) _ _ (number-range (max_error + 1) words) (λ tv_error after_error a.
-    after (λ n. (negsuc 127 ≤ℤ n) × (n ≤ℤ pos 30)) (First AreInRange) _ _ (signed-range 3 (negsuc 127) (pos 30) after_error) (λ tv_precision after_precision b.
-    after (λ n. n < max_local_error + 1) (First AreInRange) _ _ (number-range (max_local_error + 1) after_precision) (λ error after_own c.
-    after (λ n. n < max_local_precision + 1) (First AreInRange) _ _ (number-range (max_local_precision + 1) after_own) (λ precision end d.
+    after (IsUpTo max_error) (First AreInRange) _ _ (up_to-range max_error words) (λ tv_error rest a.
+    after IsPrecision (First AreInRange) _ _ (signed-range 3 (negsuc 127) (pos 30) rest) (λ tv_precision rest b.
+    after (IsUpTo max_local_error) (First AreInRange) _ _ (up_to-range max_local_error rest) (λ error rest c.
+    after (IsUpTo max_local_precision) (First AreInRange) _ _ (up_to-range max_local_precision rest) (λ _ end d.
     record {
-      of_tv = omega (arith, a);
+      of_tv = a;
       least = b.0;
       greatest = b.1;
-      own = record { error = omega (arith, c); precision = omega (arith, d) };
+      own = record { error = c; precision = d };
     }))))
 
 -- whatever else holds, a truth does
@@ -380,7 +397,10 @@ header-range words =
       tv = record {
         tv_error = known.of_tv;
         tv_precision = known.greatest;
-        companions = All-cons IsCompanion _ [] (record { selector = wanted.utf8; stem = stem-utf8 stem begun.utf8 }) (All-nil IsCompanion);
+        companions = All-cons IsCompanion _ [] (record {
+          selector = wanted.utf8;
+          stem = stem-utf8 stem begun.utf8;
+        }) (All-nil IsCompanion);
       };
       printable = record {
         tv_error = known.of_tv;
@@ -400,7 +420,8 @@ header-range words =
 
 -- every header that is read is in range
 pub headers_are_in_range : (bytes : List ℕ) (header : Header) → header_of bytes ≡ Ok (One header) → IsReadHeader header
-headers_are_in_range bytes header e = ok-range IsReadStart (header_of bytes) (One header) (header-range (words_of bytes)) e
+headers_are_in_range bytes header e =
+    ok-range IsReadStart (header_of bytes) (One header) (header-range (words_of bytes)) e
 
 -- what is known of a start that is read
 known_start : (start : Start) → IsReadStart start → IsStart start
@@ -410,7 +431,8 @@ known_start (Two header companions) h = absurd h
 -- the start that a call answers is in range
 pub start_in_range : (bytes : List ℕ) (answer : Result Start LineFault)
     → GivesBy (λ start. start) Memory answer (header_of bytes) → IfOk answer IsStart
-start_in_range bytes answer e = known answer (answer-range IsReadStart answer (header_of bytes) (header-range (words_of bytes)) e)
+start_in_range bytes answer e =
+    known answer (answer-range IsReadStart answer (header_of bytes) (header-range (words_of bytes)) e)
   where
     known : (answer : Result Start LineFault) → IfOk answer IsReadStart → IfOk answer IsStart
     known (Ok start) h = known_start start h

@@ -1,11 +1,11 @@
 -- One step of reading after another, and the ranges of what each step reads.
-use Rattle.std.proofs.Common.{◌≡◌, ℕ, ◌^◌, ◌<◌, ◌≤◌, arith, refl, sym, subst, Bool, true, false, cond, List}
+use Rattle.std.proofs.Common.{◌≡◌, ℕ, ◌^◌, ◌<◌, ◌≤◌, arith, refl, subst, Bool, true, false, cond, List}
 use Rattle.std.specs.Prelude.{if◌then◌else◌, ℤ, ◌≤ℤ◌, int_lt, nat_lt, ◌==◌, unsigned_abs, Option, Some, None, IfSome}
-use Rattle.std.specs.Prelude.{Result, Ok, Err, IfOk, ⊤}
+use Rattle.std.specs.Prelude.{Result, Ok, Err, IfOk}
 use Rattle.std.proofs.lemmas.Bool.{ltb-true, eqb-false}
 use Rattle.std.proofs.lemmas.Int.{ints}
 use Rattle.css_num.specs.Gives.{GivesBy}
-use Rattle.css_num.specs.Words.{below_limit, number_of, whole_number_of, signed_number_of}
+use Rattle.css_num.specs.Words.{below_limit, number_of, signed_number_of}
 use Rattle.css_num.proofs.Spellings.{signed_number_of-small}
 use Rattle.css_schedule.proofs.Graphic.{word-utf8}
 use Rattle.css_schedule.specs.declared.fault.LineFault.{LineFault}
@@ -34,8 +34,10 @@ pass Out (Ok value) next go = go value
 pass Out (Err fault) next go = tt
 
 -- after a step that reads what is in range
-pub after : {A B : Type 0} (In : A → Type 0) (Out : B → Type 0) (read : Result (Front A) LineFault) (next : Front A → Result B LineFault)
-    → Gets In read → ((value : A) (rest : List (List ℕ)) → In value → IfOk (next (value, rest)) Out) → IfOk (read >>= next) Out
+pub after : {A B : Type 0} (In : A → Type 0) (Out : B → Type 0)
+    (read : Result (Front A) LineFault) (next : Front A → Result B LineFault)
+    → Gets In read → ((value : A) (rest : List (List ℕ)) → In value → IfOk (next (value, rest)) Out)
+    → IfOk (read >>= next) Out
 after In Out (Ok front) next in_range go = go front.0 front.1 in_range
 after In Out (Err fault) next in_range go = tt
 
@@ -58,7 +60,8 @@ where_false Out true result h = tt
 where_false Out false result h = h refl
 
 -- a value that is the success is in range
-pub ok-range : {B : Type 0} (Out : B → Type 0) (result : Result B LineFault) (value : B) → IfOk result Out → result ≡ Ok value → Out value
+pub ok-range : {B : Type 0} (Out : B → Type 0) (result : Result B LineFault) (value : B) → IfOk result Out
+    → result ≡ Ok value → Out value
 ok-range {B} Out result value h e = subst (λ (r : Result B LineFault). IfOk r Out) e h
 
 -- so is what a call answers
@@ -89,13 +92,15 @@ pub ordinal-range : (words : List (List ℕ)) → Gets IsOrdinal (ordinal_at wor
 unfolding ordinal_at
 ordinal-range words =
     after (λ n. n < 4294967296) (First IsOrdinal) _ _ (number-range 4294967296 words) (λ number rest small.
-    where_false (First IsOrdinal) (number == 0) _ (λ some. record { low = positive number (eqb-false number 0 some); high = small }))
+    where_false (First IsOrdinal) (number == 0) _ (λ some.
+    record { low = positive number (eqb-false number 0 some); high = small }))
   where
     positive : (n : ℕ) → (n ≡ 0 → ⊥) → 1 ≤ n
     positive n apart = omega arith
 
 -- a signed number has at most so many digits
-pub integer-range : (digits : ℕ) → digits ≤ 18 → (words : List (List ℕ)) → Gets (λ n. unsigned_abs n < 10 ^ digits) (integer_at digits words)
+pub integer-range : (digits : ℕ) → digits ≤ 18 → (words : List (List ℕ))
+    → Gets (λ n. unsigned_abs n < 10 ^ digits) (integer_at digits words)
 unfolding integer_at
 integer-range digits few words =
     pass (First (λ n. unsigned_abs n < 10 ^ digits)) (word_at words) _ (λ word.
@@ -107,7 +112,8 @@ not_less : (a b : ℤ) → int_lt a b ≡ false → b ≤ℤ a
 not_less a b e = omega (arith, ints, e)
 
 -- a signed number that is read is between its bounds
-pub signed-range : (digits : ℕ) (low high : ℤ) (words : List (List ℕ)) → Gets (λ n. (low ≤ℤ n) × (n ≤ℤ high)) (signed_at digits low high words)
+pub signed-range : (digits : ℕ) (low high : ℤ) (words : List (List ℕ))
+    → Gets (λ n. (low ≤ℤ n) × (n ≤ℤ high)) (signed_at digits low high words)
 unfolding signed_at
 signed-range digits low high words =
     pass (First (λ n. (low ≤ℤ n) × (n ≤ℤ high))) (integer_at digits words) _ (λ number.

@@ -1,5 +1,6 @@
 -- The header of a schedule, as words.
-use Rattle.std.specs.Prelude.{ℕ, ◌+◌, pos, negsuc, if◌then◌else◌, Bool, true, false, List, [], ◌∷◌, Result, Ok, Err, codes, bytes_eq}
+use Rattle.std.specs.Prelude.{ℕ, ℤ, ◌+◌, pos, negsuc, if◌then◌else◌, Bool, true, false, List, [], ◌∷◌, Result, Ok, Err}
+use Rattle.std.specs.Prelude.{codes, bytes_eq}
 use Rattle.css_model.specs.Numbers.{max_error, max_local_error, max_local_precision}
 use Rattle.css_model.specs.WallClock.{Local}
 use Rattle.css_schedule.specs.declared.fault.LineFault.{LineFault}
@@ -35,6 +36,11 @@ mode_at words = do
   follow ← mode_of word.0
   Ok (follow, word.1)
 
+-- these errors and precisions
+abbrev pub declared_with : ℕ → ℤ → ℕ → ℕ → Declared
+declared_with tv_error tv_precision error precision =
+    record { tv_error = tv_error; tv_precision = tv_precision; error = error; precision = precision }
+
 -- `EW KW EL PL`: the errors and precisions of the two clocks
 unfoldable pub declared_at : At Declared
 declared_at words = do
@@ -42,7 +48,7 @@ declared_at words = do
   tv_precision ← signed_at 3 (negsuc 127) (pos 30) tv_error.1
   error ← number_at (max_local_error + 1) tv_precision.1
   precision ← number_at (max_local_precision + 1) error.1
-  Ok (record { tv_error = tv_error.0; tv_precision = tv_precision.0; error = error.0; precision = precision.0 }, precision.1)
+  Ok (declared_with tv_error.0 tv_precision.0 error.0 precision.0, precision.1)
 
 -- the companion's error and precision
 abbrev pub local_of : Declared → Local

@@ -1,8 +1,7 @@
 -- The lines of a schedule after its header, and those of a script, as words.
-use Rattle.std.specs.Prelude.{ℕ, ℤ, ◌^◌, ◌+◌, if◌then◌else◌, List, Option, Some, None, Result, Ok, Err, codes, bytes_eq}
+use Rattle.std.specs.Prelude.{ℕ, ℤ, ◌^◌, if◌then◌else◌, List, Option, Some, None, Result, Ok, Err, codes, bytes_eq}
 use Rattle.css_model.specs.declared.TheConstants.{LIMIT}
 use Rattle.css_num.specs.Rates.{rate_of}
-use Rattle.css_num.specs.Words.{whole_number_of}
 use Rattle.css_player.specs.declared.command.Command.{Command}
 use Rattle.css_player.specs.declared.command.Command.TheVariants.{Change, Speed, Seek}
 use Rattle.css_sessions.specs.declared.session.Kind.{Kind}
@@ -15,7 +14,8 @@ use Rattle.css_schedule.specs.declared.line.Verb.{Verb}
 use Rattle.css_schedule.specs.declared.line.Verb.TheVariants as verbs
 use Rattle.css_schedule.specs.declared.line.Line.{Line}
 use Rattle.css_schedule.specs.declared.line.ScriptLine.{ScriptLine}
-use Rattle.css_schedule.specs.Words.{At, ◌>>=◌, or_form, word_at, number_at, ordinal_at, integer_at, text_at, after_word, all_read, words_of}
+use Rattle.css_schedule.specs.Words.{At, ◌>>=◌, or_form, word_at, number_at, ordinal_at, integer_at, text_at}
+use Rattle.css_schedule.specs.Words.{after_word, all_read, words_of}
 
 -- ---- what several verbs have
 -- a time in nanoseconds: below 2^32 seconds

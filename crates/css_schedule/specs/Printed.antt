@@ -1,5 +1,5 @@
 -- Headers and lines as texts: the words of each, with one space between two of them.
-use Rattle.std.specs.Prelude.{ℕ, ◌==◌, ◌++◌, Bool, true, false, if◌then◌else◌, List, [], ◌∷◌, length, codes, decimal}
+use Rattle.std.specs.Prelude.{ℕ, ℤ, ◌==◌, ◌++◌, Bool, true, false, if◌then◌else◌, List, [], ◌∷◌, length, codes, decimal}
 use Rattle.std.specs.Fmt.{signed_decimal}
 use Rattle.css_num.specs.Rates.{TickRate}
 use Rattle.css_player.specs.declared.command.Command.{Command}
@@ -32,18 +32,22 @@ stem_word stem = if length stem == 0 then codes "-" else stem
 -- `EL PL SELECTOR STEM`
 abbrev pub companion_words : CompanionLine → List (List ℕ)
 companion_words companion =
-    decimal companion.local.error ∷ decimal companion.local.precision ∷ companion.selector ∷ stem_word companion.stem ∷ []
+    decimal companion.local.error ∷ decimal companion.local.precision
+    ∷ companion.selector ∷ stem_word companion.stem ∷ []
 
 -- those of the first companion, which is the one that there is in version 1
 abbrev pub first_words : List CompanionLine → List (List ℕ)
 first_words [] = []
 first_words (companion ∷ companions) = companion_words companion
 
+-- `1 MODE EW KW`, and what follows it
+abbrev pub declared_words : Header → List (List ℕ) → List (List ℕ)
+declared_words header words =
+    codes "1" ∷ mode_word header.follow ∷ decimal header.tv_error ∷ signed_decimal header.tv_precision ∷ words
+
 -- `1 MODE EW KW EL PL SELECTOR STEM`
 abbrev pub header_words : Header → List (List ℕ)
-header_words header =
-    codes "1" ∷ mode_word header.follow ∷ decimal header.tv_error ∷ signed_decimal header.tv_precision
-    ∷ first_words header.companions
+header_words header = declared_words header (first_words header.companions)
 
 -- the header's line
 abbrev pub header_text : Header → List ℕ
@@ -71,6 +75,12 @@ command_word (Seek media) = signed_decimal media
 abbrev pub rate_words : TickRate → List (List ℕ)
 rate_words rate = decimal rate.units_per_tick ∷ decimal rate.units_per_second ∷ []
 
+-- a timeline
+abbrev pub timeline_words : ℕ → List ℕ → TickRate → ℤ → List (List ℕ)
+timeline_words programme selector rate base =
+    codes "timeline" ∷ decimal programme ∷ selector
+    ∷ decimal rate.units_per_tick ∷ decimal rate.units_per_second ∷ signed_decimal base ∷ []
+
 -- a bound of a presentation: its content time and its wall time
 abbrev pub bound_words : Bound → List (List ℕ)
 bound_words bound = content_text bound ∷ wall_text bound ∷ []
@@ -84,9 +94,7 @@ verb_words (verbs.Land datagram reading) = codes "land" ∷ decimal datagram ∷
 verb_words (verbs.Wall reading) = codes "wall" ∷ decimal reading ∷ []
 verb_words (verbs.Print reading) = codes "print" ∷ decimal reading ∷ []
 verb_words (verbs.Programme content_id) = codes "programme" ∷ content_id ∷ []
-verb_words (verbs.Timeline programme selector rate base) =
-    codes "timeline" ∷ decimal programme ∷ selector
-    ∷ decimal rate.units_per_tick ∷ decimal rate.units_per_second ∷ signed_decimal base ∷ []
+verb_words (verbs.Timeline programme selector rate base) = timeline_words programme selector rate base
 verb_words (verbs.Viewer reading command) = command_name command ∷ decimal reading ∷ command_word command ∷ []
 verb_words (verbs.Opening kind) = codes "open" ∷ kind_word kind ∷ []
 verb_words (verbs.Bring kind) = codes "text" ∷ kind_word kind ∷ []

@@ -1,5 +1,6 @@
 -- The ranges of what a schedule says. What is read is in them, and what is in them can be printed and is read back.
-use Rattle.std.specs.Prelude.{◌<◌, ◌≤◌, ◌≡◌, ◌^◌, ◌==◌, ◌&&◌, ◌||◌, not, ℕ, ℤ, pos, negsuc, ◌≤ℤ◌, unsigned_abs, length, List, All, Bool, true, None, ⊤, bytes_eq, codes}
+use Rattle.std.specs.Prelude.{◌<◌, ◌≤◌, ◌≡◌, ◌^◌, ◌==◌, ◌&&◌, ◌||◌, not, ℕ, ℤ, pos, negsuc, ◌≤ℤ◌, unsigned_abs, length}
+use Rattle.std.specs.Prelude.{List, All, Bool, true, None, ⊤, bytes_eq, codes}
 use Rattle.std.specs.Str.{IsUtf8}
 use Rattle.css_model.specs.Numbers.{max_error}
 use Rattle.css_model.specs.WallClock.{IsLocal}

@@ -1,5 +1,6 @@
 -- The words of a line, read from left to right.
-use Rattle.std.specs.Prelude.{◌≡◌, ℕ, ◌&&◌, ◌==◌, ℤ, int_lt, Bool, not, nat_le, if◌then◌else◌, List, [], ◌∷◌, length, Option, Some, None, Result, Ok, Err, bytes_eq}
+use Rattle.std.specs.Prelude.{◌≡◌, ℕ, ◌&&◌, ◌==◌, ℤ, int_lt, Bool, not, nat_le, if◌then◌else◌, List, [], ◌∷◌, length}
+use Rattle.std.specs.Prelude.{Option, Some, None, Result, Ok, Err, bytes_eq}
 use Rattle.std.specs.Option.{option_copied}
 use Rattle.std.specs.List.{slice_split, list_all}
 use Rattle.css_num.specs.Gives.{GivesBy}

@@ -7,19 +7,36 @@ use css_tsmsg::Bound;
 #[derive(Debug, Drop, PartialEq, Eq)]
 pub enum Verb {
     /// The companion sends its next request, at this reading of its clock. Requests are numbered from 1.
-    Ask { reading: u64 },
+    Ask {
+        reading: u64,
+    },
     /// The television receives a request, by number, at this reading of its clock. Takes are numbered from 1.
-    Take { request: u32, reading: u64 },
+    Take {
+        request: u32,
+        reading: u64,
+    },
     /// The television answers a take, by number, at this reading of its clock. Datagrams are numbered from 1.
-    Give { take: u32, reading: u64 },
+    Give {
+        take: u32,
+        reading: u64,
+    },
     /// A datagram, by number, lands at the companion, at this reading of its clock.
-    Land { datagram: u32, reading: u64 },
+    Land {
+        datagram: u32,
+        reading: u64,
+    },
     /// The span of the television's wall clock is printed, at this reading of the companion's clock.
-    Wall { reading: u64 },
+    Wall {
+        reading: u64,
+    },
     /// The companion's report is printed, at this reading of its clock.
-    Print { reading: u64 },
+    Print {
+        reading: u64,
+    },
     /// The television adds a programme with this content id. Programmes are numbered from 1.
-    Programme { content_id: Text },
+    Programme {
+        content_id: Text,
+    },
     /// The television adds a timeline to a programme, by number. Its base is the tick at the media position 0, and has
     /// at most 18 digits.
     Timeline {
@@ -30,18 +47,30 @@ pub enum Verb {
     },
     /// A viewer's command, at this reading of the television's wall clock. A speed has at most 3 digits and a media
     /// position, in nanoseconds, at most 18.
-    Viewer { reading: u64, command: Command },
+    Viewer {
+        reading: u64,
+        command: Command,
+    },
     /// The companion's session of this kind opens at both ends.
-    Opening { kind: Kind },
+    Opening {
+        kind: Kind,
+    },
     /// The next text in flight to the companion, on its session of this kind, comes to it.
-    Bring { kind: Kind },
+    Bring {
+        kind: Kind,
+    },
     /// The next text in flight to the television, on the TS session, comes to it.
     Up,
     /// The companion sends a presentation. Its earliest bound is never `PlusInfinity`, its latest never
     /// `MinusInfinity`; a content time has at most 18 digits, and a wall time is below 2^63 ns.
-    Present { earliest: Bound, latest: Bound },
+    Present {
+        earliest: Bound,
+        latest: Bound,
+    },
     /// Both ends learn that the session of this kind closed. Its texts in flight are lost.
-    Close { kind: Kind },
+    Close {
+        kind: Kind,
+    },
 }
 
 /// A line of a schedule after the header. Its times are nanoseconds below 2^32 seconds.

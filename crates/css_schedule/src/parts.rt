@@ -67,10 +67,7 @@ fn finite<'a>(words: Words<'a>) -> Result<(Option<u64>, Words<'a>), LineFault>
 
 // A wall time, and None where the word is the infinite one.
 #[tactic(auto, unfolding(crate::specs::Lines::wall_time_at))]
-fn wall_time<'a>(
-    words: Words<'a>,
-    infinite: &[u8],
-) -> Result<(Option<u64>, Words<'a>), LineFault>
+fn wall_time<'a>(words: Words<'a>, infinite: &[u8]) -> Result<(Option<u64>, Words<'a>), LineFault>
     ensures { Reads result (lines.wall_time_at infinite.now (words_left words.entry)) }
 {
     let (text, rest) = word(words)?;

@@ -74,7 +74,7 @@ fn add_timeline(
     rate: Rate,
     base: i64,
 ) -> Result<(), Memory>
-    ensures { OnOk result (text.new ≡ with_words text.old (printed.verb_words (verbs.Timeline programme selector.now rate base))) }
+    ensures { OnOk result (text.new ≡ with_words text.old (printed.timeline_words programme selector.now rate base)) }
 {
     add_word(text, b"timeline")?;
     add_number(text, u64::from(programme))?;

@@ -269,7 +269,13 @@ fn due_command<'a>(name: &[u8], words: Words<'a>) -> Result<(Verb, Words<'a>), L
     ensures { Reads result (lines.due_command_at name.now (words_left words.entry)) }
 {
     let (command, rest) = command(name, words)?;
-    Ok((Verb::Viewer { reading: 0, command }, rest))
+    Ok((
+        Verb::Viewer {
+            reading: 0,
+            command,
+        },
+        rest,
+    ))
 }
 
 // The operands of the verb with this name in a script.
@@ -304,8 +310,8 @@ fn script_line(alloc: Global, words: Words<'_>) -> Result<ScriptLine, LineFault>
     ensures { GivesBy (λ x. x) faults.Memory result (lines.script_of_words (words_left words.entry)) }
 {
     let (due, rest) = time(words)?;
-    let (verb, rest) = script_verb(alloc, rest)?;
-    finish(rest)?;
+    let (verb, end) = script_verb(alloc, rest)?;
+    finish(end)?;
     Ok(ScriptLine { due, verb })
 }
 

@@ -25,7 +25,12 @@ fn each_clock_is_read(rt: HostRuntime) {
     let rows: [(&str, u64, u64, u64); 3] = [
         ("1000 4800 0 up ts", 1000, 4800, 0),
         ("4294967295999999999 0 1 up ts", last, 0, 1),
-        ("0 4294967295999999999 4294967295999999999 up ts", 0, last, last),
+        (
+            "0 4294967295999999999 4294967295999999999 up ts",
+            0,
+            last,
+            last,
+        ),
     ];
     for (bytes, t, w, l) in rows {
         let expected = Line {
@@ -35,7 +40,11 @@ fn each_clock_is_read(rt: HostRuntime) {
             l,
             verb: Verb::Up,
         };
-        assert_eq!(rt; read_line(rt.alloc(), bytes.as_bytes(), 1, 1), Ok(expected), "{bytes}");
+        assert_eq!(rt;
+            read_line(rt.alloc(), bytes.as_bytes(), 1, 1),
+            Ok(expected),
+            "{bytes}"
+        );
     }
 }
 
@@ -73,7 +82,11 @@ fn verbs_of_the_wall_clock_are_read(rt: HostRuntime) {
         ("1000 4800 7 print 12", Verb::Print { reading: 12 }),
     ];
     for (bytes, verb) in rows {
-        assert_eq!(rt; read_line(rt.alloc(), bytes.as_bytes(), 1, 1), Ok(line(verb)), "{bytes}");
+        assert_eq!(rt;
+            read_line(rt.alloc(), bytes.as_bytes(), 1, 1),
+            Ok(line(verb)),
+            "{bytes}"
+        );
     }
 }
 
@@ -89,7 +102,11 @@ fn verbs_of_sessions_are_read(rt: HostRuntime) {
         ("1000 4800 7 close ts", Verb::Close { kind: Kind::Ts }),
     ];
     for (bytes, verb) in rows {
-        assert_eq!(rt; read_line(rt.alloc(), bytes.as_bytes(), 1, 1), Ok(line(verb)), "{bytes}");
+        assert_eq!(rt;
+            read_line(rt.alloc(), bytes.as_bytes(), 1, 1),
+            Ok(line(verb)),
+            "{bytes}"
+        );
     }
 }
 
@@ -102,7 +119,11 @@ const COMMANDS: [(&str, &str, Command); 9] = [
         Command::Change(4_294_967_295),
     ),
     ("1000 4800 7 speed 9 0", "9 speed 0", Command::Speed(0)),
-    ("1000 4800 7 speed 9 999", "9 speed 999", Command::Speed(999)),
+    (
+        "1000 4800 7 speed 9 999",
+        "9 speed 999",
+        Command::Speed(999),
+    ),
     (
         "1000 4800 7 speed 9 -999",
         "9 speed -999",
@@ -129,7 +150,11 @@ fn commands_of_viewers_are_read(rt: HostRuntime) {
             reading: 9,
             command,
         };
-        assert_eq!(rt; read_line(rt.alloc(), schedule.as_bytes(), 1, 1), Ok(line(viewer)), "{schedule}");
+        assert_eq!(rt;
+            read_line(rt.alloc(), schedule.as_bytes(), 1, 1),
+            Ok(line(viewer)),
+            "{schedule}"
+        );
         let due = ScriptLine {
             due: 9,
             verb: Verb::Viewer {
@@ -137,7 +162,11 @@ fn commands_of_viewers_are_read(rt: HostRuntime) {
                 command,
             },
         };
-        assert_eq!(rt; read_script(rt.alloc(), script.as_bytes()), Ok(due), "{script}");
+        assert_eq!(rt;
+            read_script(rt.alloc(), script.as_bytes()),
+            Ok(due),
+            "{script}"
+        );
     }
 }
 
@@ -181,7 +210,11 @@ fn presentations_are_read(rt: HostRuntime) {
     ];
     for (bytes, earliest, latest) in rows {
         let present = Verb::Present { earliest, latest };
-        assert_eq!(rt; read_line(rt.alloc(), bytes.as_bytes(), 1, 1), Ok(line(present)), "{bytes}");
+        assert_eq!(rt;
+            read_line(rt.alloc(), bytes.as_bytes(), 1, 1),
+            Ok(line(present)),
+            "{bytes}"
+        );
     }
 }
 
@@ -193,7 +226,11 @@ fn programmes_are_read(rt: HostRuntime) -> Result<(), Fail> {
         let programme = Verb::Programme {
             content_id: Text::of(alloc, content_id.as_bytes())?,
         };
-        assert_eq!(rt; read_line(alloc, bytes.as_bytes(), 1, 1), Ok(line(programme)), "{bytes}");
+        assert_eq!(rt;
+            read_line(alloc, bytes.as_bytes(), 1, 1),
+            Ok(line(programme)),
+            "{bytes}"
+        );
     }
     Ok(())
 }
@@ -216,7 +253,11 @@ fn timelines_are_read(rt: HostRuntime) -> Result<(), Fail> {
         let words = format!(in alloc; "timeline 3 {selector} 1000 1000000 {base}")?;
         let bytes = format!(in alloc; "1000 4800 7 {words}")?;
         let read = line(timeline(alloc, selector, base)?);
-        assert_eq!(rt; read_line(alloc, bytes.as_bytes(), 1, 1), Ok(read), "{bytes}");
+        assert_eq!(rt;
+            read_line(alloc, bytes.as_bytes(), 1, 1),
+            Ok(read),
+            "{bytes}"
+        );
         let bytes = format!(in alloc; "0 {words}")?;
         let due = ScriptLine {
             due: 0,
@@ -357,7 +398,11 @@ const OUT_OF_RANGE: &str = "1000 4800 7 print 4294967296000000000
 #[test]
 fn bad_operands_are_refused(rt: HostRuntime) {
     for bytes in MISCOUNTED.lines().chain(OUT_OF_RANGE.lines()) {
-        assert_eq!(rt; read_line(rt.alloc(), bytes.as_bytes(), 1, 1), Err(LineFault::Form), "{bytes}");
+        assert_eq!(rt;
+            read_line(rt.alloc(), bytes.as_bytes(), 1, 1),
+            Err(LineFault::Form),
+            "{bytes}"
+        );
     }
 }
 
@@ -406,7 +451,11 @@ speed 1
 #[test]
 fn what_is_no_line_of_a_script_is_refused(rt: HostRuntime) {
     for bytes in NO_SCRIPT.lines() {
-        assert_eq!(rt; read_script(rt.alloc(), bytes.as_bytes()), Err(LineFault::Form), "{bytes}");
+        assert_eq!(rt;
+            read_script(rt.alloc(), bytes.as_bytes()),
+            Err(LineFault::Form),
+            "{bytes}"
+        );
     }
 }
 
@@ -428,7 +477,11 @@ fn a_line_that_ends_the_run_is_told_in_a_word(rt: HostRuntime) -> Result<(), Fai
 
 fn refuses_lines(rt: &impl Abort, alloc: Global, refused: &[&[u8]]) {
     for bytes in refused {
-        assert_eq!(rt; read_line(alloc, bytes, 1, 1), Err(LineFault::Form), "{bytes:?}");
+        assert_eq!(rt;
+            read_line(alloc, bytes, 1, 1),
+            Err(LineFault::Form),
+            "{bytes:?}"
+        );
     }
 }
 

@@ -1,10 +1,12 @@
-ghost use Rattle.std.specs.Prelude.{◌≡◌, ◌≤◌, ◌<◌, length, take, ℕ, IfOk, IfSome, Some, pos, ◌≤ℤ◌, IsTrue, ◌↔◌, [], ◌∷◌, ◌^◌, position, unsigned_abs};
+ghost use Rattle.std.specs.Prelude.{◌≡◌, ◌≤◌, ◌<◌, length, take, ℕ, IfOk, IfSome, Some, pos, ◌≤ℤ◌, IsTrue, ◌↔◌, []};
+ghost use Rattle.std.specs.Prelude.{◌∷◌, ◌^◌, position, unsigned_abs};
 ghost use Rattle.std.specs.Option.{option_copied};
 ghost use Rattle.std.specs.List.{list_all};
-ghost use Rattle.std.specs.Str.{IsUtf8};
 ghost use Rattle.css_num.specs.Gives.{GivesBy};
 ghost use Rattle.css_num.specs.Words.{digits_after, has_leading_zero};
-ghost use Rattle.css_schedule.specs.Words.{words_left, Reads, is_space, words_of, words_in, is_graphic, is_word, SpellsFirst, word_at, text_at, number_at, ordinal_at, integer_at, signed_at, after_word, all_read};
+ghost use Rattle.css_schedule.specs.Words.{words_left, Reads, is_space, words_of, words_in, is_graphic, is_word};
+ghost use Rattle.css_schedule.specs.Words.{SpellsFirst, word_at, text_at, number_at, ordinal_at, integer_at, signed_at};
+ghost use Rattle.css_schedule.specs.Words.{after_word, all_read};
 ghost use Rattle.css_schedule.specs.declared.fault.LineFault.TheVariants as faults;
 
 use crate::LineFault;
@@ -195,8 +197,7 @@ fn is_text(word: &[u8]) -> bool
 /// A word that stands for itself: at least one byte, each from `!` to `~`.
 #[tactic(auto, unfolding(crate::specs::Words::text_at))]
 pub fn text<'a>(words: Words<'a>) -> Result<(&'a [u8], Words<'a>), LineFault>
-    ensures value { GivesBy (λ x. (x.0.now, words_left x.1)) faults.Memory result (text_at (words_left words.entry)) }
-    ensures utf8 { IfOk result (λ x. IsUtf8 x.0.now) }
+    ensures { GivesBy (λ x. (x.0.now, words_left x.1)) faults.Memory result (text_at (words_left words.entry)) }
 {
     let (text, rest) = word(words)?;
     if !is_text(text) {

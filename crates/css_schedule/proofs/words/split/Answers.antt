@@ -9,4 +9,5 @@ returns-in-None c = words_of-one c.args.bytes.now (sym c.first_space.ensures ∙
 pub returns-in-Some : goal.returns-in-Some
 returns-in-Some c =
     words_of-first c.args.bytes.now c.in-Some.space (sym c.first_space.ensures ∙ c.in-Some.is)
-    ∙ ap (λ rest. take c.in-Some.space c.args.bytes.now ∷ words_of rest) (sym (take-drop_end (c.in-Some.space + 1) c.args.bytes.now))
+    ∙ ap (λ rest. take c.in-Some.space c.args.bytes.now ∷ words_of rest)
+    (sym (take-drop_end (c.in-Some.space + 1) c.args.bytes.now))
