@@ -9,15 +9,12 @@ no part of this repository: it is made, proved and built in a folder of its own 
 minute, or some minutes where nothing was proved in this checkout before.
 """
 
-import os
-import resource
-import shutil
-import subprocess
 import sys
 import tempfile
 
-HERE = os.path.dirname(os.path.dirname(os.path.abspath(__file__)))
-CRATES = ["css_num", "css_text", "css_cii", "css_tsmsg"]
+from programs import build, seconds
+
+LIBRARIES = ["css_text", "css_cii", "css_tsmsg", "serde_json"]
 STATE = (
     '{"contentId":"dvb://1.2.3","contentIdStatus":"final","mrsUrl":null,"presentationStatus":"okay",'
     '"protocolVersion":"1.1","teUrl":null,"timelines":[{"timelineProperties":{"unitsPerSecond":90000,'
@@ -77,48 +74,24 @@ fn main(rt: HostRuntime) -> ExitCode {
 """
 
 
-def make(folder):
-    """Builds the program in this folder, and gives its path."""
-    for crate in CRATES:
-        shutil.copytree(os.path.join(HERE, "crates", crate), os.path.join(folder, "crates", crate))
-    with open(os.path.join(HERE, "crates.txt"), encoding="utf-8") as file:
-        lines = [line for line in file if line.split(":")[0] in CRATES]
-    lines.append("texts: css_text css_cii css_tsmsg serde_json\n")
-    crate = os.path.join(folder, "crates", "texts")
-    os.makedirs(os.path.join(crate, "src"))
-    with open(os.path.join(folder, "crates.txt"), "w", encoding="utf-8") as file:
-        file.writelines(lines)
-    with open(os.path.join(crate, "src", "main.rt"), "w", encoding="utf-8") as file:
-        file.write(PROGRAM)
-    subprocess.run(["git", "init", "-q"], cwd=folder, check=True)
-    run = subprocess.run(["rt", "run"], cwd=crate, stdin=subprocess.DEVNULL, capture_output=True, text=True, check=False)
-    program = os.path.join(crate, "out", "texts")
-    if not os.path.exists(program):
-        sys.exit(run.stdout + run.stderr)
-    return program
-
-
-def seconds(program, reader, text, count):
+def spent(program, reader, text, count):
     """Processor seconds of so many readings."""
-    before = resource.getrusage(resource.RUSAGE_CHILDREN)
-    subprocess.run([program, reader, str(count)], input=text.encode(), check=True)
-    after = resource.getrusage(resource.RUSAGE_CHILDREN)
-    return after.ru_utime + after.ru_stime - before.ru_utime - before.ru_stime
+    return seconds([program, reader, str(count)], text)
 
 
 def tell(program, name, readers, text, count):
     """Prints one line for each reader."""
     for reader in readers:
-        spent = seconds(program, reader, text, count) - seconds(program, reader, text, 0)
-        spent = max(spent, 1e-6)
-        each = spent / count * 1e9 / len(text)
-        print(f"{name:10} {len(text):8} bytes  {reader:8} {count / spent:12,.0f} texts a second  {each:7.1f} ns a byte")
+        readings = spent(program, reader, text, count) - spent(program, reader, text, 0)
+        readings = max(readings, 1e-6)
+        each = readings / count * 1e9 / len(text)
+        print(f"{name:10} {len(text):8} bytes  {reader:8} {count / readings:12,.0f} texts a second  {each:7.1f} ns a byte")
 
 
 def main():
     count = int(sys.argv[1]) if len(sys.argv) > 1 else 100_000
     with tempfile.TemporaryDirectory() as folder:
-        program = make(folder)
+        program = build(folder, "texts", LIBRARIES, PROGRAM)
         tell(program, "state", ["state", "object", "whole", "plain"], STATE, count)
         tell(program, "control", ["control", "object", "whole", "plain"], CONTROL, count)
         for length in LISTS:

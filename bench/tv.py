@@ -10,14 +10,12 @@ folder of its own over copies of the crates, which takes a minute, or some minut
 checkout before.
 """
 
-import os
-import resource
-import shutil
-import subprocess
 import sys
 import tempfile
 
-HERE = os.path.dirname(os.path.dirname(os.path.abspath(__file__)))
+from programs import build, seconds
+
+LIBRARIES = ["css_num", "css_player", "css_sessions", "css_tv"]
 SESSIONS = [1, 16, 64, 256]
 KINDS = ["present", "refuse", "open", "change"]
 
@@ -128,58 +126,19 @@ fn main(rt: HostRuntime) -> ExitCode {
 """
 
 
-def crates_below(name, lines):
-    """The names of a crate of the repository and of those below it."""
-    below = {line.split(":")[0]: line.split(":")[1].split() for line in lines if ":" in line and not line.startswith("#")}
-    names, waiting = set(), [name]
-    while waiting:
-        one = waiting.pop()
-        if one in below and one not in names:
-            names.add(one)
-            waiting += below[one]
-    return names
-
-
-def make(folder):
-    """Builds the program in this folder, and gives its path."""
-    with open(os.path.join(HERE, "crates.txt"), encoding="utf-8") as file:
-        lines = file.readlines()
-    names = crates_below("css_tv", lines)
-    for crate in names:
-        shutil.copytree(os.path.join(HERE, "crates", crate), os.path.join(folder, "crates", crate))
-    lines = [line for line in lines if line.split(":")[0] in names]
-    tv = next(line for line in lines if line.startswith("css_tv:"))
-    lines.append("tvsteps: css_tv " + tv.split(":")[1].strip() + "\n")
-    crate = os.path.join(folder, "crates", "tvsteps")
-    os.makedirs(os.path.join(crate, "src"))
-    with open(os.path.join(folder, "crates.txt"), "w", encoding="utf-8") as file:
-        file.writelines(lines)
-    with open(os.path.join(crate, "src", "main.rt"), "w", encoding="utf-8") as file:
-        file.write(PROGRAM)
-    subprocess.run(["git", "init", "-q"], cwd=folder, check=True)
-    run = subprocess.run(["rt", "run"], cwd=crate, stdin=subprocess.DEVNULL, capture_output=True, text=True, check=False)
-    program = os.path.join(crate, "out", "tvsteps")
-    if not os.path.exists(program):
-        sys.exit(run.stdout + run.stderr)
-    return program
-
-
-def seconds(program, sessions, kind, count):
+def spent(program, sessions, kind, count):
     """Processor seconds of so many steps."""
-    before = resource.getrusage(resource.RUSAGE_CHILDREN)
-    subprocess.run([program, str(sessions), kind, str(count)], check=True)
-    after = resource.getrusage(resource.RUSAGE_CHILDREN)
-    return after.ru_utime + after.ru_stime - before.ru_utime - before.ru_stime
+    return seconds([program, str(sessions), kind, str(count)])
 
 
 def main():
     count = int(sys.argv[1]) if len(sys.argv) > 1 else 2000
     with tempfile.TemporaryDirectory() as folder:
-        program = make(folder)
+        program = build(folder, "tvsteps", LIBRARIES, PROGRAM)
         for sessions in SESSIONS:
             for kind in KINDS:
-                spent = seconds(program, sessions, kind, count) - seconds(program, sessions, kind, 0)
-                print(f"{sessions:4} sessions  {kind:8} {max(spent, 0) / count * 1e6:10.1f} microseconds a step")
+                steps = spent(program, sessions, kind, count) - spent(program, sessions, kind, 0)
+                print(f"{sessions:4} sessions  {kind:8} {max(steps, 0) / count * 1e6:10.1f} microseconds a step")
 
 
 if __name__ == "__main__":

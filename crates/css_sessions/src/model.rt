@@ -1,9 +1,5 @@
 //! Players, calls and a plain second computation for the tests: what each session is told and the windows in force,
 //! each time from the whole list of accepted calls.
-ghost use Rattle.std.specs.Prelude.{IfOk};
-ghost use Rattle.css_cii.specs.Texts.{IsUtf8State};
-
-use css_cii::{State, apply, diff, full, read_message, write_message};
 use css_num::{Memory, Rate, Text};
 use css_player::{Command, Player, PlayerFault};
 use css_window::Window;
@@ -43,12 +39,83 @@ const COMMANDS: [(Command, u32); 3] = [
     (Command::Change(2), 6000),
 ];
 
+/// The states that are published, by the texts that tell them to a new companion.
+const FIRST: &str = r#"{"protocolVersion":"1.1"}"#;
+
+const SECOND: &str = r#"{"contentId":"dvb://1","protocolVersion":"1.1"}"#;
+
+const THIRD: &str = r#"{"contentId":"dvb://2","timelines":[]}"#;
+
 /// The state that is published after so many commands.
-pub const STATES: [&str; 4] = [
-    r#"{"protocolVersion":"1.1"}"#,
-    r#"{"protocolVersion":"1.1","contentId":"dvb://1"}"#,
-    r#"{"protocolVersion":"1.1","contentId":"dvb://1"}"#,
-    r#"{"contentId":"dvb://2","timelines":[]}"#,
+pub const STATES: [&str; 4] = [FIRST, SECOND, SECOND, THIRD];
+
+/// The text of the whole state, after this state was published. First nothing is.
+const WHOLE: [(&str, &str); 4] = [
+    (
+        "",
+        concat!(
+            r#"{"contentId":null,"contentIdStatus":null,"mrsUrl":null,"presentationStatus":null,"#,
+            r#""protocolVersion":null,"teUrl":null,"timelines":null,"tsUrl":null,"wcUrl":null}"#,
+            "\n"
+        ),
+    ),
+    (
+        FIRST,
+        concat!(
+            r#"{"contentId":null,"contentIdStatus":null,"mrsUrl":null,"presentationStatus":null,"#,
+            r#""protocolVersion":"1.1","teUrl":null,"timelines":null,"tsUrl":null,"wcUrl":null}"#,
+            "\n"
+        ),
+    ),
+    (
+        SECOND,
+        concat!(
+            r#"{"contentId":"dvb://1","contentIdStatus":null,"mrsUrl":null,"presentationStatus":null,"#,
+            r#""protocolVersion":"1.1","teUrl":null,"timelines":null,"tsUrl":null,"wcUrl":null}"#,
+            "\n"
+        ),
+    ),
+    (
+        THIRD,
+        concat!(
+            r#"{"contentId":"dvb://2","contentIdStatus":null,"mrsUrl":null,"presentationStatus":null,"#,
+            r#""protocolVersion":null,"teUrl":null,"timelines":[],"tsUrl":null,"wcUrl":null}"#,
+            "\n"
+        ),
+    ),
+];
+
+/// The text of the properties that change, where one state is published after another.
+const CHANGES: [(&str, &str, &str); 9] = [
+    ("", FIRST, "{\"protocolVersion\":\"1.1\"}\n"),
+    (
+        "",
+        SECOND,
+        "{\"contentId\":\"dvb://1\",\"protocolVersion\":\"1.1\"}\n",
+    ),
+    ("", THIRD, "{\"contentId\":\"dvb://2\",\"timelines\":[]}\n"),
+    (FIRST, SECOND, "{\"contentId\":\"dvb://1\"}\n"),
+    (
+        FIRST,
+        THIRD,
+        "{\"contentId\":\"dvb://2\",\"protocolVersion\":null,\"timelines\":[]}\n",
+    ),
+    (SECOND, FIRST, "{\"contentId\":null}\n"),
+    (
+        SECOND,
+        THIRD,
+        "{\"contentId\":\"dvb://2\",\"protocolVersion\":null,\"timelines\":[]}\n",
+    ),
+    (
+        THIRD,
+        FIRST,
+        "{\"contentId\":null,\"protocolVersion\":\"1.1\",\"timelines\":null}\n",
+    ),
+    (
+        THIRD,
+        SECOND,
+        "{\"contentId\":\"dvb://1\",\"protocolVersion\":\"1.1\",\"timelines\":null}\n",
+    ),
 ];
 
 /// Where the control of a setup is available, its text after so many commands.
@@ -66,13 +133,13 @@ const UNAVAILABLE: &str =
 pub const ALL: &str = r#"{"contentIdStem":"","timelineSelector":"urn:dvb:css:timeline:pts"}"#;
 
 /// The setup for the second programme.
-pub const SECOND: &str =
+pub const OF_SECOND: &str =
     r#"{"contentIdStem":"dvb://2","timelineSelector":"urn:dvb:css:timeline:pts"}"#;
 
 /// The setup for a timeline that no programme has.
 pub const OTHER: &str = r#"{"contentIdStem":"","timelineSelector":"other"}"#;
 
-pub const SETUPS: [&str; 3] = [ALL, SECOND, OTHER];
+pub const SETUPS: [&str; 3] = [ALL, OF_SECOND, OTHER];
 
 /// Presentations with the offsets of their bounds: the content and wall time of the earliest one, and those of the latest.
 pub const PRESENTATIONS: [(&str, Option<i128>, Option<i128>); 3] = [
@@ -119,16 +186,6 @@ pub fn players(alloc: Global) -> Result<Vec<Player>, PlayerFault> {
     Ok(players)
 }
 
-/// The state that a text tells a new companion.
-pub fn state(alloc: Global, text: &str) -> Result<State, Memory>
-    ensures { IfOk result IsUtf8State }
-{
-    match read_message(alloc, text.as_bytes()) {
-        Ok(change) => apply(&State::empty(), &change),
-        Err(_) => Err(Memory),
-    }
-}
-
 /// The number of the first such call for a peer.
 fn first(steps: &[Step], call: Call, peer: u32) -> Option<usize> {
     steps
@@ -156,31 +213,37 @@ fn is_open_ts(steps: &[Step], peer: u32) -> bool {
     first(steps, Call::OpenTs, peer).is_some() && first(steps, Call::Close, peer).is_none()
 }
 
-/// Appends the properties that differ between two states, all of them where there is no old one.
-fn push_state(texts: &mut Text, alloc: Global, old: Option<&str>, new: &str) -> Result<(), Memory> {
-    let new = state(alloc, new)?;
-    let change = match old {
-        None => full(&new)?,
-        Some(old) => diff(&state(alloc, old)?, &new)?,
-    };
-    if change.is_empty() {
-        return Ok(());
+/// The text of the whole state.
+fn whole_text(state: &str) -> &'static str {
+    for (of, text) in WHOLE {
+        if of == state {
+            return text;
+        }
     }
-    texts.push(write_message(alloc, &change)?.bytes())?;
-    texts.push(b"\n")
+    "no such state"
+}
+
+/// The text of what changes, empty where nothing does.
+fn change_text(old: &str, new: &str) -> &'static str {
+    for (from, to, text) in CHANGES {
+        if from == old && to == new {
+            return text;
+        }
+    }
+    ""
 }
 
 /// The texts of the CII session that was opened by a call, before another one.
 fn cii_texts(alloc: Global, steps: &[Step], from: usize, to: usize) -> Result<Text, Memory> {
     let mut texts = Text::new(alloc);
-    let mut last = "{}";
+    let mut last = "";
     for (i, step) in steps.iter().enumerate() {
         if i == from {
-            push_state(&mut texts, alloc, None, last)?;
+            texts.push(whole_text(last).as_bytes())?;
         }
         if step.call == Call::Publish {
             if from < i && i < to {
-                push_state(&mut texts, alloc, Some(last), step.text)?;
+                texts.push(change_text(last, step.text).as_bytes())?;
             }
             last = step.text;
         }
@@ -193,7 +256,7 @@ fn is_available(setup: &str, shown: usize) -> bool {
     if setup == ALL {
         return shown > 0;
     }
-    setup == SECOND && shown > 2
+    setup == OF_SECOND && shown > 2
 }
 
 fn control_text(setup: &str, shown: usize) -> &'static str {

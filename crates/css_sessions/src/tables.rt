@@ -4,7 +4,7 @@
 use crate::model::Call::{
     self, Close, DropWindows, IsOpen, IsSetUp, OpenCii, OpenTs, Present, Publish, SetUp, Windows,
 };
-use crate::model::{ALL, OTHER, SECOND};
+use crate::model::{ALL, OF_SECOND, OTHER};
 
 /// A call, its peer, how many commands the player carried out, a text, and what comes of it. The text of a presentation
 /// has the content and wall time of its earliest bound, those of its latest one, and what follows the bounds.
@@ -200,7 +200,7 @@ pub const PRESENTATIONS: &[Row] = &[
         SetUp,
         4,
         1,
-        SECOND,
+        OF_SECOND,
         r#"4 {"contentTime":null,"timelineSpeedMultiplier":null,"wallClockTime":"0"}"#,
     ),
     (Present, 4, 1, "0 minusinfinity 0 plusinfinity", ""),
@@ -392,4 +392,18 @@ pub const CLOSED: &[Row] = &[
     (Windows, 0, 0, "", LATER),
     (Close, 1, 0, "", ""),
     (Windows, 0, 0, "", "[]"),
+];
+
+/// A TS session that waits for its setup.
+pub const OPEN: &[Row] = &[(OpenTs, 3, 0, "", "")];
+
+/// What happens where 256 sessions are open, of the peers 0 to 255.
+pub const FULL: &[Row] = &[
+    (OpenCii, 256, 0, "", "full"),
+    (OpenTs, 256, 0, "", "full"),
+    (IsOpen, 256, 0, "", "false"),
+    (Close, 8, 0, "", ""),
+    (OpenTs, 256, 0, "", ""),
+    (IsOpen, 256, 0, "", "true"),
+    (OpenTs, 257, 0, "", "full"),
 ];

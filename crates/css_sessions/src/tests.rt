@@ -1,8 +1,11 @@
+ghost use Rattle.css_cii.specs.Texts.{IsUtf8State};
+
 use crate::model::{
-    Call, PRESENTATIONS, SETUPS, STATES, Step, is_accepted, players, state, texts, window_of,
+    Call, PRESENTATIONS, SETUPS, STATES, Step, is_accepted, players, texts, window_of,
 };
 use crate::tables::{self, Row};
 use crate::{Kind, Said, SessionFault, Sessions};
+use css_cii::{State, apply_to, read_message};
 use css_num::{Memory, Text};
 use css_player::Player;
 use css_tsmsg::{TsFault, TsName};
@@ -42,6 +45,17 @@ fn presentation(alloc: Global, words: &str) -> Result<Text, Memory> {
     Text::of(alloc, text.as_bytes())
 }
 
+/// The state that a text tells a new companion; that of nine nulls where it is none.
+fn state(alloc: Global, text: &str) -> State
+    ensures { IsUtf8State result }
+{
+    let mut state = State::empty();
+    if let Ok(change) = read_message(alloc, text.as_bytes()) {
+        apply_to(&mut state, change);
+    }
+    state
+}
+
 /// Carries out a call, with the player that it is made with. A question changes nothing.
 fn carry_out(
     sessions: &mut Sessions,
@@ -59,11 +73,7 @@ fn carry_out(
             let text = presentation(alloc, step.text)?;
             sessions.presentation(alloc, peer, text.bytes(), player)
         }
-        Call::Publish => {
-            let published = state(alloc, step.text)?;
-            sessions.published(alloc, published, player, out)?;
-            Ok(())
-        }
+        Call::Publish => publish(sessions, alloc, player, step.text, out),
         Call::Close => {
             sessions.closed(peer);
             Ok(())
@@ -74,6 +84,17 @@ fn carry_out(
         }
         Call::Windows | Call::IsOpen | Call::IsSetUp => Ok(()),
     }
+}
+
+fn publish(
+    sessions: &mut Sessions,
+    alloc: Global,
+    player: &Player,
+    text: &str,
+    out: &mut Vec<Said>,
+) -> Result<(), SessionFault> {
+    sessions.published(alloc, state(alloc, text), player, out)?;
+    Ok(())
 }
 
 /// All texts, each behind its peer.
@@ -96,9 +117,9 @@ fn outcome(
     alloc: Global,
     player: &Player,
     step: Step,
+    out: &mut Vec<Said>,
 ) -> Result<Text, Memory> {
-    let mut out = Vec::new(alloc);
-    let words = match carry_out(sessions, alloc, player, step, &mut out) {
+    let words = match carry_out(sessions, alloc, player, step, out) {
         Err(fault) => format!(in alloc; "{fault}")?,
         Ok(()) => match step.call {
             Call::Windows => format!(in alloc; "{:?}", sessions.windows(alloc)?.as_slice())?,
@@ -111,8 +132,9 @@ fn outcome(
 }
 
 /// What comes of each row is what the row says.
-fn play(rt: &impl Abort, alloc: Global, sessions: &mut Sessions, rows: &[Row]) -> Result<(), Fail> {
-    let players = players(alloc)?;
+fn play(rt: &impl Abort, alloc: Global, sessions: &mut Sessions, rows: &[Row]) {
+    let players = players(alloc).expect(rt, "no players");
+    let mut out = Vec::new(alloc);
     for (call, peer, shown, text, expected) in rows {
         let step = Step {
             call: *call,
@@ -120,23 +142,22 @@ fn play(rt: &impl Abort, alloc: Global, sessions: &mut Sessions, rows: &[Row]) -
             shown: *shown,
             text: *text,
         };
-        let player = players.get(*shown).ok_or("no such player")?;
-        let told = outcome(sessions, alloc, player, step)?;
+        let player = players.get(*shown).expect(rt, "no such player");
+        out.clear();
+        let told = outcome(sessions, alloc, player, step, &mut out).expect(rt, "no memory");
         assert_eq!(rt; told.bytes(), expected.as_bytes(), "{step:?}");
     }
-    Ok(())
 }
 
 #[test]
-fn sessions_are_told_what_changes(rt: HostRuntime) -> Result<(), Fail> {
+fn sessions_are_told_what_changes(rt: HostRuntime) {
     for rows in [tables::CONTROLS, tables::CHANGES, tables::SETUPS] {
-        play(&rt, rt.alloc(), &mut Sessions::new(rt.alloc()), rows)?;
+        play(&rt, rt.alloc(), &mut Sessions::new(rt.alloc()), rows);
     }
-    Ok(())
 }
 
 #[test]
-fn a_presentation_gives_a_window(rt: HostRuntime) -> Result<(), Fail> {
+fn a_presentation_gives_a_window(rt: HostRuntime) {
     let mut sessions = Sessions::new(rt.alloc());
     for rows in [
         tables::PRESENTED,
@@ -144,51 +165,58 @@ fn a_presentation_gives_a_window(rt: HostRuntime) -> Result<(), Fail> {
         tables::ACTUALS,
         tables::FAR,
     ] {
-        play(&rt, rt.alloc(), &mut sessions, rows)?;
+        play(&rt, rt.alloc(), &mut sessions, rows);
     }
-    Ok(())
 }
 
 #[test]
-fn a_copy_goes_its_own_way(rt: HostRuntime) -> Result<(), Fail> {
+fn a_copy_goes_its_own_way(rt: HostRuntime) {
     let mut sessions = Sessions::new(rt.alloc());
-    play(&rt, rt.alloc(), &mut sessions, tables::PRESENTED)?;
-    let mut copy = sessions.copy()?;
+    play(&rt, rt.alloc(), &mut sessions, tables::PRESENTED);
+    let mut copy = sessions.copy().expect(&rt, "no memory");
     assert!(rt; copy.state() == sessions.state());
-    play(&rt, rt.alloc(), &mut sessions, tables::DROPPED)?;
-    play(&rt, rt.alloc(), &mut copy, tables::CLOSED)
+    play(&rt, rt.alloc(), &mut sessions, tables::DROPPED);
+    play(&rt, rt.alloc(), &mut copy, tables::CLOSED);
 }
 
-#[test]
-fn long_setups_are_read(rt: HostRuntime) -> Result<(), Fail> {
-    let alloc = rt.alloc();
-    let player = Player::new(alloc);
-    let mut sessions = Sessions::new(alloc);
+/// How many texts a setup of peer 3 is answered by.
+fn set_up(sessions: &mut Sessions, alloc: Global, text: &[u8]) -> Result<usize, SessionFault> {
     let mut out = Vec::new(alloc);
-    open(&mut sessions, alloc, 3, Kind::Ts, &mut out)?;
-    let long = "x".repeat(alloc, 1 << 20)?;
-    let refused = sessions.setup(alloc, 3, long.as_bytes(), &player, &mut out);
-    assert_eq!(rt; refused, Err(SessionFault::BadText(TsFault::NotJson)));
-    let text = format!(in alloc; "{{\"contentIdStem\":\"{long}\",\"timelineSelector\":\"\"}}")?;
-    sessions.setup(alloc, 3, text.as_bytes(), &player, &mut out)?;
-    assert_eq!(rt; out.len(), 1);
-    Ok(())
+    sessions.setup(alloc, 3, text, &Player::new(alloc), &mut out)?;
+    Ok(out.len())
+}
+
+/// The setup with this stem.
+fn with_stem(alloc: Global, stem: &str) -> Result<String, Memory> {
+    Ok(format!(in alloc; "{{\"contentIdStem\":\"{stem}\",\"timelineSelector\":\"\"}}")?)
 }
 
 #[test]
-fn no_more_than_256_sessions_are_open(rt: HostRuntime) -> Result<(), Fail> {
+fn long_setups_are_read(rt: HostRuntime) {
     let mut sessions = Sessions::new(rt.alloc());
-    let mut out = Vec::new(rt.alloc());
-    for peer in 0..256 {
-        open(&mut sessions, rt.alloc(), peer, Kind::Ts, &mut out)?;
+    play(&rt, rt.alloc(), &mut sessions, tables::OPEN);
+    let long = "x".repeat(rt.alloc(), 1 << 20).expect(&rt, "no memory");
+    let refused = set_up(&mut sessions, rt.alloc(), long.as_bytes());
+    assert_eq!(rt; refused, Err(SessionFault::BadText(TsFault::NotJson)));
+    let text = with_stem(rt.alloc(), long.as_str()).expect(&rt, "no memory");
+    let told = set_up(&mut sessions, rt.alloc(), text.as_bytes());
+    assert_eq!(rt; told, Ok(1));
+}
+
+/// Opens the sessions of the peers below this one.
+fn open_all(sessions: &mut Sessions, alloc: Global, peers: u32) -> Result<usize, SessionFault> {
+    let mut out = Vec::new(alloc);
+    for peer in 0..peers {
+        open(sessions, alloc, peer, Kind::Ts, &mut out)?;
     }
-    let refused = open(&mut sessions, rt.alloc(), 256, Kind::Cii, &mut out);
-    assert_eq!(rt; refused, Err(SessionFault::Full));
-    assert_eq!(rt; out.len(), 0);
-    sessions.closed(8);
-    open(&mut sessions, rt.alloc(), 256, Kind::Cii, &mut out)?;
-    assert!(rt; sessions.is_open(256));
-    Ok(())
+    Ok(out.len())
+}
+
+#[test]
+fn no_more_than_256_sessions_are_open(rt: HostRuntime) {
+    let mut sessions = Sessions::new(rt.alloc());
+    assert_eq!(rt; open_all(&mut sessions, rt.alloc(), 256), Ok(0));
+    play(&rt, rt.alloc(), &mut sessions, tables::FULL);
 }
 
 #[test]
@@ -247,21 +275,26 @@ struct Run {
 }
 
 impl Run {
-    /// A call, which is accepted exactly where the model accepts it. No peer is opened again.
-    fn step(&mut self, alloc: Global, player: &Player, step: Step) -> Result<(), Fail> {
+    /// Whether a call is accepted exactly where the model accepts it. No peer is opened again.
+    fn step(&mut self, alloc: Global, player: &Player, step: Step) -> Result<bool, Memory> {
         let is_accepted = is_accepted(self.steps.as_slice(), step);
         let is_opening = step.call == Call::OpenCii || step.call == Call::OpenTs;
         if is_opening && !is_accepted {
-            return Ok(());
+            return Ok(true);
         }
         let answer = carry_out(&mut self.sessions, alloc, player, step, &mut self.said);
-        if answer.is_ok() != (is_accepted || step.call == Call::Close) {
-            return Err("accepted otherwise than by the model".into());
-        }
         if is_accepted {
             self.steps.push(step)?;
         }
-        Ok(())
+        Ok(answer.is_ok() == (is_accepted || step.call == Call::Close))
+    }
+
+    /// Whether the windows in force are the model's.
+    fn has_windows(&mut self, alloc: Global) -> Result<bool, Memory> {
+        let expected = expected_windows(alloc, self.steps.as_slice())?;
+        let windows = self.sessions.windows(alloc)?;
+        self.windows = self.windows.max(windows.len());
+        Ok(windows.as_slice() == expected.as_slice())
     }
 }
 
@@ -289,37 +322,35 @@ fn said_to(alloc: Global, said: &[Said], peer: u32) -> Result<Text, Memory> {
 }
 
 /// Four hundred drawn calls. The windows in force are the model's after each.
-fn play_drawn(rt: &impl Abort, alloc: Global) -> Result<Run, Fail> {
-    let players = players(alloc)?;
-    let mut run = Run {
-        sessions: Sessions::new(alloc),
-        steps: Vec::new(alloc),
-        said: Vec::new(alloc),
-        windows: 0,
-    };
+fn play_drawn(rt: &impl Abort, alloc: Global, run: &mut Run) {
+    let players = players(alloc).expect(rt, "no players");
     let mut word: u64 = 20_261_127;
     for _ in 0..400 {
         word = next_word(word);
         let step = drawn(word >> 20);
-        let player = players.get(step.shown).ok_or("no such player")?;
-        run.step(alloc, player, step)?;
-        let expected = expected_windows(alloc, run.steps.as_slice())?;
-        let windows = run.sessions.windows(alloc)?;
-        assert!(rt; windows.as_slice() == expected.as_slice(), "{step:?}");
-        run.windows = run.windows.max(windows.len());
+        let player = players.get(step.shown).expect(rt, "no such player");
+        assert_eq!(rt; run.step(alloc, player, step), Ok(true), "{step:?}");
+        assert_eq!(rt; run.has_windows(alloc), Ok(true), "{step:?}");
     }
-    Ok(run)
+}
+
+/// Whether a peer was told what the model tells it.
+fn is_told(alloc: Global, run: &Run, peer: u32) -> Result<bool, Memory> {
+    let expected = texts(alloc, run.steps.as_slice(), peer)?;
+    Ok(said_to(alloc, run.said.as_slice(), peer)? == expected)
 }
 
 #[test]
-fn sessions_tell_what_a_plain_model_tells(rt: HostRuntime) -> Result<(), Fail> {
-    let alloc = rt.alloc();
-    let run = play_drawn(&rt, alloc)?;
+fn sessions_tell_what_a_plain_model_tells(rt: HostRuntime) {
+    let mut run = Run {
+        sessions: Sessions::new(rt.alloc()),
+        steps: Vec::new(rt.alloc()),
+        said: Vec::new(rt.alloc()),
+        windows: 0,
+    };
+    play_drawn(&rt, rt.alloc(), &mut run);
     assert!(rt; run.said.len() > 200 && run.windows > 2);
     for peer in 0..20 {
-        let expected = texts(alloc, run.steps.as_slice(), peer)?;
-        let told = said_to(alloc, run.said.as_slice(), peer)?;
-        assert!(rt; told == expected, "{peer}");
+        assert_eq!(rt; is_told(rt.alloc(), &run, peer), Ok(true), "{peer}");
     }
-    Ok(())
 }

@@ -1,0 +1,50 @@
+"""Builds and times the programs of the other scripts here, which stand over copies of the crates and are no part of
+this repository."""
+
+import os
+import resource
+import shutil
+import subprocess
+import sys
+
+HERE = os.path.dirname(os.path.dirname(os.path.abspath(__file__)))
+
+
+def crates_below(names, lines):
+    """The lines of crates.txt of these crates of the repository and of all those below them."""
+    below = {line.split(":")[0]: line for line in lines if ":" in line and not line.startswith("#")}
+    found, waiting = {}, list(names)
+    while waiting:
+        name = waiting.pop()
+        if name in below and name not in found:
+            found[name] = below[name]
+            waiting += below[name].split(":")[1].split()
+    return found
+
+
+def build(folder, name, libraries, source):
+    """Builds the program of this source in this folder, over these libraries, and gives its path."""
+    with open(os.path.join(HERE, "crates.txt"), encoding="utf-8") as file:
+        lines = crates_below(libraries, file.readlines())
+    for crate in lines:
+        shutil.copytree(os.path.join(HERE, "crates", crate), os.path.join(folder, "crates", crate))
+    crate = os.path.join(folder, "crates", name)
+    os.makedirs(os.path.join(crate, "src"))
+    with open(os.path.join(folder, "crates.txt"), "w", encoding="utf-8") as file:
+        file.writelines([*lines.values(), f"{name}: {' '.join(libraries)}\n"])
+    with open(os.path.join(crate, "src", "main.rt"), "w", encoding="utf-8") as file:
+        file.write(source)
+    subprocess.run(["git", "init", "-q"], cwd=folder, check=True)
+    run = subprocess.run(["rt", "run"], cwd=crate, stdin=subprocess.DEVNULL, capture_output=True, text=True, check=False)
+    program = os.path.join(crate, "out", name)
+    if not os.path.exists(program):
+        sys.exit(run.stdout + run.stderr)
+    return program
+
+
+def seconds(words, text=""):
+    """Processor seconds of a program with these words and this standard input."""
+    before = resource.getrusage(resource.RUSAGE_CHILDREN)
+    subprocess.run(words, input=text.encode(), check=True)
+    after = resource.getrusage(resource.RUSAGE_CHILDREN)
+    return after.ru_utime + after.ru_stime - before.ru_utime - before.ru_stime
