@@ -3,7 +3,8 @@
 ghost use Rattle.std.specs.Prelude.{◌≡◌, ◌≤◌, ◌<◌, ◌+◌, ◌^◌, OnOk};
 ghost use Rattle.css_companion.specs.Steps.{IsEvent};
 
-use crate::tests::{EXACT, answer, new_companion};
+use crate::tables::EXACT;
+use crate::tests::{datagram, new_companion};
 use crate::{Cause, Companion, CompanionEvent, Report};
 use css_num::Text;
 use css_tsmsg::{TsFault, TsName};
@@ -252,7 +253,7 @@ fn carry_out(
             let _ = companion.ask(reading);
         }
         Happened::Landed { asked, told, .. } => {
-            let _ = companion.land(&datagram(asked, told), reading)?;
+            let _ = companion.land(&answer_to(asked, told), reading)?;
         }
         Happened::Slept => companion.slept(),
         Happened::Cii(number) => {
@@ -274,15 +275,11 @@ fn carry_out(
     Ok(())
 }
 
-fn datagram(asked: u64, told: u64) -> [u8; 32] {
+/// The answer to the request of a reading.
+fn answer_to(asked: u64, told: u64) -> [u8; 32] {
     let second = 1_000_000_000;
-    let nanoseconds = (told % second) as u32;
-    answer(
-        (0, (asked % second) as u32),
-        ((told / second % 60) as u32, nanoseconds),
-        226,
-        0,
-    )
+    let told = ((told / second % 60) as u32, (told % second) as u32);
+    datagram((asked % second) as u32, told, 226, 0)
 }
 
 /// Both reports and both positions are equal. Whether they have ticks.
@@ -310,7 +307,7 @@ fn compare(
 
 /// How many of 600 reports have ticks.
 fn watch(rt: &impl Abort, alloc: Global, seed: u64) -> Result<u64, Fail> {
-    let mut companion = new_companion(alloc, "urn:x:1", EXACT)?;
+    let mut companion = new_companion(alloc, "urn:x:1", "dvb://", EXACT)?;
     let mut list: Vec<Happened> = Vec::new(alloc);
     let mut word = seed;
     let mut count: u64 = 0;

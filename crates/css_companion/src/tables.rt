@@ -1,319 +1,606 @@
-//! What happens at a companion, the text that is then owed to the TS session, and the report after it. `-` is no text;
-//! a refused event has its fault in the text's place.
+//! What happens at a companion, what it answers, and its report then.
 
-/// An event, what is owed, and the report.
-pub type Row = (&'static str, &'static str, &'static str);
+ghost use Rattle.std.specs.Prelude.{◌≤◌, ◌<◌};
 
-pub const FULL: &str =
-    r#"cii {"contentId":"dvb://1.2.3","contentIdStatus":"final","mrsUrl":null,"presentationStatus":"okay","protocolVersion":"1.1","teUrl":null,"timelines":[{"timelineProperties":{"unitsPerSecond":90000,"unitsPerTick":1},"timelineSelector":"urn:dvb:css:timeline:pts"}],"tsUrl":"ws://127.0.0.1:6678/ts","wcUrl":"udp://127.0.0.1:6677"}"#;
+use css_client::Local;
 
+/// What happens at a companion's sessions, or a question.
+#[derive(Clone, Copy, Debug)]
+pub enum Happened {
+    Cii(&'static str),
+    CiiClosed,
+    TsOpened,
+    Ts(&'static str),
+    TsClosed,
+    /// The companion can present the tick 900,000 from 10,040,000,000 ns of the wall clock on.
+    Present,
+    /// The companion can present the tick -1 at any time, and the tick 2 up to 3 ns of the wall clock.
+    PresentAny,
+    /// Asks for the rate of the wanted timeline.
+    Rate,
+    /// Asks for the tick at a value of the wall clock.
+    Assigned(u64),
+    /// Asks for the state of the content.
+    State,
+}
+
+use Happened::{
+    Assigned, Cii, CiiClosed, Present, PresentAny, Rate, State, Ts, TsClosed, TsOpened,
+};
+
+/// What happens; the text that is then owed to the TS session, `-` for none, or why the event is refused, or the answer
+/// to a question; and the report after it.
+pub type Row = (Happened, &'static str, &'static str);
+
+const FULL: &str = concat!(
+    r#"{"contentId":"dvb://1.2.3","contentIdStatus":"final","mrsUrl":null,"presentationStatus":"okay","#,
+    r#""protocolVersion":"1.1","teUrl":null,"timelines":[{"timelineProperties":{"unitsPerSecond":90000,"#,
+    r#""unitsPerTick":1},"timelineSelector":"urn:dvb:css:timeline:pts"}],"#,
+    r#""tsUrl":"ws://127.0.0.1:6678/ts","wcUrl":"udp://127.0.0.1:6677"}"#
+);
+
+/// The full state of another content id.
+const OTHER_CONTENT: &str = concat!(
+    r#"{"contentId":"dvb://1.2.4","contentIdStatus":"final","mrsUrl":null,"presentationStatus":"okay","#,
+    r#""protocolVersion":"1.1","teUrl":null,"timelines":[{"timelineProperties":{"unitsPerSecond":90000,"#,
+    r#""unitsPerTick":1},"timelineSelector":"urn:dvb:css:timeline:pts"}],"#,
+    r#""tsUrl":"ws://127.0.0.1:6678/ts","wcUrl":"udp://127.0.0.1:6677"}"#
+);
+
+/// The same without timelines.
+const NO_TIMELINES: &str = concat!(
+    r#"{"contentId":"dvb://1.2.4","contentIdStatus":"final","mrsUrl":null,"presentationStatus":"okay","#,
+    r#""protocolVersion":"1.1","teUrl":null,"timelines":null,"#,
+    r#""tsUrl":"ws://127.0.0.1:6678/ts","wcUrl":"udp://127.0.0.1:6677"}"#
+);
+
+/// The same with another timeline.
+const OTHER_TIMELINE: &str = concat!(
+    r#"{"contentId":"dvb://1.2.4","contentIdStatus":"final","mrsUrl":null,"presentationStatus":"okay","#,
+    r#""protocolVersion":"1.1","teUrl":null,"timelines":[{"timelineProperties":{"unitsPerSecond":50,"#,
+    r#""unitsPerTick":1},"timelineSelector":"urn:x:1"}],"#,
+    r#""tsUrl":"ws://127.0.0.1:6678/ts","wcUrl":"udp://127.0.0.1:6677"}"#
+);
+
+/// The state before the first text.
+const NULLS: &str = concat!(
+    r#"{"contentId":null,"contentIdStatus":null,"mrsUrl":null,"presentationStatus":null,"protocolVersion":null,"#,
+    r#""teUrl":null,"timelines":null,"tsUrl":null,"wcUrl":null}"#
+);
+
+/// The setup for contents whose ids begin so.
 const SETUP: &str = r#"{"contentIdStem":"dvb://","timelineSelector":"urn:dvb:css:timeline:pts"}"#;
 
+/// The setup for all contents.
+const SETUP_OF_ALL: &str = r#"{"contentIdStem":"","timelineSelector":"urn:dvb:css:timeline:pts"}"#;
+
+/// What is owed for [`Present`].
+const PRESENTATION: &str = concat!(
+    r#"{"earliest":{"contentTime":"900000","wallClockTime":"10040000000"},"#,
+    r#""latest":{"contentTime":"900000","wallClockTime":"plusinfinity"}}"#
+);
+
+/// What is owed for [`PresentAny`].
+const ANY_PRESENTATION: &str = concat!(
+    r#"{"earliest":{"contentTime":"-1","wallClockTime":"minusinfinity"},"#,
+    r#""latest":{"contentTime":"2","wallClockTime":"3"}}"#
+);
+
 const PLAYS: &str =
-    r#"ts {"contentTime":"900000","wallClockTime":"10000000000","timelineSpeedMultiplier":1.0}"#;
+    r#"{"contentTime":"900000","wallClockTime":"10000000000","timelineSpeedMultiplier":1.0}"#;
 
 const PLAYS_BACK: &str =
-    r#"ts {"contentTime":"900000","wallClockTime":"10000000000","timelineSpeedMultiplier":-2}"#;
+    r#"{"contentTime":"900000","wallClockTime":"10000000000","timelineSpeedMultiplier":-2}"#;
 
 const STANDS: &str =
-    r#"ts {"contentTime":"900000","wallClockTime":"10000000000","timelineSpeedMultiplier":0}"#;
+    r#"{"contentTime":"900000","wallClockTime":"10000000000","timelineSpeedMultiplier":0}"#;
 
 const HALF_SPEED: &str =
-    r#"ts {"contentTime":"900000","wallClockTime":"10000000000","timelineSpeedMultiplier":0.5}"#;
+    r#"{"contentTime":"900000","wallClockTime":"10000000000","timelineSpeedMultiplier":0.5}"#;
 
 const SPEED_65: &str =
-    r#"ts {"contentTime":"900000","wallClockTime":"10000000000","timelineSpeedMultiplier":65}"#;
+    r#"{"contentTime":"900000","wallClockTime":"10000000000","timelineSpeedMultiplier":65}"#;
 
 const SPEED_AS_TEXT: &str =
-    r#"ts {"contentTime":"900000","wallClockTime":"10000000000","timelineSpeedMultiplier":"1"}"#;
+    r#"{"contentTime":"900000","wallClockTime":"10000000000","timelineSpeedMultiplier":"1"}"#;
 
 const UNAVAILABLE: &str =
-    r#"ts {"contentTime":null,"timelineSpeedMultiplier":null,"wallClockTime":"0"}"#;
+    r#"{"contentTime":null,"timelineSpeedMultiplier":null,"wallClockTime":"0"}"#;
 
 /// A companion of presentation time stamps, where the wall clock is from 10,500,000,000 to 10,500,022,222 ns.
-pub const CONTROLS: &[Row] = &[
-    ("cii-closed", "-", "none NoTimestamp"),
-    (PLAYS, "-", "ticks 945000 945001"),
-    ("ts-opened", SETUP, "ticks 945000 945001"),
-    (UNAVAILABLE, "-", "none Unavailable"),
-    (HALF_SPEED, "-", "none Unreadable Fractional"),
-    (PLAYS, "-", "ticks 945000 945001"),
-    (PLAYS_BACK, "-", "ticks 809996 810000"),
-    (STANDS, "-", "ticks 900000 900000"),
-    ("ts {\"contentTime\":\"9000", "-", "none Unreadable NotJson"),
-    ("ts []", "-", "none Unreadable NotObject"),
-    ("ts {}", "-", "none Unreadable Field contentTime"),
+const CONTROLS: &[Row] = &[
+    (CiiClosed, "-", "none NoTimestamp"),
+    (Ts(PLAYS), "-", "ticks 945000 945001"),
+    (TsOpened, SETUP, "ticks 945000 945001"),
+    (Ts(UNAVAILABLE), "-", "none Unavailable"),
+    (Ts(HALF_SPEED), "-", "none Unreadable Fractional"),
+    (Ts(PLAYS), "-", "ticks 945000 945001"),
+    (Ts(PLAYS_BACK), "-", "ticks 809996 810000"),
+    (Ts(STANDS), "-", "ticks 900000 900000"),
     (
-        SPEED_AS_TEXT,
+        Ts(r#"{"contentTime":"9000"#),
+        "-",
+        "none Unreadable NotJson",
+    ),
+    (Ts("[]"), "-", "none Unreadable NotObject"),
+    (Ts("{}"), "-", "none Unreadable Field contentTime"),
+    (
+        Ts(SPEED_AS_TEXT),
         "-",
         "none Unreadable Field timelineSpeedMultiplier",
     ),
     (
-        r#"ts {"contentTime":"0","timelineSpeedMultiplier":1,"wallClockTime":"-1"}"#,
+        Ts(r#"{"contentTime":"0","timelineSpeedMultiplier":1,"wallClockTime":"-1"}"#),
         "-",
         "none Unreadable Field wallClockTime",
     ),
     (
-        r#"ts {"contentTime":"1000000000000000000","timelineSpeedMultiplier":1,"wallClockTime":"0"}"#,
+        Ts(
+            r#"{"contentTime":"1000000000000000000","timelineSpeedMultiplier":1,"wallClockTime":"0"}"#,
+        ),
         "-",
         "none Unreadable Range contentTime",
     ),
     (
-        SPEED_65,
+        Ts(SPEED_65),
         "-",
         "none Unreadable Range timelineSpeedMultiplier",
     ),
     (
-        r#"ts {"contentTime":"0","timelineSpeedMultiplier":1,"wallClockTime":"9223372036854775808"}"#,
+        Ts(
+            r#"{"contentTime":"0","timelineSpeedMultiplier":1,"wallClockTime":"9223372036854775808"}"#,
+        ),
         "-",
         "none Unreadable Range wallClockTime",
     ),
-    ("ts-opened", SETUP, "none Unreadable Range wallClockTime"),
+    (TsOpened, SETUP, "none Unreadable Range wallClockTime"),
+    (Present, PRESENTATION, "none Unreadable Range wallClockTime"),
     (
-        "present",
-        r#"{"earliest":{"contentTime":"900000","wallClockTime":"10040000000"},"latest":{"contentTime":"900000","wallClockTime":"plusinfinity"}}"#,
+        PresentAny,
+        ANY_PRESENTATION,
         "none Unreadable Range wallClockTime",
     ),
-    (
-        "present-any",
-        r#"{"earliest":{"contentTime":"-1","wallClockTime":"minusinfinity"},"latest":{"contentTime":"2","wallClockTime":"3"}}"#,
-        "none Unreadable Range wallClockTime",
-    ),
-    ("ts-closed", "-", "none SessionClosed"),
-    (PLAYS, "-", "none SessionClosed"),
-    (UNAVAILABLE, "-", "none SessionClosed"),
-    ("ts-closed", "-", "none SessionClosed"),
-    ("cii-closed", "-", "none SessionClosed"),
+    (TsClosed, "-", "none SessionClosed"),
+    (Ts(PLAYS), "-", "none SessionClosed"),
+    (Ts(UNAVAILABLE), "-", "none SessionClosed"),
+    (TsClosed, "-", "none SessionClosed"),
+    (CiiClosed, "-", "none SessionClosed"),
 ];
 
 /// The same companion, with another answer: the wall clock is from 10,000,000,297 to 10,000,000,503 ns.
 pub const PRESENTS: &[Row] = &[
     (
-        r#"ts {"contentTime":"900000","timelineSpeedMultiplier":1,"wallClockTime":"10000000000"}"#,
+        Ts(r#"{"contentTime":"900000","timelineSpeedMultiplier":1,"wallClockTime":"10000000000"}"#),
         "-",
         "ticks 900000 900000",
     ),
     (
-        r#"ts {"contentTime":"900000","timelineSpeedMultiplier":1,"wallClockTime":"10040000000"}"#,
+        Ts(r#"{"contentTime":"900000","timelineSpeedMultiplier":1,"wallClockTime":"10040000000"}"#),
         "-",
         "ticks 896400 896400",
     ),
 ];
 
 /// Whatever happens, a companion without an answer knows no ticks.
-pub const UNANSWERED: &[Row] = &[
-    ("ts-closed", "-", "none NoAnswer"),
-    (PLAYS, "-", "none NoAnswer"),
-    (UNAVAILABLE, "-", "none NoAnswer"),
-    (HALF_SPEED, "-", "none NoAnswer"),
+const UNANSWERED: &[Row] = &[
+    (TsClosed, "-", "none NoAnswer"),
+    (Ts(PLAYS), "-", "none NoAnswer"),
+    (Ts(UNAVAILABLE), "-", "none NoAnswer"),
+    (Ts(HALF_SPEED), "-", "none NoAnswer"),
 ];
 
 /// A session that closed before its first text told none.
-pub const CLOSED_FIRST: &[Row] = &[
-    ("ts-closed", "-", "none NoTimestamp"),
-    ("cii-closed", "-", "none NoTimestamp"),
-    ("cii-closed", "-", "none NoTimestamp"),
-    (FULL, "-", "none NoTimestamp"),
-    (UNAVAILABLE, "-", "none SessionClosed"),
+const CLOSED_FIRST: &[Row] = &[
+    (TsClosed, "-", "none NoTimestamp"),
+    (CiiClosed, "-", "none NoTimestamp"),
+    (CiiClosed, "-", "none NoTimestamp"),
+    (Cii(FULL), "-", "none NoTimestamp"),
+    (Ts(UNAVAILABLE), "-", "none SessionClosed"),
 ];
 
-const RATE_50: &str =
-    r#"cii {"timelines":[{"timelineSelector":"urn:x:1","timelineProperties":{"unitsPerTick":1,"unitsPerSecond":50,"accuracy":0.2}}]}"#;
+const RATE_50: &str = concat!(
+    r#"{"timelines":[{"timelineSelector":"urn:x:1","timelineProperties":{"unitsPerTick":1,"#,
+    r#""unitsPerSecond":50,"accuracy":0.2}}]}"#
+);
 
-const TWO_RATES: &str =
-    r#"cii {"timelines":[{"timelineSelector":"urn:x:2","timelineProperties":{"unitsPerTick":1,"unitsPerSecond":7}},{"timelineSelector":"urn:x:1","timelineProperties":{"unitsPerTick":1,"unitsPerSecond":1000}},{"timelineSelector":"urn:x:1","timelineProperties":{"unitsPerTick":1,"unitsPerSecond":50}}]}"#;
+const TWO_RATES: &str = concat!(
+    r#"{"timelines":[{"timelineSelector":"urn:x:2","timelineProperties":{"unitsPerTick":1,"unitsPerSecond":7}},"#,
+    r#"{"timelineSelector":"urn:x:1","timelineProperties":{"unitsPerTick":1,"unitsPerSecond":1000}},"#,
+    r#"{"timelineSelector":"urn:x:1","timelineProperties":{"unitsPerTick":1,"unitsPerSecond":50}}]}"#
+);
+
+const RATE_OF_STAMPS: &str = concat!(
+    r#"{"timelines":[{"timelineSelector":"urn:dvb:css:timeline:pts","timelineProperties":{"unitsPerTick":1,"#,
+    r#""unitsPerSecond":1000}}]}"#
+);
 
 /// A companion of the timeline `urn:x:1`, where the wall clock is from 10,500,000,000 to 10,500,022,222 ns.
-pub const RATES: &[Row] = &[
-    (PLAYS, "-", "none NoRate"),
-    (FULL, "-", "none NoRate"),
-    (RATE_50, "-", "ticks 900025 900025"),
-    (TWO_RATES, "-", "ticks 900500 900500"),
-    (UNAVAILABLE, "-", "none Unavailable"),
-    (r#"cii {"timelines":null}"#, "-", "none Unavailable"),
-    (PLAYS, "-", "none NoRate"),
+const RATES: &[Row] = &[
+    (Rate, "None", "none NoTimestamp"),
+    (Ts(PLAYS), "-", "none NoRate"),
+    (Cii(FULL), "-", "none NoRate"),
+    (Cii(RATE_50), "-", "ticks 900025 900025"),
+    (Cii(TWO_RATES), "-", "ticks 900500 900500"),
+    (Ts(UNAVAILABLE), "-", "none Unavailable"),
+    (Cii(r#"{"timelines":null}"#), "-", "none Unavailable"),
+    (Ts(PLAYS), "-", "none NoRate"),
 ];
 
 /// The timeline of presentation time stamps has its own rate where it isn't listed.
-pub const RATES_OF_STAMPS: &[Row] = &[
-    (PLAYS, "-", "ticks 945000 945001"),
+const RATES_OF_STAMPS: &[Row] = &[
+    (Assigned(10_500_000_000), "None", "none NoTimestamp"),
+    (Ts(PLAYS), "-", "ticks 945000 945001"),
+    (Cii(RATE_OF_STAMPS), "-", "ticks 900500 900500"),
+    (Cii(TWO_RATES), "-", "ticks 945000 945001"),
+    (Cii(r#"{"timelines":null}"#), "-", "ticks 945000 945001"),
     (
-        r#"cii {"timelines":[{"timelineSelector":"urn:dvb:css:timeline:pts","timelineProperties":{"unitsPerTick":1,"unitsPerSecond":1000}}]}"#,
-        "-",
-        "ticks 900500 900500",
+        Rate,
+        "Some(Rate { units_per_tick: 1, units_per_second: 90000 })",
+        "ticks 945000 945001",
     ),
-    (TWO_RATES, "-", "ticks 945000 945001"),
-    (r#"cii {"timelines":null}"#, "-", "ticks 945000 945001"),
+    (
+        Assigned(10_500_000_000),
+        "Some(945000)",
+        "ticks 945000 945001",
+    ),
+    (
+        Assigned(10_000_000_000),
+        "Some(900000)",
+        "ticks 945000 945001",
+    ),
+    (
+        Assigned(9_999_999_999),
+        "Some(899999)",
+        "ticks 945000 945001",
+    ),
 ];
 
-/// The refusals of CII texts, and the addresses that aren't moved. A text that is refused is counted and changes
-/// nothing else.
-pub const REFUSALS: &[Row] = &[
-    (FULL, "-", "none NoAnswer"),
-    ("cii ", "cii text 2: not json", "none NoAnswer"),
-    ("cii []", "cii text 3: not object", "none NoAnswer"),
+/// The refusals of CII texts, and the addresses that aren't moved: they may go to null, and from null to others. A text
+/// that is refused is counted and changes nothing else.
+const REFUSALS: &[Row] = &[
+    (Cii(FULL), "-", "none NoAnswer"),
+    (Cii(""), "cii text 2: not json", "none NoAnswer"),
+    (Cii("[]"), "cii text 3: not object", "none NoAnswer"),
     (
-        r#"cii {"contentId":5}"#,
+        Cii(r#"{"contentId":5}"#),
         "cii text 4: field contentId",
         "none NoAnswer",
     ),
     (
-        r#"cii {"contentId":"b","timelines":[5]}"#,
+        Cii(r#"{"contentId":"b","timelines":[5]}"#),
         "cii text 5: field timelines",
         "none NoAnswer",
     ),
     (
-        r#"cii {"protocolVersion":0}"#,
+        Cii(r#"{"protocolVersion":0}"#),
         "cii text 6: field protocolVersion",
         "none NoAnswer",
     ),
     (
-        r#"cii {"wcUrl":"udp://127.0.0.1:6677","tsUrl":"ws://127.0.0.1:6678/ts"}"#,
+        Cii(r#"{"wcUrl":"udp://127.0.0.1:6677","tsUrl":"ws://127.0.0.1:6678/ts"}"#),
         "-",
         "none NoAnswer",
     ),
     (
-        r#"cii {"contentId":"b","tsUrl":"ws://b/ts","wcUrl":"udp://b:1"}"#,
-        "moved wcUrl",
+        Cii(r#"{"contentId":"b","tsUrl":"ws://b/ts","wcUrl":"udp://b:1"}"#),
+        "moved wcUrl from udp://127.0.0.1:6677 to udp://b:1",
         "none NoAnswer",
     ),
     (
-        r#"cii {"contentId":"b","tsUrl":"ws://b/ts","wcUrl":null}"#,
-        "moved tsUrl",
+        Cii(r#"{"contentId":"b","tsUrl":"ws://b/ts","wcUrl":null}"#),
+        "moved tsUrl from ws://127.0.0.1:6678/ts to ws://b/ts",
         "none NoAnswer",
     ),
     (
-        r#"cii {"teUrl":5,"wcUrl":"udp://b:1"}"#,
+        Cii(r#"{"teUrl":5,"wcUrl":"udp://b:1"}"#),
         "cii text 10: field teUrl",
         "none NoAnswer",
     ),
-];
-
-/// An address may go to null, and from null to another one.
-pub const RELEASES: &[Row] = &[
-    (r#"cii {"wcUrl":null}"#, "-", "none NoAnswer"),
-    (r#"cii {"tsUrl":null}"#, "-", "none NoAnswer"),
+    (State, FULL, "none NoAnswer"),
+    (Cii(r#"{"wcUrl":null}"#), "-", "none NoAnswer"),
+    (Cii(r#"{"tsUrl":null}"#), "-", "none NoAnswer"),
     (
-        r#"cii {"wcUrl":"udp://b:1","tsUrl":"ws://b/ts"}"#,
+        Cii(r#"{"wcUrl":"udp://b:1","tsUrl":"ws://b/ts"}"#),
         "-",
         "none NoAnswer",
     ),
 ];
 
-const SLOWEST: &str =
-    r#"cii {"timelines":[{"timelineSelector":"urn:x:1","timelineProperties":{"unitsPerTick":1000000000,"unitsPerSecond":1}}]}"#;
+/// A text changes what it names.
+const CONTENTS: &[Row] = &[
+    (State, NULLS, "none NoAnswer"),
+    (Cii(FULL), "-", "none NoAnswer"),
+    (State, FULL, "none NoAnswer"),
+    (Cii(r#"{"contentId":"dvb://1.2.4"}"#), "-", "none NoAnswer"),
+    (State, OTHER_CONTENT, "none NoAnswer"),
+    (
+        Cii(r#"{"timelines":null,"private":0.2}"#),
+        "-",
+        "none NoAnswer",
+    ),
+    (State, NO_TIMELINES, "none NoAnswer"),
+    (Cii(RATE_50), "-", "none NoAnswer"),
+    (State, OTHER_TIMELINE, "none NoAnswer"),
+];
 
-const FASTEST: &str =
-    r#"cii {"timelines":[{"timelineSelector":"urn:x:1","timelineProperties":{"unitsPerTick":1,"unitsPerSecond":1000000000}}]}"#;
+/// A companion without a stem, where the wall clock is from 10,000,000,297 to 10,000,000,503 ns.
+const WITHOUT_A_STEM: &[Row] = &[
+    (TsOpened, SETUP_OF_ALL, "none NoTimestamp"),
+    (
+        Ts(r#"{"contentTime":"900000","timelineSpeedMultiplier":1,"wallClockTime":"10000000000"}"#),
+        "-",
+        "ticks 900000 900000",
+    ),
+    (Present, PRESENTATION, "ticks 900000 900000"),
+    (
+        Ts(r#"{"contentTime":"900000","timelineSpeedMultiplier":1,"wallClockTime":"10040000000"}"#),
+        "-",
+        "ticks 896400 896400",
+    ),
+    (
+        Assigned(10_000_000_400),
+        "Some(896400)",
+        "ticks 896400 896400",
+    ),
+];
+
+const SLOWEST: &str = concat!(
+    r#"{"timelines":[{"timelineSelector":"urn:x:1","#,
+    r#""timelineProperties":{"unitsPerTick":1000000000,"unitsPerSecond":1}}]}"#
+);
+
+const FASTEST: &str = concat!(
+    r#"{"timelines":[{"timelineSelector":"urn:x:1","#,
+    r#""timelineProperties":{"unitsPerTick":1,"unitsPerSecond":1000000000}}]}"#
+);
 
 const UP_FROM_0: &str =
-    r#"ts {"contentTime":"999999999999999999","timelineSpeedMultiplier":64,"wallClockTime":"0"}"#;
+    r#"{"contentTime":"999999999999999999","timelineSpeedMultiplier":64,"wallClockTime":"0"}"#;
 
 const DOWN_FROM_0: &str =
-    r#"ts {"contentTime":"-999999999999999999","timelineSpeedMultiplier":-64,"wallClockTime":"0"}"#;
+    r#"{"contentTime":"-999999999999999999","timelineSpeedMultiplier":-64,"wallClockTime":"0"}"#;
 
 const UP_TO_2_63: &str =
-    r#"ts {"contentTime":"-999999999999999999","timelineSpeedMultiplier":64,"wallClockTime":"9223372036854775807"}"#;
+    r#"{"contentTime":"-999999999999999999","timelineSpeedMultiplier":64,"wallClockTime":"9223372036854775807"}"#;
 
 const DOWN_TO_2_63: &str =
-    r#"ts {"contentTime":"999999999999999999","timelineSpeedMultiplier":-64,"wallClockTime":"9223372036854775807"}"#;
+    r#"{"contentTime":"999999999999999999","timelineSpeedMultiplier":-64,"wallClockTime":"9223372036854775807"}"#;
 
 /// At a wall clock from -1,073,741,825,782,178,220 to 1,073,741,826,222,222,225 ns.
-pub const NEAR_ZERO: &[Row] = &[
-    (SLOWEST, "-", "none NoTimestamp"),
+const NEAR_ZERO: &[Row] = &[
+    (Cii(SLOWEST), "-", "none NoTimestamp"),
     (
-        UP_FROM_0,
+        Ts(UP_FROM_0),
         "-",
         "ticks 999999999999999930 1000000000000000067",
     ),
     (
-        DOWN_FROM_0,
+        Ts(DOWN_FROM_0),
         "-",
         "ticks -1000000000000000068 -999999999999999931",
     ),
     (
-        UP_TO_2_63,
+        Ts(UP_TO_2_63),
         "-",
         "ticks -1000000000000000659 -1000000000000000521",
     ),
     (
-        DOWN_TO_2_63,
+        Ts(DOWN_TO_2_63),
         "-",
         "ticks 1000000000000000520 1000000000000000658",
     ),
     (
-        FASTEST,
+        Cii(FASTEST),
         "-",
         "ticks 522576333480483429247 660015287208765057727",
     ),
     (
-        UP_FROM_0,
+        Ts(UP_FROM_0),
         "-",
         "ticks -67719476850059406081 69719476878222222399",
     ),
     (
-        DOWN_FROM_0,
+        Ts(DOWN_FROM_0),
         "-",
         "ticks -69719476878222222399 67719476850059406081",
     ),
     (
-        UP_TO_2_63,
+        Ts(UP_TO_2_63),
         "-",
         "ticks -660015287208765057727 -522576333480483429247",
     ),
     (
-        DOWN_TO_2_63,
+        Ts(DOWN_TO_2_63),
         "-",
         "ticks 522576333480483429247 660015287208765057727",
     ),
 ];
 
 /// At a wall clock from 3,221,225,470,217,821,779 to 10,140,895,006,666,666,667 ns.
-pub const NEAR_LIMIT: &[Row] = &[
-    (SLOWEST, "-", "none NoTimestamp"),
+const NEAR_LIMIT: &[Row] = &[
+    (Cii(SLOWEST), "-", "none NoTimestamp"),
     (
-        UP_FROM_0,
+        Ts(UP_FROM_0),
         "-",
         "ticks 1000000000000000205 1000000000000000648",
     ),
     (
-        DOWN_FROM_0,
+        Ts(DOWN_FROM_0),
         "-",
         "ticks -1000000000000000649 -1000000000000000206",
     ),
     (
-        UP_TO_2_63,
+        Ts(UP_TO_2_63),
         "-",
         "ticks -1000000000000000384 -999999999999999941",
     ),
     (
-        DOWN_TO_2_63,
+        Ts(DOWN_TO_2_63),
         "-",
         "ticks 999999999999999940 1000000000000000383",
     ),
     (
-        FASTEST,
+        Cii(FASTEST),
         "-",
         "ticks -57721470067961015041 385137380264765057791",
     ),
     (
-        UP_FROM_0,
+        Ts(UP_FROM_0),
         "-",
         "ticks 207158430093940593855 650017280426666666687",
     ),
     (
-        DOWN_FROM_0,
+        Ts(DOWN_FROM_0),
         "-",
         "ticks -650017280426666666687 -207158430093940593855",
     ),
     (
-        UP_TO_2_63,
+        Ts(UP_TO_2_63),
         "-",
         "ticks -385137380264765057791 57721470067961015041",
     ),
     (
-        DOWN_TO_2_63,
+        Ts(DOWN_TO_2_63),
         "-",
         "ticks -57721470067961015041 385137380264765057791",
     ),
+];
+
+/// The companion asks at one reading, and an answer that tells one time of the television's in seconds and nanoseconds
+/// lands at another one.
+#[derive(Clone, Copy)]
+pub struct Answer {
+    pub asked: u32,
+    pub told: (u32, u32),
+    pub precision: u8,
+    pub error: u32,
+    pub landed: u64,
+    ghost rising: { asked ≤ landed },
+    ghost early: { landed < 4294967296000000000 },
+}
+
+/// What a companion of this configuration meets after its answer, if there is one.
+#[derive(Clone, Copy)]
+pub struct Run {
+    pub selector: &'static str,
+    pub stem: &'static str,
+    pub local: Local,
+    pub answer: Option<Answer>,
+    pub rows: &'static [Row],
+}
+
+pub const STAMPS: &str = "urn:dvb:css:timeline:pts";
+
+pub const EXACT: Local = Local {
+    error: 0,
+    precision: 0,
+};
+
+/// The greatest errors that a companion may have.
+const WIDEST: Local = Local {
+    error: 2_560_000,
+    precision: 1_000_000_000,
+};
+
+/// The wall clock is from 10,500,000,000 to 10,500,022,222 ns when it lands.
+const LATE: Answer = Answer {
+    asked: 1000,
+    told: (10, 500_000_003),
+    precision: 226,
+    error: 0,
+    landed: 23_216,
+};
+
+/// The wall clock is from 10,000,000,297 to 10,000,000,503 ns when it lands.
+pub const EARLY: Answer = Answer {
+    asked: 100,
+    told: (10, 300),
+    precision: 226,
+    error: 0,
+    landed: 400,
+};
+
+/// The least reading of the wall clock, with the greatest errors.
+const LEAST: Answer = Answer {
+    asked: 0,
+    told: (0, 0),
+    precision: 30,
+    error: 25_600_000,
+    landed: 0,
+};
+
+/// The greatest reading of the wall clock, with the greatest errors.
+const GREATEST: Answer = Answer {
+    asked: 0,
+    told: (4_294_967_295, 999_999_999),
+    precision: 30,
+    error: 25_600_000,
+    landed: 4_294_967_295_999_999_999,
+};
+
+/// A companion of presentation time stamps with an exact clock.
+const USUAL: Run = Run {
+    selector: STAMPS,
+    stem: "dvb://",
+    local: EXACT,
+    answer: Some(LATE),
+    rows: &[],
+};
+
+/// The same of another timeline, with a clock that has the greatest errors.
+const WIDE: Run = Run {
+    selector: "urn:x:1",
+    local: WIDEST,
+    ..USUAL
+};
+
+pub const RUNS: [Run; 10] = [
+    Run {
+        rows: CONTROLS,
+        ..USUAL
+    },
+    Run {
+        rows: CLOSED_FIRST,
+        ..USUAL
+    },
+    Run {
+        answer: None,
+        rows: UNANSWERED,
+        ..USUAL
+    },
+    Run {
+        selector: "urn:x:1",
+        rows: RATES,
+        ..USUAL
+    },
+    Run {
+        rows: RATES_OF_STAMPS,
+        ..USUAL
+    },
+    Run {
+        answer: None,
+        rows: REFUSALS,
+        ..USUAL
+    },
+    Run {
+        answer: None,
+        rows: CONTENTS,
+        ..USUAL
+    },
+    Run {
+        stem: "",
+        answer: Some(EARLY),
+        rows: WITHOUT_A_STEM,
+        ..USUAL
+    },
+    Run {
+        answer: Some(LEAST),
+        rows: NEAR_ZERO,
+        ..WIDE
+    },
+    Run {
+        answer: Some(GREATEST),
+        rows: NEAR_LIMIT,
+        ..WIDE
+    },
 ];
