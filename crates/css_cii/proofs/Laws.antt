@@ -100,11 +100,17 @@ from1 = name.ContentIdStatus ∷ from2
 -- the members of a change are in order
 change_ordered : (c : Change) → IsOrdered (object (change_members c))
 change_ordered c =
-    then string name.ContentId c.content_id _ from1 no_members words_ordered (refl, (refl, (refl, (refl, (refl, (refl, (refl, (refl, tt)))))))) (tt, (tt, (tt, (tt, (tt, (tt, (tt, (tt, (tt, tt))))))))) (λ f h.
-    then string name.ContentIdStatus c.content_id_status _ from2 f words_ordered (refl, (refl, (refl, (refl, (refl, (refl, (refl, tt))))))) h (λ f h.
-    then string name.MrsUrl c.mrs_url _ from3 f words_ordered (refl, (refl, (refl, (refl, (refl, (refl, tt)))))) h (λ f h.
-    then string name.PresentationStatus c.presentation_status _ from4 f words_ordered (refl, (refl, (refl, (refl, (refl, tt))))) h (λ f h.
-    then string name.ProtocolVersion c.protocol_version _ from5 f words_ordered (refl, (refl, (refl, (refl, tt)))) h (λ f h.
+    then string name.ContentId c.content_id _ from1 no_members words_ordered
+    (refl, (refl, (refl, (refl, (refl, (refl, (refl, (refl, tt))))))))
+    (tt, (tt, (tt, (tt, (tt, (tt, (tt, (tt, (tt, tt))))))))) (λ f h.
+    then string name.ContentIdStatus c.content_id_status _ from2 f words_ordered
+    (refl, (refl, (refl, (refl, (refl, (refl, (refl, tt))))))) h (λ f h.
+    then string name.MrsUrl c.mrs_url _ from3 f words_ordered
+    (refl, (refl, (refl, (refl, (refl, (refl, tt)))))) h (λ f h.
+    then string name.PresentationStatus c.presentation_status _ from4 f words_ordered
+    (refl, (refl, (refl, (refl, (refl, tt))))) h (λ f h.
+    then string name.ProtocolVersion c.protocol_version _ from5 f words_ordered
+    (refl, (refl, (refl, (refl, tt)))) h (λ f h.
     then string name.TeUrl c.te_url _ from6 f words_ordered (refl, (refl, (refl, tt))) h (λ f h.
     then timelines_data name.Timelines c.timelines _ from7 f timelines_ordered (refl, (refl, tt)) h (λ f h.
     then string name.TsUrl c.ts_url _ (name.WcUrl ∷ []) f words_ordered (refl, tt) h (λ f h.

@@ -25,8 +25,14 @@ itself a = (same_words a a).1 refl
 same_itself : (s : State) → is_same_state s s ≡ true
 unfolding is_same_state
 same_itself s =
-    both _ _ (itself s.protocol_version) (both _ _ (itself s.mrs_url) (both _ _ (itself s.content_id) (both _ _ (itself s.content_id_status)
-    (both _ _ (itself s.presentation_status) (both _ _ (itself s.wc_url) (both _ _ (itself s.ts_url) (both _ _ (itself s.te_url)
+    both _ _ (itself s.protocol_version)
+    (both _ _ (itself s.mrs_url)
+    (both _ _ (itself s.content_id)
+    (both _ _ (itself s.content_id_status)
+    (both _ _ (itself s.presentation_status)
+    (both _ _ (itself s.wc_url)
+    (both _ _ (itself s.ts_url)
+    (both _ _ (itself s.te_url)
     ((is_same-Decides timelines_eq timelines_eq-Decides s.timelines s.timelines).1 refl))))))))
 
 -- states with equal properties are one

@@ -24,7 +24,8 @@ said_or other Unsaid = other
 said_or other (Said value) = value
 
 -- the same is said of a property where both say nothing or equal values
-told-Decides : {T : Type 0} (eq : T → T → Bool) → ((a b : T) → Decides (eq a b) (a ≡ b)) → (a b : Told T) → Decides (is_same_told eq a b) (a ≡ b)
+told-Decides : {T : Type 0} (eq : T → T → Bool) → ((a b : T) → Decides (eq a b) (a ≡ b)) → (a b : Told T)
+    → Decides (is_same_told eq a b) (a ≡ b)
 told-Decides eq exact Unsaid Unsaid = (λ _. refl, λ _. refl)
 told-Decides eq exact Unsaid (Said b) = (λ e. absurd (true≢false (sym e)), λ e. absurd (subst Silent e tt))
 told-Decides eq exact (Said a) Unsaid = (λ e. absurd (true≢false (sym e)), λ e. absurd (subst Silent (sym e) tt))
@@ -47,8 +48,14 @@ same_timelines a b = told-Decides timelines_eq timelines_eq-Decides a b
 same_itself : (c : Change) → is_same_change c c ≡ true
 unfolding is_same_change
 same_itself c =
-    both _ _ (itself c.protocol_version) (both _ _ (itself c.mrs_url) (both _ _ (itself c.content_id) (both _ _ (itself c.content_id_status)
-    (both _ _ (itself c.presentation_status) (both _ _ (itself c.wc_url) (both _ _ (itself c.ts_url) (both _ _ (itself c.te_url)
+    both _ _ (itself c.protocol_version)
+    (both _ _ (itself c.mrs_url)
+    (both _ _ (itself c.content_id)
+    (both _ _ (itself c.content_id_status)
+    (both _ _ (itself c.presentation_status)
+    (both _ _ (itself c.wc_url)
+    (both _ _ (itself c.ts_url)
+    (both _ _ (itself c.te_url)
     ((same_timelines c.timelines c.timelines).1 refl))))))))
 
 -- changes that say the same are one

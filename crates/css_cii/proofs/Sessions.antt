@@ -1,12 +1,16 @@
 -- What is told of one property makes its old value the new one; so it is of all nine, and over a session.
-use Rattle.std.proofs.Common.{◌≡◌, ℕ, suc, ◌+◌, ◌<◌, ◌≤◌, Bool, true, false, cond, List, [], ◌∷◌, length, get_or, drop, Option, Some, None, Decides, refl, sym, ap, ◌∙◌, subst, true≢false, add-one, drop-cons}
+use Rattle.std.proofs.Common.{◌≡◌, ℕ, suc, ◌+◌, ◌<◌, ◌≤◌, Bool, true, false, cond, List}
+use Rattle.std.proofs.Common.{[], ◌∷◌, length, get_or, drop, Option, Some, None, Decides}
+use Rattle.std.proofs.Common.{refl, sym, ap, ◌∙◌, subst, true≢false, add-one, drop-cons}
 use Rattle.std.proofs.lemmas.List.{drop_all}
 use Rattle.std.proofs.lemmas.Slice.Eq.{bytes_eq-Decides}
 use Rattle.std.specs.Prelude.{bytes_eq, ⊤}
 use Rattle.css_num.specs.declared.timeline.Timeline.{Timeline}
 use Rattle.css_num.specs.Timelines.{timelines_eq}
 use Rattle.css_num.proofs.Equality.{timelines_eq-Decides}
-use Rattle.css_cii.specs.States.{is_unsaid, is_empty, is_same_state, applied, difference, after, is_same, told_new, Tells, TellsChange, TellsExactly, TellsDifference, merged_from, IsSessionFrom, last_from}
+use Rattle.css_cii.specs.States.{is_unsaid, is_empty, is_same_state, applied, difference}
+use Rattle.css_cii.specs.States.{after, is_same, told_new, Tells, TellsChange, TellsExactly}
+use Rattle.css_cii.specs.States.{TellsDifference, merged_from, IsSessionFrom, last_from}
 use Rattle.css_cii.specs.declared.state.State.{State}
 use Rattle.css_cii.specs.declared.change.Change.{Change}
 use Rattle.css_cii.specs.declared.change.Told.{Told}
@@ -25,14 +29,16 @@ value_or other None = other
 value_or other (Some value) = value
 
 -- values that may be null are equal where their values are
-pub is_same-Decides : {T : Type 0} (eq : T → T → Bool) → ((a b : T) → Decides (eq a b) (a ≡ b)) → (a b : Option T) → Decides (is_same eq a b) (a ≡ b)
+pub is_same-Decides : {T : Type 0} (eq : T → T → Bool) → ((a b : T) → Decides (eq a b) (a ≡ b)) → (a b : Option T)
+    → Decides (is_same eq a b) (a ≡ b)
 is_same-Decides eq exact None None = (λ _. refl, λ _. refl)
 is_same-Decides eq exact None (Some b) = (λ e. absurd (true≢false (sym e)), λ e. absurd (subst Nothing e tt))
 is_same-Decides eq exact (Some a) None = (λ e. absurd (true≢false (sym e)), λ e. absurd (subst Nothing (sym e) tt))
 is_same-Decides eq exact (Some a) (Some b) = (λ e. ap Some ((exact a b).0 e), λ e. (exact a b).1 (ap (value_or a) e))
 
 -- what a test decides to tell, where the test is exact
-told_by : {T : Type 0} (old new : Option T) (same : Bool) → Decides same (old ≡ new) → TellsExactly old new (cond same Unsaid (Said new))
+told_by : {T : Type 0} (old new : Option T) (same : Bool) → Decides same (old ≡ new)
+    → TellsExactly old new (cond same Unsaid (Said new))
 told_by old new true exact = exact.0 refl
 told_by old new false exact = (refl, λ e. true≢false (sym (exact.1 e)))
 
@@ -42,7 +48,8 @@ told_words old new = told_by old new (is_same bytes_eq old new) (is_same-Decides
 
 -- and of timelines
 told_timelines : (old new : Option (List Timeline)) → TellsExactly old new (told_new timelines_eq old new)
-told_timelines old new = told_by old new (is_same timelines_eq old new) (is_same-Decides timelines_eq timelines_eq-Decides old new)
+told_timelines old new =
+    told_by old new (is_same timelines_eq old new) (is_same-Decides timelines_eq timelines_eq-Decides old new)
 
 -- what says exactly what differs says at least that
 weaker : {T : Type 0} (old new : Option T) (told : Told T) → TellsExactly old new told → Tells old new told
@@ -103,25 +110,31 @@ applied-tells old new change h =
 
 -- so the difference leads from the old state to the new one
 pub applied-difference : (old new : State) → applied old (difference old new) ≡ new
-applied-difference old new = applied-tells old new (difference old new) (exact_tells old new (difference old new) (difference-exact old new))
+applied-difference old new =
+    applied-tells old new (difference old new) (exact_tells old new (difference old new) (difference-exact old new))
 
 -- ---- a session
 
 -- merging the messages of a session gives its last state
-pub merged_from-session : (before : State) (states : List State) (changes : List Change) → IsSessionFrom before states changes → merged_from before changes ≡ last_from before states
+pub merged_from-session : (before : State) (states : List State) (changes : List Change)
+    → IsSessionFrom before states changes → merged_from before changes ≡ last_from before states
 merged_from-session before [] [] h = refl
 merged_from-session before [] (change ∷ changes) h = absurd h
 merged_from-session before (state ∷ states) [] h = absurd h
 merged_from-session before (state ∷ states) (change ∷ changes) h =
-    ap (λ s. merged_from s changes) (applied-tells before state change h.0) ∙ merged_from-session state states changes h.1
+    ap (λ s. merged_from s changes) (applied-tells before state change h.0)
+    ∙ merged_from-session state states changes h.1
 
 -- one message more
-pub merge_step : (state : State) (changes : List Change) (i : ℕ) (change : Change) → i < length changes → change ≡ get_or changes i change
+pub merge_step : (state : State) (changes : List Change) (i : ℕ) (change : Change) → i < length changes
+    → change ≡ get_or changes i change
     → merged_from (applied state change) (drop (i + 1) changes) ≡ merged_from state (drop i changes)
-merge_step state changes i change lt is = rw (add-one, drop-cons changes i change) (ap (λ c. merged_from (applied state c) (drop (suc i) changes)) is)
+merge_step state changes i change lt is =
+    rw (add-one, drop-cons changes i change) (ap (λ c. merged_from (applied state c) (drop (suc i) changes)) is)
 
 -- no message is left
-pub merge_end : (state first : State) (changes : List Change) (i : ℕ) → length changes ≤ i → merged_from state (drop i changes) ≡ merged_from first changes → state ≡ merged_from first changes
+pub merge_end : (state first : State) (changes : List Change) (i : ℕ) → length changes ≤ i
+    → merged_from state (drop i changes) ≡ merged_from first changes → state ≡ merged_from first changes
 merge_end state first changes i past h = ap (merged_from state) (sym (drop_all i changes past)) ∙ h
 
 -- ---- nothing to tell

@@ -1,7 +1,8 @@
 -- The names of the properties in the messages.
 use Rattle.std.specs.Prelude.{ℕ, List, codes}
 use Rattle.css_cii.specs.declared.name.CiiName.{CiiName}
-use Rattle.css_cii.specs.declared.name.CiiName.TheVariants.{ProtocolVersion, MrsUrl, ContentId, ContentIdStatus, PresentationStatus, WcUrl, TsUrl, TeUrl, Timelines}
+use Rattle.css_cii.specs.declared.name.CiiName.TheVariants.{ProtocolVersion, MrsUrl, ContentId, ContentIdStatus}
+use Rattle.css_cii.specs.declared.name.CiiName.TheVariants.{PresentationStatus, WcUrl, TsUrl, TeUrl, Timelines}
 
 -- the name of a property
 abbrev pub json_name : CiiName → List ℕ

@@ -1,5 +1,6 @@
 -- States, and the changes that lead from one to another.
-use Rattle.std.specs.Prelude.{◌≡◌, ℕ, ◌&&◌, Bool, true, false, bytes_eq, List, [], ◌∷◌, Option, Some, None, ⊤, if◌then◌else◌}
+use Rattle.std.specs.Prelude.{◌≡◌, ℕ, ◌&&◌, Bool, true, false, bytes_eq, List}
+use Rattle.std.specs.Prelude.{[], ◌∷◌, Option, Some, None, ⊤, if◌then◌else◌}
 use Rattle.css_num.specs.declared.timeline.Timeline.{Timeline}
 use Rattle.css_num.specs.Timelines.{timelines_eq}
 use Rattle.css_cii.specs.declared.state.State.{State}
@@ -29,8 +30,15 @@ is_unsaid (Said value) = false
 -- nothing is said of any property
 abbrev pub is_empty : Change → Bool
 is_empty change =
-    is_unsaid change.protocol_version && (is_unsaid change.mrs_url && (is_unsaid change.content_id && (is_unsaid change.content_id_status
-    && (is_unsaid change.presentation_status && (is_unsaid change.wc_url && (is_unsaid change.ts_url && (is_unsaid change.te_url && is_unsaid change.timelines)))))))
+    is_unsaid change.protocol_version
+    && (is_unsaid change.mrs_url
+    && (is_unsaid change.content_id
+    && (is_unsaid change.content_id_status
+    && (is_unsaid change.presentation_status
+    && (is_unsaid change.wc_url
+    && (is_unsaid change.ts_url
+    && (is_unsaid change.te_url
+    && is_unsaid change.timelines)))))))
 
 -- ---- merging
 
@@ -74,9 +82,14 @@ is_same eq (Some a) (Some b) = eq a b
 -- each of the nine properties is equal
 unfoldable pub is_same_state : State → State → Bool
 is_same_state one other =
-    is_same bytes_eq one.protocol_version other.protocol_version && (is_same bytes_eq one.mrs_url other.mrs_url && (is_same bytes_eq one.content_id other.content_id
-    && (is_same bytes_eq one.content_id_status other.content_id_status && (is_same bytes_eq one.presentation_status other.presentation_status
-    && (is_same bytes_eq one.wc_url other.wc_url && (is_same bytes_eq one.ts_url other.ts_url && (is_same bytes_eq one.te_url other.te_url
+    is_same bytes_eq one.protocol_version other.protocol_version
+    && (is_same bytes_eq one.mrs_url other.mrs_url
+    && (is_same bytes_eq one.content_id other.content_id
+    && (is_same bytes_eq one.content_id_status other.content_id_status
+    && (is_same bytes_eq one.presentation_status other.presentation_status
+    && (is_same bytes_eq one.wc_url other.wc_url
+    && (is_same bytes_eq one.ts_url other.ts_url
+    && (is_same bytes_eq one.te_url other.te_url
     && is_same timelines_eq one.timelines other.timelines)))))))
 
 -- the new value, and nothing where it is the old one
@@ -131,9 +144,14 @@ is_same_told eq (Said a) (Said b) = is_same eq a b
 -- the same is said of each of the nine properties
 unfoldable pub is_same_change : Change → Change → Bool
 is_same_change one other =
-    is_same_told bytes_eq one.protocol_version other.protocol_version && (is_same_told bytes_eq one.mrs_url other.mrs_url && (is_same_told bytes_eq one.content_id other.content_id
-    && (is_same_told bytes_eq one.content_id_status other.content_id_status && (is_same_told bytes_eq one.presentation_status other.presentation_status
-    && (is_same_told bytes_eq one.wc_url other.wc_url && (is_same_told bytes_eq one.ts_url other.ts_url && (is_same_told bytes_eq one.te_url other.te_url
+    is_same_told bytes_eq one.protocol_version other.protocol_version
+    && (is_same_told bytes_eq one.mrs_url other.mrs_url
+    && (is_same_told bytes_eq one.content_id other.content_id
+    && (is_same_told bytes_eq one.content_id_status other.content_id_status
+    && (is_same_told bytes_eq one.presentation_status other.presentation_status
+    && (is_same_told bytes_eq one.wc_url other.wc_url
+    && (is_same_told bytes_eq one.ts_url other.ts_url
+    && (is_same_told bytes_eq one.te_url other.te_url
     && is_same_told timelines_eq one.timelines other.timelines)))))))
 
 -- ---- what may be said when one state follows another
@@ -177,7 +195,8 @@ abbrev pub IsSessionFrom : State → List State → List Change → Type 0
 IsSessionFrom before [] [] = ⊤
 IsSessionFrom before [] (change ∷ changes) = ⊥
 IsSessionFrom before (state ∷ states) [] = ⊥
-IsSessionFrom before (state ∷ states) (change ∷ changes) = TellsChange before state change × IsSessionFrom state states changes
+IsSessionFrom before (state ∷ states) (change ∷ changes) =
+    TellsChange before state change × IsSessionFrom state states changes
 
 -- the messages of a connection whose states are these: the first says at least each property that isn't null, and each
 -- later one at least each property that changed

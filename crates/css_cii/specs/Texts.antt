@@ -3,7 +3,8 @@ use Rattle.std.specs.Prelude.{ℕ, List, [], ◌∷◌, Option, Some, None, ⊤,
 use Rattle.std.specs.Str.{IsUtf8}
 use Rattle.css_num.specs.Rates.{TickRate, IsTickRate}
 use Rattle.css_num.specs.declared.timeline.Timeline.{Timeline}
-use Rattle.serde_json.specs.Data.{Data, null, number, unsigned, string, array, object, Items, no_items, item, Members, no_members, member, put}
+use Rattle.serde_json.specs.Data.{Data, null, number, unsigned, string, array, object}
+use Rattle.serde_json.specs.Data.{Items, no_items, item, Members, no_members, member, put}
 use Rattle.serde_json.specs.Written.{compact_text}
 use Rattle.css_cii.specs.Names.{json_name}
 use Rattle.css_cii.specs.declared.state.State.{State}
@@ -15,11 +16,15 @@ use Rattle.css_cii.specs.declared.name.CiiName.TheVariants as name
 
 -- the units of a timeline
 abbrev pub rate_data : TickRate → Data
-rate_data rate = object (member (codes "unitsPerSecond") (number (unsigned rate.units_per_second)) (member (codes "unitsPerTick") (number (unsigned rate.units_per_tick)) no_members))
+rate_data rate = object
+    (member (codes "unitsPerSecond") (number (unsigned rate.units_per_second))
+    (member (codes "unitsPerTick") (number (unsigned rate.units_per_tick)) no_members))
 
 -- a timeline
 abbrev pub timeline_data : Timeline → Data
-timeline_data timeline = object (member (codes "timelineProperties") (rate_data timeline.rate) (member (codes "timelineSelector") (string timeline.selector) no_members))
+timeline_data timeline = object
+    (member (codes "timelineProperties") (rate_data timeline.rate)
+    (member (codes "timelineSelector") (string timeline.selector) no_members))
 
 -- the entries of a list of timelines
 abbrev pub timelines_items : List Timeline → Items

@@ -1,5 +1,6 @@
 -- The timelines of a message.
-use Rattle.std.specs.Prelude.{ℕ, ℤ, pos, negsuc, List, [], ◌∷◌, Option, Some, None, option_map, option_and_then, codes, if◌then◌else◌}
+use Rattle.std.specs.Prelude.{ℕ, ℤ, pos, negsuc, List, [], ◌∷◌, Option, Some, None}
+use Rattle.std.specs.Prelude.{option_map, option_and_then, codes, if◌then◌else◌}
 use Rattle.css_num.specs.Rates.{TickRate, is_rate_part, rate_of}
 use Rattle.css_num.specs.declared.timeline.Timeline.{Timeline}
 use Rattle.serde_json.specs.Data.{Data, Items, no_items, item, Members}
@@ -31,7 +32,8 @@ rate_from (Some units_per_tick) (Some units_per_second) = rate_of units_per_tick
 -- the rate that an object with both units is
 abbrev pub rate_in : Option Data → Option TickRate
 rate_in value =
-    option_and_then (λ members. rate_from (part_in (codes "unitsPerTick") members) (part_in (codes "unitsPerSecond") members))
+    option_and_then (λ members.
+    rate_from (part_in (codes "unitsPerTick") members) (part_in (codes "unitsPerSecond") members))
     (option_and_then as_object value)
 
 -- the timeline of a text and a rate
@@ -42,10 +44,14 @@ timeline_from _ _ = None
 -- the timeline that an entry of the list is: an object with its selector and its properties, whatever else it has
 abbrev pub timeline_of : Data → Option Timeline
 timeline_of value =
-    option_and_then (λ members. timeline_from (field_at (codes "timelineSelector") members) (rate_in (get_member (codes "timelineProperties") members)))
+    option_and_then (λ members.
+    timeline_from (field_at (codes "timelineSelector") members)
+    (rate_in (get_member (codes "timelineProperties") members)))
     (as_object value)
 
 -- the timelines of a list where each entry is one
 abbrev pub timelines_of : Items → Option (List Timeline)
 timelines_of no_items = Some []
-timelines_of (item value values) = option_and_then (λ timeline. option_map (λ timelines. timeline ∷ timelines) (timelines_of values)) (timeline_of value)
+timelines_of (item value values) =
+    option_and_then (λ timeline. option_map (λ timelines. timeline ∷ timelines) (timelines_of values))
+    (timeline_of value)

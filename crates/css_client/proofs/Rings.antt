@@ -1,5 +1,6 @@
 -- The last requests, as a ring has them and as a history has them.
-use Rattle.std.proofs.Common.{◌≡◌, ℕ, zero, suc, ◌-◌, ◌/◌, ◌%◌, ◌<◌, ◌≤◌, arith, ap, sym, ◌∙◌, Bool, true, false, ◌&&◌, ◌||◌, List, [], ◌∷◌, ◌++◌, length, take, drop, refl}
+use Rattle.std.proofs.Common.{◌≡◌, ℕ, zero, suc, ◌-◌, ◌/◌, ◌%◌, ◌<◌, ◌≤◌, arith, ap, sym, ◌∙◌, Bool}
+use Rattle.std.proofs.Common.{true, false, ◌&&◌, ◌||◌, List, [], ◌∷◌, ◌++◌, length, take, drop, refl}
 use Rattle.std.specs.Prelude.{reverse, map, nat_lt, ◌==◌, slice_get, Option, Some, None}
 use Rattle.std.specs.List.{list_any, last_or}
 use Rattle.std.proofs.lemmas.Bool.{and_parts, eqb-true, eq-eqb, ltb-true, ltb-false, false≢true}
@@ -74,7 +75,8 @@ last_or-end o (y ∷ ys) x = last_or-end (Some y) ys x
 -- the oldest of a ring stands at its front
 pub oldest_of_ring : (xs : List ℕ) → last_or None (reverse xs) ≡ slice_get xs 0
 oldest_of_ring [] = refl
-oldest_of_ring (x ∷ xs) = ap (λ (ys : List ℕ). last_or None ys) (reverse-append (x ∷ []) xs) ∙ last_or-end None (reverse xs) x
+oldest_of_ring (x ∷ xs) =
+    ap (λ (ys : List ℕ). last_or None ys) (reverse-append (x ∷ []) xs) ∙ last_or-end None (reverse xs) x
 
 -- ---- whether a request is among them
 -- a test finds the same in a list from behind
@@ -82,7 +84,8 @@ pub list_any-reverse : {A : Type 0} (p : A → Bool) (xs : List A) → list_any 
 list_any-reverse p xs = sym (list_any-IsPermutation p xs (reverse xs) (IsPermutation-reverse xs))
 
 -- a test of the images
-pub list_any-map : {A B : Type 0} (p : B → Bool) (f : A → B) (xs : List A) → list_any p (map f xs) ≡ list_any (λ x. p (f x)) xs
+pub list_any-map : {A B : Type 0} (p : B → Bool) (f : A → B) (xs : List A)
+    → list_any p (map f xs) ≡ list_any (λ x. p (f x)) xs
 list_any-map p f [] = refl
 list_any-map p f (x ∷ xs) = ap (λ t. p (f x) || t) (list_any-map p f xs)
 
@@ -113,7 +116,8 @@ same_originate o r h =
     (eq-eqb (stamp_of r).seconds o.seconds (omega arith)) (eq-eqb (stamp_of r).nanoseconds o.nanoseconds (omega arith)))
 
 -- and one with more nanoseconds is that of none
-no_originate : (originate : Stamp) (r : ℕ) → second ≤ originate.nanoseconds → is_same_stamp (stamp_of r) originate ≡ false
+no_originate : (originate : Stamp) (r : ℕ) → second ≤ originate.nanoseconds
+    → is_same_stamp (stamp_of r) originate ≡ false
 no_originate o r h =
     same_test (is_same_stamp (stamp_of r) o) false
     (λ e. let p = and_parts ((stamp_of r).seconds == o.seconds) ((stamp_of r).nanoseconds == o.nanoseconds) e in
@@ -152,14 +156,16 @@ in_two_parts r front back items e =
     ∙ list_any-append (λ (a : ℕ). a == r) front back
 
 -- so where the first part has it
-pub found_in_front : (r : ℕ) (front back items asked : List ℕ) (found : Bool) → front ++ back ≡ items → reverse items ≡ asked
+pub found_in_front : (r : ℕ) (front back items asked : List ℕ) (found : Bool)
+    → front ++ back ≡ items → reverse items ≡ asked
     → found ≡ list_any (λ a. a == r) front → found ≡ true → found ≡ list_any (λ a. a == r) asked
 found_in_front r front back items asked found e v f t =
     t ∙ sym (ap (λ (xs : List ℕ). list_any (λ a. a == r) xs) (sym v) ∙ in_two_parts r front back items e
     ∙ either_true (list_any (λ a. a == r) front) (list_any (λ a. a == r) back) (sym f ∙ t))
 
 -- and otherwise where the second has it
-pub found_in_back : (r : ℕ) (front back items asked : List ℕ) (found found_too : Bool) → front ++ back ≡ items → reverse items ≡ asked
+pub found_in_back : (r : ℕ) (front back items asked : List ℕ) (found found_too : Bool)
+    → front ++ back ≡ items → reverse items ≡ asked
     → found ≡ list_any (λ a. a == r) front → found ≡ false → found_too ≡ list_any (λ a. a == r) back
     → found_too ≡ list_any (λ a. a == r) asked
 found_in_back r front back items asked found found_too e v f t g =

@@ -18,19 +18,26 @@ use Rattle.css_client.specs.Standing.{StandsFor, IsBelow, SpanHolds}
 use Rattle.css_client.proofs.Aside.{each_weaker}
 
 -- the span of an answer that is true holds
-span_holds : (own : Local) (reading wall : ℕ) (narrowest : Option Answer) → IfSome narrowest (λ answer. Contains own answer reading wall)
+span_holds : (own : Local) (reading wall : ℕ) (narrowest : Option Answer)
+    → IfSome narrowest (λ answer. Contains own answer reading wall)
     → SpanHolds (option_map (span_of own reading) narrowest) wall
 span_holds own reading wall None h = tt
 span_holds own reading wall (Some answer) h = (h.low, h.high)
 
 -- in a world that explains the history, what is told contains the wall clock
-pub wall_holds : (client : Client) (history : History) (reading : ℕ) (errors : Errors) (world : World) (who : ℕ) (moment_of : ℕ → ℕ)
+pub wall_holds : (client : Client) (history : History) (reading : ℕ) (errors : Errors) (world : World)
+    (who : ℕ) (moment_of : ℕ → ℕ)
     → StandsFor client history → IsWorldFor errors world who (local_of client)
     → Explains world who errors.tv (local_of client) (Clock why.Turn reading ∷ history) moment_of
-    → SpanHolds (wall_span (local_of client) reading (accepted_answers (local_of client) history)) (world (moment_of (length history))).wall
+    → SpanHolds (wall_span (local_of client) reading (accepted_answers (local_of client) history))
+    (world (moment_of (length history))).wall
 wall_holds client history reading errors world who moment_of stands for explains =
-    let lawful : IsLawful (Clock why.Turn reading ∷ history) = record { rises = (tt, stands.lawful.rises); asks = (tt, stands.lawful.asks) } in
-    span_holds (local_of client) reading (world (moment_of (length history))).wall (wall_answer (local_of client) history reading)
+    let lawful : IsLawful (Clock why.Turn reading ∷ history) = record {
+      rises = (tt, stands.lawful.rises);
+      asks = (tt, stands.lawful.asks);
+    } in
+    span_holds (local_of client) reading (world (moment_of (length history))).wall
+    (wall_answer (local_of client) history reading)
     (wall_is_true errors world who (local_of client) (Clock why.Turn reading ∷ history) moment_of for lawful explains).0
 
 -- the client after a sleep
@@ -60,7 +67,9 @@ stands_slept client history estimate stands empty = record {
   );
 }
   where
-    raised : (o : Option ℕ) (slept : ℕ) → IfSome o (λ asked. (asked < client.after_sleep) × (slept < sleeps history → asked < client.floor))
-        → IfSome o (λ asked. (asked < client.after_sleep) × (slept < sleeps (Slept ∷ history) → asked < max client.floor client.after_sleep))
+    raised : (o : Option ℕ) (slept : ℕ)
+        → IfSome o (λ asked. (asked < client.after_sleep) × (slept < sleeps history → asked < client.floor))
+        → IfSome o (λ asked. (asked < client.after_sleep)
+        × (slept < sleeps (Slept ∷ history) → asked < max client.floor client.after_sleep))
     raised None slept h = tt
     raised (Some asked) slept h = (h.0, λ earlier. omega (arith, h.0))

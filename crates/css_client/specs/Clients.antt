@@ -111,11 +111,14 @@ answer_of promises reading message = record {
 -- The new promises are the old ones with one more, unless there is one with its originate and receive values.
 pub record Adds (promise : Promise) (old new : List Promise) : Type 0 where
   pub values : (originate receive : Stamp) → first_landed originate receive new
-      ≡ option_or (first_landed originate receive old) (if is_promise originate receive promise then Some promise.landed else None)
-  pub only : (asked : List ℕ) → IsTrue (is_among promise.originate asked) → RemembersOnly asked old → RemembersOnly asked new
+      ≡ option_or (first_landed originate receive old)
+      (if is_promise originate receive promise then Some promise.landed else None)
+  pub only : (asked : List ℕ) → IsTrue (is_among promise.originate asked) → RemembersOnly asked old
+      → RemembersOnly asked new
 
 -- What is remembered after an answer landed: a response that promises a follow-up is, if it is the first with its values.
 abbrev pub Remembers : ℕ → Message → List Promise → List Promise → Type 0
 Remembers reading message old new =
-    (message.message_type ≡ 2 → Adds (record { originate = message.originate; receive = message.receive; landed = reading }) old new)
+    (message.message_type ≡ 2
+    → Adds (record { originate = message.originate; receive = message.receive; landed = reading }) old new)
     × (message.message_type ≢ 2 → new ≡ old)

@@ -1,5 +1,6 @@
 -- Which histories a client stands for, and what is promised of it.
-use Rattle.std.specs.Prelude.{ℕ, ◌≡◌, ◌≤◌, ◌<◌, ◌⊎◌, pos, ◌≤ℤ◌, List, ◌∷◌, map, length, false, Option, Some, None, IfSome, IfOk, IsTrue, Result}
+use Rattle.std.specs.Prelude.{ℕ, ◌≡◌, ◌≤◌, ◌<◌, ◌⊎◌, pos, ◌≤ℤ◌, List, ◌∷◌, map, length}
+use Rattle.std.specs.Prelude.{false, Option, Some, None, IfSome, IfOk, IsTrue, Result}
 use Rattle.css_num.specs.Spans.{Interval}
 use Rattle.css_num.specs.declared.memory.Memory.{Memory}
 use Rattle.css_model.specs.declared.Stamp.{Stamp}
@@ -7,7 +8,9 @@ use Rattle.css_model.specs.declared.Message.{Message}
 use Rattle.css_model.specs.declared.Why.TheVariants as why
 use Rattle.css_model.specs.Wire.{stamp_of, reading_of}
 use Rattle.css_model.specs.World.{World, Errors, IsWorldFor}
-use Rattle.css_model.specs.History.{Entry, Clock, Took, History, Each, is_sleep, sleeps, asking_at, request_by, is_asked, asked_originates, LandedAnswer, landed_answer, landed_answers, first_promised_at, accepted_answers}
+use Rattle.css_model.specs.History.{Entry, Clock, Took, History, Each, is_sleep, sleeps, asking_at}
+use Rattle.css_model.specs.History.{request_by, is_asked, asked_originates, LandedAnswer, landed_answer}
+use Rattle.css_model.specs.History.{landed_answers, first_promised_at, accepted_answers}
 use Rattle.css_model.specs.Explains.{IsLawful, HappensIn, Explains, IsTruthful}
 use Rattle.css_span.specs.Frontiers as frontiers
 use Rattle.css_client.specs.Clients.{Client, local_of, first_landed, RemembersOnly, NeverFall}
@@ -33,7 +36,8 @@ pub record StandsFor (client : Client) (history : History) : Type 0 where
   pub lawful : IsLawful history
   pub asked : asked_originates history ≡ map stamp_of client.asked
   pub promises : (follow_up : Message) → IsCurrent client.floor follow_up.originate history
-      → first_landed follow_up.originate follow_up.receive client.promises ≡ first_promised_at follow_up (landed_answers history)
+      → first_landed follow_up.originate follow_up.receive client.promises
+      ≡ first_promised_at follow_up (landed_answers history)
   pub only : RemembersOnly client.asked client.promises
   pub rising : NeverFall (client.floor ∷ client.asked)
   pub estimate : frontiers.StandsFor client.estimate (accepted_answers (local_of client) history)
@@ -70,7 +74,8 @@ ContainsTheWall client reading span =
 -- every history that the client stands for.
 abbrev pub AcceptsTheTruth : Client → ℕ → List ℕ → Result Landing Memory → Type 0
 AcceptsTheTruth client reading bytes result =
-    (history : History) (peer : ℕ) (errors : Errors) (world : World) (who : ℕ) (moment_of : ℕ → ℕ) (landed : LandedAnswer)
+    (history : History) (peer : ℕ) (errors : Errors) (world : World) (who : ℕ)
+    (moment_of : ℕ → ℕ) (landed : LandedAnswer)
     → StandsFor client history → IsWorldFor errors world who (local_of client)
     → HappensIn world who (local_of client) (Clock why.Land reading ∷ Took peer bytes ∷ history) moment_of
     → landed_answer (Clock why.Land reading) (Took peer bytes ∷ history) ≡ Some landed

@@ -9,5 +9,7 @@ MayFault meant (Refused cause) = meant ≡ Err cause
 MayFault meant Memory = Unit {0}
 
 -- a call added what is meant to the output, or answered the meant cause or want of memory and added nothing
-pub record Answers {T Cause : Type 0} (meant : Result (List ℕ) Cause) (old new : List ℕ) (result : Result T (LineFault Cause)) : Type 0 where
-  pub cases : MatchResult result (λ _. (printed : List ℕ) × (meant ≡ Ok printed) × (new ≡ old ++ printed)) (λ fault. MayFault meant fault × (new ≡ old))
+pub record Answers {T Cause : Type 0} (meant : Result (List ℕ) Cause) (old new : List ℕ)
+    (result : Result T (LineFault Cause)) : Type 0 where
+  pub cases : MatchResult result (λ _. (printed : List ℕ) × (meant ≡ Ok printed) × (new ≡ old ++ printed))
+      (λ fault. MayFault meant fault × (new ≡ old))

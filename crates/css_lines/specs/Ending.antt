@@ -23,21 +23,25 @@ pub record StopsInPiece {Cause : Type 0} (meaning : Meaning Cause) (read printed
 -- this is what becomes of the bytes that were read, whatever follows them, or where nothing follows
 abbrev pub IsRefused : {Cause : Type 0} → Meaning Cause → List ℕ → Option (List ℕ) → List ℕ → ℕ → Refusal Cause → Type 0
 IsRefused meaning read left printed line why =
-    ((rest : List ℕ) → outcome meaning (read ++ rest) ≡ refused_at printed line why) ⊎ (IsAtEnd left × (outcome meaning read ≡ refused_at printed line why))
+    ((rest : List ℕ) → outcome meaning (read ++ rest) ≡ refused_at printed line why)
+    ⊎ (IsAtEnd left × (outcome meaning read ≡ refused_at printed line why))
 
 -- this is a part of the output of the lines whose line feeds were read, or, at the source's end, of all output
 abbrev pub IsCutOff : {Cause : Type 0} → Meaning Cause → List ℕ → Option (List ℕ) → List ℕ → Type 0
-IsCutOff meaning read left printed = IsPrefix printed (outcome_so_far meaning read).printed ⊎ (IsAtEnd left × IsPrefix printed (outcome meaning read).printed)
+IsCutOff meaning read left printed = IsPrefix printed (outcome_so_far meaning read).printed
+    ⊎ (IsAtEnd left × IsPrefix printed (outcome meaning read).printed)
 
 -- After these bytes were read, with those left, and this was printed, the run may stop so.
 abbrev pub MayStop : {Cause : Type 0} → Meaning Cause → List ℕ → Option (List ℕ) → List ℕ → Stop Cause → Type 0
-MayStop meaning read left printed (BadLine line why) = IsRefused meaning read left printed line why × StopsInPiece meaning read printed
+MayStop meaning read left printed (BadLine line why) =
+    IsRefused meaning read left printed line why × StopsInPiece meaning read printed
 MayStop meaning read left printed ReadFault = IsSound meaning read × (printed ≡ (outcome_so_far meaning read).printed)
 MayStop meaning read left printed WriteFault = IsCutOff meaning read left printed × StopsInPiece meaning read printed
 MayStop meaning read left printed Memory = IsCutOff meaning read left printed × StopsInPiece meaning read printed
 
 -- The source was read to its end, each line was accepted, its whole output was printed, and the reader stands for all lines.
-pub record Finishes {L Cause : Type 0} (meaning : Meaning Cause) (stands : L → List (List ℕ) → Type 0) (left_old left_new holds_old holds_new : Option (List ℕ)) (lines : L) : Type 0 where
+pub record Finishes {L Cause : Type 0} (meaning : Meaning Cause) (stands : L → List (List ℕ) → Type 0)
+    (left_old left_new holds_old holds_new : Option (List ℕ)) (lines : L) : Type 0 where
   pub read : List ℕ
   pub printed : List ℕ
   pub took : Consumes left_old left_new read
@@ -47,7 +51,8 @@ pub record Finishes {L Cause : Type 0} (meaning : Meaning Cause) (stands : L →
   pub stood : stands lines (lines_of read)
 
 -- Some bytes were read, something was printed, and the run stopped there.
-pub record Stops {Cause : Type 0} (meaning : Meaning Cause) (left_old left_new holds_old holds_new : Option (List ℕ)) (stop : Stop Cause) : Type 0 where
+pub record Stops {Cause : Type 0} (meaning : Meaning Cause) (left_old left_new holds_old holds_new : Option (List ℕ))
+    (stop : Stop Cause) : Type 0 where
   pub read : List ℕ
   pub printed : List ℕ
   pub took : Consumes left_old left_new read
@@ -56,7 +61,8 @@ pub record Stops {Cause : Type 0} (meaning : Meaning Cause) (left_old left_new h
 
 -- A run over an input of these bytes read all of them. No line is refused, the sink grew by the whole output, and the
 -- reader stands for all lines.
-pub record RanToEnd {L Cause : Type 0} (meaning : Meaning Cause) (stands : L → List (List ℕ) → Type 0) (bytes : List ℕ) (left holds_old holds_new : Option (List ℕ)) (lines : L) : Type 0 where
+pub record RanToEnd {L Cause : Type 0} (meaning : Meaning Cause) (stands : L → List (List ℕ) → Type 0) (bytes : List ℕ)
+    (left holds_old holds_new : Option (List ℕ)) (lines : L) : Type 0 where
   pub at_end : left ≡ Some []
   pub accepted : (outcome meaning bytes).verdict ≡ None
   pub grew : Appends holds_old holds_new (outcome meaning bytes).printed
@@ -68,7 +74,8 @@ IsVerdict meaning bytes printed (BadLine line why) = outcome meaning bytes ≡ r
 IsVerdict meaning bytes printed _ = Unit {0}
 
 -- A run over an input of these bytes read a front part of them, and stopped there.
-pub record RanUntil {Cause : Type 0} (meaning : Meaning Cause) (bytes : List ℕ) (left holds_old holds_new : Option (List ℕ)) (stop : Stop Cause) : Type 0 where
+pub record RanUntil {Cause : Type 0} (meaning : Meaning Cause) (bytes : List ℕ)
+    (left holds_old holds_new : Option (List ℕ)) (stop : Stop Cause) : Type 0 where
   pub read : List ℕ
   pub rest : List ℕ
   pub cut : bytes ≡ read ++ rest

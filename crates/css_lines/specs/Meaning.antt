@@ -1,5 +1,6 @@
 -- What becomes of lines: what is printed for them, and which of them is refused.
-use Rattle.std.specs.Prelude.{◌≡◌, ℕ, ◌+◌, ◌≤◌, ◌<◌, ◌||◌, Bool, nat_lt, if◌then◌else◌, List, [], ◌∷◌, ◌++◌, length, sum_by, Option, Some, None, Result, Ok, Err}
+use Rattle.std.specs.Prelude.{◌≡◌, ℕ, ◌+◌, ◌≤◌, ◌<◌, ◌||◌, Bool, nat_lt, if◌then◌else◌, List, []}
+use Rattle.std.specs.Prelude.{◌∷◌, ◌++◌, length, sum_by, Option, Some, None, Result, Ok, Err}
 use Rattle.css_lines.specs.declared.reader.Refusal.{Refusal}
 use Rattle.css_lines.specs.declared.reader.Refusal.TheVariants.{Long, Refused}
 use Rattle.css_lines.specs.Lines.{whole_lines, last_part}
@@ -43,7 +44,8 @@ offset before = sum_by (λ line. length line + 1) before
 
 -- the line has too many bytes, or the input has, up to the line's end
 abbrev pub is_long : {Cause : Type 0} → Meaning Cause → List (List ℕ) → List ℕ → ℕ → Bool
-is_long meaning before line end = nat_lt (meaning.longest_line before) (length line) || nat_lt (meaning.longest_input before) end
+is_long meaning before line end =
+    nat_lt (meaning.longest_line before) (length line) || nat_lt (meaning.longest_input before) end
 
 -- what a reader of lines answers, as an outcome of the line of that number
 abbrev pub reader_outcome : {Cause : Type 0} → ℕ → Result (List ℕ) Cause → Outcome Cause
@@ -53,13 +55,15 @@ reader_outcome number (Err cause) = refused_at [] number (Refused cause)
 -- what becomes of a line which ends after so many bytes of the input
 abbrev pub line_outcome : {Cause : Type 0} → Meaning Cause → List (List ℕ) → List ℕ → ℕ → Outcome Cause
 line_outcome meaning before line end =
-    if is_long meaning before line end then refused_at [] (length before + 1) Long else reader_outcome (length before + 1) (meaning.line before line)
+    if is_long meaning before line end then refused_at [] (length before + 1) Long
+    else reader_outcome (length before + 1) (meaning.line before line)
 
 -- what becomes of lines that have their line feeds, which stand in the lines that they end
 abbrev pub outcome_from : {Cause : Type 0} → Meaning Cause → List (List ℕ) → List (List ℕ) → Outcome Cause
 outcome_from meaning before [] = accepted []
 outcome_from meaning before (line ∷ lines) =
-    followed_by (line_outcome meaning before line (offset before + length line + 1)) (outcome_from meaning (before ++ line ∷ []) lines)
+    followed_by (line_outcome meaning before line (offset before + length line + 1))
+    (outcome_from meaning (before ++ line ∷ []) lines)
 
 -- what becomes of the end of the input
 abbrev pub finish_outcome : {Cause : Type 0} → Meaning Cause → List (List ℕ) → Outcome Cause
@@ -70,7 +74,8 @@ abbrev pub end_outcome : {Cause : Type 0} → Meaning Cause → List (List ℕ) 
 end_outcome meaning before [] = finish_outcome meaning before
 end_outcome meaning before (byte ∷ bytes) =
     let line = byte ∷ bytes in
-    followed_by (line_outcome meaning before line (offset before + length line)) (finish_outcome meaning (before ++ line ∷ []))
+    followed_by (line_outcome meaning before line (offset before + length line))
+    (finish_outcome meaning (before ++ line ∷ []))
 
 -- what becomes of the lines whose line feeds stand in these bytes
 unfoldable pub outcome_so_far : {Cause : Type 0} → Meaning Cause → List ℕ → Outcome Cause
@@ -78,7 +83,8 @@ outcome_so_far meaning read = outcome_from meaning [] (whole_lines read)
 
 -- what becomes of an input of these bytes
 unfoldable pub outcome : {Cause : Type 0} → Meaning Cause → List ℕ → Outcome Cause
-outcome meaning bytes = followed_by (outcome_from meaning [] (whole_lines bytes)) (end_outcome meaning (whole_lines bytes) (last_part bytes))
+outcome meaning bytes = followed_by (outcome_from meaning [] (whole_lines bytes))
+    (end_outcome meaning (whole_lines bytes) (last_part bytes))
 
 -- No line of these bytes is refused as yet: each whole one is accepted, and what stands after the last line feed is
 -- neither too long for a line nor beyond the longest input.

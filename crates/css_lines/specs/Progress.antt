@@ -1,5 +1,6 @@
 -- How far a run over lines has come, and how its parts stop it.
-use Rattle.std.specs.Prelude.{◌≡◌, ℕ, ◌≤◌, ◌<◌, false, List, [], ◌∷◌, ◌++◌, All, length, Option, Result, Ok, Err, MatchResult}
+use Rattle.std.specs.Prelude.{◌≡◌, ℕ, ◌≤◌, ◌<◌, false, List, [], ◌∷◌, ◌++◌, All}
+use Rattle.std.specs.Prelude.{length, Option, Result, Ok, Err, MatchResult}
 use Rattle.std.specs.Io.KnownBytes.{Appends}
 use Rattle.css_outside.specs.declared.fault.OutFault.{OutFault}
 use Rattle.css_outside.specs.declared.fault.OutFault.TheVariants as fault
@@ -11,7 +12,8 @@ use Rattle.css_lines.specs.declared.ending.Stop.{Stop}
 use Rattle.css_lines.specs.declared.ending.Stop.TheVariants.{BadLine, ReadFault, WriteFault, Memory}
 use Rattle.css_lines.specs.declared.pending.Pending.{Pending}
 use Rattle.css_lines.specs.Lines.{is_feed, lines_of, whole_lines, last_part}
-use Rattle.css_lines.specs.Meaning.{Meaning, Outcome, outcome, outcome_so_far, accepted, refused_at, followed_by, finish_outcome}
+use Rattle.css_lines.specs.Meaning.{Meaning, Outcome, outcome, outcome_so_far, accepted}
+use Rattle.css_lines.specs.Meaning.{refused_at, followed_by, finish_outcome}
 
 -- the stop that a reader's fault makes at the line of that number
 abbrev pub line_stop : {Cause : Type 0} → ℕ → LineFault Cause → Stop Cause
@@ -37,7 +39,8 @@ abbrev pub IsPlaced : {L : Type 0} → (L → List (List ℕ) → Type 0) → L 
 IsPlaced stands lines pending = (before : List (List ℕ)) × stands lines before × (pending.taken ≡ length before)
 
 -- Where these bytes were read: each line whose line feed was read is taken, and its output is in the sink.
-pub record Progress {L Cause : Type 0} (meaning : Meaning Cause) (stands : L → List (List ℕ) → Type 0) (start : Option (List ℕ)) (read : List ℕ) (lines : L) (pending : Pending) (holds : Option (List ℕ)) : Type 0 where
+pub record Progress {L Cause : Type 0} (meaning : Meaning Cause) (stands : L → List (List ℕ) → Type 0)
+    (start : Option (List ℕ)) (read : List ℕ) (lines : L) (pending : Pending) (holds : Option (List ℕ)) : Type 0 where
   pub stood : stands lines (whole_lines read)
   pub text : pending.text.items ≡ last_part read
   pub short : length (last_part read) ≤ meaning.longest_line (whole_lines read)
@@ -61,20 +64,23 @@ StopsAt meant number front Memory = IsPrefix front (printed_of meant)
 StopsAt meant number front _ = ⊥
 
 -- a line was taken and its output written, or it stopped there
-pub record TakesLine {T Cause : Type 0} (meant : Result (List ℕ) Cause) (number : ℕ) (old new : Option (List ℕ)) (result : Result T (Stop Cause)) : Type 0 where
+pub record TakesLine {T Cause : Type 0} (meant : Result (List ℕ) Cause) (number : ℕ) (old new : Option (List ℕ))
+    (result : Result T (Stop Cause)) : Type 0 where
   pub front : List ℕ
   pub grew : Appends old new front
   pub cases : MatchResult result (λ _. meant ≡ Ok front) (StopsAt meant number front)
 
 -- it stops so after these bytes, whatever follows
 abbrev pub StopsAfter : {Cause : Type 0} → Meaning Cause → List ℕ → List ℕ → Stop Cause → Type 0
-StopsAfter meaning read printed (BadLine line why) = (rest : List ℕ) → outcome meaning (read ++ rest) ≡ refused_at printed line why
+StopsAfter meaning read printed (BadLine line why) =
+    (rest : List ℕ) → outcome meaning (read ++ rest) ≡ refused_at printed line why
 StopsAfter meaning read printed WriteFault = IsPrefix printed (outcome_so_far meaning read).printed
 StopsAfter meaning read printed Memory = IsPrefix printed (outcome_so_far meaning read).printed
 StopsAfter meaning read printed ReadFault = ⊥
 
 -- The output of the lines before stays in the sink, and the run stops after these bytes.
-pub record Stopped {Cause : Type 0} (meaning : Meaning Cause) (start : Option (List ℕ)) (before read : List ℕ) (holds : Option (List ℕ)) (stop : Stop Cause) : Type 0 where
+pub record Stopped {Cause : Type 0} (meaning : Meaning Cause) (start : Option (List ℕ)) (before read : List ℕ)
+    (holds : Option (List ℕ)) (stop : Stop Cause) : Type 0 where
   pub printed : List ℕ
   pub grew : Appends start holds printed
   pub kept : IsPrefix (outcome_so_far meaning before).printed printed
@@ -84,11 +90,14 @@ pub record Stopped {Cause : Type 0} (meaning : Meaning Cause) (start : Option (L
 -- them, or it stopped in them.
 abbrev pub Advances : {L T Cause : Type 0} → Meaning Cause → (L → List (List ℕ) → Type 0) → List ℕ
     → L × Pending × Option (List ℕ) → L × Pending × Option (List ℕ) → Result T (Stop Cause) → Type 0
-Advances meaning stands bytes old new result = (start : Option (List ℕ)) (read : List ℕ) → Progress meaning stands start read old.0 old.1 old.2 →
-    MatchResult result (λ _. Progress meaning stands start (read ++ bytes) new.0 new.1 new.2) (Stopped meaning start read (read ++ bytes) new.2)
+Advances meaning stands bytes old new result =
+    (start : Option (List ℕ)) (read : List ℕ) → Progress meaning stands start read old.0 old.1 old.2 →
+    MatchResult result (λ _. Progress meaning stands start (read ++ bytes) new.0 new.1 new.2)
+    (Stopped meaning start read (read ++ bytes) new.2)
 
 -- The source ended after these bytes, and each line is taken.
-pub record AllTaken {L Cause : Type 0} (meaning : Meaning Cause) (stands : L → List (List ℕ) → Type 0) (start : Option (List ℕ)) (read : List ℕ) (lines : L) (pending : Pending) (holds : Option (List ℕ)) : Type 0 where
+pub record AllTaken {L Cause : Type 0} (meaning : Meaning Cause) (stands : L → List (List ℕ) → Type 0)
+    (start : Option (List ℕ)) (read : List ℕ) (lines : L) (pending : Pending) (holds : Option (List ℕ)) : Type 0 where
   pub stood : stands lines (lines_of read)
   pub taken : pending.taken ≡ length (lines_of read)
   pub printed : List ℕ
@@ -104,14 +113,16 @@ StopsWith whole printed Memory = IsPrefix printed whole.printed
 StopsWith whole printed ReadFault = ⊥
 
 -- The output of the lines before stays in the sink, and the run stops at the source's end.
-pub record StoppedAtEnd {Cause : Type 0} (meaning : Meaning Cause) (start : Option (List ℕ)) (read : List ℕ) (holds : Option (List ℕ)) (stop : Stop Cause) : Type 0 where
+pub record StoppedAtEnd {Cause : Type 0} (meaning : Meaning Cause) (start : Option (List ℕ)) (read : List ℕ)
+    (holds : Option (List ℕ)) (stop : Stop Cause) : Type 0 where
   pub printed : List ℕ
   pub grew : Appends start holds printed
   pub kept : IsPrefix (outcome_so_far meaning read).printed printed
   pub ends : StopsWith (outcome meaning read) printed stop
 
 -- All output was written, no line is refused, and the reader stands for all lines.
-pub record Finished {L Cause : Type 0} (meaning : Meaning Cause) (stands : L → List (List ℕ) → Type 0) (start : Option (List ℕ)) (read : List ℕ) (lines : L) (holds : Option (List ℕ)) : Type 0 where
+pub record Finished {L Cause : Type 0} (meaning : Meaning Cause) (stands : L → List (List ℕ) → Type 0)
+    (start : Option (List ℕ)) (read : List ℕ) (lines : L) (holds : Option (List ℕ)) : Type 0 where
   pub printed : List ℕ
   pub grew : Appends start holds printed
   pub all : outcome meaning read ≡ accepted printed

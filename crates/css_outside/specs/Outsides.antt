@@ -1,11 +1,13 @@
 -- What each call of an outside adds to its history, and what is counted.
-use Rattle.std.specs.Prelude.{◌≡◌, ℕ, ◌<◌, ◌≤◌, List, [], ◌∷◌, ◌++◌, take, Bool, true, false, IsTrue, Option, Some, None, Result, Ok, Err, MatchResult, ⊤}
+use Rattle.std.specs.Prelude.{◌≡◌, ℕ, ◌<◌, ◌≤◌, List, [], ◌∷◌, ◌++◌, take, Bool, true, false}
+use Rattle.std.specs.Prelude.{IsTrue, Option, Some, None, Result, Ok, Err, MatchResult, ⊤}
 use Rattle.std.specs.Option.{option_map}
 use Rattle.css_model.specs.declared.TheConstants.{LIMIT}
 use Rattle.css_model.specs.declared.Why.{Why}
 use Rattle.css_model.specs.declared.Kind.{Kind}
 use Rattle.css_model.specs.declared.Kind.TheVariants as kind
-use Rattle.css_model.specs.History.{Address, History, Slept, Clock, Dialling, Dialled, NotDialled, Accepted, NoneCame, Took, TookNone, Quiet, Heard, Closed, Wrote, Gone}
+use Rattle.css_model.specs.History.{Address, History, Slept, Clock, Dialling, Dialled, NotDialled, Accepted}
+use Rattle.css_model.specs.History.{NoneCame, Took, TookNone, Quiet, Heard, Closed, Wrote, Gone}
 use Rattle.css_outside.specs.Faults.{CountsCall}
 use Rattle.css_outside.specs.declared.calls.Clocked.{Clocked}
 use Rattle.css_outside.specs.declared.calls.Heard.{Heard as SessionHeard}
@@ -22,7 +24,8 @@ with_entries entries told = option_map (λ history. entries ++ history) told
 
 -- a call that is Ok adds its entries, and any other call adds none
 abbrev pub Tells : {T : Type 0} → Option History → Option History → Result T OutFault → (T → History) → Type 0
-Tells before now result entries = MatchResult result (λ answer. now ≡ with_entries (entries answer) before) (λ _. now ≡ before)
+Tells before now result entries =
+    MatchResult result (λ answer. now ≡ with_entries (entries answer) before) (λ _. now ≡ before)
 
 -- a dial that fails is told too
 abbrev pub TellsDial : Option History → Option History → Kind → Address → Result ℕ OutFault → Type 0
@@ -81,7 +84,8 @@ pub record IsNextReading (last : ℕ) (clocked : Clocked) : Type 0 where
 pub record CountsClock (before now : Counts) (result : Result Clocked OutFault) : Type 0 where
   pub faults : CountsCall before.faults now.faults result
   pub same : now ≡ record before { faults = now.faults; last = now.last }
-  pub reading : MatchResult result (λ clocked. IsNextReading before.last clocked × (now.last ≡ clocked.reading)) (λ _. now.last ≡ before.last)
+  pub reading : MatchResult result (λ clocked. IsNextReading before.last clocked × (now.last ≡ clocked.reading))
+      (λ _. now.last ≡ before.last)
 
 -- a dial: each peer has a number that no peer had before
 pub record CountsDial (before now : Counts) (result : Result ℕ OutFault) : Type 0 where

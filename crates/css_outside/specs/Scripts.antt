@@ -1,5 +1,8 @@
 -- What an outside in memory gives, and what it has told.
-use Rattle.std.specs.Prelude.{◌≡◌, ℕ, ◌≤◌, ◌<◌, IsTrue, ◌+◌, ◌&&◌, ◌||◌, ◌==◌, not, nat_le, nat_lt, List, [], ◌∷◌, ◌++◌, take, drop, length, fold, position, Bool, true, false, Option, Some, None, if◌then◌else◌, nat_eq, slice_get, remove, Result, Ok, Err, MatchResult, IsErr, IsErrOf, Contains, ◌↔◌}
+use Rattle.std.specs.Prelude.{◌≡◌, ℕ, ◌≤◌, ◌<◌, IsTrue, ◌+◌, ◌&&◌, ◌||◌, ◌==◌, not, nat_le, nat_lt}
+use Rattle.std.specs.Prelude.{List, [], ◌∷◌, ◌++◌, take, drop, length, fold, position, Bool, true}
+use Rattle.std.specs.Prelude.{false, Option, Some, None, if◌then◌else◌, nat_eq, slice_get, remove}
+use Rattle.std.specs.Prelude.{Result, Ok, Err, MatchResult, IsErr, IsErrOf, Contains, ◌↔◌}
 use Rattle.std.specs.List.{list_any}
 use Rattle.std.specs.Option.{option_and_then, option_map}
 use Rattle.css_model.specs.declared.Why.{Why}
@@ -66,7 +69,8 @@ telling entries state = record state { told = entries ++ state.told }
 -- ---- what is given
 -- a reading that may be told after the last one
 abbrev pub is_next : ℕ → Clocked → Bool
-is_next last clocked = nat_lt clocked.reading LIMIT && (nat_le last clocked.reading && (not clocked.slept || nat_lt last clocked.reading))
+is_next last clocked =
+    nat_lt clocked.reading LIMIT && (nat_le last clocked.reading && (not clocked.slept || nat_lt last clocked.reading))
 
 -- the readings may be told after the last one, in turn
 abbrev pub are_readings : ℕ → List Clocked → Bool
@@ -141,7 +145,8 @@ next_heard peer state = heard_at state.texts (next_place peer state.texts state.
 
 abbrev pub heard_once : ℕ → Scripted → Scripted
 heard_once peer state =
-    telling (heard_entries peer (next_heard peer state)) (record state { texts = without state.texts (next_place peer state.texts state.sessions) })
+    telling (heard_entries peer (next_heard peer state))
+    (record state { texts = without state.texts (next_place peer state.texts state.sessions) })
 
 -- ---- the beginning
 abbrev pub begun : OutsideScript → Scripted
@@ -161,7 +166,8 @@ begun script = record {
 }
 
 -- what is always true of the devices: they stand within their lists, and what they have still to give may be given
-pub record IsScripted (read taken opened last : ℕ) (readings : List Clocked) (datagrams : List (Option Datagram)) (openings : List (Option Kind)) : Type 0 where
+pub record IsScripted (read taken opened last : ℕ) (readings : List Clocked) (datagrams : List (Option Datagram))
+    (openings : List (Option Kind)) : Type 0 where
   pub read_within : read ≤ length readings
   pub taken_within : taken ≤ length datagrams
   pub opened_within : opened ≤ length openings
@@ -178,7 +184,10 @@ with_session kind.Ts peer sessions = sessions ++ peer ∷ []
 abbrev pub dialled : Kind → Address → Scripted → Scripted
 dialled kind to state =
     let peer = state.peers + 1 in
-    telling (Dialled kind peer ∷ Dialling kind to ∷ []) (record state { sessions = with_session kind peer state.sessions; peers = peer })
+    telling (Dialled kind peer ∷ Dialling kind to ∷ []) (record state {
+      sessions = with_session kind peer state.sessions;
+      peers = peer;
+    })
 
 -- the session that comes next, with the next peer's number
 abbrev pub next_opening : Scripted → Option (ℕ × Kind)
@@ -188,14 +197,18 @@ abbrev pub opened_as : Option Kind → Scripted → Scripted
 opened_as None state = telling (opening_entries None) state
 opened_as (Some kind) state =
     let peer = state.peers + 1 in
-    telling (opening_entries (Some (peer, kind))) (record state { sessions = state.sessions ++ peer ∷ []; peers = peer })
+    telling (opening_entries (Some (peer, kind))) (record state {
+      sessions = state.sessions ++ peer ∷ [];
+      peers = peer;
+    })
 
 abbrev pub opened_once : Scripted → Scripted
 opened_once state = opened_as (next_item state.openings) (record state { openings = drop 1 state.openings })
 
 -- what becomes of the next text that is sent
 abbrev pub next_wrote : Scripted → Outcome
-next_wrote state = if list_any (λ number. nat_eq number (next_count state.sends)) state.gone then outcome.Gone else outcome.Sent
+next_wrote state =
+    if list_any (λ number. nat_eq number (next_count state.sends)) state.gone then outcome.Gone else outcome.Sent
 
 abbrev pub wrote_once : ℕ → List ℕ → Scripted → Scripted
 wrote_once peer bytes state =
@@ -209,7 +222,12 @@ pub record FailingOutside : Type 0 where
 
 -- what is counted of it
 abbrev pub counts_of : FailingOutside → Counts
-counts_of state = record { dial_faults = state.dial_faults; faults = state.faults; last = state.devices.last; peers = state.devices.peers }
+counts_of state = record {
+  dial_faults = state.dial_faults;
+  faults = state.faults;
+  last = state.devices.last;
+  peers = state.devices.peers;
+}
 
 -- what is counted of an outside that never fails
 abbrev pub counts_at : Scripted → Counts

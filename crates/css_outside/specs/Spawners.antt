@@ -1,5 +1,6 @@
 -- What a spawner was asked, and how its children ended.
-use Rattle.std.specs.Prelude.{◌≡◌, ℕ, ◌+◌, ◌-◌, ℤ, pos, List, [], ◌∷◌, fold, Option, Result, MatchResult, ◌↔◌, IsErrOf, Contains}
+use Rattle.std.specs.Prelude.{◌≡◌, ℕ, ◌+◌, ◌-◌, ℤ, pos, List, [], ◌∷◌, fold, Option}
+use Rattle.std.specs.Prelude.{Result, MatchResult, ◌↔◌, IsErrOf, Contains}
 use Rattle.std.specs.Option.{option_map}
 use Rattle.css_outside.specs.Devices.{Failures, next_count}
 use Rattle.css_outside.specs.declared.fault.OutFault.{OutFault}
@@ -13,8 +14,10 @@ pub data Spawned : Type 0 where
   Finished : (status : ℤ) → Spawned
 
 -- a call that is Ok adds what it did, and any other call adds nothing
-abbrev pub TellsSpawned : {T : Type 0} → Option (List Spawned) → Option (List Spawned) → Result T OutFault → (T → Spawned) → Type 0
-TellsSpawned before now result did = MatchResult result (λ answer. now ≡ option_map (λ told. did answer ∷ told) before) (λ _. now ≡ before)
+abbrev pub TellsSpawned : {T : Type 0} → Option (List Spawned) → Option (List Spawned)
+    → Result T OutFault → (T → Spawned) → Type 0
+TellsSpawned before now result did =
+    MatchResult result (λ answer. now ≡ option_map (λ told. did answer ∷ told) before) (λ _. now ≡ before)
 
 -- ---- a spawner in memory
 -- how many children were started and haven't ended

@@ -6,4 +6,5 @@ use Rattle.css_cii.proofs.Utf8.{applied-utf8}
 use Rattle.css_cii.proofs.merging.apply.Goals as goal
 
 pub returns-clause-utf8 : goal.returns-clause-utf8
-returns-clause-utf8 c = IfOk-weaker c.properties_after.result _ _ (λ new is h k. subst IsUtf8State (sym is) (applied-utf8 c.args.state.now c.args.change.now h k)) c.properties_after.ensures
+returns-clause-utf8 c = IfOk-weaker c.properties_after.result _ _ (λ new is h k. subst IsUtf8State (sym is)
+    (applied-utf8 c.args.state.now c.args.change.now h k)) c.properties_after.ensures

@@ -9,17 +9,22 @@ use Rattle.css_cii.proofs.Utf8.{difference-utf8}
 use Rattle.css_cii.proofs.merging.diff.Goals as goal
 
 pub returns-clause-exact : goal.returns-clause-exact
-returns-clause-exact c = IfOk-weaker c.difference.result _ _ (λ change is. subst (TellsDifference c.args.old.now c.args.new.now) (sym is) (difference-exact c.args.old.now c.args.new.now)) c.difference.ensures
+returns-clause-exact c =
+    IfOk-weaker c.difference.result _ _ (λ change is. subst (TellsDifference c.args.old.now c.args.new.now) (sym is)
+    (difference-exact c.args.old.now c.args.new.now)) c.difference.ensures
 
 pub returns-clause-applied : goal.returns-clause-applied
-returns-clause-applied c = IfOk-weaker c.difference.result _ _ (λ change is. ap (applied c.args.old.now) is ∙ applied-difference c.args.old.now c.args.new.now) c.difference.ensures
+returns-clause-applied c = IfOk-weaker c.difference.result _ _ (λ change is. ap (applied c.args.old.now) is
+    ∙ applied-difference c.args.old.now c.args.new.now) c.difference.ensures
 
 pub returns-clause-utf8 : goal.returns-clause-utf8
-returns-clause-utf8 c = IfOk-weaker c.difference.result _ _ (λ change is h. subst IsUtf8Change (sym is) (difference-utf8 c.args.old.now c.args.new.now h)) c.difference.ensures
+returns-clause-utf8 c = IfOk-weaker c.difference.result _ _
+    (λ change is h. subst IsUtf8Change (sym is) (difference-utf8 c.args.old.now c.args.new.now h)) c.difference.ensures
 
 pub returns-clause-empty : goal.returns-clause-empty
 returns-clause-empty c = IfOk-weaker c.difference.result _ _
     (λ change is.
     let P : Bool → Type 0 = λ same. Decides same (c.args.old.now ≡ c.args.new.now) in
-    subst P (sym (ap is_empty is ∙ empty_difference c.args.old.now c.args.new.now)) (is_same_state-Decides c.args.old.now c.args.new.now))
+    subst P (sym (ap is_empty is ∙ empty_difference c.args.old.now c.args.new.now))
+    (is_same_state-Decides c.args.old.now c.args.new.now))
     c.difference.ensures

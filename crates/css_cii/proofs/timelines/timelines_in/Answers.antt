@@ -11,6 +11,8 @@ loop-value-preserved c =
     let told : Some c.in-Some.timeline ≡ timeline_of (view c.value-item.result) = search rules in
     let entries = sym c.deref-value-items.ensures.value in
     let lt : c.loop-value.value-index < length c.args.values.now.items = rw entries c.loop-value-test.true in
-    let is : c.value-item.result ≡ get_or c.args.values.now.items c.loop-value.value-index c.value-item.result = rw entries c.value-item.is in
+    let is : c.value-item.result ≡ get_or c.args.values.now.items c.loop-value.value-index c.value-item.result =
+    rw entries c.value-item.is in
     let utf8 : IsUtf8 c.in-Some.timeline.selector = search rules in
-    rw (c.in_ok-push.ensures.items) (one_found c.args.values.now.items c.loop-value.found.items c.loop-value.value-index c.value-item.result c.in-Some.timeline lt is told utf8 c.loop-value.invariant)
+    rw (c.in_ok-push.ensures.items) (one_found c.args.values.now.items c.loop-value.found.items
+    c.loop-value.value-index c.value-item.result c.in-Some.timeline lt is told utf8 c.loop-value.invariant)

@@ -12,19 +12,23 @@ use Rattle.css_cii.proofs.writing.write_message.Goals as goal
 
 pub write_value-requires-clause-plain : goal.write_value-requires-clause-plain
 write_value-requires-clause-plain c =
-    subst IsPlain (sym (view-Object c.in_ok-map.map ∙ ap object c.in_ok-map.ensures.members)) (plain_change c.args.change.now c.in_ok-map.ensures.in_range)
+    subst IsPlain (sym (view-Object c.in_ok-map.map ∙ ap object c.in_ok-map.ensures.members))
+    (plain_change c.args.change.now c.in_ok-map.ensures.in_range)
 
 pub write_value-requires-clause-shallow : goal.write_value-requires-clause-shallow
 write_value-requires-clause-shallow c =
     let P : Data → Type 0 = λ value. depth value ≤ max_depth in
-    subst P (sym (view-Object c.in_ok-map.map ∙ ap object c.in_ok-map.ensures.members)) (shallow_change c.args.change.now)
+    subst P (sym (view-Object c.in_ok-map.map ∙ ap object c.in_ok-map.ensures.members))
+    (shallow_change c.args.change.now)
 
 pub returns-clause-text : goal.returns-clause-text
 returns-clause-text c = IfOk-weaker c.write_value.result _ _
-    (λ text is. is ∙ ap compact_text (view-Object c.in_ok-map.map ∙ ap object c.in_ok-map.ensures.members) ∙ text_is c.args.change.now)
+    (λ text is. is ∙ ap compact_text (view-Object c.in_ok-map.map ∙ ap object c.in_ok-map.ensures.members)
+    ∙ text_is c.args.change.now)
     c.write_value.ensures.text
 
 pub returns-clause-read_back : goal.returns-clause-read_back
 returns-clause-read_back c = IfOk-weaker c.write_value.result _ _
-    (λ text told. message_back c.args.change.now text c.in_ok-map.ensures.in_range (told ∙ ap (λ value. members_or_fault (Ok value)) (view-Object c.in_ok-map.map ∙ ap object c.in_ok-map.ensures.members)))
+    (λ text told. message_back c.args.change.now text c.in_ok-map.ensures.in_range (told ∙ ap (λ value.
+    members_or_fault (Ok value)) (view-Object c.in_ok-map.map ∙ ap object c.in_ok-map.ensures.members)))
     c.write_value.ensures.read_back

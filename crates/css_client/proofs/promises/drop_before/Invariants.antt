@@ -6,7 +6,8 @@ use Rattle.std.specs.BTreeMap.{btree_map_len}
 use Rattle.css_client.proofs.promises.drop_before.Given as goal
 
 abbrev pub invariant-loop-landings : goal.invariant-loop-landings
-invariant-loop-landings l = filter (λ e. not (nat_lt e.0.asked l.oldest)) l.landings.entries ≡ filter (λ e. not (nat_lt e.0.asked l.oldest)) l.initial.landings.entries
+invariant-loop-landings l = filter (λ e. not (nat_lt e.0.asked l.oldest)) l.landings.entries
+    ≡ filter (λ e. not (nat_lt e.0.asked l.oldest)) l.initial.landings.entries
 
 -- each turn leaves one out
 abbrev pub decreases-loop-landings : goal.decreases-loop-landings

@@ -9,7 +9,8 @@ invariant-lines g l =
     let holds = g.K.Sink.holds in
     record {
       progress : (fed : List ℕ) × (l.bytes ≡ fed ++ l.rest)
-          × ((start : Option (List ℕ)) (read : List ℕ) → Progress meaning stands start read l.fn.lines l.fn.pending (holds l.fn.sink)
+          × ((start : Option (List ℕ)) (read : List ℕ)
+          → Progress meaning stands start read l.fn.lines l.fn.pending (holds l.fn.sink)
           → Progress meaning stands start (read ++ fed) l.lines l.pending (holds l.sink));
       placed : IsPlaced stands l.lines l.pending;
       count : l.pending.count + length l.rest ≡ l.fn.pending.count + length l.bytes;

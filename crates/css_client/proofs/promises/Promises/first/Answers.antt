@@ -13,5 +13,6 @@ returns-clause-value c =
 
 pub returns-clause-range : goal.returns-clause-range
 returns-clause-range c =
-    subst (λ (o : Option ℕ). IfSome o (λ landed. landed < 2 ^ 32 * second)) (sym (c.copied.ensures ∙ c.get.ensures.value))
+    subst (λ (o : Option ℕ). IfSome o (λ landed. landed < 2 ^ 32 * second))
+    (sym (c.copied.ensures ∙ c.get.ensures.value))
     (found-all (λ landed. landed < 2 ^ 32 * second) _ c.self.inside.landings.entries c.self.invariant)

@@ -11,7 +11,8 @@ use Rattle.css_client.proofs.promises.Promises.forget_before.Goals as goal
 pub invariant_of-self : goal.invariant_of-self
 invariant_of-self c =
     subst (λ (es : List (Exchange × ℕ)). All (λ e. e.1 < 2 ^ 32 * second) es) (sym c.drop_before.ensures)
-    (all-filter (λ e. e.1 < 2 ^ 32 * second) (λ e. not (nat_lt e.0.asked c.args.oldest)) c.self.inside.landings.entries c.self.invariant)
+    (all-filter (λ e. e.1 < 2 ^ 32 * second)
+    (λ e. not (nat_lt e.0.asked c.args.oldest)) c.self.inside.landings.entries c.self.invariant)
 
 pub returns : goal.returns
 returns c =

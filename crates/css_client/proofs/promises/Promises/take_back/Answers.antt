@@ -13,5 +13,6 @@ invariant_of-self c =
 
 pub returns : goal.returns
 returns c =
-    without-at c.exchange_of.result c.args.originate c.args.receive c.self.inside.landings.entries c.remove.new.self.entries c.args.self.now
+    without-at c.exchange_of.result c.args.originate c.args.receive c.self.inside.landings.entries
+    c.remove.new.self.entries c.args.self.now
     c.exchange_of.ensures.asked c.exchange_of.ensures.received c.remove.ensures.entries c.self.view_is
