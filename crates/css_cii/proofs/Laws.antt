@@ -48,8 +48,8 @@ all_more [] l d found h g = tt
 all_more (k ∷ ks) l d found h g =
     (one_more (json_name k) (json_name l) d found h.0 g.0, all_more ks l d found h.1 g.1)
 
--- Members stay in order with one more property before the rest, whether it is said or not. The names `ks` are those that
--- may still come.
+-- Members stay in order with one more property before the rest, whether it is said or not. The names `ks` are those
+-- that may still come.
 then : {T : Type 0} (written : T → Data) (p : CiiName) (told : Told T) (rest : Members)
     (ks : List CiiName) (found : Members)
     → ((value : T) → IsOrdered (written value)) → AllGreater p ks → AllAfter (p ∷ ks) found

@@ -60,7 +60,8 @@ abbrev pub and_then : {T U : Type 0} → Result T CiiFault → (T → Result U C
 and_then (Err fault) go_on = Err fault
 and_then (Ok value) go_on = go_on value
 
--- what the members say of the nine properties, or the fault of the first that has another form; other members are passed over
+-- what the members say of the nine properties, or the fault of the first that has another form; other members are
+-- passed over
 unfoldable pub change_in : Members → Result Change CiiFault
 change_in members =
     and_then (words_in name.ProtocolVersion members) (λ protocol_version.

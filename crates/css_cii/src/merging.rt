@@ -109,7 +109,8 @@ fn set_properties(state: &mut State, change: Change)
 /// with its value in the state that it tells.
 pub fn merge(changes: &[Change]) -> Result<State, Memory>
     ensures value { IfOk result (λ last. last ≡ states.merged changes.now) }
-    ensures session { IfOk result (λ last. (told : List state) → states.IsSession told changes.now → last ≡ states.last_state told) }
+    ensures session { IfOk result
+        (λ last. (told : List state) → states.IsSession told changes.now → last ≡ states.last_state told) }
     ensures utf8 { IfOk result (λ last. AreUtf8Changes changes.now → IsUtf8State last) }
 {
     let mut state = State::empty();

@@ -17,7 +17,8 @@ use std::alloc::Global;
 
 /// What an object says of a property that is a text.
 fn words_in(alloc: Global, map: &Map, property: CiiName) -> Result<Told<Text>, CiiFault>
-    ensures value { GivesBy (λ told. told) faults.Memory result (messages.words_in property (members_view map.now.entries)) }
+    ensures value { GivesBy
+        (λ told. told) faults.Memory result (messages.words_in property (members_view map.now.entries)) }
     ensures utf8 { IfOk result (texts.EachOf IsUtf8) }
 {
     match field_of(alloc, map, property.as_str())? {
@@ -64,7 +65,8 @@ fn timelines_told(alloc: Global, map: &Map) -> Result<Told<Timelines>, CiiFault>
 /// What an object says of the nine properties.
 #[tactic(auto, unfolding(crate::specs::Messages::change_in))]
 fn change_in(alloc: Global, map: &Map) -> Result<Change, CiiFault>
-    ensures value { GivesBy (λ change. change) faults.Memory result (messages.change_in (members_view map.now.entries)) }
+    ensures value { GivesBy
+        (λ change. change) faults.Memory result (messages.change_in (members_view map.now.entries)) }
     ensures utf8 { IfOk result texts.IsUtf8Change }
 {
     Ok(Change {

@@ -8,8 +8,8 @@ use css_num::{Rate, Text, Timeline, Timelines};
 use std::alloc::Global;
 use std::test::Fail;
 
-/// One text a line, behind what comes of it: `json` and `object` for the faults of these names, the name of the property
-/// that has another form, or the text of what it says.
+/// One text a line, behind what comes of it: `json` and `object` for the faults of these names, the name of the
+/// property that has another form, or the text of what it says.
 const TEXTS: &str = r#"{"protocolVersion":null} <- {"protocolVersion":null}
 {"protocolVersion":"a"} <-  { "protocolVersion" : "a" } 
 {"protocolVersion":""} <- {"protocolVersion":""}

@@ -89,7 +89,8 @@ fn tell_words(
     told: &Told<Text>,
 ) -> Result<(), Memory>
     requires { texts.EachOf IsUtf8 told.now }
-    ensures { OnOk result (members_view members.new.entries ≡ texts.with_told string property told.now (members_view members.old.entries)) }
+    ensures { OnOk result (members_view members.new.entries
+        ≡ texts.with_told string property told.now (members_view members.old.entries)) }
 {
     match told {
         Told::Unsaid => Ok(()),
@@ -104,7 +105,8 @@ fn tell_words(
 /// Adds the timelines, where they are said.
 fn tell_timelines(alloc: Global, members: &mut Map, told: &Told<Timelines>) -> Result<(), Memory>
     requires { texts.EachOf texts.SelectorsAreUtf8 told.now }
-    ensures members { OnOk result (members_view members.new.entries ≡ texts.with_told texts.timelines_data names.Timelines told.now (members_view members.old.entries)) }
+    ensures members { OnOk result (members_view members.new.entries
+        ≡ texts.with_told texts.timelines_data names.Timelines told.now (members_view members.old.entries)) }
     ensures in_range { OnOk result (texts.EachOf texts.RatesAreInRange told.now) }
 {
     match told {

@@ -116,7 +116,8 @@ pub record Adds (promise : Promise) (old new : List Promise) : Type 0 where
   pub only : (asked : List ℕ) → IsTrue (is_among promise.originate asked) → RemembersOnly asked old
       → RemembersOnly asked new
 
--- What is remembered after an answer landed: a response that promises a follow-up is, if it is the first with its values.
+-- What is remembered after an answer landed: a response that promises a follow-up is, if it is the first with its
+-- values.
 abbrev pub Remembers : ℕ → Message → List Promise → List Promise → Type 0
 Remembers reading message old new =
     (message.message_type ≡ 2

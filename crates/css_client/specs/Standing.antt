@@ -22,16 +22,16 @@ use Rattle.css_client.specs.declared.landing.Landing.TheVariants as landings
 abbrev pub IsCurrent : ℕ → Stamp → History → Type 0
 IsCurrent floor originate history = IsTrue (is_asked originate history) ⊎ (floor ≤ reading_of originate)
 
--- The floors are above what the clock was read for requests: no such reading is above the floor, each is below the least
--- one after a sleep, and one from before the last sleep is below the floor.
+-- The floors are above what the clock was read for requests: no such reading is above the floor, each is below the
+-- least one after a sleep, and one from before the last sleep is below the floor.
 abbrev pub IsBelow : Client → ℕ → Entry → History → Type 0
 IsBelow client slept entry older = IfSome (asking_at entry) (λ asked.
     (asked < client.after_sleep) × (sleeps older < slept → asked < client.floor))
 
 -- The client stands for a history: this is lawful; its last requests are those that the client knows; the reading at
--- which the first promise of a follow-up landed is known for each request that is still asked, and nothing is remembered
--- of any other; the readings of its requests never fall, up to the floor; the estimate stands for the accepted answers;
--- and the floors are above the readings for requests.
+-- which the first promise of a follow-up landed is known for each request that is still asked, and nothing is
+-- remembered of any other; the readings of its requests never fall, up to the floor; the estimate stands for the
+-- accepted answers; and the floors are above the readings for requests.
 pub record StandsFor (client : Client) (history : History) : Type 0 where
   pub lawful : IsLawful history
   pub asked : asked_originates history ≡ map stamp_of client.asked
@@ -70,8 +70,8 @@ ContainsTheWall client reading span =
     → Explains world who errors.tv (local_of client) (Clock why.Turn reading ∷ history) moment_of
     → SpanHolds span (world (moment_of (length history))).wall
 
--- In each world that keeps the errors and in which the history can happen, a truthful answer that lands is accepted: for
--- every history that the client stands for.
+-- In each world that keeps the errors and in which the history can happen, a truthful answer that lands is accepted:
+-- for every history that the client stands for.
 abbrev pub AcceptsTheTruth : Client → ℕ → List ℕ → Result Landing Memory → Type 0
 AcceptsTheTruth client reading bytes result =
     (history : History) (peer : ℕ) (errors : Errors) (world : World) (who : ℕ)

@@ -31,10 +31,10 @@ const NO_TIME: Stamp = Stamp {
 /// none may be below an earlier one that changed the client. The clock stands still while the companion sleeps, so a
 /// sleep ends all that the client knows.
 ///
-/// It remembers when the first response with each pair of originate and receive values landed that promised a follow-up,
-/// for the requests to which an answer may still come: a response is forgotten with its request. A landing looks it up in
-/// an ordered map, so it costs a logarithm of their number. Nothing else grows without bound, and this only by a flood of
-/// such responses to one request, with ever new receive values.
+/// It remembers when the first response with each pair of originate and receive values landed that promised a
+/// follow-up, for the requests to which an answer may still come: a response is forgotten with its request. A landing
+/// looks it up in an ordered map, so it costs a logarithm of their number. Nothing else grows without bound, and this
+/// only by a flood of such responses to one request, with ever new receive values.
 #[derive(Drop)]
 pub struct Client {
     asked: Asked,
@@ -52,15 +52,33 @@ impl Model for Client {
 
     ghost Value = { Known };
 
-    ghost view = { λ c. record { asked = c.asked; promises = c.promises; estimate = c.estimate; floor = c.floor; after_sleep = c.after_sleep } };
+    ghost view = { λ c. record {
+      asked = c.asked;
+      promises = c.promises;
+      estimate = c.estimate;
+      floor = c.floor;
+      after_sleep = c.after_sleep;
+    } };
 
-    ghost invariant = { λ c. (c.local ≡ c.estimate.local) × IsClient (record { asked = c.asked; promises = c.promises; estimate = c.estimate; floor = c.floor; after_sleep = c.after_sleep }) };
+    ghost invariant = { λ c. (c.local ≡ c.estimate.local) × IsClient (record {
+      asked = c.asked;
+      promises = c.promises;
+      estimate = c.estimate;
+      floor = c.floor;
+      after_sleep = c.after_sleep;
+    }) };
 }
 
 impl Client {
     /// The client of a companion with this clock, which has asked nothing yet.
     pub fn new(alloc: Global, local: Local) -> Result<Client, Memory>
-        ensures value { IfOk result (λ client. client ≡ record { asked = []; promises = []; estimate = record { local = local; kept = []; floor = 0 }; floor = 0; after_sleep = 0 }) }
+        ensures value { IfOk result (λ client. client ≡ record {
+          asked = [];
+          promises = [];
+          estimate = record { local = local; kept = []; floor = 0 };
+          floor = 0;
+          after_sleep = 0;
+        }) }
         ensures stands { IfOk result (λ client. StandsFor client []) }
     {
         let asked = Asked::new(alloc)?;
@@ -75,13 +93,14 @@ impl Client {
         })
     }
 
-    /// The request to send, where the clock reads so now. An answer to it may come from then on, and none any more to the
-    /// request before the last 64.
+    /// The request to send, where the clock reads so now. An answer to it may come from then on, and none any more to
+    /// the request before the last 64.
     pub fn ask(&mut self, reading: u64) -> [u8; 32]
         requires range { reading < LIMIT }
         requires floor { self.old.floor ≤ reading }
         ensures request { result ≡ encoded (request_at reading) }
-        ensures stands { (history : History) (peer : ℕ) → StandsFor self.old history → StandsFor self.new (Sent peer result ∷ Clock why.Ask reading ∷ history) }
+        ensures stands { (history : History) (peer : ℕ) → StandsFor self.old history
+            → StandsFor self.new (Sent peer result ∷ Clock why.Ask reading ∷ history) }
         ensures estimate { self.new.estimate ≡ self.old.estimate }
         ensures floors { (self.new.floor ≡ reading) × (self.new.after_sleep ≡ reading + 1) }
     {
@@ -93,16 +112,18 @@ impl Client {
 
     /// Takes in a datagram that landed when the clock read so.
     ///
-    /// The refusals are tested in this order: `Undecodable`; `NotAnAnswer`, of a request; `Unasked`, where the originate
-    /// value is that of none of the last 64 requests since the last sleep; `Impossible`, where the width of the answer's
-    /// span is below zero at its landing. A follow-up counts from the landing of the first response with its originate
-    /// and receive values, if one landed, also where that was impossible. After the first three refusals, and after want
-    /// of memory, the client is as before.
+    /// The refusals are tested in this order: `Undecodable`; `NotAnAnswer`, of a request; `Unasked`, where the
+    /// originate value is that of none of the last 64 requests since the last sleep; `Impossible`, where the width of
+    /// the answer's span is below zero at its landing. A follow-up counts from the landing of the first response with
+    /// its originate and receive values, if one landed, also where that was impossible. After the first three refusals,
+    /// and after want of memory, the client is as before.
     pub fn land(&mut self, bytes: &[u8], reading: u64) -> Result<Landing, Memory>
         requires range { reading < LIMIT }
         requires floor { self.old.floor ≤ reading }
-        ensures landing { (history : History) → StandsFor self.old history → IfOk result (λ landing. landing ≡ landing_of (local_of self.old) history reading bytes.now) }
-        ensures stands { (history : History) (peer : ℕ) → StandsFor self.old history → OnOk result (StandsFor self.new (Clock why.Land reading ∷ Took peer bytes.now ∷ history)) }
+        ensures landing { (history : History) → StandsFor self.old history
+            → IfOk result (λ landing. landing ≡ landing_of (local_of self.old) history reading bytes.now) }
+        ensures stands { (history : History) (peer : ℕ) → StandsFor self.old history
+            → OnOk result (StandsFor self.new (Clock why.Land reading ∷ Took peer bytes.now ∷ history)) }
         ensures truth { AcceptsTheTruth self.old reading bytes.now result }
         ensures refused { IfOk result (λ landing. IsRefusal landing → self.new ≡ self.old) }
         ensures local { local_of self.new ≡ local_of self.old }
@@ -132,7 +153,8 @@ impl Client {
     pub fn wall(&self, reading: u64) -> Option<Span>
         requires range { reading < LIMIT }
         requires floor { self.now.floor ≤ reading }
-        ensures span { (history : History) → StandsFor self.now history → result ≡ wall_span (local_of self.now) reading (accepted_answers (local_of self.now) history) }
+        ensures span { (history : History) → StandsFor self.now history
+            → result ≡ wall_span (local_of self.now) reading (accepted_answers (local_of self.now) history) }
         ensures holds { ContainsTheWall self.now reading result }
         ensures near { IfSome result IsNear }
     {
@@ -142,14 +164,21 @@ impl Client {
     /// How many answers are kept: one of each declared error among those that were accepted since the last sleep.
     pub fn kept(&self) -> usize
         ensures count { result ≡ length self.now.estimate.kept }
-        ensures errors { (history : History) → StandsFor self.now history → result ≡ error_count (accepted_answers (local_of self.now) history) }
+        ensures errors { (history : History) → StandsFor self.now history
+            → result ≡ error_count (accepted_answers (local_of self.now) history) }
     {
         self.estimate.kept()
     }
 
     /// The companion slept: forgets all requests and answers. Each later reading is above those that were asked at.
     pub fn slept(&mut self)
-        ensures value { self.new ≡ record { asked = []; promises = []; estimate = record { local = local_of self.old; kept = []; floor = 0 }; floor = max self.old.floor self.old.after_sleep; after_sleep = self.old.after_sleep } }
+        ensures value { self.new ≡ record {
+          asked = [];
+          promises = [];
+          estimate = record { local = local_of self.old; kept = []; floor = 0 };
+          floor = max self.old.floor self.old.after_sleep;
+          after_sleep = self.old.after_sleep;
+        } }
         ensures stands { (history : History) → StandsFor self.old history → StandsFor self.new (Slept ∷ history) }
         ensures floor { self.new.floor ≤ self.old.floor + 1 }
     {

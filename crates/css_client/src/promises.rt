@@ -1,4 +1,5 @@
-ghost use Rattle.std.specs.Prelude.{◌≡◌, ◌≤◌, ◌<◌, [], ◌∷◌, not, nat_lt, false, true, is_some, if◌then◌else◌, OnErr, IfOk, IfSome, All};
+ghost use Rattle.std.specs.Prelude.{◌≡◌, ◌≤◌, ◌<◌, [], ◌∷◌, not, nat_lt, false, true};
+ghost use Rattle.std.specs.Prelude.{is_some, if◌then◌else◌, OnErr, IfOk, IfSome, All};
 ghost use Rattle.std.specs.List.{filter};
 ghost use Rattle.std.specs.BTreeMap.{get, keys, btree_map_len, insert_entry, IsOrdered};
 ghost use Rattle.css_model.specs.Wire as wire;
@@ -35,8 +36,8 @@ pub(crate) struct Exchange {
 /// When the first response of each exchange landed, of those that promised follow-ups. Contracts see a list of them, in
 /// the order of the requests.
 ///
-/// Only a flood of such responses, to one request and with ever new receive values, makes it grow: of each pair of values
-/// one is kept, and none of a request to which no answer may come any more.
+/// Only a flood of such responses, to one request and with ever new receive values, makes it grow: of each pair of
+/// values one is kept, and none of a request to which no answer may come any more.
 #[derive(Drop)]
 pub(crate) struct Promises {
     landings: BTreeMap<Exchange, u64>,
@@ -80,7 +81,8 @@ impl Promises {
         requires receive { promise.receive.nanoseconds < wire.second }
         requires landed { promise.landed < LIMIT }
         ensures ok { IfOk result (λ is_new. Adds promise self.old self.new) }
-        ensures undone { IfOk result (λ is_new. self.old ≡ (if is_new then without_promise promise.originate promise.receive self.new else self.new)) }
+        ensures undone { IfOk result (λ is_new. self.old
+            ≡ (if is_new then without_promise promise.originate promise.receive self.new else self.new)) }
         ensures err { OnErr result (self.new ≡ self.old) }
     {
         let exchange = exchange_of(promise.originate, promise.receive);
@@ -117,7 +119,8 @@ fn insert_first(
     landed: u64,
 ) -> Result<bool, Memory>
     ensures new { IfOk result (λ is_new. is_new ≡ not (is_some (get exchange_cmp landings.old exchange))) }
-    ensures ok { IfOk result (λ is_new. landings.new.entries ≡ (if is_new then insert_entry exchange_cmp landings.old.entries exchange landed else landings.old.entries)) }
+    ensures ok { IfOk result (λ is_new. landings.new.entries
+        ≡ (if is_new then insert_entry exchange_cmp landings.old.entries exchange landed else landings.old.entries)) }
     ensures ordered { IsOrdered exchange_cmp landings.new }
     ensures err { OnErr result (landings.new.entries ≡ landings.old.entries) }
 {
@@ -154,7 +157,8 @@ fn drop_before(landings: &mut BTreeMap<Exchange, u64>, oldest: u64)
 /// Whether the first exchange has a request from before a reading.
 fn starts_before(landings: &BTreeMap<Exchange, u64>, oldest: u64) -> bool
     ensures some { result ≡ true → 0 < btree_map_len landings.now }
-    ensures first { (first : _) (others : _) → result ≡ true → landings.now.entries ≡ first ∷ others → first.0.asked < oldest }
+    ensures first { (first : _) (others : _) → result ≡ true → landings.now.entries ≡ first ∷ others
+        → first.0.asked < oldest }
     ensures none { result ≡ false → All (λ exchange. oldest ≤ exchange.asked) (keys landings.now) }
 {
     match landings.first_key_value() {

@@ -2,7 +2,8 @@ ghost use Rattle.std.specs.Prelude.{◌≡◌, ◌≢◌, ◌≤◌, ◌<◌, �
 ghost use Rattle.css_model.specs.Wire.{second};
 ghost use Rattle.css_wc.specs.Datagrams.{HasNoFault};
 ghost use Rattle.css_span.specs.Frontiers.{Accepts};
-ghost use Rattle.css_client.specs.Clients.{NeverFall, RemembersAll, RemembersOnly, Remembers, first_landed, without_promise, answer_of};
+ghost use Rattle.css_client.specs.Clients.{NeverFall, RemembersAll, RemembersOnly, Remembers};
+ghost use Rattle.css_client.specs.Clients.{first_landed, without_promise, answer_of};
 ghost use Rattle.css_client.specs.Landings.{verdict};
 ghost use Rattle.css_client.specs.declared.landing.Landing.TheVariants as landings;
 
@@ -19,7 +20,8 @@ use css_wc::{precision_ns, reading as reading_of};
 pub(crate) fn note_request(asked: &mut Asked, promises: &mut Promises, request: u64)
     ensures asked { asked.new ≡ take 64 (request ∷ asked.old) }
     ensures all { NeverFall (request ∷ asked.old) → RemembersAll request asked.new promises.old promises.new }
-    ensures only { NeverFall (request ∷ asked.old) → RemembersOnly asked.old promises.old → RemembersOnly asked.new promises.new }
+    ensures only { NeverFall (request ∷ asked.old) → RemembersOnly asked.old promises.old
+        → RemembersOnly asked.new promises.new }
 {
     asked.note(request);
     if let Some(oldest) = asked.oldest() {
@@ -39,9 +41,11 @@ pub(crate) fn take_in(
     requires originate { message.now.originate.nanoseconds < second }
     requires range { reading < LIMIT }
     requires floor { estimate.old.floor ≤ reading }
-    ensures landing { IfOk result (λ landing. landing ≡ verdict estimate.old.local reading (answer_of promises.old reading message.now)) }
+    ensures landing { IfOk result
+        (λ landing. landing ≡ verdict estimate.old.local reading (answer_of promises.old reading message.now)) }
     ensures promises { OnOk result (Remembers reading message.now promises.old promises.new) }
-    ensures accepted { IfOk result (λ landing. landing ≡ landings.Accepted → Accepts estimate.old estimate.new (answer_of promises.old reading message.now) reading) }
+    ensures accepted { IfOk result (λ landing. landing ≡ landings.Accepted
+        → Accepts estimate.old estimate.new (answer_of promises.old reading message.now) reading) }
     ensures refused { IfOk result (λ landing. landing ≢ landings.Accepted → estimate.new ≡ estimate.old) }
     ensures err { OnErr result ((promises.new ≡ promises.old) × (estimate.new ≡ estimate.old)) }
 {
@@ -65,7 +69,8 @@ fn remember(promises: &mut Promises, message: &Message, reading: u64) -> Result<
     requires originate { message.now.originate.nanoseconds < second }
     requires range { reading < LIMIT }
     ensures ok { OnOk result (Remembers reading message.now promises.old promises.new) }
-    ensures undone { IfOk result (λ is_new. promises.old ≡ (if is_new then without_promise message.now.originate message.now.receive promises.new else promises.new)) }
+    ensures undone { IfOk result (λ is_new. promises.old
+        ≡ (if is_new then without_promise message.now.originate message.now.receive promises.new else promises.new)) }
     ensures err { OnErr result (promises.new ≡ promises.old) }
 {
     if message.message_type == 2 {
@@ -101,7 +106,8 @@ fn landing_of(promises: &Promises, message: &Message, reading: u64) -> u64
     requires valid { HasNoFault message.now }
     requires originate { message.now.originate.nanoseconds < second }
     requires range { reading < LIMIT }
-    ensures value { result ≡ (if message.now.message_type == 3 then unwrap_or (first_landed message.now.originate message.now.receive promises.now) reading else reading) }
+    ensures value { result ≡ (if message.now.message_type == 3
+        then unwrap_or (first_landed message.now.originate message.now.receive promises.now) reading else reading) }
     ensures range { result < LIMIT }
 {
     if message.message_type == 3 {

@@ -39,7 +39,8 @@ MayStop meaning read left printed ReadFault = IsSound meaning read × (printed �
 MayStop meaning read left printed WriteFault = IsCutOff meaning read left printed × StopsInPiece meaning read printed
 MayStop meaning read left printed Memory = IsCutOff meaning read left printed × StopsInPiece meaning read printed
 
--- The source was read to its end, each line was accepted, its whole output was printed, and the reader stands for all lines.
+-- The source was read to its end, each line was accepted, its whole output was printed, and the reader stands for all
+-- lines.
 pub record Finishes {L Cause : Type 0} (meaning : Meaning Cause) (stands : L → List (List ℕ) → Type 0)
     (left_old left_new holds_old holds_new : Option (List ℕ)) (lines : L) : Type 0 where
   pub read : List ℕ

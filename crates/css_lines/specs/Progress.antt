@@ -86,8 +86,8 @@ pub record Stopped {Cause : Type 0} (meaning : Meaning Cause) (start : Option (L
   pub kept : IsPrefix (outcome_so_far meaning before).printed printed
   pub ends : StopsAfter meaning read printed stop
 
--- Where a run has a reader, a pending line and a sink at one point, and at a later one, it has taken these bytes between
--- them, or it stopped in them.
+-- Where a run has a reader, a pending line and a sink at one point, and at a later one, it has taken these bytes
+-- between them, or it stopped in them.
 abbrev pub Advances : {L T Cause : Type 0} → Meaning Cause → (L → List (List ℕ) → Type 0) → List ℕ
     → L × Pending × Option (List ℕ) → L × Pending × Option (List ℕ) → Result T (Stop Cause) → Type 0
 Advances meaning stands bytes old new result =

@@ -50,11 +50,14 @@ pub trait Lines {
         out: &mut Vec<u8>,
     ) -> Result<(), LineFault<Self::Cause>>
         requires { (before : List (List ℕ)) × stands self.old before × (number ≡ length before + 1) }
-        ensures answers { (before : List (List ℕ)) → stands self.old before → number ≡ length before + 1 → Answers (meaning.line before text.now) out.old.items out.new.items result }
-        ensures stands { OnOk result ((before : List (List ℕ)) → stands self.old before → stands self.new (before ++ text.now ∷ [])) };
+        ensures answers { (before : List (List ℕ)) → stands self.old before → number ≡ length before + 1
+            → Answers (meaning.line before text.now) out.old.items out.new.items result }
+        ensures stands { OnOk result ((before : List (List ℕ)) → stands self.old before
+            → stands self.new (before ++ text.now ∷ [])) };
 
     /// Learns that no line follows, and adds to `out` what is printed then. It stands for the same lines as before.
     fn finish(&mut self, out: &mut Vec<u8>) -> Result<(), LineFault<Self::Cause>>
-        ensures answers { (before : List (List ℕ)) → stands self.old before → Answers (meaning.finish before) out.old.items out.new.items result }
+        ensures answers { (before : List (List ℕ)) → stands self.old before
+            → Answers (meaning.finish before) out.old.items out.new.items result }
         ensures stands { OnOk result ((before : List (List ℕ)) → stands self.old before → stands self.new before) };
 }

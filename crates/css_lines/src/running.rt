@@ -1,4 +1,5 @@
-ghost use Rattle.std.specs.Prelude.{◌≡◌, ◌+◌, ◌^◌, ◌<◌, ◌≤◌, List, ℕ, [], ◌∷◌, ◌++◌, Option, Some, length, MatchOption, MatchResult, OnOk, IfErr};
+ghost use Rattle.std.specs.Prelude.{◌≡◌, ◌+◌, ◌^◌, ◌<◌, ◌≤◌, List, ℕ, [], ◌∷◌, ◌++◌, Option};
+ghost use Rattle.std.specs.Prelude.{Some, length, MatchOption, MatchResult, OnOk, IfErr};
 ghost use Rattle.css_lines.specs.Progress.{HasNoFeed, IsCut, IsPlaced, Progress, Advances, AllTaken, TakesLine};
 ghost use Rattle.css_lines.specs.Progress.{StoppedAtEnd, Finished};
 ghost use Rattle.css_lines.specs.Ending.{Finishes, Stops, RanToEnd, RanUntil, CountsReads, CountsWrites};
@@ -25,8 +26,10 @@ fn take_line<K: Sink, L: Lines>(
     requires placed { IsPlaced L.stands lines.old pending.old }
 
     ensures taken { (before : List (List ℕ)) → L.stands lines.old before → pending.old.taken ≡ length before →
-        TakesLine (L.meaning.line before pending.old.text.items) (pending.old.taken + 1) (K.holds sink.old) (K.holds sink.new) result }
-    ensures stands { OnOk result ((before : List (List ℕ)) → L.stands lines.old before → L.stands lines.new (before ++ pending.old.text.items ∷ [])) }
+        TakesLine (L.meaning.line before pending.old.text.items) (pending.old.taken + 1) (K.holds sink.old)
+        (K.holds sink.new) result }
+    ensures stands { OnOk result ((before : List (List ℕ)) → L.stands lines.old before
+        → L.stands lines.new (before ++ pending.old.text.items ∷ [])) }
     ensures text { OnOk result (pending.new.text.items ≡ []) }
     ensures number { OnOk result (pending.new.taken ≡ pending.old.taken + 1) }
     ensures count { OnOk result (pending.new.count ≡ pending.old.count) }
@@ -149,7 +152,8 @@ fn take_last<K: Sink, L: Lines>(
 ) -> Result<(), Stop<L::Cause>>
     requires { IsPlaced L.stands lines.old pending.old }
 
-    ensures all { (start : Option (List ℕ)) (read : List ℕ) → Progress L.meaning L.stands start read lines.old pending.old (K.holds sink.old) →
+    ensures all { (start : Option (List ℕ)) (read : List ℕ)
+        → Progress L.meaning L.stands start read lines.old pending.old (K.holds sink.old) →
         MatchResult result
         (λ _. AllTaken L.meaning L.stands start read lines.new pending.new (K.holds sink.new))
         (StoppedAtEnd L.meaning start read (K.holds sink.new)) }
@@ -169,7 +173,8 @@ fn end<K: Sink, L: Lines>(
 ) -> Result<(), Stop<L::Cause>>
     requires { IsPlaced L.stands lines.old pending.old }
 
-    ensures all { (start : Option (List ℕ)) (read : List ℕ) → Progress L.meaning L.stands start read lines.old pending.old (K.holds sink.old) →
+    ensures all { (start : Option (List ℕ)) (read : List ℕ)
+        → Progress L.meaning L.stands start read lines.old pending.old (K.holds sink.old) →
         MatchResult result
         (λ _. Finished L.meaning L.stands start read lines.new (K.holds sink.new))
         (StoppedAtEnd L.meaning start read (K.holds sink.new)) }
@@ -188,8 +193,10 @@ fn drive_pieces<S: Source, K: Sink, L: Lines>(
 ) -> Result<(), Stop<L::Cause>>
     requires { L.stands lines.old [] }
 
-    ensures done { OnOk result (Finishes L.meaning L.stands (S.left source.old) (S.left source.new) (K.holds sink.old) (K.holds sink.new) lines.new) }
-    ensures stopped { IfErr result (λ stop. Stops L.meaning (S.left source.old) (S.left source.new) (K.holds sink.old) (K.holds sink.new) stop) }
+    ensures done { OnOk result (Finishes L.meaning L.stands (S.left source.old) (S.left source.new) (K.holds sink.old)
+        (K.holds sink.new) lines.new) }
+    ensures stopped { IfErr result
+        (λ stop. Stops L.meaning (S.left source.old) (S.left source.new) (K.holds sink.old) (K.holds sink.new) stop) }
     ensures counted_reads { CountsReads (S.faults source.old) (S.faults source.new) result }
     ensures counted_writes { CountsWrites (K.faults sink.old) (K.faults sink.new) result }
 {
@@ -228,8 +235,10 @@ pub fn drive<S: Source, K: Sink, L: Lines>(
         (RanUntil L.meaning bytes (S.left source.new) (K.holds sink.old) (K.holds sink.new)) }
 
     // Of every source.
-    ensures done { OnOk result (Finishes L.meaning L.stands (S.left source.old) (S.left source.new) (K.holds sink.old) (K.holds sink.new) lines.new) }
-    ensures stopped { IfErr result (λ stop. Stops L.meaning (S.left source.old) (S.left source.new) (K.holds sink.old) (K.holds sink.new) stop) }
+    ensures done { OnOk result (Finishes L.meaning L.stands (S.left source.old) (S.left source.new) (K.holds sink.old)
+        (K.holds sink.new) lines.new) }
+    ensures stopped { IfErr result
+        (λ stop. Stops L.meaning (S.left source.old) (S.left source.new) (K.holds sink.old) (K.holds sink.new) stop) }
 
     // A fault is told only where the device has failed, and no other failure of a device goes untold.
     ensures counted_reads { CountsReads (S.faults source.old) (S.faults source.new) result }

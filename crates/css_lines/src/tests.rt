@@ -47,7 +47,8 @@ impl Echo {
 }
 
 impl Lines for Echo {
-    ghost use Rattle.std.specs.Prelude.{◌≡◌, ◌+◌, ◌^◌, ◌≤◌, ◌==◌, if◌then◌else◌, List, ℕ, [], ◌∷◌, ◌++◌, Ok, Err, length, OnOk, decimal, codes};
+    ghost use Rattle.std.specs.Prelude.{◌≡◌, ◌+◌, ◌^◌, ◌≤◌, ◌==◌, if◌then◌else◌, List, ℕ, []};
+    ghost use Rattle.std.specs.Prelude.{◌∷◌, ◌++◌, Ok, Err, length, OnOk, decimal, codes};
     ghost use Rattle.std.specs.Str.{bytes_eq};
     ghost use Rattle.std.specs.List.{list_any};
     ghost use Rattle.css_lines.specs.declared.tests.Cause.TheVariants.{Stop, NoLine};
@@ -57,11 +58,13 @@ impl Lines for Echo {
     ghost meaning = { record {
       longest_line = λ before. if list_any (λ line. bytes_eq line (codes "wide")) before then 8 else 4;
       longest_input = λ before. if list_any (λ line. bytes_eq line (codes "wide")) before then 40 else 20;
-      line = λ before text. if bytes_eq text (codes "stop") then Err Stop else Ok (decimal (length before + 1) ++ 32 ∷ [] ++ text ++ 10 ∷ []);
+      line = λ before text. if bytes_eq text (codes "stop") then Err Stop
+          else Ok (decimal (length before + 1) ++ 32 ∷ [] ++ text ++ 10 ∷ []);
       finish = λ before. if length before == 0 then Err NoLine else Ok (codes "end" ++ 10 ∷ []);
     } };
 
-    ghost stands = { λ echo before. (echo.taken ≡ length before) × (echo.wide ≡ list_any (λ line. bytes_eq line (codes "wide")) before) };
+    ghost stands = { λ echo before. (echo.taken ≡ length before)
+        × (echo.wide ≡ list_any (λ line. bytes_eq line (codes "wide")) before) };
 
     fn longest_line(&self) -> usize {
         if self.wide { 8 } else { 4 }

@@ -46,8 +46,8 @@ abbrev pub history_of : List Note → History
 history_of notes = fold (λ history made. entries_of made ++ history) [] notes
 
 -- ---- the state of an outside in memory
--- What it has still to give; which calls fail, and how many were made; how many texts it has sent; the peers of its sessions, in order; the last reading and the
--- greatest peer; and what its calls did, the newest first.
+-- What it has still to give; which calls fail, and how many were made; how many texts it has sent; the peers of its
+-- sessions, in order; the last reading and the greatest peer; and what its calls did, the newest first.
 pub record Scripted : Type 0 where
   pub readings : List Clocked
   pub datagrams : List (Option Datagram)

@@ -1,4 +1,5 @@
-ghost use Rattle.std.specs.Prelude.{◌≡◌, ◌<◌, ◌≤◌, ◌++◌, ◌↔◌, [], length, take, drop, min, IfOk, OnOk, OnErr, IsTrue, Contains, if◌then◌else◌};
+ghost use Rattle.std.specs.Prelude.{◌≡◌, ◌<◌, ◌≤◌, ◌++◌, ◌↔◌, [], length, take, drop, min};
+ghost use Rattle.std.specs.Prelude.{IfOk, OnOk, OnErr, IsTrue, Contains, if◌then◌else◌};
 ghost use Rattle.css_outside.specs.Faults.{HasRisen};
 ghost use Rattle.css_outside.specs.Devices.{next_count, read_count};
 
@@ -92,7 +93,8 @@ impl Outgoing {
     pub fn keep(&mut self, bytes: &[u8]) -> Result<usize, Memory>
         ensures piece { 1 ≤ self.old.piece }
         ensures count { IfOk result (λ count. count ≡ min self.old.piece (length bytes.now)) }
-        ensures ok { IfOk result (λ count. self.new ≡ record self.old { holds = self.old.holds ++ take count bytes.now }) }
+        ensures ok { IfOk result
+            (λ count. self.new ≡ record self.old { holds = self.old.holds ++ take count bytes.now }) }
         ensures err { OnErr result (self.new ≡ self.old) }
     {
         let count = self.piece.min(bytes.len());
@@ -131,7 +133,10 @@ impl FailingCalls {
     /// Counts the next call, and tells whether it fails.
     pub fn next_fails(&mut self) -> bool
         ensures fails { IsTrue result ↔ Contains self.old.fails (next_count self.old.calls) }
-        ensures counted { self.new ≡ record self.old { calls = next_count self.old.calls; faults = if result then next_count self.old.faults else self.old.faults } }
+        ensures counted { self.new ≡ record self.old {
+          calls = next_count self.old.calls;
+          faults = if result then next_count self.old.faults else self.old.faults;
+        } }
         ensures risen { IsTrue result → HasRisen self.old.faults self.new.faults }
     {
         self.calls = self.calls.saturating_add(1);

@@ -24,7 +24,13 @@ impl Model for MemorySource {
 
     ghost Value = { FailingSource };
 
-    ghost view = { λ source. record { left = source.incoming.left; piece = source.incoming.piece; fails = source.failing.fails; calls = source.failing.calls; faults = source.failing.faults } };
+    ghost view = { λ source. record {
+      left = source.incoming.left;
+      piece = source.incoming.piece;
+      fails = source.failing.fails;
+      calls = source.failing.calls;
+      faults = source.failing.faults;
+    } };
 }
 
 impl MemorySource {
@@ -37,7 +43,13 @@ impl MemorySource {
         fails: &[u64],
     ) -> Result<MemorySource, Memory>
         requires { 1 ≤ piece }
-        ensures { IfOk result (λ source. source ≡ record { left = bytes.now; piece = piece; fails = fails.now; calls = 0; faults = 0 }) }
+        ensures { IfOk result (λ source. source ≡ record {
+          left = bytes.now;
+          piece = piece;
+          fails = fails.now;
+          calls = 0;
+          faults = 0;
+        }) }
     {
         Ok(MemorySource {
             incoming: Incoming::new(alloc, bytes, piece)?,
@@ -60,7 +72,8 @@ impl Source for MemorySource {
         ensures fails { IsErr result ↔ Contains self.old.fails (next_count self.old.calls) }
         ensures count { IfOk result (λ count. count ≡ read_count self.old.piece (length into.new) self.old.left) }
         ensures risen { OnErr result (self.new.faults ≡ next_count self.old.faults) }
-        ensures others { self.new ≡ record self.old { left = self.new.left; calls = next_count self.old.calls; faults = self.new.faults } }
+        ensures others { self.new
+            ≡ record self.old { left = self.new.left; calls = next_count self.old.calls; faults = self.new.faults } }
     {
         if self.failing.next_fails() {
             return Err(Failed);
@@ -81,7 +94,13 @@ impl Model for MemorySink {
 
     ghost Value = { FailingSink };
 
-    ghost view = { λ sink. record { holds = sink.outgoing.holds; piece = sink.outgoing.piece; fails = sink.failing.fails; calls = sink.failing.calls; faults = sink.failing.faults } };
+    ghost view = { λ sink. record {
+      holds = sink.outgoing.holds;
+      piece = sink.outgoing.piece;
+      fails = sink.failing.fails;
+      calls = sink.failing.calls;
+      faults = sink.failing.faults;
+    } };
 }
 
 impl MemorySink {
@@ -89,7 +108,13 @@ impl MemorySink {
     /// fail: they are counted from 1, the failed ones too.
     pub fn new(alloc: Global, piece: usize, fails: &[u64]) -> Result<MemorySink, Memory>
         requires { 1 ≤ piece }
-        ensures { IfOk result (λ sink. sink ≡ record { holds = []; piece = piece; fails = fails.now; calls = 0; faults = 0 }) }
+        ensures { IfOk result (λ sink. sink ≡ record {
+          holds = [];
+          piece = piece;
+          fails = fails.now;
+          calls = 0;
+          faults = 0;
+        }) }
     {
         Ok(MemorySink {
             outgoing: Outgoing::new(alloc, piece),
@@ -120,7 +145,8 @@ impl Sink for MemorySink {
         ensures fails { IsErrOf result OutFault.Failed ↔ Contains self.old.fails (next_count self.old.calls) }
         ensures count { IfOk result (λ count. count ≡ min self.old.piece (length bytes.now)) }
         ensures risen { IsErrOf result OutFault.Failed → self.new.faults ≡ next_count self.old.faults }
-        ensures others { self.new ≡ record self.old { holds = self.new.holds; calls = next_count self.old.calls; faults = self.new.faults } }
+        ensures others { self.new
+            ≡ record self.old { holds = self.new.holds; calls = next_count self.old.calls; faults = self.new.faults } }
     {
         if self.failing.next_fails() {
             return Err(OutFault::Failed);

@@ -1,9 +1,11 @@
 ghost use Rattle.std.specs.Prelude.{◌≡◌, ◌+◌, [], ◌∷◌, Some, IfOk, IsTrue};
 ghost use Rattle.css_model.specs.History.{Listening, Sent, HungUp};
-ghost use Rattle.css_outside.specs.Outsides.{Tells, TellsDial, CountsPlain, CountsClock, CountsDial, CountsOpening, FitsRoom};
+ghost use Rattle.css_outside.specs.Outsides.{Tells, TellsDial, CountsPlain, CountsClock};
+ghost use Rattle.css_outside.specs.Outsides.{CountsDial, CountsOpening, FitsRoom};
 ghost use Rattle.css_outside.specs.Outsides as calls;
 ghost use Rattle.css_outside.specs.Scripts as scripts;
-ghost use Rattle.css_outside.specs.Scripts.{are_readings, are_sessions, counts_of, FailsWhereTold, DialFailsWhereTold, StepsCounted, StepsDial, telling};
+ghost use Rattle.css_outside.specs.Scripts.{are_readings, are_sessions, counts_of, FailsWhereTold};
+ghost use Rattle.css_outside.specs.Scripts.{DialFailsWhereTold, StepsCounted, StepsDial, telling};
 
 use crate::calls::{Address, Clocked, Heard, Wrote};
 use crate::fault::OutFault;
@@ -28,7 +30,11 @@ impl Model for MemoryOutside {
 
     ghost Value = { FailingOutside };
 
-    ghost view = { λ outside. record { devices = outside.devices; dial_faults = outside.dial_faults; faults = outside.faults } };
+    ghost view = { λ outside. record {
+      devices = outside.devices;
+      dial_faults = outside.dial_faults;
+      faults = outside.faults;
+    } };
 }
 
 impl MemoryOutside {
@@ -37,7 +43,11 @@ impl MemoryOutside {
     pub fn new(alloc: Global, script: OutsideScript) -> Result<MemoryOutside, Memory>
         requires readings { IsTrue (are_readings 0 script.readings.items) }
         requires openings { IsTrue (are_sessions script.openings.items) }
-        ensures { IfOk result (λ outside. outside ≡ record { devices = scripts.begun script; dial_faults = 0; faults = 0 }) }
+        ensures { IfOk result (λ outside. outside ≡ record {
+          devices = scripts.begun script;
+          dial_faults = 0;
+          faults = 0;
+        }) }
     {
         Ok(MemoryOutside {
             devices: Devices::new(alloc, script),
@@ -53,10 +63,12 @@ impl Outside for MemoryOutside {
     ghost counts = { λ outside. counts_of outside };
 
     fn listen(&mut self, host: &Text, port: u16) -> Result<(), OutFault>
-        ensures told { Tells (Some self.old.devices.told) (Some self.new.devices.told) result (λ _. Listening host.now port ∷ []) }
+        ensures told { Tells (Some self.old.devices.told) (Some self.new.devices.told) result
+            (λ _. Listening host.now port ∷ []) }
         ensures counted { CountsPlain (counts_of self.old) (counts_of self.new) result }
         ensures fails { FailsWhereTold self.old.devices result }
-        ensures steps { StepsCounted self.old.devices self.new.devices result (telling (Listening host.now port ∷ []) self.old.devices) }
+        ensures steps { StepsCounted self.old.devices self.new.devices result
+            (telling (Listening host.now port ∷ []) self.old.devices) }
     {
         if self.devices.next_fails() {
             self.faults = self.faults.saturating_add(1);
@@ -66,10 +78,12 @@ impl Outside for MemoryOutside {
     }
 
     fn now(&mut self, why: Why) -> Result<Clocked, OutFault>
-        ensures told { Tells (Some self.old.devices.told) (Some self.new.devices.told) result (calls.clock_entries why) }
+        ensures told { Tells (Some self.old.devices.told) (Some self.new.devices.told) result
+            (calls.clock_entries why) }
         ensures counted { CountsClock (counts_of self.old) (counts_of self.new) result }
         ensures fails { FailsWhereTold self.old.devices result }
-        ensures value { IfOk result (λ clocked. clocked ≡ scripts.next_reading self.old.devices.last self.old.devices.readings) }
+        ensures value { IfOk result
+            (λ clocked. clocked ≡ scripts.next_reading self.old.devices.last self.old.devices.readings) }
         ensures steps { StepsCounted self.old.devices self.new.devices result (scripts.read_once why self.old.devices) }
     {
         if self.devices.next_fails() {
@@ -109,10 +123,12 @@ impl Outside for MemoryOutside {
     }
 
     fn send_datagram(&mut self, peer: u32, bytes: &[u8; 32]) -> Result<(), OutFault>
-        ensures told { Tells (Some self.old.devices.told) (Some self.new.devices.told) result (λ _. Sent peer bytes.now ∷ []) }
+        ensures told { Tells (Some self.old.devices.told) (Some self.new.devices.told) result
+            (λ _. Sent peer bytes.now ∷ []) }
         ensures counted { CountsPlain (counts_of self.old) (counts_of self.new) result }
         ensures fails { FailsWhereTold self.old.devices result }
-        ensures steps { StepsCounted self.old.devices self.new.devices result (telling (Sent peer bytes.now ∷ []) self.old.devices) }
+        ensures steps { StepsCounted self.old.devices self.new.devices result
+            (telling (Sent peer bytes.now ∷ []) self.old.devices) }
     {
         if self.devices.next_fails() {
             self.faults = self.faults.saturating_add(1);
@@ -122,7 +138,8 @@ impl Outside for MemoryOutside {
     }
 
     fn take_datagram(&mut self, into: &mut [u8; 64]) -> Result<Option<(u32, usize)>, OutFault>
-        ensures told { Tells (Some self.old.devices.told) (Some self.new.devices.told) result (calls.datagram_entries into.new) }
+        ensures told { Tells (Some self.old.devices.told) (Some self.new.devices.told) result
+            (calls.datagram_entries into.new) }
         ensures room { IfOk result FitsRoom }
         ensures counted { CountsPlain (counts_of self.old) (counts_of self.new) result }
         ensures fails { FailsWhereTold self.old.devices result }
@@ -137,11 +154,13 @@ impl Outside for MemoryOutside {
     }
 
     fn take_text(&mut self, peer: u32) -> Result<Heard, OutFault>
-        ensures told { Tells (Some self.old.devices.told) (Some self.new.devices.told) result (calls.heard_entries peer) }
+        ensures told { Tells (Some self.old.devices.told) (Some self.new.devices.told) result
+            (calls.heard_entries peer) }
         ensures counted { CountsPlain (counts_of self.old) (counts_of self.new) result }
         ensures fails { FailsWhereTold self.old.devices result }
         ensures value { IfOk result (λ said. said ≡ scripts.next_heard peer self.old.devices) }
-        ensures steps { StepsCounted self.old.devices self.new.devices result (scripts.heard_once peer self.old.devices) }
+        ensures steps { StepsCounted self.old.devices self.new.devices result
+            (scripts.heard_once peer self.old.devices) }
     {
         if self.devices.next_fails() {
             self.faults = self.faults.saturating_add(1);
@@ -151,11 +170,13 @@ impl Outside for MemoryOutside {
     }
 
     fn send_text(&mut self, peer: u32, text: &[u8]) -> Result<Wrote, OutFault>
-        ensures told { Tells (Some self.old.devices.told) (Some self.new.devices.told) result (calls.wrote_entries peer text.now) }
+        ensures told { Tells (Some self.old.devices.told) (Some self.new.devices.told) result
+            (calls.wrote_entries peer text.now) }
         ensures counted { CountsPlain (counts_of self.old) (counts_of self.new) result }
         ensures fails { FailsWhereTold self.old.devices result }
         ensures value { IfOk result (λ wrote. wrote ≡ scripts.next_wrote self.old.devices) }
-        ensures steps { StepsCounted self.old.devices self.new.devices result (scripts.wrote_once peer text.now self.old.devices) }
+        ensures steps { StepsCounted self.old.devices self.new.devices result
+            (scripts.wrote_once peer text.now self.old.devices) }
     {
         if self.devices.next_fails() {
             self.faults = self.faults.saturating_add(1);
@@ -168,7 +189,8 @@ impl Outside for MemoryOutside {
         ensures told { Tells (Some self.old.devices.told) (Some self.new.devices.told) result (λ _. HungUp peer ∷ []) }
         ensures counted { CountsPlain (counts_of self.old) (counts_of self.new) result }
         ensures fails { FailsWhereTold self.old.devices result }
-        ensures steps { StepsCounted self.old.devices self.new.devices result (telling (HungUp peer ∷ []) self.old.devices) }
+        ensures steps { StepsCounted self.old.devices self.new.devices result
+            (telling (HungUp peer ∷ []) self.old.devices) }
     {
         if self.devices.next_fails() {
             self.faults = self.faults.saturating_add(1);

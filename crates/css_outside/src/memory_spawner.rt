@@ -20,7 +20,8 @@ pub enum SpawnNote {
 
 /// Notes what was done.
 fn add_note(notes: &mut Vec<SpawnNote>, made: SpawnNote) -> Result<(), Memory>
-    ensures ok { OnOk result (spawners.spawned_of notes.new.items ≡ spawners.spawned_by made ∷ spawners.spawned_of notes.old.items) }
+    ensures ok { OnOk result
+        (spawners.spawned_of notes.new.items ≡ spawners.spawned_by made ∷ spawners.spawned_of notes.old.items) }
     ensures err { OnErr result (notes.new.items ≡ notes.old.items) }
 {
     notes.push(made)?;
@@ -50,16 +51,24 @@ impl Model for MemorySpawner {
 
     ghost Value = { Spawning };
 
-    ghost view = { λ s. record { statuses = drop s.ended s.statuses.items; told = spawned_of s.notes.items; failing = s.failing } };
+    ghost view = { λ s. record {
+      statuses = drop s.ended s.statuses.items;
+      told = spawned_of s.notes.items;
+      failing = s.failing;
+    } };
 
     ghost invariant = { λ s. s.ended ≤ length s.statuses.items };
 }
 
 impl MemorySpawner {
-    /// A spawner whose k-th `finish` that is Ok gives the k-th status, and 0 past the end. The calls whose numbers stand
-    /// in `fails` fail: they are counted from 1, the failed ones too.
+    /// A spawner whose k-th `finish` that is Ok gives the k-th status, and 0 past the end. The calls whose numbers
+    /// stand in `fails` fail: they are counted from 1, the failed ones too.
     pub fn new(alloc: Global, statuses: &[i32], fails: &[u64]) -> Result<MemorySpawner, Memory>
-        ensures { IfOk result (λ spawner. spawner ≡ record { statuses = statuses.now; told = []; failing = record { fails = fails.now; calls = 0; faults = 0 } }) }
+        ensures { IfOk result (λ spawner. spawner ≡ record {
+          statuses = statuses.now;
+          told = [];
+          failing = record { fails = fails.now; calls = 0; faults = 0 };
+        }) }
     {
         Ok(MemorySpawner {
             alloc,
@@ -79,12 +88,14 @@ impl Spawner for MemorySpawner {
     ghost faults = { λ spawner. spawner.failing.faults };
 
     fn start(&mut self, words: &[Text], input: &[u8]) -> Result<(), OutFault>
-        ensures told { TellsSpawned (Some self.old.told) (Some self.new.told) result (λ _. Started words.now input.now) }
+        ensures told { TellsSpawned (Some self.old.told) (Some self.new.told) result
+            (λ _. Started words.now input.now) }
         ensures ok { OnOk result (spawners.running_of self.new.told ≡ spawners.running_of self.old.told + 1) }
         ensures err { OnErr result (spawners.running_of self.new.told ≡ spawners.running_of self.old.told) }
         ensures counted { CountsCall self.old.failing.faults self.new.failing.faults result }
         ensures fails { SpawnFailsWhereTold self.old.failing result }
-        ensures calls { (self.new.failing.fails ≡ self.old.failing.fails) × (self.new.failing.calls ≡ next_count self.old.failing.calls) }
+        ensures calls { (self.new.failing.fails ≡ self.old.failing.fails)
+            × (self.new.failing.calls ≡ next_count self.old.failing.calls) }
         ensures statuses { self.new.statuses ≡ self.old.statuses }
     {
         if self.failing.next_fails() {
@@ -103,7 +114,8 @@ impl Spawner for MemorySpawner {
         ensures err { OnErr result (spawners.running_of self.new.told ≡ spawners.running_of self.old.told) }
         ensures counted { CountsCall self.old.failing.faults self.new.failing.faults result }
         ensures fails { SpawnFailsWhereTold self.old.failing result }
-        ensures calls { (self.new.failing.fails ≡ self.old.failing.fails) × (self.new.failing.calls ≡ next_count self.old.failing.calls) }
+        ensures calls { (self.new.failing.fails ≡ self.old.failing.fails)
+            × (self.new.failing.calls ≡ next_count self.old.failing.calls) }
         ensures value { IfOk result (λ status. status ≡ spawners.next_status self.old.statuses) }
         ensures next { OnOk result (self.new.statuses ≡ drop 1 self.old.statuses) }
     {

@@ -1,6 +1,7 @@
 ghost use Rattle.std.specs.Prelude.{◌≡◌, ◌+◌, [], ◌∷◌, Some, IfOk, IsTrue, ◌≢◌, Err};
 ghost use Rattle.css_model.specs.History.{Listening, Sent, HungUp};
-ghost use Rattle.css_outside.specs.Outsides.{Tells, TellsDial, CountsPlain, CountsClock, CountsDial, CountsOpening, FitsRoom};
+ghost use Rattle.css_outside.specs.Outsides.{Tells, TellsDial, CountsPlain, CountsClock};
+ghost use Rattle.css_outside.specs.Outsides.{CountsDial, CountsOpening, FitsRoom};
 ghost use Rattle.css_outside.specs.Outsides as calls;
 ghost use Rattle.css_outside.specs.Scripts as scripts;
 ghost use Rattle.css_outside.specs.Scripts.{are_readings, are_sessions, counts_at, Steps, telling};

@@ -30,7 +30,11 @@ impl Model for NeverFailsSpawner {
 impl NeverFailsSpawner {
     /// A spawner whose k-th `finish` that is Ok gives the k-th status, and 0 past the end.
     pub fn new(alloc: Global, statuses: &[i32]) -> Result<NeverFailsSpawner, Memory>
-        ensures { IfOk result (λ spawner. spawner ≡ record { statuses = statuses.now; told = []; failing = record { fails = []; calls = 0; faults = 0 } }) }
+        ensures { IfOk result (λ spawner. spawner ≡ record {
+          statuses = statuses.now;
+          told = [];
+          failing = record { fails = []; calls = 0; faults = 0 };
+        }) }
     {
         Ok(NeverFailsSpawner {
             inner: MemorySpawner::new(alloc, statuses, &[])?,
@@ -46,7 +50,8 @@ impl Spawner for NeverFailsSpawner {
     ghost faults = { λ _. 0 };
 
     fn start(&mut self, words: &[Text], input: &[u8]) -> Result<(), OutFault>
-        ensures told { TellsSpawned (Some self.old.told) (Some self.new.told) result (λ _. Started words.now input.now) }
+        ensures told { TellsSpawned (Some self.old.told) (Some self.new.told) result
+            (λ _. Started words.now input.now) }
         ensures ok { OnOk result (spawners.running_of self.new.told ≡ spawners.running_of self.old.told + 1) }
         ensures err { OnErr result (spawners.running_of self.new.told ≡ spawners.running_of self.old.told) }
         ensures counted { CountsCall 0 0 result }

@@ -1,6 +1,7 @@
 ghost use Rattle.std.specs.Prelude.{Option, IfOk, [], ◌∷◌};
 ghost use Rattle.css_model.specs.History.{History, Listening, Sent, HungUp};
-ghost use Rattle.css_outside.specs.Outsides.{Counts, Tells, TellsDial, CountsPlain, CountsClock, CountsDial, CountsOpening, FitsRoom};
+ghost use Rattle.css_outside.specs.Outsides.{Counts, Tells, TellsDial, CountsPlain, CountsClock};
+ghost use Rattle.css_outside.specs.Outsides.{CountsDial, CountsOpening, FitsRoom};
 ghost use Rattle.css_outside.specs.Outsides as calls;
 
 use crate::calls::{Address, Clocked, Heard, Wrote};

@@ -1,4 +1,5 @@
-ghost use Rattle.std.specs.Prelude.{◌≡◌, ◌<◌, ◌≤◌, ◌↔◌, Contains, IfSome, position, ◌==◌, min, ◌+◌, ◌++◌, ◌∷◌, [], Some, None, Err, drop, take, length, IfOk, OnOk, OnErr, IsTrue};
+ghost use Rattle.std.specs.Prelude.{◌≡◌, ◌<◌, ◌≤◌, ◌↔◌, Contains, IfSome, position, ◌==◌, min, ◌+◌, ◌++◌, ◌∷◌};
+ghost use Rattle.std.specs.Prelude.{[], Some, None, Err, drop, take, length, IfOk, OnOk, OnErr, IsTrue};
 ghost use Rattle.css_model.specs.History.{Entry, Listening, Sent, HungUp, Dialling, Dialled, NotDialled};
 ghost use Rattle.css_model.specs.declared.Kind.TheVariants as kinds;
 ghost use Rattle.css_outside.specs.Devices.{next_count};
@@ -54,9 +55,23 @@ impl Model for Devices {
 
     ghost Value = { Scripted };
 
-    ghost view = { λ d. record { readings = drop d.read d.script.readings.items; datagrams = drop d.taken d.script.datagrams.items; openings = drop d.opened d.script.openings.items; texts = d.script.texts.items; gone = d.script.gone.items; fails = d.script.fails.items; calls = d.calls; sends = d.sends; sessions = d.sessions.items; last = d.last; peers = d.peers; told = history_of d.notes.items } };
+    ghost view = { λ d. record {
+      readings = drop d.read d.script.readings.items;
+      datagrams = drop d.taken d.script.datagrams.items;
+      openings = drop d.opened d.script.openings.items;
+      texts = d.script.texts.items;
+      gone = d.script.gone.items;
+      fails = d.script.fails.items;
+      calls = d.calls;
+      sends = d.sends;
+      sessions = d.sessions.items;
+      last = d.last;
+      peers = d.peers;
+      told = history_of d.notes.items;
+    } };
 
-    ghost invariant = { λ d. IsScripted d.read d.taken d.opened d.last d.script.readings.items d.script.datagrams.items d.script.openings.items };
+    ghost invariant = { λ d. IsScripted d.read d.taken d.opened d.last d.script.readings.items d.script.datagrams.items
+        d.script.openings.items };
 }
 
 /// An equal address.
@@ -100,7 +115,8 @@ fn add_opening(
     kind: Kind,
     peer: u32,
 ) -> Result<(), Memory>
-    ensures noted { OnOk result (history_of notes.new.items ≡ entries_of (notes_made.Came (Some (peer, kind))) ++ history_of notes.old.items) }
+    ensures noted { OnOk result
+        (history_of notes.new.items ≡ entries_of (notes_made.Came (Some (peer, kind))) ++ history_of notes.old.items) }
     ensures kept { OnOk result (sessions.new.items ≡ sessions.old.items ++ peer ∷ []) }
     ensures err { OnErr result ((notes.new.items ≡ notes.old.items) × (sessions.new.items ≡ sessions.old.items)) }
 {
@@ -287,7 +303,8 @@ impl Devices {
 
     pub fn take_datagram(&mut self, into: &mut [u8; 64]) -> Result<Option<(u32, usize)>, Memory>
         ensures value { IfOk result (λ came. came ≡ scripts.taken_from (scripts.next_item self.old.datagrams)) }
-        ensures entries { IfOk result (λ came. datagram_entries into.new came ≡ scripts.taking (scripts.next_item self.old.datagrams)) }
+        ensures entries { IfOk result
+            (λ came. datagram_entries into.new came ≡ scripts.taking (scripts.next_item self.old.datagrams)) }
         ensures room { IfOk result FitsRoom }
         ensures ok { OnOk result (self.new ≡ scripts.took_once self.old) }
         ensures err { OnErr result (self.new ≡ self.old) }
