@@ -10,6 +10,87 @@ use std::alloc::Global;
 use std::process::Abort;
 use std::test::Fail;
 
+const FAILED: OutFault = OutFault::Failed;
+
+/// What a session is to tell.
+#[derive(Clone, Copy)]
+enum Said {
+    Quiet,
+    Text(&'static [u8]),
+    Closed,
+}
+
+/// A call of an outside, with what it takes and what it is to give.
+#[derive(Clone, Copy)]
+enum Call {
+    Listen(Result<(), OutFault>),
+    Now(Why, Result<(u64, bool), OutFault>),
+    Dial(Kind, Result<u32, OutFault>),
+    Accept(Option<(u32, Kind)>),
+    SendDatagram(u32),
+    /// The sender and the length, and with what the room begins then.
+    TakeDatagram(Result<Option<(u32, usize)>, OutFault>, &'static [u8]),
+    TakeText(u32, Said),
+    SendText(u32, &'static [u8], Wrote),
+    HangUp(u32),
+}
+
+fn assert_heard(rt: &impl Abort, heard: &Result<Heard, OutFault>, wanted: Said) {
+    match (heard, wanted) {
+        (Ok(Heard::Quiet), Said::Quiet) | (Ok(Heard::Closed), Said::Closed) => {}
+        (Ok(Heard::Text(text)), Said::Text(words)) => assert_eq!(rt; text.bytes(), words),
+        _ => assert!(rt; false, "another answer"),
+    }
+}
+
+/// Makes one call, and finds what it is to give.
+fn assert_call<O: Outside>(rt: &impl Abort, outside: &mut O, to: &Address, call: Call) {
+    match call {
+        Call::Listen(wanted) => assert_eq!(rt; outside.listen(&to.host, to.port), wanted),
+        Call::Now(why, wanted) => {
+            let given = outside.now(why);
+            assert_eq!(rt;
+                given.map(|clocked| (clocked.reading, clocked.slept)),
+                wanted
+            );
+        }
+        Call::Dial(kind, wanted) => assert_eq!(rt; outside.dial(kind, to), wanted),
+        Call::Accept(wanted) => assert_eq!(rt; outside.accept(), Ok(wanted)),
+        Call::SendDatagram(peer) => {
+            assert_eq!(rt; outside.send_datagram(peer, &[0u8; 32]), Ok(()))
+        }
+        Call::TakeDatagram(wanted, front) => {
+            let mut into = [0u8; 64];
+            assert_eq!(rt; outside.take_datagram(&mut into), wanted);
+            assert!(rt; into.starts_with(front));
+        }
+        Call::TakeText(peer, wanted) => assert_heard(rt, &outside.take_text(peer), wanted),
+        Call::SendText(peer, text, wanted) => assert_eq!(rt;
+            outside.send_text(peer, text),
+            Ok(wanted)
+        ),
+        Call::HangUp(peer) => assert_eq!(rt; outside.hang_up(peer), Ok(())),
+    }
+}
+
+/// Makes the calls in turn, each to the same address.
+fn assert_calls<O: Outside>(
+    rt: &impl Abort,
+    alloc: Global,
+    outside: &mut O,
+    calls: &[Call],
+) -> Result<(), Fail> {
+    let to = Address {
+        host: Text::of(alloc, b"127.0.0.1")?,
+        port: 6677,
+        path: Text::of(alloc, b"/cii")?,
+    };
+    for call in calls {
+        assert_call(rt, outside, &to, *call);
+    }
+    Ok(())
+}
+
 fn no_readings(alloc: Global, fails: &[u64]) -> Result<OutsideScript, Fail>
     ensures readings { IfOk result (λ script. script.readings.items ≡ []) }
     ensures openings { IfOk result (λ script. script.openings.items ≡ []) }
@@ -25,26 +106,40 @@ fn no_readings(alloc: Global, fails: &[u64]) -> Result<OutsideScript, Fail>
     })
 }
 
-fn said(alloc: Global, session: u32, text: &[u8]) -> Result<SessionHeard, Fail> {
-    Ok(SessionHeard {
-        session,
-        heard: Heard::Text(Text::of(alloc, text)?),
-    })
-}
-
-fn somewhere(alloc: Global) -> Result<Address, Fail> {
-    Ok(Address {
-        host: Text::of(alloc, b"127.0.0.1")?,
-        port: 6677,
-        path: Text::of(alloc, b"/cii")?,
-    })
-}
-
-fn assert_heard(rt: &impl Abort, heard: &Heard, text: &[u8]) {
-    match heard {
-        Heard::Text(words) => assert_eq!(rt; words.bytes(), text),
-        _ => assert!(rt; false, "no text"),
+/// What the sessions are to tell, by their numbers.
+fn texts_of(alloc: Global, rows: &[(u32, Said)]) -> Result<Vec<SessionHeard>, Fail> {
+    let mut texts = Vec::new(alloc);
+    for (session, said) in rows {
+        let heard = match said {
+            Said::Quiet => Heard::Quiet,
+            Said::Text(words) => Heard::Text(Text::of(alloc, words)?),
+            Said::Closed => Heard::Closed,
+        };
+        texts.push(SessionHeard {
+            session: *session,
+            heard,
+        })?;
     }
+    Ok(texts)
+}
+
+/// The datagrams that come, each with its sender.
+fn datagrams_of(
+    alloc: Global,
+    rows: &[Option<(u32, &[u8])>],
+) -> Result<Vec<Option<Datagram>>, Fail> {
+    let mut datagrams = Vec::new(alloc);
+    for row in rows {
+        let datagram = match row {
+            None => None,
+            Some((peer, bytes)) => Some(Datagram {
+                peer: *peer,
+                bytes: Text::of(alloc, bytes)?,
+            }),
+        };
+        datagrams.push(datagram)?;
+    }
+    Ok(datagrams)
 }
 
 #[test]
@@ -62,51 +157,35 @@ fn readings_come_in_order_and_the_last_one_stays(rt: HostRuntime) -> Result<(), 
     let mut script = no_readings(rt.alloc(), &[])?;
     script.readings = readings;
     let mut outside = NeverFailsOutside::new(rt.alloc(), script)?;
-    assert_eq!(rt;
-        outside.now(Why::Turn)?,
-        Clocked {
-            reading: 3,
-            slept: false
-        }
-    );
-    assert_eq!(rt;
-        outside.now(Why::Ask)?,
-        Clocked {
-            reading: 5,
-            slept: true
-        }
-    );
-    assert_eq!(rt;
-        outside.now(Why::Land)?,
-        Clocked {
-            reading: 5,
-            slept: false
-        }
-    );
-    Ok(())
+    let calls = [
+        Call::Now(Why::Turn, Ok((3, false))),
+        Call::Now(Why::Ask, Ok((5, true))),
+        Call::Now(Why::Land, Ok((5, false))),
+    ];
+    assert_calls(&rt, rt.alloc(), &mut outside, &calls)
 }
 
 #[test]
 fn each_session_has_its_texts(rt: HostRuntime) -> Result<(), Fail> {
-    let alloc = rt.alloc();
-    let mut script = no_readings(alloc, &[])?;
-    script.texts.push(said(alloc, 2, b"second")?)?;
-    script.texts.push(said(alloc, 1, b"first")?)?;
-    script.texts.push(SessionHeard {
-        session: 1,
-        heard: Heard::Closed,
-    })?;
-    let mut outside = MemoryOutside::new(alloc, script)?;
-    let to = somewhere(alloc)?;
-    assert_eq!(rt; outside.dial(Kind::Cii, &to)?, 1);
-    assert_eq!(rt; outside.dial(Kind::Wc, &to)?, 2);
-    assert_eq!(rt; outside.dial(Kind::Ts, &to)?, 3);
-    assert_heard(&rt, &outside.take_text(1)?, b"first");
-    assert_heard(&rt, &outside.take_text(3)?, b"second");
-    assert!(rt; matches!(outside.take_text(2)?, Heard::Quiet));
-    assert!(rt; matches!(outside.take_text(1)?, Heard::Closed));
-    assert!(rt; matches!(outside.take_text(1)?, Heard::Quiet));
-    Ok(())
+    let texts = [
+        (2, Said::Text(b"second")),
+        (1, Said::Text(b"first")),
+        (1, Said::Closed),
+    ];
+    let mut script = no_readings(rt.alloc(), &[])?;
+    script.texts = texts_of(rt.alloc(), &texts)?;
+    let mut outside = MemoryOutside::new(rt.alloc(), script)?;
+    let calls = [
+        Call::Dial(Kind::Cii, Ok(1)),
+        Call::Dial(Kind::Wc, Ok(2)),
+        Call::Dial(Kind::Ts, Ok(3)),
+        Call::TakeText(1, Said::Text(b"first")),
+        Call::TakeText(3, Said::Text(b"second")),
+        Call::TakeText(2, Said::Quiet),
+        Call::TakeText(1, Said::Closed),
+        Call::TakeText(1, Said::Quiet),
+    ];
+    assert_calls(&rt, rt.alloc(), &mut outside, &calls)
 }
 
 #[test]
@@ -115,36 +194,29 @@ fn sessions_are_opened_in_order(rt: HostRuntime) -> Result<(), Fail> {
     let mut script = no_readings(rt.alloc(), &[])?;
     script.openings = openings;
     let mut outside = MemoryOutside::new(rt.alloc(), script)?;
-    assert_eq!(rt; outside.accept()?, Some((1, Kind::Cii)));
-    assert_eq!(rt; outside.accept()?, None);
-    assert_eq!(rt; outside.accept()?, Some((2, Kind::Ts)));
-    assert_eq!(rt; outside.accept()?, None);
-    Ok(())
+    let calls = [
+        Call::Accept(Some((1, Kind::Cii))),
+        Call::Accept(None),
+        Call::Accept(Some((2, Kind::Ts))),
+        Call::Accept(None),
+    ];
+    assert_calls(&rt, rt.alloc(), &mut outside, &calls)
 }
 
 #[test]
 fn a_long_datagram_is_told_by_its_front(rt: HostRuntime) -> Result<(), Fail> {
-    let alloc = rt.alloc();
-    let mut script = no_readings(alloc, &[])?;
-    let long = Text::of(alloc, &[7u8; 80])?;
-    script.datagrams.push(Some(Datagram {
-        peer: 9,
-        bytes: long,
-    }))?;
-    script.datagrams.push(None)?;
-    script.datagrams.push(Some(Datagram {
-        peer: 8,
-        bytes: Text::of(alloc, b"ab")?,
-    }))?;
-    let mut outside = MemoryOutside::new(alloc, script)?;
-    let mut into = [0u8; 64];
-    assert_eq!(rt; outside.take_datagram(&mut into)?, Some((9, 64)));
-    assert_eq!(rt; outside.take_datagram(&mut into)?, None);
-    assert_eq!(rt; outside.take_datagram(&mut into)?, Some((8, 2)));
-    assert!(rt; into.starts_with(b"ab"));
-    assert_eq!(rt; outside.take_datagram(&mut into)?, None);
-    outside.send_datagram(9, &[0u8; 32])?;
-    Ok(())
+    let datagrams: [Option<(u32, &[u8])>; 3] = [Some((9, &[7; 80])), None, Some((8, b"ab"))];
+    let mut script = no_readings(rt.alloc(), &[])?;
+    script.datagrams = datagrams_of(rt.alloc(), &datagrams)?;
+    let mut outside = MemoryOutside::new(rt.alloc(), script)?;
+    let calls = [
+        Call::TakeDatagram(Ok(Some((9, 64))), &[7; 64]),
+        Call::TakeDatagram(Ok(None), b""),
+        Call::TakeDatagram(Ok(Some((8, 2))), b"ab"),
+        Call::TakeDatagram(Ok(None), b""),
+        Call::SendDatagram(9),
+    ];
+    assert_calls(&rt, rt.alloc(), &mut outside, &calls)
 }
 
 #[test]
@@ -152,40 +224,38 @@ fn texts_are_gone_by_their_numbers(rt: HostRuntime) -> Result<(), Fail> {
     let mut script = no_readings(rt.alloc(), &[])?;
     script.gone.push(2)?;
     let mut outside = MemoryOutside::new(rt.alloc(), script)?;
-    assert_eq!(rt; outside.send_text(1, b"a")?, Wrote::Sent);
-    assert_eq!(rt; outside.send_text(1, b"b")?, Wrote::Gone);
-    assert_eq!(rt; outside.send_text(1, b"c")?, Wrote::Sent);
-    outside.hang_up(1)?;
-    Ok(())
+    let calls = [
+        Call::SendText(1, b"a", Wrote::Sent),
+        Call::SendText(1, b"b", Wrote::Gone),
+        Call::SendText(1, b"c", Wrote::Sent),
+        Call::HangUp(1),
+    ];
+    assert_calls(&rt, rt.alloc(), &mut outside, &calls)
 }
 
 #[test]
 fn calls_fail_by_their_numbers_and_take_nothing(rt: HostRuntime) -> Result<(), Fail> {
-    let alloc = rt.alloc();
-    let mut script = no_readings(alloc, &[1, 2, 4, 6])?;
-    script.datagrams.push(Some(Datagram {
-        peer: 1,
-        bytes: Text::of(alloc, b"ab")?,
-    }))?;
-    let mut outside = MemoryOutside::new(alloc, script)?;
-    let to = somewhere(alloc)?;
-    let mut into = [0u8; 64];
-    assert_eq!(rt; outside.listen(&to.host, 6677), Err(OutFault::Failed));
-    assert_eq!(rt; outside.dial(Kind::Cii, &to), Err(OutFault::Failed));
-    assert_eq!(rt; outside.dial(Kind::Cii, &to), Ok(1));
-    assert_eq!(rt; outside.take_datagram(&mut into), Err(OutFault::Failed));
-    assert_eq!(rt; outside.take_datagram(&mut into), Ok(Some((1, 2))));
-    assert_eq!(rt; outside.now(Why::Turn), Err(OutFault::Failed));
-    assert_eq!(rt; outside.listen(&to.host, 6677), Ok(()));
-    Ok(())
+    let mut script = no_readings(rt.alloc(), &[1, 2, 4, 6])?;
+    script.datagrams = datagrams_of(rt.alloc(), &[Some((1, b"ab"))])?;
+    let mut outside = MemoryOutside::new(rt.alloc(), script)?;
+    let calls = [
+        Call::Listen(Err(FAILED)),
+        Call::Dial(Kind::Cii, Err(FAILED)),
+        Call::Dial(Kind::Cii, Ok(1)),
+        Call::TakeDatagram(Err(FAILED), b""),
+        Call::TakeDatagram(Ok(Some((1, 2))), b"ab"),
+        Call::Now(Why::Turn, Err(FAILED)),
+        Call::Listen(Ok(())),
+    ];
+    assert_calls(&rt, rt.alloc(), &mut outside, &calls)
 }
 
 #[test]
 fn children_end_with_their_statuses(rt: HostRuntime) -> Result<(), Fail> {
     let mut spawner = MemorySpawner::new(rt.alloc(), &[3], &[1, 3])?;
-    assert_eq!(rt; spawner.start(&[], b""), Err(OutFault::Failed));
+    assert_eq!(rt; spawner.start(&[], b""), Err(FAILED));
     spawner.start(&[], b"0 speed 1")?;
-    assert_eq!(rt; spawner.finish(), Err(OutFault::Failed));
+    assert_eq!(rt; spawner.finish(), Err(FAILED));
     assert_eq!(rt; spawner.finish(), Ok(3));
     spawner.start(&[], b"")?;
     assert_eq!(rt; spawner.finish(), Ok(0));
