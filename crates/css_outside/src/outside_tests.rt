@@ -35,11 +35,18 @@ enum Call {
     HangUp(u32),
 }
 
-fn assert_heard(rt: &impl Abort, heard: &Result<Heard, OutFault>, wanted: Said) {
-    match (heard, wanted) {
-        (Ok(Heard::Quiet), Said::Quiet) | (Ok(Heard::Closed), Said::Closed) => {}
-        (Ok(Heard::Text(text)), Said::Text(words)) => assert_eq!(rt; text.bytes(), words),
-        _ => assert!(rt; false, "another answer"),
+fn words_of(said: Said) -> Option<&'static [u8]> {
+    match said {
+        Said::Text(words) => Some(words),
+        Said::Quiet | Said::Closed => None,
+    }
+}
+
+fn assert_heard(rt: &impl Abort, heard: &Heard, wanted: Said) {
+    match heard {
+        Heard::Quiet => assert!(rt; matches!(wanted, Said::Quiet)),
+        Heard::Text(text) => assert_eq!(rt; Some(text.bytes()), words_of(wanted)),
+        Heard::Closed => assert!(rt; matches!(wanted, Said::Closed)),
     }
 }
 
@@ -64,7 +71,10 @@ fn assert_call<O: Outside>(rt: &impl Abort, outside: &mut O, to: &Address, call:
             assert_eq!(rt; outside.take_datagram(&mut into), wanted);
             assert!(rt; into.starts_with(front));
         }
-        Call::TakeText(peer, wanted) => assert_heard(rt, &outside.take_text(peer), wanted),
+        Call::TakeText(peer, wanted) => match outside.take_text(peer) {
+            Ok(heard) => assert_heard(rt, &heard, wanted),
+            Err(fault) => assert!(rt; false, "{fault}"),
+        },
         Call::SendText(peer, text, wanted) => assert_eq!(rt;
             outside.send_text(peer, text),
             Ok(wanted)

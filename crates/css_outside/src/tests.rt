@@ -45,52 +45,67 @@ fn a_source_gives_pieces_up_to_its_end(rt: HostRuntime) -> Result<(), Fail> {
 #[test]
 fn a_failed_read_takes_nothing(rt: HostRuntime) -> Result<(), Fail> {
     let mut source = MemorySource::new(rt.alloc(), b"abcd", 3, &[2, 4])?;
-    assert_reads(&rt, &mut source, 8, Ok(b"abc"));
-    assert_reads(&rt, &mut source, 8, Err(Failed));
-    assert_reads(&rt, &mut source, 8, Ok(b"d"));
-    assert_reads(&rt, &mut source, 8, Err(Failed));
-    assert_reads(&rt, &mut source, 8, Ok(b""));
+    let rows: [Result<&[u8], Failed>; 5] = [
+        Ok(b"abc"),
+        Err(Failed),
+        Ok(b"d"),
+        Err(Failed),
+        Ok(b""),
+    ];
+    for wanted in rows {
+        assert_reads(&rt, &mut source, 8, wanted);
+    }
     Ok(())
 }
 
 #[test]
 fn a_source_that_never_fails_gives_the_same_pieces(rt: HostRuntime) -> Result<(), Fail> {
     let mut source = NeverFailsSource::new(rt.alloc(), b"abcd", 3)?;
-    assert_reads(&rt, &mut source, 8, Ok(b"abc"));
-    assert_reads(&rt, &mut source, 8, Ok(b"d"));
-    assert_reads(&rt, &mut source, 8, Ok(b""));
+    let rows: [&[u8]; 3] = [b"abc", b"d", b""];
+    for bytes in rows {
+        assert_reads(&rt, &mut source, 8, Ok(bytes));
+    }
     Ok(())
 }
 
 #[test]
 fn a_sink_takes_a_piece_and_none_where_it_fails(rt: HostRuntime) -> Result<(), Fail> {
     let mut sink = MemorySink::new(rt.alloc(), 3, &[2])?;
-    assert_eq!(rt; sink.write(b"abcde"), Ok(3));
-    assert_eq!(rt; sink.write(b"de"), Err(OutFault::Failed));
-    assert_eq!(rt; sink.bytes(), b"abc".as_slice());
-    assert_eq!(rt; sink.write(b""), Ok(0));
-    assert_eq!(rt; sink.write(b"de"), Ok(2));
-    assert_eq!(rt; sink.bytes(), b"abcde".as_slice());
+    let rows: [(&[u8], Result<usize, OutFault>, &[u8]); 4] = [
+        (b"abcde", Ok(3), b"abc"),
+        (b"de", Err(OutFault::Failed), b"abc"),
+        (b"", Ok(0), b"abc"),
+        (b"de", Ok(2), b"abcde"),
+    ];
+    for (bytes, wanted, holds) in rows {
+        assert_eq!(rt; sink.write(bytes), wanted);
+        assert_eq!(rt; sink.bytes(), holds);
+    }
     Ok(())
 }
 
 #[test]
 fn all_is_written_in_pieces(rt: HostRuntime) -> Result<(), Fail> {
     let mut sink = NeverFailsSink::new(rt.alloc(), 1)?;
-    write_all(&mut sink, b"abc")?;
-    write_all(&mut sink, b"")?;
-    write_all(&mut sink, b"d")?;
-    assert_eq!(rt; sink.bytes(), b"abcd".as_slice());
+    let rows: [(&[u8], &[u8]); 3] = [(b"abc", b"abc"), (b"", b"abc"), (b"d", b"abcd")];
+    for (bytes, holds) in rows {
+        assert_eq!(rt; write_all(&mut sink, bytes), Ok(()));
+        assert_eq!(rt; sink.bytes(), holds);
+    }
     Ok(())
 }
 
 #[test]
 fn a_failed_write_leaves_the_front_part(rt: HostRuntime) -> Result<(), Fail> {
     let mut sink = MemorySink::new(rt.alloc(), 2, &[2])?;
-    assert_eq!(rt; write_all(&mut sink, b"abcde"), Err(OutFault::Failed));
-    assert_eq!(rt; sink.bytes(), b"ab".as_slice());
-    assert_eq!(rt; write_all(&mut sink, b"xyz"), Ok(()));
-    assert_eq!(rt; sink.bytes(), b"abxyz".as_slice());
+    let rows: [(&[u8], Result<(), OutFault>, &[u8]); 2] = [
+        (b"abcde", Err(OutFault::Failed), b"ab"),
+        (b"xyz", Ok(()), b"abxyz"),
+    ];
+    for (bytes, wanted, holds) in rows {
+        assert_eq!(rt; write_all(&mut sink, bytes), wanted);
+        assert_eq!(rt; sink.bytes(), holds);
+    }
     Ok(())
 }
 
