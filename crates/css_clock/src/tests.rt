@@ -105,66 +105,129 @@ pub(crate) fn forest(rt: &impl Abort, alloc: Global) -> Result<Tree, Fail> {
     Ok(tree)
 }
 
+/// A call of a forest.
+#[derive(Clone, Copy, Debug)]
+pub(crate) enum Call {
+    /// A root of this tick rate.
+    Root((u32, u32)),
+    /// A clock on this one, with this tick rate, at speed 1 from 0 on.
+    Clock(u32, (u32, u32)),
+    /// A clock's speed, and its correlation.
+    Set(u32, i32, (i64, i64)),
+    /// Whether a clock is available.
+    Available(u32, bool),
+    /// A clock's ticks at a value of its root.
+    Value(u32, i64),
+}
+
+/// What a call answers: the number of a clock, its ticks, or 0.
+fn answer(rt: &impl Abort, tree: &mut Tree, call: Call) -> Result<i64, ClockFault> {
+    match call {
+        Call::Root((tick, second)) => Ok(i64::from(tree.add_root(rate(rt, tick, second))?)),
+        Call::Clock(parent, (tick, second)) => {
+            Ok(i64::from(tree.add(parent, rate(rt, tick, second), 1, 0, 0)?))
+        }
+        Call::Set(id, speed, (parent, child)) => {
+            assert!(rt; -64 <= speed && speed <= 64);
+            tree.set(id, speed, parent, child)?;
+            Ok(0)
+        }
+        Call::Available(id, available) => {
+            tree.set_available(id, available)?;
+            Ok(0)
+        }
+        Call::Value(id, root) => tree.value(id, root),
+    }
+}
+
+/// Makes the calls of a table, each of which is to give its answer.
+fn check(rt: &impl Abort, tree: &mut Tree, rows: &[(Call, Result<i64, ClockFault>)]) {
+    for (call, expected) in rows {
+        assert_eq!(rt; answer(rt, tree, *call), *expected, "{call:?}");
+    }
+}
+
+const READ: [(Call, Result<i64, ClockFault>); 13] = [
+    (Call::Value(2, 39_999_999), Ok(100)),
+    (Call::Value(2, 40_000_000), Ok(101)),
+    (Call::Value(2, 1_000_000_000), Ok(125)),
+    (Call::Value(0, -7), Ok(-7)),
+    (Call::Value(9, 0), Err(ClockFault::NoSuch(9))),
+    (Call::Set(1, -2, (1_000_000_000, 50)), Ok(0)),
+    (Call::Value(1, 1_000_000_001), Ok(49)),
+    (Call::Value(2, 1_000_000_000), Ok(100)),
+    (Call::Available(1, false), Ok(0)),
+    (Call::Available(0, false), Ok(0)),
+    (Call::Value(2, 0), Err(ClockFault::Unavailable(1))),
+    (Call::Available(1, true), Ok(0)),
+    (Call::Value(2, 0), Err(ClockFault::Unavailable(0))),
+];
+
 #[test]
 fn clocks_of_a_forest_are_read(rt: HostRuntime) -> Result<(), Fail> {
     let mut tree = forest(&rt, rt.alloc())?;
-    assert_eq!(rt; tree.value(2, 39_999_999), Ok(100));
-    assert_eq!(rt; tree.value(2, 40_000_000), Ok(101));
-    assert_eq!(rt; tree.value(2, 1_000_000_000), Ok(125));
-    assert_eq!(rt; tree.value(0, -7), Ok(-7));
-    assert_eq!(rt; tree.value(9, 0), Err(ClockFault::NoSuch(9)));
-    assert_eq!(rt; tree.set(1, -2, 1_000_000_000, 50), Ok(()));
-    assert_eq!(rt; tree.value(1, 1_000_000_001), Ok(49));
-    assert_eq!(rt; tree.value(2, 1_000_000_000), Ok(100));
-    assert_eq!(rt; tree.set_available(1, false), Ok(()));
-    assert_eq!(rt; tree.set_available(0, false), Ok(()));
-    assert_eq!(rt; tree.value(2, 0), Err(ClockFault::Unavailable(1)));
-    assert_eq!(rt; tree.set_available(1, true), Ok(()));
-    assert_eq!(rt; tree.value(2, 0), Err(ClockFault::Unavailable(0)));
+    check(&rt, &mut tree, &READ);
     Ok(())
 }
 
+const FAST: [(Call, Result<i64, ClockFault>); 7] = [
+    (Call::Root((1, 1)), Ok(0)),
+    (Call::Clock(0, (1, 1_000_000_000)), Ok(1)),
+    (Call::Clock(1, (1, 1)), Ok(2)),
+    (Call::Set(2, 0, (0, 0)), Ok(0)),
+    (Call::Value(1, 9_000_000_000), Ok(9_000_000_000_000_000_000)),
+    (Call::Value(1, 10_000_000_000), Err(ClockFault::Beyond(1))),
+    (Call::Value(2, 10_000_000_000), Err(ClockFault::Beyond(1))),
+];
+
 #[test]
-fn ticks_are_to_fit(rt: HostRuntime) -> Result<(), Fail> {
-    let mut tree = Tree::new(rt.alloc());
-    let root = tree.add_root(rate(&rt, 1, 1))?;
-    let clock = tree.add(root, rate(&rt, 1, 1_000_000_000), 1, 0, 0)?;
-    let above = tree.add(clock, rate(&rt, 1, 1), 0, 0, 0)?;
-    assert_eq!(rt;
-        tree.value(clock, 9_000_000_000),
-        Ok(9_000_000_000_000_000_000)
-    );
-    assert_eq!(rt;
-        tree.value(clock, 10_000_000_000),
-        Err(ClockFault::Beyond(1))
-    );
-    assert_eq!(rt;
-        tree.value(above, 10_000_000_000),
-        Err(ClockFault::Beyond(1))
-    );
+fn ticks_are_to_fit(rt: HostRuntime) {
+    check(&rt, &mut Tree::new(rt.alloc()), &FAST);
+}
+
+const REFUSED: [(Call, Result<i64, ClockFault>); 4] = [
+    (Call::Set(0, 1, (0, 0)), Err(ClockFault::IsRoot(0))),
+    (Call::Set(3, 1, (0, 0)), Err(ClockFault::NoSuch(3))),
+    (Call::Available(3, true), Err(ClockFault::NoSuch(3))),
+    (Call::Clock(3, (1, 1)), Err(ClockFault::NoSuch(3))),
+];
+
+/// Clock 16 has 16 clocks above it.
+const DEEPEST: [(Call, Result<i64, ClockFault>); 2] = [
+    (Call::Clock(16, (1, 1)), Err(ClockFault::Deep)),
+    (Call::Value(16, 0), Ok(4)),
+];
+
+const FULL: [(Call, Result<i64, ClockFault>); 3] = [
+    (Call::Root((1, 1)), Err(ClockFault::Full)),
+    (Call::Clock(16, (1, 1)), Err(ClockFault::Full)),
+    (Call::Clock(4096, (1, 1)), Err(ClockFault::NoSuch(4096))),
+];
+
+/// Adds clocks, each on the last one, up to this number.
+fn pile(rt: &impl Abort, tree: &mut Tree, last: u32) -> Result<(), Fail> {
+    for parent in 2..last {
+        tree.add(parent, rate(rt, 1, 1), 1, 0, 0)?;
+    }
+    Ok(())
+}
+
+/// Adds roots, so many that the last clock has this number.
+fn fill(rt: &impl Abort, tree: &mut Tree, last: u32) -> Result<(), Fail> {
+    for _ in 16..last {
+        tree.add_root(rate(rt, 1, 1))?;
+    }
     Ok(())
 }
 
 #[test]
 fn calls_of_a_forest_are_refused(rt: HostRuntime) -> Result<(), Fail> {
     let mut tree = forest(&rt, rt.alloc())?;
-    let one = rate(&rt, 1, 1);
-    assert_eq!(rt; tree.set(0, 1, 0, 0), Err(ClockFault::IsRoot(0)));
-    assert_eq!(rt; tree.set(3, 1, 0, 0), Err(ClockFault::NoSuch(3)));
-    assert_eq!(rt; tree.set_available(3, true), Err(ClockFault::NoSuch(3)));
-    assert_eq!(rt; tree.add(3, one, 1, 0, 0), Err(ClockFault::NoSuch(3)));
-    let mut last = 2;
-    for _ in 0..14 {
-        last = tree.add(last, one, 1, 0, 0)?;
-    }
-    assert_eq!(rt; tree.add(last, one, 1, 0, 0), Err(ClockFault::Deep));
-    assert_eq!(rt; tree.value(last, 0), Ok(4));
-    for _ in 17..4096 {
-        tree.add_root(one)?;
-    }
-    assert_eq!(rt; tree.add_root(one), Err(ClockFault::Full));
-    assert_eq!(rt; tree.add(last, one, 1, 0, 0), Err(ClockFault::Full));
-    assert_eq!(rt; tree.add(4096, one, 1, 0, 0), Err(ClockFault::NoSuch(4096)));
+    check(&rt, &mut tree, &REFUSED);
+    pile(&rt, &mut tree, 16)?;
+    check(&rt, &mut tree, &DEEPEST);
+    fill(&rt, &mut tree, 4095)?;
+    check(&rt, &mut tree, &FULL);
     Ok(())
 }
 
