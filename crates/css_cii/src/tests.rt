@@ -6,115 +6,12 @@ use crate::{
 };
 use css_num::{Rate, Text, Timeline, Timelines};
 use std::alloc::Global;
+use std::process::Abort;
 use std::test::Fail;
 
 /// One text a line, behind what comes of it: `json` and `object` for the faults of these names, the name of the
 /// property that has another form, or the text of what it says.
-const TEXTS: &str = r#"{"protocolVersion":null} <- {"protocolVersion":null}
-{"protocolVersion":"a"} <-  { "protocolVersion" : "a" } 
-{"protocolVersion":""} <- {"protocolVersion":""}
-{"protocolVersion":"5"} <- {"protocolVersion":"5"}
-{"protocolVersion":null} <- {"protocolVersion":0.5}
-protocolVersion <- {"protocolVersion":5}
-protocolVersion <- {"protocolVersion":1.0}
-protocolVersion <- {"protocolVersion":-0}
-protocolVersion <- {"protocolVersion":true}
-protocolVersion <- {"protocolVersion":false}
-protocolVersion <- {"protocolVersion":[]}
-protocolVersion <- {"protocolVersion":["a"]}
-protocolVersion <- {"protocolVersion":{}}
-{"mrsUrl":null} <- {"mrsUrl":null}
-{"mrsUrl":"a"} <-  { "mrsUrl" : "a" } 
-{"mrsUrl":""} <- {"mrsUrl":""}
-{"mrsUrl":"5"} <- {"mrsUrl":"5"}
-{"mrsUrl":null} <- {"mrsUrl":0.5}
-mrsUrl <- {"mrsUrl":5}
-mrsUrl <- {"mrsUrl":1.0}
-mrsUrl <- {"mrsUrl":-0}
-mrsUrl <- {"mrsUrl":true}
-mrsUrl <- {"mrsUrl":false}
-mrsUrl <- {"mrsUrl":[]}
-mrsUrl <- {"mrsUrl":["a"]}
-mrsUrl <- {"mrsUrl":{}}
-{"contentId":null} <- {"contentId":null}
-{"contentId":"a"} <-  { "contentId" : "a" } 
-{"contentId":""} <- {"contentId":""}
-{"contentId":"5"} <- {"contentId":"5"}
-{"contentId":null} <- {"contentId":0.5}
-contentId <- {"contentId":5}
-contentId <- {"contentId":1.0}
-contentId <- {"contentId":-0}
-contentId <- {"contentId":true}
-contentId <- {"contentId":false}
-contentId <- {"contentId":[]}
-contentId <- {"contentId":["a"]}
-contentId <- {"contentId":{}}
-{"contentIdStatus":null} <- {"contentIdStatus":null}
-{"contentIdStatus":"a"} <-  { "contentIdStatus" : "a" } 
-{"contentIdStatus":""} <- {"contentIdStatus":""}
-{"contentIdStatus":"5"} <- {"contentIdStatus":"5"}
-{"contentIdStatus":null} <- {"contentIdStatus":0.5}
-contentIdStatus <- {"contentIdStatus":5}
-contentIdStatus <- {"contentIdStatus":1.0}
-contentIdStatus <- {"contentIdStatus":-0}
-contentIdStatus <- {"contentIdStatus":true}
-contentIdStatus <- {"contentIdStatus":false}
-contentIdStatus <- {"contentIdStatus":[]}
-contentIdStatus <- {"contentIdStatus":["a"]}
-contentIdStatus <- {"contentIdStatus":{}}
-{"presentationStatus":null} <- {"presentationStatus":null}
-{"presentationStatus":"a"} <-  { "presentationStatus" : "a" } 
-{"presentationStatus":""} <- {"presentationStatus":""}
-{"presentationStatus":"5"} <- {"presentationStatus":"5"}
-{"presentationStatus":null} <- {"presentationStatus":0.5}
-presentationStatus <- {"presentationStatus":5}
-presentationStatus <- {"presentationStatus":1.0}
-presentationStatus <- {"presentationStatus":-0}
-presentationStatus <- {"presentationStatus":true}
-presentationStatus <- {"presentationStatus":false}
-presentationStatus <- {"presentationStatus":[]}
-presentationStatus <- {"presentationStatus":["a"]}
-presentationStatus <- {"presentationStatus":{}}
-{"wcUrl":null} <- {"wcUrl":null}
-{"wcUrl":"a"} <-  { "wcUrl" : "a" } 
-{"wcUrl":""} <- {"wcUrl":""}
-{"wcUrl":"5"} <- {"wcUrl":"5"}
-{"wcUrl":null} <- {"wcUrl":0.5}
-wcUrl <- {"wcUrl":5}
-wcUrl <- {"wcUrl":1.0}
-wcUrl <- {"wcUrl":-0}
-wcUrl <- {"wcUrl":true}
-wcUrl <- {"wcUrl":false}
-wcUrl <- {"wcUrl":[]}
-wcUrl <- {"wcUrl":["a"]}
-wcUrl <- {"wcUrl":{}}
-{"tsUrl":null} <- {"tsUrl":null}
-{"tsUrl":"a"} <-  { "tsUrl" : "a" } 
-{"tsUrl":""} <- {"tsUrl":""}
-{"tsUrl":"5"} <- {"tsUrl":"5"}
-{"tsUrl":null} <- {"tsUrl":0.5}
-tsUrl <- {"tsUrl":5}
-tsUrl <- {"tsUrl":1.0}
-tsUrl <- {"tsUrl":-0}
-tsUrl <- {"tsUrl":true}
-tsUrl <- {"tsUrl":false}
-tsUrl <- {"tsUrl":[]}
-tsUrl <- {"tsUrl":["a"]}
-tsUrl <- {"tsUrl":{}}
-{"teUrl":null} <- {"teUrl":null}
-{"teUrl":"a"} <-  { "teUrl" : "a" } 
-{"teUrl":""} <- {"teUrl":""}
-{"teUrl":"5"} <- {"teUrl":"5"}
-{"teUrl":null} <- {"teUrl":0.5}
-teUrl <- {"teUrl":5}
-teUrl <- {"teUrl":1.0}
-teUrl <- {"teUrl":-0}
-teUrl <- {"teUrl":true}
-teUrl <- {"teUrl":false}
-teUrl <- {"teUrl":[]}
-teUrl <- {"teUrl":["a"]}
-teUrl <- {"teUrl":{}}
-protocolVersion <- {"timelines":5,"teUrl":5,"protocolVersion":5}
+const TEXTS: &str = r#"protocolVersion <- {"timelines":5,"teUrl":5,"protocolVersion":5}
 protocolVersion <- {"mrsUrl":5,"protocolVersion":true}
 mrsUrl <- {"contentId":5,"mrsUrl":[],"protocolVersion":null}
 contentId <- {"contentIdStatus":5,"contentId":5,"wcUrl":5}
@@ -123,61 +20,7 @@ presentationStatus <- {"wcUrl":5,"presentationStatus":5}
 wcUrl <- {"tsUrl":5,"wcUrl":5}
 tsUrl <- {"teUrl":5,"tsUrl":5}
 teUrl <- {"timelines":5,"teUrl":5}
-{"timelines":null} <- {"timelines":null}
-{"timelines":null} <- {"timelines":1.5}
 {"timelines":null} <- {"timelines":null,"private":0.2}
-{"timelines":[]} <- {"timelines":[]}
-{"timelines":[]} <- {"timelines": [ ] }
-{"timelines":[{"timelineProperties":{"unitsPerSecond":50,"unitsPerTick":1},"timelineSelector":"urn:x:1"}]} <- {"timelines":[{"timelineSelector":"urn:x:1","timelineProperties":{"unitsPerTick":1,"unitsPerSecond":50}}]}
-{"timelines":[{"timelineProperties":{"unitsPerSecond":50,"unitsPerTick":1},"timelineSelector":"urn:x:1"},{"timelineProperties":{"unitsPerSecond":50,"unitsPerTick":1},"timelineSelector":"urn:x:1"}]} <- {"timelines":[{"timelineSelector":"urn:x:1","timelineProperties":{"unitsPerTick":1,"unitsPerSecond":50}},{"timelineSelector":"urn:x:1","timelineProperties":{"unitsPerTick":1,"unitsPerSecond":50}}]}
-{"timelines":[{"timelineProperties":{"unitsPerSecond":50,"unitsPerTick":1},"timelineSelector":"urn:x:1"}]} <- {"timelines":[{"timelineSelector":"urn:x:1","timelineProperties":{"unitsPerTick":1,"unitsPerSecond":50,"accuracy":0.2}}]}
-{"timelines":[{"timelineProperties":{"unitsPerSecond":50,"unitsPerTick":1},"timelineSelector":"urn:x:1"}]} <- {"timelines":[{"timelineSelector":"urn:x:1","timelineProperties":{"unitsPerTick":1.0,"unitsPerSecond":50.000}}]}
-{"timelines":[{"timelineProperties":{"unitsPerSecond":50,"unitsPerTick":1},"timelineSelector":"urn:x:1"}]} <- {"timelines":[{"private":[1],"timelineSelector":"urn:x:1","timelineProperties":{"unitsPerTick":1,"unitsPerSecond":50}}]}
-{"timelines":[{"timelineProperties":{"unitsPerSecond":1000000000,"unitsPerTick":1000000000},"timelineSelector":""}]} <- {"timelines":[{"timelineSelector":"","timelineProperties":{"unitsPerTick":1000000000,"unitsPerSecond":1000000000}}]}
-timelines <- {"timelines":[5]}
-timelines <- {"timelines":[null]}
-timelines <- {"timelines":["urn:x:1"]}
-timelines <- {"timelines":[[]]}
-timelines <- {"timelines":[{}]}
-timelines <- {"timelines":[true]}
-timelines <- {"timelines":[{"timelineSelector":"urn:x:1"}]}
-timelines <- {"timelines":[{"timelineProperties":{"unitsPerTick":1,"unitsPerSecond":50}}]}
-timelines <- {"timelines":[{"timelineSelector":null,"timelineProperties":{"unitsPerTick":1,"unitsPerSecond":50}}]}
-timelines <- {"timelines":[{"timelineSelector":5,"timelineProperties":{"unitsPerTick":1,"unitsPerSecond":50}}]}
-timelines <- {"timelines":[{"timelineSelector":[],"timelineProperties":{"unitsPerTick":1,"unitsPerSecond":50}}]}
-timelines <- {"timelines":[{"timelineSelector":"a","timelineProperties":null}]}
-timelines <- {"timelines":[{"timelineSelector":"a","timelineProperties":[1,50]}]}
-timelines <- {"timelines":[{"timelineSelector":"a","timelineProperties":"1/50"}]}
-timelines <- {"timelines":[{"timelineSelector":"a","timelineProperties":{}}]}
-timelines <- {"timelines":[{"timelineSelector":"a","timelineProperties":5}]}
-timelines <- {"timelines":[{"timelineSelector":"a","timelineProperties":{"unitsPerTick":1}}]}
-timelines <- {"timelines":[{"timelineSelector":"a","timelineProperties":{"unitsPerSecond":50}}]}
-timelines <- {"timelines":[{"timelineSelector":"a","timelineProperties":{"unitsPerTick":0,"unitsPerSecond":50}}]}
-timelines <- {"timelines":[{"timelineSelector":"a","timelineProperties":{"unitsPerTick":1,"unitsPerSecond":0}}]}
-timelines <- {"timelines":[{"timelineSelector":"a","timelineProperties":{"unitsPerTick":-1,"unitsPerSecond":50}}]}
-timelines <- {"timelines":[{"timelineSelector":"a","timelineProperties":{"unitsPerTick":1,"unitsPerSecond":-50}}]}
-timelines <- {"timelines":[{"timelineSelector":"a","timelineProperties":{"unitsPerTick":1000000001,"unitsPerSecond":50}}]}
-timelines <- {"timelines":[{"timelineSelector":"a","timelineProperties":{"unitsPerTick":1,"unitsPerSecond":1000000001}}]}
-timelines <- {"timelines":[{"timelineSelector":"a","timelineProperties":{"unitsPerTick":1.5,"unitsPerSecond":50}}]}
-timelines <- {"timelines":[{"timelineSelector":"a","timelineProperties":{"unitsPerTick":1,"unitsPerSecond":50.5}}]}
-timelines <- {"timelines":[{"timelineSelector":"a","timelineProperties":{"unitsPerTick":1e0,"unitsPerSecond":50}}]}
-timelines <- {"timelines":[{"timelineSelector":"a","timelineProperties":{"unitsPerTick":"1","unitsPerSecond":50}}]}
-timelines <- {"timelines":[{"timelineSelector":"a","timelineProperties":{"unitsPerTick":1,"unitsPerSecond":"50"}}]}
-timelines <- {"timelines":[{"timelineSelector":"a","timelineProperties":{"unitsPerTick":null,"unitsPerSecond":50}}]}
-timelines <- {"timelines":[{"timelineSelector":"a","timelineProperties":{"unitsPerTick":1,"unitsPerSecond":null}}]}
-timelines <- {"timelines":[{"timelineSelector":"a","timelineProperties":{"unitsPerTick":[1],"unitsPerSecond":50}}]}
-timelines <- {"timelines":[{"timelineSelector":"a","timelineProperties":{"unitsPerTick":true,"unitsPerSecond":50}}]}
-timelines <- {"timelines":[{"timelineSelector":"a","timelineProperties":{"unitsPerTick":1,"unitsPerSecond":99999999999999999999}}]}
-timelines <- {"timelines":[{"timelineSelector":"urn:x:1","timelineProperties":{"unitsPerTick":1,"unitsPerSecond":50}},5]}
-timelines <- {"timelines":[{"timelineSelector":"urn:x:1","timelineProperties":{"unitsPerTick":1,"unitsPerSecond":50}},{}]}
-timelines <- {"timelines":[5,{"timelineSelector":"urn:x:1","timelineProperties":{"unitsPerTick":1,"unitsPerSecond":50}}]}
-timelines <- {"timelines":[[{"timelineSelector":"urn:x:1","timelineProperties":{"unitsPerTick":1,"unitsPerSecond":50}}]]}
-timelines <- {"timelines":5}
-timelines <- {"timelines":"a"}
-timelines <- {"timelines":{}}
-timelines <- {"timelines":true}
-timelines <- {"timelines":{"timelineSelector":"urn:x:1","timelineProperties":{"unitsPerTick":1,"unitsPerSecond":50}}}
-timelines <- {"timelines":0}
 {} <- {}
 {} <- {"other":5}
 {} <- {"contentid":5,"ContentId":5," contentId":5}
@@ -225,6 +68,96 @@ json <- {"a":1 "b":2}
 json <- //{}
 json <- {}{}"#;
 
+/// The properties that have words or null.
+const NAMES: [&str; 8] = [
+    "protocolVersion",
+    "mrsUrl",
+    "contentId",
+    "contentIdStatus",
+    "presentationStatus",
+    "wcUrl",
+    "tsUrl",
+    "teUrl",
+];
+
+/// The same of texts that give one of them, whose name is written `@`.
+const FORMS: &str = r#"{"@":null} <- {"@":null}
+{"@":"a"} <-  { "@" : "a" } 
+{"@":""} <- {"@":""}
+{"@":"5"} <- {"@":"5"}
+{"@":null} <- {"@":0.5}
+@ <- {"@":5}
+@ <- {"@":1.0}
+@ <- {"@":-0}
+@ <- {"@":true}
+@ <- {"@":false}
+@ <- {"@":[]}
+@ <- {"@":["a"]}
+@ <- {"@":{}}"#;
+
+/// One list of timelines a line, behind what is written of it, or behind `timelines` where it has another form. The
+/// timeline `urn:x:1` is written `*`.
+const LISTS: &str = r#"null <- null
+null <- 1.5
+[] <- []
+[] <-  [ ] 
+[*] <- [*]
+[*,*] <- [*,*]
+[*] <- [{"timelineSelector":"urn:x:1","timelineProperties":{"unitsPerTick":1,"unitsPerSecond":50,"accuracy":0.2}}]
+[*] <- [{"timelineSelector":"urn:x:1","timelineProperties":{"unitsPerTick":1.0,"unitsPerSecond":50.000}}]
+[*] <- [{"private":[1],"timelineSelector":"urn:x:1","timelineProperties":{"unitsPerTick":1,"unitsPerSecond":50}}]
+timelines <- [5]
+timelines <- [null]
+timelines <- ["urn:x:1"]
+timelines <- [[]]
+timelines <- [{}]
+timelines <- [true]
+timelines <- [{"timelineSelector":"urn:x:1"}]
+timelines <- [{"timelineProperties":{"unitsPerTick":1,"unitsPerSecond":50}}]
+timelines <- [{"timelineSelector":null,"timelineProperties":{"unitsPerTick":1,"unitsPerSecond":50}}]
+timelines <- [{"timelineSelector":5,"timelineProperties":{"unitsPerTick":1,"unitsPerSecond":50}}]
+timelines <- [{"timelineSelector":[],"timelineProperties":{"unitsPerTick":1,"unitsPerSecond":50}}]
+timelines <- [{"timelineSelector":"a","timelineProperties":null}]
+timelines <- [{"timelineSelector":"a","timelineProperties":[1,50]}]
+timelines <- [{"timelineSelector":"a","timelineProperties":"1/50"}]
+timelines <- [{"timelineSelector":"a","timelineProperties":{}}]
+timelines <- [{"timelineSelector":"a","timelineProperties":5}]
+timelines <- [{"timelineSelector":"a","timelineProperties":{"unitsPerTick":1}}]
+timelines <- [{"timelineSelector":"a","timelineProperties":{"unitsPerSecond":50}}]
+timelines <- [{"timelineSelector":"a","timelineProperties":{"unitsPerTick":0,"unitsPerSecond":50}}]
+timelines <- [{"timelineSelector":"a","timelineProperties":{"unitsPerTick":1,"unitsPerSecond":0}}]
+timelines <- [{"timelineSelector":"a","timelineProperties":{"unitsPerTick":-1,"unitsPerSecond":50}}]
+timelines <- [{"timelineSelector":"a","timelineProperties":{"unitsPerTick":1,"unitsPerSecond":-50}}]
+timelines <- [{"timelineSelector":"a","timelineProperties":{"unitsPerTick":1000000001,"unitsPerSecond":50}}]
+timelines <- [{"timelineSelector":"a","timelineProperties":{"unitsPerTick":1,"unitsPerSecond":1000000001}}]
+timelines <- [{"timelineSelector":"a","timelineProperties":{"unitsPerTick":1.5,"unitsPerSecond":50}}]
+timelines <- [{"timelineSelector":"a","timelineProperties":{"unitsPerTick":1,"unitsPerSecond":50.5}}]
+timelines <- [{"timelineSelector":"a","timelineProperties":{"unitsPerTick":1e0,"unitsPerSecond":50}}]
+timelines <- [{"timelineSelector":"a","timelineProperties":{"unitsPerTick":"1","unitsPerSecond":50}}]
+timelines <- [{"timelineSelector":"a","timelineProperties":{"unitsPerTick":1,"unitsPerSecond":"50"}}]
+timelines <- [{"timelineSelector":"a","timelineProperties":{"unitsPerTick":null,"unitsPerSecond":50}}]
+timelines <- [{"timelineSelector":"a","timelineProperties":{"unitsPerTick":1,"unitsPerSecond":null}}]
+timelines <- [{"timelineSelector":"a","timelineProperties":{"unitsPerTick":[1],"unitsPerSecond":50}}]
+timelines <- [{"timelineSelector":"a","timelineProperties":{"unitsPerTick":true,"unitsPerSecond":50}}]
+timelines <- [{"timelineSelector":"a","timelineProperties":{"unitsPerTick":1,"unitsPerSecond":99999999999999999999}}]
+timelines <- [*,5]
+timelines <- [*,{}]
+timelines <- [5,*]
+timelines <- [[*]]
+timelines <- 5
+timelines <- "a"
+timelines <- {}
+timelines <- true
+timelines <- *
+timelines <- 0"#;
+
+/// The timeline `urn:x:1`, as a text gives it and as it is written.
+const GIVEN: &str =
+    r#"{"timelineSelector":"urn:x:1","timelineProperties":{"unitsPerTick":1,"unitsPerSecond":50}}"#;
+
+const WRITTEN: &str =
+    r#"{"timelineProperties":{"unitsPerSecond":50,"unitsPerTick":1},"timelineSelector":"urn:x:1"}"#;
+
 /// What comes of a text, as the table has it.
 fn outcome(alloc: Global, text: &[u8]) -> Result<Text, Fail> {
     let told = match read_message(alloc, text) {
@@ -237,14 +170,66 @@ fn outcome(alloc: Global, text: &[u8]) -> Result<Text, Fail> {
     Ok(told)
 }
 
-#[test]
-fn each_text_is_read_or_refused(rt: HostRuntime) -> Result<(), Fail> {
-    for line in TEXTS.lines() {
+fn assert_outcome(rt: &impl Abort, alloc: Global, text: &str, expected: &str) -> Result<(), Fail> {
+    let told = outcome(alloc, text.as_bytes())?;
+    assert_eq!(rt; told.bytes(), expected.as_bytes(), "{text}");
+    Ok(())
+}
+
+fn assert_rows(rt: &impl Abort, alloc: Global, rows: &str) -> Result<(), Fail> {
+    for line in rows.lines() {
         let (expected, text) = line.split_once(" <- ").ok_or("a line without its outcome")?;
-        let told = outcome(rt.alloc(), text.as_bytes())?;
-        assert_eq!(rt; told.bytes(), expected.as_bytes(), "{text}");
+        assert_outcome(rt, alloc, text, expected)?;
     }
     Ok(())
+}
+
+#[test]
+fn each_text_is_read_or_refused(rt: HostRuntime) -> Result<(), Fail> {
+    assert_rows(&rt, rt.alloc(), TEXTS)
+}
+
+#[test]
+fn properties_of_words_have_the_same_forms(rt: HostRuntime) -> Result<(), Fail> {
+    for name in NAMES {
+        let rows = FORMS.replace(rt.alloc(), "@", name)?;
+        assert_rows(&rt, rt.alloc(), rows.as_str())?;
+    }
+    Ok(())
+}
+
+/// The text with this list of timelines.
+fn text_with(alloc: Global, list: &str, timeline: &str) -> Result<String, Fail> {
+    let list = list.replace(alloc, "*", timeline)?;
+    Ok(format!(in alloc; "{{\"timelines\":{list}}}")?)
+}
+
+fn assert_list(rt: &impl Abort, alloc: Global, list: &str, expected: &str) -> Result<(), Fail> {
+    let text = text_with(alloc, list, GIVEN)?;
+    if expected == "timelines" {
+        return assert_outcome(rt, alloc, text.as_str(), expected);
+    }
+    let expected = text_with(alloc, expected, WRITTEN)?;
+    assert_outcome(rt, alloc, text.as_str(), expected.as_str())
+}
+
+#[test]
+fn each_list_of_timelines_is_read_or_refused(rt: HostRuntime) -> Result<(), Fail> {
+    for line in LISTS.lines() {
+        let (expected, list) = line.split_once(" <- ").ok_or("a line without its outcome")?;
+        assert_list(&rt, rt.alloc(), list, expected)?;
+    }
+    Ok(())
+}
+
+#[test]
+fn the_greatest_rate_is_read(rt: HostRuntime) -> Result<(), Fail> {
+    assert_list(
+        &rt,
+        rt.alloc(),
+        r#"[{"timelineSelector":"","timelineProperties":{"unitsPerTick":1000000000,"unitsPerSecond":1000000000}}]"#,
+        r#"[{"timelineProperties":{"unitsPerSecond":1000000000,"unitsPerTick":1000000000},"timelineSelector":""}]"#,
+    )
 }
 
 #[test]
@@ -274,7 +259,8 @@ fn long_and_deep_texts_are_read_or_refused(rt: HostRuntime) -> Result<(), Fail> 
 }
 
 fn some(alloc: Global, words: &str) -> Result<Option<Text>, Fail> {
-    Ok(Some(Text::of(alloc, words.as_bytes())?))
+    let text = Text::of(alloc, words.as_bytes())?;
+    Ok(Some(text))
 }
 
 fn timelines(
@@ -306,8 +292,20 @@ fn evening(alloc: Global) -> Result<State, Fail> {
     })
 }
 
+/// The full text of that state, in lines.
 const FULL: &str =
-    r#"{"contentId":"dvb://1.2.3","contentIdStatus":"final","mrsUrl":null,"presentationStatus":"okay","protocolVersion":"1.1","teUrl":null,"timelines":[{"timelineProperties":{"unitsPerSecond":90000,"unitsPerTick":1},"timelineSelector":"urn:dvb:css:timeline:pts"}],"tsUrl":"ws://127.0.0.1:6678/ts","wcUrl":"udp://127.0.0.1:6677"}"#;
+    r#"{"contentId":"dvb://1.2.3","contentIdStatus":"final","mrsUrl":null,"presentationStatus":"okay",
+"protocolVersion":"1.1","teUrl":null,"timelines":[{"timelineProperties":{"unitsPerSecond":90000,"unitsPerTick":1},
+"timelineSelector":"urn:dvb:css:timeline:pts"}],"tsUrl":"ws://127.0.0.1:6678/ts","wcUrl":"udp://127.0.0.1:6677"}"#;
+
+/// A text with a rate that tells its accuracy too.
+const ACCURATE: &str = r#"{"timelines":[{"timelineSelector":"urn:x:1",
+"timelineProperties":{"unitsPerTick":1,"unitsPerSecond":50,"accuracy":0.2}}]}"#;
+
+/// The text without its line feeds.
+fn joined(alloc: Global, text: &str) -> Result<String, Fail> {
+    Ok(text.replace(alloc, "\n", "")?)
+}
 
 /// The state after a text.
 fn after(alloc: Global, state: &State, text: &str) -> Result<State, Fail>
@@ -324,12 +322,11 @@ fn after(alloc: Global, state: &State, text: &str) -> Result<State, Fail>
 fn a_full_state_is_read(rt: HostRuntime) -> Result<(), Fail> {
     let alloc = rt.alloc();
     let state = evening(alloc)?;
-    let told = after(alloc, &State::empty(), FULL)?;
+    let text = joined(alloc, FULL)?;
+    let told = after(alloc, &State::empty(), text.as_str())?;
     assert!(rt; told == state);
-    assert_eq!(rt;
-        write_message(alloc, &full(&told)?)?.bytes(),
-        FULL.as_bytes()
-    );
+    let written = write_message(alloc, &full(&told)?)?;
+    assert_eq!(rt; written.bytes(), text.as_bytes());
     Ok(())
 }
 
@@ -344,16 +341,12 @@ fn texts_change_what_they_say(rt: HostRuntime) -> Result<(), Fail> {
     let third = after(alloc, &second, r#"{"timelines":null,"private":0.2}"#)?;
     expected.timelines = None;
     assert!(rt; third == expected);
-    let text =
-        r#"{"timelines":[{"timelineSelector":"urn:x:1","timelineProperties":{"unitsPerTick":1,"unitsPerSecond":50,"accuracy":0.2}}]}"#;
-    let fourth = after(alloc, &third, text)?;
+    let fourth = after(alloc, &third, ACCURATE)?;
     expected.timelines = timelines(alloc, "urn:x:1", 50)?;
     assert!(rt; fourth == expected);
     let written = write_message(alloc, &diff(&third, &fourth)?)?;
-    assert_eq!(rt;
-        written.bytes(),
-        br#"{"timelines":[{"timelineProperties":{"unitsPerSecond":50,"unitsPerTick":1},"timelineSelector":"urn:x:1"}]}"#.as_slice()
-    );
+    let text = text_with(alloc, "[*]", WRITTEN)?;
+    assert_eq!(rt; written.bytes(), text.as_bytes());
     Ok(())
 }
 
@@ -380,18 +373,27 @@ fn differences_say_what_differs(rt: HostRuntime) -> Result<(), Fail> {
     Ok(())
 }
 
+/// What a session tells that begins with the first state and goes on to the second.
+fn session_of(alloc: Global, first: &State, second: &State) -> Result<Vec<Change>, Fail> {
+    let begun = full(first)?;
+    let changed = diff(first, second)?;
+    Ok(vec![in alloc; begun, changed]?)
+}
+
+fn assert_merged(rt: &impl Abort, changes: &[Change], state: &State) -> Result<(), Fail> {
+    let merged = merge(changes)?;
+    assert!(rt; merged == *state);
+    Ok(())
+}
+
 #[test]
 fn a_session_gives_its_last_state(rt: HostRuntime) -> Result<(), Fail> {
-    let alloc = rt.alloc();
-    let state = evening(alloc)?;
-    let mut later = evening(alloc)?;
+    let state = evening(rt.alloc())?;
+    let mut later = evening(rt.alloc())?;
     later.content_id = None;
-    let mut changes: Vec<Change> = Vec::new(alloc);
-    assert!(rt; merge(changes.as_slice())? == State::empty());
-    changes.push(full(&state)?)?;
-    changes.push(diff(&state, &later)?)?;
-    assert!(rt; merge(changes.as_slice())? == later);
-    Ok(())
+    let changes = session_of(rt.alloc(), &state, &later)?;
+    assert_merged(&rt, changes.as_slice(), &later)?;
+    assert_merged(&rt, &[], &State::empty())
 }
 
 #[test]
