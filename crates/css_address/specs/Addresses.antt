@@ -1,5 +1,5 @@
 -- The address that the text of a URL gives.
-use Rattle.std.specs.Prelude.{ℕ, List, [], ◌∷◌, ◌++◌, length, codes, bytes_eq, Bool, ◌&&◌, nat_le}
+use Rattle.std.specs.Prelude.{ℕ, List, [], ◌++◌, length, codes, bytes_eq, Bool, ◌&&◌, nat_le}
 use Rattle.std.specs.Prelude.{Option, Some, None, option_map, Result, Ok, Err, if◌then◌else◌}
 use Rattle.std.specs.Option.{option_or}
 use Rattle.std.specs.Str.{is_utf8}
@@ -9,7 +9,7 @@ use Rattle.url.specs.Parser.{Parsed, parse_url}
 use Rattle.css_model.specs.History.{Address}
 use Rattle.css_model.specs.declared.Kind.{Kind}
 use Rattle.css_model.specs.declared.Kind.TheVariants as kind
-use Rattle.css_address.specs.declared.TheConstants.{LONGEST_ADDRESS}
+use Rattle.css_address.specs.declared.reading.TheConstants.{LONGEST_ADDRESS}
 use Rattle.css_address.specs.declared.fault.AddressFault.{AddressFault}
 use Rattle.css_address.specs.declared.fault.AddressFault.TheVariants.{Bad}
 

@@ -79,6 +79,8 @@ pub fn address(alloc: Global, kind: Kind, text: &[u8]) -> Result<Address, Addres
     let Ok(text) = str::from_utf8(text) else {
         return Err(AddressFault::Bad);
     };
-    let url = Url::parse(alloc, text)?;
-    address_in(alloc, kind, &url)
+    match Url::parse(alloc, text) {
+        Ok(url) => address_in(alloc, kind, &url),
+        Err(error) => Err(AddressFault::from(error)),
+    }
 }
