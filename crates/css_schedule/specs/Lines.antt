@@ -199,7 +199,7 @@ close_at words = do
   Ok (verbs.Close kind.0, kind.1)
 
 -- ---- lines
--- the operands of the verb with this name, where it is one of a session; else it is a viewer's, or none
+-- the operands of the verb with this name, where it is one of a session or a viewer's
 unfoldable pub session_at : List ℕ → At Verb
 session_at name words =
     if bytes_eq name (codes "open") then opening_at words
@@ -209,7 +209,7 @@ session_at name words =
     else if bytes_eq name (codes "close") then close_at words
     else viewer_at name words
 
--- those of a report, a programme or a timeline, or else of a session
+-- the operands of the verb with this name, where it isn't one of the wall clock
 unfoldable pub timelines_at : List ℕ → At Verb
 timelines_at name words =
     if bytes_eq name (codes "print") then print_at words
@@ -217,7 +217,7 @@ timelines_at name words =
     else if bytes_eq name (codes "timeline") then timeline_at words
     else session_at name words
 
--- those of the wall clock, or else of the timelines: so each verb's
+-- the operands of the verb with this name
 unfoldable pub operands_at : List ℕ → At Verb
 operands_at name words =
     if bytes_eq name (codes "ask") then ask_at words

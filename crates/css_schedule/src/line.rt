@@ -37,8 +37,8 @@ pub enum Verb {
     Programme {
         content_id: Text,
     },
-    /// The television adds a timeline to a programme, by number. Its base is the tick at the media position 0, and has
-    /// at most 18 digits.
+    /// The television adds a timeline to a programme, by number. Its rate is in ticks per second. Its base is the tick
+    /// at the media position 0, and has at most 18 digits.
     Timeline {
         programme: u32,
         selector: Text,

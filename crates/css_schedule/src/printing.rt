@@ -180,6 +180,8 @@ fn add_verb(text: &mut Text, verb: &Verb) -> Result<(), Memory>
 }
 
 /// Writes a line of a schedule after its header, without its line feed. `read_line` reads the same line back.
+///
+/// The line's numbers are in the ranges that `read_line` names, and its texts are words of bytes from `!` to `~`.
 #[tactic(auto, using(crate::proofs::ReadBack::line_back))]
 pub fn print_line(alloc: Global, line: &Line, version: u32) -> Result<Text, Memory>
     requires version { version ≡ 1 }
@@ -242,7 +244,8 @@ fn add_header(text: &mut Text, header: &Header) -> Result<(), Memory>
 
 /// Writes the first line of a schedule, without its line feed. `read_header` reads the same header back.
 ///
-/// The header's selector is a word of bytes from `!` to `~`, and its stem is empty or such a word other than `-`.
+/// The header's numbers are in the ranges that `read_header` names. Its selector is a word of bytes from `!` to `~`, and
+/// its stem is empty or such a word other than `-`.
 #[tactic(auto, using(crate::proofs::ReadBack::header_back))]
 pub fn print_header(alloc: Global, header: &Header, version: u32) -> Result<Text, Memory>
     requires version { version ≡ 1 }

@@ -142,7 +142,7 @@ fn close<'a>(words: Words<'a>) -> Result<(Verb, Words<'a>), LineFault>
     Ok((Verb::Close { kind }, rest))
 }
 
-// The operands of the verb with this name, where it is one of a session; else it is a viewer's, or none.
+// The operands of the verb with this name, where it is one of a session or a viewer's.
 #[tactic(auto, unfolding(crate::specs::Lines::session_at))]
 fn session<'a>(name: &[u8], words: Words<'a>) -> Result<(Verb, Words<'a>), LineFault>
     ensures { Reads result (lines.session_at name.now (words_left words.entry)) }
@@ -162,7 +162,7 @@ fn session<'a>(name: &[u8], words: Words<'a>) -> Result<(Verb, Words<'a>), LineF
     }
 }
 
-// Those of a report, a programme or a timeline, or else of a session.
+// The operands of the verb with this name, where it isn't one of the wall clock.
 #[tactic(auto, unfolding(crate::specs::Lines::timelines_at))]
 fn timelines<'a>(
     alloc: Global,
@@ -182,7 +182,7 @@ fn timelines<'a>(
     }
 }
 
-// The verbs of the wall clock, which most lines have.
+// The verbs of the wall clock. Most lines have one of them, so they are found by one match on the name.
 #[derive(Clone, Copy)]
 enum ClockVerb {
     Ask,
@@ -206,7 +206,7 @@ fn clock_verb(name: &[u8]) -> Option<ClockVerb>
     }
 }
 
-// Those of the wall clock, or else of the timelines.
+// The operands of the verb with this name.
 #[tactic(auto, using(crate::proofs::Dispatch::by_clock_verb))]
 fn operands<'a>(
     alloc: Global,
@@ -233,7 +233,7 @@ fn verb<'a>(alloc: Global, words: Words<'a>) -> Result<(Verb, Words<'a>), LineFa
     operands(alloc, name, rest)
 }
 
-// The line of the one companion that these words are.
+// The line that these words are. There is one companion.
 #[tactic(auto, unfolding(crate::specs::Lines::line_of_words))]
 fn line(alloc: Global, words: Words<'_>, companions: u32) -> Result<Line, LineFault>
     requires { companions ≡ 1 }
