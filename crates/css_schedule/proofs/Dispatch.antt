@@ -18,7 +18,8 @@ chosen_at (Some Wall) name words = wall_at words
 chosen_at None name words = timelines_at name words
 
 -- they are those of the verb with this name
-pub by_clock_verb : (name : List ℕ) (words : List (List ℕ)) → operands_at name words ≡ chosen_at (clock_verb_of name) name words
+pub by_clock_verb : (name : List ℕ) (words : List (List ℕ))
+    → operands_at name words ≡ chosen_at (clock_verb_of name) name words
 unfolding operands_at
 by_clock_verb name words =
     by (bytes_eq name (codes "ask")) (bytes_eq name (codes "take")) (bytes_eq name (codes "give"))

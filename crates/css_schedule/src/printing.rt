@@ -244,8 +244,8 @@ fn add_header(text: &mut Text, header: &Header) -> Result<(), Memory>
 
 /// Writes the first line of a schedule, without its line feed. `read_header` reads the same header back.
 ///
-/// The header's numbers are in the ranges that `read_header` names. Its selector is a word of bytes from `!` to `~`, and
-/// its stem is empty or such a word other than `-`.
+/// The header's numbers are in the ranges that `read_header` names. Its selector is a word of bytes from `!` to `~`,
+/// and its stem is empty or such a word other than `-`.
 #[tactic(auto, using(crate::proofs::ReadBack::header_back))]
 pub fn print_header(alloc: Global, header: &Header, version: u32) -> Result<Text, Memory>
     requires version { version ≡ 1 }
