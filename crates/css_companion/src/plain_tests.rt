@@ -307,7 +307,7 @@ fn compare(
 
 /// How many of 600 reports have ticks.
 fn watch(rt: &impl Abort, alloc: Global, seed: u64) -> Result<u64, Fail> {
-    let mut companion = new_companion(alloc, "urn:x:1", "dvb://", EXACT)?;
+    let mut companion = new_companion(rt, alloc, "urn:x:1", "dvb://", EXACT);
     let mut list: Vec<Happened> = Vec::new(alloc);
     let mut word = seed;
     let mut count: u64 = 0;

@@ -1,4 +1,5 @@
-ghost use Rattle.std.specs.Prelude.{◌≡◌, ◌≤◌, ◌<◌, ◌+◌, IfOk, OnOk};
+ghost use Rattle.std.specs.Prelude.{◌≡◌, ◌≤◌, ◌<◌, OnOk};
+ghost use Rattle.std.specs.Str.{IsUtf8};
 ghost use Rattle.css_companion.specs.Steps.{IsEvent};
 
 use crate::tables::{Answer, EARLY, EXACT, Happened, PRESENTS, RUNS, Row, Run, STAMPS};
@@ -12,20 +13,27 @@ use std::alloc::Global;
 use std::process::Abort;
 use std::test::Fail;
 
+fn text(rt: &impl Abort, alloc: Global, words: &str) -> Text
+    ensures { IsUtf8 result }
+{
+    Text::of(alloc, words.as_bytes()).expect(rt, "no memory")
+}
+
 pub(crate) fn new_companion(
+    rt: &impl Abort,
     alloc: Global,
     selector: &str,
     stem: &str,
     local: Local,
-) -> Result<Companion, Memory>
-    ensures { IfOk result (λ companion. companion.client.floor ≡ 0) }
+) -> Companion
+    ensures { result.client.floor ≡ 0 }
 {
     let config = CompanionConfig {
-        selector: Text::of(alloc, selector.as_bytes())?,
-        stem: Text::of(alloc, stem.as_bytes())?,
+        selector: text(rt, alloc, selector),
+        stem: text(rt, alloc, stem),
         local,
     };
-    Companion::new(alloc, config)
+    Companion::new(alloc, config).expect(rt, "no memory")
 }
 
 /// An answer to the request of a reading in the first second, with one value for its receive and transmit times, in
@@ -53,31 +61,38 @@ fn hear(companion: &mut Companion, answer: Answer) -> Result<Landing, Memory>
     companion.land(&bytes, answer.landed)
 }
 
-/// The event, where it is none of the questions.
-fn event_of(alloc: Global, happened: Happened) -> Result<CompanionEvent, Memory>
-    ensures { IfOk result IsEvent }
+/// The text that comes, if one does.
+fn words_of(happened: Happened) -> &'static str {
+    match happened {
+        Happened::Cii(words) | Happened::Ts(words) => words,
+        _ => "",
+    }
+}
+
+/// The event with this text. A question is taken for one that does nothing.
+fn event_of(happened: Happened, text: Text) -> CompanionEvent
+    ensures { IsEvent result }
 {
     match happened {
-        Happened::Cii(text) => Ok(CompanionEvent::CiiText(Text::of(alloc, text.as_bytes())?)),
-        Happened::CiiClosed => Ok(CompanionEvent::CiiClosed),
-        Happened::TsOpened => Ok(CompanionEvent::TsOpened),
-        Happened::Ts(text) => Ok(CompanionEvent::TsText(Text::of(alloc, text.as_bytes())?)),
-        Happened::TsClosed => Ok(CompanionEvent::TsClosed),
-        Happened::Present => Ok(CompanionEvent::Present {
+        Happened::Cii(_) => CompanionEvent::CiiText(text),
+        Happened::Ts(_) => CompanionEvent::TsText(text),
+        Happened::TsOpened => CompanionEvent::TsOpened,
+        Happened::TsClosed => CompanionEvent::TsClosed,
+        Happened::Present => CompanionEvent::Present {
             earliest: Bound::At {
                 content: 900_000,
                 wall: 10_040_000_000,
             },
             latest: Bound::PlusInfinity { content: 900_000 },
-        }),
-        Happened::PresentAny => Ok(CompanionEvent::Present {
+        },
+        Happened::PresentAny => CompanionEvent::Present {
             earliest: Bound::MinusInfinity { content: -1 },
             latest: Bound::At {
                 content: 2,
                 wall: 3,
             },
-        }),
-        Happened::Rate | Happened::Assigned(_) | Happened::State => Err(Memory),
+        },
+        _ => CompanionEvent::CiiClosed,
     }
 }
 
@@ -98,8 +113,8 @@ fn refusal(alloc: Global, fault: &CompanionFault) -> Result<Text, Memory> {
 fn happen(companion: &mut Companion, alloc: Global, happened: Happened) -> Result<Text, Memory>
     ensures { companion.new.client ≡ companion.old.client }
 {
-    let event = event_of(alloc, happened)?;
-    match companion.step(event) {
+    let text = Text::of(alloc, words_of(happened).as_bytes())?;
+    match companion.step(event_of(happened, text)) {
         Ok(Some(owed)) => Ok(owed),
         Ok(None) => Text::of(alloc, b"-"),
         Err(fault) => refusal(alloc, &fault),
@@ -143,9 +158,8 @@ fn play(rt: &impl Abort, alloc: Global, companion: &mut Companion, reading: u64,
 }
 
 /// A run from its beginning to its end.
-fn watch(rt: &impl Abort, alloc: Global, run: Run) {
-    let made = new_companion(alloc, run.selector, run.stem, run.local);
-    let mut companion = made.expect(rt, "no memory");
+fn watch(rt: &impl Abort, alloc: Global, run: &Run) {
+    let mut companion = new_companion(rt, alloc, run.selector, run.stem, run.local);
     match run.answer {
         None => play(rt, alloc, &mut companion, 0, run.rows),
         Some(answer) => {
@@ -158,7 +172,7 @@ fn watch(rt: &impl Abort, alloc: Global, run: Run) {
 
 #[test]
 fn a_companion_reports_what_it_was_told(rt: HostRuntime) {
-    for run in RUNS {
+    for run in RUNS.iter() {
         watch(&rt, rt.alloc(), run);
     }
 }
@@ -199,8 +213,7 @@ fn accept(rt: &impl Abort, companion: &mut Companion, answer: Answer)
 #[test]
 fn a_sleep_ends_the_wall_clock_alone(rt: HostRuntime) {
     let alloc = rt.alloc();
-    let made = new_companion(alloc, STAMPS, "dvb://", EXACT);
-    let mut companion = made.expect(&rt, "no memory");
+    let mut companion = new_companion(&rt, alloc, STAMPS, "dvb://", EXACT);
     accept(&rt, &mut companion, EARLY);
     play(&rt, alloc, &mut companion, 400, PRESENTS);
     sleep(&rt, &mut companion);

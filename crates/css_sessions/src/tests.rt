@@ -97,16 +97,21 @@ fn publish(
     Ok(())
 }
 
+/// Appends a text behind its peer.
+fn push_said(all: &mut Text, said: &Said) -> Result<(), Memory> {
+    if !all.bytes().is_empty() {
+        all.push(b" ")?;
+    }
+    all.push_number(i128::from(said.peer))?;
+    all.push(b" ")?;
+    all.push(said.text.bytes())
+}
+
 /// All texts, each behind its peer.
 fn all_said(alloc: Global, said: &[Said]) -> Result<Text, Memory> {
     let mut all = Text::new(alloc);
-    for (i, one) in said.iter().enumerate() {
-        if i > 0 {
-            all.push(b" ")?;
-        }
-        all.push_number(i128::from(one.peer))?;
-        all.push(b" ")?;
-        all.push(one.text.bytes())?;
+    for one in said {
+        push_said(&mut all, one)?;
     }
     Ok(all)
 }
@@ -179,13 +184,6 @@ fn a_copy_goes_its_own_way(rt: HostRuntime) {
     play(&rt, rt.alloc(), &mut copy, tables::CLOSED);
 }
 
-/// How many texts a setup of peer 3 is answered by.
-fn set_up(sessions: &mut Sessions, alloc: Global, text: &[u8]) -> Result<usize, SessionFault> {
-    let mut out = Vec::new(alloc);
-    sessions.setup(alloc, 3, text, &Player::new(alloc), &mut out)?;
-    Ok(out.len())
-}
-
 /// The setup with this stem.
 fn with_stem(alloc: Global, stem: &str) -> Result<String, Memory> {
     Ok(format!(in alloc; "{{\"contentIdStem\":\"{stem}\",\"timelineSelector\":\"\"}}")?)
@@ -193,14 +191,18 @@ fn with_stem(alloc: Global, stem: &str) -> Result<String, Memory> {
 
 #[test]
 fn long_setups_are_read(rt: HostRuntime) {
-    let mut sessions = Sessions::new(rt.alloc());
-    play(&rt, rt.alloc(), &mut sessions, tables::OPEN);
-    let long = "x".repeat(rt.alloc(), 1 << 20).expect(&rt, "no memory");
-    let refused = set_up(&mut sessions, rt.alloc(), long.as_bytes());
+    let alloc = rt.alloc();
+    let player = Player::new(alloc);
+    let mut out = Vec::new(alloc);
+    let mut sessions = Sessions::new(alloc);
+    play(&rt, alloc, &mut sessions, tables::OPEN);
+    let long = "x".repeat(alloc, 1 << 20).expect(&rt, "no memory");
+    let refused = sessions.setup(alloc, 3, long.as_bytes(), &player, &mut out);
     assert_eq!(rt; refused, Err(SessionFault::BadText(TsFault::NotJson)));
-    let text = with_stem(rt.alloc(), long.as_str()).expect(&rt, "no memory");
-    let told = set_up(&mut sessions, rt.alloc(), text.as_bytes());
-    assert_eq!(rt; told, Ok(1));
+    let text = with_stem(alloc, long.as_str()).expect(&rt, "no memory");
+    let taken = sessions.setup(alloc, 3, text.as_bytes(), &player, &mut out);
+    assert_eq!(rt; taken, Ok(()));
+    assert_eq!(rt; out.len(), 1);
 }
 
 /// Opens the sessions of the peers below this one.

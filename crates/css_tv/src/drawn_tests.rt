@@ -6,7 +6,8 @@ use crate::model::{
     is_programme, opening, programmes, published_before, setting_up, setup_text, texts, timelines,
     wanted_by,
 };
-use crate::{Tv, TvConfig, TvEvent, TvOut};
+use crate::tests::{open, television};
+use crate::{Tv, TvEvent, TvOut};
 use css_num::{Rate, Text};
 use css_player::Command;
 use css_sessions::Kind;
@@ -41,17 +42,6 @@ struct Run {
     out: Vec<TvOut>,
     opened: u32,
     hung_up: Vec<u32>,
-}
-
-fn television(alloc: Global) -> Result<Tv, Fail> {
-    let config = TvConfig {
-        precision: -20,
-        error: 0,
-        follow: true,
-        host: Text::of(alloc, "127.0.0.1".as_bytes())?,
-        port: 6677,
-    };
-    Ok(Tv::new(alloc, config)?)
 }
 
 /// An event is to be accepted exactly where the model accepts it.
@@ -200,7 +190,7 @@ impl Run {
         if peer >= PEERS || self.tv.is_open(peer) {
             return Ok(());
         }
-        self.tv.step(TvEvent::Opened { peer, kind }, &mut self.out)?;
+        open(&mut self.tv, peer, kind, &mut self.out)?;
         self.opened = peer.wrapping_add(1);
         self.steps.push(Step::Open { peer, kind })?;
         Ok(())

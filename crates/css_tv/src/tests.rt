@@ -92,6 +92,9 @@ fn carry_out(
 
 /// Appends a text behind its peer, or that the peer's session is closed.
 fn push_done(all: &mut Text, done: &TvOut) -> Result<(), Memory> {
+    if !all.bytes().is_empty() {
+        all.push(b" ")?;
+    }
     let (peer, words) = match done {
         TvOut::Say { peer, text } => (*peer, text.bytes()),
         TvOut::HangUp { peer } => (*peer, b"hang up".as_slice()),
@@ -104,10 +107,7 @@ fn push_done(all: &mut Text, done: &TvOut) -> Result<(), Memory> {
 /// What is done at the sessions.
 fn all_done(alloc: Global, out: &[TvOut]) -> Result<Text, Memory> {
     let mut all = Text::new(alloc);
-    for (i, done) in out.iter().enumerate() {
-        if i > 0 {
-            all.push(b" ")?;
-        }
+    for done in out {
         push_done(&mut all, done)?;
     }
     Ok(all)

@@ -2,5 +2,5 @@
 use Rattle.std.proofs.Common.{◌≡◌}
 use Rattle.css_companion.proofs.tests.play.Given as goal
 
-abbrev pub invariant-loop-event : goal.invariant-loop-event
-invariant-loop-event g l = l.companion.client ≡ l.fn.companion.client
+abbrev pub invariant-loop-happened : goal.invariant-loop-happened
+invariant-loop-happened g l = l.companion.client ≡ l.fn.companion.client
