@@ -3,8 +3,9 @@
 
     bench/replay.py [COUNT ..]          10,000, 100,000 and 1,000,000 lines, where no counts are given
 
-For each count two schedules are made: one of exchanges in flight out of order, with follow-ups, in which one line in
-five is `wall`, and one of `wall` lines alone after a first exchange. Printed are nanoseconds of processor time a line,
+For each count three schedules are made: one of exchanges in flight out of order, with follow-ups, in which one line in
+five is `wall`; one of `wall` lines alone after a first exchange; and an evening with such exchanges, viewer commands, texts
+and presentations, in which one line in five is `print`. Printed are nanoseconds of processor time a line,
 where that of a header alone is taken off, and the peak of resident memory. Where valgrind is installed, the smallest
 count is run under it too, and instructions a line are printed: they don't depend on the machine's load.
 """
@@ -82,6 +83,76 @@ def walls(count, out):
         out.write(clocks.line(f"wall {clocks.own()}"))
 
 
+BEGINNING = (
+    "programme dvb://1.2.3",
+    "timeline 1 urn:dvb:css:timeline:pts 1 90000 0",
+    "programme dvb://1.2.4",
+    "timeline 2 urn:dvb:css:timeline:pts 1 90000 900000",
+    "change {wall} 1",
+    "open cii",
+    "text cii",
+    "open ts",
+    "up ts",
+    "text ts",
+)
+
+
+def evening(count, out):
+    """Both ends: exchanges, viewers who pause, seek and change the programme, texts in flight, and presentations."""
+    draw = random.Random(1)
+    clocks = Clocks()
+    for words in BEGINNING:
+        out.write(clocks.line(words.format(wall=clocks.wall())))
+    requests = datagrams = takes = speed = 1
+    programme, states, controls, presentations = 1, 0, 0, 0
+    for words in ("ask {own}", "take 1 {wall}", "give 1 {wall}", "land 1 {own}"):
+        clocks.pass_time(100_000)
+        out.write(clocks.line(words.format(own=clocks.own(), wall=clocks.wall())))
+    datagrams = 2
+    for number in range(count - len(BEGINNING) - 4):
+        clocks.pass_time(30_000 + draw.randrange(900_000))
+        wall, own = clocks.wall(), clocks.own()
+        kind = number % 10
+        if kind in (0, 5):
+            words = f"print {own}"
+        elif kind == 1:
+            requests += 1
+            words = f"ask {own}"
+        elif kind == 2:
+            takes += 1
+            words = f"take {requests - draw.randrange(min(requests, 4))} {wall}"
+        elif kind == 3:
+            datagrams += 2
+            words = f"give {takes} {wall}"
+        elif kind in (4, 8):
+            words = f"land {datagrams - draw.randrange(min(datagrams, 8))} {own}"
+        elif kind == 6:
+            controls += 1
+            if number % 100 == 6:
+                programme, states, speed = 3 - programme, states + 1, 1
+                words = f"change {wall} {programme}"
+            elif number % 30 == 6:
+                words = f"seek {wall} {draw.randrange(10**13)}"
+            else:
+                speed = 1 - speed
+                words = f"speed {wall} {speed}"
+        elif kind == 7 and number % 20 == 7:
+            presentations += 1
+            words = "present 900000 minusinfinity 900000 plusinfinity"
+        elif presentations and kind == 7:
+            presentations -= 1
+            words = "up ts"
+        elif states and (not controls or number % 40 == 9):
+            states -= 1
+            words = "text cii"
+        elif controls:
+            controls -= 1
+            words = "text ts"
+        else:
+            words = f"wall {own}"
+        out.write(clocks.line(words))
+
+
 def run(path):
     """Processor seconds of one replay."""
     with open(path, "rb") as schedule, open(os.devnull, "wb") as nothing:
@@ -125,7 +196,7 @@ def write_schedule(name, count, write, folder):
 def measure(name, count, write, empty, folder):
     path = write_schedule(name, count, write, folder)
     seconds = min(run(path) for _ in range(5)) - empty
-    print(f"{name:6} {count:>9} lines  {seconds / count * 1e9:7.0f} ns a line  peak {peak(path):>7} kB")
+    print(f"{name:7} {count:>9} lines  {seconds / count * 1e9:7.0f} ns a line  peak {peak(path):>7} kB")
 
 
 def main():
@@ -140,11 +211,12 @@ def main():
         for count in counts:
             measure("mixed", count, mixed, empty, folder)
             measure("walls", count, walls, empty, folder)
+            measure("evening", count, evening, empty, folder)
         if shutil.which("valgrind"):
             count, alone = min(counts), instructions(path)
-            for name, write in (("mixed", mixed), ("walls", walls)):
+            for name, write in (("mixed", mixed), ("walls", walls), ("evening", evening)):
                 counted = instructions(write_schedule(name, count, write, folder)) - alone
-                print(f"{name:6} {count:>9} lines  {counted / count:7.0f} instructions a line")
+                print(f"{name:7} {count:>9} lines  {counted / count:7.0f} instructions a line")
 
 
 if __name__ == "__main__":

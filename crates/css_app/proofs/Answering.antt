@@ -11,7 +11,7 @@ use Rattle.css_world.specs.Happened.{Numbered}
 use Rattle.css_world.specs.Verdicts.{line_meant}
 use Rattle.css_app.specs.declared.replay.Cause.{Cause}
 use Rattle.css_world.specs.declared.fault.WorldFault.{WorldFault}
-use Rattle.css_world.specs.declared.fault.WorldFault.TheVariants.{Broken, Absent, Memory}
+use Rattle.css_world.specs.declared.fault.WorldFault.TheVariants.{Broken, Absent, Player, Memory}
 use Rattle.css_world.specs.Standing.{appended}
 use Rattle.css_app.specs.Replayed.{caused, read_meant}
 use Rattle.css_app.specs.Stands.{refused_fault}
@@ -34,6 +34,8 @@ faulted meant old (Broken earlier excess) (inl e) = ap caused (caused-err meant 
 faulted meant old (Broken earlier excess) (inr e) = absurd (cc)
 faulted meant old Absent (inl e) = ap caused (caused-err meant old Absent e)
 faulted meant old Absent (inr e) = absurd (cc)
+faulted meant old (Player fault) (inl e) = ap caused (caused-err meant old (Player fault) e)
+faulted meant old (Player fault) (inr e) = absurd (cc)
 faulted meant old Memory h = tt
 
 -- a line that was carried out answers what is meant

@@ -3,6 +3,7 @@ use Rattle.std.proofs.Common.{◌≡◌, ℕ, ◌+◌, ◌⊎◌, inl, inr, arit
 use Rattle.std.specs.Int.{w8}
 use Rattle.std.specs.Prelude.{ℤ, pos, negsuc, ◌≤ℤ◌, FitsSigned, Option, Some, None, unwrap_or, slice_get, IfSome, MatchOption, Result, Ok, Err}
 use Rattle.std.specs.Option.{option_map}
+use Rattle.std.specs.Result.{result_and}
 use Rattle.std.proofs.lemmas.List.{append_assoc, append-nil}
 use Rattle.css_num.specs.Spans.{Covers}
 use Rattle.std.proofs.lemmas.Int.{ints}
@@ -20,34 +21,50 @@ use Rattle.css_schedule.specs.declared.header.Start.{Start}
 use Rattle.css_schedule.specs.declared.header.Start.TheVariants.{One, Two}
 use Rattle.css_schedule.specs.declared.line.Line.{Line}
 use Rattle.css_schedule.specs.declared.line.Verb.{Verb}
-use Rattle.css_schedule.specs.declared.line.Verb.TheVariants.{Ask, Take, Give, Land, Wall}
+use Rattle.css_schedule.specs.declared.line.Verb.TheVariants.{Ask, Take, Give, Land, Wall, Print}
+use Rattle.css_schedule.specs.declared.line.Verb.TheVariants.{Programme, Timeline, Viewer}
+use Rattle.css_schedule.specs.declared.line.Verb.TheVariants.{Opening, Bring, Up, Present, Close}
 use Rattle.css_schedule.specs.Headers.{header_of}
-use Rattle.css_schedule.specs.Lines.{line_of}
+use Rattle.css_schedule.specs.Lines as grammar
 use Rattle.css_world.specs.declared.fault.WorldFault.{WorldFault}
-use Rattle.css_world.specs.declared.fault.WorldFault.TheVariants.{Broken, Absent, Memory}
-use Rattle.css_world.specs.Happened.{Numbered}
-use Rattle.css_world.specs.Verdicts.{local_of, IsDeclared, span_at, can_happen, printed_for, carried_out, line_meant}
+use Rattle.css_world.specs.declared.fault.WorldFault.TheVariants.{Broken, Absent, Player, Memory}
+use Rattle.css_companion.specs.Printed.{line_of}
+use Rattle.css_companion.specs.Meanings.{timing_after}
+use Rattle.css_companion.specs.Reports.{HasTickOf, report_by}
+use Rattle.css_companion.specs.declared.report.Cause.TheVariants as cause
+use Rattle.css_companion.specs.declared.report.Report.{Report}
+use Rattle.css_companion.specs.declared.report.Report.TheVariants as reports
+use Rattle.css_world.specs.Sessions.{setup_of}
+use Rattle.css_world.specs.Happened.{Numbered, events_of, history_of}
+use Rattle.css_world.specs.Verdicts.{local_of, IsDeclared, span_at, report_at, assigned_at}
+use Rattle.css_world.specs.Verdicts.{can_happen, played, event_at, printed_for, carried_out, line_meant}
 use Rattle.css_world.specs.Printed.{wall_text}
 use Rattle.css_world.specs.Standing.{AreAccepted}
-use Rattle.css_world.specs.Truth.{IsTrueWall}
+use Rattle.css_world.specs.Truth.{IsTrueWall, IsTrueReport}
 use Rattle.css_world.proofs.Worlds.{carried_ok}
 use Rattle.css_world.proofs.Truth.{accepted_lines_are_true, accepted_lines_are_world}
 use Rattle.css_app.specs.declared.replay.Cause.{Cause}
 use Rattle.css_app.specs.declared.replay.Cause.TheVariants.{Form}
 use Rattle.css_app.specs.Replayed.{header_in, with_line, lines_in, caused, read_meant, meant_after, opened, text_meant, replayed}
-use Rattle.css_app.specs.Headline.{accepted_before, IsTrueInterval, IsCause, IsKept, AreKept, KeepsPromise}
+use Rattle.css_app.specs.Headline.{accepted_before, IsTrueInterval, IsCause, AreTrueTicks, IsReportedCause}
+use Rattle.css_app.specs.Headline.{IsKept, KeepsLine, AreKept, KeepsPromise}
 use Rattle.css_schedule.proofs.InRange.{lines_are_in_range, headers_are_in_range}
 use Rattle.css_app.proofs.Texts.{lines_in-push, is_next}
 
 -- ---- one line
 -- what is printed for a line that was accepted
-printed-is : (header : Header) (older : List Numbered) (now : Numbered) (printed : List ℕ) → carried_out header older now ≡ Ok printed
-    → printed ≡ printed_for header older now now.line.verb
-printed-is header older now printed e = by (can_happen header older now.line.verb) e
+printed-is : (header : Header) (older : List Numbered) (now : Numbered) (printed : List ℕ)
+    → carried_out header older now ≡ Ok printed → printed ≡ printed_for header older now now.line.verb
+printed-is header older now printed e =
+    by (can_happen header older now.line.who now.line.verb)
+    (played (events_of header older) (event_at header older now.line.who now.line.verb)) e
   where
-    by : (b : Bool) → cond b (Ok (printed_for header older now now.line.verb)) (Err Absent) ≡ Ok printed → printed ≡ printed_for header older now now.line.verb
-    by true p = cc
-    by false p = absurd (cc)
+    by : (b : Bool) (r : Result (Unit {0}) WorldFault)
+        → cond b (result_and r (Ok (printed_for header older now now.line.verb))) (Err Absent) ≡ Ok printed
+        → printed ≡ printed_for header older now now.line.verb
+    by true (Ok x) p = cc
+    by true (Err fault) p = absurd (cc)
+    by false r p = absurd (cc)
 
 -- the promise is kept at `wall`
 kept-wall : (header : Header) (older : List Numbered) (now : Numbered) (reading : ℕ) (printed : List ℕ)
@@ -70,21 +87,88 @@ kept-wall header older now reading printed is covers =
     by None least e c = inr (record { lacking = least; is_printed = e })
     by (Some answer) least e c = inl (record { response = answer; narrowest = least; contains = c; is_printed = e })
 
--- so it is at each verb
-kept-by : (header : Header) (older : List Numbered) (now : Numbered) (verb : Verb) (printed : List ℕ) → now.line.verb ≡ verb → IsTrueWall header older now
-    → printed ≡ printed_for header older now verb → IsKept header older now verb printed
-kept-by header older now (Wall reading) printed is truth e = kept-wall header older now reading printed e (truth reading is)
-kept-by header older now (Ask reading) printed is truth e = e
-kept-by header older now (Take request reading) printed is truth e = e
-kept-by header older now (Give take reading) printed is truth e = e
-kept-by header older now (Land datagram reading) printed is truth e = e
+-- and at `print`
+kept-print : (header : Header) (older : List Numbered) (now : Numbered) (reading : ℕ) (printed : List ℕ)
+    → printed ≡ line_of now.number (report_at now.line.who header older reading) (assigned_at now.line.who header older now.line.w)
+    → HasTickOf (report_at now.line.who header older reading) (assigned_at now.line.who header older now.line.w)
+    → AreTrueTicks header older now reading printed ⊎ IsReportedCause header older now reading printed
+kept-print header older now reading printed is has =
+    by (narrowest own reading accepted) refl (least_by-least (λ answer. scaled_width own answer reading) accepted) is has
+  where
+    own : Local
+    own = local_of now.line.who header
 
--- what is printed for an accepted line keeps the promise
-kept_line : (header : Header) (older : List Numbered) (now : Numbered) (printed : List ℕ) → IsDeclared header → AreAccepted header (now ∷ older)
-    → line_meant header older now ≡ Ok printed → IsKept header older now now.line.verb printed
+    accepted : List Answer
+    accepted = accepted_before header older now
+
+    report_for : Option Answer → Report
+    report_for o = report_by (option_map (span_of own reading) o)
+        (timing_after (setup_of now.line.who header).selector (history_of now.line.who header older))
+
+    assigned : Option ℤ
+    assigned = assigned_at now.line.who header older now.line.w
+
+    of : (answer : Answer) → narrowest own reading accepted ≡ Some answer
+        → IsLeast (λ a. scaled_width own a reading) accepted answer
+        → (r : Report) → report_for (Some answer) ≡ r → (a : Option ℤ) → assigned ≡ a
+        → printed ≡ line_of now.number r a → HasTickOf r a
+        → AreTrueTicks header older now reading printed ⊎ IsReportedCause header older now reading printed
+    of answer so least (reports.None why) known a told e c = inr (record {
+      cause = why;
+      first = ap report_for so ∙ known;
+      is_printed = e;
+    })
+    of answer so least (reports.Ticks low high) known None told e c = absurd c
+    of answer so least (reports.Ticks low high) known (Some position) told e c = inl (record {
+      response = answer;
+      narrowest = least;
+      low = low;
+      high = high;
+      position = position;
+      ticks = known;
+      assigned = told;
+      not_below = c.0;
+      not_above = c.1;
+      is_printed = e;
+    })
+
+    by : (o : Option Answer) → narrowest own reading accepted ≡ o
+        → MatchOption o (accepted ≡ []) (IsLeast (λ answer. scaled_width own answer reading) accepted)
+        → printed ≡ line_of now.number (report_for o) assigned → HasTickOf (report_for o) assigned
+        → AreTrueTicks header older now reading printed ⊎ IsReportedCause header older now reading printed
+    by None so least e c = inr (record { cause = cause.NoAnswer; first = ap report_for so; is_printed = e })
+    by (Some answer) so least e c = of answer so least (report_for (Some answer)) refl assigned refl e c
+
+-- so it is at each verb
+kept-by : (header : Header) (older : List Numbered) (now : Numbered) (verb : Verb) (printed : List ℕ) → now.line.verb ≡ verb
+    → IsTrueWall header older now → IsTrueReport header older now
+    → printed ≡ printed_for header older now verb → IsKept header older now verb printed
+kept-by header older now (Wall reading) printed is wall report e = kept-wall header older now reading printed e (wall reading is)
+kept-by header older now (Print reading) printed is wall report e = kept-print header older now reading printed e (report reading is)
+kept-by header older now (Ask reading) printed is wall report e = e
+kept-by header older now (Take request reading) printed is wall report e = e
+kept-by header older now (Give take reading) printed is wall report e = e
+kept-by header older now (Land datagram reading) printed is wall report e = e
+kept-by header older now (Programme content_id) printed is wall report e = e
+kept-by header older now (Timeline programme selector rate base) printed is wall report e = e
+kept-by header older now (Viewer reading command) printed is wall report e = e
+kept-by header older now (Opening kind) printed is wall report e = e
+kept-by header older now (Bring kind) printed is wall report e = e
+kept-by header older now Up printed is wall report e = e
+kept-by header older now (Present earliest latest) printed is wall report e = e
+kept-by header older now (Close kind) printed is wall report e = e
+
+-- an accepted line keeps the promise
+kept_line : (header : Header) (older : List Numbered) (now : Numbered) (printed : List ℕ) → IsDeclared header
+    → AreAccepted header (now ∷ older) → line_meant header older now ≡ Ok printed → KeepsLine header older now printed
 kept_line header older now printed declared accepted e =
-    kept-by header older now now.line.verb printed refl (accepted_lines_are_true header older now declared accepted).wall
-    (printed-is header older now printed (carried_ok header older now printed e))
+    let truth = accepted_lines_are_true header older now declared accepted in
+    record {
+      kept = kept-by header older now now.line.verb printed refl truth.wall truth.report
+          (printed-is header older now printed (carried_ok header older now printed e));
+      told = truth.told;
+      in_step = truth.in_step;
+    }
 
 -- ---- the header
 header-read : (r : Result Start LineFault) (header : Header) → header_in r ≡ Some header → r ≡ Ok (One header)
@@ -125,10 +209,11 @@ caused-ok : (meant : Result (List ℕ) WorldFault) (printed : List ℕ) → caus
 caused-ok (Ok p) printed e = cc
 caused-ok (Err (Broken earlier excess)) printed e = absurd (cc)
 caused-ok (Err Absent) printed e = absurd (cc)
+caused-ok (Err (Player fault)) printed e = absurd (cc)
 caused-ok (Err Memory) printed e = absurd (cc)
 
 -- one line more
-taken-line : (header : Header) (first : List ℕ) (texts : List (List ℕ)) (text sofar printed : List ℕ) (line : Result Line LineFault) → line_of text ≡ line
+taken-line : (header : Header) (first : List ℕ) (texts : List (List ℕ)) (text sofar printed : List ℕ) (line : Result Line LineFault) → grammar.line_of text ≡ line
     → Taken header first texts sofar → read_meant header (lines_in texts) (length (first ∷ texts) + 1) line ≡ Ok printed
     → Taken header first (texts ++ text ∷ []) (sofar ++ printed)
 taken-line header first texts text sofar printed (Err fault) is taken e = absurd (cc)
@@ -162,9 +247,9 @@ taken_text [] text sofar printed taken e = by (header_in (header_of text)) refl 
         same q = cc
 taken_text (first ∷ texts) text sofar printed taken e =
     let header = taken.0 in
-    let read : read_meant header (lines_in texts) (length (first ∷ texts) + 1) (line_of text) ≡ Ok printed =
-    subst (λ (o : Option Header). meant_after o (lines_in texts) (length (first ∷ texts) + 1) (line_of text) ≡ Ok printed) taken.1.is_header e in
-    (header, taken-line header first texts text sofar printed (line_of text) refl taken.1 read)
+    let read : read_meant header (lines_in texts) (length (first ∷ texts) + 1) (grammar.line_of text) ≡ Ok printed =
+    subst (λ (o : Option Header). meant_after o (lines_in texts) (length (first ∷ texts) + 1) (grammar.line_of text) ≡ Ok printed) taken.1.is_header e in
+    (header, taken-line header first texts text sofar printed (grammar.line_of text) refl taken.1 read)
 
 -- ---- outcomes
 -- Some of the texts were taken after those before, and what is printed for them was added; all of them, where none is

@@ -11,8 +11,9 @@ use Rattle.css_lines.specs.Meaning.{outcome}
 use Rattle.css_lines.specs.Ending.{RanUntil}
 use Rattle.css_app.specs.declared.replay.Cause.{Cause}
 use Rattle.css_app.specs.declared.replay.Cause.TheVariants as causes
-use Rattle.css_app.specs.declared.status.LineWhy.{LineWhy}
-use Rattle.css_app.specs.declared.status.LineWhy.TheVariants.{Long, Form, Absent}
+use Rattle.css_schedule.specs.FaultWords.{why_words}
+use Rattle.css_schedule.specs.declared.fault.LineWhy.{LineWhy}
+use Rattle.css_schedule.specs.declared.fault.LineWhy.TheVariants.{Long, Form, Absent, Player}
 use Rattle.css_app.specs.declared.status.Status.{Status}
 use Rattle.css_app.specs.declared.status.Status.TheVariants.{Done, Usage, BadLine, Broken, ReadFault, WriteFault, Memory}
 use Rattle.css_app.specs.Replayed.{replayed}
@@ -32,12 +33,6 @@ status_number (Broken line earlier excess) = 3
 status_number ReadFault = 4
 status_number WriteFault = 5
 status_number Memory = 14
-
--- why a line is refused, in a word
-abbrev pub why_words : LineWhy → List ℕ
-why_words Long = codes "long"
-why_words Form = codes "form"
-why_words Absent = codes "absent"
 
 -- the words of a status, which stand behind the program's name on standard error
 abbrev pub status_words : Status → List ℕ
@@ -63,6 +58,7 @@ abbrev pub refusal_of : LineWhy → Refusal Cause
 refusal_of Long = refusals.Long
 refusal_of Form = refusals.Refused causes.Form
 refusal_of Absent = refusals.Refused causes.Absent
+refusal_of (Player fault) = refusals.Refused (causes.Player fault)
 
 -- The input was read to its end, no line of it is refused, and the sink grew by its whole output.
 pub record ReplaysAll (bytes : List ℕ) (left holds_old holds_new : Option (List ℕ)) : Type 0 where
@@ -110,6 +106,7 @@ abbrev pub status_of : Stop Cause → Status
 status_of (stops.BadLine line refusals.Long) = BadLine line Long
 status_of (stops.BadLine line (refusals.Refused causes.Form)) = BadLine line Form
 status_of (stops.BadLine line (refusals.Refused causes.Absent)) = BadLine line Absent
+status_of (stops.BadLine line (refusals.Refused (causes.Player fault))) = BadLine line (Player fault)
 status_of (stops.BadLine line (refusals.Refused (causes.Broken earlier excess))) = Broken line earlier excess
 status_of stops.ReadFault = ReadFault
 status_of stops.WriteFault = WriteFault

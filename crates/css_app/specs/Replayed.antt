@@ -13,7 +13,7 @@ use Rattle.css_world.specs.declared.fault.WorldFault.TheVariants as world
 use Rattle.css_world.specs.Happened.{Numbered}
 use Rattle.css_world.specs.Verdicts.{line_meant}
 use Rattle.css_app.specs.declared.replay.Cause.{Cause}
-use Rattle.css_app.specs.declared.replay.Cause.TheVariants.{Form, Absent, Broken}
+use Rattle.css_app.specs.declared.replay.Cause.TheVariants.{Form, Absent, Player, Broken}
 
 -- the header that version 1 has
 abbrev pub header_in : Result Start LineFault → Option Header
@@ -40,6 +40,7 @@ abbrev pub caused : Result (List ℕ) WorldFault → Result (List ℕ) Cause
 caused (Ok printed) = Ok printed
 caused (Err (world.Broken earlier excess)) = Err (Broken earlier excess)
 caused (Err world.Absent) = Err Absent
+caused (Err (world.Player fault)) = Err (Player fault)
 caused (Err world.Memory) = Err Form
 
 -- a line that is read is carried out

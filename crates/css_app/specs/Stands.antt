@@ -10,7 +10,7 @@ use Rattle.css_world.specs.declared.fault.WorldFault.TheVariants as refused
 use Rattle.css_world.specs.Standing as worlds
 use Rattle.css_world.specs.Standing.{World}
 use Rattle.css_app.specs.declared.replay.Cause.{Cause}
-use Rattle.css_app.specs.declared.replay.Cause.TheVariants.{Form, Absent, Broken}
+use Rattle.css_app.specs.declared.replay.Cause.TheVariants.{Form, Absent, Player, Broken}
 use Rattle.css_app.specs.declared.replay.Replay.{Replay}
 use Rattle.css_app.specs.Replayed.{header_in, lines_in}
 
@@ -23,6 +23,7 @@ unread_fault unread.Memory = faults.Memory
 abbrev pub refused_fault : WorldFault → LineFault Cause
 refused_fault (refused.Broken earlier excess) = faults.Refused (Broken earlier excess)
 refused_fault refused.Absent = faults.Refused Absent
+refused_fault (refused.Player fault) = faults.Refused (Player fault)
 refused_fault refused.Memory = faults.Memory
 
 -- a header is refused only where it is none

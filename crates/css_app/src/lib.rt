@@ -1,6 +1,8 @@
 //! The program: what each command makes of its words and its devices.
 #![tactic(auto)]
 
+#[cfg(test)]
+mod both_ends_tests;
 mod program;
 mod replay;
 mod status;
@@ -8,6 +10,7 @@ mod status;
 mod tests;
 mod told;
 
+pub use css_schedule::LineWhy;
 pub use program::run;
-pub use status::{LineWhy, Status};
+pub use status::Status;
 pub use told::{Ending, tell};

@@ -4,9 +4,10 @@ ghost use Rattle.css_app.specs.Ended as ended;
 ghost use Rattle.css_app.specs.Headline.{Promised};
 
 use crate::replay::{Cause, Replay};
-use crate::status::{LineWhy, Status};
+use crate::status::Status;
 use css_lines::{Refusal, Stop, drive};
 use css_outside::{Sink, Source};
+use css_schedule::LineWhy;
 use std::alloc::Global;
 
 // Whether the words are this one word.
@@ -47,6 +48,13 @@ fn status_of(stop: Stop<Cause>) -> Status
         },
         Stop::BadLine {
             line,
+            why: Refusal::Refused(Cause::Player(fault)),
+        } => Status::BadLine {
+            line,
+            why: LineWhy::Player(fault),
+        },
+        Stop::BadLine {
+            line,
             why: Refusal::Refused(Cause::Broken { earlier, excess }),
         } => Status::Broken {
             line,
@@ -83,8 +91,10 @@ pub fn run<S: Source, K: Sink>(
         IsAccepted bytes → HasNotFailed (S.faults source.old) (S.faults source.new) → HasNotFailed (K.faults sink.old) (K.faults sink.new) →
         IsDoneUnlessMemory result }
 
-    // Of every source: what the sink gained keeps the promise. Each interval comes from the narrowest accepted response, and
-    // contains the value that its line gives the television's wall clock; lacking a response the cause is printed.
+    // Of every source: what the sink gained keeps the promise. Each interval of ticks contains the position that the last
+    // control timestamp received assigns to the value that its line gives the television's wall clock, and comes from the
+    // narrowest accepted response; lacking a response or usable timestamp the cause is printed. Once told, the companion's
+    // state of the content is one that the television published.
     ensures promise { IsTrue (ended.is_replay (map string_bytes words.now)) → Promised (S.left source.old) (S.left source.new) (K.holds sink.old) (K.holds sink.new) }
 
     // A fault is told only where the device has failed, and no other failure of a device goes untold.
@@ -94,7 +104,11 @@ pub fn run<S: Source, K: Sink>(
     if !is_replay(words) {
         return Status::Usage;
     }
-    match drive(alloc, source, sink, &mut Replay::new(alloc)) {
+    let mut replay = Replay::new(alloc);
+    let ended = drive(alloc, source, sink, &mut replay);
+    // What the lines left isn't needed for the status.
+    drop(replay);
+    match ended {
         Ok(()) => Status::Done,
         Err(stop) => status_of(stop),
     }

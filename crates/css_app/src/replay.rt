@@ -7,22 +7,25 @@ ghost use Rattle.css_app.specs.Replayed.{read_meant, with_line};
 ghost use Rattle.css_app.specs.Stands.{Opens, refused_fault, unread_fault};
 
 use css_lines::{LineFault, Lines};
-use css_schedule::{Start, read_header, read_line};
+use css_schedule::{PlayerFault, Start, read_header, read_line};
 use css_world::{World, WorldFault};
 use std::alloc::Global;
 
 /// Why a line of a schedule is refused.
 #[derive(Clone, Copy, Debug, PartialEq, Eq)]
 pub enum Cause {
-    /// It is outside the grammar, or outside what is accepted so far.
+    /// It is outside the grammar, or a number is outside its range.
     Form,
-    /// It names a request that wasn't sent, a take that wasn't made or has its answer, or a datagram that wasn't made.
+    /// What it names isn't there.
     Absent,
+    /// The television's player refuses it.
+    Player(PlayerFault),
     /// Its numbers contradict those of an earlier line, or each other, by so much.
     Broken { earlier: u64, excess: i128 },
 }
 
-/// Replays a schedule: carries out its lines, and prints the span of the wall clock where a line asks for it.
+/// Replays a schedule: carries out its lines, and prints the span of the wall clock, or the companion's report, where a
+/// line asks for it.
 #[derive(Drop)]
 pub struct Replay {
     alloc: Global,
@@ -58,6 +61,7 @@ fn refused(fault: WorldFault) -> LineFault<Cause>
             LineFault::Refused(Cause::Broken { earlier, excess })
         }
         WorldFault::Absent => LineFault::Refused(Cause::Absent),
+        WorldFault::Player(fault) => LineFault::Refused(Cause::Player(fault)),
         WorldFault::Memory => LineFault::Memory,
     }
 }
@@ -78,6 +82,7 @@ fn open(alloc: Global, text: &[u8]) -> Result<World, LineFault<Cause>>
 
 // Reads a line and carries it out.
 fn carry_out(
+    alloc: Global,
     world: &mut World,
     number: u64,
     text: &[u8],
@@ -88,7 +93,7 @@ fn carry_out(
     ensures answers { (lines : List Numbered) → worlds.StandsFor world.old lines → Answers (read_meant world.old.header lines number (line_of text.now)) out.old.items out.new.items result }
     ensures stands { (lines : List Numbered) → worlds.StandsFor world.old lines → worlds.IsNext number lines → OnOk result (worlds.StandsFor world.new (with_line number lines (line_of text.now))) }
 {
-    let line = match read_line(text, VERSION, COMPANIONS) {
+    let line = match read_line(alloc, text, VERSION, COMPANIONS) {
         Ok(line) => line,
         Err(fault) => return Err(unread(fault)),
     };
@@ -141,7 +146,7 @@ impl Lines for Replay {
     ) -> Result<(), LineFault<Cause>> {
         self.last = number;
         match &mut self.world {
-            Some(world) => carry_out(world, number, text, out),
+            Some(world) => carry_out(self.alloc, world, number, text, out),
             None => {
                 self.world = Some(open(self.alloc, text)?);
                 Ok(())

@@ -1,30 +1,5 @@
+use css_schedule::LineWhy;
 use std::fmt;
-
-/// Why a line of a schedule ends the run.
-#[derive(Clone, Copy, Debug, PartialEq, Eq)]
-pub enum LineWhy {
-    /// It has more than 4,096 bytes, or the 67,108,865th byte of the input stands in it.
-    Long,
-    /// It is outside the grammar, or outside what is accepted so far.
-    Form,
-    /// It names a request that wasn't sent, a take that wasn't made or has its answer, or a datagram that wasn't made.
-    Absent,
-}
-
-impl fmt::Display for LineWhy {
-    ghost use Rattle.std.specs.Prelude.{Some};
-    ghost use Rattle.css_app.specs.Ended.{why_words};
-
-    ghost output = { λ why. Some (why_words why) };
-
-    fn fmt<W: fmt::Write>(&self, f: &mut fmt::Formatter<W>) -> fmt::Result {
-        f.write_str(match self {
-            LineWhy::Long => "long",
-            LineWhy::Form => "form",
-            LineWhy::Absent => "absent",
-        })
-    }
-}
 
 /// How a run ended. It is printed in the words of the program's status line.
 #[derive(Clone, Copy, Debug, PartialEq, Eq)]

@@ -2,6 +2,7 @@ ghost use Rattle.std.specs.Prelude.{◌<◌};
 
 use crate::{LineWhy, Status, run, tell};
 use css_outside::{Memory, MemorySink, MemorySource, OutFault};
+use css_schedule::PlayerFault;
 use std::alloc::{AllocError, Global};
 use std::process::Abort;
 use std::test::Fail;
@@ -20,18 +21,18 @@ const HEADER: &[u8] = b"css-schedule 1 plain 0 -30 0 0 urn:x -\n";
 
 /// The devices of a run: how many bytes a call takes at most, and which calls fail, counted from 1.
 #[derive(Clone, Copy)]
-struct Devices<'a> {
-    piece: usize,
-    reads: &'a [u64],
-    writes: &'a [u64],
+pub(crate) struct Devices<'a> {
+    pub(crate) piece: usize,
+    pub(crate) reads: &'a [u64],
+    pub(crate) writes: &'a [u64],
     ghost some: { 0 < piece },
 }
 
 /// How a run ended, and what the sink holds.
 #[derive(Drop)]
-struct Ran {
-    status: Status,
-    sink: MemorySink,
+pub(crate) struct Ran {
+    pub(crate) status: Status,
+    pub(crate) sink: MemorySink,
 }
 
 fn run_over(
@@ -46,7 +47,7 @@ fn run_over(
     Ok(Ran { status, sink })
 }
 
-fn replay(alloc: Global, bytes: &[u8], devices: &Devices<'_>) -> Result<Ran, Fail> {
+pub(crate) fn replay(alloc: Global, bytes: &[u8], devices: &Devices<'_>) -> Result<Ran, Fail> {
     let words = vec![in alloc; "replay".to_string(alloc)?]?;
     Ok(run_over(alloc, &words, bytes, devices)?)
 }
@@ -92,13 +93,14 @@ fn other_words_are_refused(rt: HostRuntime) -> Result<(), Fail> {
 }
 
 /// A schedule, how its replay ends, and what is printed before.
-struct Case {
-    bytes: &'static [u8],
-    status: Status,
-    printed: &'static [u8],
+#[derive(Clone, Copy)]
+pub(crate) struct Case {
+    pub(crate) bytes: &'static [u8],
+    pub(crate) status: Status,
+    pub(crate) printed: &'static [u8],
 }
 
-fn replay_each(rt: &impl Abort, alloc: Global, cases: &[Case]) -> Result<(), Fail> {
+pub(crate) fn replay_each(rt: &impl Abort, alloc: Global, cases: &[Case]) -> Result<(), Fail> {
     for case in cases {
         for devices in [WHOLE, BYTES] {
             let ran = replay(alloc, case.bytes, &devices)?;
@@ -320,7 +322,7 @@ const REFUSED: [Case; 9] = [
     },
     // A verb of a later version.
     Case {
-        bytes: b"css-schedule 1 plain 0 -30 0 0 urn:x -\n1000 4800 1000 wall 1000\n1200 5000 1200 speed 5000 1\n",
+        bytes: b"css-schedule 1 plain 0 -30 0 0 urn:x -\n1000 4800 1000 wall 1000\n1200 5000 1200 sleep\n",
         status: Status::BadLine {
             line: 3,
             why: LineWhy::Form,
@@ -489,7 +491,7 @@ fn a_write_fault_leaves_a_part(rt: HostRuntime) -> Result<(), Fail> {
 }
 
 /// Each status, its exit status, and its line on standard error.
-const TOLD: [(Status, u8, &str); 9] = [
+const TOLD: [(Status, u8, &str); 13] = [
     (Status::Done, 0, ""),
     (Status::Usage, 1, "css: usage\n"),
     (
@@ -515,6 +517,38 @@ const TOLD: [(Status, u8, &str); 9] = [
         },
         2,
         "css: line 3: absent\n",
+    ),
+    (
+        Status::BadLine {
+            line: 3,
+            why: LineWhy::Player(PlayerFault::NoProgramme),
+        },
+        2,
+        "css: line 3: no programme\n",
+    ),
+    (
+        Status::BadLine {
+            line: 3,
+            why: LineWhy::Player(PlayerFault::Speed),
+        },
+        2,
+        "css: line 3: speed\n",
+    ),
+    (
+        Status::BadLine {
+            line: 3,
+            why: LineWhy::Player(PlayerFault::Range),
+        },
+        2,
+        "css: line 3: range\n",
+    ),
+    (
+        Status::BadLine {
+            line: 3,
+            why: LineWhy::Player(PlayerFault::Full),
+        },
+        2,
+        "css: line 3: full\n",
     ),
     (
         Status::Broken {

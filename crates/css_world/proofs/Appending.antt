@@ -5,10 +5,12 @@ use Rattle.std.proofs.Math.Seq.{take-append_seam}
 use Rattle.std.proofs.lemmas.List.{take-append-drop}
 
 -- a list that begins with a longer one begins with what that begins with
-pub begins : {A : Type 0} (first more longer whole : List A) → longer ≡ first ++ more → take (length longer) whole ≡ longer → take (length first) whole ≡ first
+pub begins : {A : Type 0} (first more longer whole : List A) → longer ≡ first ++ more
+    → take (length longer) whole ≡ longer → take (length first) whole ≡ first
 begins first more longer whole is begun =
     let parts : whole ≡ first ++ (more ++ drop (length longer) whole) =
-    sym (take-append-drop (length longer) whole) ∙ ap (λ front. front ++ drop (length longer) whole) (begun ∙ is) ∙ append_assoc first more (drop (length longer) whole) in
+    sym (take-append-drop (length longer) whole) ∙ ap (λ front. front ++ drop (length longer) whole) (begun ∙ is)
+    ∙ append_assoc first more (drop (length longer) whole) in
     ap (take (length first)) parts ∙ take-append_seam first (more ++ drop (length longer) whole)
 
 -- what follows from what holds after a success

@@ -1,5 +1,6 @@
 -- What lands at accepted lines is truthful.
-use Rattle.std.proofs.Common.{◌≡◌, ℕ, suc, ◌^◌, ◌<◌, ◌≤◌, ◌/◌, ◌%◌, arith, ap, sym, subst, ◌∙◌, refl, Bool, true, false, cond, ◌==◌, List, [], ◌∷◌, ◌++◌, length, inr}
+use Rattle.std.proofs.Common.{◌≡◌, ℕ, suc, ◌^◌, ◌<◌, ◌≤◌, ◌/◌, ◌%◌, arith, ap, sym, subst, ◌∙◌, refl}
+use Rattle.std.proofs.Common.{Bool, true, false, cond, ◌==◌, List, [], ◌∷◌, ◌++◌, length, inr}
 use Rattle.std.specs.Prelude.{Option, Some, None, IfSome, is_some, Result, Ok, ◌&&◌, pos, int_lt, nat_lt, ◌≢◌}
 use Rattle.std.specs.Option.{option_map, option_and_then}
 use Rattle.std.specs.Result.{result_ok}
@@ -12,22 +13,26 @@ use Rattle.css_model.specs.declared.Why.TheVariants as why
 use Rattle.css_model.specs.Numbers.{IsWithin, precision_ns, max_error}
 use Rattle.css_model.specs.World.{World}
 use Rattle.css_model.specs.Wire.{encoded, decoded, stamp_of, second}
-use Rattle.css_model.specs.History.{Entry, History, Clock, Took, Each, LandedAnswer, landed_answer, answer_in, is_asked}
+use Rattle.css_model.specs.History.{Entry, History, Clock, Took, Dialled, Heard, Wrote, Closed}
+use Rattle.css_model.specs.History.{Each, LandedAnswer, landed_answer, answer_in, is_asked}
 use Rattle.css_model.proofs.Lately.{IsIn}
 use Rattle.css_model.proofs.Narrowest.{is_not_less}
 use Rattle.css_wc.proofs.Codec.{IsStamp, decoded-encoded}
 use Rattle.css_server.specs.Tickets.{Ticket, answer_message}
 use Rattle.css_schedule.specs.declared.header.Header.{Header}
 use Rattle.css_schedule.specs.declared.line.Verb.{Verb}
-use Rattle.css_schedule.specs.declared.line.Verb.TheVariants.{Ask, Take, Give, Land, Wall}
-use Rattle.css_world.specs.Happened.{Numbered, numbered, server_of, datagrams, bytes_of, done_by, history_of, peer}
-use Rattle.css_world.specs.Verdicts.{can_happen}
+use Rattle.css_schedule.specs.declared.line.Verb.TheVariants.{Ask, Land, Wall, Print, Opening, Bring, Present, Close}
+use Rattle.css_world.specs.Happened.{Numbered, server_of, datagrams, bytes_of, events_of, history_of, peer}
+use Rattle.css_world.specs.Numbering.{numbered}
+use Rattle.css_world.specs.Verdicts.{can_exchange}
 use Rattle.css_world.specs.Standing.{AreAccepted}
 use Rattle.css_world.specs.Verdicts.{IsDeclared}
 use Rattle.css_world.proofs.Worlds.{carried_ok}
-use Rattle.css_world.proofs.Lawful.{history-now}
+use Rattle.css_world.proofs.Lawful.{done_at, history-now, IsTalk, each_talk}
+use Rattle.css_world.proofs.Tickets.{AreHere}
 use Rattle.css_world.proofs.Moments.{Agrees, entries-here}
-use Rattle.css_world.proofs.Made.{Made, made, Tells, Plain, Promise, FollowUp, IsMade, made_each, numbered-made, can-happen}
+use Rattle.css_world.proofs.Made.{Made, made, Tells, Plain, Promise, FollowUp, IsMade}
+use Rattle.css_world.proofs.Made.{made_each, numbered-made, can-happen, can-exchange}
 
 -- ---- datagrams are read back
 is_stamp : (r : ℕ) → r < LIMIT → IsStamp (stamp_of r)
@@ -38,13 +43,16 @@ is_stamp r range =
 
 -- an answer that passes every test has no fault
 sound : (a b c d e : Bool) → a ≡ false → b ≡ false → c ≡ false → d ≡ true → e ≡ true
-    → cond a None (cond b (Some wc.Precision) (cond c (Some wc.Error) (cond (d && e) None (Some wc.Nanoseconds)))) ≡ None
+    → cond a None (cond b (Some wc.Precision) (cond c (Some wc.Error) (cond (d && e) None (Some wc.Nanoseconds))))
+    ≡ None
 sound a b c d e p q r s t = rw (p, q, r, s, t) refl
 
 -- an answer to a ticket is read back from its bytes
-answer_back : (header : Header) (ticket : Ticket) (message_type transmit asked : ℕ) → IsDeclared header → ticket.originate ≡ stamp_of asked → asked < LIMIT
+answer_back : (header : Header) (ticket : Ticket) (message_type transmit asked : ℕ) → IsDeclared header
+    → ticket.originate ≡ stamp_of asked → asked < LIMIT
     → ticket.reading < LIMIT → transmit < LIMIT → message_type ≤ 3 → (message_type == 0) ≡ false
-    → decoded (encoded (answer_message (server_of header) ticket message_type transmit)) ≡ Ok (answer_message (server_of header) ticket message_type transmit)
+    → decoded (encoded (answer_message (server_of header) ticket message_type transmit))
+    ≡ Ok (answer_message (server_of header) ticket message_type transmit)
 answer_back header ticket message_type transmit asked declared originate asked_range range transmit_range known answer =
     decoded-encoded (answer_message (server_of header) ticket message_type transmit) (record {
       message_type = known;
@@ -54,9 +62,12 @@ answer_back header ticket message_type transmit asked declared originate asked_r
       receive = is_stamp ticket.reading range;
       transmit = is_stamp transmit transmit_range;
     })
-    (sound (message_type == 0) (int_lt (pos 30) header.tv_precision) (nat_lt max_error header.tv_error) (nat_lt (stamp_of ticket.reading).nanoseconds second) (nat_lt (stamp_of transmit).nanoseconds second)
-    answer (is_not_less (pos 30) header.tv_precision declared.tv.tv_precision) (le-ltb max_error header.tv_error declared.tv.tv_error)
-    (lt-ltb (stamp_of ticket.reading).nanoseconds second (omega arith)) (lt-ltb (stamp_of transmit).nanoseconds second (omega arith)))
+    (sound (message_type == 0) (int_lt (pos 30) header.tv_precision) (nat_lt max_error header.tv_error)
+    (nat_lt (stamp_of ticket.reading).nanoseconds second) (nat_lt (stamp_of transmit).nanoseconds second)
+    answer (is_not_less (pos 30) header.tv_precision declared.tv.tv_precision)
+    (le-ltb max_error header.tv_error declared.tv.tv_error)
+    (lt-ltb (stamp_of ticket.reading).nanoseconds second (omega arith))
+    (lt-ltb (stamp_of transmit).nanoseconds second (omega arith)))
 
 -- what a made datagram is, once more, with its type and its transmit value
 pub record IsAnswer (world : World) (header : Header) (d : Made) (received_at : ℕ) : Type 0 where
@@ -74,7 +85,8 @@ pub record IsAnswer (world : World) (header : Header) (d : Made) (received_at : 
   pub promised : (message_type ≡ 2 → d.ticket.follow_up ≡ true) × (message_type ≡ 3 → d.ticket.follow_up ≡ true)
 
 -- a datagram that was made is an answer in the world
-pub is_answer : (world : World) (moment_of : ℕ → ℕ) (header : Header) (lines : List Numbered) (d : Made) (is : IsMade world moment_of header lines d)
+pub is_answer : (world : World) (moment_of : ℕ → ℕ) (header : Header) (lines : List Numbered) (d : Made)
+    (is : IsMade world moment_of header lines d)
     → IsAnswer world header d is.taken.received_at
 is_answer world moment_of header lines d is = by is.tells
   where
@@ -123,20 +135,25 @@ is_answer world moment_of header lines d is = by is.tells
     }
 
 -- a made datagram is read back from its bytes
-pub message_back : (world : World) (moment_of : ℕ → ℕ) (header : Header) (lines : List Numbered) (d : Made) → IsDeclared header → IsMade world moment_of header lines d
+pub message_back : (world : World) (moment_of : ℕ → ℕ) (header : Header) (lines : List Numbered) (d : Made)
+    → IsDeclared header → IsMade world moment_of header lines d
     → decoded (encoded d.message) ≡ Ok d.message
 message_back world moment_of header lines d declared is =
     let answer = is_answer world moment_of header lines d is in
     subst (λ (m : Message). decoded (encoded m) ≡ Ok m) (sym answer.is)
-    (answer_back header d.ticket answer.message_type answer.transmit is.taken.asked declared is.taken.originate is.taken.asked_range is.taken.range answer.range answer.known answer.answer)
+    (answer_back header d.ticket answer.message_type answer.transmit is.taken.asked declared is.taken.originate
+    is.taken.asked_range is.taken.range answer.range answer.known answer.answer)
 
 -- and it is an answer
-pub answer-in : (world : World) (moment_of : ℕ → ℕ) (header : Header) (lines : List Numbered) (d : Made) → IsDeclared header → IsMade world moment_of header lines d
+pub answer-in : (world : World) (moment_of : ℕ → ℕ) (header : Header) (lines : List Numbered) (d : Made)
+    → IsDeclared header → IsMade world moment_of header lines d
     → answer_in (encoded d.message) ≡ Some d.message
 answer-in world moment_of header lines d declared is =
     let answer = is_answer world moment_of header lines d is in
-    let not_request : (d.message.message_type == 0) ≡ false = ap (λ (m : Message). m.message_type == 0) answer.is ∙ answer.answer in
-    ap (λ (came : Result Message WcFault). option_and_then (λ (message : Message). cond (message.message_type == 0) None (Some message)) (result_ok came)) (message_back world moment_of header lines d declared is)
+    let not_request : (d.message.message_type == 0) ≡ false =
+    ap (λ (m : Message). m.message_type == 0) answer.is ∙ answer.answer in
+    ap (λ (came : Result Message WcFault). option_and_then (λ (message : Message). cond (message.message_type == 0)
+    None (Some message)) (result_ok came)) (message_back world moment_of header lines d declared is)
     ∙ ap (λ b. cond b None (Some d.message)) not_request
 
 -- ---- what lands
@@ -147,10 +164,12 @@ pub record Lands (header : Header) (older : List Numbered) (datagram : ℕ) : Ty
   pub bytes : bytes_of (numbered datagram (datagrams header older)) ≡ encoded d.message
 
 -- what lands is a datagram that was made
-pub lands : (header : Header) (older : List Numbered) (datagram : ℕ) → is_some (numbered datagram (datagrams header older)) ≡ true → Lands header older datagram
+pub lands : (header : Header) (older : List Numbered) (datagram : ℕ)
+    → is_some (numbered datagram (datagrams header older)) ≡ true → Lands header older datagram
 lands header older datagram can = by (numbered datagram (datagrams header older)) refl can
   where
-    by : (o : Option Message) → numbered datagram (datagrams header older) ≡ o → is_some o ≡ true → Lands header older datagram
+    by : (o : Option Message) → numbered datagram (datagrams header older) ≡ o → is_some o ≡ true
+        → Lands header older datagram
     by None e p = absurd (cc)
     by (Some m) e p =
         let found = numbered-made header datagram older m e in
@@ -158,25 +177,30 @@ lands header older datagram can = by (numbered datagram (datagrams header older)
 
 -- the answer that lands with such a datagram, if its request is still asked
 abbrev pub landing_if : Bool → Message → ℕ → Option LandedAnswer
-landing_if asked message reading = option_map (λ m. record { message = m; reading = reading }) (cond asked (Some message) None)
+landing_if asked message reading =
+    option_map (λ m. record { message = m; reading = reading }) (cond asked (Some message) None)
 
 -- the landing of its bytes is that of its message
 pub landing-is : (message : Message) (bytes : List ℕ) (reading : ℕ) (older : History) → answer_in bytes ≡ Some message
-    → landed_answer (Clock why.Land reading) (Took peer bytes ∷ older) ≡ landing_if (is_asked message.originate (Took peer bytes ∷ older)) message reading
+    → landed_answer (Clock why.Land reading) (Took peer bytes ∷ older)
+    ≡ landing_if (is_asked message.originate (Took peer bytes ∷ older)) message reading
 landing-is message bytes reading older e =
     ap (λ (o : Option Message). option_map (λ m. record { message = m; reading = reading })
     (option_and_then (λ (m : Message). cond (is_asked m.originate (Took peer bytes ∷ older)) (Some m) None) o)) e
 
 -- a landed answer is one of the datagrams made, and it was given before it landed
 abbrev pub CameFrom : Header → List Numbered → (ℕ → ℕ) → LandedAnswer → History → Type 0
-CameFrom header lines moment_of response before = (d : Made) × IsIn d (made header lines) × (d.message ≡ response.message) × (d.given_at ≤ moment_of (length before))
+CameFrom header lines moment_of response before =
+    (d : Made) × IsIn d (made header lines) × (d.message ≡ response.message) × (d.given_at ≤ moment_of (length before))
 
 -- an answer that lands at this entry came from a line
 abbrev pub CameAt : Header → List Numbered → (ℕ → ℕ) → Entry → History → Type 0
-CameAt header lines moment_of entry before = IfSome (landed_answer entry before) (λ response. CameFrom header lines moment_of response before)
+CameAt header lines moment_of entry before =
+    IfSome (landed_answer entry before) (λ response. CameFrom header lines moment_of response before)
 
 -- what follows from a fact of each entry holds of each
-pub each-map : (P Q : Entry → History → Type 0) (history : History) → ((entry : Entry) (older : History) → P entry older → Q entry older) → Each P history → Each Q history
+pub each-map : (P Q : Entry → History → Type 0) (history : History)
+    → ((entry : Entry) (older : History) → P entry older → Q entry older) → Each P history → Each Q history
 each-map P Q [] f each = tt
 each-map P Q (entry ∷ older) f each = (f entry older each.0, each-map P Q older f each.1)
 
@@ -186,48 +210,76 @@ in-after [] ys a h = h
 in-after (x ∷ xs) ys a h = inr (in-after xs ys a h)
 
 -- where a landed answer came from stays known
-came-longer : (header : Header) (now : Numbered) (older : List Numbered) (moment_of : ℕ → ℕ) (entry : Entry) (before : History)
+came-longer : (header : Header) (now : Numbered) (older : List Numbered) (moment_of : ℕ → ℕ)
+    (entry : Entry) (before : History)
     → CameAt header older moment_of entry before → CameAt header (now ∷ older) moment_of entry before
 came-longer header now older moment_of entry before came = by (landed_answer entry before) came
   where
-    by : (o : Option LandedAnswer) → IfSome o (λ response. CameFrom header older moment_of response before) → IfSome o (λ response. CameFrom header (now ∷ older) moment_of response before)
+    by : (o : Option LandedAnswer) → IfSome o (λ response. CameFrom header older moment_of response before)
+        → IfSome o (λ response. CameFrom header (now ∷ older) moment_of response before)
     by None h = tt
     by (Some response) h = (h.0, in-after _ (made header older) h.0 h.1, h.2, h.3)
 
+-- nothing lands with an entry of a session
+came_talk : (header : Header) (lines : List Numbered) (moment_of : ℕ → ℕ) (entry : Entry) (before : History)
+    → IsTalk entry → CameAt header lines moment_of entry before
+came_talk header lines moment_of (Dialled kind other) before talk = tt
+came_talk header lines moment_of (Heard other bytes) before talk = tt
+came_talk header lines moment_of (Wrote other bytes) before talk = tt
+came_talk header lines moment_of (Closed other) before talk = tt
+came_talk header lines moment_of _ before talk = absurd talk
+
 -- so it is of the entries of one verb
-came_by : (world : World) (moment_of : ℕ → ℕ) (header : Header) (now : Numbered) (older : List Numbered) (verb : Verb) → IsDeclared header
-    → AreAccepted header older → Agrees world moment_of header older → can_happen header older verb ≡ true
-    → ((entry : ℕ) → length (history_of 1 header older) ≤ entry → entry < length (done_by (datagrams header older) verb (history_of 1 header older)) → moment_of entry ≡ length older)
+came_by : (world : World) (moment_of : ℕ → ℕ) (header : Header) (now : Numbered) (older : List Numbered) (verb : Verb)
+    → IsDeclared header
+    → AreAccepted header older → Agrees world moment_of header older → can_exchange header older verb ≡ true
+    → AreHere moment_of header older verb
     → Each (CameAt header (now ∷ older) moment_of) (history_of 1 header older)
-    → Each (CameAt header (now ∷ older) moment_of) (done_by (datagrams header older) verb (history_of 1 header older))
+    → Each (CameAt header (now ∷ older) moment_of) (done_at header older verb)
 came_by world moment_of header now older (Land datagram reading) declared accepted agreed can here each =
     let h : History = history_of 1 header older in
     let l = lands header older datagram can in
     let is = made_each world moment_of header older l.d accepted agreed l.is_made in
     let bytes : List ℕ = bytes_of (numbered datagram (datagrams header older)) in
     let at : moment_of (suc (length h)) ≡ length older = here (suc (length h)) (omega arith) (omega arith) in
-    let answer : answer_in bytes ≡ Some l.d.message = ap answer_in l.bytes ∙ answer-in world moment_of header older l.d declared is in
-    let came : CameFrom header (now ∷ older) moment_of (record { message = l.d.message; reading = reading }) (Took peer bytes ∷ h) =
+    let answer : answer_in bytes ≡ Some l.d.message =
+    ap answer_in l.bytes ∙ answer-in world moment_of header older l.d declared is in
+    let came : CameFrom header (now ∷ older) moment_of
+    (record { message = l.d.message; reading = reading }) (Took peer bytes ∷ h) =
     (l.d, in-after _ (made header older) l.d l.is_made, refl, omega (arith, is.before, at)) in (
-      subst (λ (o : Option LandedAnswer). IfSome o (λ response. CameFrom header (now ∷ older) moment_of response (Took peer bytes ∷ h)))
+      subst (λ (o : Option LandedAnswer). IfSome o
+          (λ response. CameFrom header (now ∷ older) moment_of response (Took peer bytes ∷ h)))
           (sym (landing-is l.d.message bytes reading h answer))
-          (elim (is_asked l.d.message.originate (Took peer bytes ∷ h)) as (λ b. IfSome (landing_if b l.d.message reading) (λ response. CameFrom header (now ∷ older) moment_of response (Took peer bytes ∷ h)))
+          (elim (is_asked l.d.message.originate (Took peer bytes ∷ h)) as (λ b. IfSome (landing_if b l.d.message
+          reading) (λ response. CameFrom header (now ∷ older) moment_of response (Took peer bytes ∷ h)))
           [ true ↦ came | false ↦ tt ]),
       (tt, each),
     )
 came_by world moment_of header now older (Ask reading) declared accepted agreed can here each = (tt, (tt, each))
-came_by world moment_of header now older (Take request reading) declared accepted agreed can here each = each
-came_by world moment_of header now older (Give take reading) declared accepted agreed can here each = each
 came_by world moment_of header now older (Wall reading) declared accepted agreed can here each = (tt, each)
+came_by world moment_of header now older (Print reading) declared accepted agreed can here each = (tt, each)
+came_by world moment_of header now older (Opening kind) declared accepted agreed can here each =
+    each_talk _ header 1 (datagrams header older) (events_of header older) (Opening kind) (history_of 1 header older) tt
+    (came_talk header (now ∷ older) moment_of) each
+came_by world moment_of header now older (Bring kind) declared accepted agreed can here each =
+    each_talk _ header 1 (datagrams header older) (events_of header older) (Bring kind) (history_of 1 header older) tt
+    (came_talk header (now ∷ older) moment_of) each
+came_by world moment_of header now older (Present earliest latest) declared accepted agreed can here each = (tt, each)
+came_by world moment_of header now older (Close kind) declared accepted agreed can here each = (tt, each)
+came_by world moment_of header now older _ declared accepted agreed can here each = each
 
 -- each landed answer of accepted lines is one of the datagrams made
-pub came_each : (world : World) (moment_of : ℕ → ℕ) (header : Header) (lines : List Numbered) → IsDeclared header → AreAccepted header lines → Agrees world moment_of header lines
+pub came_each : (world : World) (moment_of : ℕ → ℕ) (header : Header) (lines : List Numbered) → IsDeclared header
+    → AreAccepted header lines → Agrees world moment_of header lines
     → Each (CameAt header lines moment_of) (history_of 1 header lines)
 came_each world moment_of header [] declared accepted agreed = tt
 came_each world moment_of header (now ∷ older) declared accepted agreed =
-    subst (λ (h : History). Each (CameAt header (now ∷ older) moment_of) h) (sym (history-now header now older accepted.1))
+    subst (λ (h : History). Each (CameAt header (now ∷ older) moment_of) h)
+    (sym (history-now header now older accepted.1))
     (came_by world moment_of header now older now.line.verb declared accepted.4 agreed.2
-    (can-happen header older now accepted.3.0 (carried_ok header older now accepted.3.0 accepted.3.1))
+    (can-exchange header older now.line.who now.line.verb
+    (can-happen header older now accepted.3.0 (carried_ok header older now accepted.3.0 accepted.3.1)))
     (entries-here moment_of header now older accepted.1 agreed.1)
-    (each-map (CameAt header older moment_of) (CameAt header (now ∷ older) moment_of) (history_of 1 header older) (came-longer header now older moment_of)
+    (each-map (CameAt header older moment_of) (CameAt header (now ∷ older) moment_of) (history_of 1 header older)
+    (came-longer header now older moment_of)
     (came_each world moment_of header older declared accepted.4 agreed.2)))

@@ -1,6 +1,8 @@
 -- Where the datagrams of accepted lines come from.
-use Rattle.std.proofs.Common.{◌≡◌, ℕ, suc, ◌<◌, ◌≤◌, ◌⊎◌, inl, inr, arith, ap, sym, subst, ◌∙◌, refl, Bool, true, false, cond, ◌==◌, not, List, [], ◌∷◌, ◌++◌, map, length}
-use Rattle.std.specs.Prelude.{Option, Some, None, is_some, Ok, Err, ◌||◌}
+use Rattle.std.proofs.Common.{◌≡◌, ℕ, suc, ◌<◌, ◌≤◌, ◌⊎◌, inl, inr, arith, ap, sym, subst, ◌∙◌, refl}
+use Rattle.std.proofs.Common.{Bool, true, false, cond, ◌==◌, not, List, [], ◌∷◌, ◌++◌, map, length}
+use Rattle.std.specs.Prelude.{Option, Some, None, is_some, Result, Ok, Err, ◌||◌}
+use Rattle.std.specs.Result.{result_and}
 use Rattle.std.specs.Option.{option_to_list}
 use Rattle.std.proofs.lemmas.Bool.{eqb-true, eq-eqb, ne_eqb, and_parts, false≢true}
 use Rattle.css_model.specs.declared.TheConstants.{LIMIT}
@@ -11,11 +13,15 @@ use Rattle.css_model.proofs.Lately.{IsIn}
 use Rattle.css_server.specs.Tickets.{Server, Ticket, answer_message, follow_up_to}
 use Rattle.css_schedule.specs.declared.header.Header.{Header}
 use Rattle.css_schedule.specs.declared.line.Verb.{Verb}
-use Rattle.css_schedule.specs.declared.line.Verb.TheVariants.{Ask, Take, Give, Land, Wall}
+use Rattle.css_schedule.specs.declared.line.Verb.TheVariants.{Give}
 use Rattle.css_schedule.specs.Ranges.{IsVerb}
+use Rattle.css_world.specs.declared.fault.WorldFault.{WorldFault}
 use Rattle.css_world.specs.declared.fault.WorldFault.TheVariants.{Absent}
-use Rattle.css_world.specs.Happened.{Numbered, numbered, requests, tickets, ticket_by, server_of, answers_to, answers_by, datagrams, gives, is_given}
-use Rattle.css_world.specs.Verdicts.{tv_reading, can_happen, printed_for, carried_out}
+use Rattle.css_world.specs.Happened.{Numbered, requests, tickets, ticket_by, server_of, answers_to}
+use Rattle.css_world.specs.Happened.{answers_by, datagrams, gives, is_given, events_of, history_of}
+use Rattle.css_world.specs.Numbering.{numbered}
+use Rattle.css_world.specs.Verdicts.{tv_reading, can_exchange, can_talk, can_happen}
+use Rattle.css_world.specs.Verdicts.{played, event_at, printed_for, carried_out}
 use Rattle.css_world.specs.Standing.{AreAccepted}
 use Rattle.css_world.specs.Worlds.{moment}
 use Rattle.css_world.proofs.Worlds.{tested_ok, carried_ok}
@@ -24,13 +30,34 @@ use Rattle.css_world.proofs.Tickets.{numbered-in, in-append, IsTaken, taken-long
 
 -- ---- what can happen
 -- what an accepted line says can happen
-pub can-happen : (header : Header) (older : List Numbered) (now : Numbered) (printed : List ℕ) → carried_out header older now ≡ Ok printed
-    → can_happen header older now.line.verb ≡ true
-can-happen header older now printed e = by (can_happen header older now.line.verb) e
+pub can-happen : (header : Header) (older : List Numbered) (now : Numbered) (printed : List ℕ)
+    → carried_out header older now ≡ Ok printed
+    → can_happen header older now.line.who now.line.verb ≡ true
+can-happen header older now printed e = by (can_happen header older now.line.who now.line.verb) e
   where
-    by : (b : Bool) → cond b (Ok (printed_for header older now now.line.verb)) (Err Absent) ≡ Ok printed → b ≡ true
+    meant : Result (List ℕ) WorldFault
+    meant = result_and (played (events_of header older) (event_at header older now.line.who now.line.verb))
+        (Ok (printed_for header older now now.line.verb))
+
+    by : (b : Bool) → cond b meant (Err Absent) ≡ Ok printed → b ≡ true
     by true p = refl
     by false p = absurd (cc)
+
+-- so what it says of requests, takes and datagrams can happen
+pub can-exchange : (header : Header) (older : List Numbered) (who : ℕ) (verb : Verb)
+    → can_happen header older who verb ≡ true
+    → can_exchange header older verb ≡ true
+can-exchange header older who verb can =
+    (and_parts (can_exchange header older verb)
+    (can_talk who (events_of header older) (history_of who header older) verb) can).0
+
+-- and so does what it says of sessions
+pub can-talk : (header : Header) (older : List Numbered) (who : ℕ) (verb : Verb)
+    → can_happen header older who verb ≡ true
+    → can_talk who (events_of header older) (history_of who header older) verb ≡ true
+can-talk header older who verb can =
+    (and_parts (can_exchange header older verb)
+    (can_talk who (events_of header older) (history_of who header older) verb) can).1
 
 -- ---- datagrams with where they come from
 -- a datagram, the number of the line's moment at which it was made, the number of its take, the ticket, and the reading
@@ -46,7 +73,13 @@ pub record Made : Type 0 where
 abbrev made_to : Header → ℕ → ℕ → ℕ → Option Ticket → List Made
 made_to header at take reading None = []
 made_to header at take reading (Some ticket) =
-    map (λ (m : Message). record { message = m; given_at = at; take = take; ticket = ticket; reading = reading }) (answers_to (server_of header) reading (Some ticket))
+    map (λ (m : Message). record {
+      message = m;
+      given_at = at;
+      take = take;
+      ticket = ticket;
+      reading = reading;
+    }) (answers_to (server_of header) reading (Some ticket))
 
 -- those that a verb makes
 abbrev made_by : Header → ℕ → List Ticket → Verb → List Made
@@ -69,29 +102,36 @@ messages-append (x ∷ xs) ys = ap (λ ms. message_of x ∷ ms) (messages-append
 
 -- the messages of datagrams are those that they were made of
 messages-map : (header : Header) (at take reading : ℕ) (ticket : Ticket) (ms : List Message)
-    → map message_of (map (λ (m : Message). record { message = m; given_at = at; take = take; ticket = ticket; reading = reading }) ms) ≡ ms
+    → map message_of (map (λ (m : Message). record {
+      message = m;
+      given_at = at;
+      take = take;
+      ticket = ticket;
+      reading = reading;
+    }) ms) ≡ ms
 messages-map header at take reading ticket [] = refl
 messages-map header at take reading ticket (m ∷ ms) = ap (λ xs. m ∷ xs) (messages-map header at take reading ticket ms)
 
 -- those of a ticket are its answers
-messages-to : (header : Header) (at take reading : ℕ) (o : Option Ticket) → map message_of (made_to header at take reading o) ≡ answers_to (server_of header) reading o
+messages-to : (header : Header) (at take reading : ℕ) (o : Option Ticket)
+    → map message_of (made_to header at take reading o) ≡ answers_to (server_of header) reading o
 messages-to header at take reading None = refl
-messages-to header at take reading (Some ticket) = messages-map header at take reading ticket (answers_to (server_of header) reading (Some ticket))
+messages-to header at take reading (Some ticket) =
+    messages-map header at take reading ticket (answers_to (server_of header) reading (Some ticket))
 
 -- those of a verb are its answers
-messages-by : (header : Header) (at : ℕ) (taken : List Ticket) (verb : Verb) → map message_of (made_by header at taken verb) ≡ answers_by header taken verb
+messages-by : (header : Header) (at : ℕ) (taken : List Ticket) (verb : Verb)
+    → map message_of (made_by header at taken verb) ≡ answers_by header taken verb
 messages-by header at taken (Give take reading) = messages-to header at take reading (numbered take taken)
-messages-by header at taken (Ask reading) = refl
-messages-by header at taken (Take request reading) = refl
-messages-by header at taken (Land datagram reading) = refl
-messages-by header at taken (Wall reading) = refl
+messages-by header at taken _ = refl
 
 -- those of all lines are the datagrams of the definition
 messages-made : (header : Header) (lines : List Numbered) → map message_of (made header lines) ≡ datagrams header lines
 messages-made header [] = refl
 messages-made header (now ∷ older) =
     messages-append (made_by header (length older) (tickets header older) now.line.verb) (made header older)
-    ∙ ap (λ xs. xs ++ map message_of (made header older)) (messages-by header (length older) (tickets header older) now.line.verb)
+    ∙ ap (λ xs. xs ++ map message_of (made header older))
+    (messages-by header (length older) (tickets header older) now.line.verb)
     ∙ ap (λ ys. answers_by header (tickets header older) now.line.verb ++ ys) (messages-made header older)
 
 -- there are as many of them
@@ -106,26 +146,31 @@ numbered-message number [] m e = absurd (cc)
 numbered-message number (x ∷ xs) m e = by (number == suc (length (map message_of xs))) e (numbered-message number xs m)
   where
     by : (b : Bool) → cond b (Some (message_of x)) (numbered number (map message_of xs)) ≡ Some m
-        → (numbered number (map message_of xs) ≡ Some m → (d : Made) × IsIn d xs × (message_of d ≡ m)) → (d : Made) × IsIn d (x ∷ xs) × (message_of d ≡ m)
+        → (numbered number (map message_of xs) ≡ Some m → (d : Made) × IsIn d xs × (message_of d ≡ m)) → (d : Made)
+        × IsIn d (x ∷ xs) × (message_of d ≡ m)
     by true p next = (x, inl refl, cc)
     by false p next = let found = next p in (found.0, inr found.1, found.2)
 
 -- a datagram with a number is one of those made
-pub numbered-made : (header : Header) (number : ℕ) (lines : List Numbered) (m : Message) → numbered number (datagrams header lines) ≡ Some m
+pub numbered-made : (header : Header) (number : ℕ) (lines : List Numbered) (m : Message)
+    → numbered number (datagrams header lines) ≡ Some m
     → (d : Made) × IsIn d (made header lines) × (d.message ≡ m)
 numbered-made header number lines m e =
     numbered-message number (made header lines) m (ap (numbered number) (messages-made header lines) ∙ e)
 
 -- ---- what is known of a datagram
--- what a datagram tells: of a response whose transmit value is the sending, of a response that promises a follow-up, or of
--- a follow-up
+-- what a datagram tells: of a response whose transmit value is the sending, of a response that promises a follow-up, or
+-- of a follow-up
 pub data Tells (header : Header) (d : Made) : Type 0 where
   Plain : d.message ≡ answer_message (server_of header) d.ticket 1 d.reading → Tells header d
-  Promise : d.ticket.follow_up ≡ true → d.message ≡ answer_message (server_of header) d.ticket 2 d.ticket.reading → Tells header d
-  FollowUp : d.ticket.follow_up ≡ true → d.message ≡ answer_message (server_of header) d.ticket 3 d.reading → Tells header d
+  Promise : d.ticket.follow_up ≡ true
+      → d.message ≡ answer_message (server_of header) d.ticket 2 d.ticket.reading → Tells header d
+  FollowUp : d.ticket.follow_up ≡ true
+      → d.message ≡ answer_message (server_of header) d.ticket 3 d.reading → Tells header d
 
 -- A datagram was made at a moment of the lines, for a ticket that was taken before and is answered since.
-pub record IsMade (world : World) (moment_of : ℕ → ℕ) (header : Header) (lines : List Numbered) (d : Made) : Type 0 where
+pub record IsMade (world : World) (moment_of : ℕ → ℕ) (header : Header) (lines : List Numbered)
+    (d : Made) : Type 0 where
   pub tells : Tells header d
   pub in_tickets : numbered d.take (tickets header lines) ≡ Some d.ticket
   pub given : is_given d.take lines ≡ true
@@ -136,30 +181,37 @@ pub record IsMade (world : World) (moment_of : ℕ → ℕ) (header : Header) (l
   pub range : d.reading < LIMIT
 
 -- ---- numbers that stay
-numbered-le : {A : Type 0} (number : ℕ) (items : List A) (a : A) → numbered number items ≡ Some a → number ≤ length items
+numbered-le : {A : Type 0} (number : ℕ) (items : List A) (a : A)
+    → numbered number items ≡ Some a → number ≤ length items
 numbered-le number [] a e = absurd (cc)
 numbered-le number (item ∷ older) a e = by (number == suc (length older)) refl e (numbered-le number older a)
   where
-    by : (b : Bool) → (number == suc (length older)) ≡ b → cond b (Some item) (numbered number older) ≡ Some a → (numbered number older ≡ Some a → number ≤ length older) → number ≤ length (item ∷ older)
+    by : (b : Bool) → (number == suc (length older)) ≡ b → cond b (Some item) (numbered number older) ≡ Some a
+        → (numbered number older ≡ Some a → number ≤ length older) → number ≤ length (item ∷ older)
     by true q p next = omega (arith, eqb-true number (suc (length older)) q)
     by false q p next = omega (arith, next p)
 
 -- an item keeps its number where another comes
-numbered-stays : {A : Type 0} (number : ℕ) (item : A) (older : List A) (a : A) → numbered number older ≡ Some a → numbered number (item ∷ older) ≡ Some a
+numbered-stays : {A : Type 0} (number : ℕ) (item : A) (older : List A) (a : A) → numbered number older ≡ Some a
+    → numbered number (item ∷ older) ≡ Some a
 numbered-stays number item older a e =
-    ap (λ b. cond b (Some item) (numbered number older)) (ne_eqb number (suc (length older)) (λ same. absurd (omega (arith, numbered-le number older a e, same)))) ∙ e
+    ap (λ b. cond b (Some item) (numbered number older))
+    (ne_eqb number (suc (length older)) (λ same. absurd (omega (arith, numbered-le number older a e, same)))) ∙ e
 
 -- the number of what was there stays
-numbered-with : {A : Type 0} (number : ℕ) (o : Option A) (older : List A) (a : A) → numbered number older ≡ Some a → numbered number (option_to_list o ++ older) ≡ Some a
+numbered-with : {A : Type 0} (number : ℕ) (o : Option A) (older : List A) (a : A) → numbered number older ≡ Some a
+    → numbered number (option_to_list o ++ older) ≡ Some a
 numbered-with number None older a e = e
 numbered-with number (Some item) older a e = numbered-stays number item older a e
 
 -- what is known of a datagram is known after one more line
-made-longer : (world : World) (moment_of : ℕ → ℕ) (header : Header) (now : Numbered) (older : List Numbered) (d : Made) → now.line.who ≡ 1
+made-longer : (world : World) (moment_of : ℕ → ℕ) (header : Header) (now : Numbered) (older : List Numbered) (d : Made)
+    → now.line.who ≡ 1
     → IsMade world moment_of header older d → IsMade world moment_of header (now ∷ older) d
 made-longer world moment_of header now older d one is = record {
   tells = is.tells;
-  in_tickets = numbered-with d.take (ticket_by header (requests older) (tickets header older) now.line.verb) (tickets header older) d.ticket is.in_tickets;
+  in_tickets = numbered-with d.take (ticket_by header (requests older) (tickets header older) now.line.verb)
+      (tickets header older) d.ticket is.in_tickets;
   given = or_right (gives d.take now.line.verb) (is_given d.take older) is.given;
   before = omega (arith, is.before);
   taken = taken-longer world moment_of header now older d.ticket one is.taken;
@@ -185,11 +237,19 @@ tells_of header at take reading ticket d h = by ticket.follow_up refl h
     tag : Message → Made
     tag = λ m. record { message = m; given_at = at; take = take; ticket = ticket; reading = reading }
 
-    known : (m : Message) → d ≡ tag m → Tells header (tag m) → (d.given_at ≡ at) × (d.take ≡ take) × (d.ticket ≡ ticket) × (d.reading ≡ reading) × Tells header d
-    known m e tells = (ap (λ (x : Made). x.given_at) e, ap (λ (x : Made). x.take) e, ap (λ (x : Made). x.ticket) e, ap (λ (x : Made). x.reading) e, subst (λ (x : Made). Tells header x) (sym e) tells)
+    known : (m : Message) → d ≡ tag m → Tells header (tag m)
+        → (d.given_at ≡ at) × (d.take ≡ take) × (d.ticket ≡ ticket) × (d.reading ≡ reading) × Tells header d
+    known m e tells = (
+      ap (λ (x : Made). x.given_at) e,
+      ap (λ (x : Made). x.take) e,
+      ap (λ (x : Made). x.ticket) e,
+      ap (λ (x : Made). x.reading) e,
+      subst (λ (x : Made). Tells header x) (sym e) tells,
+    )
 
     by : (f : Bool) → ticket.follow_up ≡ f
-        → IsIn d (map tag (option_to_list (cond f (Some (follow_up_to server ticket reading)) None) ++ cond f (answer_message server ticket 2 ticket.reading) (answer_message server ticket 1 reading) ∷ []))
+        → IsIn d (map tag (option_to_list (cond f (Some (follow_up_to server ticket reading)) None)
+        ++ cond f (answer_message server ticket 2 ticket.reading) (answer_message server ticket 1 reading) ∷ []))
         → (d.given_at ≡ at) × (d.take ≡ take) × (d.ticket ≡ ticket) × (d.reading ≡ reading) × Tells header d
     by true f (inl e) = known (follow_up_to server ticket reading) e (FollowUp f refl)
     by true f (inr (inl e)) = known (answer_message server ticket 2 ticket.reading) e (Promise f refl)
@@ -198,14 +258,17 @@ tells_of header at take reading ticket d h = by ticket.follow_up refl h
     by false f (inr e) = absurd e
 
 -- the datagrams of a line that answers a take
-made_by-line : (world : World) (moment_of : ℕ → ℕ) (header : Header) (now : Numbered) (older : List Numbered) (d : Made) (verb : Verb) → now.line.verb ≡ verb
-    → now.line.who ≡ 1 → IsVerb verb → world (length older) ≡ moment now.line → NearBy (precision_ns header.tv_precision) now.line.w (tv_reading verb)
+made_by-line : (world : World) (moment_of : ℕ → ℕ) (header : Header) (now : Numbered) (older : List Numbered) (d : Made)
+    (verb : Verb) → now.line.verb ≡ verb
+    → now.line.who ≡ 1 → IsVerb verb → world (length older) ≡ moment now.line
+    → NearBy (precision_ns header.tv_precision) now.line.w (tv_reading verb)
     → ((ticket : Ticket) → IsIn ticket (tickets header older) → IsTaken world moment_of header older ticket)
     → IsIn d (made_by header (length older) (tickets header older) verb) → IsMade world moment_of header (now ∷ older) d
 made_by-line world moment_of header now older d (Give take reading) is one range at near taken h =
     by (numbered take (tickets header older)) refl h
   where
-    by : (o : Option Ticket) → numbered take (tickets header older) ≡ o → IsIn d (made_to header (length older) take reading o) → IsMade world moment_of header (now ∷ older) d
+    by : (o : Option Ticket) → numbered take (tickets header older) ≡ o
+        → IsIn d (made_to header (length older) take reading o) → IsMade world moment_of header (now ∷ older) d
     by None e p = absurd p
     by (Some ticket) e p =
         let known = tells_of header (length older) take reading ticket d p in
@@ -214,24 +277,25 @@ made_by-line world moment_of header now older d (Give take reading) is one range
         let taken_so = taken d.ticket (numbered-in take (tickets header older) d.ticket numbered_so) in
         record {
           tells = known.4;
-          in_tickets = numbered-with d.take (ticket_by header (requests older) (tickets header older) now.line.verb) (tickets header older) d.ticket
+          in_tickets = numbered-with d.take (ticket_by header (requests older) (tickets header older) now.line.verb)
+              (tickets header older) d.ticket
               (subst (λ (k : ℕ). numbered k (tickets header older) ≡ Some d.ticket) (sym known.1) numbered_so);
-          given = ap (λ (v : Verb). gives d.take v || is_given d.take older) is ∙ ap (λ b. b || is_given d.take older) (eq-eqb take d.take (sym known.1));
+          given = ap (λ (v : Verb). gives d.take v || is_given d.take older) is
+              ∙ ap (λ b. b || is_given d.take older) (eq-eqb take d.take (sym known.1));
           before = omega (arith, known.0);
           taken = taken-longer world moment_of header now older d.ticket one taken_so;
           later = omega (arith, known.0, taken_so.before);
           near = subst (λ (r : ℕ). IsWithin (precision_ns header.tv_precision) r (world d.given_at).wall) (sym known.3)
               (subst (λ (i : ℕ). IsWithin (precision_ns header.tv_precision) reading (world i).wall) (sym known.0)
-              (subst (λ (w : ℕ). IsWithin (precision_ns header.tv_precision) reading w) (sym (ap (λ m. m.wall) at)) near));
-          range = subst (λ (r : ℕ). r < LIMIT) (sym known.3) range;
+              (subst (λ (w : ℕ). IsWithin (precision_ns header.tv_precision) reading w)
+              (sym (ap (λ m. m.wall) at)) near));
+          range = subst (λ (r : ℕ). r < LIMIT) (sym known.3) range.reading;
         }
-made_by-line world moment_of header now older d (Ask reading) is one range at near taken h = absurd h
-made_by-line world moment_of header now older d (Take request reading) is one range at near taken h = absurd h
-made_by-line world moment_of header now older d (Land datagram reading) is one range at near taken h = absurd h
-made_by-line world moment_of header now older d (Wall reading) is one range at near taken h = absurd h
+made_by-line world moment_of header now older d _ is one range at near taken h = absurd h
 
 -- each datagram of accepted lines was made so
-pub made_each : (world : World) (moment_of : ℕ → ℕ) (header : Header) (lines : List Numbered) (d : Made) → AreAccepted header lines → Agrees world moment_of header lines
+pub made_each : (world : World) (moment_of : ℕ → ℕ) (header : Header) (lines : List Numbered) (d : Made)
+    → AreAccepted header lines → Agrees world moment_of header lines
     → IsIn d (made header lines) → IsMade world moment_of header lines d
 made_each world moment_of header [] d accepted agreed h = absurd h
 made_each world moment_of header (now ∷ older) d accepted agreed h =
@@ -239,7 +303,8 @@ made_each world moment_of header (now ∷ older) d accepted agreed h =
       | inl p ↦ made_by-line world moment_of header now older d now.line.verb refl accepted.1 accepted.0.verb agreed.0
           (tv_near header older now (tested_ok header older now accepted.3.0 accepted.3.1))
           (λ ticket q. taken_each world moment_of header older ticket accepted.4 agreed.2 q) p
-      | inr q ↦ made-longer world moment_of header now older d accepted.1 (made_each world moment_of header older d accepted.4 agreed.2 q)
+      | inr q ↦ made-longer world moment_of header now older d accepted.1
+          (made_each world moment_of header older d accepted.4 agreed.2 q)
     ]
 
 -- ---- one answer for a take
@@ -254,25 +319,24 @@ not-true true e = absurd (cc)
 not-true false e = refl
 
 -- what this verb makes is given at this line
-given_now : (header : Header) (older : List Numbered) (d : Made) (verb : Verb) → can_happen header older verb ≡ true
+given_now : (header : Header) (older : List Numbered) (d : Made) (verb : Verb) → can_exchange header older verb ≡ true
     → IsIn d (made_by header (length older) (tickets header older) verb) → IsGivenNow older d
 given_now header older d (Give take reading) can h = by (numbered take (tickets header older)) h
   where
     fresh : is_given take older ≡ false
-    fresh = not-true (is_given take older) (and_parts (is_some (numbered take (tickets header older))) (not (is_given take older)) can).1
+    fresh = not-true (is_given take older)
+        (and_parts (is_some (numbered take (tickets header older))) (not (is_given take older)) can).1
 
     by : (o : Option Ticket) → IsIn d (made_to header (length older) take reading o) → IsGivenNow older d
     by None p = absurd p
     by (Some ticket) p =
         let known = tells_of header (length older) take reading ticket d p in
         record { at = known.0; fresh = ap (λ (k : ℕ). is_given k older) known.1 ∙ fresh }
-given_now header older d (Ask reading) can h = absurd h
-given_now header older d (Take request reading) can h = absurd h
-given_now header older d (Land datagram reading) can h = absurd h
-given_now header older d (Wall reading) can h = absurd h
+given_now header older d _ can h = absurd h
 
 -- a datagram of earlier lines has its take answered there
-given_before : (header : Header) (lines : List Numbered) (d : Made) → IsIn d (made header lines) → is_given d.take lines ≡ true
+given_before : (header : Header) (lines : List Numbered) (d : Made) → IsIn d (made header lines)
+    → is_given d.take lines ≡ true
 given_before header [] d h = absurd h
 given_before header (now ∷ older) d h =
     elim (in-append (made_by header (length older) (tickets header older) now.line.verb) (made header older) d h) [
@@ -284,16 +348,16 @@ given_before header (now ∷ older) d h =
     or_right true b e = refl
     or_right false b e = e
 
-    by : (verb : Verb) → IsIn d (made_by header (length older) (tickets header older) verb) → (gives d.take verb || is_given d.take older) ≡ true
+    by : (verb : Verb) → IsIn d (made_by header (length older) (tickets header older) verb)
+        → (gives d.take verb || is_given d.take older) ≡ true
     by (Give take reading) p = to (numbered take (tickets header older)) p
       where
-        to : (o : Option Ticket) → IsIn d (made_to header (length older) take reading o) → ((take == d.take) || is_given d.take older) ≡ true
+        to : (o : Option Ticket) → IsIn d (made_to header (length older) take reading o)
+            → ((take == d.take) || is_given d.take older) ≡ true
         to None q = absurd q
-        to (Some ticket) q = ap (λ b. b || is_given d.take older) (eq-eqb take d.take (sym (tells_of header (length older) take reading ticket d q).1))
-    by (Ask reading) p = absurd p
-    by (Take request reading) p = absurd p
-    by (Land datagram reading) p = absurd p
-    by (Wall reading) p = absurd p
+        to (Some ticket) q = ap (λ b. b || is_given d.take older)
+            (eq-eqb take d.take (sym (tells_of header (length older) take reading ticket d q).1))
+    by _ p = absurd p
 
 -- two datagrams of one take were made at one moment
 pub one_giving : (header : Header) (lines : List Numbered) (a b : Made) → AreAccepted header lines
@@ -308,11 +372,16 @@ one_giving header (now ∷ older) a b accepted p q e =
     rest : List Made
     rest = made header older
 
-    can : can_happen header older now.line.verb ≡ true
-    can = can-happen header older now accepted.3.0 (carried_ok header older now accepted.3.0 accepted.3.1)
+    can : can_exchange header older now.line.verb ≡ true
+    can = can-exchange header older now.line.who now.line.verb
+        (can-happen header older now accepted.3.0 (carried_ok header older now accepted.3.0 accepted.3.1))
 
-    by : IsIn a here ⊎ IsIn a rest → IsIn b here ⊎ IsIn b rest → (IsIn a rest → IsIn b rest → a.given_at ≡ b.given_at) → a.given_at ≡ b.given_at
-    by (inl u) (inl v) next = (given_now header older a now.line.verb can u).at ∙ sym (given_now header older b now.line.verb can v).at
-    by (inl u) (inr v) next = absurd (false≢true (sym (given_now header older a now.line.verb can u).fresh ∙ ap (λ (k : ℕ). is_given k older) e ∙ given_before header older b v))
-    by (inr u) (inl v) next = absurd (false≢true (sym (given_now header older b now.line.verb can v).fresh ∙ ap (λ (k : ℕ). is_given k older) (sym e) ∙ given_before header older a u))
+    by : IsIn a here ⊎ IsIn a rest → IsIn b here ⊎ IsIn b rest → (IsIn a rest → IsIn b rest → a.given_at ≡ b.given_at)
+        → a.given_at ≡ b.given_at
+    by (inl u) (inl v) next =
+        (given_now header older a now.line.verb can u).at ∙ sym (given_now header older b now.line.verb can v).at
+    by (inl u) (inr v) next = absurd (false≢true (sym (given_now header older a now.line.verb can u).fresh
+        ∙ ap (λ (k : ℕ). is_given k older) e ∙ given_before header older b v))
+    by (inr u) (inl v) next = absurd (false≢true (sym (given_now header older b now.line.verb can v).fresh
+        ∙ ap (λ (k : ℕ). is_given k older) (sym e) ∙ given_before header older a u))
     by (inr u) (inr v) next = next u v

@@ -1,14 +1,16 @@
 -- What is stored, the oldest first, of a list with the newest first.
-use Rattle.std.proofs.Common.{◌≡◌, ◌≢◌, ℕ, suc, zero, ◌≤◌, arith, List, [], ◌∷◌, ◌++◌, length, refl, ap, sym, subst, ◌∙◌, inl, inr, length-append, length-set}
+use Rattle.std.proofs.Common.{◌≡◌, ◌≢◌, ℕ, suc, zero, ◌≤◌, arith, List, [], ◌∷◌, ◌++◌, length}
+use Rattle.std.proofs.Common.{refl, ap, sym, subst, ◌∙◌, inl, inr, length-append, length-set}
 use Rattle.std.specs.Prelude.{Option, Some, None, slice_get, slice_set}
 use Rattle.std.specs.Option.{option_map}
 use Rattle.std.proofs.lemmas.Bool.Decides.{eqb_tells}
-use Rattle.css_world.specs.Happened.{numbered}
+use Rattle.css_world.specs.Numbering.{numbered}
 use Rattle.css_world.specs.Standing.{stored, spent, AreStored}
 
 -- ---- options
 -- what is mapped to something is something
-pub mapped_some : {A B : Type 0} (f : A → B) (o : Option A) (y : B) → option_map f o ≡ Some y → (x : A) × (o ≡ Some x) × (f x ≡ y)
+pub mapped_some : {A B : Type 0} (f : A → B) (o : Option A) (y : B) → option_map f o ≡ Some y
+    → (x : A) × (o ≡ Some x) × (f x ≡ y)
 mapped_some f None y e = absurd (cc)
 mapped_some f (Some x) y e = (x, refl, cc)
 
@@ -18,7 +20,8 @@ option_map-alike f g None h = refl
 option_map-alike f g (Some x) h = ap Some (h x)
 
 -- to map twice, where the second function is constant
-option_map-constant : {A B C : Type 0} (f : A → B) (g : A → C) (y : C) (o : Option A) → ((x : A) → g x ≡ y) → option_map (λ _. y) (option_map f o) ≡ option_map g o
+option_map-constant : {A B C : Type 0} (f : A → B) (g : A → C) (y : C) (o : Option A) → ((x : A) → g x ≡ y)
+    → option_map (λ _. y) (option_map f o) ≡ option_map g o
 option_map-constant f g y None h = refl
 option_map-constant f g y (Some x) h = ap Some (sym (h x))
 
@@ -29,35 +32,41 @@ slice_get-pushed [] item = refl
 slice_get-pushed (x ∷ items) item = slice_get-pushed items item
 
 -- and no other item is another one now
-slice_get-before : {A : Type 0} (items : List A) (item : A) (place : ℕ) → place ≢ length items → slice_get (items ++ item ∷ []) place ≡ slice_get items place
+slice_get-before : {A : Type 0} (items : List A) (item : A) (place : ℕ) → place ≢ length items
+    → slice_get (items ++ item ∷ []) place ≡ slice_get items place
 slice_get-before [] item zero h = absurd (h refl)
 slice_get-before [] item (suc place) h = refl
 slice_get-before (x ∷ items) item zero h = refl
 slice_get-before (x ∷ items) item (suc place) h = slice_get-before items item place (λ e. h (ap suc e))
 
 -- what was written is there, if there was something
-slice_get-set_same : {A : Type 0} (items : List A) (item : A) (place : ℕ) → slice_get (slice_set items place item) place ≡ option_map (λ _. item) (slice_get items place)
+slice_get-set_same : {A : Type 0} (items : List A) (item : A) (place : ℕ)
+    → slice_get (slice_set items place item) place ≡ option_map (λ _. item) (slice_get items place)
 slice_get-set_same [] item place = refl
 slice_get-set_same (x ∷ items) item zero = refl
 slice_get-set_same (x ∷ items) item (suc place) = slice_get-set_same items item place
 
 -- and each other item is as before
-slice_get-set_other : {A : Type 0} (items : List A) (item : A) (place other : ℕ) → place ≢ other → slice_get (slice_set items place item) other ≡ slice_get items other
+slice_get-set_other : {A : Type 0} (items : List A) (item : A) (place other : ℕ) → place ≢ other
+    → slice_get (slice_set items place item) other ≡ slice_get items other
 slice_get-set_other [] item place other h = refl
 slice_get-set_other (x ∷ items) item zero zero h = absurd (h refl)
 slice_get-set_other (x ∷ items) item zero (suc other) h = refl
 slice_get-set_other (x ∷ items) item (suc place) zero h = refl
-slice_get-set_other (x ∷ items) item (suc place) (suc other) h = slice_get-set_other items item place other (λ e. h (ap suc e))
+slice_get-set_other (x ∷ items) item (suc place) (suc other) h =
+    slice_get-set_other items item place other (λ e. h (ap suc e))
 
 -- to write past the end changes nothing
-pub slice_set-past : {A : Type 0} (items : List A) (item : A) (place : ℕ) → slice_get items place ≡ None → slice_set items place item ≡ items
+pub slice_set-past : {A : Type 0} (items : List A) (item : A) (place : ℕ) → slice_get items place ≡ None
+    → slice_set items place item ≡ items
 slice_set-past [] item place e = refl
 slice_set-past (x ∷ items) item zero e = absurd (cc)
 slice_set-past (x ∷ items) item (suc place) e = ap (λ rest. x ∷ rest) (slice_set-past items item place e)
 
 -- ---- numbers
 -- an item's number isn't above the count
-pub numbered_within : {A : Type 0} (number : ℕ) (items : List A) (item : A) → numbered number items ≡ Some item → number ≤ length items
+pub numbered_within : {A : Type 0} (number : ℕ) (items : List A) (item : A)
+    → numbered number items ≡ Some item → number ≤ length items
 numbered_within number [] item e = absurd (cc)
 numbered_within number (x ∷ older) item e = elim (eqb_tells number (suc (length older))) [
   | inl same ↦ omega (arith, same.1)
@@ -78,18 +87,21 @@ numbered-zero (x ∷ older) = elim (eqb_tells 0 (suc (length older))) [
 -- ---- stored
 -- One item more is stored, in the form in which it is seen.
 pub pushed : {A B : Type 0} (see : ℕ → A → B) (items : List B) (newest_first : List A) (item : A) (seen : B)
-    → AreStored see items newest_first → seen ≡ see (suc (length newest_first)) item → AreStored see (items ++ seen ∷ []) (item ∷ newest_first)
+    → AreStored see items newest_first → seen ≡ see (suc (length newest_first)) item
+    → AreStored see (items ++ seen ∷ []) (item ∷ newest_first)
 pushed {A = A} {B = B} see items newest_first item seen are is = record { count = count_after; each = each_after }
   where
     count_after : length (items ++ seen ∷ []) ≡ suc (length newest_first)
     count_after = omega (arith, length-append items (seen ∷ []), are.count)
 
-    each_after : (number : ℕ) → stored (items ++ seen ∷ []) number ≡ option_map (see number) (numbered number (item ∷ newest_first))
+    each_after : (number : ℕ)
+        → stored (items ++ seen ∷ []) number ≡ option_map (see number) (numbered number (item ∷ newest_first))
     each_after zero = sym (ap (option_map (see 0)) (numbered-zero (item ∷ newest_first)))
     each_after (suc place) = elim (eqb_tells (suc place) (suc (length newest_first))) [
       | inl same ↦
           let last : length items ≡ place = omega (arith, same.1, are.count) in
-          let there : slice_get (items ++ seen ∷ []) place ≡ Some seen = subst (λ (p : ℕ). slice_get (items ++ seen ∷ []) p ≡ Some seen) last (slice_get-pushed items seen) in
+          let there : slice_get (items ++ seen ∷ []) place ≡ Some seen =
+          subst (λ (p : ℕ). slice_get (items ++ seen ∷ []) p ≡ Some seen) last (slice_get-pushed items seen) in
           let as_seen : seen ≡ see (suc place) item = subst (λ (n : ℕ). seen ≡ see n item) (sym same.1) is in
           rw same.0 (there ∙ ap Some as_seen)
       | inr other ↦
@@ -98,10 +110,15 @@ pushed {A = A} {B = B} see items newest_first item seen are is = record { count 
     ]
 
 -- The item of a number is taken out, and is seen as none from then on.
-pub spent_stored : {A B : Type 0} (see after : ℕ → A → Option B) (items : List (Option B)) (newest_first : List A) (number : ℕ)
-    → ((item : A) → after number item ≡ None) → ((other : ℕ) (item : A) → number ≢ other → after other item ≡ see other item)
+pub spent_stored : {A B : Type 0} (see after : ℕ → A → Option B) (items : List (Option B))
+    (newest_first : List A) (number : ℕ)
+    → ((item : A) → after number item ≡ None)
+    → ((other : ℕ) (item : A) → number ≢ other → after other item ≡ see other item)
     → AreStored see items newest_first → AreStored after (spent items number) newest_first
-spent_stored {A = A} {B = B} see after items newest_first number gone rest are = record { count = count_after number ∙ are.count; each = each_after }
+spent_stored {A = A} {B = B} see after items newest_first number gone rest are = record {
+  count = count_after number ∙ are.count;
+  each = each_after;
+}
   where
     count_after : (n : ℕ) → length (spent items n) ≡ length items
     count_after zero = refl
@@ -121,10 +138,13 @@ spent_stored {A = A} {B = B} see after items newest_first number gone rest are =
         same_after number ∙ ap (option_map (λ _. None)) (are.each number)
         ∙ option_map-constant (see number) (after number) None (numbered number newest_first) gone
 
-    each_after : (other : ℕ) → stored (spent items number) other ≡ option_map (after other) (numbered other newest_first)
+    each_after : (other : ℕ)
+        → stored (spent items number) other ≡ option_map (after other) (numbered other newest_first)
     each_after other = elim (eqb_tells number other) [
-      | inl same ↦ subst (λ (n : ℕ). stored (spent items number) n ≡ option_map (after n) (numbered n newest_first)) same.1 at_number
+      | inl same ↦ subst
+          (λ (n : ℕ). stored (spent items number) n ≡ option_map (after n) (numbered n newest_first)) same.1 at_number
       | inr differs ↦
           other_after number other differs.1 ∙ are.each other
-          ∙ option_map-alike (see other) (after other) (numbered other newest_first) (λ item. sym (rest other item differs.1))
+          ∙ option_map-alike (see other) (after other) (numbered other newest_first)
+          (λ item. sym (rest other item differs.1))
     ]

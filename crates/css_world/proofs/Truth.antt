@@ -1,5 +1,6 @@
 -- The span at each `wall` line of accepted lines contains the wall clock, and no landing contradicts itself.
-use Rattle.std.proofs.Common.{◌≡◌, ℕ, suc, ◌<◌, ◌≤◌, ◌⊎◌, inl, inr, arith, ap, sym, subst, ◌∙◌, refl, Bool, true, false, cond, not, ◌==◌, List, [], ◌∷◌, length}
+use Rattle.std.proofs.Common.{◌≡◌, ℕ, suc, ◌≤◌, ◌⊎◌, inl, inr, arith, ap, sym, subst, ◌∙◌, refl}
+use Rattle.std.proofs.Common.{Bool, true, false, cond, not, ◌==◌, List, [], ◌∷◌, length}
 use Rattle.std.specs.Prelude.{Option, Some, None, IfSome, IsTrue, Result, Ok, ◌&&◌, pos, int_lt}
 use Rattle.std.specs.Option.{option_map}
 use Rattle.std.proofs.lemmas.Bool.{and_parts, eqb-true}
@@ -13,7 +14,9 @@ use Rattle.css_model.specs.World.{World, IsWorldFor}
 use Rattle.css_model.specs.Wire.{decoded, stamp_of, reading_of, is_same_stamp}
 use Rattle.css_model.specs.WallClock.{Local, Answer, scaled_width}
 use Rattle.css_model.specs.Truth.{Contains}
-use Rattle.css_model.specs.History.{Entry, History, Clock, Took, Each, LandedAnswer, landed_answer, landed_answers, answer_in, is_asked, is_promise_of, is_possible, times_of, accepted_answers, wall_answer}
+use Rattle.css_model.specs.History.{Entry, History, Clock, Took, Dialled, Heard, Wrote, Closed, Each}
+use Rattle.css_model.specs.History.{LandedAnswer, landed_answer, landed_answers, answer_in, is_asked}
+use Rattle.css_model.specs.History.{is_promise_of, is_possible, times_of, accepted_answers, wall_answer}
 use Rattle.css_model.specs.Explains.{WasAsked, IsTruthful, TruthfulAt, Explains, IsAccepted, AcceptsAt, ContainsAt}
 use Rattle.css_model.proofs.Lately.{IsIn, is_same_stamp-true}
 use Rattle.css_model.proofs.Requests.{reading_of-stamp_of}
@@ -26,31 +29,42 @@ use Rattle.css_client.specs.declared.landing.Landing.TheVariants as landings
 use Rattle.css_span.specs.WallSpans.{span_of, wall_span}
 use Rattle.css_schedule.specs.declared.header.Header.{Header}
 use Rattle.css_schedule.specs.declared.line.Verb.{Verb}
-use Rattle.css_schedule.specs.declared.line.Verb.TheVariants.{Ask, Take, Give, Land, Wall}
-use Rattle.css_world.specs.Happened.{Numbered, numbered, tickets, datagrams, bytes_of, done_by, history_of, peer}
+use Rattle.css_schedule.specs.declared.line.Verb.TheVariants.{Ask, Land, Wall, Print, Opening, Bring, Present, Close}
+use Rattle.css_world.specs.Happened.{Numbered, tickets, datagrams, bytes_of, events_of, history_of, peer}
+use Rattle.css_world.specs.Numbering.{numbered}
 use Rattle.css_world.specs.Worlds.{world_of, moment_number, errors_of}
-use Rattle.css_world.specs.Verdicts.{local_of, IsDeclared, span_at, can_happen}
+use Rattle.css_world.specs.Verdicts.{local_of, IsDeclared, span_at, can_exchange}
 use Rattle.css_world.specs.Standing.{AreAccepted}
-use Rattle.css_world.specs.Truth.{IsTrueWall, IsPossibleLanding, AcceptedLinesAreTrue, AreWorld, AcceptedLinesAreWorld}
+use Rattle.css_world.specs.Truth.{IsTrueWall, IsPossibleLanding, AcceptedLinesAreTrue, AcceptedLinesAreWorld}
 use Rattle.css_world.proofs.Worlds.{carried_ok, keeps_errors, keeps_errors-none}
-use Rattle.css_world.proofs.Lawful.{history-now, is_lawful}
+use Rattle.css_world.proofs.Lawful.{done_at, history-now, IsTalk, each_talk, is_lawful}
+use Rattle.css_world.proofs.Tickets.{AreHere}
 use Rattle.css_world.proofs.Moments.{Agrees, agrees, entries-here, happens}
 use Rattle.css_world.proofs.Tickets.{are_promised, one_promise}
-use Rattle.css_world.proofs.Made.{Made, made, made_each, one_giving, can-happen}
-use Rattle.css_world.proofs.Landed.{lands, is_answer, message_back, answer-in, landing_if, landing-is, CameFrom, CameAt, came_each, each-map}
+use Rattle.css_world.proofs.Made.{Made, made, made_each, one_giving, can-happen, can-exchange}
+use Rattle.css_world.proofs.Reporting.{true_report, told_in_order, in_step_at}
+use Rattle.css_world.proofs.Landed.{lands, is_answer, message_back, answer-in, landing_if}
+use Rattle.css_world.proofs.Landed.{landing-is, CameFrom, CameAt, came_each, each-map}
 
 -- ---- a follow-up and the response that promised it
 same_reading : (r s : ℕ) → is_same_stamp (stamp_of r) (stamp_of s) ≡ true → r ≡ s
-same_reading r s e = sym (reading_of-stamp_of r) ∙ ap reading_of (is_same_stamp-true (stamp_of r) (stamp_of s) e) ∙ reading_of-stamp_of s
+same_reading r s e =
+    sym (reading_of-stamp_of r) ∙ ap reading_of (is_same_stamp-true (stamp_of r) (stamp_of s) e) ∙ reading_of-stamp_of s
 
 -- the promises of the television rise
 promises_rise : (header : Header) (lines : List Numbered) → PromisesRise (tickets header lines)
 promises_rise header lines =
-    no_promise_is_repeated (record { precision = header.tv_precision; error = header.tv_error; follow = header.follow; greatest = greatest_reading (tickets header lines) })
+    no_promise_is_repeated (record {
+      precision = header.tv_precision;
+      error = header.tv_error;
+      follow = header.follow;
+      greatest = greatest_reading (tickets header lines);
+    })
     (tickets header lines) (record { greatest = refl; promised = are_promised header lines })
 
 -- a response that promised a follow-up was given with it
-given_together : (world : World) (moment_of : ℕ → ℕ) (header : Header) (lines : List Numbered) (d e : Made) → AreAccepted header lines → Agrees world moment_of header lines
+given_together : (world : World) (moment_of : ℕ → ℕ) (header : Header) (lines : List Numbered) (d e : Made)
+    → AreAccepted header lines → Agrees world moment_of header lines
     → IsIn d (made header lines) → IsIn e (made header lines) → (reading : ℕ) → d.message.message_type ≡ 3
     → is_promise_of (record { message = e.message; reading = reading }) d.message ≡ true → e.given_at ≡ d.given_at
 given_together world moment_of header lines d e accepted agreed p q reading three pair =
@@ -58,30 +72,39 @@ given_together world moment_of header lines d e accepted agreed p q reading thre
     let is_e = made_each world moment_of header lines e accepted agreed q in
     let a = is_answer world moment_of header lines d is_d in
     let b = is_answer world moment_of header lines e is_e in
-    let parts = and_parts (e.message.message_type == 2) (is_same_stamp e.message.originate d.message.originate && is_same_stamp e.message.receive d.message.receive) pair in
-    let same = and_parts (is_same_stamp e.message.originate d.message.originate) (is_same_stamp e.message.receive d.message.receive) parts.1 in
+    let parts = and_parts (e.message.message_type == 2) (is_same_stamp e.message.originate d.message.originate
+    && is_same_stamp e.message.receive d.message.receive) pair in
+    let same = and_parts (is_same_stamp e.message.originate d.message.originate)
+    (is_same_stamp e.message.receive d.message.receive) parts.1 in
     let follow_d : d.ticket.follow_up ≡ true = a.promised.1 (sym (ap (λ (m : Message). m.message_type) a.is) ∙ three) in
-    let follow_e : e.ticket.follow_up ≡ true = b.promised.0 (sym (ap (λ (m : Message). m.message_type) b.is) ∙ eqb-true e.message.message_type 2 parts.0) in
+    let follow_e : e.ticket.follow_up ≡ true =
+    b.promised.0 (sym (ap (λ (m : Message). m.message_type) b.is) ∙ eqb-true e.message.message_type 2 parts.0) in
     let receive : is_same_stamp (stamp_of e.ticket.reading) (stamp_of d.ticket.reading) ≡ true =
     subst (λ (s : Stamp). is_same_stamp (stamp_of e.ticket.reading) s ≡ true) (ap (λ (m : Message). m.receive) a.is)
     (subst (λ (s : Stamp). is_same_stamp s d.message.receive ≡ true) (ap (λ (m : Message). m.receive) b.is) same.1) in
     one_giving header lines e d accepted q p
-    (one_promise (tickets header lines) e.take d.take e.ticket d.ticket (promises_rise header lines) is_e.in_tickets is_d.in_tickets follow_e follow_d
+    (one_promise (tickets header lines) e.take d.take e.ticket d.ticket
+    (promises_rise header lines) is_e.in_tickets is_d.in_tickets follow_e follow_d
     (same_reading e.ticket.reading d.ticket.reading receive))
 
 -- ---- truthful
 -- a made datagram tells of an exchange of the world, wherever it lands
-truthful : (world : World) (moment_of : ℕ → ℕ) (header : Header) (older : List Numbered) (d : Made) (bytes : List ℕ) (reading : ℕ) → AreAccepted header older
+truthful : (world : World) (moment_of : ℕ → ℕ) (header : Header) (older : List Numbered) (d : Made) (bytes : List ℕ)
+    (reading : ℕ) → AreAccepted header older
     → Agrees world moment_of header older → IsDeclared header → IsIn d (made header older)
     → moment_of (suc (length (history_of 1 header older))) ≡ length older
-    → IsTruthful world header.tv_error moment_of (record { message = d.message; reading = reading }) (Took peer bytes ∷ history_of 1 header older)
+    → IsTruthful world header.tv_error moment_of (record { message = d.message; reading = reading })
+    (Took peer bytes ∷ history_of 1 header older)
 truthful world moment_of header older d bytes reading accepted agreed declared is_made here =
     let h : History = history_of 1 header older in
     let is = made_each world moment_of header older d accepted agreed is_made in
     let a = is_answer world moment_of header older d is in
-    let originate : d.message.originate ≡ stamp_of is.taken.asked = ap (λ (m : Message). m.originate) a.is ∙ is.taken.originate in
-    let receive : reading_of d.message.receive ≡ d.ticket.reading = ap (λ (m : Message). reading_of m.receive) a.is ∙ reading_of-stamp_of d.ticket.reading in
-    let transmit : reading_of d.message.transmit ≡ a.transmit = ap (λ (m : Message). reading_of m.transmit) a.is ∙ reading_of-stamp_of a.transmit in
+    let originate : d.message.originate ≡ stamp_of is.taken.asked =
+    ap (λ (m : Message). m.originate) a.is ∙ is.taken.originate in
+    let receive : reading_of d.message.receive ≡ d.ticket.reading =
+    ap (λ (m : Message). reading_of m.receive) a.is ∙ reading_of-stamp_of d.ticket.reading in
+    let transmit : reading_of d.message.transmit ≡ a.transmit =
+    ap (λ (m : Message). reading_of m.transmit) a.is ∙ reading_of-stamp_of a.transmit in
     let precision = ap (λ (m : Message). m.precision) a.is in
     record {
       ask = is.taken.ask;
@@ -93,34 +116,55 @@ truthful world moment_of header older d bytes reading accepted agreed declared i
       transmit_later = a.from;
       sent_later = a.to;
       landed_later = omega (arith, is.before, here);
-      receive = subst (λ (r : ℕ). IsWithin (precision_ns d.message.precision) r (world is.taken.received_at).wall) (sym receive)
-          (subst (λ p. IsWithin (precision_ns p) d.ticket.reading (world is.taken.received_at).wall) (sym precision) is.taken.near);
-      transmit = subst (λ (r : ℕ). IsWithin (precision_ns d.message.precision) r (world a.transmit_at).wall) (sym transmit)
+      receive = subst (λ (r : ℕ). IsWithin (precision_ns d.message.precision) r (world is.taken.received_at).wall)
+          (sym receive)
+          (subst (λ p. IsWithin (precision_ns p) d.ticket.reading (world is.taken.received_at).wall)
+          (sym precision) is.taken.near);
+      transmit =
+          subst (λ (r : ℕ). IsWithin (precision_ns d.message.precision) r (world a.transmit_at).wall) (sym transmit)
           (subst (λ p. IsWithin (precision_ns p) a.transmit (world a.transmit_at).wall) (sym precision) a.near);
       at_once = λ other. a.at_once (λ two. other (ap (λ (m : Message). m.message_type) a.is ∙ two));
       declared = omega (arith, ap (λ (m : Message). m.error) a.is);
       promised_later = λ three. (
         tt,
-        each-map (CameAt header older moment_of) (λ entry before. IfSome (landed_answer entry before) (λ response. IsTrue (is_promise_of response d.message) → d.given_at ≤ moment_of (length before))) h
+        each-map (CameAt header older moment_of) (λ entry before. IfSome (landed_answer entry before)
+            (λ response. IsTrue (is_promise_of response d.message) → d.given_at ≤ moment_of (length before))) h
             (λ entry before came. later entry before three (landed_answer entry before) came)
             (came_each world moment_of header older declared accepted agreed),
       );
     }
   where
-    later : (entry : Entry) (before : History) → d.message.message_type ≡ 3 → (o : Option LandedAnswer) → IfSome o (λ response. CameFrom header older moment_of response before)
+    later : (entry : Entry) (before : History) → d.message.message_type ≡ 3 → (o : Option LandedAnswer)
+        → IfSome o (λ response. CameFrom header older moment_of response before)
         → IfSome o (λ response. IsTrue (is_promise_of response d.message) → d.given_at ≤ moment_of (length before))
     later entry before three None came = tt
     later entry before three (Some response) came = λ pair.
         let pair_so : is_promise_of (record { message = came.0.message; reading = response.reading }) d.message ≡ true =
-        subst (λ (m : Message). is_promise_of (record { message = m; reading = response.reading }) d.message ≡ true) (sym came.2) pair in
-        omega (arith, given_together world moment_of header older d came.0 accepted agreed is_made came.1 response.reading three pair_so, came.3)
+        subst (λ (m : Message). is_promise_of (record { message = m; reading = response.reading }) d.message
+        ≡ true) (sym came.2) pair in
+        omega (
+          arith,
+          given_together world moment_of header older d came.0 accepted agreed is_made came.1
+              response.reading three pair_so,
+          came.3,
+        )
+
+-- nothing lands with an entry of a session
+truthful_talk : (world : World) (moment_of : ℕ → ℕ) (header : Header) (entry : Entry) (before : History)
+    → IsTalk entry → TruthfulAt world header.tv_error (local_of 1 header) moment_of entry before
+truthful_talk world moment_of header (Dialled kind other) before talk = tt
+truthful_talk world moment_of header (Heard other bytes) before talk = tt
+truthful_talk world moment_of header (Wrote other bytes) before talk = tt
+truthful_talk world moment_of header (Closed other) before talk = tt
+truthful_talk world moment_of header _ before talk = absurd talk
 
 -- what lands by one verb is truthful
-truthful_by : (world : World) (moment_of : ℕ → ℕ) (header : Header) (older : List Numbered) (verb : Verb) → AreAccepted header older
-    → Agrees world moment_of header older → IsDeclared header → can_happen header older verb ≡ true
-    → ((entry : ℕ) → length (history_of 1 header older) ≤ entry → entry < length (done_by (datagrams header older) verb (history_of 1 header older)) → moment_of entry ≡ length older)
+truthful_by : (world : World) (moment_of : ℕ → ℕ) (header : Header) (older : List Numbered) (verb : Verb)
+    → AreAccepted header older
+    → Agrees world moment_of header older → IsDeclared header → can_exchange header older verb ≡ true
+    → AreHere moment_of header older verb
     → Each (TruthfulAt world header.tv_error (local_of 1 header) moment_of) (history_of 1 header older)
-    → Each (TruthfulAt world header.tv_error (local_of 1 header) moment_of) (done_by (datagrams header older) verb (history_of 1 header older))
+    → Each (TruthfulAt world header.tv_error (local_of 1 header) moment_of) (done_at header older verb)
 truthful_by world moment_of header older (Land datagram reading) accepted agreed declared can here each =
     let own : Local = local_of 1 header in
     let h : History = history_of 1 header older in
@@ -130,39 +174,57 @@ truthful_by world moment_of header older (Land datagram reading) accepted agreed
     let answer = ap answer_in l.bytes ∙ answer-in world moment_of header older l.d declared is in
     let at : moment_of (suc (length h)) ≡ length older = here (suc (length h)) (omega arith) (omega arith) in
     let true_so = truthful world moment_of header older l.d bytes reading accepted agreed declared l.is_made at in (
-      subst (λ (o : Option LandedAnswer). IfSome o (λ landed. IsTrue (is_possible own landed (landed_answers (Took peer bytes ∷ h))) → IsTruthful world header.tv_error moment_of landed (Took peer bytes ∷ h)))
+      subst (λ (o : Option LandedAnswer). IfSome o
+          (λ landed. IsTrue (is_possible own landed (landed_answers (Took peer bytes ∷ h)))
+          → IsTruthful world header.tv_error moment_of landed (Took peer bytes ∷ h)))
           (sym (landing-is l.d.message bytes reading h answer))
           (elim (is_asked l.d.message.originate (Took peer bytes ∷ h))
-          as (λ b. IfSome (landing_if b l.d.message reading) (λ landed. IsTrue (is_possible own landed (landed_answers (Took peer bytes ∷ h))) → IsTruthful world header.tv_error moment_of landed (Took peer bytes ∷ h)))
+          as (λ b. IfSome (landing_if b l.d.message reading)
+          (λ landed. IsTrue (is_possible own landed (landed_answers (Took peer bytes ∷ h)))
+          → IsTruthful world header.tv_error moment_of landed (Took peer bytes ∷ h)))
           [ true ↦ (λ possible. true_so) | false ↦ tt ]),
       (tt, each),
     )
 truthful_by world moment_of header older (Ask reading) accepted agreed declared can here each = (tt, (tt, each))
-truthful_by world moment_of header older (Take request reading) accepted agreed declared can here each = each
-truthful_by world moment_of header older (Give take reading) accepted agreed declared can here each = each
 truthful_by world moment_of header older (Wall reading) accepted agreed declared can here each = (tt, each)
+truthful_by world moment_of header older (Print reading) accepted agreed declared can here each = (tt, each)
+truthful_by world moment_of header older (Opening kind) accepted agreed declared can here each =
+    each_talk _ header 1 (datagrams header older) (events_of header older) (Opening kind) (history_of 1 header older) tt
+    (truthful_talk world moment_of header) each
+truthful_by world moment_of header older (Bring kind) accepted agreed declared can here each =
+    each_talk _ header 1 (datagrams header older) (events_of header older) (Bring kind) (history_of 1 header older) tt
+    (truthful_talk world moment_of header) each
+truthful_by world moment_of header older (Present earliest latest) accepted agreed declared can here each = (tt, each)
+truthful_by world moment_of header older (Close kind) accepted agreed declared can here each = (tt, each)
+truthful_by world moment_of header older _ accepted agreed declared can here each = each
 
 -- so is what lands by all lines
-truthful_each : (world : World) (moment_of : ℕ → ℕ) (header : Header) (lines : List Numbered) → IsDeclared header → AreAccepted header lines → Agrees world moment_of header lines
+truthful_each : (world : World) (moment_of : ℕ → ℕ) (header : Header) (lines : List Numbered) → IsDeclared header
+    → AreAccepted header lines → Agrees world moment_of header lines
     → Each (TruthfulAt world header.tv_error (local_of 1 header) moment_of) (history_of 1 header lines)
 truthful_each world moment_of header [] declared accepted agreed = tt
 truthful_each world moment_of header (now ∷ older) declared accepted agreed =
-    subst (λ (h : History). Each (TruthfulAt world header.tv_error (local_of 1 header) moment_of) h) (sym (history-now header now older accepted.1))
+    subst (λ (h : History). Each (TruthfulAt world header.tv_error (local_of 1 header) moment_of) h)
+    (sym (history-now header now older accepted.1))
     (truthful_by world moment_of header older now.line.verb accepted.4 agreed.2 declared
-    (can-happen header older now accepted.3.0 (carried_ok header older now accepted.3.0 accepted.3.1))
+    (can-exchange header older now.line.who now.line.verb
+    (can-happen header older now accepted.3.0 (carried_ok header older now accepted.3.0 accepted.3.1)))
     (entries-here moment_of header now older accepted.1 agreed.1)
     (truthful_each world moment_of header older declared accepted.4 agreed.2))
 
 -- the world of accepted lines explains what the companion did
 pub explained : (header : Header) (lines : List Numbered) → IsDeclared header → AreAccepted header lines
-    → Explains (world_of lines) 1 header.tv_error (local_of 1 header) (history_of 1 header lines) (moment_number 1 header lines)
+    → Explains (world_of lines) 1 header.tv_error (local_of 1 header) (history_of 1 header lines)
+    (moment_number 1 header lines)
 explained header lines declared accepted = record {
   happens = happens header lines accepted;
-  truthful = truthful_each (world_of lines) (moment_number 1 header lines) header lines declared accepted (agrees header lines);
+  truthful = truthful_each (world_of lines)
+      (moment_number 1 header lines) header lines declared accepted (agrees header lines);
 }
 
 -- and it keeps the declared errors
-world_for : (header : Header) (now : Numbered) (older : List Numbered) → IsDeclared header → AreAccepted header (now ∷ older)
+world_for : (header : Header) (now : Numbered) (older : List Numbered) → IsDeclared header
+    → AreAccepted header (now ∷ older)
     → IsWorldFor (errors_of header) (world_of (now ∷ older)) 1 (local_of 1 header)
 world_for header now older declared accepted = record {
   keeps = keeps_errors header now older accepted;
@@ -191,46 +253,58 @@ accepted_lines_are_world header lines declared accepted = record {
 -- ---- the wall clock
 -- an answer whose span contains the wall clock
 covers : (own : Local) (reading wall : ℕ) (answer : Option Answer)
-    → IfSome answer (λ a. Contains own a reading wall) → IfSome (option_map (span_of own reading) answer) (λ span. Covers span (pos wall))
+    → IfSome answer (λ a. Contains own a reading wall)
+    → IfSome (option_map (span_of own reading) answer) (λ span. Covers span (pos wall))
 covers own reading wall None contains = tt
 covers own reading wall (Some answer) contains = record { low = contains.low; high = contains.high }
 
 -- the history with the reading of a `wall` line
-wall-history : (header : Header) (now : Numbered) (older : List Numbered) (reading : ℕ) → now.line.who ≡ 1 → now.line.verb ≡ Wall reading
+wall-history : (header : Header) (now : Numbered) (older : List Numbered) (reading : ℕ) → now.line.who ≡ 1
+    → now.line.verb ≡ Wall reading
     → history_of 1 header (now ∷ older) ≡ Clock why.Turn reading ∷ history_of 1 header older
 wall-history header now older reading one is =
-    history-now header now older one ∙ ap (λ (v : Verb). done_by (datagrams header older) v (history_of 1 header older)) is
+    history-now header now older one ∙ ap (λ (v : Verb). done_at header older v) is
 
 -- the interval at `wall` contains the value of the line
-true_wall : (header : Header) (older : List Numbered) (now : Numbered) → IsDeclared header → AreAccepted header (now ∷ older) → IsTrueWall header older now
+true_wall : (header : Header) (older : List Numbered) (now : Numbered) → IsDeclared header
+    → AreAccepted header (now ∷ older) → IsTrueWall header older now
 true_wall header older now declared accepted = λ reading is.
     let own : Local = local_of 1 header in
     let lines : List Numbered = now ∷ older in
     let h : History = history_of 1 header older in
     let world : World = world_of lines in
     let moment_of : ℕ → ℕ = moment_number 1 header lines in
-    let each = wall_is_true (errors_of header) world 1 own (history_of 1 header lines) moment_of (world_for header now older declared accepted) (is_lawful header lines accepted) (explained header lines declared accepted) in
-    let there : Each (ContainsAt world own moment_of) (Clock why.Turn reading ∷ h) = subst (λ (x : History). Each (ContainsAt world own moment_of) x) (wall-history header now older reading accepted.1 is) each in
+    let each = wall_is_true (errors_of header) world 1 own (history_of 1 header lines) moment_of (world_for header now
+    older declared accepted) (is_lawful header lines accepted) (explained header lines declared accepted) in
+    let there : Each (ContainsAt world own moment_of) (Clock why.Turn reading ∷ h) = subst (λ (x : History). Each
+    (ContainsAt world own moment_of) x) (wall-history header now older reading accepted.1 is) each in
     let agreed = agrees header lines in
-    let entry : moment_of (length h) ≡ length older = agreed.1 (length h) (omega arith) (omega (arith, ap length (wall-history header now older reading accepted.1 is))) in
-    let wall : (world (moment_of (length h))).wall ≡ now.line.w = ap (λ (i : ℕ). (world i).wall) entry ∙ ap (λ m. m.wall) agreed.0 in
-    subst (λ (who : ℕ). IfSome (span_at who header older reading) (λ span. Covers span (pos now.line.w))) (sym accepted.1)
+    let entry : moment_of (length h) ≡ length older = agreed.1 (length h) (omega arith)
+    (omega (arith, ap length (wall-history header now older reading accepted.1 is))) in
+    let wall : (world (moment_of (length h))).wall ≡ now.line.w =
+    ap (λ (i : ℕ). (world i).wall) entry ∙ ap (λ m. m.wall) agreed.0 in
+    subst (λ (who : ℕ). IfSome (span_at who header older reading)
+    (λ span. Covers span (pos now.line.w))) (sym accepted.1)
     (subst (λ (w : ℕ). IfSome (wall_span own reading (accepted_answers own h)) (λ span. Covers span (pos w))) wall
     (covers own reading (world (moment_of (length h))).wall (wall_answer own h reading) there.0))
 
 -- ---- landings
-possible-accepted : (own : Local) (reading : ℕ) (answer : Answer) → not (int_lt (scaled_width own answer reading) (pos 0)) ≡ true → verdict own reading answer ≡ landings.Accepted
+possible-accepted : (own : Local) (reading : ℕ) (answer : Answer)
+    → not (int_lt (scaled_width own answer reading) (pos 0)) ≡ true → verdict own reading answer ≡ landings.Accepted
 possible-accepted own reading answer possible = by (int_lt (scaled_width own answer reading) (pos 0)) possible
   where
-    by : (b : Bool) → not b ≡ true → cond b (landings.Impossible (scaled_width own answer reading)) landings.Accepted ≡ landings.Accepted
+    by : (b : Bool) → not b ≡ true
+        → cond b (landings.Impossible (scaled_width own answer reading)) landings.Accepted ≡ landings.Accepted
     by true e = absurd (cc)
     by false e = refl
 
 -- the history after a landing
-land-history : (header : Header) (now : Numbered) (older : List Numbered) (datagram reading : ℕ) → now.line.who ≡ 1 → now.line.verb ≡ Land datagram reading
-    → history_of 1 header (now ∷ older) ≡ Clock why.Land reading ∷ Took peer (bytes_of (numbered datagram (datagrams header older))) ∷ history_of 1 header older
+land-history : (header : Header) (now : Numbered) (older : List Numbered) (datagram reading : ℕ) → now.line.who ≡ 1
+    → now.line.verb ≡ Land datagram reading
+    → history_of 1 header (now ∷ older) ≡ Clock why.Land reading ∷ Took peer
+    (bytes_of (numbered datagram (datagrams header older))) ∷ history_of 1 header older
 land-history header now older datagram reading one is =
-    history-now header now older one ∙ ap (λ (v : Verb). done_by (datagrams header older) v (history_of 1 header older)) is
+    history-now header now older one ∙ ap (λ (v : Verb). done_at header older v) is
 
 -- what becomes of an answer, by whether its request is asked
 abbrev LandsWell : Landing → Type 0
@@ -239,27 +313,33 @@ LandsWell landing = (landing ≡ landings.Accepted) ⊎ (landing ≡ landings.Un
 -- an answer that lands after this history is accepted where it is truthful
 abbrev TakenIn : Local → History → World → ℕ → (ℕ → ℕ) → List ℕ → ℕ → LandedAnswer → Type 0
 TakenIn own h world tv_error moment_of bytes reading landed =
-    IsTruthful world tv_error moment_of landed (Took peer bytes ∷ h) → IsAccepted own landed (Clock why.Land reading) (Took peer bytes ∷ h)
+    IsTruthful world tv_error moment_of landed (Took peer bytes ∷ h)
+    → IsAccepted own landed (Clock why.Land reading) (Took peer bytes ∷ h)
 
 -- a truthful answer is accepted, or its request left the last 64
-lands_well : (own : Local) (h : History) (world : World) (tv_error : ℕ) (moment_of : ℕ → ℕ) (bytes : List ℕ) (message : Message) (reading : ℕ)
+lands_well : (own : Local) (h : History) (world : World) (tv_error : ℕ) (moment_of : ℕ → ℕ) (bytes : List ℕ)
+    (message : Message) (reading : ℕ)
     → (message.message_type == 0) ≡ false → answer_in bytes ≡ Some message
     → IsTruthful world tv_error moment_of (record { message = message; reading = reading }) (Took peer bytes ∷ h)
     → AcceptsAt world tv_error own moment_of (Clock why.Land reading) (Took peer bytes ∷ h)
     → LandsWell (landing_of_message own h reading message)
 lands_well own h world tv_error moment_of bytes message reading answer is_answer true_so accepts =
-    subst (λ b. LandsWell (cond b landings.NotAnAnswer (cond (is_asked message.originate h) (verdict own reading (times_of item (landed_answers h))) landings.Unasked))) (sym answer)
-    (by (is_asked message.originate h) (subst (λ (o : Option LandedAnswer). IfSome o (TakenIn own h world tv_error moment_of bytes reading)) (landing-is message bytes reading h is_answer) accepts))
+    subst (λ b. LandsWell (cond b landings.NotAnAnswer (cond (is_asked message.originate h)
+    (verdict own reading (times_of item (landed_answers h))) landings.Unasked))) (sym answer)
+    (by (is_asked message.originate h) (subst (λ (o : Option LandedAnswer). IfSome o
+    (TakenIn own h world tv_error moment_of bytes reading)) (landing-is message bytes reading h is_answer) accepts))
   where
     item : LandedAnswer
     item = record { message = message; reading = reading }
 
-    by : (b : Bool) → IfSome (landing_if b message reading) (TakenIn own h world tv_error moment_of bytes reading) → LandsWell (cond b (verdict own reading (times_of item (landed_answers h))) landings.Unasked)
+    by : (b : Bool) → IfSome (landing_if b message reading) (TakenIn own h world tv_error moment_of bytes reading)
+        → LandsWell (cond b (verdict own reading (times_of item (landed_answers h))) landings.Unasked)
     by true taken = inl (possible-accepted own reading (times_of item (landed_answers h)) (taken true_so).possible)
     by false taken = inr refl
 
 -- so no landing contradicts itself
-possible_landing : (header : Header) (older : List Numbered) (now : Numbered) → IsDeclared header → AreAccepted header (now ∷ older) → IsPossibleLanding header older now
+possible_landing : (header : Header) (older : List Numbered) (now : Numbered) → IsDeclared header
+    → AreAccepted header (now ∷ older) → IsPossibleLanding header older now
 possible_landing header older now declared accepted = λ datagram reading is.
     let own : Local = local_of 1 header in
     let lines : List Numbered = now ∷ older in
@@ -267,24 +347,35 @@ possible_landing header older now declared accepted = λ datagram reading is.
     let world : World = world_of lines in
     let moment_of : ℕ → ℕ = moment_number 1 header lines in
     let bytes : List ℕ = bytes_of (numbered datagram (datagrams header older)) in
-    let each = truth_is_accepted (errors_of header) world 1 own (history_of 1 header lines) moment_of (world_for header now older declared accepted) (is_lawful header lines accepted) (happens header lines accepted) in
-    let there = subst (λ (x : History). Each (AcceptsAt world header.tv_error own moment_of) x) (land-history header now older datagram reading accepted.1 is) each in
-    let can = can-happen header older now accepted.3.0 (carried_ok header older now accepted.3.0 accepted.3.1) in
-    let l = lands header older datagram (subst (λ (v : Verb). can_happen header older v ≡ true) is can) in
+    let each = truth_is_accepted (errors_of header) world 1 own (history_of 1 header lines) moment_of (world_for header
+    now older declared accepted) (is_lawful header lines accepted) (happens header lines accepted) in
+    let there = subst (λ (x : History). Each (AcceptsAt world header.tv_error own moment_of) x)
+    (land-history header now older datagram reading accepted.1 is) each in
+    let can = can-exchange header older now.line.who now.line.verb
+    (can-happen header older now accepted.3.0 (carried_ok header older now accepted.3.0 accepted.3.1)) in
+    let l = lands header older datagram (subst (λ (v : Verb). can_exchange header older v ≡ true) is can) in
     let agreed = agrees header lines in
     let made_so = made_each world moment_of header older l.d accepted.4 agreed.2 l.is_made in
     let a = is_answer world moment_of header older l.d made_so in
-    let entry : moment_of (suc (length h)) ≡ length older = agreed.1 (suc (length h)) (omega arith) (omega (arith, ap length (land-history header now older datagram reading accepted.1 is))) in
-    let true_so = truthful world moment_of header older l.d bytes reading accepted.4 agreed.2 declared l.is_made entry in
-    let back : decoded bytes ≡ Ok l.d.message = ap decoded l.bytes ∙ message_back world moment_of header older l.d declared made_so in
-    subst (λ (who : ℕ). LandsWell (landing_of (local_of who header) (history_of who header older) reading bytes)) (sym accepted.1)
+    let entry : moment_of (suc (length h)) ≡ length older = agreed.1 (suc (length h)) (omega arith)
+    (omega (arith, ap length (land-history header now older datagram reading accepted.1 is))) in
+    let true_so =
+    truthful world moment_of header older l.d bytes reading accepted.4 agreed.2 declared l.is_made entry in
+    let back : decoded bytes ≡ Ok l.d.message =
+    ap decoded l.bytes ∙ message_back world moment_of header older l.d declared made_so in
+    subst (λ (who : ℕ). LandsWell (landing_of (local_of who header) (history_of who header older) reading bytes))
+    (sym accepted.1)
     (subst (λ (came : Result Message WcFault). LandsWell (landing_of_decoded own h reading came)) (sym back)
-    (lands_well own h world header.tv_error moment_of bytes l.d.message reading (ap (λ (m : Message). m.message_type == 0) a.is ∙ a.answer)
+    (lands_well own h world header.tv_error moment_of bytes l.d.message reading
+    (ap (λ (m : Message). m.message_type == 0) a.is ∙ a.answer)
     (ap answer_in l.bytes ∙ answer-in world moment_of header older l.d declared made_so) true_so there.0))
 
 -- the law
 pub accepted_lines_are_true : AcceptedLinesAreTrue
 accepted_lines_are_true header older now declared accepted = record {
   wall = true_wall header older now declared accepted;
+  report = true_report header older now accepted (accepted_lines_are_world header (now ∷ older) declared accepted);
   landing = possible_landing header older now declared accepted;
+  told = told_in_order header older now declared accepted;
+  in_step = in_step_at header older now declared accepted;
 }

@@ -1,5 +1,6 @@
 -- The clock of one end, the television's or a companion's: whether the lines of a schedule that tell of it agree.
-use Rattle.std.specs.Prelude.{ℕ, ◌-◌, nat_lt, pos, if◌then◌else◌, map, List, [], ◌∷◌, Option, Some, None, Result, Ok, Err}
+use Rattle.std.specs.Prelude.{ℕ, ◌-◌, nat_lt, pos, if◌then◌else◌, map, List}
+use Rattle.std.specs.Prelude.{[], ◌∷◌, Option, Some, None, Result, Ok, Err}
 use Rattle.std.specs.Int.{abs_diff}
 use Rattle.std.specs.Option.{option_map, option_or}
 use Rattle.std.specs.Result.{result_and, result_map_both}
@@ -47,18 +48,23 @@ last_reading (now ∷ older) = option_or (reading_at now) (last_reading older)
 -- a reading differs from what the clock shows by no more than the precision
 abbrev pub near_verdict : (number precision shown reading : ℕ) → Result (Unit {0}) WorldFault
 near_verdict number precision shown reading =
-    if nat_lt precision (abs_diff reading shown) then Err (Broken number (pos (abs_diff reading shown - precision))) else Ok tt
+    if nat_lt precision (abs_diff reading shown)
+    then Err (Broken number (pos (abs_diff reading shown - precision))) else Ok tt
 
 -- it isn't below the last one
 abbrev pub order_verdict : (last : Option Reading) → (reading : ℕ) → Result (Unit {0}) WorldFault
 order_verdict None reading = Ok tt
-order_verdict (Some last) reading = if nat_lt reading last.value then Err (Broken last.line (pos (last.value - reading))) else Ok tt
+order_verdict (Some last) reading =
+    if nat_lt reading last.value then Err (Broken last.line (pos (last.value - reading))) else Ok tt
 
 -- first the precision is tested, and then the order
-abbrev pub read_verdict : (number precision shown : ℕ) → (last : Option Reading) → (reading : ℕ) → Result (Unit {0}) WorldFault
-read_verdict number precision shown last reading = result_and (near_verdict number precision shown reading) (order_verdict last reading)
+abbrev pub read_verdict : (number precision shown : ℕ) → (last : Option Reading) → (reading : ℕ)
+    → Result (Unit {0}) WorldFault
+read_verdict number precision shown last reading =
+    result_and (near_verdict number precision shown reading) (order_verdict last reading)
 
 -- of the end's reading at a line, if it took one
-abbrev pub reading_verdict : (number precision shown : ℕ) → (last : Option Reading) → Option ℕ → Result (Unit {0}) WorldFault
+abbrev pub reading_verdict : (number precision shown : ℕ) → (last : Option Reading) → Option ℕ
+    → Result (Unit {0}) WorldFault
 reading_verdict number precision shown last None = Ok tt
 reading_verdict number precision shown last (Some reading) = read_verdict number precision shown last reading

@@ -1,27 +1,34 @@
 -- What the lines of a schedule say that its ends did. In each list the newest stands first.
-use Rattle.std.specs.Prelude.{ℕ, suc, ◌==◌, ◌&&◌, Bool, false, if◌then◌else◌, List, [], ◌∷◌, ◌++◌, length, Option, Some, None}
+use Rattle.std.specs.Prelude.{ℕ, ◌==◌, ◌&&◌, Bool, false, if◌then◌else◌, List, [], ◌∷◌, ◌++◌, Option, Some, None}
 use Rattle.std.specs.Option.{option_map, option_to_list}
 use Rattle.std.specs.List.{list_any}
 use Rattle.css_model.specs.declared.Message.{Message}
 use Rattle.css_model.specs.declared.Why.TheVariants as why
 use Rattle.css_model.specs.Wire.{encoded, request_at, stamp_of}
-use Rattle.css_model.specs.History.{Clock, Sent, Took, History}
+use Rattle.css_model.specs.declared.Kind.TheVariants as session
+use Rattle.css_model.specs.History.{Clock, Sent, Took, Dialled, Heard, Wrote, Closed, History}
 use Rattle.css_server.specs.Tickets.{Server, Ticket, is_greater, response_to, follow_up_for}
 use Rattle.css_server.specs.Exchanges.{greatest_reading}
+use Rattle.css_tsmsg.specs.Presentations.{presentation_text}
+use Rattle.css_tsmsg.specs.Setups.{setup_text}
+use Rattle.css_sessions.specs.declared.session.Kind.{Kind}
+use Rattle.css_sessions.specs.declared.session.Kind.TheVariants as kind
+use Rattle.css_tv.specs.declared.event.TvEvent.{TvEvent}
+use Rattle.css_tv.specs.declared.event.TvEvent.TheVariants as event
+use Rattle.css_companion.specs.Steps.{window}
 use Rattle.css_schedule.specs.declared.header.Header.{Header}
 use Rattle.css_schedule.specs.declared.line.Line.{Line}
 use Rattle.css_schedule.specs.declared.line.Verb.{Verb}
-use Rattle.css_schedule.specs.declared.line.Verb.TheVariants.{Ask, Take, Give, Land, Wall}
+use Rattle.css_schedule.specs.declared.line.Verb.TheVariants.{Ask, Take, Give, Land, Wall, Print}
+use Rattle.css_schedule.specs.declared.line.Verb.TheVariants.{Programme, Timeline, Viewer}
+use Rattle.css_schedule.specs.declared.line.Verb.TheVariants.{Opening, Bring, Up, Present, Close}
+use Rattle.css_world.specs.Numbering.{numbered}
+use Rattle.css_world.specs.Sessions.{peer_of, setup_of, next_down, next_up}
 
 -- a line of a schedule, and its number there
 pub record Numbered : Type 0 where
   pub number : ℕ
   pub line : Line
-
--- the item of that number, where items are numbered from 1 in the order of their coming
-abbrev pub numbered : {A : Type 0} → ℕ → List A → Option A
-numbered number [] = None
-numbered number (item ∷ older) = if number == suc (length older) then Some item else numbered number older
 
 -- ---- requests
 abbrev pub asked_by : Verb → Option ℕ
@@ -45,23 +52,31 @@ ticket_at header older reading asked = record {
 
 -- the ticket of a take, if its request was sent
 abbrev pub ticket_by : Header → List ℕ → List Ticket → Verb → Option Ticket
-ticket_by header asked older (Take request reading) = option_map (ticket_at header older reading) (numbered request asked)
+ticket_by header asked older (Take request reading) =
+    option_map (ticket_at header older reading) (numbered request asked)
 ticket_by header asked older _ = None
 
 -- the tickets of the takes
 abbrev pub tickets : Header → List Numbered → List Ticket
 tickets header [] = []
-tickets header (now ∷ older) = option_to_list (ticket_by header (requests older) (tickets header older) now.line.verb) ++ tickets header older
+tickets header (now ∷ older) =
+    option_to_list (ticket_by header (requests older) (tickets header older) now.line.verb) ++ tickets header older
 
 -- ---- datagrams
 -- what the television declares
 abbrev pub server_of : Header → Server
-server_of header = record { precision = header.tv_precision; error = header.tv_error; follow = header.follow; greatest = None }
+server_of header = record {
+  precision = header.tv_precision;
+  error = header.tv_error;
+  follow = header.follow;
+  greatest = None;
+}
 
 -- the answer to a ticket that is given at a reading: the response and, where it promises one, its follow-up
 abbrev pub answers_to : Server → ℕ → Option Ticket → List Message
 answers_to server reading None = []
-answers_to server reading (Some ticket) = option_to_list (follow_up_for server ticket reading) ++ response_to server ticket reading ∷ []
+answers_to server reading (Some ticket) =
+    option_to_list (follow_up_for server ticket reading) ++ response_to server ticket reading ∷ []
 
 -- the datagrams of an answer
 abbrev pub answers_by : Header → List Ticket → Verb → List Message
@@ -82,6 +97,17 @@ gives take _ = false
 abbrev pub is_given : ℕ → List Numbered → Bool
 is_given take lines = list_any (λ now. gives take now.line.verb) lines
 
+-- ---- what the television did
+-- What happens at the television by a line of companion `who`, after its events and what that companion did.
+abbrev pub event_by : ℕ → List TvEvent → History → Verb → Option TvEvent
+event_by who events own (Programme content_id) = Some (event.Programme content_id)
+event_by who events own (Timeline programme selector rate base) = Some (event.AddTimeline programme selector rate base)
+event_by who events own (Viewer reading command) = Some (event.Viewer command reading)
+event_by who events own (Opening kind) = Some (event.Opened (peer_of who kind) kind)
+event_by who events own Up = option_map (event.Heard (peer_of who kind.Ts)) (next_up who events own)
+event_by who events own (Close kind) = Some (event.Closed (peer_of who kind))
+event_by who events own _ = None
+
 -- ---- what a companion did
 -- what a datagram's bytes are; there is no other
 abbrev pub bytes_of : Option Message → List ℕ
@@ -92,16 +118,55 @@ bytes_of (Some message) = encoded message
 abbrev pub peer : ℕ
 peer = 0
 
--- what a companion did at a line of its own, after its history, where these datagrams were made
-abbrev pub done_by : List Message → Verb → History → History
-done_by made (Ask reading) older = Sent peer (encoded (request_at reading)) ∷ Clock why.Ask reading ∷ older
-done_by made (Land number reading) older = Clock why.Land reading ∷ Took peer (bytes_of (numbered number made)) ∷ older
-done_by made (Wall reading) older = Clock why.Turn reading ∷ older
-done_by made _ older = older
+-- a session that opens; the companion writes its setup at once where it is of CSS-TS
+abbrev pub dialled : Header → ℕ → Kind → History → History
+dialled header who kind.Cii older = Dialled session.Cii (peer_of who kind.Cii) ∷ older
+dialled header who kind.Ts older =
+    Wrote (peer_of who kind.Ts) (setup_text (setup_of who header)) ∷ Dialled session.Ts (peer_of who kind.Ts) ∷ older
+
+-- a text that came, if there was one
+abbrev pub hearing : ℕ → Option (List ℕ) → History → History
+hearing from None older = older
+hearing from (Some bytes) older = Heard from bytes ∷ older
+
+-- What a companion did at a line of its own, after its history, where these datagrams were made and this happened at
+-- the television.
+abbrev pub done_by : Header → ℕ → List Message → List TvEvent → Verb → History → History
+done_by header who made events (Ask reading) older =
+    Sent peer (encoded (request_at reading)) ∷ Clock why.Ask reading ∷ older
+done_by header who made events (Land number reading) older =
+    Clock why.Land reading ∷ Took peer (bytes_of (numbered number made)) ∷ older
+done_by header who made events (Wall reading) older = Clock why.Turn reading ∷ older
+done_by header who made events (Print reading) older = Clock why.Turn reading ∷ older
+done_by header who made events (Opening kind) older = dialled header who kind older
+done_by header who made events (Bring kind) older = hearing (peer_of who kind) (next_down who kind events older) older
+done_by header who made events (Present earliest latest) older =
+    Wrote (peer_of who kind.Ts) (presentation_text (window earliest latest)) ∷ older
+done_by header who made events (Close kind) older = Closed (peer_of who kind) ∷ older
+done_by header who made events _ older = older
+
+-- ---- both ends
+-- what happened at the television, and what each companion did, by its number
+pub record Ends : Type 0 where
+  pub tv : List TvEvent
+  pub own : ℕ → History
+
+-- both after a line, where these datagrams were made before
+abbrev pub after_line : Header → List Message → Numbered → Ends → Ends
+after_line header made now ends = record {
+  tv = option_to_list (event_by now.line.who ends.tv (ends.own now.line.who) now.line.verb) ++ ends.tv;
+  own =
+      λ who. if now.line.who == who then done_by header who made ends.tv now.line.verb (ends.own who) else ends.own who;
+}
+
+abbrev pub ends_of : Header → List Numbered → Ends
+ends_of header [] = record { tv = []; own = λ who. [] }
+ends_of header (now ∷ older) = after_line header (datagrams header older) now (ends_of header older)
+
+-- what happened at the television
+abbrev pub events_of : Header → List Numbered → List TvEvent
+events_of header lines = (ends_of header lines).tv
 
 -- what companion `who` did
 abbrev pub history_of : ℕ → Header → List Numbered → History
-history_of who header [] = []
-history_of who header (now ∷ older) =
-    if now.line.who == who then done_by (datagrams header older) now.line.verb (history_of who header older)
-    else history_of who header older
+history_of who header lines = (ends_of header lines).own who

@@ -1,8 +1,13 @@
+pub mod Numbering
+pub mod Sessions
 pub mod Happened
 pub mod Worlds
 pub mod Printed
 pub mod Clocks
 pub mod Verdicts
+pub mod Arrived
+pub mod Flights
+pub mod Lanes
 pub mod Standing
 pub mod Truth
 pub mod FaultWords

@@ -5,7 +5,8 @@ use Rattle.css_num.specs.Spans.{Interval}
 
 -- `N wall LO HI at W`: the span of the wall clock, and the value that the line gives it
 abbrev pub wall_line : ℕ → Interval → ℕ → List ℕ
-wall_line number span w = decimal number ++ codes " wall " ++ signed_decimal span.lo ++ codes " " ++ signed_decimal span.hi ++ codes " at " ++ decimal w ++ 10 ∷ []
+wall_line number span w = decimal number ++ codes " wall " ++ signed_decimal span.lo ++ codes " "
+    ++ signed_decimal span.hi ++ codes " at " ++ decimal w ++ 10 ∷ []
 
 -- `N none NoAnswer`
 abbrev pub no_answer_line : ℕ → List ℕ

@@ -1,13 +1,17 @@
 -- What is promised of accepted lines, with no premise but the ranges of what the header declares.
-use Rattle.std.specs.Prelude.{ℕ, pos, ◌≡◌, ◌⊎◌, List, ◌∷◌, IfSome}
+use Rattle.std.specs.Prelude.{ℕ, pos, ◌≡◌, ◌⊎◌, List, ◌∷◌, IfSome, Result, OnOk}
 use Rattle.css_num.specs.Spans.{Covers}
 use Rattle.css_schedule.specs.declared.header.Header.{Header}
-use Rattle.css_schedule.specs.declared.line.Verb.TheVariants.{Land, Wall}
+use Rattle.css_schedule.specs.declared.line.Verb.TheVariants.{Land, Wall, Print}
+use Rattle.css_companion.specs.Reports.{HasTickOf}
 use Rattle.css_client.specs.Landings.{landing_of}
 use Rattle.css_client.specs.declared.landing.Landing.TheVariants as landings
-use Rattle.css_world.specs.Happened.{Numbered, numbered, datagrams, bytes_of, history_of}
-use Rattle.css_world.specs.Verdicts.{local_of, IsDeclared, span_at}
-use Rattle.css_world.specs.Standing.{AreAccepted}
+use Rattle.css_world.specs.Numbering.{numbered}
+use Rattle.css_world.specs.Happened.{Numbered, datagrams, bytes_of, history_of}
+use Rattle.css_world.specs.Verdicts.{local_of, IsDeclared, span_at, report_at, assigned_at}
+use Rattle.css_world.specs.Arrived.{IsToldInOrder, HasAllCome, IsInStep}
+use Rattle.css_world.specs.declared.fault.WorldFault.{WorldFault}
+use Rattle.css_world.specs.Standing.{World, AreAccepted, IsNext, StandsFor}
 use Rattle.css_world.specs.Worlds.{world_of, moment_number, errors_of}
 use Rattle.css_model.specs.World.{IsWorldFor}
 use Rattle.css_model.specs.Explains.{IsLawful, Explains}
@@ -20,22 +24,42 @@ IsTrueWall header older now = (reading : ℕ) → now.line.verb ≡ Wall reading
 -- A datagram that lands is accepted, unless its request left the last 64.
 abbrev pub IsPossibleLanding : Header → List Numbered → Numbered → Type 0
 IsPossibleLanding header older now = (datagram reading : ℕ) → now.line.verb ≡ Land datagram reading
-    → let landing = landing_of (local_of now.line.who header) (history_of now.line.who header older) reading (bytes_of (numbered datagram (datagrams header older))) in
+    → let landing = landing_of (local_of now.line.who header) (history_of now.line.who header older) reading
+    (bytes_of (numbered datagram (datagrams header older))) in
     (landing ≡ landings.Accepted) ⊎ (landing ≡ landings.Unasked)
 
--- Of accepted lines both hold.
+-- At a `print` line the ticks, if there are any, contain the position that the last control timestamp assigns to the
+-- value that the line gives the television's wall clock.
+abbrev pub IsTrueReport : Header → List Numbered → Numbered → Type 0
+IsTrueReport header older now = (reading : ℕ) → now.line.verb ≡ Print reading
+    → HasTickOf (report_at now.line.who header older reading) (assigned_at now.line.who header older now.line.w)
+
+-- Where all has come to the companion of a line, it assigns the position that the television published.
+abbrev pub IsInStepAt : Header → List Numbered → Numbered → Type 0
+IsInStepAt header older now =
+    HasAllCome now.line.who header older → IsInStep now.line.who header older now.line.w
+
+-- Of accepted lines all of these hold.
 pub record IsTrueLine (header : Header) (older : List Numbered) (now : Numbered) : Type 0 where
   pub wall : IsTrueWall header older now
+  pub report : IsTrueReport header older now
   pub landing : IsPossibleLanding header older now
+  pub told : IsToldInOrder now.line.who header (now ∷ older)
+  pub in_step : IsInStepAt header older now
 
 -- of whatever header and accepted lines
 abbrev pub AcceptedLinesAreTrue : Type 0
 AcceptedLinesAreTrue = (header : Header) (older : List Numbered) (now : Numbered)
     → IsDeclared header → AreAccepted header (now ∷ older) → IsTrueLine header older now
 
+-- so it is of a line that a world took
+abbrev pub TellsTruth : World → Result (Unit {0}) WorldFault → Numbered → Type 0
+TellsTruth old result now = (lines : List Numbered) → StandsFor old lines → IsNext now.number lines
+    → OnOk result (IsTrueLine old.header lines now)
+
 -- ---- the world of lines
--- The lines of a schedule are the moments of a world. It keeps the errors that the header declares, and it explains, within
--- the declared precisions, what the companion of the lines did, whose history is lawful.
+-- The lines of a schedule are the moments of a world. It keeps the errors that the header declares, and it explains,
+-- within the declared precisions, what the companion of the lines did, whose history is lawful.
 pub record AreWorld (header : Header) (lines : List Numbered) : Type 0 where
   pub keeps : IsWorldFor (errors_of header) (world_of lines) 1 (local_of 1 header)
   pub lawful : IsLawful (history_of 1 header lines)

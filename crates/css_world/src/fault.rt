@@ -1,9 +1,12 @@
 ghost use Rattle.std.specs.Prelude.{◌≡◌};
 ghost use Rattle.css_world.specs.Clocks.{broken_by};
+ghost use Rattle.css_world.specs.Verdicts.{tv_fault};
 ghost use Rattle.css_world.specs.declared.fault.WorldFault.TheVariants as faults;
 
 use css_moments::DriftFault;
 use css_num::Memory;
+use css_player::PlayerFault;
+use css_tv::TvFault;
 use std::alloc::{AllocError, AllocFailed};
 use std::error::Error;
 use std::fmt;
@@ -19,8 +22,11 @@ pub enum WorldFault {
         /// By how much, above 0: in 1/256,000,000 nanoseconds where a clock drifted, and else in nanoseconds.
         excess: i128,
     },
-    /// It names a request that wasn't sent, a take that wasn't made or has its answer, or a datagram that wasn't made.
+    /// It names a request that wasn't sent, a take that wasn't made or has its answer, or a datagram that wasn't made;
+    /// or a session that isn't open, or opens once more; or a text while none is in flight.
     Absent,
+    /// The television's player refuses it. Want of memory never stands here.
+    Player(PlayerFault),
     /// Memory ran out.
     Memory,
 }
@@ -37,6 +43,7 @@ impl fmt::Display for WorldFault {
                 write!(f, "broken with line {earlier} by {excess}")
             }
             WorldFault::Absent => f.write_str("absent"),
+            WorldFault::Player(fault) => write!(f, "{fault}"),
             WorldFault::Memory => f.write_str("out of memory"),
         }
     }
@@ -50,6 +57,17 @@ impl From<DriftFault> for WorldFault {
     fn from(fault: DriftFault) -> WorldFault {
         match fault {
             DriftFault::Broken { earlier, excess } => WorldFault::Broken { earlier, excess },
+        }
+    }
+}
+
+impl From<TvFault> for WorldFault {
+    ghost from_gives = { λ tv fault. fault ≡ tv_fault tv };
+
+    fn from(fault: TvFault) -> WorldFault {
+        match fault {
+            TvFault::Player(fault) => WorldFault::Player(fault),
+            TvFault::Memory => WorldFault::Memory,
         }
     }
 }

@@ -1,46 +1,143 @@
-ghost use Rattle.std.specs.Prelude.{◌≡◌, ◌<◌, ◌≤◌, [], None, IfOk, OnOk, ℕ, ◌∷◌};
+ghost use Rattle.std.specs.Prelude.{◌≡◌, ◌<◌, ◌≤◌, [], ◌∷◌, Ok, IfOk, OnOk, ℕ};
 ghost use Rattle.css_model.specs.declared.Why.TheVariants as why;
-ghost use Rattle.css_model.specs.History.{History, Clock, Took};
-ghost use Rattle.css_client.specs.Clients.{local_of as own_of};
-ghost use Rattle.css_client.specs.Standing as clients;
-ghost use Rattle.css_moments.specs.Standing.{StandsFor};
+ghost use Rattle.css_model.specs.History.{Entry, History, Clock, Took};
+ghost use Rattle.css_companion.specs.Standing as companions;
+ghost use Rattle.css_companion.specs.Steps as steps;
+ghost use Rattle.css_moments.specs.Standing as drifts;
+ghost use Rattle.css_schedule.specs.Ranges.{IsCompanion};
+ghost use Rattle.css_sessions.specs.declared.session.Kind.TheVariants as kinds;
+ghost use Rattle.css_tv.specs.declared.event.TvOut.TheVariants as outs;
+ghost use Rattle.css_world.specs.Flights as flights;
+ghost use Rattle.css_world.specs.Lanes as lanes;
+ghost use Rattle.css_world.specs.Sessions as sessions;
 
+use crate::session::{Session, peer_of};
 use crate::watch::Watch;
-use css_client::Client;
+use css_companion::{Companion, CompanionConfig, CompanionEvent, CompanionFault};
 use css_model::LIMIT;
-use css_num::Memory;
-use css_schedule::Local;
+use css_num::{Memory, Text};
+use css_schedule::CompanionLine;
+use css_sessions::Kind;
+use css_tv::TvOut;
 use std::alloc::Global;
 
-/// A companion of a schedule: its clock, and what it does.
+/// A companion of a schedule: its clock, what it does, and its two sessions.
 #[derive(Drop)]
 pub(crate) struct Lane {
     pub(crate) clock: Watch,
-    pub(crate) client: Client,
+    pub(crate) companion: Companion,
+    pub(crate) cii: Session,
+    pub(crate) ts: Session,
 }
 
 impl Lane {
-    pub(crate) fn new(alloc: Global, local: Local) -> Result<Lane, Memory>
-        ensures client { IfOk result (λ lane. (own_of lane.client ≡ local) × (lane.client.floor ≡ 0) × clients.StandsFor lane.client []) }
-        ensures drift { IfOk result (λ lane. (lane.clock.drift.error ≡ local.error) × (lane.clock.drift.last ≡ None) × StandsFor lane.clock.drift []) }
-        ensures clock { IfOk result (λ lane. (lane.clock.precision ≡ local.precision) × (lane.clock.last ≡ None)) }
+    pub(crate) fn new(alloc: Global, declared: &CompanionLine) -> Result<Lane, Memory>
+        requires { IsCompanion declared.now }
+        ensures setup { IfOk result (λ lane. lane.companion.setup ≡ lanes.setup_by declared.now) }
+        ensures own { IfOk result (λ lane. companions.own_of lane.companion ≡ declared.now.local) }
+        ensures floor { IfOk result (λ lane. lane.companion.client.floor ≡ 0) }
+        ensures stands { IfOk result (λ lane. companions.StandsFor lane.companion []) }
+        ensures error { IfOk result (λ lane. lane.clock.drift.error ≡ declared.now.local.error) }
+        ensures drift { IfOk result (λ lane. (lane.clock.drift.last ≡ None) × drifts.StandsFor lane.clock.drift []) }
+        ensures precision { IfOk result (λ lane. lane.clock.precision ≡ declared.now.local.precision) }
+        ensures last { IfOk result (λ lane. lane.clock.last ≡ None) }
+        ensures sessions { IfOk result (λ lane. (lane.cii ≡ flights.unopened) × (lane.ts ≡ flights.unopened)) }
     {
+        let local = declared.local;
+        let config = CompanionConfig {
+            selector: declared.selector.clone()?,
+            stem: declared.stem.clone()?,
+            local,
+        };
         Ok(Lane {
             clock: Watch::new(local.error, local.precision),
-            client: Client::new(alloc, local)?,
+            companion: Companion::new(alloc, config)?,
+            cii: Session::new(alloc),
+            ts: Session::new(alloc),
         })
     }
 
     /// Takes in a datagram, whatever becomes of it.
     pub(crate) fn land(&mut self, datagram: &[u8; 32], reading: u64) -> Result<(), Memory>
         requires range { reading < LIMIT }
-        requires floor { self.old.client.floor ≤ reading }
+        requires floor { self.old.companion.client.floor ≤ reading }
+        ensures stands { (history : History) (peer : ℕ) → companions.StandsFor self.old.companion history
+            → OnOk result (companions.StandsFor self.new.companion
+            (Clock why.Land reading ∷ Took peer datagram.now ∷ history)) }
+        ensures local { companions.own_of self.new.companion ≡ companions.own_of self.old.companion }
+        ensures setup { self.new.companion.setup ≡ self.old.companion.setup }
+        ensures floor { self.new.companion.client.floor ≤ reading }
         ensures clock { self.new.clock ≡ self.old.clock }
-        ensures stands { (history : History) (peer : ℕ) → clients.StandsFor self.old.client history → OnOk result (clients.StandsFor self.new.client (Clock why.Land reading ∷ Took peer datagram.now ∷ history)) }
-        ensures local { own_of self.new.client ≡ own_of self.old.client }
-        ensures floor { self.new.client.floor ≤ reading }
+        ensures sessions { (self.new.cii ≡ self.old.cii) × (self.new.ts ≡ self.old.ts) }
     {
-        self.client.land(datagram, reading)?;
+        self.companion.land(datagram, reading)?;
         Ok(())
+    }
+
+    /// Puts a text of the television into flight, if it is for this companion, the one with this number.
+    fn tell_one(&mut self, who: u32, out: TvOut) -> Result<(), Memory>
+        requires first { 1 ≤ who }
+        requires few { who < 2147483648 }
+        ensures told { OnOk result (lanes.TakesUp who (out ∷ []) self.old self.new) }
+        ensures rest { (self.new.clock ≡ self.old.clock) × (self.new.companion ≡ self.old.companion) }
+    {
+        let TvOut::Say { peer, text } = out else {
+            return Ok(());
+        };
+        if peer == peer_of(who, Kind::Cii) {
+            self.cii.tell(text)
+        } else if peer == peer_of(who, Kind::Ts) {
+            self.ts.tell(text)
+        } else {
+            Ok(())
+        }
+    }
+
+    /// Puts into flight what the television told this companion, the one with this number.
+    pub(crate) fn tell(&mut self, who: u32, told: Vec<TvOut>) -> Result<(), Memory>
+        requires first { 1 ≤ who }
+        requires few { who < 2147483648 }
+        ensures told { OnOk result (lanes.TakesUp who told.items self.old self.new) }
+        ensures rest { (self.new.clock ≡ self.old.clock) × (self.new.companion ≡ self.old.companion) }
+    {
+        for out in told {
+            self.tell_one(who, out)?;
+        }
+        Ok(())
+    }
+
+    /// Lets something happen at the companion that it doesn't refuse, and puts into flight what it then owes.
+    pub(crate) fn attend(&mut self, event: CompanionEvent) -> Result<(), Memory>
+        requires event { steps.IsEvent event }
+        requires taken { lanes.IsTaken self.old.companion event }
+        ensures ok { OnOk result (lanes.Attends self.old self.new event) }
+        ensures stands { lanes.StandsOn result self.old.companion self.new.companion event }
+        ensures rest { (self.new.clock ≡ self.old.clock) × (self.new.cii ≡ self.old.cii) }
+        ensures client { self.new.companion.client ≡ self.old.companion.client }
+        ensures setup { self.new.companion.setup ≡ self.old.companion.setup }
+    {
+        if let Some(text) = owed(&mut self.companion, event)? {
+            self.ts.write(text)?;
+        }
+        Ok(())
+    }
+}
+
+/// Lets something happen at a companion that it doesn't refuse. It tells the text that is then owed to the TS session.
+fn owed(companion: &mut Companion, event: CompanionEvent) -> Result<Option<Text>, Memory>
+    requires event { steps.IsEvent event }
+    requires taken { lanes.IsTaken companion.old event }
+    ensures owed { IfOk result (λ text. steps.owed companion.old event ≡ Ok text) }
+    ensures stepped { OnOk result (companion.new ≡ steps.stepped companion.old event) }
+    ensures stands { lanes.StandsOn result companion.old companion.new event }
+    ensures keeps { (companion.new.client ≡ companion.old.client) × (companion.new.setup ≡ companion.old.setup) }
+{
+    match companion.step(event) {
+        Ok(text) => Ok(text),
+        Err(fault) => match fault {
+            CompanionFault::Memory => Err(Memory),
+            CompanionFault::BadCii { .. } => unreachable!(),
+            CompanionFault::Moved { .. } => unreachable!(),
+        },
     }
 }

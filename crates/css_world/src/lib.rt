@@ -9,6 +9,7 @@ mod lane;
 pub mod laws;
 mod place;
 mod printed;
+mod session;
 mod television;
 #[cfg(test)]
 mod tests;

@@ -1,4 +1,4 @@
-ghost use Rattle.std.specs.Prelude.{◌≡◌, ◌<◌, ℕ, List, [], ◌∷◌, ◌++◌, Some, None, Ok, OnOk, OnErr};
+ghost use Rattle.std.specs.Prelude.{◌≡◌, ◌<◌, ◌≤◌, IfErr, ℕ, List, [], ◌∷◌, ◌++◌, Some, None, Ok, IfOk, OnOk, OnErr};
 ghost use Rattle.css_model.specs.Wire.{decoded, request_at};
 ghost use Rattle.css_model.specs.Wire as wire;
 ghost use Rattle.css_model.specs.Numbers as numbers;
@@ -6,43 +6,66 @@ ghost use Rattle.css_server.specs.Tickets.{Ticket as Taken, ticket_for, after_ti
 ghost use Rattle.css_server.specs.Exchanges as servers;
 ghost use Rattle.css_schedule.specs.Ranges.{IsHeader};
 ghost use Rattle.css_moments.specs.Standing.{StandsFor};
-ghost use Rattle.css_world.specs.Standing.{stored, spent, Answers};
+ghost use Rattle.css_tv.specs.Standing as tvs;
+ghost use Rattle.css_tv.specs.declared.event.TvEvent.{TvEvent as Event};
+ghost use Rattle.css_world.specs.Lanes.{IsPlayed, PlaysBy, KeepsTv};
+ghost use Rattle.css_world.specs.Sessions.{addresses};
+ghost use Rattle.css_world.specs.Happened.{server_of};
+ghost use Rattle.css_world.specs.Standing.{stored, spent, Answers, DeclaresTheSame};
 ghost use Rattle.std.specs.Option.{option_flatten};
 
 use crate::fault::WorldFault;
+use crate::lane::Lane;
 use crate::place::place;
 use crate::watch::Watch;
 use css_model::LIMIT;
-use css_num::Memory;
+use css_num::{Memory, Text};
 use css_schedule::Header;
-use css_server::{Answered, Server, Ticket};
+use css_server::{Answered, Ticket};
+use css_tv::{Tv, TvConfig, TvEvent};
 use css_wc::precision_ns;
 use std::alloc::Global;
+
+/// Where the television of a schedule is reached. Nobody dials it.
+const HOST: &str = "127.0.0.1";
+
+/// The port of its wall clock.
+const PORT: u16 = 6677;
 
 /// The television of a schedule: its clock, and what it does.
 #[derive(Drop)]
 pub(crate) struct Television {
     pub(crate) clock: Watch,
-    pub(crate) server: Server,
+    pub(crate) tv: Tv,
     /// The tickets of its takes in their order, each until it is answered.
     pub(crate) takes: Vec<Option<Ticket>>,
 }
 
 impl Television {
-    pub(crate) fn new(alloc: Global, header: &Header) -> Television
+    pub(crate) fn new(alloc: Global, header: &Header) -> Result<Television, Memory>
         requires { IsHeader header.now }
-        ensures drift { (result.clock.drift.error ≡ header.now.tv_error) × (result.clock.drift.last ≡ None) × StandsFor result.clock.drift [] }
-        ensures precision { result.clock.precision ≡ numbers.precision_ns header.now.tv_precision }
-        ensures last { result.clock.last ≡ None }
-        ensures server { result.server ≡ record { precision = header.now.tv_precision; error = header.now.tv_error; follow = header.now.follow; greatest = None } }
-        ensures stands { servers.StandsFor result.server [] }
-        ensures takes { result.takes.items ≡ [] }
+        ensures error { IfOk result (λ tv. tv.clock.drift.error ≡ header.now.tv_error) }
+        ensures drift { IfOk result (λ tv. (tv.clock.drift.last ≡ None) × StandsFor tv.clock.drift []) }
+        ensures precision { IfOk result (λ tv. tv.clock.precision ≡ numbers.precision_ns header.now.tv_precision) }
+        ensures last { IfOk result (λ tv. tv.clock.last ≡ None) }
+        ensures server { IfOk result (λ tv. tv.tv.server ≡ server_of header.now) }
+        ensures serves { IfOk result (λ tv. servers.StandsFor tv.tv.server []) }
+        ensures addresses { IfOk result (λ tv. tv.tv.stage.addresses ≡ addresses) }
+        ensures stands { IfOk result (λ tv. tvs.StandsFor tv.tv.stage []) }
+        ensures takes { IfOk result (λ tv. tv.takes.items ≡ []) }
     {
-        Television {
+        let config = TvConfig {
+            precision: header.tv_precision,
+            error: header.tv_error,
+            follow: header.follow,
+            host: Text::of(alloc, HOST.as_bytes())?,
+            port: PORT,
+        };
+        Ok(Television {
             clock: Watch::new(header.tv_error, precision_ns(header.tv_precision)),
-            server: Server::new(header.tv_precision, header.tv_error, header.follow),
+            tv: Tv::new(alloc, config)?,
             takes: Vec::new(alloc),
-        }
+        })
     }
 
     /// Receives a request.
@@ -50,13 +73,16 @@ impl Television {
         requires request { (asked : ℕ) × (decoded request.now ≡ Ok (request_at asked)) }
         requires reading { reading < LIMIT }
         ensures clock { self.new.clock ≡ self.old.clock }
-        ensures declared { (self.new.server.precision ≡ self.old.server.precision) × (self.new.server.error ≡ self.old.server.error) × (self.new.server.follow ≡ self.old.server.follow) }
-        ensures stands { (asked : ℕ) (tickets : List Taken) → decoded request.now ≡ Ok (request_at asked) → servers.StandsFor self.old.server tickets
-            → OnOk result (servers.StandsFor self.new.server (ticket_for self.old.server reading (wire.stamp_of asked) ∷ tickets)) }
+        ensures stage { self.new.tv.stage ≡ self.old.tv.stage }
+        ensures declared { DeclaresTheSame self.old.tv.server self.new.tv.server }
+        ensures stands { (asked : ℕ) (tickets : List Taken) → decoded request.now ≡ Ok (request_at asked)
+            → servers.StandsFor self.old.tv.server tickets → OnOk result (servers.StandsFor self.new.tv.server
+            (ticket_for self.old.tv.server reading (wire.stamp_of asked) ∷ tickets)) }
         ensures takes { (asked : ℕ) → decoded request.now ≡ Ok (request_at asked)
-            → OnOk result (self.new.takes.items ≡ self.old.takes.items ++ Some (ticket_for self.old.server reading (wire.stamp_of asked)) ∷ []) }
+            → OnOk result (self.new.takes.items ≡ self.old.takes.items
+            ++ Some (ticket_for self.old.tv.server reading (wire.stamp_of asked)) ∷ []) }
     {
-        let ticket = match self.server.receive(request, reading) {
+        let ticket = match self.tv.receive(request, reading) {
             Ok(ticket) => ticket,
             Err(_) => unreachable!(),
         };
@@ -67,20 +93,47 @@ impl Television {
     /// Answers a take, unless it wasn't made or has its answer.
     pub(crate) fn give(&mut self, take: u32, reading: u64) -> Option<Answered>
         requires reading { reading < LIMIT }
-        ensures answered { Answers self.old.server reading (option_flatten (stored self.old.takes.items take)) result }
+        ensures answered { Answers self.old.tv.server reading
+            (option_flatten (stored self.old.takes.items take)) result }
         ensures takes { self.new.takes.items ≡ spent self.old.takes.items take }
-        ensures rest { (self.new.clock ≡ self.old.clock) × (self.new.server ≡ self.old.server) }
+        ensures rest { (self.new.clock ≡ self.old.clock) × (self.new.tv ≡ self.old.tv) }
     {
         let ticket = self.spend(take)?;
-        Some(self.server.answer(ticket, reading))
+        Some(self.tv.answer(ticket, reading))
     }
 
     /// Takes out a ticket by the number of its take.
     fn spend(&mut self, take: u32) -> Option<Ticket>
         ensures ticket { result ≡ option_flatten (stored self.old.takes.items take) }
         ensures after { self.new.takes.items ≡ spent self.old.takes.items take }
-        ensures rest { (self.new.clock ≡ self.old.clock) × (self.new.server ≡ self.old.server) }
+        ensures rest { (self.new.clock ≡ self.old.clock) × (self.new.tv ≡ self.old.tv) }
     {
         self.takes.get_mut(place(take)?)?.take()
     }
+}
+
+/// Lets something happen at the television, and puts into flight what it tells the companion with this number.
+pub(crate) fn play(
+    alloc: Global,
+    who: u32,
+    tv: &mut Tv,
+    lane: &mut Lane,
+    event: TvEvent,
+) -> Result<(), WorldFault>
+    requires first { 1 ≤ who }
+    requires few { who < 2147483648 }
+    requires event { tvs.IsEvent event tv.old.stage }
+    requires addresses { tv.old.stage.addresses ≡ addresses }
+    ensures answer { (events : List Event) → PlaysBy events event tv.old result }
+    ensures played { (events : List Event) → tvs.StandsFor tv.old.stage events
+        → tvs.IsFresh event (tvs.calls_of addresses events).sessions
+        → OnOk result (IsPlayed who events event tv.new lane.old lane.new) }
+    ensures tv { (tv.new.server ≡ tv.old.server) × (tv.new.stage.addresses ≡ tv.old.stage.addresses) }
+    ensures lane { (lane.new.clock ≡ lane.old.clock) × (lane.new.companion ≡ lane.old.companion) }
+    ensures refused { IfErr result (λ fault. KeepsTv tv.old tv.new fault) }
+{
+    let mut told = Vec::new(alloc);
+    tv.step(event, &mut told)?;
+    lane.tell(who, told)?;
+    Ok(())
 }

@@ -4,85 +4,38 @@ ghost use Rattle.css_world.specs.Standing.{StandsFor, IsNext};
 ghost use Rattle.css_schedule.specs.Ranges.{IsHeader};
 
 use crate::{World, WorldFault};
-use css_num::Text;
-use css_schedule::{CompanionLine, Companions, Header, Local, read_line};
-use std::alloc::{AllocError, Global};
+use css_player::PlayerFault;
+use css_schedule::{Header, Start, read_header, read_line};
+use std::alloc::Global;
 use std::process::Abort;
 use std::test::Fail;
 
-const EXACT: Local = Local {
-    error: 0,
-    precision: 0,
-};
-
-/// 1 percent, in 1/256 ppm.
-const PERCENT: u32 = 2_560_000;
-
-/// What a schedule's header declares; the precision of the television is 2^-30 s.
-#[derive(Clone, Copy)]
-struct Declared {
-    follow: bool,
-    tv_error: u32,
-    local: Local,
-    ghost in_range: { tv_error ≤ 25600000 },
-}
-
 /// Exact clocks, and no follow-ups.
-const PLAIN: Declared = Declared {
-    follow: false,
-    tv_error: 0,
-    local: EXACT,
-};
+const PLAIN: &str = "css-schedule 1 plain 0 -30 0 0 urn:dvb:css:timeline:pts -";
 
 /// Exact clocks, and follow-ups.
-const FOLLOW: Declared = Declared {
-    follow: true,
-    tv_error: 0,
-    local: EXACT,
-};
+const FOLLOW: &str = "css-schedule 1 follow 0 -30 0 0 urn:dvb:css:timeline:pts -";
 
 /// The companion's readings are 1 ns off.
-const ROUGH: Declared = Declared {
-    follow: false,
-    tv_error: 0,
-    local: Local {
-        error: 0,
-        precision: 1,
-    },
-};
+const ROUGH: &str = "css-schedule 1 plain 0 -30 0 1 urn:dvb:css:timeline:pts -";
 
-/// The wall clock's oscillator is off.
-const TV_OFF: Declared = Declared {
-    follow: false,
-    tv_error: PERCENT,
-    local: EXACT,
-};
+/// The wall clock's oscillator is off by 1 percent.
+const TV_OFF: &str = "css-schedule 1 plain 2560000 -30 0 0 urn:dvb:css:timeline:pts -";
 
-/// The companion's oscillator is off.
-const OWN_OFF: Declared = Declared {
-    follow: false,
-    tv_error: 0,
-    local: Local {
-        error: PERCENT,
-        precision: 0,
-    },
-};
+/// The companion's oscillator is off by 1 percent.
+const OWN_OFF: &str = "css-schedule 1 plain 0 -30 2560000 0 urn:dvb:css:timeline:pts -";
 
-fn header(alloc: Global, declared: Declared) -> Result<Header, AllocError>
+/// Both oscillators are off by 50 ppm, and the companion reads its clock to a microsecond.
+const HOME: &str = "css-schedule 1 plain 12800 -20 12800 1000 urn:dvb:css:timeline:pts dvb://";
+
+fn header(alloc: Global, line: &str) -> Result<Header, Fail>
     ensures range { IfOk result IsHeader }
     ensures one { IfOk result (λ header. length header.companions ≡ 1) }
 {
-    let companion = CompanionLine {
-        local: declared.local,
-        selector: Text::new(alloc),
-        stem: Text::new(alloc),
-    };
-    Ok(Header {
-        follow: declared.follow,
-        tv_error: declared.tv_error,
-        tv_precision: -30,
-        companions: Companions::of(vec![in alloc; companion]?),
-    })
+    match read_header(alloc, line.as_bytes())? {
+        Start::One(header) => Ok(header),
+        Start::Two { .. } => Err(Fail::from("another version")),
+    }
 }
 
 /// How a schedule ended.
@@ -102,18 +55,17 @@ struct Refused {
 
 /// Carries out the line of a text, and tells why it is refused, if it is.
 fn carry_out(
+    alloc: Global,
     world: &mut World,
     number: u64,
     text: &str,
     out: &mut Vec<u8>,
 ) -> Result<Option<Refused>, Fail>
     requires stands { (lines : List Numbered) × StandsFor world.old lines × IsNext number lines }
-    ensures stands { IfOk result (λ refused. IfNone refused ((lines : List Numbered) × StandsFor world.new lines × IsNext (suc number) lines)) }
+    ensures stands { IfOk result (λ refused. IfNone refused
+        ((lines : List Numbered) × StandsFor world.new lines × IsNext (suc number) lines)) }
 {
-    let line = read_line(text.as_bytes(), 1, 1)?;
-    if line.who != 1 {
-        return Err(Fail::from("another companion"));
-    }
+    let line = read_line(alloc, text.as_bytes(), 1, 1)?;
     match world.line(number, line, out) {
         Ok(()) => Ok(None),
         Err(fault) => Ok(Some(Refused {
@@ -124,8 +76,8 @@ fn carry_out(
 }
 
 /// Carries out the lines of a schedule after its header, up to the first that is refused.
-fn run(alloc: Global, declared: Declared, lines: &str) -> Result<Ran, Fail> {
-    let mut world = World::new(alloc, header(alloc, declared)?)?;
+fn run(alloc: Global, first: &str, lines: &str) -> Result<Ran, Fail> {
+    let mut world = World::new(alloc, header(alloc, first)?)?;
     let mut out = Vec::new(alloc);
     let mut number: u64 = 1;
     let mut refused = None;
@@ -134,7 +86,7 @@ fn run(alloc: Global, declared: Declared, lines: &str) -> Result<Ran, Fail> {
             return Err(Fail::from("too many lines"));
         }
         number += 1;
-        refused = carry_out(&mut world, number, text, &mut out)?;
+        refused = carry_out(alloc, &mut world, number, text, &mut out)?;
         if refused.is_some() {
             break;
         }
@@ -151,11 +103,6 @@ fn kept(world: &World) -> Option<usize> {
     Some(world.companion(1)?.kept())
 }
 
-/// What the television remembers.
-fn tv_text(alloc: Global, world: &World) -> Result<String, AllocError> {
-    format!(in alloc; "{:?}", world.tv())
-}
-
 const EXCHANGE: &str = "\
 1000 4800 1000 ask 1000
 1200 5000 1200 take 1 5000
@@ -170,40 +117,99 @@ const PROMISE: &str = "\
 1200 11200 1200 give 1 11200
 ";
 
+/// What is shown, and both sessions with all that was told; the wall clock is 10 seconds ahead.
+const SHOWN: &str = "\
+0 10000000000 0 programme dvb://1
+0 10000000000 0 timeline 1 urn:dvb:css:timeline:pts 1 90000 900000
+0 10000000000 0 change 10000000000 1
+0 10000000000 0 open cii
+0 10000000000 0 text cii
+0 10000000000 0 open ts
+0 10000000000 0 up ts
+0 10000000000 0 text ts
+0 10000000000 0 present 900000 10040000000 900000 plusinfinity
+0 10000000000 0 up ts
+";
+
+/// Later the companion hears of the wall clock, and reports.
+const REPORT: &str = "\
+100 10000000100 100 ask 100
+200 10000000200 200 take 1 10000000200
+300 10000000300 300 give 1 10000000300
+400 10000000400 400 land 1 400
+400 10000000400 400 print 400
+";
+
+/// An evening: the first response is lost, and the viewer pauses, seeks and goes on.
+const EVENING: &str = "\
+0 5000000000 0 programme dvb://233a.1004.1044
+0 5000000000 0 timeline 1 urn:dvb:css:timeline:pts 1 90000 900000
+0 5000000000 0 change 5000000000 1
+0 5000000000 0 open cii
+0 5000000000 0 text cii
+0 5000000000 0 open ts
+0 5000000000 0 up ts
+0 5000000000 0 text ts
+1000000 5001000000 1000000 print 1000000
+2000000 5002000000 2000000 ask 2000000
+3000000 5003000000 3000000 take 1 5003000000
+3100000 5003100000 3100000 give 1 5003100000
+12000000 5012000000 12000000 ask 12000000
+13000000 5013000000 13000000 take 2 5013000000
+13200000 5013200000 13200000 give 2 5013200000
+14000000 5014000000 14000000 land 2 14000000
+14000000 5014000000 14000000 print 14000000
+20000000 5020000000 20000000 speed 5020000000 0
+21000000 5021000000 21000000 print 21000000
+21000000 5021000000 21000000 text ts
+22000000 5022000000 22000000 print 22000000
+23000000 5023000000 23000000 seek 5023000000 60000000000
+24000000 5024000000 24000000 speed 5024000000 1
+24000000 5024000000 24000000 text ts
+24000000 5024000000 24000000 text ts
+30000000 5030000000 30000000 ask 30000000
+30500000 5030500000 30500000 take 3 5030500000
+30600000 5030600000 30600000 give 3 5030600000
+31000000 5031000000 31000000 land 3 31000000
+31000000 5031000000 31000000 print 31000000
+32000000 5032000000 32000000 close ts
+32000000 5032000000 32000000 print 32000000
+";
+
 /// A schedule, given by its front and its other lines, and what is printed for it.
 #[derive(Clone, Copy)]
 struct Printed {
-    declared: Declared,
+    header: &'static str,
     front: &'static str,
     rest: &'static str,
     printed: &'static str,
 }
 
-const PRINTED: [Printed; 9] = [
+const PRINTED: [Printed; 12] = [
     // One exchange.
     Printed {
-        declared: PLAIN,
+        header: PLAIN,
         front: EXCHANGE,
         rest: "1600 5400 1600 wall 1600",
         printed: "6 wall 5197 5603 at 5400\n",
     },
     // The span may begin below zero.
     Printed {
-        declared: PLAIN,
+        header: PLAIN,
         front: "0 0 0 ask 0\n0 0 0 take 1 0\n0 0 0 give 1 0\n",
         rest: "0 0 0 land 1 0\n0 0 0 wall 0",
         printed: "6 wall -3 3 at 0\n",
     },
     // Each `wall` line is printed.
     Printed {
-        declared: PLAIN,
+        header: PLAIN,
         front: "0 100 0 wall 0\n",
         rest: "10 111 10 wall 10",
         printed: "2 none NoAnswer\n3 none NoAnswer\n",
     },
     // A follow-up of a second take isn't paired with the response of the first.
     Printed {
-        declared: FOLLOW,
+        header: FOLLOW,
         front: PROMISE,
         rest: "\
 1300 11300 1300 take 1 11300
@@ -215,35 +221,35 @@ const PRINTED: [Printed; 9] = [
     },
     // A follow-up lands before its response.
     Printed {
-        declared: FOLLOW,
+        header: FOLLOW,
         front: PROMISE,
         rest: "1300 11300 1300 land 2 1300\n1400 11400 1400 land 1 1400\n1400 11400 1400 wall 1400",
         printed: "7 wall 11297 11503 at 11400\n",
     },
     // It counts from the landing of its response.
     Printed {
-        declared: FOLLOW,
+        header: FOLLOW,
         front: PROMISE,
         rest: "1250 11250 1250 land 1 1250\n1400 11400 1400 land 2 1400\n1400 11400 1400 wall 1400",
         printed: "7 wall 11347 11503 at 11400\n",
     },
     // And from its own, if the response was lost.
     Printed {
-        declared: FOLLOW,
+        header: FOLLOW,
         front: PROMISE,
         rest: "1300 11300 1300 land 2 1300\n1300 11300 1300 wall 1300",
         printed: "6 wall 11197 11403 at 11300\n",
     },
     // The same datagram lands twice, and the first landing tells more.
     Printed {
-        declared: PLAIN,
+        header: PLAIN,
         front: EXCHANGE,
         rest: "1800 5600 1800 land 1 1800\n1800 5600 1800 wall 1800",
         printed: "7 wall 5397 5803 at 5600\n",
     },
     // A request is received twice at one reading: nothing is promised at the second time.
     Printed {
-        declared: FOLLOW,
+        header: FOLLOW,
         front: "1000 11000 1000 ask 1000\n1100 11100 1100 take 1 11100\n1100 11100 1100 take 1 11100\n",
         rest: "\
 1200 11200 1200 give 2 11200
@@ -252,6 +258,41 @@ const PRINTED: [Printed; 9] = [
 1300 11300 1300 wall 1300",
         printed: "8 wall 11197 11403 at 11300\n",
     },
+    // An evening.
+    Printed {
+        header: HOME,
+        front: "",
+        rest: EVENING,
+        printed: "\
+10 none NoAnswer
+18 ticks 901187 901350 at 901260
+20 ticks 901817 901980 at 901890
+22 ticks 901800 901800 at 901800
+31 ticks 6300593 6300675 at 6300630
+33 none SessionClosed
+",
+    },
+    // A presentation delays what is shown, once the new control timestamp has come.
+    Printed {
+        header: PLAIN,
+        front: SHOWN,
+        rest: "\
+0 10000000000 0 text ts
+100 10000000100 100 ask 100
+200 10000000200 200 take 1 10000000200
+300 10000000300 300 give 1 10000000300
+400 10000000400 400 land 1 400
+400 10000000400 400 print 400
+",
+        printed: "17 ticks 896400 896400 at 896400\n",
+    },
+    // Before it has come the companion goes by the old one.
+    Printed {
+        header: PLAIN,
+        front: SHOWN,
+        rest: REPORT,
+        printed: "16 ticks 900000 900000 at 900000\n",
+    },
 ];
 
 #[test]
@@ -259,7 +300,7 @@ fn the_spans_are_printed(rt: HostRuntime) -> Result<(), Fail> {
     let alloc = rt.alloc();
     for row in &PRINTED {
         let lines = format!(in alloc; "{}{}", row.front, row.rest)?;
-        let ran = run(alloc, row.declared, &lines)?;
+        let ran = run(alloc, row.header, &lines)?;
         assert_eq!(rt; ran.refused, None, "{lines}");
         assert_eq!(rt; ran.printed.as_str(), row.printed, "{lines}");
     }
@@ -269,7 +310,7 @@ fn the_spans_are_printed(rt: HostRuntime) -> Result<(), Fail> {
 /// A schedule's first line that is refused, and what was printed before.
 #[derive(Clone, Copy)]
 struct Case {
-    declared: Declared,
+    header: &'static str,
     lines: &'static str,
     refused: Option<Refused>,
     printed: &'static str,
@@ -282,7 +323,7 @@ const NANOSECOND: i128 = 256_000_000;
 const ORDERED: [Case; 7] = [
     // True time before the wall clock, and all else.
     Case {
-        declared: PLAIN,
+        header: PLAIN,
         lines: "1000 4800 1000 ask 1000\n999 9000 9000 take 9 1",
         refused: Some(Refused {
             line: 3,
@@ -295,7 +336,7 @@ const ORDERED: [Case; 7] = [
     },
     // The wall clock before the companion's.
     Case {
-        declared: PLAIN,
+        header: PLAIN,
         lines: "1000 4800 1000 ask 1000\n1010 4900 9000 take 9 1",
         refused: Some(Refused {
             line: 3,
@@ -308,7 +349,7 @@ const ORDERED: [Case; 7] = [
     },
     // The companion's clock before the precision.
     Case {
-        declared: PLAIN,
+        header: PLAIN,
         lines: "1000 4800 1000 ask 1000\n1010 4810 1100 take 9 1",
         refused: Some(Refused {
             line: 3,
@@ -321,7 +362,7 @@ const ORDERED: [Case; 7] = [
     },
     // The precision before the order.
     Case {
-        declared: PLAIN,
+        header: PLAIN,
         lines: "1000 4800 1000 ask 1000\n1010 4810 1010 ask 900",
         refused: Some(Refused {
             line: 3,
@@ -334,7 +375,7 @@ const ORDERED: [Case; 7] = [
     },
     // And before what isn't there.
     Case {
-        declared: PLAIN,
+        header: PLAIN,
         lines: "1000 4800 1000 ask 1000\n1010 4810 1010 take 9 4800",
         refused: Some(Refused {
             line: 3,
@@ -347,7 +388,7 @@ const ORDERED: [Case; 7] = [
     },
     // The order before what isn't there.
     Case {
-        declared: PLAIN,
+        header: PLAIN,
         lines: "1000 5000 1000 ask 1000\n1000 5000 1000 take 1 5001\n1000 5000 1000 give 9 5000",
         refused: Some(Refused {
             line: 4,
@@ -360,7 +401,7 @@ const ORDERED: [Case; 7] = [
     },
     // What isn't there.
     Case {
-        declared: PLAIN,
+        header: PLAIN,
         lines: "1000 4800 1000 ask 1000\n1200 5000 1200 take 2 5000",
         refused: Some(Refused {
             line: 3,
@@ -374,7 +415,7 @@ const ORDERED: [Case; 7] = [
 const BROKEN: [Case; 6] = [
     // The drift adds up over the lines.
     Case {
-        declared: PLAIN,
+        header: PLAIN,
         lines: "0 100 0 ask 0\n10 111 10 wall 10\n20 122 20 wall 20",
         refused: Some(Refused {
             line: 4,
@@ -387,7 +428,7 @@ const BROKEN: [Case; 6] = [
     },
     // A reading is 2 ns from the wall clock, with a precision of 1.
     Case {
-        declared: PLAIN,
+        header: PLAIN,
         lines: "1000 4800 1000 ask 1000\n1200 5000 1200 take 1 5002",
         refused: Some(Refused {
             line: 3,
@@ -400,7 +441,7 @@ const BROKEN: [Case; 6] = [
     },
     // The companion's readings fall.
     Case {
-        declared: ROUGH,
+        header: ROUGH,
         lines: "1000 4800 1000 ask 1001\n1000 4800 1000 ask 1000",
         refused: Some(Refused {
             line: 3,
@@ -413,14 +454,14 @@ const BROKEN: [Case; 6] = [
     },
     // Each end has an order of its own.
     Case {
-        declared: PLAIN,
+        header: PLAIN,
         lines: "0 0 9000 ask 9000\n0 0 9000 take 1 0\n0 0 9000 ask 9000\n0 0 9000 give 1 0",
         refused: None,
         printed: "",
     },
     // Each clock has an error of its own.
     Case {
-        declared: TV_OFF,
+        header: TV_OFF,
         lines: "0 0 0 ask 0\n1000 1011 1000 ask 1000\n1000 1011 1002 ask 1002",
         refused: Some(Refused {
             line: 4,
@@ -432,7 +473,7 @@ const BROKEN: [Case; 6] = [
         printed: "",
     },
     Case {
-        declared: OWN_OFF,
+        header: OWN_OFF,
         lines: "0 0 0 ask 0\n1000 1000 1011 ask 1011\n1000 1002 1011 ask 1011",
         refused: Some(Refused {
             line: 4,
@@ -447,7 +488,7 @@ const BROKEN: [Case; 6] = [
 
 fn refuse(rt: &impl Abort, alloc: Global, cases: &[Case]) -> Result<(), Fail> {
     for case in cases {
-        let ran = run(alloc, case.declared, case.lines)?;
+        let ran = run(alloc, case.header, case.lines)?;
         assert_eq!(rt; ran.refused, case.refused, "{}", case.lines);
         assert_eq!(rt; ran.printed.as_str(), case.printed, "{}", case.lines);
     }
@@ -490,18 +531,117 @@ const AFTER_EXCHANGE: [(&str, WorldFault); 6] = [
 fn a_refused_line_changes_nothing(rt: HostRuntime) -> Result<(), Fail> {
     let alloc = rt.alloc();
     let front = format!(in alloc; "{EXCHANGE}1600 5400 1600 wall 1600\n")?;
-    let before = run(alloc, PLAIN, &front)?;
-    let tv = tv_text(alloc, &before.world)?;
-    assert_eq!(rt; kept(&before.world), Some(1));
     for (last, fault) in AFTER_EXCHANGE {
         let refused = Refused { line: 7, fault };
         let lines = format!(in alloc; "{front}{last}")?;
         let ran = run(alloc, PLAIN, &lines)?;
         assert_eq!(rt; ran.refused, Some(refused), "{last}");
-        assert_eq!(rt; ran.printed.as_str(), before.printed.as_str(), "{last}");
+        assert_eq!(rt;
+            ran.printed.as_str(),
+            "6 wall 5197 5603 at 5400\n",
+            "{last}"
+        );
         assert_eq!(rt; kept(&ran.world), Some(1), "{last}");
-        let after = tv_text(alloc, &ran.world)?;
-        assert_eq!(rt; after.as_str(), tv.as_str(), "{last}");
+    }
+    Ok(())
+}
+
+/// What happens at time 0, and the line after it that can't happen, or that the player refuses.
+const REFUSED: [(&str, &str, u64, WorldFault); 18] = [
+    ("open cii\n", "open cii", 3, WorldFault::Absent),
+    ("open ts\nclose ts\n", "open ts", 4, WorldFault::Absent),
+    ("", "text cii", 2, WorldFault::Absent),
+    ("open cii\ntext cii\n", "text cii", 4, WorldFault::Absent),
+    ("open cii\nclose cii\n", "text cii", 4, WorldFault::Absent),
+    ("open ts\n", "text ts", 3, WorldFault::Absent),
+    ("", "up ts", 2, WorldFault::Absent),
+    ("open ts\nup ts\n", "up ts", 4, WorldFault::Absent),
+    ("open ts\nclose ts\n", "up ts", 4, WorldFault::Absent),
+    (
+        "",
+        "present 0 minusinfinity 0 plusinfinity",
+        2,
+        WorldFault::Absent,
+    ),
+    ("", "close cii", 2, WorldFault::Absent),
+    ("open cii\nclose cii\n", "close cii", 4, WorldFault::Absent),
+    (
+        "",
+        "change 0 1",
+        2,
+        WorldFault::Player(PlayerFault::NoProgramme),
+    ),
+    (
+        "",
+        "speed 0 1",
+        2,
+        WorldFault::Player(PlayerFault::NoProgramme),
+    ),
+    (
+        "programme dvb://1\nchange 0 1\n",
+        "speed 0 65",
+        4,
+        WorldFault::Player(PlayerFault::Speed),
+    ),
+    (
+        "programme dvb://1\nchange 0 1\n",
+        "seek 0 100000000000000001",
+        4,
+        WorldFault::Player(PlayerFault::Range),
+    ),
+    (
+        "programme dvb://1\n",
+        "timeline 1 a 1 1 100000000000000001",
+        3,
+        WorldFault::Player(PlayerFault::Range),
+    ),
+    (
+        SIXTEEN,
+        "timeline 1 q 1 1 0",
+        19,
+        WorldFault::Player(PlayerFault::Full),
+    ),
+];
+
+/// A programme with as many timelines as it may have.
+const SIXTEEN: &str = "\
+programme dvb://1
+timeline 1 a 1 1 0
+timeline 1 b 1 1 0
+timeline 1 c 1 1 0
+timeline 1 d 1 1 0
+timeline 1 e 1 1 0
+timeline 1 f 1 1 0
+timeline 1 g 1 1 0
+timeline 1 h 1 1 0
+timeline 1 i 1 1 0
+timeline 1 j 1 1 0
+timeline 1 k 1 1 0
+timeline 1 l 1 1 0
+timeline 1 m 1 1 0
+timeline 1 n 1 1 0
+timeline 1 o 1 1 0
+timeline 1 p 1 1 0
+";
+
+/// The lines of a schedule at time 0.
+fn at_once(alloc: Global, happens: &str, last: &str) -> Result<String, Fail> {
+    let mut lines = String::new(alloc);
+    for what in happens.lines() {
+        writeln!(lines, "0 0 0 {what}")?;
+    }
+    writeln!(lines, "0 0 0 {last}")?;
+    Ok(lines)
+}
+
+#[test]
+fn what_sessions_and_the_player_refuse(rt: HostRuntime) -> Result<(), Fail> {
+    let alloc = rt.alloc();
+    for (happens, last, line, fault) in REFUSED {
+        let lines = at_once(alloc, happens, last)?;
+        let ran = run(alloc, PLAIN, &lines)?;
+        assert_eq!(rt; ran.refused, Some(Refused { line, fault }), "{lines}");
+        assert_eq!(rt; ran.printed.as_str(), "", "{lines}");
     }
     Ok(())
 }

@@ -44,10 +44,15 @@ impl Watch {
         requires time { time < LIMIT }
         requires shown { shown < LIMIT }
         requires next { ForSome self.old.drift.last (λ last. last.line < line) }
-        ensures verdict { (told : List Told) → StandsFor self.old.drift told → result ≡ result_map_both (λ x. x) clocks.broken_by (verdict self.old.drift.error told (record { line = line; time = time; value = shown })) }
-        ensures stands { (told : List Told) → StandsFor self.old.drift told → OnOk result (StandsFor self.new.drift (Showed (record { line = line; time = time; value = shown }) ∷ told)) }
+        ensures verdict { (told : List Told) → StandsFor self.old.drift told
+            → result ≡ result_map_both (λ x. x) clocks.broken_by
+            (verdict self.old.drift.error told (record { line = line; time = time; value = shown })) }
+        ensures stands { (told : List Told) → StandsFor self.old.drift told
+            → OnOk result (StandsFor self.new.drift
+            (Showed (record { line = line; time = time; value = shown }) ∷ told)) }
         ensures last { OnOk result (self.new.drift.last ≡ Some (record { line = line; time = time })) }
-        ensures rest { (self.new.drift.error ≡ self.old.drift.error) × (self.new.precision ≡ self.old.precision) × (self.new.last ≡ self.old.last) }
+        ensures rest { (self.new.drift.error ≡ self.old.drift.error) × (self.new.precision ≡ self.old.precision)
+            × (self.new.last ≡ self.old.last) }
     {
         Ok(self.drift.add(line, time, shown)?)
     }

@@ -6,4 +6,11 @@ use Rattle.css_world.proofs.tests.run.Goals as goal
 pub carry_out-requires : goal.carry_out-requires
 carry_out-requires c =
     let next : suc c.loop-text.number ≡ c.loop-text.number + 1 = omega arith in
-    record { stands = (c.loop-text.invariant.0, c.loop-text.invariant.1, subst (λ (n : ℕ). IsNext n c.loop-text.invariant.0) next c.loop-text.invariant.2) }
+    record {
+      stands = (
+        c.loop-text.invariant.0,
+        c.loop-text.invariant.1,
+        subst (λ (n : ℕ). IsNext n
+            c.loop-text.invariant.0) next c.loop-text.invariant.2,
+      );
+    }

@@ -1,21 +1,125 @@
--- At a line that is no `wall` nothing is printed.
-use Rattle.std.proofs.Common.{refl}
-use Rattle.css_schedule.specs.declared.line.Verb.TheVariants.{Ask, Take, Give, Land}
-use Rattle.css_world.proofs.Going.{prints_nothing}
+-- At `wall` and `print` what they tell is printed, and at any other line nothing.
+use Rattle.std.proofs.Common.{◌<◌, ◌^◌, ℤ, pos, negsuc, arith, refl, ap, subst, FitsSigned}
+use Rattle.std.specs.Prelude.{unsigned_abs}
+use Rattle.std.specs.Int.{w64}
+use Rattle.std.proofs.lemmas.Int.{to_z-of_z}
+use Rattle.css_tv.specs.declared.event.TvEvent.TheVariants as event
+use Rattle.css_schedule.specs.declared.line.Verb.TheVariants.{Ask, Take, Give, Land, Wall, Print, Programme}
+use Rattle.css_schedule.specs.declared.line.Verb.TheVariants.{Timeline, Viewer, Opening, Bring, Up, Present, Close}
+use Rattle.css_schedule.specs.Ranges.{IsVerb}
+use Rattle.css_companion.specs.Printed.{line_of}
+use Rattle.css_world.specs.Happened.{Numbered}
+use Rattle.css_world.specs.Printed.{wall_text}
+use Rattle.css_world.specs.Verdicts.{span_at, report_at, assigned_at}
+use Rattle.css_world.proofs.Carrying.{at_line}
+use Rattle.css_world.proofs.Verbs.{walls, prints}
+use Rattle.css_world.proofs.Going.{prints_nothing, prints_line}
 use Rattle.css_world.proofs.world.World.carry_out.Goals as goal
+
+-- a timeline's base fits its type
+base-fits : (base : ℤ) → unsigned_abs base < 10 ^ 18 → FitsSigned w64 base
+base-fits (pos n) small = record { sfits = omega (arith, small) }
+base-fits (negsuc n) small = record { sfits = omega (arith, small) }
 
 pub returns-in-Ask-clause-prints : goal.returns-in-Ask-clause-prints
 returns-in-Ask-clause-prints c =
-    prints_nothing c.args.self.now c.ask.new.self c.args.out.now.items c.ask.result (record { number = c.args.number; line = c.args.line.now }) (Ask c.in-Ask.reading) c.in-Ask.is (λ lines. refl) c.ask.ensures.carries
+    prints_nothing c.args.self.now c.ask.new.self c.args.out.now.items c.ask.result
+    (record { number = c.args.number; line = c.args.line })
+    (Ask c.in-Ask.reading) c.in-Ask.is (λ lines. refl) c.ask.ensures.carries
 
 pub returns-in-Take-clause-prints : goal.returns-in-Take-clause-prints
 returns-in-Take-clause-prints c =
-    prints_nothing c.args.self.now c.take.new.self c.args.out.now.items c.take.result (record { number = c.args.number; line = c.args.line.now }) (Take c.in-Take.request c.in-Take.reading) c.in-Take.is (λ lines. refl) c.take.ensures.carries
+    prints_nothing c.args.self.now c.take.new.self c.args.out.now.items c.take.result
+    (record { number = c.args.number; line = c.args.line })
+    (Take c.in-Take.request c.in-Take.reading) c.in-Take.is (λ lines. refl) c.take.ensures.carries
 
 pub returns-in-Give-clause-prints : goal.returns-in-Give-clause-prints
 returns-in-Give-clause-prints c =
-    prints_nothing c.args.self.now c.give.new.self c.args.out.now.items c.give.result (record { number = c.args.number; line = c.args.line.now }) (Give c.in-Give.take c.in-Give.reading) c.in-Give.is (λ lines. refl) c.give.ensures.carries
+    prints_nothing c.args.self.now c.give.new.self c.args.out.now.items c.give.result
+    (record { number = c.args.number; line = c.args.line })
+    (Give c.in-Give.take c.in-Give.reading) c.in-Give.is (λ lines. refl) c.give.ensures.carries
 
 pub returns-in-Land-clause-prints : goal.returns-in-Land-clause-prints
 returns-in-Land-clause-prints c =
-    prints_nothing c.args.self.now c.land.new.self c.args.out.now.items c.land.result (record { number = c.args.number; line = c.args.line.now }) (Land c.in-Land.datagram c.in-Land.reading) c.in-Land.is (λ lines. refl) c.land.ensures.carries
+    prints_nothing c.args.self.now c.land.new.self c.args.out.now.items c.land.result
+    (record { number = c.args.number; line = c.args.line })
+    (Land c.in-Land.datagram c.in-Land.reading) c.in-Land.is (λ lines. refl) c.land.ensures.carries
+
+pub returns-in-Programme-clause-prints : goal.returns-in-Programme-clause-prints
+returns-in-Programme-clause-prints c =
+    prints_nothing c.args.self.now c.happen.new.self c.args.out.now.items c.happen.result
+    (record { number = c.args.number; line = c.args.line })
+    (Programme c.in-Programme.content_id) c.in-Programme.is
+    (λ lines. refl) (c.happen.ensures.carries (Programme c.in-Programme.content_id) refl)
+
+pub returns-in-Timeline-clause-prints : goal.returns-in-Timeline-clause-prints
+returns-in-Timeline-clause-prints c =
+    prints_nothing c.args.self.now c.happen-in-Timeline.new.self c.args.out.now.items c.happen-in-Timeline.result
+    (record { number = c.args.number; line = c.args.line })
+    (Timeline c.in-Timeline.programme c.in-Timeline.selector c.in-Timeline.rate c.in-Timeline.base) c.in-Timeline.is
+    (λ lines. refl) (c.happen-in-Timeline.ensures.carries (Timeline c.in-Timeline.programme c.in-Timeline.selector
+    c.in-Timeline.rate c.in-Timeline.base)
+    (ap (λ base. event.AddTimeline c.in-Timeline.programme c.in-Timeline.selector c.in-Timeline.rate base)
+    (to_z-of_z w64 c.in-Timeline.base
+    (base-fits c.in-Timeline.base (subst IsVerb c.in-Timeline.is c.requires.line.verb).base))))
+
+pub returns-in-Viewer-clause-prints : goal.returns-in-Viewer-clause-prints
+returns-in-Viewer-clause-prints c =
+    prints_nothing c.args.self.now c.happen-in-Viewer.new.self c.args.out.now.items c.happen-in-Viewer.result
+    (record { number = c.args.number; line = c.args.line })
+    (Viewer c.in-Viewer.reading c.in-Viewer.command) c.in-Viewer.is
+    (λ lines. refl) (c.happen-in-Viewer.ensures.carries (Viewer c.in-Viewer.reading c.in-Viewer.command) refl)
+
+pub returns-in-Opening-clause-prints : goal.returns-in-Opening-clause-prints
+returns-in-Opening-clause-prints c =
+    prints_nothing c.args.self.now c.open.new.self c.args.out.now.items c.open.result
+    (record { number = c.args.number; line = c.args.line })
+    (Opening c.in-Opening.kind) c.in-Opening.is (λ lines. refl) c.open.ensures.carries
+
+pub returns-in-Bring-clause-prints : goal.returns-in-Bring-clause-prints
+returns-in-Bring-clause-prints c =
+    prints_nothing c.args.self.now c.bring.new.self c.args.out.now.items c.bring.result
+    (record { number = c.args.number; line = c.args.line })
+    (Bring c.in-Bring.kind) c.in-Bring.is (λ lines. refl) c.bring.ensures.carries
+
+pub returns-in-Up-clause-prints : goal.returns-in-Up-clause-prints
+returns-in-Up-clause-prints c =
+    prints_nothing c.args.self.now c.up.new.self c.args.out.now.items c.up.result
+    (record { number = c.args.number; line = c.args.line })
+    Up c.in-Up.is (λ lines. refl) c.up.ensures.carries
+
+pub returns-in-Present-clause-prints : goal.returns-in-Present-clause-prints
+returns-in-Present-clause-prints c =
+    prints_nothing c.args.self.now c.present.new.self c.args.out.now.items c.present.result
+    (record { number = c.args.number; line = c.args.line })
+    (Present c.in-Present.earliest c.in-Present.latest) c.in-Present.is (λ lines. refl) c.present.ensures.carries
+
+pub returns-in-Close-clause-prints : goal.returns-in-Close-clause-prints
+returns-in-Close-clause-prints c =
+    prints_nothing c.args.self.now c.close.new.self c.args.out.now.items c.close.result
+    (record { number = c.args.number; line = c.args.line })
+    (Close c.in-Close.kind) c.in-Close.is (λ lines. refl) c.close.ensures.carries
+
+pub returns-in-Wall-clause-prints : goal.returns-in-Wall-clause-prints
+returns-in-Wall-clause-prints c = λ lines one ready.
+    let old = c.args.self.now in
+    let now : Numbered = record { number = c.args.number; line = c.args.line } in
+    prints_line old c.args.out.now.items c.wall.new.out.items c.wall.result lines now (Wall c.in-Wall.reading)
+    (wall_text c.args.number (span_at 1 old.header lines c.in-Wall.reading) c.args.line.w) one c.in-Wall.is refl
+    (ap (λ who. wall_text c.args.number (span_at who old.header lines c.in-Wall.reading) c.args.line.w) one)
+    (c.wall.ensures.printed lines ready.ends) c.wall.ensures.err
+    (at_line old lines now (Wall c.in-Wall.reading) one c.in-Wall.is
+    (walls old lines c.args.number c.args.line.t c.args.line.w c.args.line.l c.in-Wall.reading ready.ends))
+
+pub returns-in-Print-clause-prints : goal.returns-in-Print-clause-prints
+returns-in-Print-clause-prints c = λ lines one ready.
+    let old = c.args.self.now in
+    let now : Numbered = record { number = c.args.number; line = c.args.line } in
+    prints_line old c.args.out.now.items c.print.new.out.items c.print.result lines now (Print c.in-Print.reading)
+    (line_of c.args.number (report_at 1 old.header lines c.in-Print.reading)
+    (assigned_at 1 old.header lines c.args.line.w)) one c.in-Print.is refl
+    (ap (λ who. line_of c.args.number (report_at who old.header lines c.in-Print.reading)
+    (assigned_at who old.header lines c.args.line.w)) one)
+    (c.print.ensures.printed lines ready.ends) c.print.ensures.err
+    (at_line old lines now (Print c.in-Print.reading) one c.in-Print.is
+    (prints old lines c.args.number c.args.line.t c.args.line.w c.args.line.l c.in-Print.reading ready.ends))

@@ -1,14 +1,16 @@
 -- A line that was shown, read and carried out is one more.
-use Rattle.css_world.proofs.Going.{Steps, line_answers, line_stands, line_true}
+use Rattle.css_world.proofs.Going.{Steps, still_ready, line_answers, line_stands, line_true}
 use Rattle.css_world.proofs.world.World.line.Goals as goal
 
 -- what each step of the line left
-steps : (c : goal.After-carry_out) → Steps c.args.self.now c.show.new.self c.read.new.self c.carry_out.new.self c.args.out.now.items c.carry_out.new.out.items c.carry_out.result (record { number = c.args.number; line = c.args.line })
+steps : (c : goal.After-carry_out)
+    → Steps c.args.self.now c.show.new.self c.read.new.self c.carry_out.new.self c.args.out.now.items
+    c.carry_out.new.out.items c.carry_out.result (record { number = c.args.number; line = c.args.line })
 steps c = record {
   range = c.requires.line.0;
   one = c.requires.line.1;
   shown_ends = c.in_ok-show.ensures.ends;
-  shown_lasts = c.in_ok-show.ensures.lasts;
+  shown_readings = c.in_ok-show.ensures.readings;
   shown_ok = c.in_ok-show.ensures.verdict;
   shown_drifts = c.in_ok-show.ensures.stands;
   read_ends = c.in_ok-read.ensures.ends;
@@ -18,6 +20,14 @@ steps c = record {
   clocks = c.carry_out.ensures.clocks;
   prints = c.carry_out.ensures.prints;
 }
+
+pub carry_out-requires-clause-ready : goal.carry_out-requires-clause-ready
+carry_out-requires-clause-ready c =
+    let lines = c.requires.stands.0 in (
+      lines,
+      still_ready c.args.self.now c.show.new.self c.read.new.self lines c.in_ok-show.ensures.ends
+          c.in_ok-read.ensures.ends c.requires.stands.1,
+    )
 
 pub returns-clause-answers : goal.returns-clause-answers
 returns-clause-answers c = line_answers c.carry_out.result (steps c)
