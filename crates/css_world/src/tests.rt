@@ -1,4 +1,4 @@
-ghost use Rattle.std.specs.Prelude.{◌≡◌, ◌≤◌, List, length, suc, IfOk, IfNone};
+ghost use Rattle.std.specs.Prelude.{[], ◌≡◌, ◌≤◌, List, length, suc, IfOk, IfNone};
 ghost use Rattle.css_world.specs.Happened.{Numbered};
 ghost use Rattle.css_world.specs.Standing.{StandsFor, IsNext};
 ghost use Rattle.css_schedule.specs.Ranges.{IsHeader};
@@ -38,12 +38,12 @@ fn header(alloc: Global, line: &str) -> Result<Header, Fail>
     }
 }
 
-/// How a schedule ended.
+/// How a schedule ended, and how many answers the companion then kept.
 #[derive(Drop)]
 struct Ran {
-    world: World,
     printed: String,
     refused: Option<Refused>,
+    kept: Option<usize>,
 }
 
 /// The line that was refused, and why.
@@ -75,9 +75,10 @@ fn carry_out(
     }
 }
 
-/// Carries out the lines of a schedule after its header, up to the first that is refused.
-fn run(alloc: Global, first: &str, lines: &str) -> Result<Ran, Fail> {
-    let mut world = World::new(alloc, header(alloc, first)?)?;
+/// Carries out the lines of a schedule in a new world, up to the first that is refused.
+fn carry_out_all(alloc: Global, world: &mut World, lines: &str) -> Result<Ran, Fail>
+    requires { StandsFor world.old [] }
+{
     let mut out = Vec::new(alloc);
     let mut number: u64 = 1;
     let mut refused = None;
@@ -86,16 +87,24 @@ fn run(alloc: Global, first: &str, lines: &str) -> Result<Ran, Fail> {
             return Err(Fail::from("too many lines"));
         }
         number += 1;
-        refused = carry_out(alloc, &mut world, number, text, &mut out)?;
+        refused = carry_out(alloc, world, number, text, &mut out)?;
         if refused.is_some() {
             break;
         }
     }
     Ok(Ran {
-        world,
         printed: String::from_utf8(out).ok().ok_or("no text")?,
         refused,
+        kept: kept(world),
     })
+}
+
+/// Carries out the lines of a schedule after its header, up to the first that is refused.
+fn run(alloc: Global, first: &str, lines: &str) -> Result<Ran, Fail> {
+    let mut world = World::new(alloc, header(alloc, first)?)?;
+    let ran = carry_out_all(alloc, &mut world, lines);
+    drop(world);
+    ran
 }
 
 /// How many answers the companion keeps.
@@ -541,7 +550,7 @@ fn a_refused_line_changes_nothing(rt: HostRuntime) -> Result<(), Fail> {
             "6 wall 5197 5603 at 5400\n",
             "{last}"
         );
-        assert_eq!(rt; kept(&ran.world), Some(1), "{last}");
+        assert_eq!(rt; ran.kept, Some(1), "{last}");
     }
     Ok(())
 }
@@ -674,11 +683,16 @@ fn an_answer_is_to_one_of_the_last_64_requests(rt: HostRuntime) -> Result<(), Fa
     Ok(())
 }
 
+/// Whether there is a companion of each of the first numbers, from 0.
+fn companions(alloc: Global) -> Result<[bool; 3], Fail> {
+    let world = World::new(alloc, header(alloc, PLAIN)?)?;
+    let found = [0, 1, 2].map(|number| world.companion(number).is_some());
+    drop(world);
+    Ok(found)
+}
+
 #[test]
 fn there_is_one_companion(rt: HostRuntime) -> Result<(), Fail> {
-    let ran = run(rt.alloc(), PLAIN, EXCHANGE)?;
-    assert_eq!(rt; ran.world.companion(0).is_none(), true);
-    assert_eq!(rt; ran.world.companion(1).is_some(), true);
-    assert_eq!(rt; ran.world.companion(2).is_none(), true);
+    assert_eq!(rt; companions(rt.alloc())?, [false, true, false]);
     Ok(())
 }
