@@ -4,3 +4,7 @@ pub mod Places
 pub mod Standing
 pub mod Shared
 pub mod Truth
+pub mod Shown
+pub mod Inputs
+pub mod Reading
+pub mod Promise

@@ -2,7 +2,7 @@
 use Rattle.std.specs.Prelude.{ℕ, pos, ◌≡◌, ◌≤◌, ◌≤ℤ◌, ◌<ℤ◌, ⊤, [], All, Contains}
 use Rattle.css_num.specs.Spans.{Interval, Covers}
 use Rattle.css_model.specs.Numbers.{max_error}
-use Rattle.css_model.specs.WallClock.{Answer, Local, lo, hi}
+use Rattle.css_model.specs.WallClock.{Answer, Local, lo, hi, scaled_width}
 use Rattle.css_model.specs.World.{World, Errors, IsWorldFor, Reads}
 use Rattle.css_model.specs.Truth.{Exchange, IsTimed}
 use Rattle.css_span.specs.Frontiers.{Answers}
@@ -90,3 +90,10 @@ AgreementIsTrue = (own : Local) (reading : ℕ) (added : Answers) (span : Interv
 abbrev pub ContradictionIsFalse : Type 0
 ContradictionIsFalse = (own : Local) (reading : ℕ) (added : Answers) (low high : Answer)
     → DeclareInRange added → Contradict own reading added low high → CantBothBeTrue own reading low high
+
+-- The answers that are named are possible still: their spans have two ends in order.
+abbrev pub ArePossible : Local → ℕ → Agreed → Type 0
+ArePossible own reading Nothing = ⊤
+ArePossible own reading (Within span) = ⊤
+ArePossible own reading (Disagree low high) =
+    (pos 0 ≤ℤ scaled_width own low reading) × (pos 0 ≤ℤ scaled_width own high reading)

@@ -3,3 +3,8 @@ pub mod Agreements
 pub mod Keeping
 pub mod Verdicts
 pub mod FaultWords
+pub mod Inputs
+pub mod Printed
+pub mod Agreeing
+pub mod Reading
+pub mod Promise

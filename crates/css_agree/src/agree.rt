@@ -1,7 +1,7 @@
 ghost use Rattle.std.specs.Prelude.{◌≡◌, ◌≤◌, ◌<◌, ◌*◌, [], length, OnOk, OnErr};
 ghost use Rattle.css_num.specs.Gives.{GivesBy};
 ghost use Rattle.css_span.specs.Frontiers.{Answers, error_count};
-ghost use Rattle.css_agree.specs.Agreements.{AgreesAt, TellsTruth};
+ghost use Rattle.css_agree.specs.Agreements.{AgreesAt, ArePossible, TellsTruth};
 ghost use Rattle.css_agree.specs.Keeping.{StandsFor, Adds};
 ghost use Rattle.css_agree.specs.Verdicts.{verdict};
 
@@ -78,6 +78,7 @@ impl Agree {
         requires floor { self.now.floor ≤ reading }
         ensures agrees { (added : Answers) → StandsFor self.now added → AgreesAt self.now.local reading added result }
         ensures truth { (added : Answers) → StandsFor self.now added → TellsTruth self.now.local reading added result }
+        ensures possible { ArePossible self.now.local reading result }
     {
         let Some(best) = best_of_all(&self.kept, &self.local, reading) else {
             return Agreed::Nothing;
@@ -92,6 +93,13 @@ impl Agree {
                 high: best.high,
             }
         }
+    }
+
+    /// The companion's own clock.
+    pub fn local(&self) -> &Local
+        ensures value { result.now ≡ self.now.local }
+    {
+        &self.local
     }
 
     /// How many answers are kept: two for each different error that the answers declare.

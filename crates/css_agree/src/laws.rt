@@ -3,6 +3,7 @@
 
 ghost use Rattle.css_agree.specs.Agreements.{AgreementIsTrue, ContradictionIsFalse};
 ghost use Rattle.css_agree.specs.Bests.{EndsMoveAlike};
+ghost use Rattle.css_agree.specs.Promise.{PrintedIsTrue};
 
 /// The ends of two answers of one declared error, before they are rounded, move alike: which answer has the greater
 /// lower end, and which has the lesser upper end, is the same at every reading.
@@ -19,4 +20,10 @@ pub fn agreement_is_true()
 /// Where the answers share no span, no world that keeps the oscillators' errors makes the two named ones truthful.
 pub fn contradiction_is_false()
     ensures { ContradictionIsFalse }
+{}
+
+/// What is printed of answers is what they say together at the reading, and it is true in every world that makes them
+/// truthful.
+pub fn printed_agreement_is_true()
+    ensures { PrintedIsTrue }
 {}

@@ -11,7 +11,10 @@ mod agreed;
 mod best;
 mod ends;
 mod fault;
+mod input;
 pub mod laws;
+mod printing;
+mod reader;
 #[cfg(test)]
 mod tests;
 
@@ -19,3 +22,5 @@ pub use agree::Agree;
 pub use agreed::Agreed;
 pub use css_span::{Answer, Local, Span};
 pub use fault::AgreeFault;
+pub use input::{AnswerLine, read_header, read_line};
+pub use reader::{Agreeing, Cause};

@@ -1,4 +1,3 @@
-pub mod OneWord
 pub mod Texts
 pub mod Answering
 pub mod Promise

@@ -10,10 +10,11 @@ use Rattle.std.proofs.lemmas.Int.{ints}
 use Rattle.css_model.specs.WallClock.{Answer, Local, IsLocal, IsLeast, scaled_width, narrowest}
 use Rattle.css_model.proofs.Narrowest.{least_by-least}
 use Rattle.css_outside.specs.Bytes.{IsPrefix}
-use Rattle.css_lines.specs.Lines.{whole_lines, last_part, unless_empty, lines_of}
-use Rattle.css_lines.specs.Meaning.{Outcome, followed_by, followed_from, refused_at, reader_outcome, line_outcome, is_long, offset, outcome_from, end_outcome, finish_outcome, outcome, outcome_so_far}
+use Rattle.css_lines.specs.Lines.{lines_of}
+use Rattle.css_lines.specs.Meaning.{finish_outcome, outcome, outcome_so_far}
+use Rattle.css_lines.proofs.Induction.{taken_so_far, taken_in_all}
 use Rattle.css_lines.specs.declared.reader.Refusal.{Refusal}
-use Rattle.css_lines.specs.declared.reader.Refusal.TheVariants.{Long, Refused}
+use Rattle.css_lines.specs.declared.reader.Refusal.TheVariants.{Refused}
 use Rattle.css_span.specs.WallSpans.{span_of}
 use Rattle.css_schedule.specs.declared.fault.LineFault.{LineFault}
 use Rattle.css_schedule.specs.declared.header.Header.{Header}
@@ -251,63 +252,7 @@ taken_text (first ∷ texts) text sofar printed taken e =
     subst (λ (o : Option Header). meant_after o (lines_in texts) (length (first ∷ texts) + 1) (grammar.line_of text) ≡ Ok printed) taken.1.is_header e in
     (header, taken-line header first texts text sofar printed (grammar.line_of text) refl taken.1 read)
 
--- ---- outcomes
--- Some of the texts were taken after those before, and what is printed for them was added; all of them, where none is
--- refused.
-record Goes (before texts : List (List ℕ)) (sofar : List ℕ) (outcome : Outcome Cause) : Type 0 where
-  more : List (List ℕ)
-  rest : List (List ℕ)
-  parts : texts ≡ more ++ rest
-  all : outcome.verdict ≡ None → rest ≡ []
-  taken : TakenAll (before ++ more) (sofar ++ outcome.printed)
-
--- nothing was taken
-stays : (before texts : List (List ℕ)) (sofar : List ℕ) (verdict : Option (ℕ × Refusal Cause)) → TakenAll before sofar
-    → (verdict ≡ None → texts ≡ []) → Goes before texts sofar (record { printed = []; verdict = verdict })
-stays before texts sofar verdict taken all = record {
-  more = [];
-  rest = texts;
-  parts = refl;
-  all = all;
-  taken = subst (λ (b : List (List ℕ)). TakenAll b (sofar ++ [])) (sym (append-nil before)) (subst (λ (p : List ℕ). TakenAll before p) (sym (append-nil sofar)) taken);
-}
-
--- what is there is not missing
-not-none : {A : Type 0} {P : Type 0} (x : A) → Some x ≡ None → P
-not-none x e = absurd (cc)
-
--- what a line's outcome adds
-line_goes : (before : List (List ℕ)) (text : List ℕ) (texts : List (List ℕ)) (sofar : List ℕ) (end : ℕ) (next : Outcome Cause)
-    → TakenAll before sofar
-    → ((printed : List ℕ) → TakenAll (before ++ text ∷ []) (sofar ++ printed) → Goes (before ++ text ∷ []) texts (sofar ++ printed) next)
-    → Goes before (text ∷ texts) sofar (followed_by (line_outcome replayed before text end) next)
-line_goes before text texts sofar end next taken go = by (is_long replayed before text end) (text_meant before text) refl
-  where
-    number : ℕ
-    number = length before + 1
-
-    by : (long : Bool) (meant : Result (List ℕ) Cause) → text_meant before text ≡ meant
-        → Goes before (text ∷ texts) sofar (followed_by (cond long (refused_at [] number Long) (reader_outcome number meant)) next)
-    by true meant is = stays before (text ∷ texts) sofar (Some (number, Long)) taken (not-none (number, Long))
-    by false (Err cause) is = stays before (text ∷ texts) sofar (Some (number, Refused cause)) taken (not-none (number, Refused cause))
-    by false (Ok printed) is =
-        let gone = go printed (taken_text before text sofar printed taken is) in
-        record {
-          more = text ∷ gone.more;
-          rest = gone.rest;
-          parts = ap (λ ts. text ∷ ts) gone.parts;
-          all = gone.all;
-          taken = subst (λ (b : List (List ℕ)). TakenAll b (sofar ++ (printed ++ next.printed))) (append_assoc before (text ∷ []) gone.more)
-              (subst (λ (p : List ℕ). TakenAll ((before ++ text ∷ []) ++ gone.more) p) (append_assoc sofar printed next.printed) gone.taken);
-        }
-
--- what the outcome of lines adds
-lines_go : (before texts : List (List ℕ)) (sofar : List ℕ) → TakenAll before sofar → Goes before texts sofar (outcome_from replayed before texts)
-lines_go before [] sofar taken = stays before [] sofar None taken (λ none. refl)
-lines_go before (text ∷ texts) sofar taken =
-    line_goes before text texts sofar (offset before + length text + 1) (outcome_from replayed (before ++ text ∷ []) texts) taken
-    (λ printed taken_so. lines_go (before ++ text ∷ []) texts (sofar ++ printed) taken_so)
-
+-- ---- the whole input
 -- nothing is printed at the end, whatever comes of it
 finishes : (before : List (List ℕ)) → (verdict : Option (ℕ × Refusal Cause)) × (finish_outcome replayed before ≡ record { printed = []; verdict = verdict })
 finishes [] = (Some (1, Refused Form), refl)
@@ -331,48 +276,15 @@ promise_of bytes (first ∷ texts) rest printed parts taken = inr (record {
 
 -- what is printed for whole lines keeps the promise
 pub so_far : (bytes : List ℕ) → KeepsPromise bytes (outcome_so_far replayed bytes).printed
-unfolding outcome_so_far
 so_far bytes =
-    let went = lines_go [] (whole_lines bytes) [] refl in
-    promise_of bytes went.more (went.rest ++ unless_empty (last_part bytes)) (outcome_from replayed [] (whole_lines bytes)).printed
-    (ap (λ ts. ts ++ unless_empty (last_part bytes)) went.parts ∙ append_assoc went.more went.rest (unless_empty (last_part bytes))) went.taken
-
--- the last line, and the end
-end_goes : (before : List (List ℕ)) (last sofar : List ℕ) → TakenAll before sofar → Goes before (unless_empty last) sofar (end_outcome replayed before last)
-end_goes before [] sofar taken =
-    let ends = finishes before in
-    subst (λ (o : Outcome Cause). Goes before [] sofar o) (sym ends.1) (stays before [] sofar ends.0 taken (λ none. refl))
-end_goes before (byte ∷ bytes) sofar taken =
-    let ends = finishes (before ++ (byte ∷ bytes) ∷ []) in
-    line_goes before (byte ∷ bytes) [] sofar (offset before + length (byte ∷ bytes)) (finish_outcome replayed (before ++ (byte ∷ bytes) ∷ [])) taken
-    (λ printed taken_so. subst (λ (o : Outcome Cause). Goes (before ++ (byte ∷ bytes) ∷ []) [] (sofar ++ printed) o) (sym ends.1)
-    (stays (before ++ (byte ∷ bytes) ∷ []) [] (sofar ++ printed) ends.0 taken_so (λ none. refl)))
+    let of = taken_so_far replayed TakenAll taken_text finishes refl bytes in
+    promise_of bytes of.texts of.rest _ of.parts of.taken
 
 -- so does what is printed for the whole input
 pub in_all : (bytes : List ℕ) → KeepsPromise bytes (outcome replayed bytes).printed
-unfolding outcome
-in_all bytes = by (outcome_from replayed [] whole) (lines_go [] whole [] refl)
-  where
-    whole : List (List ℕ)
-    whole = whole_lines bytes
-
-    last : List ℕ
-    last = last_part bytes
-
-    by : (o : Outcome Cause) → Goes [] whole [] o → KeepsPromise bytes (followed_from o.printed o.verdict (end_outcome replayed whole last)).printed
-    by o went = of o.verdict went.all
-      where
-        parts : lines_of bytes ≡ went.more ++ (went.rest ++ unless_empty last)
-        parts = ap (λ ts. ts ++ unless_empty last) went.parts ∙ append_assoc went.more went.rest (unless_empty last)
-
-        of : (v : Option (ℕ × Refusal Cause)) → (v ≡ None → went.rest ≡ []) → KeepsPromise bytes (followed_from o.printed v (end_outcome replayed whole last)).printed
-        of (Some v) all = promise_of bytes went.more (went.rest ++ unless_empty last) o.printed parts went.taken
-        of None all =
-            let none : whole ≡ went.more = went.parts ∙ ap (λ r. went.more ++ r) (all refl) ∙ append-nil went.more in
-            let taken : TakenAll whole o.printed = subst (λ (ts : List (List ℕ)). TakenAll ts o.printed) (sym none) went.taken in
-            let ended = end_goes whole last o.printed taken in
-            promise_of bytes (whole ++ ended.more) ended.rest (o.printed ++ (end_outcome replayed whole last).printed)
-            (ap (λ ts. whole ++ ts) ended.parts ∙ sym (append_assoc whole ended.more ended.rest)) ended.taken
+in_all bytes =
+    let of = taken_in_all replayed TakenAll taken_text finishes refl bytes in
+    promise_of bytes of.texts of.rest _ of.parts of.taken
 
 -- a front part keeps it too
 pub front_keeps : (bytes front whole : List ℕ) → IsPrefix front whole → KeepsPromise bytes whole → KeepsPromise bytes front

@@ -1,5 +1,5 @@
 -- How a run ends, as a status.
-use Rattle.std.specs.Prelude.{ℕ, ◌≡◌, ◌<◌, ◌-◌, ◌^◌, Bool, false, bytes_eq, List, [], ◌∷◌, ◌++◌, codes, decimal, Option, Some, None}
+use Rattle.std.specs.Prelude.{ℕ, ◌≡◌, ◌<◌, ◌-◌, ◌^◌, ◌⊎◌, if◌then◌else◌, bytes_eq, List, [], ◌∷◌, ◌++◌, codes, decimal, Option, Some, None}
 use Rattle.std.specs.Fmt.{signed_decimal}
 use Rattle.std.specs.Io.KnownBytes.{Appends}
 use Rattle.css_outside.specs.Faults.{HasRisen}
@@ -9,6 +9,11 @@ use Rattle.css_lines.specs.declared.ending.Stop.{Stop}
 use Rattle.css_lines.specs.declared.ending.Stop.TheVariants as stops
 use Rattle.css_lines.specs.Meaning.{outcome}
 use Rattle.css_lines.specs.Ending.{RanUntil}
+use Rattle.css_agree.specs.declared.reader.Cause as agree
+use Rattle.css_agree.specs.declared.reader.Cause.TheVariants as agrees
+use Rattle.css_agree.specs.Agreeing.{agreeing}
+use Rattle.css_app.specs.declared.command.Command.{Command}
+use Rattle.css_app.specs.declared.command.Command.TheVariants.{Replay, Agree}
 use Rattle.css_app.specs.declared.replay.Cause.{Cause}
 use Rattle.css_app.specs.declared.replay.Cause.TheVariants as causes
 use Rattle.css_schedule.specs.FaultWords.{why_words}
@@ -18,11 +23,18 @@ use Rattle.css_app.specs.declared.status.Status.{Status}
 use Rattle.css_app.specs.declared.status.Status.TheVariants.{Done, Usage, BadLine, Broken, ReadFault, WriteFault, Memory}
 use Rattle.css_app.specs.Replayed.{replayed}
 
--- the words of `replay`: this one word
-abbrev pub is_replay : List (List ℕ) → Bool
-is_replay [] = false
-is_replay (word ∷ []) = bytes_eq word (codes "replay")
-is_replay (word ∷ next ∷ words) = false
+-- the command of this name
+abbrev pub named : List ℕ → Option Command
+named word =
+    if bytes_eq word (codes "replay") then Some Replay
+    else if bytes_eq word (codes "agree") then Some Agree
+    else None
+
+-- the command of words: its name alone
+abbrev pub command_of : List (List ℕ) → Option Command
+command_of [] = None
+command_of (word ∷ []) = named word
+command_of (word ∷ next ∷ words) = None
 
 -- the exit status of the program
 abbrev pub status_number : Status → ℕ
@@ -111,3 +123,40 @@ status_of (stops.BadLine line (refusals.Refused (causes.Broken earlier excess)))
 status_of stops.ReadFault = ReadFault
 status_of stops.WriteFault = WriteFault
 status_of stops.Memory = Memory
+
+-- ---- answers
+-- the status of a run over answers that stopped
+abbrev pub agree_status_of : Stop agree.Cause → Status
+agree_status_of (stops.BadLine line refusals.Long) = BadLine line Long
+agree_status_of (stops.BadLine line (refusals.Refused agrees.Form)) = BadLine line Form
+agree_status_of (stops.BadLine line (refusals.Refused (agrees.Broken earlier excess))) = Broken line earlier excess
+agree_status_of stops.ReadFault = ReadFault
+agree_status_of stops.WriteFault = WriteFault
+agree_status_of stops.Memory = Memory
+
+-- The input was read to its end, no line of it is refused, and the sink grew by the whole output.
+pub record AgreesAll (bytes : List ℕ) (left holds_old holds_new : Option (List ℕ)) (status : Status) : Type 0 where
+  pub done : status ≡ Done
+  pub at_end : left ≡ Some []
+  pub accepted : (outcome agreeing bytes).verdict ≡ None
+  pub grew : Appends holds_old holds_new (outcome agreeing bytes).printed
+
+-- The run stopped, and the status says how.
+pub record AgreesUntil (bytes : List ℕ) (left holds_old holds_new : Option (List ℕ)) (status : Status) : Type 0 where
+  pub stop : Stop agree.Cause
+  pub ran : RanUntil agreeing bytes left holds_old holds_new stop
+  pub told : status ≡ agree_status_of stop
+
+-- what a run over answers with these bytes may leave
+abbrev pub Agrees : List ℕ → Option (List ℕ) → Option (List ℕ) → Option (List ℕ) → Status → Type 0
+Agrees bytes left holds_old holds_new status =
+    AgreesAll bytes left holds_old holds_new status ⊎ AgreesUntil bytes left holds_old holds_new status
+
+-- no line of the answers is refused
+abbrev pub AreAllRead : List ℕ → Type 0
+AreAllRead bytes = (outcome agreeing bytes).verdict ≡ None
+
+-- the words were those of a command
+abbrev pub IsNoUsage : Status → Type 0
+IsNoUsage Usage = ⊥
+IsNoUsage _ = Unit {0}

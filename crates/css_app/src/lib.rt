@@ -2,7 +2,11 @@
 #![tactic(auto)]
 
 #[cfg(test)]
+mod agree_tests;
+mod agreement;
+#[cfg(test)]
 mod both_ends_tests;
+mod command;
 mod program;
 mod replay;
 mod status;

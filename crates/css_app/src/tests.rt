@@ -35,7 +35,7 @@ pub(crate) struct Ran {
     pub(crate) sink: MemorySink,
 }
 
-fn run_over(
+pub(crate) fn run_over(
     alloc: Global,
     words: &[String],
     bytes: &[u8],

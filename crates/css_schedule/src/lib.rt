@@ -14,7 +14,7 @@ mod printing;
 mod reading;
 #[cfg(test)]
 mod tests;
-mod words;
+pub mod words;
 
 pub use css_num::{Rate, Text};
 pub use css_player::{Command, PlayerFault};

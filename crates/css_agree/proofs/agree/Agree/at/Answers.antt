@@ -1,11 +1,11 @@
 -- The best of what is kept is the best of all answers added, and it is still possible.
 use Rattle.std.proofs.Common.{◌≡◌, subst, arith}
-use Rattle.std.specs.Prelude.{Some}
+use Rattle.std.specs.Prelude.{Some, pos, ◌≤ℤ◌}
 use Rattle.std.proofs.lemmas.Int.{ints}
 use mir.Syntax.{w128}
 use mir.Val.{to_z, of_z}
 use Rattle.css_num.specs.Spans.{Interval}
-use Rattle.css_model.specs.WallClock.{IsLocal, lo, hi}
+use Rattle.css_model.specs.WallClock.{IsLocal, lo, hi, scaled_width}
 use Rattle.css_span.specs.Frontiers.{Answers}
 use Rattle.css_agree.specs.Agreements.{HasGreatestLow, HasLeastHigh, IsShared, Contradict}
 use Rattle.css_agree.specs.Keeping.{Kept, StandsFor}
@@ -101,3 +101,15 @@ pub returns-else-lo-hi-clause-truth : goal.returns-else-lo-hi-clause-truth
 returns-else-lo-hi-clause-truth c = λ added stands.
     contradiction_is_false c.args.self.now.local c.args.reading added c.in-Some.best.low c.in-Some.best.high
     (added-in_range c.args.self.now added stands) (contradict c added stands)
+
+-- the two that are named are possible
+pub returns-else-lo-hi-clause-possible : goal.returns-else-lo-hi-clause-possible
+returns-else-lo-hi-clause-possible c =
+    let now = c.args.self.now in
+    let r = c.args.reading in
+    let best = c.in-Some.best in
+    let found = found-is r _ now _ (Some best) c.self.view_is c.deref.ensures.value c.in-Some.ensures in
+    let possible = found-possible r _ now best c.self.view_is c.self.invariant c.requires.floor found in (
+      subst (λ (k : Kept). pos 0 ≤ℤ scaled_width k.local best.low r) c.self.view_is possible.low.wide,
+      subst (λ (k : Kept). pos 0 ≤ℤ scaled_width k.local best.high r) c.self.view_is possible.high.wide,
+    )

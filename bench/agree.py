@@ -1,0 +1,95 @@
+#!/usr/bin/env python3
+"""How much narrower the agreement of all answers is than the span of the narrowest one.
+
+Draws exchanges of a television and a companion whose clocks are up to 50 ppm off, over a network whose delays differ by
+the way and by the exchange. `css agree` tells the agreement of 2, 10 and 100 answers; each must contain the wall clock
+and be the one that this script computes. Prints the median of the ratio of the widths. Then answers with as many
+declared errors as lines, to see that the time grows with the number of errors and not with its square.
+
+    bench/agree.py [PROGRAM]       the program is crates/css/out/css unless it is named
+"""
+
+import os
+import random
+import resource
+import statistics
+import subprocess
+import sys
+
+from second import F, precision_ns, span
+
+PROGRAM = os.path.join(os.path.dirname(os.path.dirname(os.path.abspath(__file__))), "crates", "css", "out", "css")
+
+ERROR = 12_800
+OWN = (ERROR, 1_000)
+EXPONENT = -20
+
+
+def agree(program, text):
+    """What the program prints, and its processor seconds."""
+    before = resource.getrusage(resource.RUSAGE_CHILDREN)
+    run = subprocess.run([program, "agree"], input=text.encode(), capture_output=True, check=False)
+    after = resource.getrusage(resource.RUSAGE_CHILDREN)
+    if run.returncode != 0:
+        sys.exit(f"agree ended with {run.returncode}: {run.stderr.decode()}")
+    spent = after.ru_utime + after.ru_stime - before.ru_utime - before.ru_stime
+    return run.stdout.decode().splitlines(), spent
+
+
+def exchanges(draw, count):
+    """True answers of one pair of clocks, and at the end a reading of the companion with the wall clock at it."""
+    rates = [1 + draw.uniform(-50, 50) * 1e-6 for _ in range(2)]
+    starts = [draw.randrange(10**12), draw.randrange(10**12)]
+
+    def at(moment, end):
+        return starts[end] + int(moment * rates[end])
+
+    moment, answers = 0, []
+    for _ in range(count):
+        there, back = (200_000 + int(draw.expovariate(1 / 3_000_000)) for _ in range(2))
+        busy = draw.randrange(50_000)
+        t1, t2 = at(moment, 0), at(moment + there, 1)
+        t3, t4 = at(moment + there + busy, 1), at(moment + there + busy + back, 0)
+        answers.append((t1, t2, t3, t4))
+        moment += there + busy + back + draw.randrange(1_000_000_000)
+    return answers, at(moment, 0), at(moment, 1)
+
+
+def ratio(program, draw, count):
+    """The width of the agreement of so many answers, divided by that of the narrowest of them."""
+    answers, reading, wall = exchanges(draw, count)
+    lines = [f"css-agree 1 {OWN[0]} {OWN[1]}"]
+    lines += [f"answer {t1} {t2} {t3} {t4} {EXPONENT} {ERROR}" for t1, t2, t3, t4 in answers]
+    printed, _ = agree(program, "\n".join([*lines, f"at {reading}"]) + "\n")
+    spans = [span((*times, precision_ns(EXPONENT), ERROR), OWN, reading) for times in answers]
+    low, high = max(low for _, low, _ in spans), min(high for _, _, high in spans)
+    if printed != [f"{count + 2} agree {low} {high}"]:
+        sys.exit(f"{printed} is not {low} to {high}")
+    if not low <= wall <= high:
+        sys.exit(f"{low} to {high} is without {wall}")
+    _, narrow_low, narrow_high = min(spans)
+    return (high - low) / (narrow_high - narrow_low)
+
+
+def errors(program, count):
+    """Processor seconds of so many answers, each with a declared error of its own."""
+    lines = [f"css-agree 1 {OWN[0]} {OWN[1]}"]
+    for number in range(count):
+        sent = 1_000_000 * number
+        lines.append(f"answer {sent} {sent + 200_000} {sent + 250_000} {sent + 450_000} {EXPONENT} {number}")
+    _, spent = agree(program, "\n".join([*lines, f"at {1_000_000 * count}"]) + "\n")
+    return spent
+
+
+def main():
+    program = sys.argv[1] if len(sys.argv) > 1 else PROGRAM
+    draw = random.Random(1)
+    for count in (2, 10, 100):
+        ratios = [ratio(program, draw, count) for _ in range(200)]
+        print(f"{count} answers: the agreement has {statistics.median(ratios):.3f} of the narrowest one's width")
+    for count in (1_000, 2_000, 4_000):
+        print(f"{count} answers of {count} errors: {errors(program, count):.3f} s")
+
+
+if __name__ == "__main__":
+    main()

@@ -1,0 +1,244 @@
+-- The reader of answers stands for one text more.
+use Rattle.std.proofs.Common.{◌≡◌, ◌⊎◌, inl, inr, ℕ, suc, ◌+◌, ◌-◌, ◌<◌, ◌≤◌, arith, ap, sym, subst, ◌∙◌, refl, Bool, true, false, List, [], ◌∷◌, ◌++◌, length}
+use Rattle.std.specs.Prelude.{ℤ, pos, int_lt, nat_lt, if◌then◌else◌, Option, Some, None, Result, Ok, Err, OnOk, IfOk, MatchResult}
+use Rattle.std.proofs.lemmas.Bool.{ltb-true, ltb-false}
+use Rattle.std.proofs.lemmas.List.{append-nil}
+use Rattle.css_model.specs.WallClock.{Answer, Local, scaled_width}
+use Rattle.css_span.specs.Frontiers.{Answers as Added}
+use Rattle.css_lines.specs.Answers.{Answers, MayFault}
+use Rattle.css_lines.specs.declared.reader.LineFault as engine
+use Rattle.css_lines.specs.declared.reader.LineFault.TheVariants as engines
+use Rattle.css_schedule.specs.declared.fault.LineFault.{LineFault}
+use Rattle.css_agree.specs.declared.input.AnswerLine.{AnswerLine}
+use Rattle.css_agree.specs.declared.reader.Cause.{Cause}
+use Rattle.css_agree.specs.declared.reader.Cause.TheVariants.{Form, Broken}
+use Rattle.css_agree.specs.declared.reader.Agreeing.{Agreeing}
+use Rattle.css_agree.specs.Agreeing.{Numbered, with_answer, with_line, lines_after, lines_in, answers_in, line_text, in_order, line_meant, read_meant, meant_after, opened, text_meant}
+use Rattle.css_agree.specs.Inputs.{reading_of, line_of, local_of}
+use Rattle.css_agree.specs.Agreements.{AgreesAt}
+use Rattle.css_agree.specs.Keeping.{Kept, StandsFor}
+use Rattle.css_agree.specs.Printed.{at_text, agreed_text}
+use Rattle.css_agree.specs.Verdicts.{verdict}
+use Rattle.css_agree.specs.declared.agreed.Agreed.{Agreed}
+use Rattle.css_agree.specs.declared.fault.AgreeFault.{AgreeFault}
+use Rattle.css_agree.specs.declared.fault.AgreeFault.TheVariants.{Impossible, Memory}
+use Rattle.css_agree.proofs.Shown.{shown}
+use Rattle.css_agree.specs.Reading.{Keeps, IsLast, Stands, order_of}
+
+-- ---- the lines of texts, one text more
+lines_after-push : (number : ℕ) (older : List Numbered) (texts : List (List ℕ)) (text : List ℕ)
+    → lines_after number older (texts ++ text ∷ []) ≡ with_line (number + length texts) (lines_after number older texts) (line_of text)
+lines_after-push number older [] text = ap (λ (n : ℕ). with_line n older (line_of text)) (omega arith)
+lines_after-push number older (t ∷ texts) text =
+    lines_after-push (suc number) (with_line number older (line_of t)) texts text
+    ∙ ap (λ (n : ℕ). with_line n (lines_after (suc number) (with_line number older (line_of t)) texts) (line_of text))
+    (omega arith)
+
+pub lines_in-push : (first : List ℕ) (texts : List (List ℕ)) (text : List ℕ)
+    → lines_in (texts ++ text ∷ []) ≡ with_line (length (first ∷ texts) + 1) (lines_in texts) (line_of text)
+lines_in-push first texts text =
+    lines_after-push 2 [] texts text ∙ ap (λ (n : ℕ). with_line n (lines_in texts) (line_of text)) (omega arith)
+
+push-length : (texts : List (List ℕ)) (text : List ℕ) → length (texts ++ text ∷ []) ≡ length texts + 1
+push-length [] text = omega arith
+push-length (t ∷ texts) text = omega (arith, push-length texts text)
+
+-- ---- what a line that was read is meant to print
+-- the fault of a fall, and its cause
+fall : ℕ → ℕ → ℕ → Cause
+fall earlier last reading = Broken earlier (pos (last - reading))
+
+-- the test of the order, and what is meant, by whether the reading is below the last one
+test_by : Bool → Cause → Result (Unit {0}) (engine.LineFault Cause)
+test_by b cause = if b then Err (engines.Refused cause) else Ok tt
+
+meant_by : Bool → Cause → List ℕ → Result (List ℕ) Cause
+meant_by b cause printed = if b then Err cause else Ok printed
+
+by-ok : (b : Bool) (cause : Cause) (printed : List ℕ) → test_by b cause ≡ Ok tt → meant_by b cause printed ≡ Ok printed
+unfolding test_by meant_by
+by-ok true cause printed e = absurd (cc)
+by-ok false cause printed e = refl
+
+told : (cause : Cause) (fault : engine.LineFault Cause)
+    → test_by true cause ≡ Err fault → engines.Refused cause ≡ fault
+unfolding test_by
+told cause fault h = cc
+
+by-err : (b : Bool) (cause : Cause) (printed : List ℕ) (fault : engine.LineFault Cause) → test_by b cause ≡ Err fault
+    → MayFault (meant_by b cause printed) fault
+unfolding test_by meant_by
+by-err true cause printed fault e =
+    subst (λ (f : engine.LineFault Cause). MayFault {Cause = Cause} (Err cause) f) (told cause fault e) refl
+by-err false cause printed fault e = absurd (cc)
+
+by-low : (b : Bool) (cause : Cause) → test_by b cause ≡ Ok tt → b ≡ false
+unfolding test_by
+by-low true cause e = absurd (cc)
+by-low false cause e = refl
+
+by-high : (b : Bool) (cause : Cause) (fault : engine.LineFault Cause) → test_by b cause ≡ Err fault → b ≡ true
+unfolding test_by
+by-high true cause fault e = refl
+by-high false cause fault e = absurd (cc)
+
+in_order-ok : (earlier last reading : ℕ) (printed : List ℕ) → order_of earlier last reading ≡ Ok tt
+    → in_order earlier last reading printed ≡ Ok printed
+unfolding fall test_by meant_by
+in_order-ok earlier last reading printed e = by-ok (nat_lt reading last) (fall earlier last reading) printed e
+
+in_order-err : (earlier last reading : ℕ) (printed : List ℕ) (fault : engine.LineFault Cause)
+    → order_of earlier last reading ≡ Err fault → MayFault (in_order earlier last reading printed) fault
+unfolding fall test_by meant_by
+in_order-err earlier last reading printed fault e =
+    by-err (nat_lt reading last) (fall earlier last reading) printed fault e
+
+-- without a line before, no reading is refused
+never_refused : (earlier reading : ℕ) (fault : engine.LineFault Cause) → order_of earlier 0 reading ≡ Err fault → ⊥
+unfolding fall test_by
+never_refused earlier reading fault e =
+    omega (arith, ltb-true reading 0 (by-high (nat_lt reading 0) (fall earlier 0 reading) fault e))
+
+-- what is meant of a line whose reading is in order
+pub meant-ok : (own : Local) (older : List Numbered) (earlier last number : ℕ) (line : AnswerLine) → IsLast older earlier last
+    → order_of earlier last (reading_of line) ≡ Ok tt
+    → line_meant own older number line ≡ Ok (line_text own number line (answers_in own older))
+meant-ok own [] earlier last number line is e = refl
+meant-ok own (now ∷ older) earlier last number line is e =
+    in_order-ok now.number (reading_of now.line) (reading_of line) (line_text own number line (answers_in own (now ∷ older)))
+    (subst (λ (n : ℕ). order_of n (reading_of now.line) (reading_of line) ≡ Ok tt) (sym is.0)
+    (subst (λ (r : ℕ). order_of earlier r (reading_of line) ≡ Ok tt) (sym is.1) e))
+
+pub meant-err : (own : Local) (older : List Numbered) (earlier last number : ℕ) (line : AnswerLine) (fault : engine.LineFault Cause)
+    → IsLast older earlier last → order_of earlier last (reading_of line) ≡ Err fault
+    → MayFault (line_meant own older number line) fault
+meant-err own [] earlier last number line fault is e =
+    absurd (never_refused earlier (reading_of line) fault
+    (subst (λ (r : ℕ). order_of earlier r (reading_of line) ≡ Err fault) is e))
+meant-err own (now ∷ older) earlier last number line fault is e =
+    in_order-err now.number (reading_of now.line) (reading_of line) (line_text own number line (answers_in own (now ∷ older)))
+    fault
+    (subst (λ (n : ℕ). order_of n (reading_of now.line) (reading_of line) ≡ Err fault) (sym is.0)
+    (subst (λ (r : ℕ). order_of earlier r (reading_of line) ≡ Err fault) (sym is.1) e))
+
+-- a reading that is in order isn't below the last one
+pub ordered : (earlier last reading : ℕ) → order_of earlier last reading ≡ Ok tt → last ≤ reading
+unfolding fall test_by
+ordered earlier last reading e =
+    omega (arith, ltb-false reading last (by-low (nat_lt reading last) (fall earlier last reading) e))
+
+-- ---- an answer
+-- an answer that was added, or that is impossible
+verdict_by : Bool → ℤ → Result (Unit {0}) AgreeFault
+verdict_by b width = if b then Err (Impossible width) else Ok tt
+
+verdict-ok : (b : Bool) (width : ℤ) → verdict_by b width ≡ Ok tt → b ≡ false
+unfolding verdict_by
+verdict-ok true width e = absurd (cc)
+verdict-ok false width e = refl
+
+verdict-err : (b : Bool) (width : ℤ) (fault : AgreeFault) → verdict_by b width ≡ Err fault → b ≡ true
+unfolding verdict_by
+verdict-err true width fault e = refl
+verdict-err false width fault e = absurd (cc)
+
+pub answer-added : (own : Local) (answer : Answer) (others : Added) → verdict own answer.t4 answer ≡ Ok tt
+    → with_answer own answer others ≡ answer ∷ others
+unfolding verdict_by
+answer-added own answer others e =
+    ap (λ (b : Bool). if b then others else answer ∷ others)
+    (verdict-ok (int_lt (scaled_width own answer answer.t4) (pos 0)) (scaled_width own answer answer.t4) e)
+
+pub answer-left : (own : Local) (answer : Answer) (others : Added) (fault : AgreeFault)
+    → verdict own answer.t4 answer ≡ Err fault → with_answer own answer others ≡ others
+unfolding verdict_by
+answer-left own answer others fault e =
+    ap (λ (b : Bool). if b then others else answer ∷ others)
+    (verdict-err (int_lt (scaled_width own answer answer.t4) (pos 0)) (scaled_width own answer answer.t4) fault e)
+
+-- a call that answers that it is impossible
+pub impossible-left : (own : Local) (answer : Answer) (others : Added) (fault : AgreeFault) (width : ℤ)
+    → fault ≡ Impossible width → (verdict own answer.t4 answer ≡ Err fault) ⊎ (fault ≡ Memory)
+    → with_answer own answer others ≡ others
+impossible-left own answer others fault width is (inl e) = answer-left own answer others fault e
+impossible-left own answer others fault width is (inr memory) =
+    let none : Impossible width ≡ Memory = sym is ∙ memory in
+    absurd (cc)
+
+-- ---- a question
+-- what was added is the text of what the answers say
+pub tells : (own : Local) (number reading : ℕ) (added : Added) (agreed : Agreed) (old new : List ℕ)
+    → AgreesAt own reading added agreed → new ≡ old ++ agreed_text own number reading agreed
+    → Answers {T = Unit {0}} {Cause = Cause} (Ok (at_text own number reading added)) old new (Ok tt)
+tells own number reading added agreed old new says e = record {
+  cases = (at_text own number reading added, refl, e ∙ ap (λ text. old ++ text) (sym (shown own number reading added agreed says)));
+}
+
+-- ---- the reader
+-- equal values that are there are equal
+same_Some : {A : Type 0} (x y : A) → Some x ≡ Some y → x ≡ y
+same_Some x y e = cc
+
+-- it stands for the header
+pub stands-header : (reader : Agreeing) (agree : Kept) (number : ℕ) (text : List ℕ) → reader.agree ≡ None
+    → (local_of text ≡ Ok agree.local) × StandsFor agree [] × (agree.floor ≡ 0)
+    → ((other : List (List ℕ)) → Stands reader other → number ≡ length other + 1)
+    → (before : List (List ℕ)) → Stands reader before
+    → Stands (record reader { agree = Some agree; last = number }) (before ++ text ∷ [])
+stands-header reader agree number text none opened counts [] stands = (
+  counts [] stands,
+  (agree, refl, opened.0, record { stands = opened.1; last = stands.2; floor = omega (arith, opened.2) }),
+)
+stands-header reader agree number text none opened counts (first ∷ texts) stands =
+    let known = stands.1 in
+    let there : Some known.0 ≡ None = sym known.1 ∙ none in
+    absurd (cc)
+
+-- and for one line more
+pub stands-line : (reader : Agreeing) (old new : Kept) (number reading : ℕ) (text : List ℕ) → reader.agree ≡ Some old
+    → new.local ≡ old.local
+    → ((older : List Numbered) → Keeps old older reader.last reader.reading
+    → Keeps new (with_line number older (line_of text)) number reading)
+    → ((other : List (List ℕ)) → Stands reader other → number ≡ length other + 1)
+    → (before : List (List ℕ)) → Stands reader before
+    → Stands (record reader { agree = Some new; last = number; reading = reading }) (before ++ text ∷ [])
+stands-line reader old new number reading text there own goes counts [] stands =
+    let none : None ≡ Some old = sym stands.1 ∙ there in
+    absurd (cc)
+stands-line reader old new number reading text there own goes counts (first ∷ texts) stands =
+    let known = stands.1 in
+    let same : known.0 ≡ old = same_Some known.0 old (sym known.1 ∙ there) in
+    let count : number ≡ length (first ∷ texts) + 1 = counts (first ∷ texts) stands in
+    let kept : Keeps old (lines_in texts) reader.last reader.reading =
+    subst (λ (k : Kept). Keeps k (lines_in texts) reader.last reader.reading) same known.3 in
+    let lines : with_line number (lines_in texts) (line_of text) ≡ lines_in (texts ++ text ∷ []) =
+    ap (λ (n : ℕ). with_line n (lines_in texts) (line_of text)) count ∙ sym (lines_in-push first texts text) in (
+      omega (arith, count, push-length texts text),
+      (
+        new,
+        refl,
+        known.2 ∙ ap (λ (k : Kept). Ok k.local) same ∙ ap Ok (sym own),
+        subst (λ (ls : List Numbered). Keeps new ls number reading) lines (goes (lines_in texts) kept),
+      ),
+    )
+
+-- the number of the next text
+pub next-number : (reader : Agreeing) (number : ℕ) (before other : List (List ℕ)) → Stands reader before
+    → number ≡ length before + 1 → Stands reader other → number ≡ length other + 1
+next-number reader number before other stands is stood =
+    omega (arith, last reader before stands, is, last reader other stood)
+  where
+    last : (r : Agreeing) (texts : List (List ℕ)) → Stands r texts → r.last ≡ length texts
+    last r [] s = s.0
+    last r (first ∷ texts) s = s.0
+
+-- there are lines that the reader's agreement keeps
+pub some_lines : (reader : Agreeing) (agree : Kept) (before : List (List ℕ)) → reader.agree ≡ Some agree
+    → Stands reader before → (older : List Numbered) × Keeps agree older reader.last reader.reading
+some_lines reader agree [] there stands = let none : None ≡ Some agree = sym stands.1 ∙ there in absurd (cc)
+some_lines reader agree (first ∷ texts) there stands =
+    let known = stands.1 in (
+      lines_in texts,
+      subst (λ (k : Kept). Keeps k (lines_in texts) reader.last reader.reading)
+          (same_Some known.0 agree (sym known.1 ∙ there)) known.3,
+    )

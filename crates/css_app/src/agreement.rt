@@ -1,0 +1,66 @@
+ghost use Rattle.std.specs.Prelude.{◌≡◌, List, ℕ, Some};
+ghost use Rattle.css_agree.specs.Promise.{Promised};
+ghost use Rattle.css_app.specs.Ended.{Agrees, AreAllRead, CountsReads, CountsWrites, HasNotFailed, IsDoneUnlessMemory};
+ghost use Rattle.css_app.specs.Ended.{IsNoUsage, agree_status_of};
+
+use crate::status::Status;
+use css_agree::{Agreeing, Cause};
+use css_lines::{Refusal, Stop, drive};
+use css_outside::{Sink, Source};
+use css_schedule::LineWhy;
+use std::alloc::Global;
+
+// The status of a run over answers that stopped.
+fn status_of(stop: Stop<Cause>) -> Status
+    ensures { result ≡ agree_status_of stop }
+{
+    match stop {
+        Stop::BadLine {
+            line,
+            why: Refusal::Long,
+        } => Status::BadLine {
+            line,
+            why: LineWhy::Long,
+        },
+        Stop::BadLine {
+            line,
+            why: Refusal::Refused(Cause::Form),
+        } => Status::BadLine {
+            line,
+            why: LineWhy::Form,
+        },
+        Stop::BadLine {
+            line,
+            why: Refusal::Refused(Cause::Broken { earlier, excess }),
+        } => Status::Broken {
+            line,
+            earlier,
+            excess,
+        },
+        Stop::ReadFault => Status::ReadFault,
+        Stop::WriteFault => Status::WriteFault,
+        Stop::Memory => Status::Memory,
+    }
+}
+
+/// Reads answers from the source, line by line, and writes what they say together where a line asks for it.
+pub(crate) fn agree<S: Source, K: Sink>(alloc: Global, source: &mut S, sink: &mut K) -> Status
+    ensures no_usage { IsNoUsage result }
+    ensures agrees { (bytes : List ℕ) → S.left source.old ≡ Some bytes
+        → Agrees bytes (S.left source.new) (K.holds sink.old) (K.holds sink.new) result }
+    ensures complete { (bytes : List ℕ) → S.left source.old ≡ Some bytes → AreAllRead bytes
+        → HasNotFailed (S.faults source.old) (S.faults source.new) → HasNotFailed (K.faults sink.old) (K.faults sink.new)
+        → IsDoneUnlessMemory result }
+    ensures promise { Promised (S.left source.old) (S.left source.new) (K.holds sink.old) (K.holds sink.new) }
+    ensures counted_reads { CountsReads (S.faults source.old) (S.faults source.new) result }
+    ensures counted_writes { CountsWrites (K.faults sink.old) (K.faults sink.new) result }
+{
+    let mut reader = Agreeing::new(alloc);
+    let ended = drive(alloc, source, sink, &mut reader);
+    // What the lines left isn't needed for the status.
+    drop(reader);
+    match ended {
+        Ok(()) => Status::Done,
+        Err(stop) => status_of(stop),
+    }
+}
