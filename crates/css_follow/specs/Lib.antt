@@ -1,0 +1,11 @@
+pub mod Following
+pub mod Words
+pub mod SheetLines
+pub mod Sheets
+pub mod Marks
+pub mod Announcing
+pub mod Widths
+pub mod Measuring
+pub mod Reading
+pub mod Standing
+pub mod FaultWords

@@ -1,0 +1,37 @@
+ghost use Rattle.std.specs.Prelude.{◌≡◌, ◌++◌, List, ℕ, Bool, not, IfOk, OnOk, OnErr};
+ghost use Rattle.css_companion.specs.declared.report.Report.{Report};
+ghost use Rattle.css_follow.specs.Following.{Seen, RestsWhenDone, told};
+
+use crate::sheet::Sheet;
+use css_companion::Report;
+use css_num::{Memory, Text};
+
+/// One who hears the reports of a companion, and says something of each until it is done.
+pub trait Follower: Drop {
+    /// Which reports it heard, what it said of each, and whether it is done.
+    ghost seen: { Self → Seen };
+
+    /// What it would say of a report now.
+    ghost says: { Self → Report → List ℕ };
+
+    /// Whether it would be done after a report that it hears now.
+    ghost ends: { Self → Report → Bool };
+
+    /// Takes a cue sheet, which says what to follow. Whatever it answers, it has heard and said what it had before, and
+    /// is done where it was.
+    fn prepare(&mut self, sheet: &Sheet) -> Result<(), Memory>
+        ensures { seen self.new ≡ seen self.old };
+
+    /// Hears a report, and adds to `out` what it says of it. It answers whether it goes on: false where it is done now.
+    ///
+    /// One that was done already stays as it is and says nothing. After want of memory `out` is as before, and it has
+    /// heard and said what it had before.
+    fn told(&mut self, report: &Report, out: &mut Text) -> Result<bool, Memory>
+        ensures heard { OnOk result (seen self.new ≡
+            told report.now (says self.old report.now) (ends self.old report.now) (seen self.old)) }
+        ensures said { OnOk result (out.new ≡ out.old ++ says self.old report.now) }
+        ensures rests { RestsWhenDone (seen self.old) (says self.old report.now) (ends self.old report.now) }
+        ensures goes_on { IfOk result (λ goes_on. goes_on ≡ not (seen self.new).done) }
+        ensures err { OnErr result (seen self.new ≡ seen self.old) }
+        ensures out_err { OnErr result (out.new ≡ out.old) };
+}

@@ -1,0 +1,30 @@
+//! Followers of a companion's reports, and the cue sheet that tells them what to follow.
+//!
+//! A follower hears report after report, and says bytes of each, until it is done. `Cues` says when the cues of its
+//! sheet are possible and when they are passed; `Meter` says how wide the first intervals are.
+#![tactic(auto)]
+
+mod cues;
+mod fault;
+mod follower;
+mod followers;
+mod line;
+mod mark;
+mod meter;
+mod notes;
+mod reading;
+mod sheet;
+mod waiting;
+mod words;
+
+pub use cues::Cues;
+pub use fault::SheetFault;
+pub use follower::Follower;
+pub use followers::Followers;
+pub use line::Form;
+pub use meter::Meter;
+pub use reading::{SheetLines, read_sheet};
+pub use sheet::{Cue, CueList, Sheet};
+
+#[cfg(test)]
+mod tests;
