@@ -1,1 +1,4 @@
-
+pub mod Cut
+pub mod Passes
+pub mod Each
+pub mod Marks

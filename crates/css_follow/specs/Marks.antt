@@ -1,5 +1,5 @@
 -- How near the reports of a companion have come to a cue. Lists of reports have the newest first.
-use Rattle.std.specs.Prelude.{ℕ, ℤ, ◌&&◌, ◌||◌, Bool, false, true, not, int_le, int_lt, if◌then◌else◌, List, [], ◌∷◌, ◌++◌}
+use Rattle.std.specs.Prelude.{ℕ, ℤ, ◌&&◌, Bool, false, int_le, int_lt, if◌then◌else◌, List, [], ◌∷◌, ◌++◌}
 use Rattle.std.specs.Prelude.{codes}
 use Rattle.std.specs.List.{list_any, list_all, flat_map}
 use Rattle.css_companion.specs.declared.report.Report.{Report}

@@ -1,5 +1,5 @@
 -- How the code of the two followers stands for what they heard and said. The notes of a follower have the oldest first.
-use Rattle.std.specs.Prelude.{◌≡◌, ℕ, ℤ, Bool, true, false, int_le, if◌then◌else◌, List, [], ◌∷◌, ◌++◌, map, reverse, codes}
+use Rattle.std.specs.Prelude.{◌≡◌, ℕ, ℤ, Bool, true, false, int_le, if◌then◌else◌, List, [], ◌∷◌, map, reverse, codes}
 use Rattle.std.specs.List.{count_by}
 use Rattle.css_companion.specs.declared.report.Report.{Report}
 use Rattle.css_companion.specs.declared.report.Report.TheVariants as report

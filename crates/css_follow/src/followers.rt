@@ -8,11 +8,7 @@ use css_companion::Report;
 use css_num::{Memory, Text};
 
 // Tells one of them.
-fn tell_one(
-    follower: &mut Box<dyn Follower>,
-    report: &Report,
-    out: &mut Text,
-) -> Result<(), Memory>
+fn tell_one(follower: &mut Box<dyn Follower>, report: &Report, out: &mut Text) -> Result<(), Memory>
     ensures heard { OnOk result (seen follower.new ≡
         told report.now (says follower.old report.now) (ends follower.old report.now) (seen follower.old)) }
     ensures said { OnOk result (out.new ≡ out.old ++ says follower.old report.now) }
@@ -25,11 +21,7 @@ fn tell_one(
 }
 
 // Tells each of them.
-fn tell_each(
-    list: &mut [Box<dyn Follower>],
-    report: &Report,
-    out: &mut Text,
-) -> Result<(), Memory>
+fn tell_each(list: &mut [Box<dyn Follower>], report: &Report, out: &mut Text) -> Result<(), Memory>
     ensures said { OnOk result (out.new ≡ out.old ++ flat_map (λ f. says f report.now) list.old) }
     ensures heard { OnOk result (map (λ f. seen f) list.new ≡
         map (λ f. told report.now (says f report.now) (ends f report.now) (seen f)) list.old) }
@@ -44,12 +36,19 @@ fn tell_each(
     Ok(())
 }
 
+// Hands a sheet to one of them.
+fn prepare_one(follower: &mut Box<dyn Follower>, sheet: &Sheet) -> Result<(), Memory>
+    ensures { seen follower.new ≡ seen follower.old }
+{
+    follower.prepare(sheet)
+}
+
 // Hands a sheet to each of them.
 fn prepare_each(list: &mut [Box<dyn Follower>], sheet: &Sheet) -> Result<(), Memory>
     ensures { map (λ f. seen f) list.new ≡ map (λ f. seen f) list.old }
 {
     for follower in list.iter_mut() {
-        follower.prepare(sheet)?;
+        prepare_one(follower, sheet)?;
     }
     Ok(())
 }

@@ -40,12 +40,7 @@ fn left_after(left: u32, report: &Report) -> u32
 }
 
 // Adds the difference of two numbers in decimal, which may be beyond an `i128`.
-fn push_difference(
-    alloc: Global,
-    out: &mut Text,
-    high: i128,
-    low: i128,
-) -> Result<(), Memory>
+fn push_difference(alloc: Global, out: &mut Text, high: i128, low: i128) -> Result<(), Memory>
     ensures { OnOk result (out.new ≡ out.old ++ signed_decimal (high -ℤ low)) }
 {
     let size = high.abs_diff(low);

@@ -57,6 +57,7 @@ impl SheetLines {
     ghost use Rattle.css_follow.specs.Reading.{Stands};
 
     /// No line was read yet.
+    #[tactic(auto, unfolding(crate::specs::Sheets::sheet_of))]
     pub fn new(alloc: Global) -> SheetLines
         ensures { Stands result [] }
     {

@@ -38,11 +38,7 @@ fn push_waiting(list: &mut Vec<Waiting>, cue: &Cue, mark: Mark) -> Result<(), Me
 }
 
 /// The cues of a sheet, with how near the reports of these notes came to them.
-pub fn waiting_for(
-    alloc: Global,
-    cues: &CueList,
-    notes: &[Note],
-) -> Result<Vec<Waiting>, Memory>
+pub fn waiting_for(alloc: Global, cues: &CueList, notes: &[Note]) -> Result<Vec<Waiting>, Memory>
     ensures { IfOk result (λ list. list.items ≡ map (standing.waiting_after notes.now) cues.now) }
 {
     let mut list = Vec::new(alloc);
@@ -74,11 +70,7 @@ fn push_news(out: &mut Text, waiting: &Waiting, mark: Mark) -> Result<(), Memory
 }
 
 /// What is said of the cues at a report, in their order.
-pub fn announcement(
-    alloc: Global,
-    list: &[Waiting],
-    report: &Report,
-) -> Result<Text, Memory>
+pub fn announcement(alloc: Global, list: &[Waiting], report: &Report) -> Result<Text, Memory>
     ensures { IfOk result (λ text. text ≡ flat_map (standing.news_at report.now) list.now) }
 {
     let mut out = Text::new(alloc);
@@ -88,12 +80,19 @@ pub fn announcement(
     Ok(out)
 }
 
-/// Marks the cues by one more report.
+// Marks a cue by one more report.
+fn mark(waiting: &mut Waiting, report: &Report)
+    ensures { waiting.new ≡ standing.marked_by report.now waiting.old }
+{
+    waiting.mark = waiting.mark.later(Mark::at(waiting.cue.tick, report));
+}
+
+/// Marks each cue by one more report.
 pub fn mark_each(list: &mut [Waiting], report: &Report)
     ensures { list.new ≡ map (standing.marked_by report.now) list.old }
 {
     for waiting in list.iter_mut() {
-        waiting.mark = waiting.mark.later(Mark::at(waiting.cue.tick, report));
+        mark(waiting, report);
     }
 }
 

@@ -1,0 +1,170 @@
+-- The marks of cues, and what they mean over the reports that were heard.
+use Rattle.std.proofs.Common.{◌≡◌, ℕ, List, [], ◌∷◌, ◌++◌, Bool, true, false, ap, refl, sym, ◌∙◌, map, flat_map, reverse}
+use Rattle.std.proofs.Common.{ℤ, arith, ints}
+use Rattle.std.specs.Prelude.{◌||◌, ◌&&◌, int_le, int_lt, if◌then◌else◌, not}
+use Rattle.std.specs.List.{list_any, list_all}
+use Rattle.std.proofs.lemmas.List.{map-append, reverse-append}
+use Rattle.std.proofs.lemmas.List.Folds.{list_any-append}
+use Rattle.css_companion.specs.declared.report.Report.{Report}
+use Rattle.css_companion.specs.declared.report.Report.TheVariants as report
+use Rattle.css_follow.specs.declared.mark.Mark.{Mark}
+use Rattle.css_follow.specs.declared.mark.Mark.TheVariants.{Ahead, Possible, Passed}
+use Rattle.css_follow.specs.declared.notes.Note.{Note}
+use Rattle.css_follow.specs.declared.sheet.Cue.{Cue}
+use Rattle.css_follow.specs.declared.waiting.Waiting.{Waiting}
+use Rattle.css_follow.specs.Marks.{is_passed, is_possible, was_passed, was_possible, announced, all_announced, are_passed}
+use Rattle.css_follow.specs.Standing.{heard_in, spoken_in, mark_at, later, mark_from, mark_after, cues_in}
+use Rattle.css_follow.specs.Standing.{waiting_after, AreMarked, marked_by, news, news_at, is_mark_passed, is_done}
+
+-- ---- notes, and what was heard
+-- one more note is the newest
+pub heard-more : (notes : List Note) (note : Note) → heard_in (notes ++ note ∷ []) ≡ note.report ∷ heard_in notes
+heard-more notes note =
+    ap reverse (map-append (λ n. n.report) notes (note ∷ []))
+    ∙ reverse-append (map (λ n. n.report) notes) (note.report ∷ [])
+
+pub spoken-more : (notes : List Note) (note : Note) → spoken_in (notes ++ note ∷ []) ≡ note.text ∷ spoken_in notes
+spoken-more notes note =
+    ap reverse (map-append (λ n. n.text) notes (note ∷ []))
+    ∙ reverse-append (map (λ n. n.text) notes) (note.text ∷ [])
+
+-- whether one of two does doesn't depend on which comes first
+or_comm : (a b : Bool) → (a || b) ≡ (b || a)
+or_comm true true = refl
+or_comm true false = refl
+or_comm false true = refl
+or_comm false false = refl
+
+or_false : (a : Bool) → (a || false) ≡ a
+or_false true = refl
+or_false false = refl
+
+-- nor does whether one of a list does
+any-reverse : {A : Type 0} (test : A → Bool) (xs : List A) → list_any test (reverse xs) ≡ list_any test xs
+any-reverse test [] = refl
+any-reverse test (x ∷ xs) =
+    ap (list_any test) (reverse-append (x ∷ []) xs) ∙ list_any-append test (reverse xs) (x ∷ [])
+    ∙ ap (λ b. list_any test (reverse xs) || b) (or_false (test x)) ∙ or_comm (list_any test (reverse xs)) (test x)
+    ∙ ap (λ b. test x || b) (any-reverse test xs)
+
+-- ---- one report
+-- the mark by whether a tick is passed and whether it is possible
+abbrev pub mark_by : Bool → Bool → Mark
+mark_by true possible = Passed
+mark_by false true = Possible
+mark_by false false = Ahead
+
+-- a tick that isn't passed is above the lower end
+above : (tick lo : ℤ) → int_le tick lo ≡ false → int_lt lo tick ≡ true
+above tick lo h = grind (arith, ints)
+
+interval-mark : (tick lo hi : ℤ) (passed : Bool) → int_le tick lo ≡ passed
+    → (if passed then Passed else if int_le tick hi then Possible else Ahead)
+    ≡ mark_by passed (int_lt lo tick && int_le tick hi)
+interval-mark tick lo hi true h = refl
+interval-mark tick lo hi false h =
+    rw (above tick lo h) (elim (int_le tick hi) as (λ b. (if b then Possible else Ahead) ≡ mark_by false b)
+    [ true ↦ refl | false ↦ refl ])
+
+pub mark_at-by : (tick : ℤ) (r : Report) → mark_at tick r ≡ mark_by (is_passed tick r) (is_possible tick r)
+mark_at-by tick (report.Ticks lo hi) = interval-mark tick lo hi (int_le tick lo) refl
+mark_at-by tick (report.None cause) = refl
+
+-- ---- several reports
+later-by : (a b c d : Bool) → later (mark_by a b) (mark_by c d) ≡ mark_by (a || c) (b || d)
+later-by true b c d = refl
+later-by false true true d = refl
+later-by false true false true = refl
+later-by false true false false = refl
+later-by false false true d = refl
+later-by false false false d = refl
+
+or_assoc : (a b c : Bool) → ((a || b) || c) ≡ (a || (b || c))
+or_assoc true b c = refl
+or_assoc false b c = refl
+
+from-by : (tick : ℤ) (a b : Bool) (notes : List Note) → mark_from (mark_by a b) tick notes
+    ≡ mark_by (a || list_any (is_passed tick) (map (λ n. n.report) notes))
+      (b || list_any (is_possible tick) (map (λ n. n.report) notes))
+from-by tick a b [] = ap (λ x. mark_by x b) (sym (or_false a)) ∙ ap (λ x. mark_by (a || false) x) (sym (or_false b))
+from-by tick a b (n ∷ notes) =
+    let p = is_passed tick n.report in
+    let q = is_possible tick n.report in
+    ap (λ m. mark_from (later (mark_by a b) m) tick notes) (mark_at-by tick n.report)
+    ∙ ap (λ m. mark_from m tick notes) (later-by a b p q) ∙ from-by tick (a || p) (b || q) notes
+    ∙ ap (λ x. mark_by x ((b || q) || list_any (is_possible tick) (map (λ n. n.report) notes)))
+      (or_assoc a p (list_any (is_passed tick) (map (λ n. n.report) notes)))
+    ∙ ap (λ x. mark_by (a || (p || list_any (is_passed tick) (map (λ n. n.report) notes))) x)
+      (or_assoc b q (list_any (is_possible tick) (map (λ n. n.report) notes)))
+
+-- the mark of notes, by what was heard
+pub after-by : (tick : ℤ) (notes : List Note)
+    → mark_after tick notes ≡ mark_by (was_passed tick (heard_in notes)) (was_possible tick (heard_in notes))
+after-by tick notes =
+    from-by tick false false notes
+    ∙ ap (λ x. mark_by x (list_any (is_possible tick) (map (λ n. n.report) notes)))
+      (sym (any-reverse (is_passed tick) (map (λ n. n.report) notes)))
+    ∙ ap (λ x. mark_by (was_passed tick (heard_in notes)) x)
+      (sym (any-reverse (is_possible tick) (map (λ n. n.report) notes)))
+
+-- one more note
+pub mark-more : (mark : Mark) (tick : ℤ) (notes : List Note) (note : Note)
+    → mark_from mark tick (notes ++ note ∷ []) ≡ later (mark_from mark tick notes) (mark_at tick note.report)
+mark-more mark tick [] note = refl
+mark-more mark tick (n ∷ notes) note = mark-more (later mark (mark_at tick n.report)) tick notes note
+
+-- ---- what is said of a cue
+news-by : (a b c d : Bool) (cue : Cue) (passed possible : List ℕ)
+    → (n : Mark → Mark → List ℕ) → ((m : Mark) → n Passed m ≡ []) → n Ahead Passed ≡ passed → n Possible Passed ≡ passed
+    → n Ahead Possible ≡ possible → n Possible Possible ≡ [] → n Possible Ahead ≡ [] → n Ahead Ahead ≡ []
+    → n (mark_by a b) (mark_by c d) ≡ (if a then [] else if c then passed else if b then [] else if d then possible else [])
+news-by true b c d cue p q n e1 e2 e3 e4 e5 e6 e7 = e1 (mark_by c d)
+news-by false true true d cue p q n e1 e2 e3 e4 e5 e6 e7 = e3
+news-by false false true d cue p q n e1 e2 e3 e4 e5 e6 e7 = e2
+news-by false true false true cue p q n e1 e2 e3 e4 e5 e6 e7 = e5
+news-by false true false false cue p q n e1 e2 e3 e4 e5 e6 e7 = e6
+news-by false false false true cue p q n e1 e2 e3 e4 e5 e6 e7 = e4
+news-by false false false false cue p q n e1 e2 e3 e4 e5 e6 e7 = e7
+
+pub news-announced : (notes : List Note) (r : Report) (cue : Cue)
+    → news_at r (waiting_after notes cue) ≡ announced (heard_in notes) r cue
+news-announced notes r cue =
+    ap (λ m. news m (mark_at cue.tick r) cue) (after-by cue.tick notes)
+    ∙ ap (λ m. news (mark_by (was_passed cue.tick (heard_in notes)) (was_possible cue.tick (heard_in notes))) m cue)
+      (mark_at-by cue.tick r)
+    ∙ news-by (was_passed cue.tick (heard_in notes)) (was_possible cue.tick (heard_in notes)) (is_passed cue.tick r)
+      (is_possible cue.tick r) cue _ _ (λ a b. news a b cue) (λ m. refl) refl refl refl refl refl refl
+
+-- ---- all cues
+pub all-announced : (notes : List Note) (r : Report) (cues : List Cue)
+    → flat_map (news_at r) (map (waiting_after notes) cues) ≡ all_announced cues (heard_in notes) r
+all-announced notes r [] = refl
+all-announced notes r (cue ∷ cues) =
+    ap (λ l. l ++ flat_map (news_at r) (map (waiting_after notes) cues)) (news-announced notes r cue)
+    ∙ ap (λ l. announced (heard_in notes) r cue ++ l) (all-announced notes r cues)
+
+pub cues-after : (notes : List Note) (cues : List Cue) → cues_in (map (waiting_after notes) cues) ≡ cues
+cues-after notes [] = refl
+cues-after notes (cue ∷ cues) = ap (λ l. cue ∷ l) (cues-after notes cues)
+
+pub marked-more : (notes : List Note) (note : Note) (cues : List Cue)
+    → map (marked_by note.report) (map (waiting_after notes) cues) ≡ map (waiting_after (notes ++ note ∷ [])) cues
+marked-more notes note [] = refl
+marked-more notes note (cue ∷ cues) =
+    ap (λ m. record { cue = cue; mark = m } ∷ map (marked_by note.report) (map (waiting_after notes) cues))
+      (sym (mark-more Ahead cue.tick notes note))
+    ∙ ap (λ l. waiting_after (notes ++ note ∷ []) cue ∷ l) (marked-more notes note cues)
+
+passed-by : (a b : Bool) → is_mark_passed (mark_by a b) ≡ a
+passed-by true b = refl
+passed-by false true = refl
+passed-by false false = refl
+
+pub all-passed : (notes : List Note) (cues : List Cue)
+    → list_all is_done (map (waiting_after notes) cues) ≡ are_passed cues (heard_in notes)
+all-passed notes [] = refl
+all-passed notes (cue ∷ cues) =
+    ap (λ m. is_mark_passed m && list_all is_done (map (waiting_after notes) cues)) (after-by cue.tick notes)
+    ∙ ap (λ b. b && list_all is_done (map (waiting_after notes) cues))
+      (passed-by (was_passed cue.tick (heard_in notes)) (was_possible cue.tick (heard_in notes)))
+    ∙ ap (λ b. was_passed cue.tick (heard_in notes) && b) (all-passed notes cues)

@@ -1,0 +1,8 @@
+-- each is seen as before
+use Rattle.std.proofs.Common.{◌≡◌, map}
+use Rattle.css_follow.proofs.followers.prepare_each.Given as goal
+
+abbrev pub invariant-loop-follower : goal.invariant-loop-follower
+invariant-loop-follower g l =
+    map (λ f. (goal.Follower-dyn g (f.vtable, f.value)).seen f.value) l.list
+    ≡ map (λ f. (goal.Follower-dyn g (f.vtable, f.value)).seen f.value) l.initial.list
