@@ -27,9 +27,13 @@ pub hear_more : (report : Report) (befores nows : List Seen) (said : List ℕ) (
     → HearEach report befores nows said → Hears report before now first
     → HearEach report (befores ++ before ∷ []) (nows ++ now ∷ []) (said ++ first)
 hear_more report [] [] said before now first e h = (first, [], ap (λ l. l ++ first) e ∙ sym (append-nil first), h, refl)
-hear_more report (b ∷ bs) (n ∷ ns) said before now first h k =
-    (h.0, h.1 ++ first, ap (λ l. l ++ first) h.2 ∙ append_assoc h.0 h.1 first, h.3,
-      hear_more report bs ns h.1 before now first h.4 k)
+hear_more report (b ∷ bs) (n ∷ ns) said before now first h k = (
+  h.0,
+  h.1 ++ first,
+  ap (λ l. l ++ first) h.2 ∙ append_assoc h.0 h.1 first,
+  h.3,
+  hear_more report bs ns h.1 before now first h.4 k,
+)
 hear_more report [] (n ∷ ns) said before now first h k = absurd h
 hear_more report (b ∷ bs) [] said before now first h k = absurd h
 
@@ -54,18 +58,18 @@ module _ {A : Type 0} (report : Report) (seen : A → Seen) (says : A → List �
 
   each_more : Hears report (seen (get_or now i d)) (seen y) (says (get_or now i d))
       → HearEach report (map seen (take (i + 1) was)) (map seen (take (i + 1) (set now i y)))
-        (flat_map says (take (i + 1) was))
+      (flat_map says (take (i + 1) was))
   each_more k =
       let under = below seen after was now i d y lt h.passes in
       let alike = same seen after was now i d y lt h.passes in
       let more = hear_more report (map seen (take i was)) (map seen (take i now)) (flat_map says (take i was))
-          (seen (get_or now i d)) (seen y) (says (get_or now i d)) h.each k in
+      (seen (get_or now i d)) (seen y) (says (get_or now i d)) h.each k in
       let befores : map seen (take i was) ++ seen (get_or now i d) ∷ [] ≡ map seen (take (i + 1) was)
-          = ap (λ x. map seen (take i was) ++ seen x ∷ []) (sym alike) ∙ sym (map_more seen was i d under) in
+      = ap (λ x. map seen (take i was) ++ seen x ∷ []) (sym alike) ∙ sym (map_more seen was i d under) in
       let nows : map seen (take i now) ++ seen y ∷ [] ≡ map seen (take (i + 1) (set now i y))
-          = sym (ap (map seen) (take_more_set now i y lt) ∙ map-append seen (take i now) (y ∷ [])) in
+      = sym (ap (map seen) (take_more_set now i y lt) ∙ map-append seen (take i now) (y ∷ [])) in
       let saids : flat_map says (take i was) ++ says (get_or now i d) ≡ flat_map says (take (i + 1) was)
-          = ap (λ x. flat_map says (take i was) ++ says x) (sym alike) ∙ sym (said_more says was i d under) in
+      = ap (λ x. flat_map says (take i was) ++ says x) (sym alike) ∙ sym (said_more says was i d under) in
       rw (← befores, ← nows, ← saids) more
 
   pub heard_more : (next : List ℕ) → seen y ≡ told report (says (get_or now i d)) (ends (get_or now i d)) (seen (get_or now i d))

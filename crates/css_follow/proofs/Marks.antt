@@ -1,6 +1,7 @@
 -- The marks of cues, and what they mean over the reports that were heard.
 use Rattle.std.proofs.Common.{◌≡◌, ℕ, List, [], ◌∷◌, ◌++◌, Bool, true, false, ap, refl, sym, ◌∙◌, map, flat_map, reverse}
-use Rattle.std.proofs.Common.{ℤ, arith, ints}
+use Rattle.std.proofs.Common.{ℤ, arith}
+use Rattle.std.proofs.lemmas.Int.{ints}
 use Rattle.std.specs.Prelude.{◌||◌, ◌&&◌, int_le, int_lt, if◌then◌else◌, not}
 use Rattle.std.specs.List.{list_any, list_all}
 use Rattle.std.proofs.lemmas.List.{map-append, reverse-append}
@@ -12,8 +13,10 @@ use Rattle.css_follow.specs.declared.mark.Mark.TheVariants.{Ahead, Possible, Pas
 use Rattle.css_follow.specs.declared.notes.Note.{Note}
 use Rattle.css_follow.specs.declared.sheet.Cue.{Cue}
 use Rattle.css_follow.specs.declared.waiting.Waiting.{Waiting}
+use Rattle.css_follow.specs.Announcing.{Announcing, says_of, ends_of}
+use Rattle.css_follow.specs.Following.{told}
 use Rattle.css_follow.specs.Marks.{is_passed, is_possible, was_passed, was_possible, announced, all_announced, are_passed}
-use Rattle.css_follow.specs.Standing.{heard_in, spoken_in, mark_at, later, mark_from, mark_after, cues_in}
+use Rattle.css_follow.specs.Standing.{heard_in, spoken_in, seen_by, mark_at, later, mark_from, mark_after, cues_in}
 use Rattle.css_follow.specs.Standing.{waiting_after, AreMarked, marked_by, news, news_at, is_mark_passed, is_done}
 
 -- ---- notes, and what was heard
@@ -85,7 +88,7 @@ or_assoc false b c = refl
 
 from-by : (tick : ℤ) (a b : Bool) (notes : List Note) → mark_from (mark_by a b) tick notes
     ≡ mark_by (a || list_any (is_passed tick) (map (λ n. n.report) notes))
-      (b || list_any (is_possible tick) (map (λ n. n.report) notes))
+    (b || list_any (is_possible tick) (map (λ n. n.report) notes))
 from-by tick a b [] = ap (λ x. mark_by x b) (sym (or_false a)) ∙ ap (λ x. mark_by (a || false) x) (sym (or_false b))
 from-by tick a b (n ∷ notes) =
     let p = is_passed tick n.report in
@@ -93,9 +96,9 @@ from-by tick a b (n ∷ notes) =
     ap (λ m. mark_from (later (mark_by a b) m) tick notes) (mark_at-by tick n.report)
     ∙ ap (λ m. mark_from m tick notes) (later-by a b p q) ∙ from-by tick (a || p) (b || q) notes
     ∙ ap (λ x. mark_by x ((b || q) || list_any (is_possible tick) (map (λ n. n.report) notes)))
-      (or_assoc a p (list_any (is_passed tick) (map (λ n. n.report) notes)))
+    (or_assoc a p (list_any (is_passed tick) (map (λ n. n.report) notes)))
     ∙ ap (λ x. mark_by (a || (p || list_any (is_passed tick) (map (λ n. n.report) notes))) x)
-      (or_assoc b q (list_any (is_possible tick) (map (λ n. n.report) notes)))
+    (or_assoc b q (list_any (is_possible tick) (map (λ n. n.report) notes)))
 
 -- the mark of notes, by what was heard
 pub after-by : (tick : ℤ) (notes : List Note)
@@ -103,9 +106,9 @@ pub after-by : (tick : ℤ) (notes : List Note)
 after-by tick notes =
     from-by tick false false notes
     ∙ ap (λ x. mark_by x (list_any (is_possible tick) (map (λ n. n.report) notes)))
-      (sym (any-reverse (is_passed tick) (map (λ n. n.report) notes)))
+    (sym (any-reverse (is_passed tick) (map (λ n. n.report) notes)))
     ∙ ap (λ x. mark_by (was_passed tick (heard_in notes)) x)
-      (sym (any-reverse (is_possible tick) (map (λ n. n.report) notes)))
+    (sym (any-reverse (is_possible tick) (map (λ n. n.report) notes)))
 
 -- one more note
 pub mark-more : (mark : Mark) (tick : ℤ) (notes : List Note) (note : Note)
@@ -131,9 +134,9 @@ pub news-announced : (notes : List Note) (r : Report) (cue : Cue)
 news-announced notes r cue =
     ap (λ m. news m (mark_at cue.tick r) cue) (after-by cue.tick notes)
     ∙ ap (λ m. news (mark_by (was_passed cue.tick (heard_in notes)) (was_possible cue.tick (heard_in notes))) m cue)
-      (mark_at-by cue.tick r)
+    (mark_at-by cue.tick r)
     ∙ news-by (was_passed cue.tick (heard_in notes)) (was_possible cue.tick (heard_in notes)) (is_passed cue.tick r)
-      (is_possible cue.tick r) cue _ _ (λ a b. news a b cue) (λ m. refl) refl refl refl refl refl refl
+    (is_possible cue.tick r) cue _ _ (λ a b. news a b cue) (λ m. refl) refl refl refl refl refl refl
 
 -- ---- all cues
 pub all-announced : (notes : List Note) (r : Report) (cues : List Cue)
@@ -152,7 +155,7 @@ pub marked-more : (notes : List Note) (note : Note) (cues : List Cue)
 marked-more notes note [] = refl
 marked-more notes note (cue ∷ cues) =
     ap (λ m. record { cue = cue; mark = m } ∷ map (marked_by note.report) (map (waiting_after notes) cues))
-      (sym (mark-more Ahead cue.tick notes note))
+    (sym (mark-more Ahead cue.tick notes note))
     ∙ ap (λ l. waiting_after (notes ++ note ∷ []) cue ∷ l) (marked-more notes note cues)
 
 passed-by : (a b : Bool) → is_mark_passed (mark_by a b) ≡ a
@@ -166,5 +169,59 @@ all-passed notes [] = refl
 all-passed notes (cue ∷ cues) =
     ap (λ m. is_mark_passed m && list_all is_done (map (waiting_after notes) cues)) (after-by cue.tick notes)
     ∙ ap (λ b. b && list_all is_done (map (waiting_after notes) cues))
-      (passed-by (was_passed cue.tick (heard_in notes)) (was_possible cue.tick (heard_in notes)))
+    (passed-by (was_passed cue.tick (heard_in notes)) (was_possible cue.tick (heard_in notes)))
     ∙ ap (λ b. was_passed cue.tick (heard_in notes) && b) (all-passed notes cues)
+
+-- ---- a follower of cues
+-- the cues of a list are those of the marked one
+pub cues-marked : (r : Report) (list : List Waiting) → cues_in (map (marked_by r) list) ≡ cues_in list
+cues-marked r [] = refl
+cues-marked r (w ∷ ws) = ap (λ l. w.cue ∷ l) (cues-marked r ws)
+
+-- marks that were just made
+pub marked-first : (notes : List Note) (cues : List Cue) (list : List Waiting) → list ≡ map (waiting_after notes) cues
+    → AreMarked notes list
+marked-first notes cues list e = record {
+  marks = e ∙ ap (map (waiting_after notes)) (sym (ap cues_in e ∙ cues-after notes cues));
+}
+
+module _ (notes next : List Note) (list marked : List Waiting) (r : Report) (text : List ℕ) (m : AreMarked notes list)
+    (noted : next ≡ notes ++ record { report = r; text = text } ∷ []) (went : marked ≡ map (marked_by r) list) where
+  -- each cue has the mark of one more note
+  again : marked ≡ map (waiting_after next) (cues_in list)
+  again =
+      went ∙ ap (map (marked_by r)) m.marks ∙ marked-more notes (record { report = r; text = text }) (cues_in list)
+      ∙ ap (λ n. map (waiting_after n) (cues_in list)) (sym noted)
+
+  pub marked-next : AreMarked next marked
+  marked-next = record {
+    marks = again ∙ ap (map (waiting_after next)) (sym (ap cues_in went ∙ cues-marked r list));
+  }
+
+  -- what was said is what is new of the cues
+  pub said-cues : text ≡ flat_map (news_at r) list → text ≡ all_announced (cues_in list) (heard_in notes) r
+  said-cues e = e ∙ ap (flat_map (news_at r)) m.marks ∙ all-announced notes r (cues_in list)
+
+  -- and it ends where each was passed
+  pub ends-cues : list_all is_done marked ≡ are_passed (cues_in list) (r ∷ heard_in notes)
+  ends-cues =
+      ap (list_all is_done) again ∙ all-passed next (cues_in list)
+      ∙ ap (are_passed (cues_in list)) (ap heard_in noted ∙ heard-more notes (record { report = r; text = text }))
+
+-- what a follower says that isn't done
+pub says-cues : (self : Announcing) (notes : List Note) (list : List Waiting) (done : Bool) (r : Report) (text : List ℕ)
+    → self ≡ record { cues = cues_in list; seen = seen_by notes done } → done ≡ false
+    → text ≡ all_announced (cues_in list) (heard_in notes) r → text ≡ says_of self r
+says-cues self notes list done r text e f said = rw (e, f) said
+
+-- what it heard, where it isn't done
+pub heard-cues : (self : Announcing) (notes next : List Note) (list : List Waiting) (done ends : Bool) (r : Report)
+    (text : List ℕ) → self ≡ record { cues = cues_in list; seen = seen_by notes done } → done ≡ false
+    → next ≡ notes ++ record { report = r; text = text } ∷ []
+    → text ≡ all_announced (cues_in list) (heard_in notes) r → ends ≡ are_passed (cues_in list) (r ∷ heard_in notes)
+    → seen_by next ends ≡ told r (says_of self r) (ends_of self r) self.seen
+heard-cues self notes next list done ends r text e f noted said ended =
+    let heard = ap heard_in noted ∙ heard-more notes (record { report = r; text = text }) in
+    let spoken = ap spoken_in noted ∙ spoken-more notes (record { report = r; text = text })
+    ∙ ap (λ t. t ∷ spoken_in notes) said in
+    rw (e, f, heard, spoken, ended) refl

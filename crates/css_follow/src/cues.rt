@@ -3,7 +3,7 @@ ghost use Rattle.std.specs.Prelude.{◌≡◌, [], false};
 use crate::follower::Follower;
 use crate::notes::{Note, take_note};
 use crate::sheet::Sheet;
-use crate::waiting::{Waiting, all_passed, announcement, mark_each, waiting_for};
+use crate::waiting::{Waiting, all_passed, announcement, mark_all, waiting_for};
 use css_companion::Report;
 use css_num::{Memory, Text};
 use std::alloc::Global;
@@ -74,7 +74,7 @@ impl Follower for Cues {
         }
         let text = announcement(self.alloc, &self.list, report)?;
         take_note(&mut self.notes, out, *report, text)?;
-        mark_each(&mut self.list, report);
+        mark_all(&mut self.list, report);
         self.done = all_passed(&self.list);
         Ok(!self.done)
     }

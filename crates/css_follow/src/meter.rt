@@ -1,4 +1,4 @@
-ghost use Rattle.std.specs.Prelude.{◌≡◌, ◌++◌, ◌-◌, ◌-ℤ◌, [], false, if◌then◌else◌, IfOk, OnOk};
+ghost use Rattle.std.specs.Prelude.{◌≡◌, ◌++◌, ◌-◌, ◌-ℤ◌, [], false, if◌then◌else◌, nat_lt, IfOk, OnOk};
 ghost use Rattle.std.specs.Fmt.{signed_decimal};
 ghost use Rattle.css_follow.specs.Standing.{intervals_in};
 ghost use Rattle.css_follow.specs.Widths.{width_line, is_interval};
@@ -62,6 +62,16 @@ fn width(alloc: Global, report: &Report) -> Result<Text, Memory>
         out.push(b"\n")?;
     }
     Ok(out)
+}
+
+// What is said of a report, where so many intervals are still to be measured.
+fn measurement(alloc: Global, left: u32, report: &Report) -> Result<Text, Memory>
+    ensures { IfOk result (λ text. text ≡ (if nat_lt 0 left then width_line report.now else [])) }
+{
+    if left == 0 {
+        return Ok(Text::new(alloc));
+    }
+    width(alloc, report)
 }
 
 /// Says how wide the first intervals are. It is done when it has measured as many as its sheet asks for.
@@ -129,11 +139,7 @@ impl Follower for Meter {
         if self.done {
             return Ok(false);
         }
-        let text = if self.left > 0 {
-            width(self.alloc, report)?
-        } else {
-            Text::new(self.alloc)
-        };
+        let text = measurement(self.alloc, self.left, report)?;
         take_note(&mut self.notes, out, *report, text)?;
         self.left = left_after(self.left, report);
         self.done = self.left == 0;

@@ -87,13 +87,20 @@ fn mark(waiting: &mut Waiting, report: &Report)
     waiting.mark = waiting.mark.later(Mark::at(waiting.cue.tick, report));
 }
 
-/// Marks each cue by one more report.
-pub fn mark_each(list: &mut [Waiting], report: &Report)
+// Marks each cue by one more report.
+fn mark_each(list: &mut [Waiting], report: &Report)
     ensures { list.new ≡ map (standing.marked_by report.now) list.old }
 {
     for waiting in list.iter_mut() {
         mark(waiting, report);
     }
+}
+
+/// Marks all cues by one more report.
+pub fn mark_all(list: &mut Vec<Waiting>, report: &Report)
+    ensures { list.new.items ≡ map (standing.marked_by report.now) list.old.items }
+{
+    mark_each(list, report);
 }
 
 /// Whether each cue was passed.

@@ -12,5 +12,5 @@ pub returns-in_err-tell_one-clause-err : goal.returns-in_err-tell_one-clause-err
 returns-in_err-tell_one-clause-err g c =
     after_fault c.from_residual.result
     (stopped _ _ _ _ _ c.loop-follower.list _ _ c.loop-follower.follower-index c.follower-item.result
-      c.tell_one.new.follower (omega arith) c.loop-follower.invariant c.tell_one.new.out c.in_err-tell_one.ensures.err
-      c.in_err-tell_one.ensures.out_err)
+    c.tell_one.new.follower (omega arith) c.loop-follower.invariant c.tell_one.new.out c.in_err-tell_one.ensures.err
+    c.in_err-tell_one.ensures.out_err)

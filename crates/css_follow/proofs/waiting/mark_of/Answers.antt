@@ -13,11 +13,11 @@ loop-note-preserved c =
     let at = simp (to_z-of_z, c.ranges.tick) at c.at.ensures in
     let invariant = simp (to_z-of_z, c.ranges.tick) at c.loop-note.invariant in
     let step : mark_from c.loop-note.mark tick (drop i notes)
-        ≡ mark_from (later c.loop-note.mark (mark_at tick (get_or notes i item).report)) tick (drop (i + 1) notes)
-        = at_drop_more (mark_from c.loop-note.mark tick) notes i item (omega arith) in
+    ≡ mark_from (later c.loop-note.mark (mark_at tick (get_or notes i item).report)) tick (drop (i + 1) notes)
+    = at_drop_more (mark_from c.loop-note.mark tick) notes i item (omega arith) in
     simp (to_z-of_z, c.ranges.tick)
     (ap (λ m. mark_from m tick (drop (i + 1) notes))
-      (c.later-mark.ensures ∙ ap (later c.loop-note.mark) (at ∙ ap (λ n. mark_at tick n.report) c.note-item.is))
+    (c.later-mark.ensures ∙ ap (later c.loop-note.mark) (at ∙ ap (λ n. mark_at tick n.report) c.note-item.is))
     ∙ sym step ∙ invariant)
 
 pub returns : goal.returns
