@@ -27,4 +27,8 @@ pub use reading::{SheetLines, read_sheet};
 pub use sheet::{Cue, CueList, Sheet};
 
 #[cfg(test)]
+mod plain_tests;
+#[cfg(test)]
+mod tables;
+#[cfg(test)]
 mod tests;

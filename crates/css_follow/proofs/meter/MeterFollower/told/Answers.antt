@@ -11,20 +11,20 @@ invariant_of-self-2 c =
 pub returns-clause-heard : goal.returns-clause-heard
 returns-clause-heard c =
     let said = said-meter c.self.inside.count c.self.inside.left c.self.inside.notes.items c.args.report.now
-        c.in_ok-text.text c.self.invariant c.in_ok-text.ensures in
+    c.in_ok-text.text c.self.invariant c.in_ok-text.ensures in
     let next = left-next c.self.inside.count c.self.inside.left c.left_after.result c.self.inside.notes.items
-        c.take_note.new.notes.items c.args.report.now c.in_ok-text.text c.self.invariant
-        c.in_ok-take_note.ensures.notes c.left_after.ensures in
+    c.take_note.new.notes.items c.args.report.now c.in_ok-text.text c.self.invariant
+    c.in_ok-take_note.ensures.notes c.left_after.ensures in
     heard-meter c.args.self.now c.self.inside.notes.items c.take_note.new.notes.items c.self.inside.count
     c.self.inside.done _ c.args.report.now c.in_ok-text.text c.self.view_is c.if-self.false
     c.in_ok-take_note.ensures.notes said
     (ends-meter c.self.inside.count c.left_after.result c.self.inside.notes.items c.take_note.new.notes.items
-      c.args.report.now c.in_ok-text.text c.in_ok-take_note.ensures.notes next)
+    c.args.report.now c.in_ok-text.text c.in_ok-take_note.ensures.notes next)
 
 pub returns-clause-said : goal.returns-clause-said
 returns-clause-said c =
     let said = said-meter c.self.inside.count c.self.inside.left c.self.inside.notes.items c.args.report.now
-        c.in_ok-text.text c.self.invariant c.in_ok-text.ensures in
+    c.in_ok-text.text c.self.invariant c.in_ok-text.ensures in
     c.in_ok-take_note.ensures.out
     ∙ ap (λ t. c.args.out.now ++ t) (says-meter c.args.self.now c.self.inside.notes.items c.self.inside.count
-      c.self.inside.done c.args.report.now c.in_ok-text.text c.self.view_is c.if-self.false said)
+    c.self.inside.done c.args.report.now c.in_ok-text.text c.self.view_is c.if-self.false said)
