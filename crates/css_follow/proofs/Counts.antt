@@ -1,6 +1,6 @@
 -- How many intervals were measured, and are still to be measured.
 use Rattle.std.proofs.Common.{◌≡◌, ℕ, ◌+◌, ◌-◌, List, [], ◌∷◌, ◌++◌, Bool, true, false, cond, ap, refl, sym, ◌∙◌, map}
-use Rattle.std.proofs.Common.{reverse, arith}
+use Rattle.std.proofs.Common.{reverse, arith, zero-add, add_comm}
 use Rattle.std.specs.Prelude.{◌==◌, nat_lt, nat_le, if◌then◌else◌}
 use Rattle.std.specs.List.{sum_by, count_by}
 use Rattle.std.proofs.lemmas.Bool.Decides.{nat_tests}
@@ -15,17 +15,22 @@ use Rattle.css_follow.specs.Widths.{is_interval, intervals, width_line, measured
 use Rattle.css_follow.proofs.Marks.{heard-more, spoken-more}
 
 -- ---- sums
+sum-cons : {A : Type 0} (f : A → ℕ) (x : A) (xs : List A) → sum_by f (x ∷ xs) ≡ f x + sum_by f xs
+sum-cons f x xs = sum_by-append f (x ∷ []) xs ∙ ap (λ k. k + sum_by f xs) (zero-add (f x))
+
 sum-reverse : {A : Type 0} (f : A → ℕ) (xs : List A) → sum_by f (reverse xs) ≡ sum_by f xs
 sum-reverse f [] = refl
 sum-reverse f (x ∷ xs) =
-    let a = ap (sum_by f) (reverse-append (x ∷ []) xs) in
-    let b = sum_by-append f (reverse xs) (x ∷ []) in
-    let c = sum-reverse f xs in
-    omega (arith, a, b, c)
+    ap (sum_by f) (reverse-append (x ∷ []) xs) ∙ sum_by-append f (reverse xs) (x ∷ [])
+    ∙ ap (λ k. sum_by f (reverse xs) + k) (zero-add (f x)) ∙ add_comm (sum_by f (reverse xs)) (f x)
+    ∙ ap (λ k. f x + k) (sum-reverse f xs) ∙ sym (sum-cons f x xs)
 
 count-map : (notes : List Note) → count_by is_interval (map (λ n. n.report) notes) ≡ intervals_in notes
 count-map [] = refl
-count-map (n ∷ notes) = ap (λ k. cond (is_interval n.report) 1 0 + k) (count-map notes)
+count-map (n ∷ notes) =
+    sum-cons (λ r. cond (is_interval r) 1 0) n.report (map (λ m. m.report) notes)
+    ∙ ap (λ k. cond (is_interval n.report) 1 0 + k) (count-map notes)
+    ∙ sym (sum-cons (λ m. cond (is_interval m.report) 1 0) n notes)
 
 -- the intervals that were heard are those of the notes
 pub intervals-heard : (notes : List Note) → intervals (heard_in notes) ≡ intervals_in notes

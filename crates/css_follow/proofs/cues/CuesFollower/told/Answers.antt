@@ -1,4 +1,4 @@
-use Rattle.std.proofs.Common.{◌∙◌, ◌++◌, ap}
+use Rattle.std.proofs.Common.{◌∙◌, ◌++◌, ap, sym}
 use Rattle.std.specs.List.{flat_map, list_all}
 use Rattle.css_follow.specs.Standing.{news_at, is_done}
 use Rattle.css_follow.proofs.Marks.{marked-next, said-cues, ends-cues, says-cues, heard-cues}
@@ -17,7 +17,7 @@ returns-clause-heard c =
     let ends = ends-cues c.self.inside.notes.items _ c.self.inside.list.items _ c.args.report.now c.in_ok-text.text
     c.self.invariant c.in_ok-take_note.ensures.notes c.mark_all.ensures in
     heard-cues c.args.self.now c.self.inside.notes.items c.take_note.new.notes.items c.self.inside.list.items
-    c.self.inside.done _ c.args.report.now c.in_ok-text.text c.self.view_is c.if-self.false
+    c.self.inside.done _ c.args.report.now c.in_ok-text.text (sym c.self.view_is) c.if-self.false
     c.in_ok-take_note.ensures.notes said
     (c.all_passed-self-inside.ensures ∙ ap (list_all is_done) c.deref-2.ensures.value ∙ ends)
 
@@ -28,4 +28,4 @@ returns-clause-said c =
     (c.in_ok-text.ensures ∙ ap (flat_map (news_at c.args.report.now)) c.deref.ensures.value) in
     c.in_ok-take_note.ensures.out
     ∙ ap (λ t. c.args.out.now ++ t) (says-cues c.args.self.now c.self.inside.notes.items c.self.inside.list.items
-    c.self.inside.done c.args.report.now c.in_ok-text.text c.self.view_is c.if-self.false said)
+    c.self.inside.done c.args.report.now c.in_ok-text.text (sym c.self.view_is) c.if-self.false said)
