@@ -114,6 +114,8 @@ fn quick_number<'a>(words: Words<'a>) -> Option<(u64, Words<'a>)>
 }
 
 // A whole number below the bound, of any length.
+#[cold]
+#[inline(never)]
 #[tactic(auto, unfolding(crate::specs::Words::number_at))]
 fn any_number<'a>(words: Words<'a>, below: u64) -> Result<(u64, Words<'a>), LineFault>
     ensures value { Reads result (number_at below (words_left words.entry)) }
@@ -125,6 +127,7 @@ fn any_number<'a>(words: Words<'a>, below: u64) -> Result<(u64, Words<'a>), Line
 }
 
 /// A whole number below the bound.
+#[inline(always)]
 pub fn number<'a>(words: Words<'a>, below: u64) -> Result<(u64, Words<'a>), LineFault>
     ensures value { Reads result (number_at below (words_left words.entry)) }
     ensures below { IfOk result (λ x. x.0 < below) }
