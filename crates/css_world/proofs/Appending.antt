@@ -22,3 +22,8 @@ on_ok (Err e) f p = tt
 pub on_err : {T E : Type 0} {P Q : Type 0} (result : Result T E) → (P → Q) → OnErr result P → OnErr result Q
 on_err (Ok x) f p = tt
 on_err (Err e) f p = f p
+
+-- what holds at either end holds after a fault
+pub at_err : {T E : Type 0} {P : Type 0} (result : Result T E) → P → OnErr result P
+at_err (Ok x) p = tt
+at_err (Err e) p = p

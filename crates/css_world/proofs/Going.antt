@@ -27,7 +27,7 @@ use Rattle.css_world.specs.Flights.{Session, SessionStands}
 use Rattle.css_world.specs.Truth.{TellsTruth}
 use Rattle.css_world.proofs.Truth.{accepted_lines_are_true}
 use Rattle.css_world.specs.Standing.{World, AreStored, request_bytes, open_ticket, EndsStand, IsReady, DriftsStand}
-use Rattle.css_world.specs.Standing.{ReadingsStand, AreAccepted, IsNext, StandsFor, carried, Carries, CarriesOut}
+use Rattle.css_world.specs.Standing.{ReadingsStand, AreAccepted, StandsFor, carried, Carries, CarriesOut}
 use Rattle.css_world.specs.Standing.{PrintsFor, Prints, KeepsEnds, KeepsClocks, KeepsReadings, KeepsDrifts}
 use Rattle.css_world.specs.Standing.{ShowsBy, ShownTo, ReadsBy, ReadTo, Means, GoesOn, appended}
 

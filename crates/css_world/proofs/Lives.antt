@@ -14,7 +14,6 @@ use Rattle.css_tsmsg.specs.declared.fault.TsFault.{TsFault}
 use Rattle.css_tsmsg.specs.declared.setup.Setup.{Setup}
 use Rattle.css_sessions.specs.declared.session.Kind.{Kind}
 use Rattle.css_sessions.specs.declared.session.Session.{Session}
-use Rattle.css_sessions.specs.declared.session.Talk.TheVariants as talk
 use Rattle.css_sessions.specs.Offsets.{control_for}
 use Rattle.css_sessions.specs.Kept.{Event as SessionsCall, Opened, SetUp, Closed, Kept}
 use Rattle.css_sessions.specs.Kept.{Rising, talk_of, set_up_in}

@@ -8,7 +8,7 @@ use Rattle.std.proofs.lemmas.List.Elements.{All-head}
 use Rattle.std.proofs.lemmas.Str.{IsUtf8-nil}
 use Rattle.css_model.specs.declared.Kind.TheVariants as session
 use Rattle.css_model.specs.declared.Message.{Message}
-use Rattle.css_model.specs.History.{History, Dialled, Heard, Wrote, Closed}
+use Rattle.css_model.specs.History.{History, Dialled, Wrote, Closed}
 use Rattle.css_tsmsg.specs.Presentations.{presentation_text, IsPresentation}
 use Rattle.css_tsmsg.specs.Setups.{IsUtf8Setup, setup_text}
 use Rattle.css_tsmsg.specs.declared.bound.Presentation.{Presentation}

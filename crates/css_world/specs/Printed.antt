@@ -1,7 +1,12 @@
 -- The lines that are printed.
-use Rattle.std.specs.Prelude.{ℕ, List, [], ◌∷◌, ◌++◌, Option, Some, None, codes, decimal}
+use Rattle.std.specs.Prelude.{ℕ, ℤ, List, [], ◌∷◌, ◌++◌, Option, Some, None, codes, decimal}
 use Rattle.std.specs.Fmt.{signed_decimal}
 use Rattle.css_num.specs.Spans.{Interval}
+
+-- after a line's number and its name: the two ends of a span, and the place that it is at
+abbrev pub ends_line : ℕ → List ℕ → ℤ → ℤ → List ℕ → List ℕ
+ends_line number name lo hi place = decimal number ++ name ++ signed_decimal lo ++ codes " " ++ signed_decimal hi
+    ++ codes " at " ++ place ++ 10 ∷ []
 
 -- `N wall LO HI at W`: the span of the wall clock, and the value that the line gives it
 abbrev pub wall_line : ℕ → Interval → ℕ → List ℕ

@@ -21,10 +21,10 @@ ghost use Rattle.css_world.specs.Standing.{KeepsClocks, KeepsEnds, KeepsReadings
 use crate::fault::WorldFault;
 use crate::lane::Lane;
 use crate::place::item;
-use crate::printed::print_wall;
+use crate::printed::{print_report, print_wall};
 use crate::session::peer_of;
 use crate::television::{Television, play};
-use css_companion::{Companion, CompanionEvent, line as report_line};
+use css_companion::{Companion, CompanionEvent};
 use css_model::LIMIT;
 use css_num::Memory;
 use css_schedule::{Header, Line, Verb};
@@ -267,8 +267,7 @@ impl World {
     {
         let report = self.lane.companion.report(reading);
         let position = self.lane.companion.assigned(w);
-        let text = report_line(self.alloc, number, &report, position)?;
-        out.extend_from_slice(text.bytes())?;
+        print_report(self.alloc, number, &report, position, out)?;
         Ok(())
     }
 
