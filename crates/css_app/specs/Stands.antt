@@ -1,5 +1,5 @@
 -- How the reader of a replay stands for the lines that it has taken.
-use Rattle.std.specs.Prelude.{ℕ, ◌≡◌, Bool, false, List, [], ◌∷◌, length, Some, None, Result, MatchResult, is_some}
+use Rattle.std.specs.Prelude.{ℕ, ◌≡◌, Bool, false, List, [], ◌∷◌, length, Option, Some, None, Result, MatchResult, is_some}
 use Rattle.css_lines.specs.declared.reader.LineFault.{LineFault}
 use Rattle.css_lines.specs.declared.reader.LineFault.TheVariants as faults
 use Rattle.css_schedule.specs.declared.fault.LineFault as schedule
@@ -35,6 +35,13 @@ OpensNot opens faults.Memory = Unit {0}
 -- a header opens a world without lines, and anything else is refused
 abbrev pub Opens : List ℕ → Result World (LineFault Cause) → Type 0
 Opens text result = MatchResult result (λ world. (header_in (header_of text) ≡ Some world.header) × worlds.StandsFor world [])
+    (λ fault. OpensNot (is_some (header_in (header_of text))) fault)
+
+-- the world that a header opens is kept, and anything else is refused
+abbrev pub Begins : List ℕ → Option World → Result (Unit {0}) (LineFault Cause) → Type 0
+Begins text kept result = MatchResult result
+    (λ _. (world : World) × (kept ≡ Some world) × (header_in (header_of text) ≡ Some world.header)
+    × worlds.StandsFor world [])
     (λ fault. OpensNot (is_some (header_in (header_of text))) fault)
 
 -- The reader stands for these texts: it knows how many they are, the first is the header, and its world stands for the

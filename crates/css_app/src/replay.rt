@@ -4,7 +4,7 @@ ghost use Rattle.css_schedule.specs.Lines.{line_of};
 ghost use Rattle.css_world.specs.Happened.{Numbered};
 ghost use Rattle.css_world.specs.Standing as worlds;
 ghost use Rattle.css_app.specs.Replayed.{read_meant, with_line};
-ghost use Rattle.css_app.specs.Stands.{Opens, refused_fault, unread_fault};
+ghost use Rattle.css_app.specs.Stands.{Begins, Opens, refused_fault, unread_fault};
 
 use css_lines::{LineFault, Lines};
 use css_schedule::{PlayerFault, Start, read_header, read_line};
@@ -80,6 +80,17 @@ fn open(alloc: Global, text: &[u8]) -> Result<World, LineFault<Cause>>
     }
 }
 
+// Opens the world of a header, and keeps it. A world is large: in a function of its own its room is cleared once, and
+// not at each line.
+#[cold]
+#[inline(never)]
+fn begin(alloc: Global, text: &[u8], kept: &mut Option<World>) -> Result<(), LineFault<Cause>>
+    ensures { Begins text.now kept.new result }
+{
+    *kept = Some(open(alloc, text)?);
+    Ok(())
+}
+
 // Reads a line and carries it out.
 fn carry_out(
     alloc: Global,
@@ -148,7 +159,7 @@ impl Lines for Replay {
         match &mut self.world {
             Some(world) => carry_out(self.alloc, world, number, text, out),
             None => {
-                self.world = Some(open(self.alloc, text)?);
+                begin(self.alloc, text, &mut self.world)?;
                 Ok(())
             }
         }

@@ -1,5 +1,5 @@
 -- What a run over answers adds to the sink keeps the promise, however it ends.
-use Rattle.std.proofs.Common.{subst, sym}
+use Rattle.std.proofs.Common.{inr, subst, sym}
 use Rattle.css_agree.proofs.Promise.{promised_done, promised_stop}
 use Rattle.css_app.specs.Ended.{IsDoneUnlessMemory}
 use Rattle.css_app.proofs.Completeness.{answers_complete}
@@ -23,3 +23,7 @@ returns-in-Err-clause-complete g c = λ bytes is accepted read written.
     (g.S.Source.faults c.args.source.now) (g.S.Source.faults c.drive-ended.new.source)
     (g.K.Sink.faults c.args.sink.now) (g.K.Sink.faults c.drive-ended.new.sink)
     (c.in-Err.ensures.ran bytes is) accepted c.in-Err.ensures.counted_reads c.in-Err.ensures.counted_writes read written)
+
+pub returns-in-Err-clause-agrees : goal.returns-in-Err-clause-agrees
+returns-in-Err-clause-agrees g c = λ bytes is.
+    inr (record { stop = c.in-Err.stop; ran = c.in-Err.ensures.ran bytes is; told = c.status_of.ensures })
