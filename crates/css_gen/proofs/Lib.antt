@@ -1,0 +1,5 @@
+pub mod Draws
+pub mod Bounds
+pub mod Clocks
+pub mod Ranges
+pub mod Going

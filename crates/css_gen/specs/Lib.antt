@@ -1,0 +1,5 @@
+pub mod Draws
+pub mod Course
+pub mod Opening
+pub mod Generated
+pub mod Bounds
