@@ -1,6 +1,7 @@
 -- Each generated line is in the ranges of a schedule's lines.
 use Rattle.std.proofs.Common.{◌≡◌, ℕ, ◌-◌, ◌*◌, ◌^◌, ◌<◌, ◌≤◌, arith, refl, Bool, true, false}
 use Rattle.std.specs.Prelude.{◌==◌, nat_lt, min, if◌then◌else◌, codes, pos}
+use Rattle.std.specs.Str.{IsUtf8}
 use Rattle.std.proofs.lemmas.Bool.{eqb-false}
 use Rattle.css_num.specs.Rates.{IsTickRate}
 use Rattle.css_player.specs.declared.command.Command.TheVariants.{Change}
@@ -118,6 +119,13 @@ next-range course h =
       verb = happening-range (later course) can;
     }
 
+-- ---- texts
+pub pts-utf8 : IsUtf8 pts
+pts-utf8 = word-utf8 pts refl
+
+pub stem-utf8 : IsUtf8 (codes "dvb://")
+stem-utf8 = word-utf8 (codes "dvb://") refl
+
 -- ---- the opening
 verb-range : (number : ℕ) → IsVerb (opening_verb number)
 unfolding opening_verb
@@ -148,7 +156,7 @@ verb-range number =
     by true b c d e f g = record { word = refl; utf8 = word-utf8 (codes "dvb://1.2.3") refl }
     by false true c d e f g = record {
       programme = one;
-      selector = record { word = refl; utf8 = word-utf8 pts refl };
+      selector = record { word = refl; utf8 = pts-utf8 };
       rate = rate;
       base = omega arith;
     }

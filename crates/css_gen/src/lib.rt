@@ -4,6 +4,7 @@
 
 mod course;
 mod generator;
+pub mod laws;
 mod opening;
 #[cfg(test)]
 mod tests;

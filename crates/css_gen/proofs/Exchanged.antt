@@ -1,0 +1,235 @@
+-- What a generated line names is there: its request was sent, its take was made and has no answer, its datagram was made.
+use Rattle.std.proofs.Common.{◌≡◌, ℕ, suc, ◌+◌, ◌*◌, ◌<◌, ◌≤◌, arith, ap, sym, subst, ◌∙◌, refl}
+use Rattle.std.proofs.Common.{Bool, true, false, cond, List, [], ◌∷◌, ◌++◌, length}
+use Rattle.std.specs.Prelude.{Option, Some, None, IfSome, is_some, Ok, Err, All, ◌==◌, ◌&&◌, ◌||◌, not}
+use Rattle.std.specs.Option.{option_map, option_to_list}
+use Rattle.std.proofs.lemmas.Bool.{ne_eqb, eqb-false, lt-ltb}
+use Rattle.std.proofs.lemmas.List.Elements.{All-nil, All-cons, All-head, All-tail, All-weaker}
+use Rattle.css_model.specs.declared.Message.{Message}
+use Rattle.css_server.specs.Tickets.{Ticket, is_greater, greatest_with, response_to, follow_up_to}
+use Rattle.css_server.specs.Exchanges.{greatest_reading}
+use Rattle.css_schedule.specs.declared.line.Verb.{Verb}
+use Rattle.css_schedule.specs.declared.line.Verb.TheVariants.{Ask, Take, Give, Land, Print}
+use Rattle.css_world.specs.declared.fault.WorldFault.TheVariants.{Absent}
+use Rattle.css_world.specs.Numbering.{numbered}
+use Rattle.css_world.specs.Happened.{Numbered, requests, tickets, ticket_at, datagrams, server_of, answers_to, is_given}
+use Rattle.css_world.specs.Verdicts.{carried_out, printed_for}
+use Rattle.css_gen.specs.Opening.{header}
+
+-- ---- items by number
+-- an item of that number, of which this holds
+pub record IsThere {A : Type 0} (P : A → Type 0) (number : ℕ) (items : List A) : Type 0 where
+  pub item : A
+  pub is : numbered number items ≡ Some item
+  pub holds : P item
+
+-- each number up to that of the items has one
+pub item-there : {A : Type 0} (P : A → Type 0) (number : ℕ) (items : List A) → 1 ≤ number → number ≤ length items
+    → All P items → IsThere P number items
+item-there P number [] low high all = absurd (omega (arith, low, high))
+item-there P number (item ∷ older) low high all =
+    by (number == suc (length older)) refl
+    (λ below. item-there P number older low below (All-tail P item older all))
+  where
+    by : (b : Bool) → (number == suc (length older)) ≡ b → (number ≤ length older → IsThere P number older)
+        → IsThere P number (item ∷ older)
+    by true e next = record {
+      item = item;
+      is = ap (λ b. cond b (Some item) (numbered number older)) e;
+      holds = All-head P item older all;
+    }
+    by false e next =
+        let apart = eqb-false number (suc (length older)) e in
+        let before = next (omega (arith, high, apart)) in
+        record {
+          item = before.item;
+          is = ap (λ b. cond b (Some item) (numbered number older)) e ∙ before.is;
+          holds = before.holds;
+        }
+
+-- ---- tickets
+-- a ticket of the television's clock up to this reading, which promises a follow-up
+pub record IsTicket (shown : ℕ) (ticket : Ticket) : Type 0 where
+  pub before : ticket.reading ≤ shown
+  pub follows : ticket.follow_up ≡ true
+
+ticket_later : (shown shown' : ℕ) → shown ≤ shown' → (ticket : Ticket) → IsTicket shown ticket
+    → IsTicket shown' ticket
+ticket_later shown shown' later ticket h = record { before = omega (arith, h.before, later); follows = h.follows }
+
+tickets-later : (shown shown' : ℕ) → shown ≤ shown' → (taken : List Ticket) → All (IsTicket shown) taken
+    → All (IsTicket shown') taken
+tickets-later shown shown' later taken h =
+    All-weaker (IsTicket shown) (IsTicket shown') (ticket_later shown shown' later) taken h
+
+-- a later reading is above the greatest one
+greatest-low : (shown reading : ℕ) → shown < reading → (taken : List Ticket) → All (IsTicket shown) taken
+    → IfSome (greatest_reading taken) (λ greatest. greatest < reading)
+greatest-low shown reading later [] all = tt
+greatest-low shown reading later (ticket ∷ older) all =
+    by (greatest_reading older)
+    (greatest-low shown reading later older (All-tail (IsTicket shown) ticket older all))
+  where
+    by : (greatest : Option ℕ) → IfSome greatest (λ g. g < reading) → greatest_with ticket.reading greatest < reading
+    by None h =
+        let this = All-head (IsTicket shown) ticket older all in omega (arith, this.before, later)
+    by (Some g) h =
+        let this = All-head (IsTicket shown) ticket older all in omega (arith, this.before, later, h)
+
+greater-by : (reading : ℕ) (greatest : Option ℕ) → IfSome greatest (λ g. g < reading)
+    → is_greater reading greatest ≡ true
+greater-by reading None h = refl
+greater-by reading (Some g) h = lt-ltb g reading h
+
+-- ---- what lines exchanged
+-- So many requests were sent, so many of them received and the first ones of these answered, each with two datagrams; and
+-- the last take was at a lower reading than the wall clock shows next.
+pub record AreExchanged (asked taken given shown : ℕ) (lines : List Numbered) : Type 0 where
+  pub requests : length (requests lines) ≡ asked
+  pub takes : length (tickets header lines) ≡ taken
+  pub tickets : All (IsTicket shown) (tickets header lines)
+  pub answers : given ≤ taken
+  pub none_ahead : (take : ℕ) → given < take → is_given take lines ≡ false
+  pub datagrams : length (datagrams header lines) ≡ 2 * given
+
+-- a line with these numbers
+abbrev pub at : (number t w l : ℕ) → Verb → Numbered
+at number t w l verb = record { number = number; line = record { t = t; w = w; who = 1; l = l; verb = verb } }
+
+-- what a line does is carried out, and that is what was exchanged after it
+pub record IsDone (asked taken given shown : ℕ) (lines : List Numbered) (now : Numbered) : Type 0 where
+  pub printed : List ℕ
+  pub carried : carried_out header lines now ≡ Ok printed
+  pub after : AreExchanged asked taken given shown (now ∷ lines)
+
+pub ask-done : (asked taken given shown number t w l reading : ℕ) (lines : List Numbered)
+    → AreExchanged asked taken given shown lines → shown < w
+    → IsDone (asked + 1) taken given w lines (at number t w l (Ask reading))
+ask-done asked taken given shown number t w l reading lines h later = record {
+  printed = [];
+  carried = refl;
+  after = record {
+    requests = omega (arith, h.requests);
+    takes = h.takes;
+    tickets = tickets-later shown w (omega (arith, later)) (tickets header lines) h.tickets;
+    answers = h.answers;
+    none_ahead = h.none_ahead;
+    datagrams = h.datagrams;
+  };
+}
+
+pub print-done : (asked taken given shown number t w l reading : ℕ) (lines : List Numbered)
+    → AreExchanged asked taken given shown lines → shown < w
+    → IsDone asked taken given w lines (at number t w l (Print reading))
+print-done asked taken given shown number t w l reading lines h later = record {
+  printed = printed_for header lines (at number t w l (Print reading)) (Print reading);
+  carried = refl;
+  after = record {
+    requests = h.requests;
+    takes = h.takes;
+    tickets = tickets-later shown w (omega (arith, later)) (tickets header lines) h.tickets;
+    answers = h.answers;
+    none_ahead = h.none_ahead;
+    datagrams = h.datagrams;
+  };
+}
+
+-- whatever is there
+abbrev Any : {A : Type 0} → A → Type 0
+Any a = Unit {0}
+
+all-any : {A : Type 0} (items : List A) → All Any items
+all-any {A = A} [] = All-nil {X = A} Any
+all-any {A = A} (a ∷ items) = All-cons {X = A} Any a items tt (all-any items)
+
+pub land-done : (asked taken given shown number t w l datagram reading : ℕ) (lines : List Numbered)
+    → AreExchanged asked taken given shown lines → shown < w → 1 ≤ datagram → datagram ≤ 2 * given
+    → IsDone asked taken given w lines (at number t w l (Land datagram reading))
+land-done asked taken given shown number t w l datagram reading lines h later low high =
+    let there = item-there {A = Message} Any datagram (datagrams header lines) low
+    (omega (arith, high, h.datagrams)) (all-any (datagrams header lines)) in
+    record {
+      printed = [];
+      carried = ap (λ (o : Option Message). cond (is_some o && true) (Ok []) (Err Absent)) there.is;
+      after = record {
+        requests = h.requests;
+        takes = h.takes;
+        tickets = tickets-later shown w (omega (arith, later)) (tickets header lines) h.tickets;
+        answers = h.answers;
+        none_ahead = h.none_ahead;
+        datagrams = h.datagrams;
+      };
+    }
+
+-- the tickets after a take of a request that was sent
+abbrev with_take : List Numbered → ℕ → Option ℕ → List Ticket
+with_take lines reading asked =
+    option_to_list (option_map (ticket_at header (tickets header lines) reading) asked) ++ tickets header lines
+
+pub take-done : (asked taken given shown number t w l request : ℕ) (lines : List Numbered)
+    → AreExchanged asked taken given shown lines → shown < w → 1 ≤ request → request ≤ asked
+    → IsDone asked (taken + 1) given w lines (at number t w l (Take request w))
+take-done asked taken given shown number t w l request lines h later low high =
+    let there = item-there {A = ℕ} Any request (requests lines) low
+    (omega (arith, high, h.requests)) (all-any (requests lines)) in
+    let all = tickets-later shown w (omega (arith, later)) (tickets header lines) h.tickets in
+    let new : Ticket = ticket_at header (tickets header lines) w there.item in
+    let is : with_take lines w (numbered request (requests lines)) ≡ new ∷ tickets header lines =
+    ap (with_take lines w) there.is in
+    let this : IsTicket w new = record {
+      before = omega arith;
+      follows = greater-by w (greatest_reading (tickets header lines))
+          (greatest-low shown w later (tickets header lines) h.tickets);
+    } in
+    record {
+      printed = [];
+      carried = ap (λ (o : Option ℕ). cond (is_some o && true) (Ok []) (Err Absent)) there.is;
+      after = record {
+        requests = h.requests;
+        takes = ap (λ (ts : List Ticket). length ts) is ∙ omega (arith, h.takes);
+        tickets = subst (All (IsTicket w)) (sym is) (All-cons (IsTicket w) new (tickets header lines) this all);
+        answers = omega (arith, h.answers);
+        none_ahead = h.none_ahead;
+        datagrams = h.datagrams;
+      };
+    }
+
+-- the datagrams after an answer
+abbrev with_answer : List Numbered → ℕ → Option Ticket → List Message
+with_answer lines reading ticket = answers_to (server_of header) reading ticket ++ datagrams header lines
+
+-- an answer to a ticket that promises a follow-up is two datagrams
+answer-two : (lines : List Numbered) (reading : ℕ) (ticket : Ticket) → ticket.follow_up ≡ true
+    → length (with_answer lines reading (Some ticket)) ≡ length (datagrams header lines) + 2
+answer-two lines reading ticket follows =
+    let answer : Bool → List Message = λ b. option_to_list
+    (cond b (Some (follow_up_to (server_of header) ticket reading)) None)
+    ++ response_to (server_of header) ticket reading ∷ [] in
+    ap (λ b. length (answer b ++ datagrams header lines)) follows ∙ omega arith
+
+pub give-done : (asked taken given shown number t w l : ℕ) (lines : List Numbered)
+    → AreExchanged asked taken given shown lines → shown < w → given < taken
+    → IsDone asked taken (given + 1) w lines (at number t w l (Give (given + 1) w))
+give-done asked taken given shown number t w l lines h later high =
+    let there = item-there (IsTicket shown) (given + 1) (tickets header lines) (omega arith)
+    (omega (arith, high, h.takes)) h.tickets in
+    let is : datagrams header (at number t w l (Give (given + 1) w) ∷ lines) ≡ with_answer lines w (Some there.item) =
+    ap (with_answer lines w) there.is in
+    record {
+      printed = [];
+      carried =
+          ap (λ (o : Option Ticket). cond ((is_some o && not (is_given (given + 1) lines)) && true) (Ok []) (Err Absent))
+          there.is
+          ∙ ap (λ b. cond ((true && not b) && true) (Ok []) (Err Absent)) (h.none_ahead (given + 1) (omega arith));
+      after = record {
+        requests = h.requests;
+        takes = h.takes;
+        tickets = tickets-later shown w (omega (arith, later)) (tickets header lines) h.tickets;
+        answers = omega (arith, high);
+        none_ahead = λ take ahead.
+            ap (λ b. b || is_given take lines) (ne_eqb (given + 1) take (λ e. omega (arith, e, ahead)))
+            ∙ h.none_ahead take (omega (arith, ahead));
+        datagrams = ap (λ (ms : List Message). length ms) is
+            ∙ answer-two lines w there.item there.holds.follows ∙ omega (arith, h.datagrams);
+      };
+    }
