@@ -1,7 +1,7 @@
--- What a generated line names is there: its request was sent, its take was made and has no answer, its datagram was made.
+-- What a generated line names is there: its request was sent, its take waits for an answer, its datagram was made.
 use Rattle.std.proofs.Common.{◌≡◌, ℕ, suc, ◌+◌, ◌*◌, ◌<◌, ◌≤◌, arith, ap, sym, subst, ◌∙◌, refl}
 use Rattle.std.proofs.Common.{Bool, true, false, cond, List, [], ◌∷◌, ◌++◌, length}
-use Rattle.std.specs.Prelude.{Option, Some, None, IfSome, is_some, Ok, Err, All, ◌==◌, ◌&&◌, ◌||◌, not}
+use Rattle.std.specs.Prelude.{Option, Some, None, IfSome, is_some, Ok, Err, All, ◌==◌, ◌&&◌, ◌||◌, not, Result}
 use Rattle.std.specs.Option.{option_map, option_to_list}
 use Rattle.std.proofs.lemmas.Bool.{ne_eqb, eqb-false, lt-ltb}
 use Rattle.std.proofs.lemmas.List.Elements.{All-nil, All-cons, All-head, All-tail, All-weaker}
@@ -10,6 +10,7 @@ use Rattle.css_server.specs.Tickets.{Ticket, is_greater, greatest_with, response
 use Rattle.css_server.specs.Exchanges.{greatest_reading}
 use Rattle.css_schedule.specs.declared.line.Verb.{Verb}
 use Rattle.css_schedule.specs.declared.line.Verb.TheVariants.{Ask, Take, Give, Land, Print}
+use Rattle.css_world.specs.declared.fault.WorldFault.{WorldFault}
 use Rattle.css_world.specs.declared.fault.WorldFault.TheVariants.{Absent}
 use Rattle.css_world.specs.Numbering.{numbered}
 use Rattle.css_world.specs.Happened.{Numbered, requests, tickets, ticket_at, datagrams, server_of, answers_to, is_given}
@@ -82,8 +83,8 @@ greater-by reading None h = refl
 greater-by reading (Some g) h = lt-ltb g reading h
 
 -- ---- what lines exchanged
--- So many requests were sent, so many of them received and the first ones of these answered, each with two datagrams; and
--- the last take was at a lower reading than the wall clock shows next.
+-- So many requests were sent, and so many of them received. The first ones of these were answered, each with two
+-- datagrams. No take had a greater reading than this one.
 pub record AreExchanged (asked taken given shown : ℕ) (lines : List Numbered) : Type 0 where
   pub requests : length (requests lines) ≡ asked
   pub takes : length (tickets header lines) ≡ taken
@@ -213,14 +214,14 @@ pub give-done : (asked taken given shown number t w l : ℕ) (lines : List Numbe
 give-done asked taken given shown number t w l lines h later high =
     let there = item-there (IsTicket shown) (given + 1) (tickets header lines) (omega arith)
     (omega (arith, high, h.takes)) h.tickets in
+    let meant : Bool → Result (List ℕ) WorldFault = λ b. cond b (Ok []) (Err Absent) in
     let is : datagrams header (at number t w l (Give (given + 1) w) ∷ lines) ≡ with_answer lines w (Some there.item) =
     ap (with_answer lines w) there.is in
     record {
       printed = [];
       carried =
-          ap (λ (o : Option Ticket). cond ((is_some o && not (is_given (given + 1) lines)) && true) (Ok []) (Err Absent))
-          there.is
-          ∙ ap (λ b. cond ((true && not b) && true) (Ok []) (Err Absent)) (h.none_ahead (given + 1) (omega arith));
+          ap (λ (o : Option Ticket). meant ((is_some o && not (is_given (given + 1) lines)) && true)) there.is
+          ∙ ap (λ b. meant ((true && not b) && true)) (h.none_ahead (given + 1) (omega arith));
       after = record {
         requests = h.requests;
         takes = h.takes;

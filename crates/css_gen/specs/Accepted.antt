@@ -14,8 +14,8 @@ abbrev pub generated : (seed : ℕ) → (count : ℕ) → List Numbered
 generated seed zero = []
 generated seed (suc count) = record { number = count + 2; line = line_numbered seed (count + 2) } ∷ generated seed count
 
--- Each generated line is accepted after those before it, whatever the seed: its numbers keep the tests of the clocks, and
--- what it says can happen.
+-- Each generated line is accepted after those before it, whatever the seed. Its numbers keep the tests of the clocks,
+-- and what it says can happen.
 pub record AreTaken (seed count : ℕ) : Type 0 where
   pub declared : IsDeclared header
   pub accepted : AreAccepted header (generated seed count)

@@ -7,8 +7,8 @@ use Rattle.css_gen.specs.Draws.{words_of, draw, Drawn}
 use Rattle.css_gen.specs.declared.course.Course.{Course}
 
 -- ---- clocks
--- What a clock shows at a true time, in nanoseconds: it starts at one second, and its oscillator runs 50 ppm fast or slow.
--- That is 12,800 in 256,000,000. Each value is rounded down.
+-- What a clock shows at a true time, in nanoseconds. It starts at one second, and its oscillator runs 50 ppm fast or
+-- slow, which is 12,800 in 256,000,000. The value is rounded down.
 unfoldable pub clock : (fast : Bool) → (time : ℕ) → ℕ
 clock true time = 1000000000 + time + 12800 * time / 256000000
 clock false time = 1000000000 + time - (12800 * time + 255999999) / 256000000

@@ -14,7 +14,7 @@ line_from course number = if nat_lt number 10 then opening_line number else next
 abbrev pub text_from : Course → (number : ℕ) → List ℕ
 text_from course number = if number == 1 then header_text header else line_text (line_from course number)
 
--- the course of a seed before the line of that number: the first one that is drawn has the number 10
+-- the course of a seed before the line of that number; the first line that is drawn is line 10
 abbrev pub course_before : (seed : ℕ) → (number : ℕ) → Course
 course_before seed number = course_after seed (number - 10)
 
