@@ -3,11 +3,13 @@
 
     bench/replay.py [COUNT ..]          10,000, 100,000 and 1,000,000 lines, where no counts are given
 
-For each count three schedules are made: one of exchanges in flight out of order, with follow-ups, in which one line in
-five is `wall`; one of `wall` lines alone after a first exchange; and an evening with such exchanges, viewer commands, texts
-and presentations, in which one line in five is `print`. Printed are nanoseconds of processor time a line,
-where that of a header alone is taken off, and the peak of resident memory. Where valgrind is installed, the smallest
-count is run under it too, and instructions a line are printed: they don't depend on the machine's load.
+For each count four schedules are made: one of exchanges in flight out of order, with follow-ups, in which one line in
+five is `wall`; one of `wall` lines alone after a first exchange; and two evenings with such exchanges, viewer commands,
+texts and presentations, in which one line in five is `print`. In the first, one line in twenty sends or brings a text,
+and one in forty is a viewer's command; in the second, the busy one, these are two and one in ten. Printed are
+nanoseconds of processor time a line, where that of a header alone is taken off, and the peak of resident memory. Where
+valgrind is installed, the smallest count is run under it too, and instructions a line are printed: they don't depend on
+the machine's load.
 """
 
 import os
@@ -97,14 +99,19 @@ BEGINNING = (
 )
 
 
-def evening(count, out):
-    """Both ends: exchanges, viewers who pause, seek and change the programme, texts in flight, and presentations."""
+def both_ends(count, out, tens):
+    """Both ends: exchanges, viewers who pause, seek and change the programme, texts in flight, and presentations.
+
+    Of ten lines two are `print`. In one of so many tens the others are five of exchanges, a viewer's command, a line
+    that sends a presentation or brings one to the television, and one that brings a text to the companion. In the
+    other tens all eight are of exchanges.
+    """
     draw = random.Random(1)
     clocks = Clocks()
     for words in BEGINNING:
         out.write(clocks.line(words.format(wall=clocks.wall())))
     requests = datagrams = takes = speed = 1
-    programme, states, controls, presentations = 1, 0, 0, 0
+    programme, commands, states, controls, presentations = 1, 0, 0, 0, 0
     for words in ("ask {own}", "take 1 {wall}", "give 1 {wall}", "land 1 {own}"):
         clocks.pass_time(100_000)
         out.write(clocks.line(words.format(own=clocks.own(), wall=clocks.wall())))
@@ -112,37 +119,37 @@ def evening(count, out):
     for number in range(count - len(BEGINNING) - 4):
         clocks.pass_time(30_000 + draw.randrange(900_000))
         wall, own = clocks.wall(), clocks.own()
-        kind = number % 10
+        kind, is_viewed = number % 10, number // 10 % tens == 0
         if kind in (0, 5):
             words = f"print {own}"
-        elif kind == 1:
+        elif kind == 1 or kind == 6 and not is_viewed:
             requests += 1
             words = f"ask {own}"
-        elif kind == 2:
+        elif kind == 2 or kind == 7 and not is_viewed:
             takes += 1
             words = f"take {requests - draw.randrange(min(requests, 4))} {wall}"
         elif kind == 3:
             datagrams += 2
             words = f"give {takes} {wall}"
-        elif kind in (4, 8):
+        elif kind in (4, 8) or kind == 9 and not is_viewed:
             words = f"land {datagrams - draw.randrange(min(datagrams, 8))} {own}"
         elif kind == 6:
-            controls += 1
-            if number % 100 == 6:
+            controls, commands = controls + 1, commands + 1
+            if commands % 10 == 1:
                 programme, states, speed = 3 - programme, states + 1, 1
                 words = f"change {wall} {programme}"
-            elif number % 30 == 6:
+            elif commands % 3 == 1:
                 words = f"seek {wall} {draw.randrange(10**13)}"
             else:
                 speed = 1 - speed
                 words = f"speed {wall} {speed}"
-        elif kind == 7 and number % 20 == 7:
+        elif kind == 7 and not presentations:
             presentations += 1
             words = "present 900000 minusinfinity 900000 plusinfinity"
-        elif presentations and kind == 7:
+        elif kind == 7:
             presentations -= 1
             words = "up ts"
-        elif states and (not controls or number % 40 == 9):
+        elif states and (not controls or commands % 4 == 1):
             states -= 1
             words = "text cii"
         elif controls:
@@ -151,6 +158,19 @@ def evening(count, out):
         else:
             words = f"wall {own}"
         out.write(clocks.line(words))
+
+
+def evening(count, out):
+    """One line in twenty sends or brings a text, and one in forty is a viewer's command."""
+    both_ends(count, out, 4)
+
+
+def busy(count, out):
+    """Two lines in ten send or bring a text, and one is a viewer's command."""
+    both_ends(count, out, 1)
+
+
+SCHEDULES = (("mixed", mixed), ("walls", walls), ("evening", evening), ("busy", busy))
 
 
 def run(path):
@@ -209,12 +229,11 @@ def main():
         empty = min(run(path) for _ in range(5))
         print(f"header alone  {empty * 1e3:.1f} ms  peak {peak(path)} kB")
         for count in counts:
-            measure("mixed", count, mixed, empty, folder)
-            measure("walls", count, walls, empty, folder)
-            measure("evening", count, evening, empty, folder)
+            for name, write in SCHEDULES:
+                measure(name, count, write, empty, folder)
         if shutil.which("valgrind"):
             count, alone = min(counts), instructions(path)
-            for name, write in (("mixed", mixed), ("walls", walls), ("evening", evening)):
+            for name, write in SCHEDULES:
                 counted = instructions(write_schedule(name, count, write, folder)) - alone
                 print(f"{name:7} {count:>9} lines  {counted / count:7.0f} instructions a line")
 
