@@ -1,6 +1,6 @@
 -- Followers that hear a report one after another.
-use Rattle.std.proofs.Common.{◌≡◌, ℕ, ◌+◌, ◌<◌, ◌≤◌, List, [], ◌∷◌, ◌++◌, length, take, drop, get_or, map, flat_map, Bool}
-use Rattle.std.proofs.Common.{ap, refl, sym, ◌∙◌, append_assoc, append-nil, arith, zero, suc}
+use Rattle.std.proofs.Common.{◌≡◌, ℕ, ◌+◌, ◌<◌, List, [], ◌∷◌, ◌++◌, length, take, get_or, map, flat_map, Bool}
+use Rattle.std.proofs.Common.{ap, refl, sym, ◌∙◌, append_assoc, append-nil, zero, suc}
 use Rattle.std.specs.Prelude.{Result, Ok, Err, OnErr}
 use Rattle.std.proofs.Math.ListN.{set}
 use Rattle.std.specs.List.{drop-map}
@@ -52,7 +52,8 @@ module _ {A : Type 0} (report : Report) (seen : A → Seen) (says : A → List �
   after f = told report (says f) (ends f) (seen f)
 
   -- one more hears it
-  hears : seen y ≡ after (get_or now i d) → RestsWhenDone (seen (get_or now i d)) (says (get_or now i d)) (ends (get_or now i d))
+  hears : seen y ≡ after (get_or now i d)
+      → RestsWhenDone (seen (get_or now i d)) (says (get_or now i d)) (ends (get_or now i d))
       → Hears report (seen (get_or now i d)) (seen y) (says (get_or now i d))
   hears heard rests = record { ends = ends (get_or now i d); rests = rests; heard = heard }
 
@@ -72,7 +73,8 @@ module _ {A : Type 0} (report : Report) (seen : A → Seen) (says : A → List �
       = ap (λ x. flat_map says (take i was) ++ says x) (sym alike) ∙ sym (said_more says was i d under) in
       rw (← befores, ← nows, ← saids) more
 
-  pub heard_more : (next : List ℕ) → seen y ≡ told report (says (get_or now i d)) (ends (get_or now i d)) (seen (get_or now i d))
+  pub heard_more : (next : List ℕ)
+      → seen y ≡ told report (says (get_or now i d)) (ends (get_or now i d)) (seen (get_or now i d))
       → next ≡ new ++ says (get_or now i d)
       → RestsWhenDone (seen (get_or now i d)) (says (get_or now i d)) (ends (get_or now i d))
       → HeardUpTo report seen says ends was (set now i y) old next (i + 1)

@@ -1,8 +1,9 @@
 -- The marks of cues, and what they mean over the reports that were heard.
-use Rattle.std.proofs.Common.{◌≡◌, ℕ, List, [], ◌∷◌, ◌++◌, Bool, true, false, ap, refl, sym, ◌∙◌, map, flat_map, reverse}
+use Rattle.std.proofs.Common.{◌≡◌, ℕ, List, [], ◌∷◌, ◌++◌, Bool, true, false}
+use Rattle.std.proofs.Common.{ap, refl, sym, ◌∙◌, map, flat_map, reverse}
 use Rattle.std.proofs.Common.{ℤ, arith}
 use Rattle.std.proofs.lemmas.Int.{ints}
-use Rattle.std.specs.Prelude.{◌||◌, ◌&&◌, int_le, int_lt, if◌then◌else◌, not}
+use Rattle.std.specs.Prelude.{◌||◌, ◌&&◌, int_le, int_lt, if◌then◌else◌}
 use Rattle.std.specs.List.{list_any, list_all}
 use Rattle.std.proofs.lemmas.List.{map-append, reverse-append}
 use Rattle.std.proofs.lemmas.List.Folds.{list_any-append}
@@ -15,7 +16,8 @@ use Rattle.css_follow.specs.declared.sheet.Cue.{Cue}
 use Rattle.css_follow.specs.declared.waiting.Waiting.{Waiting}
 use Rattle.css_follow.specs.Announcing.{Announcing, says_of, ends_of}
 use Rattle.css_follow.specs.Following.{told}
-use Rattle.css_follow.specs.Marks.{is_passed, is_possible, was_passed, was_possible, announced, all_announced, are_passed}
+use Rattle.css_follow.specs.Marks.{is_passed, is_possible, was_passed, was_possible}
+use Rattle.css_follow.specs.Marks.{announced, all_announced, are_passed}
 use Rattle.css_follow.specs.Standing.{heard_in, spoken_in, seen_by, mark_at, later, mark_from, mark_after, cues_in}
 use Rattle.css_follow.specs.Standing.{waiting_after, AreMarked, marked_by, news, news_at, is_mark_passed, is_done}
 
@@ -120,7 +122,8 @@ mark-more mark tick (n ∷ notes) note = mark-more (later mark (mark_at tick n.r
 news-by : (a b c d : Bool) (cue : Cue) (passed possible : List ℕ)
     → (n : Mark → Mark → List ℕ) → ((m : Mark) → n Passed m ≡ []) → n Ahead Passed ≡ passed → n Possible Passed ≡ passed
     → n Ahead Possible ≡ possible → n Possible Possible ≡ [] → n Possible Ahead ≡ [] → n Ahead Ahead ≡ []
-    → n (mark_by a b) (mark_by c d) ≡ (if a then [] else if c then passed else if b then [] else if d then possible else [])
+    → n (mark_by a b) (mark_by c d)
+    ≡ (if a then [] else if c then passed else if b then [] else if d then possible else [])
 news-by true b c d cue p q n e1 e2 e3 e4 e5 e6 e7 = e1 (mark_by c d)
 news-by false true true d cue p q n e1 e2 e3 e4 e5 e6 e7 = e3
 news-by false false true d cue p q n e1 e2 e3 e4 e5 e6 e7 = e2

@@ -1,8 +1,9 @@
 -- Loops that go over a list, and make another list or an output of it.
-use Rattle.std.proofs.Common.{◌≡◌, ℕ, ◌+◌, ◌<◌, ◌≤◌, List, [], ◌∷◌, ◌++◌, length, take, drop, get_or, map, flat_map, ap, sym}
-use Rattle.std.proofs.Common.{◌∙◌, append_assoc, append-nil, arith, add-one}
+use Rattle.std.proofs.Common.{◌≡◌, ℕ, ◌+◌, ◌<◌, ◌≤◌, List, [], ◌∷◌, ◌++◌, length, take, drop, get_or}
+use Rattle.std.proofs.Common.{map, flat_map, ap, sym}
+use Rattle.std.proofs.Common.{◌∙◌, append_assoc, append-nil, arith}
 use Rattle.std.proofs.Math.ListN.{set}
-use Rattle.std.proofs.Math.Seq.{drop-cons, take-suc}
+use Rattle.std.proofs.Math.Seq.{drop-cons}
 use Rattle.std.proofs.lemmas.List.{take_more, take_more_set, drop-set-lt, drop-drop, map-append, length-drop, take_all}
 use Rattle.std.proofs.lemmas.Grind.{flat_map-append}
 
@@ -53,7 +54,8 @@ module _ {A B : Type 0} (seen after : A → B) (was now : List A) (i : ℕ) (d y
   pub said_on : (says : A → List ℕ) (out0 out1 out2 : List ℕ) → out1 ≡ out0 ++ flat_map says (take i was)
       → out2 ≡ out1 ++ says (get_or now i d) → out2 ≡ out0 ++ flat_map says (take (i + 1) was)
   said_on says out0 out1 out2 e f =
-      f ∙ ap (λ l. l ++ says (get_or now i d)) e ∙ append_assoc out0 (flat_map says (take i was)) (says (get_or now i d))
+      f ∙ ap (λ l. l ++ says (get_or now i d)) e
+      ∙ append_assoc out0 (flat_map says (take i was)) (says (get_or now i d))
       ∙ ap (λ z. out0 ++ (flat_map says (take i was) ++ says z)) (sym same)
       ∙ ap (λ l. out0 ++ l) (sym (said_more says was i d below))
 

@@ -1,5 +1,6 @@
 -- The sheet of lines that are read one after another, and of all bytes.
-use Rattle.std.proofs.Common.{◌≡◌, ℕ, Bool, true, false, cond, List, [], ◌∷◌, ◌++◌, ap, refl, sym, ◌∙◌, append-nil, inl, inr}
+use Rattle.std.proofs.Common.{◌≡◌, ℕ, Bool, true, false, cond, List, [], ◌∷◌, ◌++◌}
+use Rattle.std.proofs.Common.{ap, refl, sym, ◌∙◌, append-nil, inl, inr}
 use Rattle.std.specs.Prelude.{◌⊎◌, Option, Some, None, is_none, Result, Ok, Err, OnOk}
 use Rattle.std.specs.List.{flat_map}
 use Rattle.std.proofs.lemmas.Grind.{flat_map-append}
@@ -20,7 +21,8 @@ use Rattle.css_follow.specs.declared.sheet.Cue.{Cue}
 use Rattle.css_follow.specs.declared.sheet.Sheet.{Sheet}
 use Rattle.css_follow.specs.Reading.{grown, with_line, sheet_fault}
 use Rattle.css_follow.specs.SheetLines.{line_of}
-use Rattle.css_follow.specs.Sheets.{cue_in, meter_in, first_of, sheet_of, has_room, sheet_lines, unless_refused, sheet_in}
+use Rattle.css_follow.specs.Sheets.{cue_in, meter_in, first_of, sheet_of, has_room}
+use Rattle.css_follow.specs.Sheets.{sheet_lines, unless_refused, sheet_in}
 
 -- ---- one more line
 -- numbers of which there is no first one are none

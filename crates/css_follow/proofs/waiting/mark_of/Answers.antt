@@ -1,7 +1,7 @@
-use Rattle.std.proofs.Common.{◌≡◌, ◌∙◌, ◌+◌, ap, sym, arith, drop, get_or, ◌∷◌}
+use Rattle.std.proofs.Common.{◌≡◌, ◌∙◌, ◌+◌, ap, sym, arith, drop, get_or}
 use Rattle.std.proofs.lemmas.List.{at_drop_more, at_drop_all}
 use Rattle.std.proofs.lemmas.Int.{to_z-of_z}
-use Rattle.css_follow.specs.Standing.{mark_from, mark_after, later, mark_at}
+use Rattle.css_follow.specs.Standing.{mark_from, later, mark_at}
 use Rattle.css_follow.proofs.waiting.mark_of.Goals as goal
 
 pub loop-note-preserved : goal.loop-note-preserved
@@ -23,4 +23,5 @@ loop-note-preserved c =
 pub returns : goal.returns
 returns c =
     let inv = simp (to_z-of_z, c.ranges.tick) at c.loop-note.invariant in
-    sym (at_drop_all (mark_from c.loop-note.mark c.args.tick) c.args.notes.now c.loop-note.note-index (omega arith)) ∙ inv
+    sym (at_drop_all (mark_from c.loop-note.mark c.args.tick) c.args.notes.now c.loop-note.note-index (omega arith))
+    ∙ inv
