@@ -1,5 +1,6 @@
 -- What is made of lines of answers.
-use Rattle.std.specs.Prelude.{ℕ, pos, suc, ◌+◌, ◌-◌, ◌<◌, nat_lt, int_lt, if◌then◌else◌, List, [], ◌∷◌, length, Result, Ok, Err}
+use Rattle.std.specs.Prelude.{ℕ, pos, suc, ◌+◌, ◌-◌, nat_lt, int_lt, if◌then◌else◌, List, [], ◌∷◌, length}
+use Rattle.std.specs.Prelude.{Result, Ok, Err}
 use Rattle.css_model.specs.WallClock.{Answer, Local, scaled_width}
 use Rattle.css_span.specs.Frontiers.{Answers}
 use Rattle.css_lines.specs.Meaning.{Meaning}
@@ -69,7 +70,8 @@ read_meant own older number (Ok line) = line_meant own older number line
 read_meant own older number (Err fault) = Err Form
 
 -- a line is carried out where the header was read
-abbrev pub meant_after : Result Local LineFault → List Numbered → ℕ → Result AnswerLine LineFault → Result (List ℕ) Cause
+abbrev pub meant_after : Result Local LineFault → List Numbered → ℕ → Result AnswerLine LineFault
+    → Result (List ℕ) Cause
 meant_after (Ok own) older number line = read_meant own older number line
 meant_after (Err fault) older number line = Err Form
 

@@ -137,9 +137,10 @@ fn local(words: Words<'_>) -> Result<Local, LineFault>
     })
 }
 
-/// Reads the header of answers, `css-agree 1 EL PL`, without its line feed: the error of the companion's oscillator, in
-/// 1/256 ppm and at most 2,560,000, and the precision of its readings, in nanoseconds and at most a second. Anything else
-/// is `Form`.
+/// Reads the header of answers, `css-agree 1 EL PL`, without its line feed.
+///
+/// EL is the error of the companion's oscillator, in 1/256 ppm and at most 2,560,000. PL is the precision of its
+/// readings, in nanoseconds and at most a second. Anything else is `Form`.
 pub fn read_header(bytes: &[u8]) -> Result<Local, LineFault>
     ensures { GivesBy (λ x. x) faults.Memory result (inputs.local_of bytes.now) }
 {
@@ -148,9 +149,9 @@ pub fn read_header(bytes: &[u8]) -> Result<Local, LineFault>
 
 /// Reads a line of answers after the header, without its line feed.
 ///
-/// - `answer T1 T2 T3 T4 K E`: the originate, receive and transmit times and the landing's reading, in nanoseconds below
-///   2^32 seconds; the television's precision as the base-2 logarithm of seconds, -128 to 30; and its max_freq_error, in
-///   1/256 ppm and at most 25,600,000.
+/// - `answer T1 T2 T3 T4 K E`: the originate, receive and transmit times and the landing's reading, in nanoseconds
+///   below 2^32 seconds; the television's precision as the base-2 logarithm of seconds, -128 to 30; and its
+///   max_freq_error, in 1/256 ppm and at most 25,600,000.
 /// - `at R`: a reading of the companion's clock, in nanoseconds below 2^32 seconds.
 ///
 /// Anything else is `Form`.

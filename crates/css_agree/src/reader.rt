@@ -86,7 +86,8 @@ fn add(
     ensures local { agree.new.local ≡ agree.old.local }
     ensures floor { agree.new.floor ≤ answer.t4 }
     ensures answers { (added : Added) → StandsFor agree.old added
-        → Answers (Ok (line_text agree.old.local number (lines.Answer answer) added)) out.old.items out.new.items result }
+        → Answers (Ok (line_text agree.old.local number (lines.Answer answer) added))
+        out.old.items out.new.items result }
     ensures stands { OnOk result ((added : Added) → StandsFor agree.old added
         → StandsFor agree.new (after_line agree.old.local (lines.Answer answer) added)) }
 {

@@ -49,7 +49,8 @@ pub(crate) fn agree<S: Source, K: Sink>(alloc: Global, source: &mut S, sink: &mu
     ensures agrees { (bytes : List ℕ) → S.left source.old ≡ Some bytes
         → Agrees bytes (S.left source.new) (K.holds sink.old) (K.holds sink.new) result }
     ensures complete { (bytes : List ℕ) → S.left source.old ≡ Some bytes → AreAllRead bytes
-        → HasNotFailed (S.faults source.old) (S.faults source.new) → HasNotFailed (K.faults sink.old) (K.faults sink.new)
+        → HasNotFailed (S.faults source.old) (S.faults source.new)
+        → HasNotFailed (K.faults sink.old) (K.faults sink.new)
         → IsDoneUnlessMemory result }
     ensures promise { Promised (S.left source.old) (S.left source.new) (K.holds sink.old) (K.holds sink.new) }
     ensures counted_reads { CountsReads (S.faults source.old) (S.faults source.new) result }

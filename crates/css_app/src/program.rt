@@ -67,7 +67,8 @@ fn replay<S: Source, K: Sink>(alloc: Global, source: &mut S, sink: &mut K) -> St
     ensures replays { (bytes : List ℕ) → S.left source.old ≡ Some bytes
         → Replays bytes (S.left source.new) (K.holds sink.old) (K.holds sink.new) result }
     ensures complete { (bytes : List ℕ) → S.left source.old ≡ Some bytes → IsAccepted bytes
-        → HasNotFailed (S.faults source.old) (S.faults source.new) → HasNotFailed (K.faults sink.old) (K.faults sink.new)
+        → HasNotFailed (S.faults source.old) (S.faults source.new)
+        → HasNotFailed (K.faults sink.old) (K.faults sink.new)
         → IsDoneUnlessMemory result }
     ensures promise { Promised (S.left source.old) (S.left source.new) (K.holds sink.old) (K.holds sink.new) }
     ensures counted_reads { CountsReads (S.faults source.old) (S.faults source.new) result }
@@ -85,9 +86,9 @@ fn replay<S: Source, K: Sink>(alloc: Global, source: &mut S, sink: &mut K) -> St
 
 /// Runs the program: the words are those after its name.
 ///
-/// The commands are `replay` and `agree`, each without further words. Both read lines from the source, and write what each
-/// line gives to the sink before they read on. `replay` reads a schedule; `agree` reads the answers of a wall clock, and
-/// tells what they say together.
+/// The commands are `replay` and `agree`, each without further words. Both read lines from the source, and write what
+/// each line gives to the sink before they read on. `replay` reads a schedule; `agree` reads the answers of a wall
+/// clock, and tells what they say together.
 pub fn run<S: Source, K: Sink>(
     alloc: Global,
     words: &[String],
@@ -110,17 +111,19 @@ pub fn run<S: Source, K: Sink>(
     // An input of which no line is refused is read to its end, over devices that don't fail.
     ensures complete { ended.command_of (map string_bytes words.now) ≡ Some Command.Replay → (bytes : List ℕ)
         → S.left source.old ≡ Some bytes → IsAccepted bytes
-        → HasNotFailed (S.faults source.old) (S.faults source.new) → HasNotFailed (K.faults sink.old) (K.faults sink.new)
+        → HasNotFailed (S.faults source.old) (S.faults source.new)
+        → HasNotFailed (K.faults sink.old) (K.faults sink.new)
         → IsDoneUnlessMemory result }
     ensures complete_answers { ended.command_of (map string_bytes words.now) ≡ Some Command.Agree → (bytes : List ℕ)
         → S.left source.old ≡ Some bytes → AreAllRead bytes
-        → HasNotFailed (S.faults source.old) (S.faults source.new) → HasNotFailed (K.faults sink.old) (K.faults sink.new)
+        → HasNotFailed (S.faults source.old) (S.faults source.new)
+        → HasNotFailed (K.faults sink.old) (K.faults sink.new)
         → IsDoneUnlessMemory result }
 
-    // Of every source: what the sink gained keeps the promise. Each interval of ticks contains the position that the last
-    // control timestamp received assigns to the value that its line gives the television's wall clock, and comes from the
-    // narrowest accepted response; lacking a response or usable timestamp the cause is printed. Once told, the companion's
-    // state of the content is one that the television published.
+    // Of every source: what the sink gained keeps the promise. Each interval of ticks contains the position that the
+    // last control timestamp received assigns to the value that its line gives the television's wall clock, and comes
+    // from the narrowest accepted response; lacking a response or usable timestamp the cause is printed. Once told, the
+    // companion's state of the content is one that the television published.
     ensures promise { ended.command_of (map string_bytes words.now) ≡ Some Command.Replay
         → Promised (S.left source.old) (S.left source.new) (K.holds sink.old) (K.holds sink.new) }
 
