@@ -1,0 +1,482 @@
+-- What is due at each stage of a turn, and what its calls make of the facts.
+use Rattle.std.proofs.Common.{◌≡◌, ℕ, ◌+◌, arith, ap, sym, ◌∙◌, subst, refl, Bool, true, false, cond}
+use Rattle.std.proofs.Common.{List, [], ◌∷◌, ◌++◌, Option, Some, None, Result, Ok, Err, eq-eqb, inl, inr}
+use Rattle.std.proofs.lemmas.Bool.{ne_eqb}
+use Rattle.std.specs.Prelude.{is_some, ◌&&◌, ◌==◌, IfSome, ◌⊎◌, ◌<◌, ◌≤◌}
+use Rattle.css_model.specs.declared.Kind.{Kind}
+use Rattle.css_model.specs.declared.Kind.TheVariants as kind
+use Rattle.css_model.specs.declared.Why.{Why}
+use Rattle.css_model.specs.declared.Why.TheVariants as why
+use Rattle.css_model.specs.Wire.{encoded, request_at}
+use Rattle.css_companion.specs.Aside.{IsAside}
+use Rattle.css_model.specs.History.{Address, Entry, Slept, Clock, Dialling, Dialled, NotDialled, Sent, Took, TookNone}
+use Rattle.css_model.specs.History.{Quiet, Heard, Closed, Wrote, Gone, HungUp, History, is_sleep, asking_at}
+use Rattle.css_model.specs.History.{request_by, landed_answer, sleeps, Each}
+use Rattle.css_address.specs.declared.fault.AddressFault.{AddressFault}
+use Rattle.css_cii.specs.declared.name.CiiName.{CiiName}
+use Rattle.css_cii.specs.declared.name.CiiName.TheVariants.{WcUrl, TsUrl}
+use Rattle.css_cii.specs.declared.state.State.{State}
+use Rattle.css_outside.specs.Outsides.{Counts, with_entries, clock_entries, sleep_entries, wrote_entries}
+use Rattle.css_outside.specs.declared.calls.Clocked.{Clocked}
+use Rattle.css_outside.specs.declared.calls.Wrote.{Wrote as Outcome}
+use Rattle.css_outside.specs.declared.calls.Wrote.TheVariants as outcome
+use Rattle.css_companion.specs.Contents.{next_number, told}
+use Rattle.css_companion.specs.Meanings.{kind_of, is_ts, is_cii, texts_of, state_of, cii_text, ts_text, closes_ts}
+use Rattle.css_companion.specs.Standing.{Companion}
+use Rattle.css_companion.specs.Steps.{none_owed, IsEntryOf}
+use Rattle.css_companion.specs.declared.event.CompanionEvent.TheVariants as event
+use Rattle.css_model.specs.declared.Stamp.{Stamp}
+use Rattle.css_model.specs.Explains.{IsLawful, IsJustAsked}
+use Rattle.css_companion.specs.declared.fault.CompanionFault.{CompanionFault}
+use Rattle.css_companion.specs.declared.fault.CompanionFault.TheVariants as fault
+use Rattle.css_companion.specs.declared.report.Report.{Report}
+use Rattle.css_drive.specs.CompanionDue as dues
+use Rattle.css_drive.specs.CompanionDue.{due, due_at, dial_to, dial_first, take_text, send_to, place, point_of, SetUp}
+use Rattle.css_drive.specs.CompanionDue.{from_turn, from_cii, from_wc, from_ts, from_ask, from_take, from_cii_text}
+use Rattle.css_drive.specs.CompanionDue.{from_ts_text, from_end, text_sent, text_gone, unless_refused, refusal_of}
+use Rattle.css_drive.specs.CompanionDue.{fault_in, end_by}
+use Rattle.css_drive.specs.CompanionReports.{is_due, report_at, due_reports, with_report}
+use Rattle.css_drive.specs.CompanionStanding.{Shown, Facts, facts_of, facts_in, KnowsPeers, Stands, Knows, GivesPlace}
+use Rattle.css_drive.specs.CompanionStanding.{asked_after, IsRefusal, HasRead, HasLost, Keeps, Comes, Stops}
+use Rattle.css_drive.specs.CompanionStanding.{dial_entries}
+use Rattle.css_drive.specs.CompanionTurns.{dialled, opened, is_peer, unless, is_asking, turns, turn_at, first_turn}
+use Rattle.css_drive.specs.Ends.{MayEnd}
+use Rattle.css_drive.specs.Proper.{Due, MayAdd, Now, Dial, TakeDatagram, TakeText, SendText, SendDatagram, Ends}
+use Rattle.css_drive.specs.declared.companion_live.Live.{Live}
+use Rattle.css_drive.specs.declared.config.DriveConfig.{DriveConfig}
+use Rattle.css_drive.specs.declared.driven.Driven.{Driven}
+use Rattle.css_drive.specs.declared.driven.Driven.TheVariants as driven
+use Rattle.css_drive.proofs.CompanionSteps.{opened_dialled, peers_as, knows_aside, stands_more, stops_after, comes}
+
+module _ (config : DriveConfig) (before now : Shown) (live : Live) (reports : List Report) (history : History)
+    (s : Stands config before now live reports history) where
+  -- ---- dials
+  pub cii_due : due config history ≡ from_cii config history → (o : Option ℕ) → live.cii ≡ o
+      → due config history ≡ dial_first o config.cii (from_wc config history)
+  cii_due d o e = d ∙ ap (λ x. dial_first x config.cii (from_wc config history)) (ap {A = Facts} (λ x. x.cii) s.facts
+      ∙ e)
+
+  pub wc_due : due config history ≡ from_wc config history → (o : Option ℕ) → live.wc ≡ o
+      → (p : Option (Result Address AddressFault)) → place kind.Wc (state_of history).wc_url ≡ p
+      → due config history ≡ dial_to o kind.Wc WcUrl p (from_ts config history)
+  wc_due d o e p at =
+      d ∙ ap (λ x. dial_to x kind.Wc WcUrl (place kind.Wc (state_of history).wc_url) (from_ts config history))
+      (ap {A = Facts} (λ x. x.wc) s.facts ∙ e)
+      ∙ ap (λ x. dial_to o kind.Wc WcUrl x (from_ts config history)) at
+
+  pub ts_due : due config history ≡ from_ts config history → (o : Option ℕ) → live.ts ≡ o
+      → (p : Option (Result Address AddressFault)) → place kind.Ts (state_of history).ts_url ≡ p
+      → due config history ≡ dial_to o kind.Ts TsUrl p (from_ask config history)
+  ts_due d o e p at =
+      d ∙ ap (λ x. dial_to x kind.Ts TsUrl (place kind.Ts (state_of history).ts_url) (from_ask config history))
+      (ap {A = Facts} (λ x. x.ts) s.facts ∙ e)
+      ∙ ap (λ x. dial_to o kind.Ts TsUrl x (from_ask config history)) at
+
+  -- ---- requests and datagrams
+  pub ask_due : due config history ≡ from_ask config history → (o : Option ℕ) → live.wc ≡ o → (b : Bool)
+      → is_asking config.ask_every live.turn live.asked ≡ b
+      → due config history ≡ cond (is_some o && b) (Now why.Ask) (from_take config history)
+  ask_due d o e b is =
+      d ∙ ap {A = Facts} (λ x. cond (is_some x.wc && is_asking config.ask_every x.turn x.asked) (Now why.Ask)
+      (from_take config history)) s.facts
+      ∙ ap (λ x. cond (is_some x && is_asking config.ask_every live.turn live.asked) (Now why.Ask) (from_take config
+      history)) e
+      ∙ ap (λ x. cond (is_some o && x) (Now why.Ask) (from_take config history)) is
+
+  pub take_due : due config history ≡ from_take config history → (o : Option ℕ) → live.wc ≡ o
+      → due config history ≡ cond (is_some o) TakeDatagram (from_cii_text config history)
+  take_due d o e =
+      d ∙ ap {A = Facts} (λ x. cond (is_some x.wc) TakeDatagram (from_cii_text config history)) s.facts
+      ∙ ap (λ x. cond (is_some x) TakeDatagram (from_cii_text config history)) e
+
+  -- ---- texts
+  pub cii_text_due : due config history ≡ from_cii_text config history → (o : Option ℕ) → live.cii_open ≡ o
+      → due config history ≡ take_text o (from_ts_text config history)
+  cii_text_due d o e =
+      d ∙ ap (λ x. take_text x (from_ts_text config history)) (ap {A = Facts} (λ x. x.cii_open) s.facts ∙ e)
+
+  pub ts_text_due : due config history ≡ from_ts_text config history → (o : Option ℕ) → live.ts_open ≡ o
+      → due config history ≡ take_text o (from_end config history)
+  ts_text_due d o e =
+      d ∙ ap (λ x. take_text x (from_end config history)) (ap {A = Facts} (λ x. x.ts_open) s.facts ∙ e)
+
+  -- ---- whose session it is
+  kind_at : (o : Option ℕ) (is : Kind) (p : ℕ) → IfSome o (λ peer. kind_of peer history ≡ Some is) → o ≡ Some p
+      → kind_of p history ≡ Some is
+  kind_at o is p k e = let P : Option ℕ → Type 0 = λ x. IfSome x (λ peer. kind_of peer history ≡ Some is) in subst P e k
+
+  pub open_cii : (p : ℕ) → live.cii_open ≡ Some p → kind_of p history ≡ Some kind.Cii
+  open_cii p e =
+      kind_at live.cii kind.Cii p s.peers.cii_kind (sym (ap {A = Facts} (λ x. x.cii) s.facts)
+      ∙ opened_dialled kind.Cii history p (ap {A = Facts} (λ x. x.cii_open) s.facts ∙ e))
+
+  pub open_ts : (p : ℕ) → live.ts_open ≡ Some p → kind_of p history ≡ Some kind.Ts
+  open_ts p e =
+      kind_at live.ts kind.Ts p s.peers.ts_kind (sym (ap {A = Facts} (λ x. x.ts) s.facts)
+      ∙ opened_dialled kind.Ts history p (ap {A = Facts} (λ x. x.ts_open) s.facts ∙ e))
+
+-- ---- sessions that end
+-- a session of another kind has another peer
+pub other_open : (history : History) (o : Option ℕ) (is other : Kind) (p : ℕ)
+    → ((q : ℕ) → o ≡ Some q → kind_of q history ≡ Some is) → kind_of p history ≡ Some other
+    → (Some is ≡ Some other → ⊥) → is_peer o p ≡ false
+other_open history None is other p opens k never = refl
+other_open history (Some q) is other p opens k never =
+    ne_eqb q p (λ e. never (sym (opens q refl) ∙ ap (λ x. kind_of x history) e ∙ k))
+
+same_open : (p : ℕ) (o : Option ℕ) → o ≡ Some p → is_peer o p ≡ true
+same_open p o e = ap (λ x. is_peer x p) e ∙ eq-eqb p p refl
+
+-- a session that ends is over, and no other
+abbrev pub closed : ℕ → Facts → Facts
+closed p x = record x {
+  cii_open = unless (is_peer x.cii_open p) x.cii_open;
+  ts_open = unless (is_peer x.ts_open p)
+      x.ts_open;
+}
+
+module _ (config : DriveConfig) (before now : Shown) (live : Live) (reports : List Report) (history : History)
+    (s : Stands config before now live reports history) where
+  over : (b d : Bool) → Facts
+  over b d = record (facts_in live reports) { cii_open = unless b live.cii_open; ts_open = unless d live.ts_open }
+
+  pub ts_over : (p : ℕ) → live.ts_open ≡ Some p → closed p (facts_of config history) ≡ record (facts_in live reports)
+      { ts_open = None }
+  unfolding over
+  ts_over p e =
+      ap {A = Facts} (closed p) s.facts
+      ∙ ap (λ b. over b (is_peer live.ts_open p)) (other_open history live.cii_open kind.Cii kind.Ts p (open_cii
+      config before now live reports history s) (open_ts config before now live reports history s p e) (λ x. cc))
+      ∙ ap (λ d. over false d) (same_open p live.ts_open e)
+
+  pub cii_over : (p : ℕ) → live.cii_open ≡ Some p → closed p (facts_of config history) ≡ record (facts_in live
+      reports) { cii_open = None }
+  unfolding over
+  cii_over p e =
+      ap {A = Facts} (closed p) s.facts
+      ∙ ap (λ b. over b (is_peer live.ts_open p)) (same_open p live.cii_open e)
+      ∙ ap (λ d. over true d) (other_open history live.ts_open kind.Ts kind.Cii p (open_ts config before now live
+      reports history s) (open_cii config before now live reports history s p e) (λ x. cc))
+
+  -- ---- readings
+  pub read_facts : (w : Why) (clocked : Clocked) → (w ≡ why.Ask) ⊎ (w ≡ why.Land)
+      → facts_of config (clock_entries w clocked ++ history)
+      ≡ record (facts_in live reports) { asked = asked_after clocked.slept live.asked }
+  read_facts w clocked is = by clocked.slept w is
+    where
+      by : (b : Bool) (w : Why) → (w ≡ why.Ask) ⊎ (w ≡ why.Land) → facts_of config (clock_entries w (record clocked {
+        slept = b;
+      }) ++ history)
+          ≡ record (facts_in live reports) { asked = asked_after b live.asked }
+      by true why.Ask is = ap {A = Facts} (λ x. record x { asked = None }) s.facts
+      by false why.Ask is = s.facts
+      by true why.Land is = ap {A = Facts} (λ x. record x { asked = None }) s.facts
+      by false why.Land is = s.facts
+      by b why.Turn (inl e) = absurd (cc)
+      by b why.Turn (inr e) = absurd (cc)
+      by b why.Take (inl e) = absurd (cc)
+      by b why.Take (inr e) = absurd (cc)
+      by b why.Give (inl e) = absurd (cc)
+      by b why.Give (inr e) = absurd (cc)
+
+pub peers_clock : (n : ℕ) (cii ts : Option ℕ) (w : Why) (clocked : Clocked) (history : History)
+    → KnowsPeers n cii ts history → KnowsPeers n cii ts (clock_entries w clocked ++ history)
+peers_clock n cii ts w clocked history k = by clocked.slept
+  where
+    by : (b : Bool) → KnowsPeers n cii ts (clock_entries w (record clocked { slept = b }) ++ history)
+    by true = record { cii_used = k.cii_used; ts_used = k.ts_used; cii_kind = k.cii_kind; ts_kind = k.ts_kind }
+    by false = record { cii_used = k.cii_used; ts_used = k.ts_used; cii_kind = k.cii_kind; ts_kind = k.ts_kind }
+
+pub live_peers : (n m : ℕ) (live later : Live) (history : History) → m ≡ n → later.cii ≡ live.cii
+    → later.ts ≡ live.ts → KnowsPeers n live.cii live.ts history → KnowsPeers m later.cii later.ts history
+live_peers n m live later history e cii ts k =
+    let P : ℕ → Type 0 = λ x. KnowsPeers x later.cii later.ts history in
+    let Q : Option ℕ → Type 0 = λ x. KnowsPeers n x later.ts history in
+    let R : Option ℕ → Type 0 = λ x. KnowsPeers n live.cii x history in
+    subst P (sym e) (subst Q (sym cii) (subst R (sym ts) k))
+
+-- after a reading the run stands
+pub stands_read : {config : DriveConfig} {before now : Shown} {live : Live} {reports : List Report} {history : History}
+    → (s : Stands config before now live reports history) → (w : Why) → (w ≡ why.Ask) ⊎ (w ≡ why.Land)
+    → due config history ≡ Now w
+    → (next : Shown) (later : Live) (was is : Companion) (clocked : Clocked)
+    → HasRead now next live later was is w clocked
+    → Stands config before next later reports (clock_entries w clocked ++ history)
+stands_read {config} {before} {now} {live} {reports} {history} s w is d next later was is-now clocked r =
+    let only = r.only reports in
+    stands_more s (Now w) d (clock_entries w clocked) (clocked, refl) next r.told r.faults later reports
+    (read_facts config before now live reports history s w clocked is ∙ sym only)
+    (live_peers now.counts.peers next.counts.peers live later (clock_entries w clocked ++ history) r.peers (ap {A =
+    Facts} (λ x. x.cii) only) (ap {A = Facts} (λ x. x.ts) only)
+    (peers_clock now.counts.peers live.cii live.ts w clocked history s.peers))
+
+-- the clock that is read tells a companion nothing but the sleep, unless an answer lands
+pub knows_read : (config : DriveConfig) (companion : Companion) (clocked : Clocked) (history : History)
+    → Knows config companion (sleep_entries clocked.slept ++ history)
+    → Knows config companion (clock_entries why.Turn clocked ++ history)
+knows_read config companion clocked history k = knows_aside config companion (Clock why.Turn clocked.reading)
+    (sleep_entries clocked.slept ++ history) k aside
+  where
+    aside : IsAside (Clock why.Turn clocked.reading) (sleep_entries clocked.slept ++ history)
+    aside = record {
+      client = record { awake = refl; asks_none = refl; sends_none = refl; lands_none = refl };
+      no_cii
+          = refl;
+      no_ts = refl;
+      no_end = refl;
+    }
+
+pub asked_to : (config : DriveConfig) (clocked : Clocked) (history : History)
+    → due config (clock_entries why.Ask clocked ++ history) ≡ send_to (dialled kind.Wc history) (encoded (request_at
+    clocked.reading))
+asked_to config clocked history = by clocked.slept
+  where
+    by : (b : Bool) → due config (clock_entries why.Ask (record clocked { slept = b }) ++ history) ≡ send_to (dialled
+        kind.Wc history) (encoded (request_at clocked.reading))
+    by true = refl
+    by false = refl
+
+pub landed_next : (config : DriveConfig) (clocked : Clocked) (history : History)
+    → due config (clock_entries why.Land clocked ++ history) ≡ from_cii_text config (clock_entries why.Land clocked
+    ++ history)
+landed_next config clocked history = by clocked.slept
+  where
+    by : (b : Bool) → due config (clock_entries why.Land (record clocked { slept = b }) ++ history) ≡ from_cii_text
+        config (clock_entries why.Land (record clocked { slept = b }) ++ history)
+    by true = refl
+    by false = refl
+
+pub lawful_plain : (entry : Entry) (history : History) → IsLawful history → asking_at entry ≡ None
+    → request_by entry ≡ None → IsLawful (entry ∷ history)
+lawful_plain entry history l asks sends =
+    record {
+      rises = (
+        subst (λ (o : Option ℕ). IfSome o (λ reading. Each (λ earlier older. IfSome (asking_at earlier) (λ
+            asked. sleeps older < sleeps history → asked < reading)) history)) (sym asks) tt,
+        l.rises,
+      );
+      asks = (
+        subst (λ (o : Option Stamp). IfSome o (λ originate. IsJustAsked originate history)) (sym sends) tt,
+        l.asks,
+      );
+    }
+
+-- an entry that tells a companion nothing
+pub knows_plain : (config : DriveConfig) (companion : Companion) (entry : Entry) (history : History)
+    → Knows config companion history → is_sleep entry ≡ false → asking_at entry ≡ None
+    → request_by entry ≡ None → landed_answer entry history ≡ None → cii_text entry history ≡ None
+    → ts_text entry history ≡ None → closes_ts entry history ≡ false
+    → Knows config companion (entry ∷ history)
+knows_plain config companion entry history k awake asks sends lands cii ts end =
+    knows_aside config companion entry history k (record {
+      client = record {
+        awake = awake;
+        asks_none = asks;
+        sends_none = sends;
+        lands_none = lands;
+      };
+      no_cii = cii;
+      no_ts = ts;
+      no_end = end;
+    })
+
+pub knows_tried : (config : DriveConfig) (companion : Companion) (k : Kind) (to : Address) (tried : Option ℕ)
+    (history : History) → Knows config companion history
+    → Knows config companion (dial_entries k to tried ++ history)
+knows_tried config companion k to None history knows =
+    knows_plain config companion (NotDialled k) (Dialling k to ∷ history) (knows_plain config companion (Dialling k
+    to) history knows refl refl refl refl refl refl refl) refl refl refl refl refl refl refl
+knows_tried config companion k to (Some p) history knows =
+    knows_plain config companion (Dialled k p) (Dialling k to ∷ history) (knows_plain config companion (Dialling k
+    to) history knows refl refl refl refl refl refl refl) refl refl refl refl refl refl refl
+
+-- after a sleep nothing lands
+pub slept_landing : (config : DriveConfig) (companion : Companion) (clocked : Clocked) (history : History)
+    → clocked.slept ≡ true → Knows config companion (sleep_entries clocked.slept ++ history)
+    → Knows config companion (clock_entries why.Land clocked ++ history)
+slept_landing config companion clocked history e k = by clocked.slept e k
+  where
+    by : (b : Bool) → b ≡ true → Knows config companion (sleep_entries b ++ history)
+        → Knows config companion (clock_entries why.Land (record { reading = clocked.reading; slept = b }) ++ history)
+    by true e k = knows_plain config companion (Clock why.Land clocked.reading) (Slept ∷ history) k refl refl refl
+        refl refl refl refl
+    by false e k = absurd (cc)
+
+-- without one the datagram taken just before does
+pub awake_landing : (config : DriveConfig) (was is : Companion) (clocked : Clocked) (p : ℕ) (bytes : List ℕ) (history
+    : History) → clocked.slept ≡ false → Knows config was (sleep_entries clocked.slept ++ history)
+    → (Knows config was history → Knows config is (Clock why.Land clocked.reading ∷ Took p bytes ∷ history))
+    → Knows config is (clock_entries why.Land clocked ++ (Took p bytes ∷ history))
+awake_landing config was is-now clocked p bytes history e k land = by clocked.slept e k
+  where
+    by : (b : Bool) → b ≡ false → Knows config was (sleep_entries b ++ history)
+        → Knows config is-now (clock_entries why.Land (record { reading = clocked.reading; slept = b }) ++ (Took p
+        bytes ∷ history))
+    by true e k = absurd (cc)
+    by false e k = land k
+
+-- ---- texts
+-- what is due after a session was asked for a text
+pub asked_cii : (config : DriveConfig) (entry : Entry) (p : ℕ) (history : History) → (due config (entry ∷ history)
+    ≡ cond (is_ts (kind_of p history)) (from_end config (entry ∷ history)) (from_ts_text config (entry ∷ history)))
+    → kind_of p history ≡ Some kind.Cii → due config (entry ∷ history) ≡ from_ts_text config (entry ∷ history)
+asked_cii config entry p history e k =
+    e ∙ ap (λ x. cond (is_ts x) (from_end config (entry ∷ history)) (from_ts_text config (entry ∷ history))) k
+
+pub asked_ts : (config : DriveConfig) (entry : Entry) (p : ℕ) (history : History) → (due config (entry ∷ history)
+    ≡ cond (is_ts (kind_of p history)) (from_end config (entry ∷ history)) (from_ts_text config (entry ∷ history)))
+    → kind_of p history ≡ Some kind.Ts → due config (entry ∷ history) ≡ from_end config (entry ∷ history)
+asked_ts config entry p history e k =
+    e ∙ ap (λ x. cond (is_ts x) (from_end config (entry ∷ history)) (from_ts_text config (entry ∷ history))) k
+
+pub heard_cii : (config : DriveConfig) (p : ℕ) (bytes : List ℕ) (history : History) (f : Option CompanionFault)
+    → kind_of p history ≡ Some kind.Cii
+    → refusal_of (Some bytes) history ≡ f → due config (Heard p bytes ∷ history) ≡ unless_refused f (from_ts_text
+    config (Heard p bytes ∷ history))
+heard_cii config p bytes history f k r =
+    ap (λ x. unless_refused (refusal_of (cond (is_cii x) (Some bytes) None) history) (cond (is_ts x) (from_end config
+    (Heard p bytes ∷ history)) (from_ts_text config (Heard p bytes ∷ history)))) k
+    ∙ ap (λ x. unless_refused x (from_ts_text config (Heard p bytes ∷ history))) r
+
+pub heard_ts : (config : DriveConfig) (p : ℕ) (bytes : List ℕ) (history : History) → kind_of p history ≡ Some kind.Ts
+    → due config (Heard p bytes ∷ history) ≡ from_end config (Heard p bytes ∷ history)
+heard_ts config p bytes history k =
+    ap (λ x. unless_refused (refusal_of (cond (is_cii x) (Some bytes) None) history) (cond (is_ts x) (from_end config
+    (Heard p bytes ∷ history)) (from_ts_text config (Heard p bytes ∷ history)))) k
+
+-- a refused text ends the run so
+pub refusal_ends : (refusal : Option CompanionFault) (rest : Due) (ended : Driven) → IsRefusal refusal ended
+    → MayEnd (unless_refused refusal rest) ended
+refusal_ends None rest ended r = by ended r
+  where
+    by : (ended : Driven) → IsRefusal None ended → MayEnd rest ended
+    by driven.Memory r = tt
+    by driven.NetFault r = tt
+    by driven.WriteFault r = tt
+    by driven.Done r = absurd r
+    by (driven.BadLine line why) r = absurd r
+    by (driven.BadCii text fault) r = absurd r
+    by (driven.Moved property old new) r = absurd r
+    by (driven.Spent turns) r = absurd r
+    by (driven.Unreachable turns) r = absurd r
+    by (driven.BadUrl property) r = absurd r
+refusal_ends (Some f) rest ended r = by ended r
+  where
+    by : (ended : Driven) → IsRefusal (Some f) ended → MayEnd (Ends (end_by f)) ended
+    by driven.Memory r = tt
+    by driven.NetFault r = tt
+    by driven.WriteFault r = tt
+    by driven.Done r = ap Ends (sym r)
+    by (driven.BadLine line why) r = ap Ends (sym r)
+    by (driven.BadCii text fault) r = ap Ends (sym r)
+    by (driven.Moved property old new) r = ap Ends (sym r)
+    by (driven.Spent turns) r = ap Ends (sym r)
+    by (driven.Unreachable turns) r = ap Ends (sym r)
+    by (driven.BadUrl property) r = ap Ends (sym r)
+
+pub refusal_quiet : (refusal : Option CompanionFault) → IsRefusal refusal driven.NetFault → ⊥
+refusal_quiet None r = r
+refusal_quiet (Some (fault.BadCii number reason)) r = cc
+refusal_quiet (Some (fault.Moved property old new)) r = cc
+refusal_quiet (Some fault.Memory) r = cc
+
+-- a text that is refused ends the run
+pub refused_stops : {config : DriveConfig} {before now : Shown} {live : Live} {reports : List Report} {history :
+    History} → Stands config before now live reports history → (d : Due) → due config history ≡ d
+    → (p : ℕ) (bytes : List ℕ) → MayAdd d (Heard p bytes ∷ []) → (next : Shown)
+    → next.told ≡ with_entries (Heard p bytes ∷ []) now.told → next.counts.faults ≡ now.counts.faults
+    → IsLawful history
+    → kind_of p history ≡ Some kind.Cii → (ended : Driven) → IsRefusal (refusal_of (Some bytes) history) ended
+    → Stops config before next reports ended
+refused_stops {config} {before} {now} {live} {reports} {history} s d is-due p bytes may next told faults lawful k
+    ended r =
+    let P : Due → Type 0 = λ x. MayEnd x ended in
+    let Q : Driven → Type 0 = λ x. IsRefusal (refusal_of (Some bytes) history) x in
+    stops_after s d is-due (Heard p bytes ∷ []) may next told faults (lawful_plain (Heard p bytes) history lawful
+    refl refl) (ap {A = Facts} (λ x. x.reports) s.facts) ended
+    (λ e. refusal_quiet (refusal_of (Some bytes) history) (subst Q e r))
+    (subst P (sym (heard_cii config p bytes history (refusal_of (Some bytes) history) k refl)) (refusal_ends
+    (refusal_of (Some bytes) history) (from_ts_text config (Heard p bytes ∷ history)) ended r))
+
+pub owed_none : (r : Result State CompanionFault) (v : Option (List ℕ)) → none_owed r ≡ Ok v → fault_in r ≡ None
+owed_none (Ok state) v e = refl
+owed_none (Err f) v e = absurd (cc)
+
+pub owed_fault : (r : Result State CompanionFault) (f : CompanionFault) → none_owed r ≡ Err f → fault_in r ≡ Some f
+owed_fault (Ok state) f e = absurd (cc)
+owed_fault (Err f) g e = let same : f ≡ g = cc in ap Some same
+
+-- ---- the addresses that are told
+abbrev pub wc_place : State → Option (Result Address AddressFault)
+wc_place state = place kind.Wc state.wc_url
+
+abbrev pub ts_place : State → Option (Result Address AddressFault)
+ts_place state = place kind.Ts state.ts_url
+
+pub same_peers : {old new : Counts} → new ≡ old → old.peers ≤ new.peers
+same_peers {old} {new} e = let f : new.peers ≡ old.peers = ap (λ x. x.peers) e in omega (arith, f)
+
+pub unchanged : {old new : Counts} → new ≡ record old { faults = new.faults } → new.faults ≡ old.faults → new ≡ old
+unchanged {old} {new} e f = e ∙ ap {A = ℕ} {B = Counts} (λ n. record old { faults = n }) f
+
+pub keeps_same : {old new : Counts} {before now : Live} → new.dial_faults ≡ old.dial_faults
+    → Keeps new new before now → Keeps old new before now
+keeps_same e k = record { made = k.made; reported = k.reported; dials = omega (arith, e); dialled = k.dialled }
+
+-- ---- the TS session is over
+pub over_comes : {config : DriveConfig} {before now : Shown} {live : Live} {reports : List Report} {history :
+    History} → Stands config before now live reports history → (d : Due) → due config history ≡ d
+    → (entry : Entry) → MayAdd d (entry ∷ []) → (next : Shown) → next.told ≡ with_entries (entry ∷ []) now.told
+    → next.counts ≡ now.counts → (later : Live) (was is : Companion) → HasLost live later was is
+    → facts_of config (entry ∷ history) ≡ record (facts_in live reports) { ts_open = None } → ((q : ℕ)
+    → kind_of q (entry ∷ history) ≡ kind_of q history) → Knows config was history
+    → IsEntryOf event.TsClosed entry history
+    → (to : History → Due) → due config (entry ∷ history) ≡ to (entry ∷ history)
+    → Comes config before next later is reports to
+over_comes {config} {before} {now} {live} {reports} {history} s d is-due entry may next told same later was is-now l
+    facts kinds k ends to goes =
+    let only = l.only reports in
+    comes (stands_more s d is-due (entry ∷ []) may next told (ap (λ x. x.faults) same) later reports (facts ∙ sym only)
+    (live_peers now.counts.peers next.counts.peers live later (entry ∷ history) (ap (λ x. x.peers) same) (ap {A =
+    Facts} (λ x. x.cii) only) (ap {A = Facts} (λ x. x.ts) only) (peers_as now.counts.peers now.counts.peers
+    live.cii live.ts history (entry ∷ history) s.peers (omega arith) kinds)))
+    (l.known config history entry k ends) to goes
+
+pub over_stops : {config : DriveConfig} {before now : Shown} {live : Live} {reports : List Report} {history :
+    History} → Stands config before now live reports history → (d : Due) → due config history ≡ d
+    → (entry : Entry) → MayAdd d (entry ∷ []) → (next : Shown) → next.told ≡ with_entries (entry ∷ []) now.told
+    → next.counts ≡ now.counts → IsLawful history → asking_at entry ≡ None → request_by entry ≡ None
+    → turn_at entry ≡ None → (ended : Driven) → ended ≡ driven.Memory → Stops config before next reports ended
+over_stops {config} {before} {now} {reports} {history} s d is-due entry may next told same lawful asks sends turns
+    ended e =
+    let P : Driven → Type 0 = λ x. Stops config before next reports x in
+    subst P (sym e) (stops_after s d is-due (entry ∷ []) may next told (ap (λ x. x.faults) same) (lawful_plain entry
+    history lawful asks sends)
+    (ap (λ o. with_report config o history (first_turn history) (due_reports config history)) turns
+    ∙ ap {A = Facts} (λ x. x.reports) s.facts) driven.Memory (λ x. cc) tt)
+
+-- ---- addresses
+-- a bad address ends the run
+pub bad_place : (property : CiiName) (told : Option (Result Address AddressFault)) (k : Kind) (rest : Due) (ended :
+    Driven)
+    → GivesPlace property told (Err ended) → MayEnd (dial_to None k property told rest) ended
+bad_place property told k rest driven.Memory g = tt
+bad_place property told k rest driven.NetFault g = tt
+bad_place property told k rest driven.WriteFault g = tt
+bad_place property told k rest driven.Done g = absurd (let e : driven.Done ≡ driven.BadUrl property = g.1 in cc)
+bad_place property told k rest (driven.BadLine line why) g = absurd (let e : driven.BadLine line why ≡ driven.BadUrl
+    property = g.1 in cc)
+bad_place property told k rest (driven.BadCii text fault) g = absurd (let e : driven.BadCii text fault ≡
+    driven.BadUrl property = g.1 in cc)
+bad_place property told k rest (driven.Moved p old new) g = absurd (let e : driven.Moved p old new ≡ driven.BadUrl
+    property = g.1 in cc)
+bad_place property told k rest (driven.Spent turns) g = absurd (let e : driven.Spent turns ≡ driven.BadUrl property =
+    g.1 in cc)
+bad_place property told k rest (driven.Unreachable turns) g = absurd (let e : driven.Unreachable turns ≡
+    driven.BadUrl property = g.1 in cc)
+bad_place property told k rest (driven.BadUrl p) g =
+    ap (λ x. dial_to None k property x rest) g.2 ∙ ap Ends (sym g.1)
+
+pub bad_quiet : (property : CiiName) (told : Option (Result Address AddressFault))
+    → GivesPlace property told (Err driven.NetFault) → ⊥
+bad_quiet property told g = let e : driven.NetFault ≡ driven.BadUrl property = g.1 in cc

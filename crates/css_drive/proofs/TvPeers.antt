@@ -1,0 +1,239 @@
+-- What is known of the peers that a television's loop keeps.
+use Rattle.std.proofs.Common.{◌≡◌, ℕ, ◌+◌, ◌<◌, ◌≤◌, Bool, true, false, not, cond, eqb, ltb, List, [], ◌∷◌, ◌++◌}
+use Rattle.std.proofs.Common.{refl, sym, ap, subst, ◌∙◌, arith, length, take, drop, get_or, add-one, zero, suc}
+use Rattle.std.specs.Prelude.{◌||◌, ◌&&◌, ◌==◌, nat_lt, filter, All, Option, Some, None, if◌then◌else◌}
+use Rattle.std.specs.List.{remove}
+use Rattle.std.proofs.lemmas.Bool.{eq-eqb, eqb-true, eqb-false}
+use Rattle.std.proofs.lemmas.Bool.Decides.{nat_tests}
+use Rattle.std.proofs.lemmas.Grind.{common_steps}
+use Rattle.std.proofs.lemmas.List.{append-nil}
+use Rattle.std.proofs.lemmas.List.Elements.{filter-append, All-filter, All-head, All-tail, All-nil, All-cons}
+use Rattle.css_sessions.specs.Told.{with_peer}
+use Rattle.css_drive.specs.TvPeers.{above, has, Covers, AreRising, Knows, Narrows}
+
+-- ---- filters
+and-comm : (a b : Bool) → (a && b) ≡ (b && a)
+and-comm true true = refl
+and-comm true false = refl
+and-comm false true = refl
+and-comm false false = refl
+
+filter-both : (f g : ℕ → Bool) (xs : List ℕ) → filter f (filter g xs) ≡ filter (λ x. g x && f x) xs
+filter-both f g [] = refl
+filter-both f g (x ∷ xs) = go (g x) (filter-both f g xs) where
+  go : (b : Bool) → filter f (filter g xs) ≡ filter (λ x. g x && f x) xs
+      → filter f (cond b (x ∷ filter g xs) (filter g xs)) ≡ cond (b && f x) (x ∷ filter (λ x. g x && f x) xs) (filter (λ x. g x && f x) xs)
+  go true ih = ap (λ ys. cond (f x) (x ∷ ys) ys) ih
+  go false ih = ih
+
+filter-alike : (f g : ℕ → Bool) (xs : List ℕ) → All (λ x. f x ≡ g x) xs → filter f xs ≡ filter g xs
+filter-alike f g [] h = refl
+filter-alike f g (x ∷ xs) h = ap (λ b. cond b (x ∷ filter f xs) (filter f xs)) (All-head (λ x. f x ≡ g x) x xs h)
+    ∙ ap (λ ys. cond (g x) (x ∷ ys) ys) (filter-alike f g xs (All-tail (λ x. f x ≡ g x) x xs h))
+
+all-of : (P : ℕ → Type 0) (xs : List ℕ) → ((x : ℕ) → P x) → All P xs
+all-of P [] h = All-nil P
+all-of P (x ∷ xs) h = All-cons P x xs (h x) (all-of P xs h)
+
+filter-comm : (f g : ℕ → Bool) (xs : List ℕ) → filter f (filter g xs) ≡ filter g (filter f xs)
+filter-comm f g xs = filter-both f g xs
+    ∙ filter-alike (λ x. g x && f x) (λ x. f x && g x) xs (all-of (λ x. (g x && f x) ≡ (f x && g x)) xs (λ x. and-comm (g x) (f x)))
+    ∙ sym (filter-both g f xs)
+
+-- ---- elements
+has-filter : (f : ℕ → Bool) (q : ℕ) (xs : List ℕ) → has q (filter f xs) ≡ (f q && has q xs)
+has-filter f q [] = none (f q) where
+  none : (b : Bool) → false ≡ (b && false)
+  none true = refl
+  none false = refl
+has-filter f q (x ∷ xs) = go (f x) (eqb x q) (f q) (λ e. ap f (eqb-true x q e)) refl (has-filter f q xs) where
+  go : (passes same also : Bool) → (same ≡ true → passes ≡ also) → eqb x q ≡ same → has q (filter f xs) ≡ (also && has q xs)
+      → has q (cond passes (x ∷ filter f xs) (filter f xs)) ≡ (also && (same || has q xs))
+  go true true true alike e ih = ap (λ b. b || has q (filter f xs)) e
+  go true true false alike e ih = absurd (let t : true ≡ false = alike refl in cc)
+  go true false true alike e ih = ap (λ b. b || has q (filter f xs)) e ∙ ih
+  go true false false alike e ih = ap (λ b. b || has q (filter f xs)) e ∙ ih
+  go false true true alike e ih = absurd (let t : false ≡ true = alike refl in cc)
+  go false true false alike e ih = ih
+  go false false true alike e ih = ih
+  go false false false alike e ih = ih
+
+-- ---- closing
+pub covers_filtered : (f : ℕ → Bool) (peers live : List ℕ) → Covers peers live → Covers peers (filter f live)
+covers_filtered f peers live covers =
+    filter-alike (λ x. has x (filter f live)) (λ x. has x live && f x) peers
+    (all-of (λ x. has x (filter f live) ≡ (has x live && f x)) peers (λ x. has-filter f x live ∙ and-comm (f x) (has x live)))
+    ∙ sym (filter-both f (λ x. has x live) peers)
+    ∙ ap (filter f) covers
+
+-- ---- opening
+has-more : (x q : ℕ) (live : List ℕ) → eqb q x ≡ false → has x (live ++ q ∷ []) ≡ has x live
+has-more x q [] e = ap (λ b. b || false) e
+has-more x q (y ∷ live) e = ap (λ b. eqb y x || b) (has-more x q live e)
+
+has-last : (q : ℕ) (live : List ℕ) → has q (live ++ q ∷ []) ≡ true
+has-last q [] = ap (λ b. b || false) (eq-eqb q q refl)
+has-last q (y ∷ live) = ap (λ b. eqb y q || b) (has-last q live) ∙ or-true (eqb y q) where
+  or-true : (b : Bool) → (b || true) ≡ true
+  or-true true = refl
+  or-true false = refl
+
+apart : (q : ℕ) (xs live : List ℕ) → All (λ x. x < q) xs → All (λ x. has x (live ++ q ∷ []) ≡ has x live) xs
+apart q [] live h = All-nil _
+apart q (x ∷ xs) live h =
+    let lt : x < q = All-head (λ x. x < q) x xs h in
+    let no : eqb q x ≡ false = grind (arith, nat_tests) in
+    All-cons (λ x. has x (live ++ q ∷ []) ≡ has x live) x xs (has-more x q live no) (apart q xs live (All-tail (λ x. x < q) x xs h))
+
+covers_opened : (q : ℕ) (peers live : List ℕ) → All (λ x. x < q) peers → Covers peers live → Covers (peers ++ q ∷ []) (live ++ q ∷ [])
+covers_opened q peers live below covers =
+    filter-append (λ x. has x (live ++ q ∷ [])) peers (q ∷ [])
+    ∙ ap (λ b. filter (λ x. has x (live ++ q ∷ [])) peers ++ cond b (q ∷ []) []) (has-last q live)
+    ∙ ap (λ xs. xs ++ q ∷ []) (filter-alike (λ x. has x (live ++ q ∷ [])) (λ x. has x live) peers (apart q peers live below) ∙ covers)
+
+at-end : (q : ℕ) (live : List ℕ) → All (λ x. x < q) live → with_peer q live ≡ live ++ q ∷ []
+at-end q [] h = refl
+at-end q (x ∷ live) h =
+    let lt : x < q = All-head (λ x. x < q) x live h in
+    let yes : ltb x q ≡ true = grind (arith, nat_tests) in
+    ap (λ b. cond b (x ∷ with_peer q live) (q ∷ x ∷ live)) yes ∙ ap (λ xs. x ∷ xs) (at-end q live (All-tail (λ x. x < q) x live h))
+
+pub below_live : (q : ℕ) (peers live : List ℕ) → All (λ x. x < q) peers → Covers peers live → All (λ x. x < q) live
+below_live q peers live below covers = subst (All (λ x. x < q)) covers (All-filter (λ x. has x live) (λ x. x < q) peers below)
+
+pub covers_more : (q : ℕ) (peers live : List ℕ) → All (λ x. x < q) peers → Covers peers live → Covers (peers ++ q ∷ []) (with_peer q live)
+covers_more q peers live below covers =
+    subst (Covers (peers ++ q ∷ [])) (sym (at-end q live (below_live q peers live below covers))) (covers_opened q peers live below covers)
+
+-- ---- order
+rises : (from : ℕ) (xs : List ℕ) → AreRising from xs → All (λ x. from ≤ x) xs
+rises from [] h = All-nil _
+rises from (x ∷ xs) h =
+    All-cons (λ x. from ≤ x) x xs h.0 (lower from (x + 1) xs (omega (arith, h.0)) (rises (x + 1) xs h.1)) where
+      lower : (a b : ℕ) (xs : List ℕ) → a ≤ b → All (λ x. b ≤ x) xs → All (λ x. a ≤ x) xs
+      lower a b [] le h = All-nil _
+      lower a b (x ∷ xs) le h =
+          let here : b ≤ x = All-head (λ x. b ≤ x) x xs h in
+          All-cons (λ x. a ≤ x) x xs (omega (arith, here, le)) (lower a b xs le (All-tail (λ x. b ≤ x) x xs h))
+
+rising-later : (a b : ℕ) (xs : List ℕ) → b ≤ a → AreRising a xs → AreRising b xs
+rising-later a b [] le h = tt
+rising-later a b (x ∷ xs) le h = (omega (arith, le, h.0), h.1)
+
+pub rising_last : (from q : ℕ) (xs : List ℕ) → AreRising from xs → All (λ x. x < q) xs → from ≤ q → AreRising from (xs ++ q ∷ [])
+rising_last from q [] h below le = (le, tt)
+rising_last from q (x ∷ xs) h below le =
+    let lt : x < q = All-head (λ x. x < q) x xs below in
+    (h.0, rising_last (x + 1) q xs h.1 (All-tail (λ x. x < q) x xs below) (omega (arith, lt)))
+
+pass-all : (p : ℕ) (xs : List ℕ) → All (λ x. p + 1 ≤ x) xs → filter (λ x. nat_lt p x) xs ≡ xs
+pass-all p [] h = refl
+pass-all p (x ∷ xs) h =
+    let le : p + 1 ≤ x = All-head (λ x. p + 1 ≤ x) x xs h in
+    let yes : ltb p x ≡ true = grind (arith, nat_tests) in
+    ap (λ b. cond b (x ∷ filter (λ x. nat_lt p x) xs) (filter (λ x. nat_lt p x) xs)) yes ∙ ap (λ ys. x ∷ ys) (pass-all p xs (All-tail (λ x. p + 1 ≤ x) x xs h))
+
+-- ---- the place of a peer
+-- what stands behind a front part
+split : (i : ℕ) (xs : List ℕ) (p : ℕ) → i < length xs → p ≡ get_or xs i p → drop i xs ≡ p ∷ drop (i + 1) xs
+split i xs p lt is = grind (arith, common_steps)
+
+All-drop : (i : ℕ) (P : ℕ → Type 0) (xs : List ℕ) → All P xs → All P (drop i xs)
+All-drop zero P xs h = h
+All-drop (suc i) P [] h = h
+All-drop (suc i) P (x ∷ xs) h = All-drop i P xs (All-tail P x xs h)
+
+drops-none : (i p : ℕ) (rest : List ℕ) → drop i [] ≡ p ∷ rest → ⊥
+drops-none zero p rest e = absurd (let t : [] ≡ p ∷ rest = e in cc)
+drops-none (suc i) p rest e = absurd (let t : [] ≡ p ∷ rest = e in cc)
+
+passed : (from i p : ℕ) (xs rest : List ℕ) → AreRising from xs → drop i xs ≡ p ∷ rest → filter (λ x. nat_lt p x) xs ≡ rest
+passed from i p [] rest h e = absurd (drops-none i p rest e)
+passed from zero p (x ∷ xs) rest h e =
+    let same : x ≡ p = cc in
+    let rest_is : xs ≡ rest = cc in
+    let no : ltb p x ≡ false = grind (arith, nat_tests) in
+    let more : AreRising (p + 1) xs = subst (λ y. AreRising (y + 1) xs) same h.1 in
+    ap (λ b. cond b (x ∷ filter (λ x. nat_lt p x) xs) (filter (λ x. nat_lt p x) xs)) no ∙ pass-all p xs (rises (p + 1) xs more) ∙ rest_is
+passed from (suc i) p (x ∷ xs) rest h e =
+    let lt : x + 1 ≤ p = All-head (λ y. x + 1 ≤ y) p rest (subst (All (λ y. x + 1 ≤ y)) e (All-drop i (λ y. x + 1 ≤ y) xs (rises (x + 1) xs h.1))) in
+    let no : ltb p x ≡ false = grind (arith, nat_tests) in
+    ap (λ b. cond b (x ∷ filter (λ x. nat_lt p x) xs) (filter (λ x. nat_lt p x) xs)) no ∙ passed (x + 1) i p xs rest h.1 e
+
+pub above_passed : (i p : ℕ) (peers live rest : List ℕ) → AreRising 0 peers → Covers peers live → drop i peers ≡ p ∷ rest
+    → above (Some p) live ≡ filter (λ x. has x live) rest
+above_passed i p peers live rest rising covers e =
+    ap (filter (λ x. nat_lt p x)) (sym covers)
+    ∙ filter-comm (λ x. nat_lt p x) (λ x. has x live) peers
+    ∙ ap (filter (λ x. has x live)) (passed 0 i p peers rest rising e)
+
+-- a peer without a session may be left out
+removed : (i p : ℕ) (xs rest : List ℕ) → drop i xs ≡ p ∷ rest → drop (suc i) xs ≡ rest
+removed i p [] rest e = absurd (drops-none i p rest e)
+removed zero p (x ∷ xs) rest e = cc
+removed (suc i) p (x ∷ xs) rest e = removed i p xs rest e
+
+pub drop_removed : (i p : ℕ) (xs rest : List ℕ) → drop i xs ≡ p ∷ rest → drop i (remove xs i) ≡ rest
+drop_removed i p [] rest e = absurd (drops-none i p rest e)
+drop_removed zero p (x ∷ xs) rest e = cc
+drop_removed (suc i) p (x ∷ xs) rest e = drop_removed i p xs rest e
+
+pub covers_removed : (i p : ℕ) (peers live rest : List ℕ) → drop i peers ≡ p ∷ rest → has p live ≡ false → Covers peers live → Covers (remove peers i) live
+covers_removed i p peers live rest e lacks covers = filter-without i peers e ∙ covers where
+  filter-without : (i : ℕ) (xs : List ℕ) → drop i xs ≡ p ∷ rest → filter (λ x. has x live) (remove xs i) ≡ filter (λ x. has x live) xs
+  filter-without i [] e = absurd (drops-none i p rest e)
+  filter-without zero (x ∷ xs) e =
+      let same : x ≡ p = cc in
+      sym (ap (λ b. cond b (x ∷ filter (λ x. has x live) xs) (filter (λ x. has x live) xs)) (ap (λ y. has y live) same ∙ lacks))
+  filter-without (suc i) (x ∷ xs) e = ap (λ ys. cond (has x live) (x ∷ ys) ys) (filter-without i xs e)
+
+pub rising_removed : (from i p : ℕ) (xs rest : List ℕ) → drop i xs ≡ p ∷ rest → AreRising from xs → AreRising from (remove xs i)
+rising_removed from i p [] rest e h = absurd (drops-none i p rest e)
+rising_removed from zero p (x ∷ xs) rest e h = rising-later (x + 1) from xs (omega (arith, h.0)) h.1
+rising_removed from (suc i) p (x ∷ xs) rest e h = (h.0, rising_removed (x + 1) i p xs rest e h.1)
+
+pub below_removed : (P : ℕ → Type 0) (i p : ℕ) (xs rest : List ℕ) → drop i xs ≡ p ∷ rest → All P xs → All P (remove xs i)
+below_removed P i p [] rest e h = absurd (drops-none i p rest e)
+below_removed P zero p (x ∷ xs) rest e h = All-tail P x xs h
+below_removed P (suc i) p (x ∷ xs) rest e h = All-cons P x (remove xs i) (All-head P x xs h) (below_removed P i p xs rest e (All-tail P x xs h))
+
+-- the first of what is left to be asked
+pub next_has : (p : ℕ) (live rest : List ℕ) → has p live ≡ true → filter (λ x. has x live) (p ∷ rest) ≡ p ∷ filter (λ x. has x live) rest
+next_has p live rest there = ap (λ b. cond b (p ∷ filter (λ x. has x live) rest) (filter (λ x. has x live) rest)) there
+
+pub next_lacks : (p : ℕ) (live rest : List ℕ) → has p live ≡ false → filter (λ x. has x live) (p ∷ rest) ≡ filter (λ x. has x live) rest
+next_lacks p live rest lacks = ap (λ b. cond b (p ∷ filter (λ x. has x live) rest) (filter (λ x. has x live) rest)) lacks
+
+pub has-none : (q : ℕ) (live : List ℕ) → All (λ x. x < q) live → has q live ≡ false
+has-none q [] h = refl
+has-none q (x ∷ live) h =
+    let lt : x < q = All-head (λ x. x < q) x live h in
+    let lacks : eqb x q ≡ false = grind (arith, nat_tests) in
+    ap (λ b. b || has q live) lacks ∙ has-none q live (All-tail (λ x. x < q) x live h)
+
+pub covers_unopened : (q : ℕ) (peers live : List ℕ) → All (λ x. x < q) peers → Covers peers live → Covers (peers ++ q ∷ []) live
+covers_unopened q peers live below covers =
+    filter-append (λ x. has x live) peers (q ∷ [])
+    ∙ ap (λ b. filter (λ x. has x live) peers ++ cond b (q ∷ []) []) (has-none q live (below_live q peers live below covers))
+    ∙ append-nil (filter (λ x. has x live) peers) ∙ covers
+
+pub below_later : (a b : ℕ) (xs : List ℕ) → a ≤ b → All (λ x. x ≤ a) xs → All (λ x. x ≤ b) xs
+below_later a b [] le h = All-nil (λ x. x ≤ b)
+below_later a b (x ∷ xs) le h =
+    let here : x ≤ a = All-head (λ x. x ≤ a) x xs h in
+    All-cons (λ x. x ≤ b) x xs (omega (arith, here, le)) (below_later a b xs le (All-tail (λ x. x ≤ a) x xs h))
+
+pub below_next : (a b : ℕ) (xs : List ℕ) → a < b → All (λ x. x ≤ a) xs → All (λ x. x < b) xs
+below_next a b [] lt h = All-nil (λ x. x < b)
+below_next a b (x ∷ xs) lt h =
+    let here : x ≤ a = All-head (λ x. x ≤ a) x xs h in
+    All-cons (λ x. x < b) x xs (omega (arith, here, lt)) (below_next a b xs lt (All-tail (λ x. x ≤ a) x xs h))
+
+pub below_last : (a q : ℕ) (xs : List ℕ) → All (λ x. x ≤ a) xs → q ≤ a → All (λ x. x ≤ a) (xs ++ q ∷ [])
+below_last a q [] h le = All-cons (λ x. x ≤ a) q [] le (All-nil (λ x. x ≤ a))
+below_last a q (x ∷ xs) h le =
+    All-cons (λ x. x ≤ a) x (xs ++ q ∷ []) (All-head (λ x. x ≤ a) x xs h) (below_last a q xs (All-tail (λ x. x ≤ a) x xs h) le)
+
+-- the loop knows its peers, and one more
+pub knows_later : (peers : List ℕ) (a b : ℕ) (live : List ℕ) → Knows peers a live → a ≤ b → Knows peers b live
+knows_later peers a b live k le = record { rising = k.rising; below = below_later a b peers le k.below; covers = k.covers }

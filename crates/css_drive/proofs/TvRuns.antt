@@ -1,0 +1,103 @@
+-- How a television's run begins, and how it ends.
+use Rattle.std.proofs.Common.{◌≡◌, ℕ, ◌+◌, ◌≤◌, ◌<◌, List, [], ◌∷◌, Option, Some, None, refl, sym, ap, subst, ◌∙◌, arith, Result, Ok, Err, drop}
+use Rattle.std.specs.Prelude.{◌≢◌, All, IsErrOf, IfErr}
+use Rattle.std.proofs.lemmas.List.Elements.{All-nil}
+use Rattle.css_model.specs.History.{History, Listening}
+use Rattle.css_outside.specs.Faults.{HasRisen}
+use Rattle.css_outside.specs.Outsides.{Counts, with_entries}
+use Rattle.css_server.specs.Tickets.{Server}
+use Rattle.css_tv.specs.Serving.{server_of}
+use Rattle.css_tv.specs.Stages.{Television}
+use Rattle.css_tv.specs.Standing.{StandsFor}
+use Rattle.css_tv.specs.declared.config.TvConfig.{TvConfig}
+use Rattle.css_drive.specs.Ends.{CountsNetFault}
+use Rattle.css_drive.specs.Proper.{Listen, Empty}
+use Rattle.css_drive.specs.TvProgress.{Place, Listens, Progress, addresses_in, beginning}
+use Rattle.css_drive.specs.TvDue.{TvRun}
+use Rattle.css_drive.specs.TvPeers.{AreRising, Covers}
+use Rattle.css_drive.specs.TvRan.{TvRan, CountsTvRun}
+use Rattle.css_drive.specs.TvStanding.{HasCause, Told, Stops, Reaches, IsAtEnd}
+use Rattle.css_drive.specs.declared.driven.Driven.{Driven}
+use Rattle.css_drive.specs.declared.driven.Driven.TheVariants as driven
+use Rattle.css_drive.specs.declared.on_air.OnAir.{OnAir}
+use Rattle.css_drive.proofs.TvSteps.{told_more}
+
+-- ---- the beginning
+pub at_first : (run : TvRun) (start : Option History) (peers : ℕ) → Told run start start peers (beginning run.config run.script) []
+at_first run start peers = record { grew = same start; proper = Empty; numbered = tt; below = tt; progress = refl } where
+  same : (s : Option History) → s ≡ with_entries [] s
+  same None = refl
+  same (Some h) = refl
+
+pub listens : (run : TvRun) (start told : Option History) (peers : ℕ) (config : TvConfig) → run.config ≡ config
+    → told ≡ with_entries (Listening config.host config.port ∷ []) start
+    → Told run start told peers (record (beginning run.config run.script) { place = Listens }) (Listening config.host config.port ∷ [])
+listens run start told peers config e grew =
+    told_more (at_first run start peers) (Listen run.config.host run.config.port) refl (Listening config.host config.port ∷ [])
+    (ap (λ (c : TvConfig). Listening c.host c.port ∷ []) (sym e)) told grew peers tt tt (record (beginning run.config run.script) { place = Listens }) refl
+
+pub begun : (run : TvRun) (start told : Option History) (peers : ℕ) (config : TvConfig) → run.config ≡ config
+    → told ≡ with_entries (Listening config.host config.port ∷ []) start → (air : OnAir)
+    → air.tv.stage.addresses ≡ addresses_in config → StandsFor air.tv.stage [] → air.tv.server ≡ server_of config
+    → air.peers.items ≡ [] → air.lines ≡ 0 → air.made ≡ 0 → Reaches run start told peers air (IsAtEnd run)
+begun run start told peers config e grew air addresses stands server none lines made =
+    let p : Progress = record (beginning run.config run.script) { place = Listens } in
+    record {
+      place = Listens;
+      p = p;
+      h = Listening config.host config.port ∷ [];
+      airs = record {
+        is_at = record {
+          history = listens run start told peers config e grew;
+          stays = record {
+            addresses = addresses ∙ ap addresses_in (sym e);
+            server = server ∙ ap server_of (sym e);
+            stage = stands;
+            accepted = refl;
+            unused = λ peer lt. refl;
+          };
+          at = refl;
+          owes = refl;
+        };
+        keeps = record {
+          knows = record {
+            rising = subst (AreRising 0) (sym none) tt;
+            below = subst (All (λ peer. peer ≤ peers)) (sym none) (All-nil (λ peer. peer ≤ peers));
+            covers = subst (λ xs. Covers xs []) (sym none) refl;
+          };
+          turns = sym made;
+          carried = sym lines;
+          lines = ap (λ n. drop n run.script) (sym lines);
+        };
+      };
+      fits = refl;
+    }
+
+-- ---- the end
+pub ran_by : {run : TvRun} {start told : Option History} {ended : Driven} → Stops run start told ended → TvRan run start told ended
+ran_by x = record { h = x.h; grew = x.grew; proper = x.proper; numbered = x.numbered; ends = x.ends; whole = x.whole }
+
+counts_by : (before now : ℕ) (ended : Driven) → (ended ≡ driven.NetFault → HasRisen before now) → (ended ≢ driven.NetFault → now ≡ before)
+    → CountsNetFault before now ended
+counts_by before now driven.NetFault f g = f refl
+counts_by before now driven.Done f g = g (λ e. absurd (cc))
+counts_by before now driven.WriteFault f g = g (λ e. absurd (cc))
+counts_by before now driven.Memory f g = g (λ e. absurd (cc))
+counts_by before now (driven.BadLine line why) f g = g (λ e. absurd (cc))
+counts_by before now (driven.BadCii text fault) f g = g (λ e. absurd (cc))
+counts_by before now (driven.Moved property old new) f g = g (λ e. absurd (cc))
+counts_by before now (driven.Spent n) f g = g (λ e. absurd (cc))
+counts_by before now (driven.Unreachable n) f g = g (λ e. absurd (cc))
+counts_by before now (driven.BadUrl k) f g = g (λ e. absurd (cc))
+
+-- a run that stopped after calls of which none failed
+pub counts_stopped : {T : Type 0} (before mid now : Counts) (ended : Driven) → mid.dial_faults ≡ before.dial_faults → mid.faults ≡ before.faults
+    → (result : Result T Driven) → result ≡ Err ended → HasCause mid now result → CountsTvRun before now ended
+counts_stopped before mid now ended dials faults (Ok x) is k = absurd (cc)
+counts_stopped before mid now ended dials faults (Err f) is k =
+    let same : f ≡ ended = cc in
+    record {
+      dials = k.dials ∙ dials;
+      faults = counts_by before.faults now.faults ended (λ e. subst (λ n. HasRisen n now.faults) faults (k.failed (ap Err (same ∙ e))))
+          (λ other. k.other (λ e. other (sym same ∙ e)) ∙ faults);
+    }

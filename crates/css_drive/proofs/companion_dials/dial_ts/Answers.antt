@@ -1,0 +1,42 @@
+use Rattle.std.proofs.Common.{◌≡◌, refl, sym, ◌∙◌, ap, subst, inl, inr, arith, true, false, Option, Some, None}
+use Rattle.std.proofs.Common.{Result, Ok, Err, ℕ, List, ◌∷◌, [], ◌++◌}
+use Rattle.css_model.specs.declared.Kind.TheVariants as kind
+use Rattle.css_model.specs.History.{Dialling, Dialled, NotDialled, Wrote, Gone}
+use Rattle.css_outside.specs.declared.calls.Wrote.TheVariants as outcome
+use Rattle.css_drive.specs.CompanionDue.{due_at, text_sent, text_gone, sending, window_text, from_ask}
+use Rattle.css_drive.specs.CompanionStanding.{Facts}
+use Rattle.css_drive.specs.Proper.{Dial, SendText}
+use Rattle.std.specs.Option.{option_map}
+use Rattle.css_drive.proofs.CompanionSteps.{none_if, comes, stands_more, peers_as, peers_cii, peers_wc, peers_ts}
+use Rattle.css_drive.proofs.CompanionSteps.{knows_as, knows_lawful}
+use Rattle.css_drive.proofs.CompanionCalls as calls
+use Rattle.css_drive.proofs.companion_dials.dial_ts.Goals as goal
+
+pub returns-clause-goes : goal.returns-clause-goes
+returns-clause-goes g c before reports h s k d =
+    let none = none_if c.args.live.now.ts (sym c.is_some.ensures ∙ c.if-is_some.false) in
+    let p : ℕ = c.in-Some-2.peer in
+    let to = c.in-Some.to in
+    let gives = rw c.in-Some.is at c.in_ok-to.ensures.gives in
+    let t = calls.ts_due c.args.config.now before _ c.args.live.now reports h s d None none _ (ap (λ x.
+    calls.ts_place x) (sym (c.state.ensures.meaning h k.stands)) ∙ gives) in
+    let tried = rw c.in-Some-2.is at c.in_ok-peer.ensures.told in
+    c.introduce.ensures.goes before reports (Dialled kind.Ts p ∷ Dialling kind.Ts to ∷ h)
+    (stands_more s (Dial kind.Ts to) t (Dialled kind.Ts p ∷ Dialling kind.Ts to ∷ []) (inl (p, refl)) _ tried.told
+    tried.faults _ reports
+    (ap {A = Facts} (λ x. record x { ts = Some p; ts_open = Some p }) s.facts)
+    (peers_ts _ _ p to _ _ h s.peers tried.peer.0 tried.peer.1))
+    (calls.knows_tried _ _ kind.Ts to (Some p) h k) refl refl refl refl
+
+pub returns-in_default-2-clause-goes : goal.returns-in_default-2-clause-goes
+returns-in_default-2-clause-goes g c before reports h s k d =
+    let none = none_if c.args.live.now.ts (sym c.is_some.ensures ∙ c.if-is_some.false) in
+    let to = c.in-Some.to in
+    let gives = rw c.in-Some.is at c.in_ok-to.ensures.gives in
+    let t = calls.ts_due c.args.config.now before _ c.args.live.now reports h s d None none _ (ap (λ x.
+    calls.ts_place x) (sym (c.state.ensures.meaning h k.stands)) ∙ gives) in
+    let tried = rw c.in_default-2.is at c.in_ok-peer.ensures.told in
+    comes (stands_more s (Dial kind.Ts to) t (NotDialled kind.Ts ∷ Dialling kind.Ts to ∷ []) (inr refl) _ tried.told
+    tried.faults _ reports s.facts
+    (peers_as _ _ _ _ h _ s.peers tried.later (λ q. refl)))
+    (calls.knows_tried _ _ kind.Ts to None h k) _ refl

@@ -1,0 +1,82 @@
+use Rattle.std.proofs.Common.{◌≡◌, refl, sym, ◌∙◌, ap, subst, inl, inr, false, Option, Some, None, ℕ, List, ◌++◌}
+use Rattle.css_model.specs.declared.Kind.TheVariants as kind
+use Rattle.css_drive.specs.CompanionDue.{hang_up, due}
+use Rattle.css_drive.specs.CompanionStanding.{Facts, hung}
+use Rattle.css_drive.specs.CompanionTurns.{opened, is_peer}
+use Rattle.css_drive.specs.Ends.{MayEnd}
+use Rattle.css_drive.specs.Proper.{Due, Ends}
+use Rattle.css_drive.proofs.CompanionSteps.{stops_by_fault, told_more, counts_same, counts_from, fault_ends}
+use Rattle.css_drive.proofs.CompanionCalls as calls
+use Rattle.css_drive.proofs.CompanionEnds as ends
+use Rattle.css_drive.proofs.companion_hears.hang_up.Goals as goal
+
+pub returns-in-Err-clause-stops : goal.returns-in-Err-clause-stops
+returns-in-Err-clause-stops g c before reports h s l i = stops_by_fault s l _ _ c.in-Err.ensures.told
+
+pub returns-in-Err-clause-dials : goal.returns-in-Err-clause-dials
+returns-in-Err-clause-dials g c = c.in-Err.ensures.dials
+
+pub returns-in-Err-clause-kind : goal.returns-in-Err-clause-kind
+returns-in-Err-clause-kind g c = inr c.in-Err.ensures.fault
+
+pub returns-in-Ok-hang_up_one-clause-stops : goal.returns-in-Ok-hang_up_one-clause-stops
+returns-in-Ok-hang_up_one-clause-stops g c before reports h s l i =
+    let cfg = c.args.config.now in
+    let o = c.args.live.now.cii_open in
+    let t = c.args.live.now.ts_open in
+    let end = c.args.end in
+    let apart : (q : ℕ) → o ≡ Some q → is_peer t q ≡ false = λ q x. calls.other_open h t kind.Ts kind.Cii q
+    (calls.open_ts cfg before _ c.args.live.now reports h s) (calls.open_cii cfg before _ c.args.live.now reports
+    h s q x) (λ y. cc) in
+    let a = ends.cii_hung cfg h t end i.final_so (ap {A = Facts} (λ x. x.ts_open) s.facts) o (ap {A = Facts} (λ x.
+    x.cii_open) s.facts) apart i.first in
+    let d0 = i.first ∙ ap (λ x. hang_up x (hang_up (opened kind.Ts h) (Ends end))) (ap {A = Facts} (λ x. x.cii_open)
+    s.facts) in
+    let p = ends.hung_proper cfg h o _ s.proper d0 in
+    let first = c.in-Ok.ensures.told in
+    let second = c.in-Ok-hang_up_one.ensures.told in
+    let P : Due → Type 0 = λ x. MayEnd x end in
+    record {
+      history = hung t ++ (hung o ++ h);
+      told = told_more _ _ _ (hung t) (hung o ++ h) (told_more _ _ _ (hung o) h s.told first.told) second.told;
+      counted = counts_same _ _ end (ends.over_quiet end i.over) (ap (λ x. x.faults) second.same
+          ∙ ap (λ x. x.faults) first.same ∙ s.faults);
+      proper = ends.hung_proper cfg (hung o ++ h) t _ p a.next;
+      lawful = ends.hung_lawful (hung o ++ h) t (ends.hung_lawful h o l);
+      made = ends.hung_reports cfg (hung o ++ h) t ∙ ends.hung_reports cfg h o
+          ∙ ap {A = Facts} (λ x. x.reports) s.facts;
+      ends = subst P (sym (ends.ts_hung cfg h t end i.final_so (ap {A = Facts} (λ x. x.ts_open) s.facts) (hung o ++
+          h) a)) (ends.over_ends end i.over);
+    }
+
+pub returns-in-Ok-hang_up_one-clause-dials : goal.returns-in-Ok-hang_up_one-clause-dials
+returns-in-Ok-hang_up_one-clause-dials g c = c.in-Ok-hang_up_one.ensures.dials ∙ c.in-Ok.ensures.dials
+
+pub returns-in-Ok-hang_up_one-clause-kind : goal.returns-in-Ok-hang_up_one-clause-kind
+returns-in-Ok-hang_up_one-clause-kind g c = inl refl
+
+pub returns-in-Err-hang_up_one-clause-stops : goal.returns-in-Err-hang_up_one-clause-stops
+returns-in-Err-hang_up_one-clause-stops g c before reports h s l i =
+    let cfg = c.args.config.now in
+    let o = c.args.live.now.cii_open in
+    let end = c.args.end in
+    let d0 = i.first ∙ ap (λ x. hang_up x (hang_up (opened kind.Ts h) (Ends end))) (ap {A = Facts} (λ x. x.cii_open)
+    s.facts) in
+    let first = c.in-Ok.ensures.told in
+    let second = c.in-Err-hang_up_one.ensures.told in
+    let ended = c.in-Err-hang_up_one.ended in
+    record {
+      history = hung o ++ h;
+      told = second.told ∙ told_more _ _ _ (hung o) h s.told first.told;
+      counted = counts_from _ _ _ ended (ap (λ x. x.faults) first.same ∙ s.faults) second.counted;
+      proper = ends.hung_proper cfg h o _ s.proper d0;
+      lawful = ends.hung_lawful h o l;
+      made = ends.hung_reports cfg h o ∙ ap {A = Facts} (λ x. x.reports) s.facts;
+      ends = fault_ends (due cfg (hung o ++ h)) ended second.fault;
+    }
+
+pub returns-in-Err-hang_up_one-clause-dials : goal.returns-in-Err-hang_up_one-clause-dials
+returns-in-Err-hang_up_one-clause-dials g c = c.in-Err-hang_up_one.ensures.dials ∙ c.in-Ok.ensures.dials
+
+pub returns-in-Err-hang_up_one-clause-kind : goal.returns-in-Err-hang_up_one-clause-kind
+returns-in-Err-hang_up_one-clause-kind g c = inr c.in-Err-hang_up_one.ensures.fault

@@ -1,0 +1,57 @@
+use Rattle.std.proofs.Common.{◌≡◌, refl, sym, ◌∙◌, ap, subst, inl, inr, arith, true, false, Option, Some, None}
+use Rattle.std.proofs.Common.{Result, Ok, Err, ℕ, List, ◌∷◌, [], ◌++◌, take}
+use Rattle.std.proofs.lemmas.Grind.{common_steps}
+use Rattle.css_model.specs.declared.Kind.TheVariants as kind
+use Rattle.css_model.specs.declared.Why.TheVariants as why
+use Rattle.css_model.specs.History.{Clock, Slept, Sent, Took, TookNone, Quiet, Heard, Closed}
+use Rattle.css_outside.specs.Outsides.{clock_entries, sleep_entries}
+use Rattle.css_outside.specs.declared.calls.Clocked.{Clocked}
+use Rattle.css_outside.specs.declared.calls.Heard.TheVariants as heard
+use Rattle.css_companion.specs.Meanings.{is_ts}
+use Rattle.css_drive.specs.CompanionDue.{send_to, due}
+use Rattle.css_drive.specs.CompanionStanding.{Facts, hung}
+use Rattle.css_drive.specs.Proper.{Now, TakeDatagram, TakeText, SendDatagram}
+use Rattle.css_drive.proofs.CompanionSteps.{comes, stands_more, stops_after, stops_by_fault, peers_as, knows_as}
+use Rattle.css_drive.proofs.CompanionSteps.{knows_lawful}
+use Rattle.css_drive.proofs.CompanionCalls as calls
+use Rattle.css_drive.proofs.CompanionEnds as ends
+use Rattle.css_drive.proofs.companion_hears.land.Goals as goal
+
+pub returns-then-clocked-clause-goes : goal.returns-then-clocked-clause-goes
+returns-then-clocked-clause-goes g c before reports h p s k =
+    let read = c.in_ok-clocked.ensures.told in
+    let clocked : Clocked = c.in_ok-clocked.clocked in
+    let bytes = c.args.bytes.now in
+    let k0 = calls.knows_plain _ _ (Took p bytes) h k refl refl refl refl refl refl refl in
+    comes (calls.stands_read s why.Land (inr refl) refl _ _ _ _ clocked read)
+    (calls.slept_landing _ _ clocked (Took p bytes ∷ h) c.if-clocked.true (read.known c.args.config.now (Took p bytes
+    ∷ h) k0)) _
+    (calls.landed_next c.args.config.now clocked (Took p bytes ∷ h))
+
+pub returns-in-Ok-clause-goes : goal.returns-in-Ok-clause-goes
+returns-in-Ok-clause-goes g c before reports h p s k =
+    let read = c.in_ok-clocked.ensures.told in
+    let clocked : Clocked = c.in_ok-clocked.clocked in
+    let bytes = c.args.bytes.now in
+    comes (calls.stands_read s why.Land (inr refl) refl _ _ _ _ clocked read)
+    (calls.awake_landing _ _ _ clocked p bytes h c.if-clocked.false (read.known c.args.config.now h k)
+    (λ k1. record {
+      stands = c.in-Ok.ensures.stands h p k1.stands;
+      setup = ap (λ x. x.setup) c.in-Ok.ensures.keeps
+          ∙ k1.setup;
+      own = c.in-Ok.ensures.own ∙ k1.own;
+    })) _
+    (calls.landed_next c.args.config.now clocked (Took p bytes ∷ h))
+
+pub returns-in-Err-clause-goes : goal.returns-in-Err-clause-goes
+returns-in-Err-clause-goes g c before reports h p s k =
+    let read = c.in_ok-clocked.ensures.told in
+    let clocked : Clocked = c.in_ok-clocked.clocked in
+    let bytes = c.args.bytes.now in
+    let k0 = calls.knows_plain _ _ (Took p bytes) h k refl refl refl refl refl refl refl in
+    let l = knows_lawful _ _ _ (read.known c.args.config.now (Took p bytes ∷ h) k0) in
+    stops_after s (Now why.Land) refl (clock_entries why.Land clocked) (clocked, refl) _ read.told read.faults
+    (calls.lawful_plain (Clock why.Land clocked.reading) (sleep_entries clocked.slept ++ (Took p bytes ∷ h)) l refl
+    refl)
+    (ap {A = Facts} (λ x. x.reports) (calls.read_facts c.args.config.now before _ c.args.live.now reports (Took p
+    bytes ∷ h) s why.Land clocked (inr refl))) _ (λ e. cc) tt

@@ -1,0 +1,63 @@
+use Rattle.std.proofs.Common.{◌≡◌, refl, sym, ◌∙◌, ap, subst, inl, inr, arith, true, false, Option, Some, None}
+use Rattle.std.proofs.Common.{Result, Ok, Err, ℕ, List, ◌∷◌, [], ◌++◌, ◌+◌, add-one, suc, length}
+use Rattle.std.specs.Prelude.{nat_lt, unwrap_or}
+use Rattle.std.proofs.lemmas.Grind.{common_steps}
+use Rattle.css_model.specs.declared.Why.TheVariants as why
+use Rattle.css_outside.specs.Outsides.{clock_entries, sleep_entries}
+use Rattle.css_outside.specs.declared.calls.Clocked.{Clocked}
+use Rattle.css_companion.specs.declared.report.Report.{Report}
+use Rattle.css_drive.specs.CompanionReports.{is_due, report_at}
+use Rattle.css_drive.specs.CompanionStanding.{Facts, facts_in}
+use Rattle.css_drive.specs.Proper.{Now}
+use Rattle.css_drive.proofs.CompanionSteps.{stands_more, knows_lawful}
+use Rattle.css_drive.proofs.CompanionCalls as calls
+use Rattle.css_drive.proofs.CompanionEnds as ends
+use Rattle.css_drive.proofs.companion_turns.calls.Goals as goal
+
+pub returns-in-Err-clause-goes : goal.returns-in-Err-clause-goes
+returns-in-Err-clause-goes g c before reports h s k d = c.in-Err.ensures.goes before reports h s k d
+
+pub returns-in-Err-dial_wc-clause-goes : goal.returns-in-Err-dial_wc-clause-goes
+returns-in-Err-dial_wc-clause-goes g c before reports h s k d =
+    let a0 = c.in-Ok.ensures.goes before reports h s k d in
+    c.in-Err-dial_wc.ensures.goes before reports a0.history a0.stands a0.known a0.next
+
+pub returns-in-Err-dial_ts-clause-goes : goal.returns-in-Err-dial_ts-clause-goes
+returns-in-Err-dial_ts-clause-goes g c before reports h s k d =
+    let a0 = c.in-Ok.ensures.goes before reports h s k d in
+    let a1 = c.in-Ok-dial_wc.ensures.goes before reports a0.history a0.stands a0.known a0.next in
+    c.in-Err-dial_ts.ensures.goes before reports a1.history a1.stands a1.known a1.next
+
+pub returns-in-Err-ask-clause-goes : goal.returns-in-Err-ask-clause-goes
+returns-in-Err-ask-clause-goes g c before reports h s k d =
+    let a0 = c.in-Ok.ensures.goes before reports h s k d in
+    let a1 = c.in-Ok-dial_wc.ensures.goes before reports a0.history a0.stands a0.known a0.next in
+    let a2 = c.in-Ok-dial_ts.ensures.goes before reports a1.history a1.stands a1.known a1.next in
+    c.in-Err-ask.ensures.goes before reports a2.history a2.stands a2.known a2.next
+
+pub returns-in-Err-take-clause-goes : goal.returns-in-Err-take-clause-goes
+returns-in-Err-take-clause-goes g c before reports h s k d =
+    let a0 = c.in-Ok.ensures.goes before reports h s k d in
+    let a1 = c.in-Ok-dial_wc.ensures.goes before reports a0.history a0.stands a0.known a0.next in
+    let a2 = c.in-Ok-dial_ts.ensures.goes before reports a1.history a1.stands a1.known a1.next in
+    let a3 = c.in-Ok-ask.ensures.goes before reports a2.history a2.stands a2.known a2.next in
+    c.in-Err-take.ensures.goes before reports a3.history a3.stands a3.known a3.next
+
+pub returns-in-Err-hear_cii-clause-goes : goal.returns-in-Err-hear_cii-clause-goes
+returns-in-Err-hear_cii-clause-goes g c before reports h s k d =
+    let a0 = c.in-Ok.ensures.goes before reports h s k d in
+    let a1 = c.in-Ok-dial_wc.ensures.goes before reports a0.history a0.stands a0.known a0.next in
+    let a2 = c.in-Ok-dial_ts.ensures.goes before reports a1.history a1.stands a1.known a1.next in
+    let a3 = c.in-Ok-ask.ensures.goes before reports a2.history a2.stands a2.known a2.next in
+    let a4 = c.in-Ok-take.ensures.goes before reports a3.history a3.stands a3.known a3.next in
+    c.in-Err-hear_cii.ensures.goes before reports a4.history a4.stands a4.known a4.next
+
+pub returns-clause-goes : goal.returns-clause-goes
+returns-clause-goes g c before reports h s k d =
+    let a0 = c.in-Ok.ensures.goes before reports h s k d in
+    let a1 = c.in-Ok-dial_wc.ensures.goes before reports a0.history a0.stands a0.known a0.next in
+    let a2 = c.in-Ok-dial_ts.ensures.goes before reports a1.history a1.stands a1.known a1.next in
+    let a3 = c.in-Ok-ask.ensures.goes before reports a2.history a2.stands a2.known a2.next in
+    let a4 = c.in-Ok-take.ensures.goes before reports a3.history a3.stands a3.known a3.next in
+    let a5 = c.in-Ok-hear_cii.ensures.goes before reports a4.history a4.stands a4.known a4.next in
+    c.hear_ts.ensures.goes before reports a5.history a5.stands a5.known a5.next

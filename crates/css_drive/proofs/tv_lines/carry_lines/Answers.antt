@@ -1,0 +1,61 @@
+use Rattle.std.proofs.Common.{◌≡◌, ◌∙◌, ◌+◌, ◌≤◌, ◌<◌, ◌∷◌, arith, refl, List, [], ℕ, drop, length}
+use Rattle.css_schedule.specs.declared.line.ScriptLine.{ScriptLine}
+use Rattle.css_drive.specs.TvProgress.{addresses_in}
+use Rattle.css_drive.proofs.TvSteps.{told_as}
+use Rattle.css_drive.proofs.TvLines.{next_line, line_waits, no_line, dropped_at, dropped_all}
+use Rattle.css_drive.proofs.TvCarries.{left_lines, turned_out, line_carried}
+use Rattle.css_drive.proofs.tv_lines.carry_lines.Goals as goal
+
+pub returns-then-reading-line-clause-goes : goal.returns-then-reading-line-clause-goes
+returns-then-reading-line-clause-goes g c run start p h script s =
+    let x = c.lines.invariant.goes run start p h script s in
+    let xs : List ScriptLine = c.args.script.now in
+    let line : ScriptLine = c.index-script-air.result in
+    let i : ℕ = c.lines.air.lines in
+    turned_out x (line_waits (addresses_in run.config) c.args.reading x.p line (drop (i + 1) xs) x.airs.is_at.at
+    (left_lines x xs script (line ∷ drop (i + 1) xs) (dropped_at xs i line c.lines-test.true c.index-script-air.is)) c.if-reading-line.true)
+
+pub returns-in-Err-clause-goes : goal.returns-in-Err-clause-goes
+returns-in-Err-clause-goes g c run start p h script s =
+    let x = c.lines.invariant.goes run start p h script s in
+    let xs : List ScriptLine = c.args.script.now in
+    let line : ScriptLine = c.index-script-air.result in
+    let i : ℕ = c.lines.air.lines in
+    let r : ℕ = c.args.reading in
+    let a = addresses_in run.config in
+    let later = c.if-reading-line.false in
+    let lines = left_lines x xs script (line ∷ drop (i + 1) xs) (dropped_at xs i line c.lines-test.true c.index-script-air.is) in
+    c.in-Err.ensures.goes run start x.p x.h (drop (i + 1) xs)
+    (told_as _ x.airs.is_at.history (next_line a r x.p line (drop (i + 1) xs) x.airs.is_at.at x.airs.is_at.stays.accepted x.airs.is_at.owes lines (omega (arith, later))))
+    x.airs.is_at.stays x.airs.is_at.at x.airs.is_at.owes x.airs.keeps.carried
+
+pub lines-preserved : goal.lines-preserved
+lines-preserved g c = record {
+  goes = λ run start p h script s.
+      let x = c.lines.invariant.goes run start p h script s in
+      let xs : List ScriptLine = c.args.script.now in
+      let line : ScriptLine = c.index-script-air.result in
+      let i : ℕ = c.lines.air.lines in
+      let r : ℕ = c.args.reading in
+      let a = addresses_in run.config in
+      let later = c.if-reading-line.false in
+      let lines = left_lines x xs script (line ∷ drop (i + 1) xs) (dropped_at xs i line c.lines-test.true c.index-script-air.is) in
+      line_carried x xs script c.in-Ok.ensures.cause.peers c.carry_out.new.tv
+      (c.in-Ok.ensures.goes run start x.p x.h (drop (i + 1) xs)
+      (told_as _ x.airs.is_at.history (next_line a r x.p line (drop (i + 1) xs) x.airs.is_at.at x.airs.is_at.stays.accepted x.airs.is_at.owes lines (omega (arith, later))))
+      x.airs.is_at.stays x.airs.is_at.at x.airs.is_at.owes x.airs.keeps.carried);
+  counts = record {
+    dials = c.in-Ok.ensures.cause.dials ∙ c.lines.invariant.counts.dials;
+    peers = omega (arith, c.in-Ok.ensures.cause.peers, c.lines.invariant.counts.peers);
+    faults = c.in-Ok.ensures.cause.ok ∙ c.lines.invariant.counts.faults;
+  };
+  made = c.lines.invariant.made;
+}
+
+pub returns-clause-goes : goal.returns-clause-goes
+returns-clause-goes g c run start p h script s =
+    let x = c.lines.invariant.goes run start p h script s in
+    let xs : List ScriptLine = c.args.script.now in
+    let over = c.lines-test.false in
+    turned_out x (no_line (addresses_in run.config) c.args.reading x.p x.airs.is_at.at
+    (left_lines x xs script [] (dropped_all xs c.lines.air.lines (omega (arith, over)))))

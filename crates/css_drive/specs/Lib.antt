@@ -1,0 +1,15 @@
+pub mod Configs
+pub mod Proper
+pub mod Ends
+pub mod Listening
+pub mod CompanionTurns
+pub mod CompanionReports
+pub mod CompanionDue
+pub mod CompanionRun
+pub mod CompanionStanding
+pub mod CompanionLaws
+pub mod TvPeers
+pub mod TvProgress
+pub mod TvDue
+pub mod TvRan
+pub mod TvStanding

@@ -1,0 +1,79 @@
+-- Which call a television's run has to make next: a function of what its calls did so far.
+use Rattle.std.specs.Prelude.{ℕ, ◌+◌, nat_lt, List, [], ◌∷◌, if◌then◌else◌, Option, Some, None}
+use Rattle.css_model.specs.declared.Why.TheVariants as why
+use Rattle.css_model.specs.History.{History}
+use Rattle.css_tv.specs.declared.config.TvConfig.{TvConfig}
+use Rattle.css_tv.specs.declared.event.TvOut.{TvOut}
+use Rattle.css_tv.specs.declared.event.TvOut.TheVariants as out
+use Rattle.css_tv.specs.declared.fault.TvFault.{TvFault}
+use Rattle.css_tv.specs.declared.fault.TvFault.TheVariants as fault
+use Rattle.css_tv.specs.declared.state.Addresses.{Addresses}
+use Rattle.css_schedule.specs.declared.fault.LineWhy.TheVariants as line_why
+use Rattle.css_schedule.specs.declared.line.ScriptLine.{ScriptLine}
+use Rattle.css_drive.specs.Proper.{Due, Listen, Now, Accept, SendDatagram, TakeDatagram}
+use Rattle.css_drive.specs.Proper.{TakeText, SendText, HangUp, Ends}
+use Rattle.css_drive.specs.TvProgress.{Place, Begins, Listens, Turned, Taken, Received, Answers, Served, Asked, Over}
+use Rattle.css_drive.specs.TvProgress.{Progress, open_after, addresses_in, progress_of}
+use Rattle.css_drive.specs.TvPeers.{above}
+use Rattle.css_drive.specs.declared.driven.Driven.{Driven}
+use Rattle.css_drive.specs.declared.driven.Driven.TheVariants as driven
+
+-- what a television is started with, how many turns it makes, and its script
+pub record TvRun : Type 0 where
+  pub config : TvConfig
+  pub turns : ℕ
+  pub script : List ScriptLine
+
+-- ---- the steps of a turn, the last first: what is due from there on
+-- the open sessions are hung up in order of peer, and the run is done
+abbrev pub from_hang_ups : List ℕ → Due
+from_hang_ups [] = Ends driven.Done
+from_hang_ups (peer ∷ peers) = HangUp peer
+
+-- the next turn, if there is one
+abbrev pub from_end : ℕ → ℕ → List ℕ → Due
+from_end turns made live = if nat_lt made turns then Now why.Turn else from_hang_ups live
+
+-- each open session is asked for a text in order of peer
+abbrev pub from_texts : ℕ → ℕ → List ℕ → List ℕ → Due
+from_texts turns made live [] = from_end turns made live
+from_texts turns made live (peer ∷ peers) = TakeText peer
+
+abbrev pub from_answers : ℕ → List (List ℕ) → Due
+from_answers peer [] = Accept
+from_answers peer (datagram ∷ datagrams) = SendDatagram peer datagram
+
+abbrev pub due_at : TvRun → List ℕ → ℕ → Place → Due
+due_at run live made Begins = Listen run.config.host run.config.port
+due_at run live made Listens = from_end run.turns made live
+due_at run live made (Turned reading) = TakeDatagram
+due_at run live made (Taken peer bytes) = Now why.Take
+due_at run live made (Received peer ticket) = Now why.Give
+due_at run live made (Answers peer datagrams) = from_answers peer datagrams
+due_at run live made Served = Accept
+due_at run live made (Asked last) = from_texts run.turns made live (above last live)
+due_at run live made (Over last) = from_hang_ups (above (Some last) live)
+
+-- what a step has the television do is done first, in order
+abbrev pub unless_owed : List TvOut → Due → Due
+unless_owed [] rest = rest
+unless_owed (out.Say peer text ∷ owed) rest = SendText peer text
+unless_owed (out.HangUp peer ∷ owed) rest = HangUp peer
+
+-- how a run ends whose line after so many is refused
+abbrev pub bad_line : ℕ → TvFault → Driven
+bad_line before (fault.Player player_fault) = driven.BadLine (before + 1) (line_why.Player player_fault)
+bad_line before fault.Memory = driven.Memory
+
+-- a line that the player refuses ends the run at once
+abbrev pub unless_refused : ℕ → Option TvFault → Due → Due
+unless_refused before None rest = rest
+unless_refused before (Some fault) rest = Ends (bad_line before fault)
+
+abbrev pub due_for : TvRun → Progress → Due
+due_for run p = unless_refused p.carried p.refused (unless_owed p.owed
+    (due_at run (open_after (addresses_in run.config) p.events) p.turns p.place))
+
+-- what is due after a history
+abbrev pub due : TvRun → History → Due
+due run h = due_for run (progress_of run.config run.script h)

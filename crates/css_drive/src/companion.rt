@@ -1,0 +1,57 @@
+//! A companion's run over any devices.
+ghost use Rattle.std.specs.Prelude.{◌≡◌, [], IfOk};
+ghost use Rattle.css_drive.specs.CompanionRun.{Ran};
+ghost use Rattle.css_drive.specs.Configs.{IsWritable};
+ghost use Rattle.css_drive.specs.CompanionStanding.{Knows};
+ghost use Rattle.css_drive.specs.Ends.{CountsNetFault, CountsWriteFault, CountsDialFaults};
+
+use crate::companion_turns::drive;
+use crate::config::DriveConfig;
+use crate::driven::Driven;
+use crate::listens::Listens;
+use css_companion::{Companion, CompanionConfig};
+use css_num::Memory;
+use css_outside::{Outside, Sink};
+use std::alloc::Global;
+
+/// The companion of a configuration.
+fn companion_of(alloc: Global, config: &DriveConfig) -> Result<Companion, Memory>
+    requires { IsWritable config.now }
+    ensures known { IfOk result (λ companion. Knows config.now companion []) }
+    ensures floor { IfOk result (λ companion. companion.client.floor ≡ 0) }
+{
+    let wanted = CompanionConfig {
+        selector: config.companion.selector.clone()?,
+        stem: config.companion.stem.clone()?,
+        local: config.companion.local,
+    };
+    Companion::new(alloc, wanted)
+}
+
+/// Makes a companion's run: in each turn the calls of the outside that are due, and where a report is due its line,
+/// with what the followers say of it, in one write of the sink.
+///
+/// Both texts of the companion are UTF-8, and its bounds are a presentation. The run ends as `Done` with the last
+/// report, and as `Spent`, or `Unreachable` where no dial succeeded, with the last turn. A text of the CII session that
+/// is refused ends it as `BadCii` or `Moved`, and an address that is none as `BadUrl`, at once. So does a fault of a
+/// device, or want of memory; of the faults of a dial only want of memory does.
+pub fn drive_companion<K: Sink, O: Outside, F: Listens>(
+    alloc: Global,
+    config: DriveConfig,
+    sink: &mut K,
+    outside: &mut O,
+    followers: &mut F,
+) -> Driven
+    requires { IsWritable config }
+    ensures ran { Ran config (O.told outside.old) (O.told outside.new) (K.holds sink.old) (K.holds sink.new)
+        (F.heard followers.old) (F.heard followers.new) result }
+    ensures net_faults { CountsNetFault (O.counts outside.old).faults (O.counts outside.new).faults result }
+    ensures write_faults { CountsWriteFault (K.faults sink.old) (K.faults sink.new) result }
+    ensures dial_faults { CountsDialFaults (O.counts outside.old).dial_faults
+        (O.counts outside.new).dial_faults result }
+{
+    match companion_of(alloc, &config) {
+        Err(Memory) => Driven::Memory,
+        Ok(mut companion) => drive(alloc, &config, &mut companion, sink, outside, followers),
+    }
+}

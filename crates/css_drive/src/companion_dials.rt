@@ -1,0 +1,233 @@
+//! The dials of a turn of a companion, and what the television is told first.
+ghost use Rattle.std.specs.Prelude.{◌≡◌, ◌≤◌, List, OnOk, IfOk, IfErr, IfSome, None, Some};
+ghost use Rattle.css_model.specs.History.{History};
+ghost use Rattle.css_outside.specs.Faults.{HasRisen};
+ghost use Rattle.css_tsmsg.specs.Setups.{setup_text};
+ghost use Rattle.css_tsmsg.specs.Presentations.{IsPresentation};
+ghost use Rattle.css_companion.specs.Steps.{window};
+ghost use Rattle.css_companion.specs.Standing.{wanted_by};
+ghost use Rattle.css_companion.specs.declared.report.Report.{Report};
+ghost use Rattle.css_drive.specs.CompanionDue.{due, from_cii, from_wc, from_ts, from_ask, from_setup};
+ghost use Rattle.css_drive.specs.CompanionDue.{point_of, place, window_text};
+ghost use Rattle.css_drive.specs.Configs.{IsWindow};
+ghost use Rattle.css_drive.specs.CompanionDue.{Connected, SetUp};
+ghost use Rattle.css_drive.specs.CompanionStanding.{Shown, shown, Stands, Knows, Goes, Keeps, GivesPlace, IsCut};
+ghost use Rattle.css_drive.specs.Proper.{SendText};
+
+use crate::companion_calls::{lose_ts, send, try_dial};
+use crate::companion_live::Live;
+use crate::config::DriveConfig;
+use crate::driven::Driven;
+use css_address::{AddressFault, address};
+use css_cii::CiiName;
+use css_companion::{Companion, CompanionEvent};
+use css_num::Text;
+use css_outside::{Address, Kind, Outside, Wrote};
+use css_tsmsg::Bound;
+use std::alloc::Global;
+
+/// Dials the session of CSS-CII, while no dial of it succeeded.
+pub fn dial_cii<O: Outside>(
+    config: &DriveConfig,
+    live: &mut Live,
+    companion: &Companion,
+    outside: &mut O,
+) -> Result<(), Driven>
+    ensures goes { (before : Shown) → (reports : List Report) → (history : History)
+        → Stands config.now before (shown (O.told outside.old) (O.counts outside.old)) live.old reports history
+        → Knows config.now companion.now history → due config.now history ≡ from_cii config.now history
+        → Goes config.now before (shown (O.told outside.new) (O.counts outside.new)) live.new companion.now reports
+        (from_wc config.now) result }
+    ensures last { (O.counts outside.new).last ≡ (O.counts outside.old).last }
+    ensures keeps { Keeps (O.counts outside.old) (O.counts outside.new) live.old live.new }
+    ensures cut { IfErr result IsCut }
+    ensures tried { OnOk result (live.new.cii ≡ None
+        → HasRisen (O.counts outside.old).dial_faults (O.counts outside.new).dial_faults) }
+{
+    if live.cii.is_some() {
+        return Ok(());
+    }
+    let Some(peer) = try_dial(outside, Kind::Cii, &config.cii)? else {
+        return Ok(());
+    };
+    live.cii = Some(peer);
+    live.cii_open = Some(peer);
+    Ok(())
+}
+
+/// The address of a property, where it isn't null.
+fn place(
+    alloc: Global,
+    kind: Kind,
+    property: CiiName,
+    url: &Option<Text>,
+) -> Result<Option<Address>, Driven>
+    ensures gives { GivesPlace property (place kind url.now) result }
+    ensures cut { IfErr result IsCut }
+{
+    let Some(text) = url else {
+        return Ok(None);
+    };
+    match address(alloc, kind, text.bytes()) {
+        Ok(to) => Ok(Some(to)),
+        Err(AddressFault::Bad) => Err(Driven::BadUrl { property }),
+        Err(AddressFault::Memory) => Err(Driven::Memory),
+    }
+}
+
+/// Dials the wall clock, while no dial of it succeeded and its address is told.
+pub fn dial_wc<O: Outside>(
+    alloc: Global,
+    config: &DriveConfig,
+    live: &mut Live,
+    companion: &Companion,
+    outside: &mut O,
+) -> Result<(), Driven>
+    ensures goes { (before : Shown) → (reports : List Report) → (history : History)
+        → Stands config.now before (shown (O.told outside.old) (O.counts outside.old)) live.old reports history
+        → Knows config.now companion.now history → due config.now history ≡ from_wc config.now history
+        → Goes config.now before (shown (O.told outside.new) (O.counts outside.new)) live.new companion.now reports
+        (from_ts config.now) result }
+    ensures last { (O.counts outside.new).last ≡ (O.counts outside.old).last }
+    ensures keeps { Keeps (O.counts outside.old) (O.counts outside.new) live.old live.new }
+    ensures cut { IfErr result IsCut }
+{
+    if live.wc.is_some() {
+        return Ok(());
+    }
+    let Some(to) = place(alloc, Kind::Wc, CiiName::WcUrl, &companion.state().wc_url)? else {
+        return Ok(());
+    };
+    let Some(peer) = try_dial(outside, Kind::Wc, &to)? else {
+        return Ok(());
+    };
+    live.wc = Some(peer);
+    Ok(())
+}
+
+/// The text of the presentation of the configuration's bounds.
+fn window_of(companion: &mut Companion, earliest: Bound, latest: Bound) -> Result<Text, Driven>
+    requires { IsPresentation (window earliest latest) }
+    ensures text { IfOk result (λ text. text ≡ window_text (earliest, latest)) }
+    ensures err { IfErr result (λ ended. ended ≡ Driven.Memory) }
+    ensures same { companion.new ≡ companion.old }
+{
+    match companion.step(CompanionEvent::Present { earliest, latest }) {
+        Ok(Some(text)) => Ok(text),
+        // It always owes one.
+        _ => Err(Driven::Memory),
+    }
+}
+
+/// Sends the presentation, if the configuration has one.
+fn present<O: Outside>(
+    config: &DriveConfig,
+    live: &mut Live,
+    companion: &mut Companion,
+    outside: &mut O,
+    peer: u32,
+) -> Result<(), Driven>
+    requires { IfSome config.now.present IsWindow }
+    ensures goes { (before : Shown) → (reports : List Report) → (history : History)
+        → Stands config.now before (shown (O.told outside.old) (O.counts outside.old)) live.old reports history
+        → Knows config.now companion.old history
+        → live.old.ts ≡ Some peer → live.old.ts_open ≡ Some peer → point_of history ≡ SetUp peer
+        → due config.now history ≡ from_setup config.now peer history
+        → Goes config.now before (shown (O.told outside.new) (O.counts outside.new)) live.new companion.new reports
+        (from_ask config.now) result }
+    ensures floor { companion.new.client.floor ≡ companion.old.client.floor }
+    ensures last { (O.counts outside.new).last ≡ (O.counts outside.old).last }
+    ensures keeps { Keeps (O.counts outside.old) (O.counts outside.new) live.old live.new }
+    ensures cut { IfErr result IsCut }
+{
+    let Some((earliest, latest)) = config.present else {
+        return Ok(());
+    };
+    let text = window_of(companion, earliest, latest)?;
+    match send(outside, peer, text.bytes()) {
+        Err(ended) => Err(ended),
+        Ok(Wrote::Sent) => Ok(()),
+        Ok(Wrote::Gone) => match lose_ts(live, companion) {
+            Ok(()) => Ok(()),
+            Err(ended) => Err(ended),
+        },
+    }
+}
+
+/// The setup that the companion owes once its TS session is opened.
+fn setup_of(companion: &mut Companion) -> Result<Text, Driven>
+    ensures text { IfOk result (λ text. text ≡ setup_text companion.old.setup) }
+    ensures err { IfErr result (λ ended. ended ≡ Driven.Memory) }
+    ensures same { companion.new ≡ companion.old }
+{
+    match companion.step(CompanionEvent::TsOpened) {
+        Ok(Some(text)) => Ok(text),
+        // It always owes one.
+        _ => Err(Driven::Memory),
+    }
+}
+
+/// Sends the setup, and after it the presentation.
+fn introduce<O: Outside>(
+    config: &DriveConfig,
+    live: &mut Live,
+    companion: &mut Companion,
+    outside: &mut O,
+    peer: u32,
+) -> Result<(), Driven>
+    requires { IfSome config.now.present IsWindow }
+    ensures goes { (before : Shown) → (reports : List Report) → (history : History)
+        → Stands config.now before (shown (O.told outside.old) (O.counts outside.old)) live.old reports history
+        → Knows config.now companion.old history
+        → live.old.ts ≡ Some peer → live.old.ts_open ≡ Some peer → point_of history ≡ Connected peer
+        → due config.now history ≡ SendText peer (setup_text (wanted_by config.now.companion))
+        → Goes config.now before (shown (O.told outside.new) (O.counts outside.new)) live.new companion.new reports
+        (from_ask config.now) result }
+    ensures floor { companion.new.client.floor ≡ companion.old.client.floor }
+    ensures last { (O.counts outside.new).last ≡ (O.counts outside.old).last }
+    ensures keeps { Keeps (O.counts outside.old) (O.counts outside.new) live.old live.new }
+    ensures cut { IfErr result IsCut }
+{
+    let text = setup_of(companion)?;
+    match send(outside, peer, text.bytes()) {
+        Err(ended) => Err(ended),
+        Ok(Wrote::Gone) => match lose_ts(live, companion) {
+            Ok(()) => Ok(()),
+            Err(ended) => Err(ended),
+        },
+        Ok(Wrote::Sent) => present(config, live, companion, outside, peer),
+    }
+}
+
+/// Dials the session of CSS-TS, while no dial of it succeeded and its address is told. Its setup is sent at once.
+pub fn dial_ts<O: Outside>(
+    alloc: Global,
+    config: &DriveConfig,
+    live: &mut Live,
+    companion: &mut Companion,
+    outside: &mut O,
+) -> Result<(), Driven>
+    requires { IfSome config.now.present IsWindow }
+    ensures goes { (before : Shown) → (reports : List Report) → (history : History)
+        → Stands config.now before (shown (O.told outside.old) (O.counts outside.old)) live.old reports history
+        → Knows config.now companion.old history → due config.now history ≡ from_ts config.now history
+        → Goes config.now before (shown (O.told outside.new) (O.counts outside.new)) live.new companion.new reports
+        (from_ask config.now) result }
+    ensures floor { companion.new.client.floor ≡ companion.old.client.floor }
+    ensures last { (O.counts outside.new).last ≡ (O.counts outside.old).last }
+    ensures keeps { Keeps (O.counts outside.old) (O.counts outside.new) live.old live.new }
+    ensures cut { IfErr result IsCut }
+{
+    if live.ts.is_some() {
+        return Ok(());
+    }
+    let Some(to) = place(alloc, Kind::Ts, CiiName::TsUrl, &companion.state().ts_url)? else {
+        return Ok(());
+    };
+    let Some(peer) = try_dial(outside, Kind::Ts, &to)? else {
+        return Ok(());
+    };
+    live.ts = Some(peer);
+    live.ts_open = Some(peer);
+    introduce(config, live, companion, outside, peer)
+}

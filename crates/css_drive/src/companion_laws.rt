@@ -1,0 +1,12 @@
+//! What is proved of every companion's run. Each law is the contract of a function that does nothing.
+ghost use Rattle.css_drive.specs.CompanionLaws.{ReportsAreAsAsked, FollowersHear};
+
+/// A run never makes more reports than it is asked for, and it ends as `Done` with exactly as many.
+pub fn reports_are_as_asked()
+    ensures { ReportsAreAsAsked }
+{}
+
+/// Each follower of a run hears all of its reports in turn until it is done, and speaks one text for each.
+pub fn followers_hear_the_run()
+    ensures { FollowersHear }
+{}

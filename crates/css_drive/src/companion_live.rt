@@ -1,0 +1,29 @@
+ghost use Rattle.std.specs.Prelude.{◌≤◌, ◌<◌};
+ghost use Rattle.std.specs.Option.{ForSome};
+
+/// What a companion's run keeps from call to call.
+#[derive(Clone, Copy, Debug)]
+pub struct Live {
+    /// The reading of the first turn.
+    pub first: Option<u64>,
+    /// The reading of the present turn.
+    pub turn: Option<u64>,
+    /// The reading of the turn in which the last request was sent, if one was sent since the last sleep.
+    pub asked: Option<u64>,
+    /// How many turns were begun.
+    pub made: u64,
+    /// How many reports were due.
+    pub reported: u64,
+    /// The peers that were dialled.
+    pub cii: Option<u32>,
+    pub wc: Option<u32>,
+    pub ts: Option<u32>,
+    /// The peers of the sessions that are open.
+    pub cii_open: Option<u32>,
+    pub ts_open: Option<u32>,
+    pub ghost made_few: { made ≤ 1000000 },
+    pub ghost reported_few: { reported ≤ 1000000 },
+    pub ghost first_below: { ForSome first (λ reading. reading < 4294967296000000000) },
+    pub ghost asked_below: { ForSome asked (λ reading. reading < 4294967296000000000) },
+    pub ghost turn_below: { ForSome turn (λ reading. reading < 4294967296000000000) },
+}

@@ -1,0 +1,35 @@
+//! The loops of a companion and of a television over any devices: which call is made next, and with what.
+#![tactic(auto)]
+
+mod companion;
+mod companion_calls;
+mod companion_dials;
+mod companion_hears;
+pub mod companion_laws;
+mod companion_live;
+#[cfg(test)]
+mod companion_tables;
+#[cfg(test)]
+mod companion_tests;
+mod companion_turns;
+mod config;
+mod driven;
+mod listens;
+mod on_air;
+mod tv_calls;
+mod tv_lines;
+#[cfg(test)]
+mod tv_noted;
+mod tv_outputs;
+#[cfg(test)]
+mod tv_tables;
+#[cfg(test)]
+mod tv_tests;
+mod tv_turns;
+
+pub use companion::drive_companion;
+pub use config::DriveConfig;
+pub use css_address::{AddressFault, LONGEST_ADDRESS, address};
+pub use driven::Driven;
+pub use listens::{Before, Listens, Nobody};
+pub use tv_turns::drive_tv;

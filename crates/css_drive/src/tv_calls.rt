@@ -1,0 +1,205 @@
+ghost use Rattle.std.specs.Prelude.{◌≡◌, ◌<◌, ◌≤◌, ◌∷◌, [], ℕ, List, Option, Some, None, IfOk};
+ghost use Rattle.std.specs.Prelude.{MatchResult};
+ghost use Rattle.css_model.specs.History.{History, Sent};
+ghost use Rattle.css_sessions.specs.Kept.{talk_of};
+ghost use Rattle.css_tv.specs.declared.event.TvEvent.TheVariants as events;
+ghost use Rattle.css_drive.specs.Proper.{TakeText};
+ghost use Rattle.css_drive.specs.TvDue.{TvRun, due};
+ghost use Rattle.css_drive.specs.TvProgress.{Progress, Place, Turned, Taken, Received, Served, Asked};
+ghost use Rattle.css_drive.specs.TvProgress.{happened, addresses_in};
+ghost use Rattle.css_drive.specs.TvStanding.{IsFault, HasCause, IsRead, Adds, Told, IsAt, Goes, Airs, Arrives, Keeps};
+ghost use Rattle.css_drive.specs.TvStanding.{Stays, IsUnasked, IsAtEnd, IsUnused, Finishes};
+ghost use Rattle.css_drive.specs.declared.driven.Driven.TheVariants as driven;
+
+use crate::driven::Driven;
+use crate::on_air::OnAir;
+use crate::tv_outputs::{fault_of, play};
+use css_model::LIMIT;
+use css_outside::{Heard, Kind, Outside, Why};
+use css_server::Ticket;
+use css_sessions::Kind as SessionKind;
+use css_tv::{Tv, TvEvent};
+use std::alloc::Global;
+
+/// Reads the clock. A television passes over sleeps.
+pub(crate) fn read<O: Outside>(outside: &mut O, why: Why) -> Result<u64, Driven>
+    ensures told { MatchResult result (IsRead why (O.told outside.old) (O.told outside.new))
+        (λ ended. (O.told outside.new ≡ O.told outside.old) × IsFault ended) }
+    ensures below { IfOk result (λ reading. reading < LIMIT) }
+    ensures cause { HasCause (O.counts outside.old) (O.counts outside.new) result }
+{
+    match outside.now(why) {
+        Ok(clocked) => Ok(clocked.reading),
+        Err(fault) => Err(fault_of(fault)),
+    }
+}
+
+/// Sends a datagram.
+fn send<O: Outside>(outside: &mut O, peer: u32, bytes: &[u8; 32]) -> Result<(), Driven>
+    ensures told { Adds (O.told outside.old) (O.told outside.new) result (Sent peer bytes.now ∷ []) }
+    ensures cause { HasCause (O.counts outside.old) (O.counts outside.new) result }
+{
+    match outside.send_datagram(peer, bytes) {
+        Ok(()) => Ok(()),
+        Err(fault) => Err(fault_of(fault)),
+    }
+}
+
+/// Answers a request: the response first.
+fn answer<O: Outside>(tv: &Tv, outside: &mut O, peer: u32, ticket: Ticket) -> Result<(), Driven>
+    ensures goes { (run : TvRun) (start : Option History) (p : Progress) (h : History)
+        → IsAt run start (O.told outside.old) (O.counts outside.old).peers tv.now (Received peer ticket) p p h
+        → Goes run start (O.told outside.new) (O.counts outside.new).peers tv.now p Served [] result }
+    ensures cause { HasCause (O.counts outside.old) (O.counts outside.new) result }
+{
+    let reading = read(outside, Why::Give)?;
+    let answered = tv.answer(ticket, reading);
+    match send(outside, peer, &answered.response) {
+        Ok(()) => {}
+        Err(ended) => return Err(ended),
+    }
+    match answered.follow_up {
+        None => Ok(()),
+        Some(bytes) => send(outside, peer, &bytes),
+    }
+}
+
+/// Receives a datagram, and drops it unless it is a request.
+fn receive<O: Outside>(tv: &mut Tv, outside: &mut O, peer: u32, bytes: &[u8]) -> Result<(), Driven>
+    ensures goes { (run : TvRun) (start : Option History) (p : Progress) (h : History) (taken : List ℕ)
+        → IsAt run start (O.told outside.old) (O.counts outside.old).peers tv.old (Taken peer taken) p p h
+        → taken ≡ bytes.now
+        → Goes run start (O.told outside.new) (O.counts outside.new).peers tv.new p Served [] result }
+    ensures cause { HasCause (O.counts outside.old) (O.counts outside.new) result }
+{
+    let reading = read(outside, Why::Take)?;
+    match tv.receive(bytes, reading) {
+        Err(_) => Ok(()),
+        Ok(ticket) => answer(tv, outside, peer, ticket),
+    }
+}
+
+/// Takes a datagram, if there is one.
+pub(crate) fn serve<O: Outside>(tv: &mut Tv, outside: &mut O) -> Result<(), Driven>
+    ensures goes { (run : TvRun) (start : Option History) (p : Progress) (h : History) (reading : ℕ)
+        → IsAt run start (O.told outside.old) (O.counts outside.old).peers tv.old (Turned reading) p p h
+        → Goes run start (O.told outside.new) (O.counts outside.new).peers tv.new p Served [] result }
+    ensures cause { HasCause (O.counts outside.old) (O.counts outside.new) result }
+{
+    let mut into = [0u8; 64];
+    match outside.take_datagram(&mut into) {
+        Err(fault) => Err(fault_of(fault)),
+        Ok(None) => Ok(()),
+        Ok(Some((peer, count))) => receive(tv, outside, peer, &into[..count]),
+    }
+}
+
+/// Opens a session at the television.
+fn open<O: Outside>(
+    alloc: Global,
+    air: &mut OnAir,
+    outside: &mut O,
+    peer: u32,
+    kind: SessionKind,
+) -> Result<(), Driven>
+    requires { talk_of peer air.old.tv.stage.sessions.list ≡ None }
+    ensures goes { (run : TvRun) (start : Option History) (p : Progress) (h : History) (greatest : ℕ)
+        → Told run start (O.told outside.old) (O.counts outside.old).peers
+        (happened (addresses_in run.config) (events.Opened peer kind) p) h
+        → Stays run air.old.tv greatest p → p.place ≡ Asked None → p.owed ≡ [] → Keeps run greatest air.old p
+        → greatest < peer → peer ≤ (O.counts outside.old).peers
+        → Arrives run start (O.told outside.new) (O.counts outside.new).peers air.new IsUnasked result }
+    ensures made { air.new.made ≡ air.old.made }
+    ensures cause { HasCause (O.counts outside.old) (O.counts outside.new) result }
+{
+    match air.peers.push(peer) {
+        Ok(()) => {}
+        Err(_) => return Err(Driven::Memory),
+    }
+    play(alloc, &mut air.tv, outside, TvEvent::Opened { peer, kind })
+}
+
+/// Takes the session that a peer opened, if one did.
+pub(crate) fn welcome<O: Outside>(
+    alloc: Global,
+    air: &mut OnAir,
+    outside: &mut O,
+) -> Result<(), Driven>
+    requires { IsUnused (O.counts outside.old).peers air.old.tv }
+    ensures goes { (run : TvRun) (start : Option History) (p : Progress) (h : History)
+        → Airs run start (O.told outside.old) (O.counts outside.old).peers air.old Served p p h
+        → Arrives run start (O.told outside.new) (O.counts outside.new).peers air.new IsUnasked result }
+    ensures made { air.new.made ≡ air.old.made }
+    ensures cause { HasCause (O.counts outside.old) (O.counts outside.new) result }
+{
+    match outside.accept() {
+        Err(fault) => Err(fault_of(fault)),
+        Ok(None) => Ok(()),
+        Ok(Some((_, Kind::Wc))) => Ok(()),
+        Ok(Some((peer, Kind::Cii))) => open(alloc, air, outside, peer, SessionKind::Cii),
+        Ok(Some((peer, Kind::Ts))) => open(alloc, air, outside, peer, SessionKind::Ts),
+    }
+}
+
+/// Asks a session for a text.
+fn hear<O: Outside>(alloc: Global, tv: &mut Tv, outside: &mut O, peer: u32) -> Result<(), Driven>
+    ensures goes { (run : TvRun) (start : Option History) (p : Progress) (h : History) (last : Option ℕ)
+        → IsAt run start (O.told outside.old) (O.counts outside.old).peers tv.old (Asked last) p p h
+        → due run h ≡ TakeText peer
+        → Goes run start (O.told outside.new) (O.counts outside.new).peers tv.new p (Asked (Some peer)) [] result }
+    ensures cause { HasCause (O.counts outside.old) (O.counts outside.new) result }
+{
+    match outside.take_text(peer) {
+        Err(fault) => Err(fault_of(fault)),
+        Ok(Heard::Quiet) => Ok(()),
+        Ok(Heard::Text(text)) => play(alloc, tv, outside, TvEvent::Heard { peer, text }),
+        Ok(Heard::Closed) => play(alloc, tv, outside, TvEvent::Closed { peer }),
+    }
+}
+
+/// Asks each open session for a text, in order of peer.
+pub(crate) fn hear_all<O: Outside>(
+    alloc: Global,
+    air: &mut OnAir,
+    outside: &mut O,
+) -> Result<(), Driven>
+    ensures goes { (run : TvRun) (start : Option History) (p : Progress) (h : History)
+        → Airs run start (O.told outside.old) (O.counts outside.old).peers air.old (Asked None) p p h
+        → Arrives run start (O.told outside.new) (O.counts outside.new).peers air.new (IsAtEnd run) result }
+    ensures made { air.new.made ≡ air.old.made }
+    ensures cause { HasCause (O.counts outside.old) (O.counts outside.new) result }
+{
+    let mut at = 0;
+    'peers: while at < air.peers.len() {
+        let peer = air.peers[at];
+        if air.tv.is_open(peer) {
+            match hear(alloc, &mut air.tv, outside, peer) {
+                Ok(()) => {}
+                Err(ended) => return Err(ended),
+            }
+            at += 1;
+        } else {
+            let _ = air.peers.remove(at);
+        }
+    }
+    Ok(())
+}
+
+/// Hangs up each open session, in order of peer.
+pub(crate) fn hang_up_all<O: Outside>(air: &OnAir, outside: &mut O) -> Result<(), Driven>
+    ensures ends { (run : TvRun) (start : Option History) (p : Progress) (h : History) (place : Place)
+        → Airs run start (O.told outside.old) (O.counts outside.old).peers air.now place p p h
+        → IsAtEnd run place p → run.turns ≤ air.now.made
+        → Finishes run start (O.told outside.new) driven.Done result }
+    ensures cause { HasCause (O.counts outside.old) (O.counts outside.new) result }
+{
+    for peer in &air.peers {
+        if air.tv.is_open(*peer) {
+            match outside.hang_up(*peer) {
+                Ok(()) => {}
+                Err(fault) => return Err(fault_of(fault)),
+            }
+        }
+    }
+    Ok(())
+}
