@@ -1,5 +1,5 @@
 //! A television's runs over an outside in memory: each fault, each refusal and each end is a row.
-ghost use Rattle.std.specs.Prelude.{◌≡◌, negsuc, All, IfOk, IsTrue};
+ghost use Rattle.std.specs.Prelude.{◌≡◌, negsuc, All, IfOk, IsTrue, false, true};
 ghost use Rattle.std.specs.Str.{IsUtf8};
 ghost use Rattle.css_outside.specs.Scripts.{are_readings, are_sessions};
 ghost use Rattle.css_schedule.specs.Ranges.{IsScriptLine};
