@@ -18,13 +18,7 @@ mod listens;
 mod on_air;
 mod tv_calls;
 mod tv_lines;
-#[cfg(test)]
-mod tv_noted;
 mod tv_outputs;
-#[cfg(test)]
-mod tv_tables;
-#[cfg(test)]
-mod tv_tests;
 mod tv_turns;
 
 pub use companion::drive_companion;
