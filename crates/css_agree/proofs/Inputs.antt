@@ -30,7 +30,8 @@ declared-range : (words : List (List ℕ)) → Gets IsErrorInRange (declared_at 
 unfolding declared_at
 declared-range words =
     pass (First IsErrorInRange) (signed_at 3 (negsuc 127) (pos 30) words) _ (λ exponent.
-    after (λ n. n < max_error + 1) (First IsErrorInRange) _ _ (number-range (max_error + 1) exponent.1) (λ error rest small.
+    after (λ n. n < max_error + 1) (First IsErrorInRange) _ _ (number-range (max_error + 1) exponent.1)
+    (λ error rest small.
     omega (arith, small)))
 
 answer-range : (words : List (List ℕ)) → IfOk (answer_of words) IsLineInRange
@@ -76,7 +77,8 @@ after-range own (lines.Answer answer) others one rest = with_answer-range own an
 after-range own (lines.At reading) others one rest = rest
 
 with_line-range : (own : Local) (number : ℕ) (older : List Numbered) (line : Result AnswerLine LineFault)
-    → IfOk line IsLineInRange → DeclareInRange (answers_in own older) → DeclareInRange (answers_in own (with_line number older line))
+    → IfOk line IsLineInRange → DeclareInRange (answers_in own older)
+    → DeclareInRange (answers_in own (with_line number older line))
 with_line-range own number older (Ok line) h rest = after-range own line (answers_in own older) h rest
 with_line-range own number older (Err fault) h rest = rest
 

@@ -73,7 +73,8 @@ Taken (first ∷ texts) printed = (own : Local) × (local_of first ≡ Ok own) �
 -- one line more
 one_line : (own : Local) (first : List ℕ) (texts : List (List ℕ)) (text so_far printed : List ℕ)
     (line : Result AnswerLine LineFault) → line_of text ≡ line → local_of first ≡ Ok own
-    → AreTold own (lines_in texts) so_far → read_meant own (lines_in texts) (length (first ∷ texts) + 1) line ≡ Ok printed
+    → AreTold own (lines_in texts) so_far
+    → read_meant own (lines_in texts) (length (first ∷ texts) + 1) line ≡ Ok printed
     → Taken (first ∷ (texts ++ text ∷ [])) (so_far ++ printed)
 one_line own first texts text so_far printed (Err fault) is header told_before e = absurd (cc)
 one_line own first texts text so_far printed (Ok line) is header told_before e =
@@ -95,7 +96,8 @@ one_more : (before : List (List ℕ)) (text so_far printed : List ℕ) → Taken
     → text_meant before text ≡ Ok printed → Taken (before ++ text ∷ []) (so_far ++ printed)
 one_more [] text so_far printed taken e = by (local_of text) refl e
   where
-    by : (r : Result Local LineFault) → local_of text ≡ r → opened r ≡ Ok printed → Taken (text ∷ []) (so_far ++ printed)
+    by : (r : Result Local LineFault) → local_of text ≡ r → opened r ≡ Ok printed
+        → Taken (text ∷ []) (so_far ++ printed)
     by (Err fault) is p = absurd (cc)
     by (Ok own) is p = (own, is, rw (taken, same p) refl)
       where
@@ -103,7 +105,8 @@ one_more [] text so_far printed taken e = by (local_of text) refl e
         same q = cc
 one_more (first ∷ texts) text so_far printed taken e =
     one_line taken.0 first texts text so_far printed (line_of text) refl taken.1 taken.2
-    (subst (λ (r : Result Local LineFault). meant_after r (lines_in texts) (length (first ∷ texts) + 1) (line_of text) ≡ Ok printed)
+    (subst (λ (r : Result Local LineFault).
+    meant_after r (lines_in texts) (length (first ∷ texts) + 1) (line_of text) ≡ Ok printed)
     taken.1 e)
 
 -- nothing is printed at the end

@@ -1,6 +1,8 @@
 -- The reader of answers stands for one text more.
-use Rattle.std.proofs.Common.{◌≡◌, ◌⊎◌, inl, inr, ℕ, suc, ◌+◌, ◌-◌, ◌<◌, ◌≤◌, arith, ap, sym, subst, ◌∙◌, refl, Bool, true, false, List, [], ◌∷◌, ◌++◌, length}
-use Rattle.std.specs.Prelude.{ℤ, pos, int_lt, nat_lt, if◌then◌else◌, Option, Some, None, Result, Ok, Err, OnOk, IfOk, MatchResult}
+use Rattle.std.proofs.Common.{◌≡◌, ◌⊎◌, inl, inr, ℕ, suc, ◌+◌, ◌-◌, ◌<◌, ◌≤◌, arith, ap, sym, subst, ◌∙◌, refl, Bool}
+use Rattle.std.proofs.Common.{true, false, List, [], ◌∷◌, ◌++◌, length}
+use Rattle.std.specs.Prelude.{ℤ, pos, int_lt, nat_lt, if◌then◌else◌, Option, Some, None, Result, Ok, Err, OnOk, IfOk}
+use Rattle.std.specs.Prelude.{MatchResult}
 use Rattle.std.proofs.lemmas.Bool.{ltb-true, ltb-false}
 use Rattle.std.proofs.lemmas.List.{append-nil}
 use Rattle.css_model.specs.WallClock.{Answer, Local, scaled_width}
@@ -13,7 +15,8 @@ use Rattle.css_agree.specs.declared.input.AnswerLine.{AnswerLine}
 use Rattle.css_agree.specs.declared.reader.Cause.{Cause}
 use Rattle.css_agree.specs.declared.reader.Cause.TheVariants.{Form, Broken}
 use Rattle.css_agree.specs.declared.reader.Agreeing.{Agreeing}
-use Rattle.css_agree.specs.Agreeing.{Numbered, with_answer, with_line, lines_after, lines_in, answers_in, line_text, in_order, line_meant, read_meant, meant_after, opened, text_meant}
+use Rattle.css_agree.specs.Agreeing.{Numbered, with_answer, with_line, lines_after, lines_in, answers_in, line_text}
+use Rattle.css_agree.specs.Agreeing.{in_order, line_meant, read_meant, meant_after, opened, text_meant}
 use Rattle.css_agree.specs.Inputs.{reading_of, line_of, local_of}
 use Rattle.css_agree.specs.Agreements.{AgreesAt}
 use Rattle.css_agree.specs.Keeping.{Kept, StandsFor}
@@ -27,7 +30,8 @@ use Rattle.css_agree.specs.Reading.{Keeps, IsLast, Stands, order_of}
 
 -- ---- the lines of texts, one text more
 lines_after-push : (number : ℕ) (older : List Numbered) (texts : List (List ℕ)) (text : List ℕ)
-    → lines_after number older (texts ++ text ∷ []) ≡ with_line (number + length texts) (lines_after number older texts) (line_of text)
+    → lines_after number older (texts ++ text ∷ []) ≡ with_line (number + length texts) (lines_after number older texts)
+    (line_of text)
 lines_after-push number older [] text = ap (λ (n : ℕ). with_line n older (line_of text)) (omega arith)
 lines_after-push number older (t ∷ texts) text =
     lines_after-push (suc number) (with_line number older (line_of t)) texts text
@@ -100,23 +104,27 @@ never_refused earlier reading fault e =
     omega (arith, ltb-true reading 0 (by-high (nat_lt reading 0) (fall earlier 0 reading) fault e))
 
 -- what is meant of a line whose reading is in order
-pub meant-ok : (own : Local) (older : List Numbered) (earlier last number : ℕ) (line : AnswerLine) → IsLast older earlier last
+pub meant-ok : (own : Local) (older : List Numbered) (earlier last number : ℕ) (line : AnswerLine)
+    → IsLast older earlier last
     → order_of earlier last (reading_of line) ≡ Ok tt
     → line_meant own older number line ≡ Ok (line_text own number line (answers_in own older))
 meant-ok own [] earlier last number line is e = refl
 meant-ok own (now ∷ older) earlier last number line is e =
-    in_order-ok now.number (reading_of now.line) (reading_of line) (line_text own number line (answers_in own (now ∷ older)))
+    in_order-ok now.number (reading_of now.line) (reading_of line)
+    (line_text own number line (answers_in own (now ∷ older)))
     (subst (λ (n : ℕ). order_of n (reading_of now.line) (reading_of line) ≡ Ok tt) (sym is.0)
     (subst (λ (r : ℕ). order_of earlier r (reading_of line) ≡ Ok tt) (sym is.1) e))
 
-pub meant-err : (own : Local) (older : List Numbered) (earlier last number : ℕ) (line : AnswerLine) (fault : engine.LineFault Cause)
+pub meant-err : (own : Local) (older : List Numbered) (earlier last number : ℕ) (line : AnswerLine)
+    (fault : engine.LineFault Cause)
     → IsLast older earlier last → order_of earlier last (reading_of line) ≡ Err fault
     → MayFault (line_meant own older number line) fault
 meant-err own [] earlier last number line fault is e =
     absurd (never_refused earlier (reading_of line) fault
     (subst (λ (r : ℕ). order_of earlier r (reading_of line) ≡ Err fault) is e))
 meant-err own (now ∷ older) earlier last number line fault is e =
-    in_order-err now.number (reading_of now.line) (reading_of line) (line_text own number line (answers_in own (now ∷ older)))
+    in_order-err now.number (reading_of now.line) (reading_of line)
+    (line_text own number line (answers_in own (now ∷ older)))
     fault
     (subst (λ (n : ℕ). order_of n (reading_of now.line) (reading_of line) ≡ Err fault) (sym is.0)
     (subst (λ (r : ℕ). order_of earlier r (reading_of line) ≡ Err fault) (sym is.1) e))
@@ -171,7 +179,11 @@ pub tells : (own : Local) (number reading : ℕ) (added : Added) (agreed : Agree
     → AgreesAt own reading added agreed → new ≡ old ++ agreed_text own number reading agreed
     → Answers {T = Unit {0}} {Cause = Cause} (Ok (at_text own number reading added)) old new (Ok tt)
 tells own number reading added agreed old new says e = record {
-  cases = (at_text own number reading added, refl, e ∙ ap (λ text. old ++ text) (sym (shown own number reading added agreed says)));
+  cases = (
+    at_text own number reading added,
+    refl,
+    e ∙ ap (λ text. old ++ text) (sym (shown own number reading added agreed says)),
+  );
 }
 
 -- ---- the reader

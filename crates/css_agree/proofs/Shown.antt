@@ -3,11 +3,13 @@ use Rattle.std.proofs.Common.{◌≡◌, ℕ, arith, refl, ap, sym, ◌∙◌, B
 use Rattle.std.specs.Prelude.{ℤ, ◌≤ℤ◌, ◌<ℤ◌, int_lt, if◌then◌else◌, All, Contains}
 use Rattle.std.specs.Int.{int_max, int_min}
 use Rattle.std.proofs.lemmas.Int.{ints}
-use Rattle.std.proofs.lemmas.List.Elements.{All-nil, All-cons, All-contains, All-weaker, Contains-append_right, Contains-append_left, Contains-push}
+use Rattle.std.proofs.lemmas.List.Elements.{All-nil, All-cons, All-contains, All-weaker, Contains-append_right}
+use Rattle.std.proofs.lemmas.List.Elements.{Contains-append_left, Contains-push}
 use Rattle.css_model.specs.WallClock.{Answer, Local, lo, hi}
 use Rattle.css_span.specs.Frontiers.{Answers}
 use Rattle.css_num.specs.Spans.{Interval}
-use Rattle.css_agree.specs.Agreements.{HasGreatestLow, HasLeastHigh, IsShared, LiesIn, Contradict, AgreesAt, TellsTruth, DeclareInRange}
+use Rattle.css_agree.specs.Agreements.{HasGreatestLow, HasLeastHigh, IsShared, LiesIn, Contradict, AgreesAt, TellsTruth}
+use Rattle.css_agree.specs.Agreements.{DeclareInRange}
 use Rattle.css_agree.specs.declared.agreed.Agreed.{Agreed}
 use Rattle.css_agree.specs.declared.agreed.Agreed.TheVariants.{Nothing, Within, Disagree}
 use Rattle.css_agree.specs.Printed.{greatest_low, least_high, between, at_text, agreed_text, agree_line, disagree_line}
@@ -69,7 +71,8 @@ lowest own reading first [] = record {
   same = refl;
 }
 lowest own reading first (next ∷ others) =
-    lowest-with own reading first (next ∷ others) (greatest_low own reading next others) (lowest own reading next others)
+    lowest-with own reading first (next ∷ others) (greatest_low own reading next others)
+    (lowest own reading next others)
 
 -- ---- an answer has the least upper end
 pub record Highest (own : Local) (reading : ℕ) (added : Answers) (high : ℤ) : Type 0 where
@@ -120,7 +123,8 @@ highest own reading first [] = record {
   same = refl;
 }
 highest own reading first (next ∷ others) =
-    highest-with own reading first (next ∷ others) (least_high own reading next others) (highest own reading next others)
+    highest-with own reading first (next ∷ others) (least_high own reading next others)
+    (highest own reading next others)
 
 -- ---- two such answers have one end
 same_low : (own : Local) (reading : ℕ) (added : Answers) (a b : Answer) → HasGreatestLow own reading added a

@@ -23,12 +23,14 @@ added (Ok printed) old new e = (printed, refl, cc)
 added (Err fault) old new e = absurd (cc)
 
 -- where nothing is appended, the fault is that of the line
-caused-err : (meant : Result (List ℕ) WorldFault) (old : List ℕ) (fault : WorldFault) → appended old meant ≡ Err fault → meant ≡ Err fault
+caused-err : (meant : Result (List ℕ) WorldFault) (old : List ℕ) (fault : WorldFault) → appended old meant ≡ Err fault
+    → meant ≡ Err fault
 caused-err (Ok printed) old fault e = absurd (cc)
 caused-err (Err f) old fault e = cc
 
 -- a fault is the meant one, or want of memory
-pub faulted : (meant : Result (List ℕ) WorldFault) (old : List ℕ) (fault : WorldFault) → (appended old meant ≡ Err fault) ⊎ (fault ≡ Memory)
+pub faulted : (meant : Result (List ℕ) WorldFault) (old : List ℕ) (fault : WorldFault)
+    → (appended old meant ≡ Err fault) ⊎ (fault ≡ Memory)
     → MayFault (caused meant) (refused_fault fault)
 faulted meant old (Broken earlier excess) (inl e) = ap caused (caused-err meant old (Broken earlier excess) e)
 faulted meant old (Broken earlier excess) (inr e) = absurd (cc)
@@ -39,23 +41,30 @@ faulted meant old (Player fault) (inr e) = absurd (cc)
 faulted meant old Memory h = tt
 
 -- a line that was carried out answers what is meant
-pub answers-ok : (header : Header) (lines : List Numbered) (number : ℕ) (text : List ℕ) (line : Line) (old new : List ℕ) → line_of text ≡ Ok line
+pub answers-ok : (header : Header) (lines : List Numbered) (number : ℕ) (text : List ℕ) (line : Line) (old new : List ℕ)
+    → line_of text ≡ Ok line
     → appended old (line_meant header lines (record { number = number; line = line })) ≡ Ok new
     → Answers {T = Unit {0}} (read_meant header lines number (line_of text)) old new (Ok tt)
 answers-ok header lines number text line old new is e =
-    subst (λ (r : Result Line LineFault). Answers {T = Unit {0}} (read_meant header lines number r) old new (Ok tt)) (sym is)
+    subst (λ (r : Result Line LineFault). Answers {T = Unit {0}} (read_meant header lines number r) old new (Ok tt))
+    (sym is)
     (record { cases = added (line_meant header lines (record { number = number; line = line })) old new e })
 
 -- and so does one that was refused
-pub answers-err : (header : Header) (lines : List Numbered) (number : ℕ) (text : List ℕ) (line : Line) (old new : List ℕ) (fault : WorldFault) (told : engine.LineFault Cause)
+pub answers-err : (header : Header) (lines : List Numbered) (number : ℕ) (text : List ℕ) (line : Line)
+    (old new : List ℕ) (fault : WorldFault) (told : engine.LineFault Cause)
     → line_of text ≡ Ok line → told ≡ refused_fault fault
-    → (new ≡ old) × ((appended old (line_meant header lines (record { number = number; line = line })) ≡ Err fault) ⊎ (fault ≡ Memory))
+    → (new ≡ old)
+    × ((appended old (line_meant header lines (record { number = number; line = line })) ≡ Err fault)
+    ⊎ (fault ≡ Memory))
     → Answers {T = Unit {0}} (read_meant header lines number (line_of text)) old new (Err told)
 answers-err header lines number text line old new fault told is same e =
-    subst (λ (r : Result Line LineFault). Answers {T = Unit {0}} (read_meant header lines number r) old new (Err told)) (sym is)
+    subst (λ (r : Result Line LineFault). Answers {T = Unit {0}} (read_meant header lines number r) old new (Err told))
+    (sym is)
     (record {
       cases = (
-        subst (λ (f : engine.LineFault Cause). MayFault (caused (line_meant header lines (record { number = number; line = line }))) f) (sym same)
+        subst (λ (f : engine.LineFault Cause).
+            MayFault (caused (line_meant header lines (record { number = number; line = line }))) f) (sym same)
             (faulted (line_meant header lines (record { number = number; line = line })) old fault e.1),
         e.0,
       );

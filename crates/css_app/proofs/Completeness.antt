@@ -11,29 +11,39 @@ use Rattle.css_app.specs.declared.replay.Cause.{Cause}
 use Rattle.css_app.specs.Replayed.{replayed}
 use Rattle.css_app.specs.Ended.{IsAccepted, AreAllRead, HasNotFailed, IsDoneUnlessMemory, status_of, agree_status_of}
 
-pub completes : (bytes : List ℕ) (left holds_old holds_new : Option (List ℕ)) (stop : Stop Cause) (reads reads_new writes writes_new : ℕ)
+pub completes : (bytes : List ℕ) (left holds_old holds_new : Option (List ℕ)) (stop : Stop Cause)
+    (reads reads_new writes writes_new : ℕ)
     → RanUntil replayed bytes left holds_old holds_new stop → IsAccepted bytes
     → SourceCounts reads reads_new stop → SinkCounts writes writes_new stop
     → HasNotFailed reads reads_new → HasNotFailed writes writes_new → IsDoneUnlessMemory (status_of stop)
-completes bytes left holds_old holds_new (BadLine line why) reads reads_new writes writes_new ran accepted source sink read written =
+completes bytes left holds_old holds_new (BadLine line why) reads reads_new writes writes_new ran accepted source sink
+    read written =
     let verdict = sym (ap (λ (o : Outcome Cause). o.verdict) ran.verdict) ∙ accepted in
     absurd (cc)
-completes bytes left holds_old holds_new ReadFault reads reads_new writes writes_new ran accepted source sink read written =
+completes bytes left holds_old holds_new ReadFault reads reads_new writes writes_new ran accepted source sink read
+    written =
     absurd (omega (arith, source.risen read.below, read.same))
-completes bytes left holds_old holds_new WriteFault reads reads_new writes writes_new ran accepted source sink read written =
+completes bytes left holds_old holds_new WriteFault reads reads_new writes writes_new ran accepted source sink read
+    written =
     absurd (omega (arith, sink.risen written.below, written.same))
-completes bytes left holds_old holds_new Memory reads reads_new writes writes_new ran accepted source sink read written = tt
+completes bytes left holds_old holds_new Memory reads reads_new writes writes_new ran accepted source sink read
+    written = tt
 
 -- so does a run over answers of which no line is refused
-pub answers_complete : (bytes : List ℕ) (left holds_old holds_new : Option (List ℕ)) (stop : Stop agree.Cause) (reads reads_new writes writes_new : ℕ)
+pub answers_complete : (bytes : List ℕ) (left holds_old holds_new : Option (List ℕ)) (stop : Stop agree.Cause)
+    (reads reads_new writes writes_new : ℕ)
     → RanUntil agreeing bytes left holds_old holds_new stop → AreAllRead bytes
     → SourceCounts reads reads_new stop → SinkCounts writes writes_new stop
     → HasNotFailed reads reads_new → HasNotFailed writes writes_new → IsDoneUnlessMemory (agree_status_of stop)
-answers_complete bytes left holds_old holds_new (BadLine line why) reads reads_new writes writes_new ran accepted source sink read written =
+answers_complete bytes left holds_old holds_new (BadLine line why) reads reads_new writes writes_new ran accepted source
+    sink read written =
     let verdict = sym (ap (λ (o : Outcome agree.Cause). o.verdict) ran.verdict) ∙ accepted in
     absurd (cc)
-answers_complete bytes left holds_old holds_new ReadFault reads reads_new writes writes_new ran accepted source sink read written =
+answers_complete bytes left holds_old holds_new ReadFault reads reads_new writes writes_new ran accepted source sink
+    read written =
     absurd (omega (arith, source.risen read.below, read.same))
-answers_complete bytes left holds_old holds_new WriteFault reads reads_new writes writes_new ran accepted source sink read written =
+answers_complete bytes left holds_old holds_new WriteFault reads reads_new writes writes_new ran accepted source sink
+    read written =
     absurd (omega (arith, sink.risen written.below, written.same))
-answers_complete bytes left holds_old holds_new Memory reads reads_new writes writes_new ran accepted source sink read written = tt
+answers_complete bytes left holds_old holds_new Memory reads reads_new writes writes_new ran accepted source sink read
+    written = tt

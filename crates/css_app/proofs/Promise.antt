@@ -1,7 +1,9 @@
 -- What a replay prints keeps the promise.
-use Rattle.std.proofs.Common.{◌≡◌, ℕ, ◌+◌, ◌⊎◌, inl, inr, arith, ap, sym, subst, ◌∙◌, refl, Bool, true, false, cond, List, [], ◌∷◌, ◌++◌, length}
+use Rattle.std.proofs.Common.{◌≡◌, ℕ, ◌+◌, ◌⊎◌, inl, inr, arith, ap, sym, subst, ◌∙◌, refl, Bool, true, false, cond}
+use Rattle.std.proofs.Common.{List, [], ◌∷◌, ◌++◌, length}
 use Rattle.std.specs.Int.{w8}
-use Rattle.std.specs.Prelude.{ℤ, pos, negsuc, ◌≤ℤ◌, FitsSigned, Option, Some, None, unwrap_or, slice_get, IfSome, MatchOption, Result, Ok, Err}
+use Rattle.std.specs.Prelude.{ℤ, pos, negsuc, ◌≤ℤ◌, FitsSigned, Option, Some, None, unwrap_or, slice_get, IfSome}
+use Rattle.std.specs.Prelude.{MatchOption, Result, Ok, Err}
 use Rattle.std.specs.Option.{option_map}
 use Rattle.std.specs.Result.{result_and}
 use Rattle.std.proofs.lemmas.List.{append_assoc, append-nil}
@@ -46,7 +48,8 @@ use Rattle.css_world.proofs.Worlds.{carried_ok}
 use Rattle.css_world.proofs.Truth.{accepted_lines_are_true, accepted_lines_are_world}
 use Rattle.css_app.specs.declared.replay.Cause.{Cause}
 use Rattle.css_app.specs.declared.replay.Cause.TheVariants.{Form}
-use Rattle.css_app.specs.Replayed.{header_in, with_line, lines_in, caused, read_meant, meant_after, opened, text_meant, replayed}
+use Rattle.css_app.specs.Replayed.{header_in, with_line, lines_in, caused, read_meant, meant_after, opened, text_meant}
+use Rattle.css_app.specs.Replayed.{replayed}
 use Rattle.css_app.specs.Headline.{accepted_before, IsTrueInterval, IsCause, AreTrueTicks, IsReportedCause}
 use Rattle.css_app.specs.Headline.{IsKept, KeepsLine, AreKept, KeepsPromise}
 use Rattle.css_schedule.proofs.InRange.{lines_are_in_range, headers_are_in_range}
@@ -81,7 +84,8 @@ kept-wall header older now reading printed is covers =
     accepted : List Answer
     accepted = accepted_before header older now
 
-    by : (o : Option Answer) → MatchOption o (accepted ≡ []) (IsLeast (λ answer. scaled_width own answer reading) accepted)
+    by : (o : Option Answer)
+        → MatchOption o (accepted ≡ []) (IsLeast (λ answer. scaled_width own answer reading) accepted)
         → printed ≡ wall_text now.number (option_map (span_of own reading) o) now.line.w
         → IfSome (option_map (span_of own reading) o) (λ span. Covers span (pos now.line.w))
         → IsTrueInterval header older now reading printed ⊎ IsCause header older now printed
@@ -90,11 +94,13 @@ kept-wall header older now reading printed is covers =
 
 -- and at `print`
 kept-print : (header : Header) (older : List Numbered) (now : Numbered) (reading : ℕ) (printed : List ℕ)
-    → printed ≡ line_of now.number (report_at now.line.who header older reading) (assigned_at now.line.who header older now.line.w)
+    → printed ≡ line_of now.number (report_at now.line.who header older reading)
+    (assigned_at now.line.who header older now.line.w)
     → HasTickOf (report_at now.line.who header older reading) (assigned_at now.line.who header older now.line.w)
     → AreTrueTicks header older now reading printed ⊎ IsReportedCause header older now reading printed
 kept-print header older now reading printed is has =
-    by (narrowest own reading accepted) refl (least_by-least (λ answer. scaled_width own answer reading) accepted) is has
+    by (narrowest own reading accepted) refl (least_by-least (λ answer. scaled_width own answer reading) accepted) is
+    has
   where
     own : Local
     own = local_of now.line.who header
@@ -141,11 +147,14 @@ kept-print header older now reading printed is has =
     by (Some answer) so least e c = of answer so least (report_for (Some answer)) refl assigned refl e c
 
 -- so it is at each verb
-kept-by : (header : Header) (older : List Numbered) (now : Numbered) (verb : Verb) (printed : List ℕ) → now.line.verb ≡ verb
+kept-by : (header : Header) (older : List Numbered) (now : Numbered) (verb : Verb) (printed : List ℕ)
+    → now.line.verb ≡ verb
     → IsTrueWall header older now → IsTrueReport header older now
     → printed ≡ printed_for header older now verb → IsKept header older now verb printed
-kept-by header older now (Wall reading) printed is wall report e = kept-wall header older now reading printed e (wall reading is)
-kept-by header older now (Print reading) printed is wall report e = kept-print header older now reading printed e (report reading is)
+kept-by header older now (Wall reading) printed is wall report e =
+    kept-wall header older now reading printed e (wall reading is)
+kept-by header older now (Print reading) printed is wall report e =
+    kept-print header older now reading printed e (report reading is)
 kept-by header older now (Ask reading) printed is wall report e = e
 kept-by header older now (Take request reading) printed is wall report e = e
 kept-by header older now (Give take reading) printed is wall report e = e
@@ -189,7 +198,10 @@ declared text header e =
     record {
       tv = known.tv;
       exponent = fits-exponent header.tv_precision known.least known.tv.tv_precision;
-      local = subst (λ companions. IsLocal (unwrap_or (option_map (λ c. c.local) (slice_get companions 0)) (record { error = 0; precision = 0 }))) (sym known.alone) known.local;
+      local =
+          subst (λ companions.
+          IsLocal (unwrap_or (option_map (λ c. c.local) (slice_get companions 0)) (record { error = 0; precision = 0 })))
+          (sym known.alone) known.local;
     }
 
 -- ---- the texts that were taken
@@ -214,7 +226,8 @@ caused-ok (Err (Player fault)) printed e = absurd (cc)
 caused-ok (Err Memory) printed e = absurd (cc)
 
 -- one line more
-taken-line : (header : Header) (first : List ℕ) (texts : List (List ℕ)) (text sofar printed : List ℕ) (line : Result Line LineFault) → grammar.line_of text ≡ line
+taken-line : (header : Header) (first : List ℕ) (texts : List (List ℕ)) (text sofar printed : List ℕ)
+    (line : Result Line LineFault) → grammar.line_of text ≡ line
     → Taken header first texts sofar → read_meant header (lines_in texts) (length (first ∷ texts) + 1) line ≡ Ok printed
     → Taken header first (texts ++ text ∷ []) (sofar ++ printed)
 taken-line header first texts text sofar printed (Err fault) is taken e = absurd (cc)
@@ -223,9 +236,11 @@ taken-line header first texts text sofar printed (Ok line) is taken e =
     let now : Numbered = record { number = length (first ∷ texts) + 1; line = line } in
     let ok : line_meant header older now ≡ Ok printed = caused-ok (line_meant header older now) printed e in
     let range = lines_are_in_range text line is in
-    let accepted : AreAccepted header (now ∷ older) = (range, range.who, is_next first texts, (printed, ok), taken.accepted) in
+    let accepted : AreAccepted header (now ∷ older) =
+    (range, range.who, is_next first texts, (printed, ok), taken.accepted) in
     let is_declared = declared first header taken.is_header in
-    let pushed : lines_in (texts ++ text ∷ []) ≡ now ∷ older = lines_in-push first texts text ∙ ap (with_line (length (first ∷ texts) + 1) older) is in
+    let pushed : lines_in (texts ++ text ∷ []) ≡ now ∷ older =
+    lines_in-push first texts text ∙ ap (with_line (length (first ∷ texts) + 1) older) is in
     record {
       is_header = taken.is_header;
       accepted = subst (λ (ls : List Numbered). AreAccepted header ls) (sym pushed) accepted;
@@ -234,11 +249,13 @@ taken-line header first texts text sofar printed (Ok line) is taken e =
     }
 
 -- one text more: the header, or a line
-taken_text : (before : List (List ℕ)) (text sofar printed : List ℕ) → TakenAll before sofar → text_meant before text ≡ Ok printed
+taken_text : (before : List (List ℕ)) (text sofar printed : List ℕ) → TakenAll before sofar
+    → text_meant before text ≡ Ok printed
     → TakenAll (before ++ text ∷ []) (sofar ++ printed)
 taken_text [] text sofar printed taken e = by (header_in (header_of text)) refl e
   where
-    by : (o : Option Header) → header_in (header_of text) ≡ o → opened o ≡ Ok printed → TakenAll (text ∷ []) (sofar ++ printed)
+    by : (o : Option Header) → header_in (header_of text) ≡ o → opened o ≡ Ok printed
+        → TakenAll (text ∷ []) (sofar ++ printed)
     by None is p = absurd (cc)
     by (Some header) is p =
         let none : sofar ++ printed ≡ [] = rw (taken, same p) refl in
@@ -249,17 +266,21 @@ taken_text [] text sofar printed taken e = by (header_in (header_of text)) refl 
 taken_text (first ∷ texts) text sofar printed taken e =
     let header = taken.0 in
     let read : read_meant header (lines_in texts) (length (first ∷ texts) + 1) (grammar.line_of text) ≡ Ok printed =
-    subst (λ (o : Option Header). meant_after o (lines_in texts) (length (first ∷ texts) + 1) (grammar.line_of text) ≡ Ok printed) taken.1.is_header e in
+    subst (λ (o : Option Header).
+    meant_after o (lines_in texts) (length (first ∷ texts) + 1) (grammar.line_of text) ≡ Ok printed) taken.1.is_header
+    e in
     (header, taken-line header first texts text sofar printed (grammar.line_of text) refl taken.1 read)
 
 -- ---- the whole input
 -- nothing is printed at the end, whatever comes of it
-finishes : (before : List (List ℕ)) → (verdict : Option (ℕ × Refusal Cause)) × (finish_outcome replayed before ≡ record { printed = []; verdict = verdict })
+finishes : (before : List (List ℕ)) → (verdict : Option (ℕ × Refusal Cause))
+    × (finish_outcome replayed before ≡ record { printed = []; verdict = verdict })
 finishes [] = (Some (1, Refused Form), refl)
 finishes (first ∷ texts) = (None, refl)
 
 -- what was taken keeps the promise
-promise_of : (bytes : List ℕ) (texts rest : List (List ℕ)) (printed : List ℕ) → lines_of bytes ≡ texts ++ rest → TakenAll texts printed → KeepsPromise bytes printed
+promise_of : (bytes : List ℕ) (texts rest : List (List ℕ)) (printed : List ℕ) → lines_of bytes ≡ texts ++ rest
+    → TakenAll texts printed → KeepsPromise bytes printed
 promise_of bytes [] rest printed parts taken = inl taken
 promise_of bytes (first ∷ texts) rest printed parts taken = inr (record {
   first = first;
@@ -287,7 +308,8 @@ in_all bytes =
     promise_of bytes of.texts of.rest _ of.parts of.taken
 
 -- a front part keeps it too
-pub front_keeps : (bytes front whole : List ℕ) → IsPrefix front whole → KeepsPromise bytes whole → KeepsPromise bytes front
+pub front_keeps : (bytes front whole : List ℕ) → IsPrefix front whole → KeepsPromise bytes whole
+    → KeepsPromise bytes front
 front_keeps bytes front whole prefix (inl none) = inl (no_front front prefix.0 (sym none ∙ prefix.1))
   where
     no_front : (xs ys : List ℕ) → [] ≡ xs ++ ys → xs ≡ []
@@ -302,6 +324,9 @@ front_keeps bytes front whole prefix (inr kept) = inr (record {
   is_header = kept.is_header;
   world = kept.world;
   whole = kept.whole;
-  front = (prefix.0 ++ kept.front.0, kept.front.1 ∙ ap (λ w. w ++ kept.front.0) prefix.1 ∙ append_assoc front prefix.0 kept.front.0);
+  front = (
+    prefix.0 ++ kept.front.0,
+    kept.front.1 ∙ ap (λ w. w ++ kept.front.0) prefix.1 ∙ append_assoc front prefix.0 kept.front.0,
+  );
   kept = kept.kept;
 })

@@ -1,5 +1,6 @@
 -- How a run ends, as a status.
-use Rattle.std.specs.Prelude.{ℕ, ◌≡◌, ◌<◌, ◌-◌, ◌^◌, ◌⊎◌, if◌then◌else◌, bytes_eq, List, [], ◌∷◌, ◌++◌, codes, decimal, Option, Some, None}
+use Rattle.std.specs.Prelude.{ℕ, ◌≡◌, ◌<◌, ◌-◌, ◌^◌, ◌⊎◌, if◌then◌else◌, bytes_eq, List, [], ◌∷◌, ◌++◌, codes, decimal}
+use Rattle.std.specs.Prelude.{Option, Some, None}
 use Rattle.std.specs.Fmt.{signed_decimal}
 use Rattle.std.specs.Io.KnownBytes.{Appends}
 use Rattle.css_outside.specs.Faults.{HasRisen}
@@ -20,7 +21,8 @@ use Rattle.css_schedule.specs.FaultWords.{why_words}
 use Rattle.css_schedule.specs.declared.fault.LineWhy.{LineWhy}
 use Rattle.css_schedule.specs.declared.fault.LineWhy.TheVariants.{Long, Form, Absent, Player}
 use Rattle.css_app.specs.declared.status.Status.{Status}
-use Rattle.css_app.specs.declared.status.Status.TheVariants.{Done, Usage, BadLine, Broken, ReadFault, WriteFault, Memory}
+use Rattle.css_app.specs.declared.status.Status.TheVariants.{Done, Usage, BadLine, Broken, ReadFault, WriteFault}
+use Rattle.css_app.specs.declared.status.Status.TheVariants.{Memory}
 use Rattle.css_app.specs.Replayed.{replayed}
 
 -- the command of this name
@@ -51,7 +53,9 @@ abbrev pub status_words : Status → List ℕ
 status_words Done = codes "done"
 status_words Usage = codes "usage"
 status_words (BadLine line why) = codes "line " ++ decimal line ++ codes ": " ++ why_words why
-status_words (Broken line earlier excess) = codes "line " ++ decimal line ++ codes ": broken with line " ++ decimal earlier ++ codes " by " ++ signed_decimal excess
+status_words (Broken line earlier excess) =
+    codes "line " ++ decimal line ++ codes ": broken with line " ++ decimal earlier ++ codes " by "
+    ++ signed_decimal excess
 status_words ReadFault = codes "read fault"
 status_words WriteFault = codes "write fault"
 status_words Memory = codes "memory"
@@ -82,8 +86,11 @@ pub record ReplaysAll (bytes : List ℕ) (left holds_old holds_new : Option (Lis
 abbrev pub Replays : List ℕ → Option (List ℕ) → Option (List ℕ) → Option (List ℕ) → Status → Type 0
 Replays bytes left holds_old holds_new Done = ReplaysAll bytes left holds_old holds_new
 Replays bytes left holds_old holds_new Usage = ⊥
-Replays bytes left holds_old holds_new (BadLine line why) = RanUntil replayed bytes left holds_old holds_new (stops.BadLine line (refusal_of why))
-Replays bytes left holds_old holds_new (Broken line earlier excess) = RanUntil replayed bytes left holds_old holds_new (stops.BadLine line (refusals.Refused (causes.Broken earlier excess)))
+Replays bytes left holds_old holds_new (BadLine line why) =
+    RanUntil replayed bytes left holds_old holds_new (stops.BadLine line (refusal_of why))
+Replays bytes left holds_old holds_new (Broken line earlier excess) =
+    RanUntil replayed bytes left holds_old holds_new
+    (stops.BadLine line (refusals.Refused (causes.Broken earlier excess)))
 Replays bytes left holds_old holds_new ReadFault = RanUntil replayed bytes left holds_old holds_new stops.ReadFault
 Replays bytes left holds_old holds_new WriteFault = RanUntil replayed bytes left holds_old holds_new stops.WriteFault
 Replays bytes left holds_old holds_new Memory = RanUntil replayed bytes left holds_old holds_new stops.Memory

@@ -25,15 +25,19 @@ use Rattle.css_world.specs.Arrived.{IsToldInOrder}
 use Rattle.css_world.specs.Truth.{AreWorld, IsInStepAt}
 use Rattle.css_app.specs.Replayed.{header_in, lines_in}
 
--- the responses and follow-ups that the companion of a line has accepted before it, whatever was lost, repeated or reordered
+-- the responses and follow-ups that the companion of a line has accepted before it, whatever was lost, repeated or
+-- reordered
 abbrev pub accepted_before : Header → List Numbered → Numbered → List Answer
-accepted_before header older now = accepted_answers (local_of now.line.who header) (history_of now.line.who header older)
+accepted_before header older now =
+    accepted_answers (local_of now.line.who header) (history_of now.line.who header older)
 
--- The interval that is printed comes from the narrowest accepted response, and contains the value that the line gives the
--- television's wall clock.
-pub record IsTrueInterval (header : Header) (older : List Numbered) (now : Numbered) (reading : ℕ) (printed : List ℕ) : Type 0 where
+-- The interval that is printed comes from the narrowest accepted response, and contains the value that the line gives
+-- the television's wall clock.
+pub record IsTrueInterval (header : Header) (older : List Numbered) (now : Numbered) (reading : ℕ) (printed : List ℕ) :
+    Type 0 where
   pub response : Answer
-  pub narrowest : IsLeast (λ answer. scaled_width (local_of now.line.who header) answer reading) (accepted_before header older now) response
+  pub narrowest : IsLeast (λ answer. scaled_width (local_of now.line.who header) answer reading)
+      (accepted_before header older now) response
   pub contains : Covers (span_of (local_of now.line.who header) reading response) (pos now.line.w)
   pub is_printed : printed ≡ wall_line now.number (span_of (local_of now.line.who header) reading response) now.line.w
 
@@ -42,15 +46,16 @@ pub record IsCause (header : Header) (older : List Numbered) (now : Numbered) (p
   pub lacking : accepted_before header older now ≡ []
   pub is_printed : printed ≡ no_answer_line now.number
 
--- The report that comes from a response: the ticks at the two ends of its span, by the last control timestamp received, or
--- the first cause that there are none.
+-- The report that comes from a response: the ticks at the two ends of its span, by the last control timestamp received,
+-- or the first cause that there are none.
 abbrev pub report_from : Header → List Numbered → Numbered → ℕ → Answer → Report
 report_from header older now reading response =
     report_by (Some (span_of (local_of now.line.who header) reading response))
     (timing_after (setup_of now.line.who header).selector (history_of now.line.who header older))
 
 -- The ticks that are printed come from the narrowest accepted response. They contain the position that the last control
--- timestamp received assigns to the value that the line gives the television's wall clock, which is printed beside them.
+-- timestamp received assigns to the value that the line gives the television's wall clock, which is printed beside
+-- them.
 pub record AreTrueTicks (header : Header) (older : List Numbered) (now : Numbered) (reading : ℕ) (printed : List ℕ)
     : Type 0 where
   pub response : Answer
@@ -80,9 +85,9 @@ IsKept header older now (Print reading) printed =
     AreTrueTicks header older now reading printed ⊎ IsReportedCause header older now reading printed
 IsKept header older now _ printed = printed ≡ []
 
--- A line keeps the promise: so does what is printed for it. After it, the state of the content that its companion was told
--- is one that the television published: after k texts the k-th of its session. Where all texts have come, the position that
--- the companion assigns is the one that the television's published control assigns.
+-- A line keeps the promise: so does what is printed for it. After it, the state of the content that its companion was
+-- told is one that the television published: after k texts the k-th of its session. Where all texts have come, the
+-- position that the companion assigns is the one that the television's published control assigns.
 pub record KeepsLine (header : Header) (older : List Numbered) (now : Numbered) (printed : List ℕ) : Type 0 where
   pub kept : IsKept header older now now.line.verb printed
   pub told : IsToldInOrder now.line.who header (now ∷ older)
@@ -92,10 +97,11 @@ pub record KeepsLine (header : Header) (older : List Numbered) (now : Numbered) 
 abbrev pub AreKept : Header → List Numbered → List ℕ → Type 0
 AreKept header [] printed = printed ≡ []
 AreKept header (now ∷ older) printed =
-    (before : List ℕ) × (last : List ℕ) × (printed ≡ before ++ last) × KeepsLine header older now last × AreKept header older before
+    (before : List ℕ) × (last : List ℕ) × (printed ≡ before ++ last) × KeepsLine header older now last
+    × AreKept header older before
 
--- What was printed is a front part of what is printed for lines of the schedule, from its header on, and for each of these
--- it keeps the promise. The lines are a world that keeps the declared errors and explains what the companion did.
+-- What was printed is a front part of what is printed for lines of the schedule, from its header on, and for each of
+-- these it keeps the promise. The lines are a world that keeps the declared errors and explains what the companion did.
 pub record PromiseKept (bytes printed : List ℕ) : Type 0 where
   pub first : List ℕ
   pub texts : List (List ℕ)
@@ -112,8 +118,8 @@ pub record PromiseKept (bytes printed : List ℕ) : Type 0 where
 abbrev pub KeepsPromise : List ℕ → List ℕ → Type 0
 KeepsPromise bytes printed = (printed ≡ []) ⊎ PromiseKept bytes printed
 
--- A run took some bytes from the source and added something to the sink, and this keeps the promise of those bytes: it is
--- all that the sink gained, where the sink tells it.
+-- A run took some bytes from the source and added something to the sink, and this keeps the promise of those bytes: it
+-- is all that the sink gained, where the sink tells it.
 pub record Promised (left_old left_new holds_old holds_new : Option (List ℕ)) : Type 0 where
   pub read : List ℕ
   pub printed : List ℕ

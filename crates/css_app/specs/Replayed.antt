@@ -61,7 +61,8 @@ opened (Some header) = Ok []
 -- the first line is the header; each other one is carried out after those before it
 abbrev pub text_meant : List (List ℕ) → List ℕ → Result (List ℕ) Cause
 text_meant [] text = opened (header_in (header_of text))
-text_meant (first ∷ texts) text = meant_after (header_in (header_of first)) (lines_in texts) (length (first ∷ texts) + 1) (line_of text)
+text_meant (first ∷ texts) text =
+    meant_after (header_in (header_of first)) (lines_in texts) (length (first ∷ texts) + 1) (line_of text)
 
 -- an input without a header is refused
 abbrev pub finish_meant : List (List ℕ) → Result (List ℕ) Cause
@@ -70,4 +71,10 @@ finish_meant (first ∷ texts) = Ok []
 
 -- what a replay makes of its lines: each has at most 4,096 bytes, and all have at most 67,108,864
 abbrev pub replayed : Meaning Cause
-replayed = record { longest_line = λ before. 4096; longest_input = λ before. 67108864; line = text_meant; finish = finish_meant }
+replayed =
+    record {
+      longest_line = λ before. 4096;
+      longest_input = λ before. 67108864;
+      line = text_meant;
+      finish = finish_meant;
+    }

@@ -1,5 +1,6 @@
 -- How the reader of a replay stands for the lines that it has taken.
-use Rattle.std.specs.Prelude.{ℕ, ◌≡◌, Bool, false, List, [], ◌∷◌, length, Option, Some, None, Result, MatchResult, is_some}
+use Rattle.std.specs.Prelude.{ℕ, ◌≡◌, Bool, false, List, [], ◌∷◌, length, Option, Some, None, Result, MatchResult}
+use Rattle.std.specs.Prelude.{is_some}
 use Rattle.css_lines.specs.declared.reader.LineFault.{LineFault}
 use Rattle.css_lines.specs.declared.reader.LineFault.TheVariants as faults
 use Rattle.css_schedule.specs.declared.fault.LineFault as schedule
@@ -34,7 +35,8 @@ OpensNot opens faults.Memory = Unit {0}
 
 -- a header opens a world without lines, and anything else is refused
 abbrev pub Opens : List ℕ → Result World (LineFault Cause) → Type 0
-Opens text result = MatchResult result (λ world. (header_in (header_of text) ≡ Some world.header) × worlds.StandsFor world [])
+Opens text result =
+    MatchResult result (λ world. (header_in (header_of text) ≡ Some world.header) × worlds.StandsFor world [])
     (λ fault. OpensNot (is_some (header_in (header_of text))) fault)
 
 -- the world that a header opens is kept, and anything else is refused
@@ -49,4 +51,5 @@ Begins text kept result = MatchResult result
 abbrev pub Stands : Replay → List (List ℕ) → Type 0
 Stands replay [] = (replay.last ≡ 0) × (replay.world ≡ None)
 Stands replay (first ∷ texts) = (replay.last ≡ length (first ∷ texts))
-    × ((world : World) × (replay.world ≡ Some world) × (header_in (header_of first) ≡ Some world.header) × worlds.StandsFor world (lines_in texts))
+    × ((world : World) × (replay.world ≡ Some world) × (header_in (header_of first) ≡ Some world.header)
+    × worlds.StandsFor world (lines_in texts))

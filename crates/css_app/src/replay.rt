@@ -101,8 +101,10 @@ fn carry_out(
 ) -> Result<(), LineFault<Cause>>
     requires stands { (lines : List Numbered) × worlds.StandsFor world.old lines × worlds.IsNext number lines }
     ensures header { world.new.header ≡ world.old.header }
-    ensures answers { (lines : List Numbered) → worlds.StandsFor world.old lines → Answers (read_meant world.old.header lines number (line_of text.now)) out.old.items out.new.items result }
-    ensures stands { (lines : List Numbered) → worlds.StandsFor world.old lines → worlds.IsNext number lines → OnOk result (worlds.StandsFor world.new (with_line number lines (line_of text.now))) }
+    ensures answers { (lines : List Numbered) → worlds.StandsFor world.old lines
+        → Answers (read_meant world.old.header lines number (line_of text.now)) out.old.items out.new.items result }
+    ensures stands { (lines : List Numbered) → worlds.StandsFor world.old lines → worlds.IsNext number lines
+        → OnOk result (worlds.StandsFor world.new (with_line number lines (line_of text.now))) }
 {
     let line = match read_line(alloc, text, VERSION, COMPANIONS) {
         Ok(line) => line,

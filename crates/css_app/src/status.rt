@@ -13,9 +13,9 @@ pub enum Status {
         line: u64,
         why: LineWhy,
     },
-    /// This line, counted from 1, is the first one that is refused, since its numbers contradict those of an earlier one:
-    /// true time fell, a clock drifted by more than its oscillator's error allows, or a reading fell. Where a reading
-    /// differs from its clock by more than the precision, the earlier line is the line itself. The excess is in
+    /// This line, counted from 1, is the first one that is refused, since its numbers contradict those of an earlier
+    /// one: true time fell, a clock drifted by more than its oscillator's error allows, or a reading fell. Where a
+    /// reading differs from its clock by more than the precision, the earlier line is the line itself. The excess is in
     /// 1/256,000,000 ns where a clock drifted, and else in nanoseconds. The output of the lines before was written.
     Broken {
         line: u64,

@@ -287,7 +287,11 @@ const REFUSED: [Case; 9] = [
         printed: b"",
     },
     Case {
-        bytes: b"css-schedule 1 plain 0 -30 0 0 urn:x -\n1000 4800 1000 ask 1000\n1200 5000 1200 take 1 5000\n1400 5200 1400 give 2 5200\n",
+        bytes: b"css-schedule 1 plain 0 -30 0 0 urn:x -
+1000 4800 1000 ask 1000
+1200 5000 1200 take 1 5000
+1400 5200 1400 give 2 5200
+",
         status: Status::BadLine {
             line: 4,
             why: LineWhy::Absent,
@@ -296,7 +300,12 @@ const REFUSED: [Case; 9] = [
     },
     // A take is answered once.
     Case {
-        bytes: b"css-schedule 1 plain 0 -30 0 0 urn:x -\n1000 4800 1000 ask 1000\n1200 5000 1200 take 1 5000\n1400 5200 1400 give 1 5200\n1500 5300 1500 give 1 5300\n",
+        bytes: b"css-schedule 1 plain 0 -30 0 0 urn:x -
+1000 4800 1000 ask 1000
+1200 5000 1200 take 1 5000
+1400 5200 1400 give 1 5200
+1500 5300 1500 give 1 5300
+",
         status: Status::BadLine {
             line: 5,
             why: LineWhy::Absent,
@@ -305,7 +314,12 @@ const REFUSED: [Case; 9] = [
     },
     // Without a promise there is no follow-up.
     Case {
-        bytes: b"css-schedule 1 plain 0 -30 0 0 urn:x -\n1000 4800 1000 ask 1000\n1200 5000 1200 take 1 5000\n1400 5200 1400 give 1 5200\n1600 5400 1600 land 2 1600\n",
+        bytes: b"css-schedule 1 plain 0 -30 0 0 urn:x -
+1000 4800 1000 ask 1000
+1200 5000 1200 take 1 5000
+1400 5200 1400 give 1 5200
+1600 5400 1600 land 2 1600
+",
         status: Status::BadLine {
             line: 5,
             why: LineWhy::Absent,
@@ -330,7 +344,11 @@ const REFUSED: [Case; 9] = [
         printed: b"2 none NoAnswer\n",
     },
     Case {
-        bytes: b"css-schedule 1 plain 0 -30 0 0 urn:x -\n1000 4800 1000 wall 1000\n1200 5000 1200  wall 1200\n1300 5100 1300 wall 1300\n",
+        bytes: b"css-schedule 1 plain 0 -30 0 0 urn:x -
+1000 4800 1000 wall 1000
+1200 5000 1200  wall 1200
+1300 5100 1300 wall 1300
+",
         status: Status::BadLine {
             line: 3,
             why: LineWhy::Form,
@@ -344,8 +362,8 @@ fn the_first_bad_line_ends_the_run(rt: HostRuntime) -> Result<(), Fail> {
     replay_each(&rt, rt.alloc(), &REFUSED)
 }
 
-/// The first response is lost, the second lands twice, and the third overtakes it; the follow-up of the first lands, and
-/// that of the third.
+/// The first response is lost, the second lands twice, and the third overtakes it; the follow-up of the first lands,
+/// and that of the third.
 const LOSSY: Case = Case {
     bytes: b"css-schedule 1 follow 12800 -20 12800 1000 urn:dvb:css:timeline:pts -
 0 5000000000 0 wall 0

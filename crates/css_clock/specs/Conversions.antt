@@ -1,5 +1,8 @@
--- A span of one clock's ticks as ticks of another: up to the nearest common ancestor of the two, outward at each step, and down from it.
-use Rattle.std.specs.Prelude.{◌≡◌, ◌≢◌, ◌↔◌, ℕ, ◌*◌, ◌&&◌, ◌==◌, Bool, true, false, nat_eq, if◌then◌else◌, List, [], ◌∷◌, Option, Some, None, Result, Ok, Err, ℤ, pos, negsuc, ◌≤ℤ◌, neg_ℤ, ◌+ℤ◌, ◌-ℤ◌, ◌*ℤ◌, unsigned_abs, int_lt}
+-- A span of one clock's ticks as ticks of another: up to the nearest common ancestor of the two, outward at each step,
+-- and down from it.
+use Rattle.std.specs.Prelude.{◌≡◌, ◌≢◌, ◌↔◌, ℕ, ◌*◌, ◌&&◌, ◌==◌, Bool, true, false, nat_eq, if◌then◌else◌, List, []}
+use Rattle.std.specs.Prelude.{◌∷◌, Option, Some, None, Result, Ok, Err, ℤ, pos, negsuc, ◌≤ℤ◌, neg_ℤ, ◌+ℤ◌, ◌-ℤ◌, ◌*ℤ◌}
+use Rattle.std.specs.Prelude.{unsigned_abs, int_lt}
 use Rattle.std.specs.Int.{int_min, int_max}
 use Rattle.css_num.specs.Rates.{TickRate}
 use Rattle.css_num.specs.Division.{floor_div, ceil_div}
@@ -8,7 +11,8 @@ use Rattle.css_clock.specs.Ticks.{divisor_of}
 use Rattle.css_clock.specs.declared.fault.ClockFault.{ClockFault}
 use Rattle.css_clock.specs.declared.fault.ClockFault.TheVariants.{Stopped, NoCommon, Beyond}
 use Rattle.css_clock.specs.declared.node.Gear.{Gear}
-use Rattle.css_clock.specs.Trees.{Clocks, IsForest, then_with, known, all_available, lineage, is_tick, gear_of, gear_value, checked_step, value_of}
+use Rattle.css_clock.specs.Trees.{Clocks, IsForest, then_with, known, all_available, lineage, is_tick, gear_of}
+use Rattle.css_clock.specs.Trees.{gear_value, checked_step, value_of}
 
 -- both ends of a span, of which the first isn't above the second, are ticks of an i64
 pub record IsTicks (span : Interval) : Type 0 where
@@ -40,7 +44,8 @@ root_of clocks id = last_of id (lineage clocks id)
 
 -- no clock is above both of two exactly where they have different roots
 abbrev pub NoneCommonIsTwoRoots : Type 0
-NoneCommonIsTwoRoots = (clocks : Clocks) (from to : ℕ) → IsForest clocks → (nearest_common clocks from to ≡ None) ↔ (root_of clocks from ≢ root_of clocks to)
+NoneCommonIsTwoRoots = (clocks : Clocks) (from to : ℕ) → IsForest clocks → (nearest_common clocks from to ≡ None)
+    ↔ (root_of clocks from ≢ root_of clocks to)
 
 -- the clocks of a path up to one of them, this one included
 abbrev pub up_to : ℕ → List ℕ → List ℕ
@@ -58,7 +63,8 @@ magnitude_of rate parent_rate speed = rate.units_per_second * parent_rate.units_
 
 -- a span of ticks since a tick, times the divisor, from the first tick to the end of the last one
 abbrev pub scaled_span : Interval → ℤ → ℤ → Interval
-scaled_span span ticks divisor = record { lo = (span.lo -ℤ ticks) *ℤ divisor; hi = (span.hi +ℤ pos 1 -ℤ ticks) *ℤ divisor }
+scaled_span span ticks divisor =
+    record { lo = (span.lo -ℤ ticks) *ℤ divisor; hi = (span.hi +ℤ pos 1 -ℤ ticks) *ℤ divisor }
 
 -- the span as it is, or by a speed that isn't above 0 with the other sign
 abbrev pub turned : ℤ → Interval → Interval
@@ -74,13 +80,16 @@ rounded_up number magnitude ticks = ticks +ℤ ceil_div number magnitude
 
 -- the ends of a span over the magnitude, the first rounded down and the last rounded up, and a number of ticks more
 abbrev pub outward_by : Interval → ℕ → ℤ → Interval
-outward_by span magnitude ticks = record { lo = rounded_down span.lo magnitude ticks; hi = rounded_up span.hi magnitude ticks }
+outward_by span magnitude ticks =
+    record { lo = rounded_down span.lo magnitude ticks; hi = rounded_up span.hi magnitude ticks }
 
--- a span of a clock's ticks as a span of its parent's: outward from the first value of the parent at which the clock may read one of them to the last
+-- a span of a clock's ticks as a span of its parent's: outward from the first value of the parent at which the clock
+-- may read one of them to the last
 abbrev pub outward : Gear → Interval → Interval
 outward gear span =
     let scaled = scaled_span span gear.link.child_ticks (pos (divisor_of gear.rate gear.parent_rate)) in
-    outward_by (turned gear.link.speed scaled) (magnitude_of gear.rate gear.parent_rate gear.link.speed) gear.link.parent_ticks
+    outward_by (turned gear.link.speed scaled) (magnitude_of gear.rate gear.parent_rate gear.link.speed)
+    gear.link.parent_ticks
 
 -- a span, where both its ends are ticks of a clock
 abbrev pub in_range : ℕ → Interval → Result Interval ClockFault
@@ -88,7 +97,8 @@ in_range id span = if is_tick span.lo && is_tick span.hi then Ok span else Err (
 
 -- a step up from a clock, where it isn't stopped
 abbrev pub gear_up : ℕ → Gear → Interval → Result Interval ClockFault
-gear_up id gear span = if nat_eq (unsigned_abs gear.link.speed) 0 then Err (Stopped id) else in_range gear.link.parent (outward gear span)
+gear_up id gear span = if nat_eq (unsigned_abs gear.link.speed) 0 then Err (Stopped id)
+    else in_range gear.link.parent (outward gear span)
 
 -- the same of the clock with a number, where a root has no step
 abbrev pub step_up : ℕ → Option Gear → Interval → Result Interval ClockFault
@@ -121,7 +131,8 @@ abbrev pub converted_by : Clocks → ℕ → ℕ → Interval → ℕ → Result
 converted_by clocks from to span top =
     then_with (all_available clocks (up_to top (lineage clocks from))) (λ _.
     then_with (all_available clocks (up_to top (lineage clocks to))) (λ _.
-    then_with (steps_up clocks (below top (lineage clocks from)) span) (steps_down clocks (below top (lineage clocks to)))))
+    then_with (steps_up clocks (below top (lineage clocks from)) span)
+    (steps_down clocks (below top (lineage clocks to)))))
 
 -- a span of one clock's ticks as ticks of another
 unfoldable pub converted : Clocks → ℕ → ℕ → Interval → Result Interval ClockFault
@@ -144,9 +155,12 @@ reading_down clocks (id ∷ above) value = reading_step (gear_of clocks id) (rea
 abbrev pub reading_below : Clocks → ℕ → ℕ → ℤ → ℤ
 reading_below clocks top id value = reading_down clocks (below top (lineage clocks id)) value
 
--- the answer of a conversion: at each value of the nearest clock above both at which the one clock reads a tick of the span, the other reads a tick of the answer; so does it at each value of the root at which both are read
+-- the answer of a conversion: at each value of the nearest clock above both at which the one clock reads a tick of the
+-- span, the other reads a tick of the answer; so does it at each value of the root at which both are read
 pub record IsConversion (clocks : Clocks) (from to : ℕ) (span answer : Interval) : Type 0 where
   pub top : ℕ
   pub nearest : nearest_common clocks from to ≡ Some top
-  pub covered : (value : ℤ) → Covers span (reading_below clocks top from value) → Covers answer (reading_below clocks top to value)
-  pub read : (root first second : ℤ) → value_of clocks from root ≡ Ok first → value_of clocks to root ≡ Ok second → Covers span first → Covers answer second
+  pub covered : (value : ℤ) → Covers span (reading_below clocks top from value)
+      → Covers answer (reading_below clocks top to value)
+  pub read : (root first second : ℤ) → value_of clocks from root ≡ Ok first → value_of clocks to root ≡ Ok second
+      → Covers span first → Covers answer second

@@ -5,7 +5,8 @@ use Rattle.css_num.specs.Rates.{TickRate}
 use Rattle.css_num.specs.Division.{floor_div}
 use Rattle.css_num.specs.Spans.{Interval, Covers}
 
--- how a clock goes by its parent: at parent_ticks of the parent it reads child_ticks, and it goes at speed times its tick rate
+-- how a clock goes by its parent: at parent_ticks of the parent it reads child_ticks, and it goes at speed times its
+-- tick rate
 pub record Correlation : Type 0 where
   pub speed : ℤ
   pub parent_ticks : ℤ
@@ -26,7 +27,8 @@ divisor_of rate parent_rate = rate.units_per_tick * parent_rate.units_per_second
 
 -- the parent's ticks since the correlation, times the factor
 abbrev pub product_of : TickRate → TickRate → Correlation → ℤ → ℤ
-product_of rate parent_rate correlation value = (value -ℤ correlation.parent_ticks) *ℤ factor_of rate parent_rate correlation.speed
+product_of rate parent_rate correlation value =
+    (value -ℤ correlation.parent_ticks) *ℤ factor_of rate parent_rate correlation.speed
 
 -- what a clock reads where its parent reads a value
 abbrev pub child_value : TickRate → TickRate → Correlation → ℤ → ℤ
@@ -57,7 +59,8 @@ pub record HoldsOver (Holds : ℤ → Type 0) (root : Interval) : Type 0 where
 
 -- the readings at the two ends of a span of root values, the lesser first
 abbrev pub span_of : (ℤ → ℤ) → Interval → Interval
-span_of value root = record { lo = int_min (value root.lo) (value root.hi); hi = int_max (value root.lo) (value root.hi) }
+span_of value root =
+    record { lo = int_min (value root.lo) (value root.hi); hi = int_max (value root.lo) (value root.hi) }
 
 -- the least span that has the reading at each root value of a span
 pub record IsSpanOf (value : ℤ → ℤ) (root span : Interval) : Type 0 where

@@ -1,5 +1,7 @@
 -- A forest of clocks, numbered from 0 in the order in which they were added.
-use Rattle.std.specs.Prelude.{◌≡◌, ℕ, ◌<◌, ◌^◌, ◌&&◌, zero, suc, Bool, true, false, nat_lt, nat_le, if◌then◌else◌, List, [], ◌∷◌, ◌++◌, length, slice_get, slice_set, Option, Some, None, Result, Ok, Err, ⊤, ℤ, pos, negsuc, unsigned_abs, not, int_lt}
+use Rattle.std.specs.Prelude.{◌≡◌, ℕ, ◌<◌, ◌^◌, ◌&&◌, zero, suc, Bool, true, false, nat_lt, nat_le, if◌then◌else◌, List}
+use Rattle.std.specs.Prelude.{[], ◌∷◌, ◌++◌, length, slice_get, slice_set, Option, Some, None, Result, Ok, Err, ⊤, ℤ}
+use Rattle.std.specs.Prelude.{pos, negsuc, unsigned_abs, not, int_lt}
 use Rattle.css_num.specs.Rates.{TickRate, IsTickRate}
 use Rattle.css_clock.specs.Ticks.{Correlation, IsSpeed, product_of, child_value}
 use Rattle.css_clock.specs.declared.fault.ClockFault.{ClockFault}
@@ -153,7 +155,8 @@ checked_step id (Some gear) value = checked_value id gear value
 -- from the last of these clocks down to the first, what each reads by the one above it
 abbrev pub checked_down : Clocks → List ℕ → ℤ → Result ℤ ClockFault
 checked_down clocks [] value = Ok value
-checked_down clocks (id ∷ above) value = then_with (checked_down clocks above value) (checked_step id (gear_of clocks id))
+checked_down clocks (id ∷ above) value =
+    then_with (checked_down clocks above value) (checked_step id (gear_of clocks id))
 
 -- what a clock reads at a value of its root
 unfoldable pub value_of : Clocks → ℕ → ℤ → Result ℤ ClockFault
@@ -166,12 +169,22 @@ value_of clocks id root =
 abbrev pub relinked : Clocks → ℕ → Correlation → Node → Option Link → Result Clocks ClockFault
 relinked clocks id correlation node None = Err (IsRoot id)
 relinked clocks id correlation node (Some link) =
-    Ok (slice_set clocks id (record node { link = Some (record { parent = link.parent; speed = correlation.speed; parent_ticks = correlation.parent_ticks; child_ticks = correlation.child_ticks }) }))
+    Ok (slice_set clocks id (record node {
+      link =
+          Some (record {
+            parent = link.parent;
+            speed = correlation.speed;
+            parent_ticks = correlation.parent_ticks;
+            child_ticks = correlation.child_ticks;
+          });
+    }))
 
 -- the forest where one clock has another correlation
 unfoldable pub with_correlation : Clocks → ℕ → Correlation → Result Clocks ClockFault
-with_correlation clocks id correlation = then_with (known clocks id) (λ node. relinked clocks id correlation node node.link)
+with_correlation clocks id correlation =
+    then_with (known clocks id) (λ node. relinked clocks id correlation node node.link)
 
 -- the forest where one clock is available or isn't
 unfoldable pub with_available : Clocks → ℕ → Bool → Result Clocks ClockFault
-with_available clocks id available = then_with (known clocks id) (λ node. Ok (slice_set clocks id (record node { available = available })))
+with_available clocks id available =
+    then_with (known clocks id) (λ node. Ok (slice_set clocks id (record node { available = available })))

@@ -70,7 +70,8 @@ fn step_down(nodes: &[Node], id: u32, span: Span) -> Result<Span, ClockFault>
 pub(crate) fn steps_down(nodes: &[Node], id: u32, top: u32, span: Span) -> Result<Span, ClockFault>
     requires forest { trees.IsForest nodes.now }
     requires ticks { conversions.IsTicks span }
-    ensures value { result ≡ conversions.steps_down nodes.now (conversions.below top (trees.lineage nodes.now id)) span }
+    ensures value { result
+        ≡ conversions.steps_down nodes.now (conversions.below top (trees.lineage nodes.now id)) span }
     ensures ticks { IfOk result conversions.IsTicks }
 {
     if id == top {

@@ -33,13 +33,23 @@ impl<P: Tick> Tick for Correlated<P> {
 
     ghost rate_of = { λ clock. clock.rate };
 
-    ghost value_at = { λ clock root. ticks.child_value clock.rate (P.rate_of clock.parent) (record { speed = clock.speed; parent_ticks = clock.parent_ticks; child_ticks = clock.child_ticks }) (P.value_at clock.parent root) };
+    ghost value_at = { λ clock root.
+        ticks.child_value clock.rate (P.rate_of clock.parent)
+        (record { speed = clock.speed; parent_ticks = clock.parent_ticks; child_ticks = clock.child_ticks })
+        (P.value_at clock.parent root) };
 
-    ghost holds_at = { λ clock root. ticks.HoldsOn (P.holds_at clock.parent root) (ticks.product_of clock.rate (P.rate_of clock.parent) (record { speed = clock.speed; parent_ticks = clock.parent_ticks; child_ticks = clock.child_ticks }) (P.value_at clock.parent root)) };
+    ghost holds_at = { λ clock root.
+        ticks.HoldsOn (P.holds_at clock.parent root)
+        (ticks.product_of clock.rate (P.rate_of clock.parent)
+        (record { speed = clock.speed; parent_ticks = clock.parent_ticks; child_ticks = clock.child_ticks })
+        (P.value_at clock.parent root)) };
 
     ghost speeds = { λ clock. P.speeds clock.parent *ℤ clock.speed };
 
-    ghost goes = { λ clock. child_goes clock.rate (P.rate_of clock.parent) (record { speed = clock.speed; parent_ticks = clock.parent_ticks; child_ticks = clock.child_ticks }) (P.speeds clock.parent) (P.value_at clock.parent) (P.goes clock.parent) };
+    ghost goes = { λ clock.
+        child_goes clock.rate (P.rate_of clock.parent)
+        (record { speed = clock.speed; parent_ticks = clock.parent_ticks; child_ticks = clock.child_ticks })
+        (P.speeds clock.parent) (P.value_at clock.parent) (P.goes clock.parent) };
 
     fn rate(&self) -> Rate {
         self.rate

@@ -1,4 +1,5 @@
-ghost use Rattle.std.specs.Prelude.{◌≡◌, ◌<◌, ◌≤◌, ◌+◌, ◌^◌, ◌&&◌, pos, ◌<ℤ◌, ◌*ℤ◌, ◌+ℤ◌, Some, None, unsigned_abs, true, if◌then◌else◌};
+ghost use Rattle.std.specs.Prelude.{◌≡◌, ◌<◌, ◌≤◌, ◌+◌, ◌^◌, ◌&&◌, pos, ◌<ℤ◌, ◌*ℤ◌, ◌+ℤ◌, Some, None, unsigned_abs};
+ghost use Rattle.std.specs.Prelude.{true, if◌then◌else◌};
 ghost use Rattle.css_num.specs.Division as division;
 ghost use Rattle.css_clock.specs.Trees as trees;
 

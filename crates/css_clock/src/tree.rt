@@ -96,7 +96,9 @@ impl Tree {
     ) -> Result<u32, ClockFault>
         requires { IsSpeed speed }
         ensures number { IfOk result (λ id. id ≡ length self.old) }
-        ensures leaves { LeavesBy Memory result self.old self.new (trees.with_child self.old rate (record { parent = parent; speed = speed; parent_ticks = parent_ticks; child_ticks = child_ticks })) }
+        ensures leaves { LeavesBy Memory result self.old self.new
+            (trees.with_child self.old rate
+            (record { parent = parent; speed = speed; parent_ticks = parent_ticks; child_ticks = child_ticks })) }
     {
         known(self.nodes.as_slice(), parent)?;
         not_full(self.nodes.as_slice())?;
@@ -127,7 +129,9 @@ impl Tree {
         child_ticks: i64,
     ) -> Result<(), ClockFault>
         requires { IsSpeed speed }
-        ensures { Leaves result self.old self.new (trees.with_correlation self.old id (record { speed = speed; parent_ticks = parent_ticks; child_ticks = child_ticks })) }
+        ensures { Leaves result self.old self.new
+            (trees.with_correlation self.old id
+            (record { speed = speed; parent_ticks = parent_ticks; child_ticks = child_ticks })) }
     {
         let node = known(self.nodes.as_slice(), id)?;
         let link = node.link.ok_or(ClockFault::IsRoot(id))?;

@@ -1,5 +1,6 @@
 -- How a turn begins, and how the loop over the lines of the script goes on.
-use Rattle.std.proofs.Common.{◌≡◌, ℕ, ◌+◌, ◌≤◌, ◌<◌, Bool, true, cond, List, [], ◌∷◌, ◌++◌, Option, refl, sym, ap, subst, ◌∙◌, arith, drop, Result, Ok, Err}
+use Rattle.std.proofs.Common.{◌≡◌, ℕ, ◌+◌, ◌≤◌, ◌<◌, Bool, true, cond, List, [], ◌∷◌, ◌++◌, Option, refl, sym, ap}
+use Rattle.std.proofs.Common.{subst, ◌∙◌, arith, drop, Result, Ok, Err}
 use Rattle.std.specs.Prelude.{nat_lt, OnOk}
 use Rattle.std.proofs.lemmas.Bool.Decides.{nat_tests}
 use Rattle.css_model.specs.declared.Why.TheVariants as why
@@ -19,26 +20,36 @@ use Rattle.css_drive.proofs.TvSteps.{due_free, told_as, stays_on}
 use Rattle.css_drive.proofs.TvDatagrams.{clock_told}
 
 -- the lines that are left
-pub left_lines : {run : TvRun} {start told : Option History} {peers : ℕ} {air : OnAir} {r : ℕ} → (x : Carries run start told peers air r)
-    → (script : List ScriptLine) → run.script ≡ script → (left : List ScriptLine) → drop air.lines script ≡ left → x.p.lines ≡ left
+pub left_lines : {run : TvRun} {start told : Option History} {peers : ℕ} {air : OnAir} {r : ℕ}
+    → (x : Carries run start told peers air r)
+    → (script : List ScriptLine) → run.script ≡ script → (left : List ScriptLine) → drop air.lines script ≡ left
+    → x.p.lines ≡ left
 left_lines {air = air} x script e left is = x.airs.keeps.lines ∙ ap (drop air.lines) e ∙ is
 
 -- no line more is carried out in this turn
-pub turned_out : {run : TvRun} {start told : Option History} {peers : ℕ} {air : OnAir} {r : ℕ} → (x : Carries run start told peers air r)
+pub turned_out : {run : TvRun} {start told : Option History} {peers : ℕ} {air : OnAir} {r : ℕ}
+    → (x : Carries run start told peers air r)
     → settled (addresses_in run.config) x.p ≡ x.p → Reaches run start told peers air IsTurned
 turned_out {r} x e = record {
   place = Turned r;
   p = x.p;
   h = x.h;
   airs = record {
-    is_at = record { history = told_as x.p x.airs.is_at.history e; stays = x.airs.is_at.stays; at = x.airs.is_at.at; owes = x.airs.is_at.owes };
+    is_at =
+        record {
+          history = told_as x.p x.airs.is_at.history e;
+          stays = x.airs.is_at.stays;
+          at = x.airs.is_at.at;
+          owes = x.airs.is_at.owes;
+        };
     keeps = x.airs.keeps;
   };
   fits = (r, refl);
 }
 
 -- a line was carried out
-pub line_carried : {run : TvRun} {start told told' : Option History} {peers peers' : ℕ} {air : OnAir} {r : ℕ} → (x : Carries run start told peers air r)
+pub line_carried : {run : TvRun} {start told told' : Option History} {peers peers' : ℕ} {air : OnAir} {r : ℕ}
+    → (x : Carries run start told peers air r)
     → (script : List ScriptLine) → run.script ≡ script → peers ≤ peers' → (tv : Television)
     → Comes run start told' peers' tv (past_line (drop (air.lines + 1) script) x.p) (Turned r) []
     → Carries run start told' peers' (record { tv = tv; peers = air.peers; lines = air.lines + 1; made = air.made }) r
@@ -61,11 +72,13 @@ line_carried {run} {air = air} x script e le tv y = record {
 }
 
 -- a turn begins
-pub turn_begins : {run : TvRun} {start told : Option History} {peers : ℕ} {air : OnAir} {place : Place} {p : Progress} {h : History}
+pub turn_begins : {run : TvRun} {start told : Option History} {peers : ℕ} {air : OnAir} {place : Place} {p : Progress}
+    {h : History}
     → Airs run start told peers air place p p h → IsAtEnd run place p → air.made < run.turns
     → (reading : ℕ) (told' : Option History) (read : IsRead why.Turn told told' reading) → (peers' : ℕ) → peers ≤ peers'
     → let q : Progress = record p { turns = p.turns + 1; place = Turned reading } in
-    Airs run start told' peers' (record { tv = air.tv; peers = air.peers; lines = air.lines; made = air.made + 1 }) (Turned reading)
+    Airs run start told' peers' (record { tv = air.tv; peers = air.peers; lines = air.lines; made = air.made + 1 })
+    (Turned reading)
     q (settled (addresses_in run.config) q) (clock_entries why.Turn (record { reading = reading; slept = read.0 }) ++ h)
 turn_begins {run} {air = air} {place} {p} {h} s fits lt reading told' read peers' le =
     let q : Progress = record p { turns = p.turns + 1; place = Turned reading } in

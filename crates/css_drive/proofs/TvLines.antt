@@ -1,5 +1,6 @@
 -- How a run comes on by a line of the script.
-use Rattle.std.proofs.Common.{◌≡◌, ℕ, ◌+◌, ◌≤◌, ◌<◌, Bool, true, false, cond, List, [], ◌∷◌, ◌++◌, Option, Some, None, refl, sym, ap, subst, ◌∙◌, arith}
+use Rattle.std.proofs.Common.{◌≡◌, ℕ, ◌+◌, ◌≤◌, ◌<◌, Bool, true, false, cond, List, [], ◌∷◌, ◌++◌, Option, Some, None}
+use Rattle.std.proofs.Common.{refl, sym, ap, subst, ◌∙◌, arith}
 use Rattle.std.proofs.Common.{Result, Ok, Err, suc, drop, length, get_or, inl, inr, ◌⊎◌}
 use Rattle.std.specs.Prelude.{nat_le, ◌&&◌, All}
 use Rattle.std.proofs.lemmas.Bool.Decides.{nat_tests}
@@ -21,7 +22,8 @@ use Rattle.css_schedule.specs.declared.line.ScriptLine.{ScriptLine}
 use Rattle.css_schedule.specs.declared.line.Verb.{Verb}
 use Rattle.css_schedule.specs.declared.line.Verb.TheVariants as verb
 use Rattle.css_drive.specs.Proper.{Due, Ends}
-use Rattle.css_drive.specs.TvProgress.{Place, Turned, Progress, settled, settled_at, carry, with_line, past_line, played, played_if, event_of, happened}
+use Rattle.css_drive.specs.TvProgress.{Place, Turned, Progress, settled, settled_at, carry, with_line, past_line}
+use Rattle.css_drive.specs.TvProgress.{played, played_if, event_of, happened}
 use Rattle.css_drive.specs.TvProgress.{outcome_after, addresses_in, is_free, is_free_of, open_after}
 use Rattle.css_drive.specs.TvDue.{TvRun, due, due_for, unless_refused, unless_owed, bad_line, due_at}
 use Rattle.css_drive.specs.TvPeers.{Covers, AreRising}
@@ -38,9 +40,13 @@ carried_on : (a : Addresses) (r : ℕ) (q : Progress) → q.place ≡ Turned r �
 carried_on a r q at = sym (ap (λ place. settled_at a place q) at)
 
 -- ---- a line that is no event
-pub passed_over : {run : TvRun} {start told : Option History} {peers : ℕ} {tv : Television} {p : Progress} {h : History} (r : ℕ) (line : ScriptLine)
-    (left : List ScriptLine) → Told run start told peers (carry (addresses_in run.config) r left (with_line (addresses_in run.config) r line left p)) h
-    → Stays run tv peers p → p.place ≡ Turned r → p.owed ≡ [] → None ≡ event_of r line.verb → Comes run start told peers tv (past_line left p) (Turned r) []
+pub passed_over : {run : TvRun} {start told : Option History} {peers : ℕ} {tv : Television} {p : Progress} {h : History}
+    (r : ℕ) (line : ScriptLine)
+    (left : List ScriptLine)
+    → Told run start told peers
+    (carry (addresses_in run.config) r left (with_line (addresses_in run.config) r line left p)) h
+    → Stays run tv peers p → p.place ≡ Turned r → p.owed ≡ [] → None ≡ event_of r line.verb
+    → Comes run start told peers tv (past_line left p) (Turned r) []
 passed_over {run} {p = p} {h = h} r line left t s at owes e =
     let a = addresses_in run.config in
     let q = past_line left p in
@@ -48,7 +54,8 @@ passed_over {run} {p = p} {h = h} r line left t s at owes e =
       p = q;
       h = h;
       stands = record {
-        history = told_as (settled a q) t (ap (λ x. carry a r left (played_if a left p x)) (sym e) ∙ carried_on a r q at);
+        history =
+            told_as (settled a q) t (ap (λ x. carry a r left (played_if a left p x)) (sym e) ∙ carried_on a r q at);
         stays = stays_on s q refl refl refl _ (omega arith);
       };
       at = at;
@@ -57,16 +64,21 @@ passed_over {run} {p = p} {h = h} r line left t s at owes e =
     }
 
 -- ---- a line that is carried out
-played_ok : (a : Addresses) (e : TvEvent) (left : List ScriptLine) (p : Progress) (old new : Stage) (before after : List TvOut) (r : Result Outcome TvFault)
+played_ok : (a : Addresses) (e : TvEvent) (left : List ScriptLine) (p : Progress) (old new : Stage)
+    (before after : List TvOut) (r : Result Outcome TvFault)
     → IsAfterBy old new before after r → played a e left p r ≡ past_line left (happened a e p)
 played_ok a e left p old new before after (Err f) done = absurd done
 played_ok a e left p old new before after (Ok o) done = refl
 
-pub line_told : {run : TvRun} {start told : Option History} {peers : ℕ} {tv : Television} {p : Progress} {h : History} (r : ℕ) (line : ScriptLine)
-    (left : List ScriptLine) → Told run start told peers (carry (addresses_in run.config) r left (with_line (addresses_in run.config) r line left p)) h
+pub line_told : {run : TvRun} {start told : Option History} {peers : ℕ} {tv : Television} {p : Progress} {h : History}
+    (r : ℕ) (line : ScriptLine)
+    (left : List ScriptLine)
+    → Told run start told peers
+    (carry (addresses_in run.config) r left (with_line (addresses_in run.config) r line left p)) h
     → Stays run tv peers p → p.place ≡ Turned r → (e : TvEvent) → Some e ≡ event_of r line.verb
     → (new : Stage) (after : List TvOut) → IsAfterBy tv.stage new [] after (outcome_at e tv.stage)
-    → Told run start told peers (settled (addresses_in run.config) (happened (addresses_in run.config) e (past_line left p))) h
+    → Told run start told peers
+    (settled (addresses_in run.config) (happened (addresses_in run.config) e (past_line left p))) h
 line_told {run} {tv = tv} {p = p} r line left t s at e is new after done =
     let a = addresses_in run.config in
     told_as _ t
@@ -81,7 +93,8 @@ pub record IsPlain (e : TvEvent) : Type 0 where
   pub fresh : (h : List Call) → IsFresh e h
   pub accepted : (peers : ℕ) → IsAccepted e peers
 
-plain_if : (made : Option TvEvent) → ((e : TvEvent) → made ≡ Some e → IsPlain e) → (e : TvEvent) → Some e ≡ made → IsPlain e
+plain_if : (made : Option TvEvent) → ((e : TvEvent) → made ≡ Some e → IsPlain e) → (e : TvEvent) → Some e ≡ made
+    → IsPlain e
 plain_if made f e is = f e (sym is)
 
 pub plain : (r : ℕ) (v : Verb) (e : TvEvent) → Some e ≡ event_of r v → IsPlain e
@@ -107,10 +120,14 @@ plain r (verb.Present x y) e is = absurd (cc)
 plain r (verb.Close x) e is = absurd (cc)
 
 -- ---- a line that the player refuses
-pub line_refused : {run : TvRun} {start told : Option History} {peers : ℕ} {tv : Television} {p : Progress} {h : History} (r : ℕ) (line : ScriptLine)
-    (left : List ScriptLine) → Told run start told peers (carry (addresses_in run.config) r left (with_line (addresses_in run.config) r line left p)) h
+pub line_refused : {run : TvRun} {start told : Option History} {peers : ℕ} {tv : Television} {p : Progress}
+    {h : History} (r : ℕ) (line : ScriptLine)
+    (left : List ScriptLine)
+    → Told run start told peers
+    (carry (addresses_in run.config) r left (with_line (addresses_in run.config) r line left p)) h
     → Stays run tv peers p → (e : TvEvent) → Some e ≡ event_of r line.verb → (f : PlayerFault)
-    → (outcome_at e tv.stage ≡ Err (fault.Player f)) ⊎ (fault.Player f ≡ fault.Memory) → (before : ℕ) → p.carried ≡ before
+    → (outcome_at e tv.stage ≡ Err (fault.Player f)) ⊎ (fault.Player f ≡ fault.Memory) → (before : ℕ)
+    → p.carried ≡ before
     → Stops run start told (driven.BadLine (before + 1) (line_why.Player f))
 line_refused {run} {start} {told} {peers} {p = p} {h = h} r line left t s e is f (inr same) before carried = absurd (cc)
 line_refused {run} {start} {told} {peers} {p = p} {h = h} r line left t s e is f (inl refused) before carried =
@@ -133,7 +150,8 @@ line_refused {run} {start} {told} {peers} {p = p} {h = h} r line left t s e is f
 free : (p : Progress) → p.refused ≡ None → p.owed ≡ [] → is_free p ≡ true
 free p r e = ap (λ x. is_free_of x p.owed) r ∙ ap (is_free_of None) e
 
-pub next_line : (a : Addresses) (r : ℕ) (p : Progress) (line : ScriptLine) (left : List ScriptLine) → p.place ≡ Turned r → p.refused ≡ None → p.owed ≡ []
+pub next_line : (a : Addresses) (r : ℕ) (p : Progress) (line : ScriptLine) (left : List ScriptLine) → p.place ≡ Turned r
+    → p.refused ≡ None → p.owed ≡ []
     → p.lines ≡ line ∷ left → line.due ≤ r → settled a p ≡ carry a r left (with_line a r line left p)
 next_line a r p line left at accepted owes lines due =
     let is : nat_le line.due r ≡ true = grind (arith, nat_tests) in
@@ -141,7 +159,8 @@ next_line a r p line left at accepted owes lines due =
     ∙ ap (λ b. cond (b && nat_le line.due r) (carry a r left (with_line a r line left p)) p) (free p accepted owes)
     ∙ ap (λ b. cond b (carry a r left (with_line a r line left p)) p) is
 
-pub line_waits : (a : Addresses) (r : ℕ) (p : Progress) (line : ScriptLine) (left : List ScriptLine) → p.place ≡ Turned r → p.lines ≡ line ∷ left
+pub line_waits : (a : Addresses) (r : ℕ) (p : Progress) (line : ScriptLine) (left : List ScriptLine)
+    → p.place ≡ Turned r → p.lines ≡ line ∷ left
     → r < line.due → settled a p ≡ p
 line_waits a r p line left at lines later =
     let is : nat_le line.due r ≡ false = grind (arith, nat_tests) in
@@ -159,15 +178,19 @@ no_line a r p at lines = ap (λ place. settled_at a place p) at ∙ ap (λ ls. c
 -- ---- the whole loop
 -- the loop is where a part of it has come
 pub airs_on : {run : TvRun} {start told : Option History} {peers : ℕ} {air : OnAir} {p : Progress} {place : Place}
-    → Keeps run peers air p → (peers' : ℕ) → peers ≤ peers' → (air' : OnAir) → air'.peers.items ≡ air.peers.items → air'.made ≡ air.made → air'.lines ≡ air.lines
-    → (x : Comes run start told peers' air'.tv p place []) → settled (addresses_in run.config) x.p ≡ x.p → Airs run start told peers' air' place x.p x.p x.h
+    → Keeps run peers air p → (peers' : ℕ) → peers ≤ peers' → (air' : OnAir) → air'.peers.items ≡ air.peers.items
+    → air'.made ≡ air.made → air'.lines ≡ air.lines
+    → (x : Comes run start told peers' air'.tv p place []) → settled (addresses_in run.config) x.p ≡ x.p
+    → Airs run start told peers' air' place x.p x.p x.h
 airs_on {run} {air = air} {p = p} k peers' le air' same made lines x exact = record {
   is_at = record { history = told_as x.p x.stands.history exact; stays = x.stands.stays; at = x.at; owes = x.owes };
   keeps = record {
     knows = record {
       rising = subst (AreRising 0) (sym same) k.knows.rising;
       below = subst (All (λ peer. peer ≤ peers')) (sym same) (lists.below_later _ _ _ le k.knows.below);
-      covers = subst (λ xs. Covers xs (open_after (addresses_in run.config) x.p.events)) (sym same) (x.same.narrows _ k.knows.covers);
+      covers =
+          subst (λ xs. Covers xs (open_after (addresses_in run.config) x.p.events)) (sym same)
+          (x.same.narrows _ k.knows.covers);
     };
     turns = x.same.turns ∙ k.turns ∙ sym made;
     carried = x.same.carried ∙ k.carried ∙ sym lines;
@@ -176,7 +199,8 @@ airs_on {run} {air = air} {p = p} k peers' le air' same made lines x exact = rec
 }
 
 -- ---- places in lists
-pub dropped_at : (xs : List ScriptLine) (i : ℕ) (x : ScriptLine) → i < length xs → x ≡ get_or xs i x → drop i xs ≡ x ∷ drop (i + 1) xs
+pub dropped_at : (xs : List ScriptLine) (i : ℕ) (x : ScriptLine) → i < length xs → x ≡ get_or xs i x
+    → drop i xs ≡ x ∷ drop (i + 1) xs
 dropped_at xs i x lt is = grind (arith, common_steps)
 
 pub dropped_all : (xs : List ScriptLine) (i : ℕ) → length xs ≤ i → drop i xs ≡ []

@@ -1,5 +1,6 @@
 -- How a session opens, and how a turn goes on from part to part.
-use Rattle.std.proofs.Common.{◌≡◌, ℕ, ◌+◌, ◌≤◌, ◌<◌, Bool, true, false, List, [], ◌∷◌, ◌++◌, Option, Some, None, refl, sym, ap, subst, ◌∙◌, arith, Result, Ok, Err, drop, length, get_or}
+use Rattle.std.proofs.Common.{◌≡◌, ℕ, ◌+◌, ◌≤◌, ◌<◌, Bool, true, false, List, [], ◌∷◌, ◌++◌, Option, Some, None, refl}
+use Rattle.std.proofs.Common.{sym, ap, subst, ◌∙◌, arith, Result, Ok, Err, drop, length, get_or}
 use Rattle.std.proofs.lemmas.Grind.{common_steps}
 use Rattle.std.specs.Prelude.{is_some, filter, All, ◌↔◌}
 use Rattle.css_model.specs.History.{History}
@@ -12,7 +13,8 @@ use Rattle.css_tv.specs.declared.event.TvEvent.TheVariants as event
 use Rattle.css_drive.specs.TvProgress.{Place, Turned, Served, Asked, Progress, addresses_in, happened, open_after}
 use Rattle.css_drive.specs.TvDue.{TvRun}
 use Rattle.css_drive.specs.TvPeers.{AreRising, Covers, has}
-use Rattle.css_drive.specs.TvStanding.{Told, Stays, IsAt, Comes, Goes, Stops, Keeps, Airs, Reaches, Arrives, IsUnasked, IsTurned, IsAtEnd, IsUnused, Hears, KeepsCounts}
+use Rattle.css_drive.specs.TvStanding.{Told, Stays, IsAt, Comes, Goes, Stops, Keeps, Airs, Reaches, Arrives, IsUnasked}
+use Rattle.css_drive.specs.TvStanding.{IsTurned, IsAtEnd, IsUnused, Hears, KeepsCounts}
 use Rattle.css_drive.specs.declared.driven.Driven.{Driven}
 use Rattle.css_drive.specs.declared.on_air.OnAir.{OnAir}
 use Rattle.css_drive.proofs.TvCalls.{event_covers}
@@ -31,17 +33,20 @@ none_of None e = refl
 none_of (Some x) e = absurd (cc)
 
 -- a peer above the greatest has no session
-pub unused_of : {run : TvRun} {start told : Option History} {peers : ℕ} {air : OnAir} {place : Place} {p : Progress} {h : History}
+pub unused_of : {run : TvRun} {start told : Option History} {peers : ℕ} {air : OnAir} {place : Place} {p : Progress}
+    {h : History}
     → Airs run start told peers air place p p h → IsUnused peers air.tv
 unused_of {run} {peers = peers} {air} {p = p} s = λ peer lt.
     let live = open_after (addresses_in run.config) p.events in
     let k = s.keeps.knows in
     none_of (talk_of peer air.tv.stage.sessions.list)
     (sym (is_live s.is_at.stays peer)
-    ∙ lists.has-none peer live (lists.below_live peer air.peers.items live (lists.below_next peers peer air.peers.items lt k.below) k.covers))
+    ∙ lists.has-none peer live
+    (lists.below_live peer air.peers.items live (lists.below_next peers peer air.peers.items lt k.below) k.covers))
 
 -- ---- a session that opens
-pub came_open : {run : TvRun} {start told : Option History} {greatest : ℕ} {air : OnAir} {p : Progress} (peer : ℕ) (kind : Kind)
+pub came_open : {run : TvRun} {start told : Option History} {greatest : ℕ} {air : OnAir} {p : Progress} (peer : ℕ)
+    (kind : Kind)
     → Keeps run greatest air p → greatest < peer → p.place ≡ Asked None → (peers : ℕ) → peer ≤ peers → (air' : OnAir)
     → air'.peers.items ≡ air.peers.items ++ peer ∷ [] → air'.made ≡ air.made → air'.lines ≡ air.lines
     → Comes run start told peers air'.tv (happened (addresses_in run.config) (event.Opened peer kind) p) p.place []
@@ -65,7 +70,8 @@ came_open {run} {greatest = greatest} {air} {p} peer kind k lt at peers le air' 
           knows = record {
             rising = subst (AreRising 0) (sym items) (lists.rising_last 0 peer xs k.knows.rising before (omega arith));
             below = subst (All (λ other. other ≤ peers)) (sym items)
-                (lists.below_last peers peer xs (lists.below_later greatest peers xs (omega (arith, lt, le)) k.knows.below) le);
+                (lists.below_last peers peer xs
+                (lists.below_later greatest peers xs (omega (arith, lt, le)) k.knows.below) le);
             covers = subst (λ ys. Covers ys (open_after a y.p.events)) (sym items)
                 (y.same.narrows _ (event_covers a peer kind p.events xs before k.knows.covers));
           };
@@ -77,29 +83,38 @@ came_open {run} {greatest = greatest} {air} {p} peer kind k lt at peers le air' 
       fits = refl;
     }
 
-pub arrives_open : {T : Type 0} (run : TvRun) (start told : Option History) {greatest : ℕ} {air : OnAir} {p : Progress} (peer : ℕ) (kind : Kind)
+pub arrives_open : {T : Type 0} (run : TvRun) (start told : Option History) {greatest : ℕ} {air : OnAir} {p : Progress}
+    (peer : ℕ) (kind : Kind)
     → Keeps run greatest air p → greatest < peer → p.place ≡ Asked None → (peers : ℕ) → peer ≤ peers → (air' : OnAir)
-    → air'.peers.items ≡ air.peers.items ++ peer ∷ [] → air'.made ≡ air.made → air'.lines ≡ air.lines → (result : Result T Driven)
-    → Goes run start told peers air'.tv (happened (addresses_in run.config) (event.Opened peer kind) p) p.place [] result
+    → air'.peers.items ≡ air.peers.items ++ peer ∷ [] → air'.made ≡ air.made → air'.lines ≡ air.lines
+    → (result : Result T Driven)
+    → Goes run start told peers air'.tv (happened (addresses_in run.config) (event.Opened peer kind) p) p.place []
+    result
     → Arrives run start told peers air' IsUnasked result
-arrives_open run start told peer kind k lt at peers le air' items made lines (Ok x) y = came_open peer kind k lt at peers le air' items made lines y
+arrives_open run start told peer kind k lt at peers le air' items made lines (Ok x) y =
+    came_open peer kind k lt at peers le air' items made lines y
 arrives_open run start told peer kind k lt at peers le air' items made lines (Err ended) y = y
 
 -- ---- from part to part
 -- at another name of its place
-pub airs_at : {run : TvRun} {start told : Option History} {peers : ℕ} {air : OnAir} {place : Place} {p : Progress} {h : History}
-    → Airs run start told peers air place p p h → (place' : Place) → place ≡ place' → Airs run start told peers air place' p p h
+pub airs_at : {run : TvRun} {start told : Option History} {peers : ℕ} {air : OnAir} {place : Place} {p : Progress}
+    {h : History}
+    → Airs run start told peers air place p p h → (place' : Place) → place ≡ place'
+    → Airs run start told peers air place' p p h
 airs_at s place' e = record {
   is_at = record { history = s.is_at.history; stays = s.is_at.stays; at = s.is_at.at ∙ e; owes = s.is_at.owes };
   keeps = s.keeps;
 }
 
 -- the turn has no more to do with datagrams
-pub served : {run : TvRun} {start told told' : Option History} {peers : ℕ} {air : OnAir} → (x : Reaches run start told peers air IsTurned)
+pub served : {run : TvRun} {start told told' : Option History} {peers : ℕ} {air : OnAir}
+    → (x : Reaches run start told peers air IsTurned)
     → (peers' : ℕ) → peers ≤ peers' → (tv : Television) → (y : Comes run start told' peers' tv x.p Served [])
-    → Airs run start told' peers' (record { tv = tv; peers = air.peers; lines = air.lines; made = air.made }) Served y.p y.p y.h
+    → Airs run start told' peers' (record { tv = tv; peers = air.peers; lines = air.lines; made = air.made }) Served y.p
+    y.p y.h
 served {run} {air = air} x peers' le tv y =
-    airs_on x.airs.keeps peers' le (record { tv = tv; peers = air.peers; lines = air.lines; made = air.made }) refl refl refl y
+    airs_on x.airs.keeps peers' le (record { tv = tv; peers = air.peers; lines = air.lines; made = air.made }) refl refl
+    refl y
     (settled_at_place (addresses_in run.config) y.p Served y.at refl)
 
 -- sessions are asked from the first one on
@@ -111,7 +126,8 @@ pub peer_from : (xs : List ℕ) (i : ℕ) → i < length xs → drop i xs ≡ ge
 peer_from xs i lt = grind (arith, common_steps)
 
 -- ---- counts
-pub counts_kept : {T : Type 0} {before mid now : Counts} {t : T} → KeepsCounts before mid → CountsPlain mid now (Ok t) → KeepsCounts before now
+pub counts_kept : {T : Type 0} {before mid now : Counts} {t : T} → KeepsCounts before mid → CountsPlain mid now (Ok t)
+    → KeepsCounts before now
 counts_kept k c = record {
   dials = ap (λ (x : Counts). x.dial_faults) c.same ∙ k.dials;
   peers = omega (arith, peers_kept c, k.peers);

@@ -22,7 +22,8 @@ filter-both : (f g : ℕ → Bool) (xs : List ℕ) → filter f (filter g xs) �
 filter-both f g [] = refl
 filter-both f g (x ∷ xs) = go (g x) (filter-both f g xs) where
   go : (b : Bool) → filter f (filter g xs) ≡ filter (λ x. g x && f x) xs
-      → filter f (cond b (x ∷ filter g xs) (filter g xs)) ≡ cond (b && f x) (x ∷ filter (λ x. g x && f x) xs) (filter (λ x. g x && f x) xs)
+      → filter f (cond b (x ∷ filter g xs) (filter g xs)) ≡ cond (b && f x) (x ∷ filter (λ x. g x && f x) xs)
+      (filter (λ x. g x && f x) xs)
   go true ih = ap (λ ys. cond (f x) (x ∷ ys) ys) ih
   go false ih = ih
 
@@ -37,7 +38,8 @@ all-of P (x ∷ xs) h = All-cons P x xs (h x) (all-of P xs h)
 
 filter-comm : (f g : ℕ → Bool) (xs : List ℕ) → filter f (filter g xs) ≡ filter g (filter f xs)
 filter-comm f g xs = filter-both f g xs
-    ∙ filter-alike (λ x. g x && f x) (λ x. f x && g x) xs (all-of (λ x. (g x && f x) ≡ (f x && g x)) xs (λ x. and-comm (g x) (f x)))
+    ∙ filter-alike (λ x. g x && f x) (λ x. f x && g x) xs
+    (all-of (λ x. (g x && f x) ≡ (f x && g x)) xs (λ x. and-comm (g x) (f x)))
     ∙ sym (filter-both g f xs)
 
 -- ---- elements
@@ -47,7 +49,8 @@ has-filter f q [] = none (f q) where
   none true = refl
   none false = refl
 has-filter f q (x ∷ xs) = go (f x) (eqb x q) (f q) (λ e. ap f (eqb-true x q e)) refl (has-filter f q xs) where
-  go : (passes same also : Bool) → (same ≡ true → passes ≡ also) → eqb x q ≡ same → has q (filter f xs) ≡ (also && has q xs)
+  go : (passes same also : Bool) → (same ≡ true → passes ≡ also) → eqb x q ≡ same
+      → has q (filter f xs) ≡ (also && has q xs)
       → has q (cond passes (x ∷ filter f xs) (filter f xs)) ≡ (also && (same || has q xs))
   go true true true alike e ih = ap (λ b. b || has q (filter f xs)) e
   go true true false alike e ih = absurd (let t : true ≡ false = alike refl in cc)
@@ -62,7 +65,8 @@ has-filter f q (x ∷ xs) = go (f x) (eqb x q) (f q) (λ e. ap f (eqb-true x q e
 pub covers_filtered : (f : ℕ → Bool) (peers live : List ℕ) → Covers peers live → Covers peers (filter f live)
 covers_filtered f peers live covers =
     filter-alike (λ x. has x (filter f live)) (λ x. has x live && f x) peers
-    (all-of (λ x. has x (filter f live) ≡ (has x live && f x)) peers (λ x. has-filter f x live ∙ and-comm (f x) (has x live)))
+    (all-of (λ x. has x (filter f live) ≡ (has x live && f x)) peers (λ x.
+    has-filter f x live ∙ and-comm (f x) (has x live)))
     ∙ sym (filter-both f (λ x. has x live) peers)
     ∙ ap (filter f) covers
 
@@ -83,27 +87,34 @@ apart q [] live h = All-nil _
 apart q (x ∷ xs) live h =
     let lt : x < q = All-head (λ x. x < q) x xs h in
     let no : eqb q x ≡ false = grind (arith, nat_tests) in
-    All-cons (λ x. has x (live ++ q ∷ []) ≡ has x live) x xs (has-more x q live no) (apart q xs live (All-tail (λ x. x < q) x xs h))
+    All-cons (λ x. has x (live ++ q ∷ []) ≡ has x live) x xs (has-more x q live no)
+    (apart q xs live (All-tail (λ x. x < q) x xs h))
 
-covers_opened : (q : ℕ) (peers live : List ℕ) → All (λ x. x < q) peers → Covers peers live → Covers (peers ++ q ∷ []) (live ++ q ∷ [])
+covers_opened : (q : ℕ) (peers live : List ℕ) → All (λ x. x < q) peers → Covers peers live
+    → Covers (peers ++ q ∷ []) (live ++ q ∷ [])
 covers_opened q peers live below covers =
     filter-append (λ x. has x (live ++ q ∷ [])) peers (q ∷ [])
     ∙ ap (λ b. filter (λ x. has x (live ++ q ∷ [])) peers ++ cond b (q ∷ []) []) (has-last q live)
-    ∙ ap (λ xs. xs ++ q ∷ []) (filter-alike (λ x. has x (live ++ q ∷ [])) (λ x. has x live) peers (apart q peers live below) ∙ covers)
+    ∙ ap (λ xs. xs ++ q ∷ [])
+    (filter-alike (λ x. has x (live ++ q ∷ [])) (λ x. has x live) peers (apart q peers live below) ∙ covers)
 
 at-end : (q : ℕ) (live : List ℕ) → All (λ x. x < q) live → with_peer q live ≡ live ++ q ∷ []
 at-end q [] h = refl
 at-end q (x ∷ live) h =
     let lt : x < q = All-head (λ x. x < q) x live h in
     let yes : ltb x q ≡ true = grind (arith, nat_tests) in
-    ap (λ b. cond b (x ∷ with_peer q live) (q ∷ x ∷ live)) yes ∙ ap (λ xs. x ∷ xs) (at-end q live (All-tail (λ x. x < q) x live h))
+    ap (λ b. cond b (x ∷ with_peer q live) (q ∷ x ∷ live)) yes ∙ ap (λ xs. x ∷ xs)
+    (at-end q live (All-tail (λ x. x < q) x live h))
 
 pub below_live : (q : ℕ) (peers live : List ℕ) → All (λ x. x < q) peers → Covers peers live → All (λ x. x < q) live
-below_live q peers live below covers = subst (All (λ x. x < q)) covers (All-filter (λ x. has x live) (λ x. x < q) peers below)
+below_live q peers live below covers =
+    subst (All (λ x. x < q)) covers (All-filter (λ x. has x live) (λ x. x < q) peers below)
 
-pub covers_more : (q : ℕ) (peers live : List ℕ) → All (λ x. x < q) peers → Covers peers live → Covers (peers ++ q ∷ []) (with_peer q live)
+pub covers_more : (q : ℕ) (peers live : List ℕ) → All (λ x. x < q) peers → Covers peers live
+    → Covers (peers ++ q ∷ []) (with_peer q live)
 covers_more q peers live below covers =
-    subst (Covers (peers ++ q ∷ [])) (sym (at-end q live (below_live q peers live below covers))) (covers_opened q peers live below covers)
+    subst (Covers (peers ++ q ∷ [])) (sym (at-end q live (below_live q peers live below covers)))
+    (covers_opened q peers live below covers)
 
 -- ---- order
 rises : (from : ℕ) (xs : List ℕ) → AreRising from xs → All (λ x. from ≤ x) xs
@@ -120,7 +131,8 @@ rising-later : (a b : ℕ) (xs : List ℕ) → b ≤ a → AreRising a xs → Ar
 rising-later a b [] le h = tt
 rising-later a b (x ∷ xs) le h = (omega (arith, le, h.0), h.1)
 
-pub rising_last : (from q : ℕ) (xs : List ℕ) → AreRising from xs → All (λ x. x < q) xs → from ≤ q → AreRising from (xs ++ q ∷ [])
+pub rising_last : (from q : ℕ) (xs : List ℕ) → AreRising from xs → All (λ x. x < q) xs → from ≤ q
+    → AreRising from (xs ++ q ∷ [])
 rising_last from q [] h below le = (le, tt)
 rising_last from q (x ∷ xs) h below le =
     let lt : x < q = All-head (λ x. x < q) x xs below in
@@ -131,7 +143,8 @@ pass-all p [] h = refl
 pass-all p (x ∷ xs) h =
     let le : p + 1 ≤ x = All-head (λ x. p + 1 ≤ x) x xs h in
     let yes : ltb p x ≡ true = grind (arith, nat_tests) in
-    ap (λ b. cond b (x ∷ filter (λ x. nat_lt p x) xs) (filter (λ x. nat_lt p x) xs)) yes ∙ ap (λ ys. x ∷ ys) (pass-all p xs (All-tail (λ x. p + 1 ≤ x) x xs h))
+    ap (λ b. cond b (x ∷ filter (λ x. nat_lt p x) xs) (filter (λ x. nat_lt p x) xs)) yes ∙ ap (λ ys. x ∷ ys)
+    (pass-all p xs (All-tail (λ x. p + 1 ≤ x) x xs h))
 
 -- ---- the place of a peer
 -- what stands behind a front part
@@ -147,20 +160,26 @@ drops-none : (i p : ℕ) (rest : List ℕ) → drop i [] ≡ p ∷ rest → ⊥
 drops-none zero p rest e = absurd (let t : [] ≡ p ∷ rest = e in cc)
 drops-none (suc i) p rest e = absurd (let t : [] ≡ p ∷ rest = e in cc)
 
-passed : (from i p : ℕ) (xs rest : List ℕ) → AreRising from xs → drop i xs ≡ p ∷ rest → filter (λ x. nat_lt p x) xs ≡ rest
+passed : (from i p : ℕ) (xs rest : List ℕ) → AreRising from xs → drop i xs ≡ p ∷ rest
+    → filter (λ x. nat_lt p x) xs ≡ rest
 passed from i p [] rest h e = absurd (drops-none i p rest e)
 passed from zero p (x ∷ xs) rest h e =
     let same : x ≡ p = cc in
     let rest_is : xs ≡ rest = cc in
     let no : ltb p x ≡ false = grind (arith, nat_tests) in
     let more : AreRising (p + 1) xs = subst (λ y. AreRising (y + 1) xs) same h.1 in
-    ap (λ b. cond b (x ∷ filter (λ x. nat_lt p x) xs) (filter (λ x. nat_lt p x) xs)) no ∙ pass-all p xs (rises (p + 1) xs more) ∙ rest_is
+    ap (λ b. cond b (x ∷ filter (λ x. nat_lt p x) xs) (filter (λ x. nat_lt p x) xs)) no ∙ pass-all p xs
+    (rises (p + 1) xs more) ∙ rest_is
 passed from (suc i) p (x ∷ xs) rest h e =
-    let lt : x + 1 ≤ p = All-head (λ y. x + 1 ≤ y) p rest (subst (All (λ y. x + 1 ≤ y)) e (All-drop i (λ y. x + 1 ≤ y) xs (rises (x + 1) xs h.1))) in
+    let lt : x + 1 ≤ p =
+    All-head (λ y. x + 1 ≤ y) p rest
+    (subst (All (λ y. x + 1 ≤ y)) e (All-drop i (λ y. x + 1 ≤ y) xs (rises (x + 1) xs h.1))) in
     let no : ltb p x ≡ false = grind (arith, nat_tests) in
-    ap (λ b. cond b (x ∷ filter (λ x. nat_lt p x) xs) (filter (λ x. nat_lt p x) xs)) no ∙ passed (x + 1) i p xs rest h.1 e
+    ap (λ b. cond b (x ∷ filter (λ x. nat_lt p x) xs) (filter (λ x. nat_lt p x) xs)) no ∙ passed (x + 1) i p xs rest h.1
+    e
 
-pub above_passed : (i p : ℕ) (peers live rest : List ℕ) → AreRising 0 peers → Covers peers live → drop i peers ≡ p ∷ rest
+pub above_passed : (i p : ℕ) (peers live rest : List ℕ) → AreRising 0 peers → Covers peers live
+    → drop i peers ≡ p ∷ rest
     → above (Some p) live ≡ filter (λ x. has x live) rest
 above_passed i p peers live rest rising covers e =
     ap (filter (λ x. nat_lt p x)) (sym covers)
@@ -178,31 +197,40 @@ drop_removed i p [] rest e = absurd (drops-none i p rest e)
 drop_removed zero p (x ∷ xs) rest e = cc
 drop_removed (suc i) p (x ∷ xs) rest e = drop_removed i p xs rest e
 
-pub covers_removed : (i p : ℕ) (peers live rest : List ℕ) → drop i peers ≡ p ∷ rest → has p live ≡ false → Covers peers live → Covers (remove peers i) live
+pub covers_removed : (i p : ℕ) (peers live rest : List ℕ) → drop i peers ≡ p ∷ rest → has p live ≡ false
+    → Covers peers live → Covers (remove peers i) live
 covers_removed i p peers live rest e lacks covers = filter-without i peers e ∙ covers where
-  filter-without : (i : ℕ) (xs : List ℕ) → drop i xs ≡ p ∷ rest → filter (λ x. has x live) (remove xs i) ≡ filter (λ x. has x live) xs
+  filter-without : (i : ℕ) (xs : List ℕ) → drop i xs ≡ p ∷ rest
+      → filter (λ x. has x live) (remove xs i) ≡ filter (λ x. has x live) xs
   filter-without i [] e = absurd (drops-none i p rest e)
   filter-without zero (x ∷ xs) e =
       let same : x ≡ p = cc in
-      sym (ap (λ b. cond b (x ∷ filter (λ x. has x live) xs) (filter (λ x. has x live) xs)) (ap (λ y. has y live) same ∙ lacks))
+      sym (ap (λ b. cond b (x ∷ filter (λ x. has x live) xs) (filter (λ x. has x live) xs))
+      (ap (λ y. has y live) same ∙ lacks))
   filter-without (suc i) (x ∷ xs) e = ap (λ ys. cond (has x live) (x ∷ ys) ys) (filter-without i xs e)
 
-pub rising_removed : (from i p : ℕ) (xs rest : List ℕ) → drop i xs ≡ p ∷ rest → AreRising from xs → AreRising from (remove xs i)
+pub rising_removed : (from i p : ℕ) (xs rest : List ℕ) → drop i xs ≡ p ∷ rest → AreRising from xs
+    → AreRising from (remove xs i)
 rising_removed from i p [] rest e h = absurd (drops-none i p rest e)
 rising_removed from zero p (x ∷ xs) rest e h = rising-later (x + 1) from xs (omega (arith, h.0)) h.1
 rising_removed from (suc i) p (x ∷ xs) rest e h = (h.0, rising_removed (x + 1) i p xs rest e h.1)
 
-pub below_removed : (P : ℕ → Type 0) (i p : ℕ) (xs rest : List ℕ) → drop i xs ≡ p ∷ rest → All P xs → All P (remove xs i)
+pub below_removed : (P : ℕ → Type 0) (i p : ℕ) (xs rest : List ℕ) → drop i xs ≡ p ∷ rest → All P xs
+    → All P (remove xs i)
 below_removed P i p [] rest e h = absurd (drops-none i p rest e)
 below_removed P zero p (x ∷ xs) rest e h = All-tail P x xs h
-below_removed P (suc i) p (x ∷ xs) rest e h = All-cons P x (remove xs i) (All-head P x xs h) (below_removed P i p xs rest e (All-tail P x xs h))
+below_removed P (suc i) p (x ∷ xs) rest e h =
+    All-cons P x (remove xs i) (All-head P x xs h) (below_removed P i p xs rest e (All-tail P x xs h))
 
 -- the first of what is left to be asked
-pub next_has : (p : ℕ) (live rest : List ℕ) → has p live ≡ true → filter (λ x. has x live) (p ∷ rest) ≡ p ∷ filter (λ x. has x live) rest
+pub next_has : (p : ℕ) (live rest : List ℕ) → has p live ≡ true
+    → filter (λ x. has x live) (p ∷ rest) ≡ p ∷ filter (λ x. has x live) rest
 next_has p live rest there = ap (λ b. cond b (p ∷ filter (λ x. has x live) rest) (filter (λ x. has x live) rest)) there
 
-pub next_lacks : (p : ℕ) (live rest : List ℕ) → has p live ≡ false → filter (λ x. has x live) (p ∷ rest) ≡ filter (λ x. has x live) rest
-next_lacks p live rest lacks = ap (λ b. cond b (p ∷ filter (λ x. has x live) rest) (filter (λ x. has x live) rest)) lacks
+pub next_lacks : (p : ℕ) (live rest : List ℕ) → has p live ≡ false
+    → filter (λ x. has x live) (p ∷ rest) ≡ filter (λ x. has x live) rest
+next_lacks p live rest lacks =
+    ap (λ b. cond b (p ∷ filter (λ x. has x live) rest) (filter (λ x. has x live) rest)) lacks
 
 pub has-none : (q : ℕ) (live : List ℕ) → All (λ x. x < q) live → has q live ≡ false
 has-none q [] h = refl
@@ -211,10 +239,12 @@ has-none q (x ∷ live) h =
     let lacks : eqb x q ≡ false = grind (arith, nat_tests) in
     ap (λ b. b || has q live) lacks ∙ has-none q live (All-tail (λ x. x < q) x live h)
 
-pub covers_unopened : (q : ℕ) (peers live : List ℕ) → All (λ x. x < q) peers → Covers peers live → Covers (peers ++ q ∷ []) live
+pub covers_unopened : (q : ℕ) (peers live : List ℕ) → All (λ x. x < q) peers → Covers peers live
+    → Covers (peers ++ q ∷ []) live
 covers_unopened q peers live below covers =
     filter-append (λ x. has x live) peers (q ∷ [])
-    ∙ ap (λ b. filter (λ x. has x live) peers ++ cond b (q ∷ []) []) (has-none q live (below_live q peers live below covers))
+    ∙ ap (λ b. filter (λ x. has x live) peers ++ cond b (q ∷ []) [])
+    (has-none q live (below_live q peers live below covers))
     ∙ append-nil (filter (λ x. has x live) peers) ∙ covers
 
 pub below_later : (a b : ℕ) (xs : List ℕ) → a ≤ b → All (λ x. x ≤ a) xs → All (λ x. x ≤ b) xs
@@ -232,8 +262,10 @@ below_next a b (x ∷ xs) lt h =
 pub below_last : (a q : ℕ) (xs : List ℕ) → All (λ x. x ≤ a) xs → q ≤ a → All (λ x. x ≤ a) (xs ++ q ∷ [])
 below_last a q [] h le = All-cons (λ x. x ≤ a) q [] le (All-nil (λ x. x ≤ a))
 below_last a q (x ∷ xs) h le =
-    All-cons (λ x. x ≤ a) x (xs ++ q ∷ []) (All-head (λ x. x ≤ a) x xs h) (below_last a q xs (All-tail (λ x. x ≤ a) x xs h) le)
+    All-cons (λ x. x ≤ a) x (xs ++ q ∷ []) (All-head (λ x. x ≤ a) x xs h)
+    (below_last a q xs (All-tail (λ x. x ≤ a) x xs h) le)
 
 -- the loop knows its peers, and one more
 pub knows_later : (peers : List ℕ) (a b : ℕ) (live : List ℕ) → Knows peers a live → a ≤ b → Knows peers b live
-knows_later peers a b live k le = record { rising = k.rising; below = below_later a b peers le k.below; covers = k.covers }
+knows_later peers a b live k le =
+    record { rising = k.rising; below = below_later a b peers le k.below; covers = k.covers }

@@ -1,5 +1,6 @@
 -- How a run comes on by one thing that a step has the television do.
-use Rattle.std.proofs.Common.{◌≡◌, ℕ, ◌+◌, ◌≤◌, List, [], ◌∷◌, ◌++◌, Option, Some, None, refl, sym, ap, subst, ◌∙◌, arith, append-nil}
+use Rattle.std.proofs.Common.{◌≡◌, ℕ, ◌+◌, ◌≤◌, List, [], ◌∷◌, ◌++◌, Option, Some, None, refl, sym, ap, subst, ◌∙◌}
+use Rattle.std.proofs.Common.{arith, append-nil}
 use Rattle.std.specs.Prelude.{not, ◌==◌, Result, Ok, Err, OnOk, IfErr}
 use Rattle.css_drive.specs.declared.driven.Driven.{Driven}
 use Rattle.css_drive.specs.declared.driven.Driven.TheVariants as driven
@@ -15,14 +16,17 @@ use Rattle.css_drive.specs.TvProgress.{Progress, settled, addresses_in, after, w
 use Rattle.css_drive.specs.TvDue.{TvRun}
 use Rattle.css_drive.specs.TvStanding.{IsFault, Told, Stays, Stands, Comes, Goes, Closes}
 use Rattle.css_drive.proofs.TvCalls.{event_narrows, event_unused}
-use Rattle.css_drive.proofs.TvSteps.{not_free, settled_stops, due_say, due_hang, told_as, told_more, below_later, stays_on, continues, stops_by_fault}
+use Rattle.css_drive.proofs.TvSteps.{not_free, settled_stops, due_say, due_hang, told_as, told_more, below_later}
+use Rattle.css_drive.proofs.TvSteps.{stays_on, continues, stops_by_fault}
 
 waits : {run : TvRun} {start told : Option History} {peers : ℕ} {tv : Television} {p : Progress} {h : History}
-    → Stands run start told peers tv p h → (o : TvOut) (rest : List TvOut) → p.owed ≡ o ∷ rest → Told run start told peers p h
+    → Stands run start told peers tv p h → (o : TvOut) (rest : List TvOut) → p.owed ≡ o ∷ rest
+    → Told run start told peers p h
 waits {run} {p = p} s o rest e = told_as p s.history (settled_stops (addresses_in run.config) p (not_free p o rest e))
 
 pub wrote_one : {run : TvRun} {start told : Option History} {peers : ℕ} {tv : Television} {p : Progress} {h : History}
-    → Stands run start told peers tv p h → (peer : ℕ) (text : List ℕ) (rest : List TvOut) → p.owed ≡ out.Say peer text ∷ rest
+    → Stands run start told peers tv p h → (peer : ℕ) (text : List ℕ) (rest : List TvOut)
+    → p.owed ≡ out.Say peer text ∷ rest
     → (told' : Option History) → told' ≡ with_entries (Wrote peer text ∷ []) told → (peers' : ℕ) → peers ≤ peers'
     → Comes run start told' peers' tv p p.place rest
 wrote_one {run} {p = p} {h = h} s peer text rest e told' grew peers' le =
@@ -33,9 +37,12 @@ wrote_one {run} {p = p} {h = h} s peer text rest e told' grew peers' le =
       p = q;
       h = Wrote peer text ∷ h;
       stands = record {
-        history = told_more now (SendText peer text) (due_say run p peer text rest s.stays.accepted e) (Wrote peer text ∷ []) (wrote.Sent, refl)
+        history =
+            told_more now (SendText peer text) (due_say run p peer text rest s.stays.accepted e) (Wrote peer text ∷ [])
+            (wrote.Sent, refl)
             told' grew peers' now.numbered (below_later _ _ h (omega (arith, le)) now.below) (settled a q)
-            (ap (after a (Wrote peer text)) now.progress ∙ ap (λ os. settled a (record p { owed = without_first os })) e);
+            (ap (after a (Wrote peer text)) now.progress ∙ ap (λ os. settled a (record p { owed = without_first os }))
+            e);
         stays = stays_on s.stays q refl refl refl peers' le;
       };
       at = refl;
@@ -66,26 +73,36 @@ hung_one {run} {p = p} {h = h} s peer rest e told' grew peers' le =
     }
 
 gone_progress : {run : TvRun} {start told : Option History} {peers : ℕ} {tv : Television} {p : Progress} {h : History}
-    → Stands run start told peers tv p h → (peer : ℕ) (text : List ℕ) (rest : List TvOut) → p.owed ≡ out.Say peer text ∷ rest
+    → Stands run start told peers tv p h → (peer : ℕ) (text : List ℕ) (rest : List TvOut)
+    → p.owed ≡ out.Say peer text ∷ rest
     → (told' : Option History) → told' ≡ with_entries (Gone peer ∷ []) told → (peers' : ℕ) → peers ≤ peers'
-    → Told run start told' peers' (settled (addresses_in run.config) (record p { events = event.Closed peer ∷ p.events; owed = rest })) (Gone peer ∷ h)
+    → Told run start told' peers'
+    (settled (addresses_in run.config) (record p { events = event.Closed peer ∷ p.events; owed = rest })) (Gone peer
+    ∷ h)
 gone_progress {run} {p = p} {h = h} s peer text rest e told' grew peers' le =
     let a = addresses_in run.config in
     let now = waits s (out.Say peer text) rest e in
-    told_more now (SendText peer text) (due_say run p peer text rest s.stays.accepted e) (Gone peer ∷ []) (wrote.Gone, refl)
+    told_more now (SendText peer text) (due_say run p peer text rest s.stays.accepted e) (Gone peer ∷ []) (
+      wrote.Gone,
+      refl,
+    )
     told' grew peers' now.numbered (below_later _ _ h (omega (arith, le)) now.below)
     (settled a (record p { events = event.Closed peer ∷ p.events; owed = rest }))
     (ap (after a (Gone peer)) now.progress
     ∙ ap (λ os. settled a (record p { events = event.Closed peer ∷ p.events; owed = without_first os ++ [] })) e
     ∙ ap (λ os. settled a (record p { events = event.Closed peer ∷ p.events; owed = os })) (append-nil rest))
 
-pub gone_one : {run : TvRun} {start told : Option History} {peers : ℕ} {tv : Television} {p : Progress} {h : History} {T : Type 0}
-    → Stands run start told peers tv p h → (peer : ℕ) (text : List ℕ) (rest : List TvOut) → p.owed ≡ out.Say peer text ∷ rest
+pub gone_one : {run : TvRun} {start told : Option History} {peers : ℕ} {tv : Television} {p : Progress} {h : History}
+    {T : Type 0}
+    → Stands run start told peers tv p h → (peer : ℕ) (text : List ℕ) (rest : List TvOut)
+    → p.owed ≡ out.Say peer text ∷ rest
     → (told' : Option History) → told' ≡ with_entries (Gone peer ∷ []) told → (peers' : ℕ) → peers ≤ peers'
-    → (tv' : Television) (result : Result T Driven) → OnOk result (Closes peer tv tv') → IfErr result (λ ended. ended ≡ driven.Memory)
+    → (tv' : Television) (result : Result T Driven) → OnOk result (Closes peer tv tv')
+    → IfErr result (λ ended. ended ≡ driven.Memory)
     → Goes run start told' peers' tv' p p.place rest result
 gone_one {run} {start} {p = p} {h = h} s peer text rest e told' grew peers' le tv' (Err ended) closes memory =
-    stops_by_fault (gone_progress s peer text rest e told' grew peers' le) told' refl ended (subst IsFault (sym memory) tt)
+    stops_by_fault (gone_progress s peer text rest e told' grew peers' le) told' refl ended
+    (subst IsFault (sym memory) tt)
 gone_one {run} {p = p} {h = h} s peer text rest e told' grew peers' le tv' (Ok x) closes memory =
     let a = addresses_in run.config in
     record {
@@ -98,10 +115,19 @@ gone_one {run} {p = p} {h = h} s peer text rest e told' grew peers' le tv' (Ok x
           server = closes.server ∙ s.stays.server;
           stage = closes.stands p.events s.stays.stage;
           accepted = s.stays.accepted;
-          unused = λ other lt. event_unused a (event.Closed peer) p.events other tt (s.stays.unused other (omega (arith, le, lt)));
+          unused =
+              λ other lt.
+              event_unused a (event.Closed peer) p.events other tt (s.stays.unused other (omega (arith, le, lt)));
         };
       };
       at = refl;
       owes = refl;
-      same = record { turns = refl; lines = refl; carried = refl; narrows = event_narrows a (event.Closed peer) p.events tt };
+      same =
+          record {
+            turns = refl;
+            lines = refl;
+            carried = refl;
+            narrows =
+                event_narrows a (event.Closed peer) p.events tt;
+          };
     }

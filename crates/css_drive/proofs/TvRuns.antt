@@ -1,5 +1,6 @@
 -- How a television's run begins, and how it ends.
-use Rattle.std.proofs.Common.{◌≡◌, ℕ, ◌+◌, ◌≤◌, ◌<◌, List, [], ◌∷◌, Option, Some, None, refl, sym, ap, subst, ◌∙◌, arith, Result, Ok, Err, drop}
+use Rattle.std.proofs.Common.{◌≡◌, ℕ, ◌+◌, ◌≤◌, ◌<◌, List, [], ◌∷◌, Option, Some, None, refl, sym, ap, subst, ◌∙◌}
+use Rattle.std.proofs.Common.{arith, Result, Ok, Err, drop}
 use Rattle.std.specs.Prelude.{◌≢◌, All, IsErrOf, IfErr}
 use Rattle.std.proofs.lemmas.List.Elements.{All-nil}
 use Rattle.css_model.specs.History.{History, Listening}
@@ -23,18 +24,23 @@ use Rattle.css_drive.specs.declared.on_air.OnAir.{OnAir}
 use Rattle.css_drive.proofs.TvSteps.{told_more}
 
 -- ---- the beginning
-pub at_first : (run : TvRun) (start : Option History) (peers : ℕ) → Told run start start peers (beginning run.config run.script) []
-at_first run start peers = record { grew = same start; proper = Empty; numbered = tt; below = tt; progress = refl } where
-  same : (s : Option History) → s ≡ with_entries [] s
-  same None = refl
-  same (Some h) = refl
+pub at_first : (run : TvRun) (start : Option History) (peers : ℕ)
+    → Told run start start peers (beginning run.config run.script) []
+at_first run start peers =
+    record { grew = same start; proper = Empty; numbered = tt; below = tt; progress = refl } where
+      same : (s : Option History) → s ≡ with_entries [] s
+      same None = refl
+      same (Some h) = refl
 
 pub listens : (run : TvRun) (start told : Option History) (peers : ℕ) (config : TvConfig) → run.config ≡ config
     → told ≡ with_entries (Listening config.host config.port ∷ []) start
-    → Told run start told peers (record (beginning run.config run.script) { place = Listens }) (Listening config.host config.port ∷ [])
+    → Told run start told peers (record (beginning run.config run.script) { place = Listens })
+    (Listening config.host config.port ∷ [])
 listens run start told peers config e grew =
-    told_more (at_first run start peers) (Listen run.config.host run.config.port) refl (Listening config.host config.port ∷ [])
-    (ap (λ (c : TvConfig). Listening c.host c.port ∷ []) (sym e)) told grew peers tt tt (record (beginning run.config run.script) { place = Listens }) refl
+    told_more (at_first run start peers) (Listen run.config.host run.config.port) refl
+    (Listening config.host config.port ∷ [])
+    (ap (λ (c : TvConfig). Listening c.host c.port ∷ []) (sym e)) told grew peers tt tt
+    (record (beginning run.config run.script) { place = Listens }) refl
 
 pub begun : (run : TvRun) (start told : Option History) (peers : ℕ) (config : TvConfig) → run.config ≡ config
     → told ≡ with_entries (Listening config.host config.port ∷ []) start → (air : OnAir)
@@ -74,10 +80,12 @@ begun run start told peers config e grew air addresses stands server none lines 
     }
 
 -- ---- the end
-pub ran_by : {run : TvRun} {start told : Option History} {ended : Driven} → Stops run start told ended → TvRan run start told ended
+pub ran_by : {run : TvRun} {start told : Option History} {ended : Driven} → Stops run start told ended
+    → TvRan run start told ended
 ran_by x = record { h = x.h; grew = x.grew; proper = x.proper; numbered = x.numbered; ends = x.ends; whole = x.whole }
 
-counts_by : (before now : ℕ) (ended : Driven) → (ended ≡ driven.NetFault → HasRisen before now) → (ended ≢ driven.NetFault → now ≡ before)
+counts_by : (before now : ℕ) (ended : Driven) → (ended ≡ driven.NetFault → HasRisen before now)
+    → (ended ≢ driven.NetFault → now ≡ before)
     → CountsNetFault before now ended
 counts_by before now driven.NetFault f g = f refl
 counts_by before now driven.Done f g = g (λ e. absurd (cc))
@@ -91,13 +99,16 @@ counts_by before now (driven.Unreachable n) f g = g (λ e. absurd (cc))
 counts_by before now (driven.BadUrl k) f g = g (λ e. absurd (cc))
 
 -- a run that stopped after calls of which none failed
-pub counts_stopped : {T : Type 0} (before mid now : Counts) (ended : Driven) → mid.dial_faults ≡ before.dial_faults → mid.faults ≡ before.faults
+pub counts_stopped : {T : Type 0} (before mid now : Counts) (ended : Driven) → mid.dial_faults ≡ before.dial_faults
+    → mid.faults ≡ before.faults
     → (result : Result T Driven) → result ≡ Err ended → HasCause mid now result → CountsTvRun before now ended
 counts_stopped before mid now ended dials faults (Ok x) is k = absurd (cc)
 counts_stopped before mid now ended dials faults (Err f) is k =
     let same : f ≡ ended = cc in
     record {
       dials = k.dials ∙ dials;
-      faults = counts_by before.faults now.faults ended (λ e. subst (λ n. HasRisen n now.faults) faults (k.failed (ap Err (same ∙ e))))
+      faults =
+          counts_by before.faults now.faults ended (λ e.
+          subst (λ n. HasRisen n now.faults) faults (k.failed (ap Err (same ∙ e))))
           (λ other. k.other (λ e. other (sym same ∙ e)) ∙ faults);
     }

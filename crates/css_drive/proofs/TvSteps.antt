@@ -1,11 +1,13 @@
 -- How a television's run comes on by a call of the outside.
-use Rattle.std.proofs.Common.{◌≡◌, ℕ, ◌+◌, ◌≤◌, ◌<◌, Bool, true, false, cond, eqb, List, [], ◌∷◌, ◌++◌, Option, Some, None}
+use Rattle.std.proofs.Common.{◌≡◌, ℕ, ◌+◌, ◌≤◌, ◌<◌, Bool, true, false, cond, eqb, List, [], ◌∷◌, ◌++◌, Option, Some}
+use Rattle.std.proofs.Common.{None}
 use Rattle.std.proofs.Common.{refl, sym, ap, ap₂, subst, ◌∙◌, arith, append_assoc, append-nil, Result, Ok, Err}
 use Rattle.std.specs.Prelude.{MatchResult, nat_le, nat_lt, ◌&&◌}
 use Rattle.std.proofs.lemmas.Bool.Decides.{nat_tests}
 use Rattle.css_model.specs.declared.Kind.{Kind}
 use Rattle.css_model.specs.declared.Why.{Why}
-use Rattle.css_model.specs.History.{Entry, History, Accepted, Clock, Slept, Listening, Dialling, Dialled, NotDialled, NoneCame}
+use Rattle.css_model.specs.History.{Entry, History, Accepted, Clock, Slept, Listening, Dialling, Dialled, NotDialled}
+use Rattle.css_model.specs.History.{NoneCame}
 use Rattle.css_model.specs.History.{Sent, Took, TookNone, Quiet, Heard, Closed, Wrote, Gone, HungUp}
 use Rattle.css_outside.specs.Outsides.{Counts, CountsPlain, with_entries, clock_entries}
 use Rattle.css_outside.specs.declared.fault.OutFault.{OutFault}
@@ -25,8 +27,10 @@ use Rattle.css_tv.specs.declared.state.Addresses.{Addresses}
 use Rattle.css_schedule.specs.declared.line.ScriptLine.{ScriptLine}
 use Rattle.css_drive.specs.Proper.{Due, SendText, HangUp, Ends, MayAdd, More}
 use Rattle.css_drive.specs.Ends.{MayEnd}
-use Rattle.css_drive.specs.TvProgress.{Place, Turned, Progress, settled, settled_at, carry, with_line, is_free, is_free_of}
-use Rattle.css_drive.specs.TvProgress.{open_after, addresses_in, progress_of, after, happened, outcome_after, outs_after, outs_in}
+use Rattle.css_drive.specs.TvProgress.{Place, Turned, Progress, settled, settled_at, carry, with_line, is_free}
+use Rattle.css_drive.specs.TvProgress.{is_free_of}
+use Rattle.css_drive.specs.TvProgress.{open_after, addresses_in, progress_of, after, happened, outcome_after}
+use Rattle.css_drive.specs.TvProgress.{outs_after, outs_in}
 use Rattle.css_drive.specs.TvDue.{TvRun, due, due_for, due_at, unless_owed, unless_refused}
 use Rattle.css_drive.specs.TvPeers.{Narrows, Covers}
 use Rattle.css_drive.specs.TvRan.{AreBelow, AreNumbered, MadeTurns}
@@ -45,9 +49,11 @@ not_free p o os e = ap (is_free_of p.refused) e ∙ by p.refused where
 pub not_free_refused : (p : Progress) (f : TvFault) → p.refused ≡ Some f → is_free p ≡ false
 not_free_refused p f e = ap (λ r. is_free_of r p.owed) e
 
-pub carry_stops : (a : Addresses) (r : ℕ) (lines : List ScriptLine) (p : Progress) → is_free p ≡ false → carry a r lines p ≡ p
+pub carry_stops : (a : Addresses) (r : ℕ) (lines : List ScriptLine) (p : Progress) → is_free p ≡ false
+    → carry a r lines p ≡ p
 carry_stops a r [] p e = refl
-carry_stops a r (line ∷ left) p e = ap (λ b. cond (b && nat_le line.due r) (carry a r left (with_line a r line left p)) p) e
+carry_stops a r (line ∷ left) p e =
+    ap (λ b. cond (b && nat_le line.due r) (carry a r left (with_line a r line left p)) p) e
 
 pub settled_stops : (a : Addresses) (p : Progress) → is_free p ≡ false → settled a p ≡ p
 settled_stops a p e = go p.place where
@@ -56,7 +62,8 @@ settled_stops a p e = go p.place where
   go _ = refl
 
 -- at another place nothing waits
-pub settled_at_place : (a : Addresses) (p : Progress) (place : Place) → p.place ≡ place → settled_at a place p ≡ p → settled a p ≡ p
+pub settled_at_place : (a : Addresses) (p : Progress) (place : Place) → p.place ≡ place → settled_at a place p ≡ p
+    → settled a p ≡ p
 settled_at_place a p place e s = ap (λ x. settled_at a x p) e ∙ s
 
 -- ---- what is due
@@ -76,10 +83,12 @@ due_hang run p peer os r e = due_owing run p (out.HangUp peer ∷ os) r e
 
 pub due_free : (run : TvRun) (p : Progress) (place : Place) → p.refused ≡ None → p.owed ≡ [] → p.place ≡ place
     → due_for run p ≡ due_at run (open_after (addresses_in run.config) p.events) p.turns place
-due_free run p place r e at = due_owing run p [] r e ∙ ap (due_at run (open_after (addresses_in run.config) p.events) p.turns) at
+due_free run p place r e at =
+    due_owing run p [] r e ∙ ap (due_at run (open_after (addresses_in run.config) p.events) p.turns) at
 
 -- ---- the history
-pub grown : (start told told' : Option History) (call h : History) → told ≡ with_entries h start → told' ≡ with_entries call told
+pub grown : (start told told' : Option History) (call h : History) → told ≡ with_entries h start
+    → told' ≡ with_entries call told
     → told' ≡ with_entries (call ++ h) start
 grown start told told' call h e f = f ∙ ap (with_entries call) e ∙ by start where
   by : (start : Option History) → with_entries call (with_entries h start) ≡ with_entries (call ++ h) start
@@ -93,7 +102,8 @@ below_later a b (_ ∷ older) le h = below_later a b older le h
 
 pub told_as : {run : TvRun} {start told : Option History} {peers : ℕ} {p : Progress} {h : History} (q : Progress)
     → Told run start told peers p h → p ≡ q → Told run start told peers q h
-told_as q t e = record { grew = t.grew; proper = t.proper; numbered = t.numbered; below = t.below; progress = t.progress ∙ e }
+told_as q t e =
+    record { grew = t.grew; proper = t.proper; numbered = t.numbered; below = t.below; progress = t.progress ∙ e }
 
 -- the entries of a call that is due are added
 pub told_more : {run : TvRun} {start told : Option History} {peers : ℕ} {p : Progress} {h : History}
@@ -136,7 +146,8 @@ fault_whole run h (driven.BadUrl k) f = absurd f
 
 -- nothing was told, and the run ends by a fault
 pub stops_by_fault : {run : TvRun} {start told : Option History} {peers : ℕ} {p : Progress} {h : History}
-    → Told run start told peers p h → (told' : Option History) → told' ≡ told → (ended : Driven) → IsFault ended → Stops run start told' ended
+    → Told run start told peers p h → (told' : Option History) → told' ≡ told → (ended : Driven) → IsFault ended
+    → Stops run start told' ended
 stops_by_fault {run} {h = h} t told' e ended f = record {
   h = h;
   grew = e ∙ t.grew;
@@ -148,8 +159,16 @@ stops_by_fault {run} {h = h} t told' e ended f = record {
 
 -- ---- the television
 -- what is as it was
-pub continues : (a : Addresses) (p q : Progress) → q.turns ≡ p.turns → q.lines ≡ p.lines → q.carried ≡ p.carried → q.events ≡ p.events → Continues a p q
-continues a p q t l c e = record { turns = t; lines = l; carried = c; narrows = λ peers covers. subst (λ es. Covers peers (open_after a es)) (sym e) covers }
+pub continues : (a : Addresses) (p q : Progress) → q.turns ≡ p.turns → q.lines ≡ p.lines → q.carried ≡ p.carried
+    → q.events ≡ p.events → Continues a p q
+continues a p q t l c e =
+    record {
+      turns = t;
+      lines = l;
+      carried = c;
+      narrows =
+          λ peers covers. subst (λ es. Covers peers (open_after a es)) (sym e) covers;
+    }
 
 pub continues_on : {a : Addresses} {p q r : Progress} → Continues a p q → Continues a q r → Continues a p r
 continues_on x y = record {
@@ -159,29 +178,38 @@ continues_on x y = record {
   narrows = λ peers covers. y.narrows peers (x.narrows peers covers);
 }
 
-pub comes_on : {run : TvRun} {start told : Option History} {peers : ℕ} {tv : Television} {p q : Progress} {place : Place} {owed : List TvOut}
-    → Continues (addresses_in run.config) p q → Comes run start told peers tv q place owed → Comes run start told peers tv p place owed
+pub comes_on : {run : TvRun} {start told : Option History} {peers : ℕ} {tv : Television} {p q : Progress}
+    {place : Place} {owed : List TvOut}
+    → Continues (addresses_in run.config) p q → Comes run start told peers tv q place owed
+    → Comes run start told peers tv p place owed
 comes_on c x = record { p = x.p; h = x.h; stands = x.stands; at = x.at; owes = x.owes; same = continues_on c x.same }
 
-pub goes_on : {T : Type 0} (run : TvRun) (start told : Option History) (peers : ℕ) (tv : Television) (p q : Progress) (place : Place) (owed : List TvOut)
-    (result : Result T Driven) → Continues (addresses_in run.config) p q → Goes run start told peers tv q place owed result
+pub goes_on : {T : Type 0} (run : TvRun) (start told : Option History) (peers : ℕ) (tv : Television) (p q : Progress)
+    (place : Place) (owed : List TvOut)
+    (result : Result T Driven) → Continues (addresses_in run.config) p q
+    → Goes run start told peers tv q place owed result
     → Goes run start told peers tv p place owed result
 goes_on run start told peers tv p q place owed (Ok x) c g = comes_on c g
 goes_on run start told peers tv p q place owed (Err e) c g = g
 
 -- a call that neither reads the clock nor opens a session
-pub peers_kept : {T : Type 0} {before now : Counts} {result : Result T OutFault} → CountsPlain before now result → before.peers ≤ now.peers
-peers_kept {before = before} k = let P : Counts → Type 0 = λ x. before.peers ≤ x.peers in subst P (sym k.same) (omega arith)
+pub peers_kept : {T : Type 0} {before now : Counts} {result : Result T OutFault} → CountsPlain before now result
+    → before.peers ≤ now.peers
+peers_kept {before = before} k = let P : Counts → Type 0 = λ x. before.peers ≤ x.peers in
+    subst P (sym k.same) (omega arith)
 
 -- no event, and maybe more peers
-pub stays_on : {run : TvRun} {tv : Television} {peers : ℕ} {p : Progress} → Stays run tv peers p → (q : Progress) → q.events ≡ p.events
+pub stays_on : {run : TvRun} {tv : Television} {peers : ℕ} {p : Progress} → Stays run tv peers p → (q : Progress)
+    → q.events ≡ p.events
     → q.server ≡ p.server → q.refused ≡ p.refused → (peers' : ℕ) → peers ≤ peers' → Stays run tv peers' q
 stays_on {run} {tv} s q e sv r peers' le = record {
   addresses = s.addresses;
   server = s.server ∙ sym sv;
   stage = subst (λ es. StandsFor tv.stage es) (sym e) s.stage;
   accepted = r ∙ s.accepted;
-  unused = λ peer lt. ap (λ es. life_of peer (calls_of (addresses_in run.config) es).sessions) e ∙ s.unused peer (omega (arith, le, lt));
+  unused =
+      λ peer lt.
+      ap (λ es. life_of peer (calls_of (addresses_in run.config) es).sessions) e ∙ s.unused peer (omega (arith, le, lt));
 }
 
 -- what an event does by the history it does at the television
@@ -190,22 +218,27 @@ pub outcome_same : {run : TvRun} {tv : Television} {peers : ℕ} {p : Progress} 
 outcome_same {tv} {p} s e =
     let st = tv.stage in
     ap₂ (λ (pl : Player) (k : Kept). outcome st.addresses e pl k) s.stage.player.same s.stage.sessions.same
-    ∙ ap (λ (x : Addresses). outcome x e (player_after x p.events) (sessions_of (calls_of x p.events).sessions)) s.addresses
+    ∙ ap (λ (x : Addresses). outcome x e (player_after x p.events) (sessions_of (calls_of x p.events).sessions))
+    s.addresses
 
 pub sessions_same : {run : TvRun} {tv : Television} {peers : ℕ} {p : Progress} → Stays run tv peers p
     → tv.stage.sessions ≡ sessions_of (calls_of (addresses_in run.config) p.events).sessions
-sessions_same {tv} {p} s = s.stage.sessions.same ∙ ap (λ (x : Addresses). sessions_of (calls_of x p.events).sessions) s.addresses
+sessions_same {tv} {p} s =
+    s.stage.sessions.same ∙ ap (λ (x : Addresses). sessions_of (calls_of x p.events).sessions) s.addresses
 
 outs_by : (k : Kept) (old new : Stage) (after : List TvOut) (r x : Result Outcome TvFault) → old.sessions ≡ k → r ≡ x
     → IsAfterBy old new [] after r → outs_in k x ≡ after
 outs_by k old new after (Err f) x same e done = absurd done
 outs_by k old new after (Ok o) x same e done = sym (done.out ∙ ap (λ y. outs o y) same ∙ ap (outs_in k) e)
 
-pub outs_same : {run : TvRun} {tv : Television} {peers : ℕ} {p : Progress} → Stays run tv peers p → (e : TvEvent) (new : Stage) (after : List TvOut)
+pub outs_same : {run : TvRun} {tv : Television} {peers : ℕ} {p : Progress} → Stays run tv peers p
+    → (e : TvEvent) (new : Stage) (after : List TvOut)
     → IsAfterBy tv.stage new [] after (outcome_at e tv.stage) → outs_after (addresses_in run.config) p.events e ≡ after
-outs_same {tv} s e new after done = outs_by _ tv.stage new after (outcome_at e tv.stage) _ (sessions_same s) (outcome_same s e) done
+outs_same {tv} s e new after done =
+    outs_by _ tv.stage new after (outcome_at e tv.stage) _ (sessions_same s) (outcome_same s e) done
 
-same_addresses : (old new : Stage) (before after : List TvOut) (r : Result Outcome TvFault) → IsAfterBy old new before after r → new.addresses ≡ old.addresses
+same_addresses : (old new : Stage) (before after : List TvOut) (r : Result Outcome TvFault)
+    → IsAfterBy old new before after r → new.addresses ≡ old.addresses
 same_addresses old new before after (Err f) done = absurd done
 same_addresses old new before after (Ok o) done = ap (λ x. x.addresses) done.stage
 
@@ -221,15 +254,23 @@ other_of (event.Heard p bytes) peers peer le lt = tt
 other_of (event.Closed p) peers peer le lt = tt
 
 -- an event more
-pub stays_after : {run : TvRun} {tv : Television} {peers : ℕ} {p : Progress} → Stays run tv peers p → (e : TvEvent) (tv' : Television) (after : List TvOut)
+pub stays_after : {run : TvRun} {tv : Television} {peers : ℕ} {p : Progress} → Stays run tv peers p
+    → (e : TvEvent) (tv' : Television) (after : List TvOut)
     → IsAfterBy tv.stage tv'.stage [] after (outcome_at e tv.stage)
-    → ((h : List TvEvent) → StandsFor tv.stage h → IsFresh e (calls_of tv.stage.addresses h).sessions → StandsFor tv'.stage (e ∷ h))
-    → tv'.server ≡ tv.server → IsFresh e (calls_of (addresses_in run.config) p.events).sessions → (peers' : ℕ) → peers ≤ peers' → IsAccepted e peers'
+    → ((h : List TvEvent) → StandsFor tv.stage h → IsFresh e (calls_of tv.stage.addresses h).sessions
+    → StandsFor tv'.stage (e ∷ h))
+    → tv'.server ≡ tv.server → IsFresh e (calls_of (addresses_in run.config) p.events).sessions → (peers' : ℕ)
+    → peers ≤ peers' → IsAccepted e peers'
     → Stays run tv' peers' (happened (addresses_in run.config) e p)
 stays_after {run} {tv} {peers} {p} s e tv' after done stands server fresh peers' le accepted = record {
   addresses = same_addresses tv.stage tv'.stage [] after (outcome_at e tv.stage) done ∙ s.addresses;
   server = server ∙ s.server;
-  stage = stands p.events s.stage (subst (λ (x : Addresses). IsFresh e (calls_of x p.events).sessions) (sym s.addresses) fresh);
+  stage =
+      stands p.events s.stage
+      (subst (λ (x : Addresses). IsFresh e (calls_of x p.events).sessions) (sym s.addresses) fresh);
   accepted = s.accepted;
-  unused = λ peer lt. event_unused (addresses_in run.config) e p.events peer (other_of e peers' peer accepted lt) (s.unused peer (omega (arith, le, lt)));
+  unused =
+      λ peer lt.
+      event_unused (addresses_in run.config) e p.events peer (other_of e peers' peer accepted lt)
+      (s.unused peer (omega (arith, le, lt)));
 }

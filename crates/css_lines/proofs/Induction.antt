@@ -53,7 +53,8 @@ module _ {Cause : Type 0} (meaning : Meaning Cause) (Taken : List (List ℕ) →
       → ((printed : List ℕ) → Taken (before ++ text ∷ []) (so_far ++ printed)
       → Goes (before ++ text ∷ []) texts (so_far ++ printed) next)
       → Goes before (text ∷ texts) so_far (followed_by (line_outcome meaning before text end) next)
-  line_goes before text texts so_far end next taken go = by (is_long meaning before text end) (meaning.line before text) refl
+  line_goes before text texts so_far end next taken go =
+      by (is_long meaning before text end) (meaning.line before text) refl
     where
       number : ℕ
       number = length before + 1
@@ -96,7 +97,8 @@ module _ {Cause : Type 0} (meaning : Meaning Cause) (Taken : List (List ℕ) →
   end_goes before (byte ∷ bytes) so_far taken =
       let last = before ++ (byte ∷ bytes) ∷ [] in
       let ends = silent last in
-      line_goes before (byte ∷ bytes) [] so_far (offset before + length (byte ∷ bytes)) (finish_outcome meaning last) taken
+      line_goes before (byte ∷ bytes) [] so_far (offset before + length (byte ∷ bytes)) (finish_outcome meaning last)
+      taken
       (λ printed taken_so. subst (λ (o : Outcome Cause). Goes last [] (so_far ++ printed) o) (sym ends.1)
       (stays last [] (so_far ++ printed) ends.0 taken_so (λ none. refl)))
 
@@ -147,7 +149,8 @@ module _ {Cause : Type 0} (meaning : Meaning Cause) (Taken : List (List ℕ) →
             taken = went.taken;
           }
           of None all =
-              let none_left : whole ≡ went.more = went.parts ∙ ap (λ r. went.more ++ r) (all refl) ∙ append-nil went.more in
+              let none_left : whole ≡ went.more =
+              went.parts ∙ ap (λ r. went.more ++ r) (all refl) ∙ append-nil went.more in
               let taken : Taken whole o.printed =
               subst (λ (ts : List (List ℕ)). Taken ts o.printed) (sym none_left) went.taken in
               let ended = end_goes whole last o.printed taken in

@@ -10,7 +10,8 @@ use Rattle.css_model.specs.Wire.{encoded, fault, fields, stamp_of}
 use Rattle.css_model.specs.declared.Why.TheVariants as why
 use Rattle.css_model.specs.History.{Clock, Each, wall_answer}
 use Rattle.css_model.specs.Explains.{RisesAt, AsksAt, IsLawful, IsJustAsked, WasAsked, IsTruthful, HappensIn, Explains}
-use Rattle.css_model.specs.Examples.{Example, IsExample, exact_world, one_exchange, drifting_world, drifting_answer, follow_up_after_sleep}
+use Rattle.css_model.specs.Examples.{Example, IsExample, exact_world, one_exchange, drifting_world, drifting_answer}
+use Rattle.css_model.specs.Examples.{follow_up_after_sleep}
 use Rattle.css_model.proofs.Wall.{wall_is_true}
 
 -- the clock that a companion has is the one that the world gives companion 1

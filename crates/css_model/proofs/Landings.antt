@@ -11,7 +11,8 @@ use Rattle.css_model.specs.declared.WcFault.TheVariants as faults
 use Rattle.css_model.specs.declared.Why.TheVariants as why
 use Rattle.css_model.specs.Numbers.{max_error}
 use Rattle.css_model.specs.Wire.{decoded, unless_fault, fault, fields, field_fault, second}
-use Rattle.css_model.specs.History.{Entry, Clock, History, reading_at, landing_at, answer_in, just_taken, awaited_answer, is_sleep, is_asked, LandedAnswer, landed_answer}
+use Rattle.css_model.specs.History.{Entry, Clock, History, reading_at, landing_at, answer_in, just_taken}
+use Rattle.css_model.specs.History.{awaited_answer, is_sleep, is_asked, LandedAnswer, landed_answer}
 
 -- ---- the declared error
 -- where a chain of tests finds no fault, its rest finds none

@@ -1,5 +1,6 @@
 -- Where what a companion goes by comes from: an entry since its last sleep.
-use Rattle.std.proofs.Common.{◌≡◌, ℕ, zero, suc, ◌+◌, ◌<◌, ◌≤◌, ◌⊎◌, inl, inr, arith, ap, sym, ◌∙◌, Bool, true, false, cond, ◌||◌, List, [], ◌∷◌, ◌++◌, length, take, refl}
+use Rattle.std.proofs.Common.{◌≡◌, ℕ, zero, suc, ◌+◌, ◌<◌, ◌≤◌, ◌⊎◌, inl, inr, arith, ap, sym, ◌∙◌, Bool, true, false}
+use Rattle.std.proofs.Common.{cond, ◌||◌, List, [], ◌∷◌, ◌++◌, length, take, refl}
 use Rattle.std.specs.Prelude.{ℤ, int_lt, Option, Some, None, ◌==◌}
 use Rattle.std.specs.List.{list_any}
 use Rattle.std.specs.Option.{option_or, option_to_list}
@@ -9,7 +10,8 @@ use Rattle.css_model.specs.declared.Message.{Message}
 use Rattle.css_model.specs.WallClock.{Answer, Local, lesser, least_by}
 use Rattle.css_model.specs.Wire.{is_same_stamp}
 use Rattle.css_model.specs.History.{Entry, History, Each, is_sleep, sleeps, request_by, requests, is_asked}
-use Rattle.css_model.specs.History.{LandedAnswer, landed_answer, landed_answers, is_promise_of, first_promised_at, times_of, is_possible, possible_answers}
+use Rattle.css_model.specs.History.{LandedAnswer, landed_answer, landed_answers, is_promise_of, first_promised_at}
+use Rattle.css_model.specs.History.{times_of, is_possible, possible_answers}
 
 -- ---- membership
 -- a is one of the items
@@ -41,7 +43,8 @@ abbrev pub Lately : (Entry → History → Type 0) → History → Type 0
 Lately P [] = ⊥
 Lately P (entry ∷ older) = (is_sleep entry ≡ false) × (P entry older ⊎ Lately P older)
 
--- some entry since the last sleep, what came before it, what P says of these two, and what Q says of each entry up to it
+-- some entry since the last sleep, what came before it, what P says of these two, and what Q says of each entry up to
+-- it
 pub record Found (P Q : Entry → History → Type 0) (history : History) : Type 0 where
   pub entry : Entry
   pub older : History

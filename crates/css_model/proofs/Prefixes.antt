@@ -4,7 +4,8 @@ use Rattle.std.specs.Prelude.{Option, Some, None}
 use Rattle.std.specs.Option.{option_to_list}
 use Rattle.css_model.specs.WallClock.{Answer, Local}
 use Rattle.css_model.specs.World.{World}
-use Rattle.css_model.specs.History.{Entry, History, is_sleep, LandedAnswer, landed_answer, landed_answers, possible_answer, possible_answers, accepted_answers}
+use Rattle.css_model.specs.History.{Entry, History, is_sleep, LandedAnswer, landed_answer, landed_answers}
+use Rattle.css_model.specs.History.{possible_answer, possible_answers, accepted_answers}
 use Rattle.css_model.specs.Explains.{IsLawful, HappensIn, Explains}
 
 -- what came before a lawful history's newest entry is lawful

@@ -6,7 +6,8 @@ use Rattle.css_model.specs.WallClock.{Answer, Local, lower, upper, lo, hi, scale
 use Rattle.css_model.specs.Wire.{encoded, request_at, fault, fields, stamp_of}
 use Rattle.css_model.specs.declared.Message.{Message}
 use Rattle.css_model.specs.declared.Why.TheVariants as why
-use Rattle.css_model.specs.History.{Slept, Clock, Sent, Took, History, landed_answer, landed_answers, accepted_answers, wall_answer, is_asked}
+use Rattle.css_model.specs.History.{Slept, Clock, Sent, Took, History, landed_answer, landed_answers, accepted_answers}
+use Rattle.css_model.specs.History.{wall_answer, is_asked}
 use Rattle.css_model.specs.Explains.{IsLawful}
 
 exact : Local
@@ -36,7 +37,8 @@ abbrev times : (t1 t2 t3 t4 : ℕ) → Answer
 times t1 t2 t3 t4 = record { t1 = t1; t2 = t2; t3 = t3; t4 = t4; precision = 1; error = 0 }
 
 -- ---- follow-ups
--- A request that was received twice, at 11100 and at 11300: the first response lands, and then the follow-up of the second.
+-- A request that was received twice, at 11100 and at 11300: the first response lands, and then the follow-up of the
+-- second.
 abbrev received_twice : History
 received_twice = lands 2100 (answer 3 1000 11300 12050) (lands 1400 (answer 2 1000 11100 11100) (asks 1000 []))
 

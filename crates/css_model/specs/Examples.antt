@@ -1,5 +1,6 @@
 -- Two histories with a world that explains each: what the promise of the wall clock takes for granted can be had.
-use Rattle.std.specs.Prelude.{ℕ, ◌+◌, ◌-◌, ◌*◌, ◌≡◌, ℤ, pos, negsuc, min, [], ◌∷◌, length, ◌==◌, if◌then◌else◌, Some, None}
+use Rattle.std.specs.Prelude.{ℕ, ◌+◌, ◌-◌, ◌*◌, ◌≡◌, ℤ, pos, negsuc, min, [], ◌∷◌, length, ◌==◌, if◌then◌else◌, Some}
+use Rattle.std.specs.Prelude.{None}
 use Rattle.css_model.specs.declared.Message.{Message}
 use Rattle.css_model.specs.declared.Why.TheVariants as why
 use Rattle.css_model.specs.WallClock.{Answer, Local, lo, hi}

@@ -22,7 +22,8 @@ pub record IsGreater (a b greater : ℤ) : Type 0 where
   pub either : (greater ≤ℤ a) ⊎ (greater ≤ℤ b)
 
 -- The excess, for a number that says what the clock gained, one way or the other.
-pub excess-rises : (error : ℕ) (earlier now : Shown) → IsGreater (lead_rise error earlier now) (lag_rise error earlier now) (excess error earlier now)
+pub excess-rises : (error : ℕ) (earlier now : Shown)
+    → IsGreater (lead_rise error earlier now) (lag_rise error earlier now) (excess error earlier now)
 excess-rises error earlier now = by ((pos now.value -ℤ pos earlier.value) -ℤ (pos now.time -ℤ pos earlier.time)) refl
   where
     by : (gained : ℤ) → (pos now.value -ℤ pos earlier.value) -ℤ (pos now.time -ℤ pos earlier.time) ≡ gained
@@ -39,11 +40,14 @@ excess-rises error earlier now = by ((pos now.value -ℤ pos earlier.value) -ℤ
     })
 
 -- the oscillator keeps its error exactly where the excess isn't above 0
-pub excess-keeps : (error : ℕ) (earlier now : Shown) → earlier.time ≤ now.time → (excess error earlier now ≤ℤ pos 0) ↔ Keeps error earlier now
+pub excess-keeps : (error : ℕ) (earlier now : Shown) → earlier.time ≤ now.time → (excess error earlier now ≤ℤ pos 0)
+    ↔ Keeps error earlier now
 excess-keeps error earlier now later = by (excess-rises error earlier now)
   where
-    by : IsGreater (lead_rise error earlier now) (lag_rise error earlier now) (excess error earlier now) → (excess error earlier now ≤ℤ pos 0) ↔ Keeps error earlier now
+    by : IsGreater (lead_rise error earlier now) (lag_rise error earlier now) (excess error earlier now)
+        → (excess error earlier now ≤ℤ pos 0) ↔ Keeps error earlier now
     by greater =
         let parts : now.time ≡ earlier.time + (now.time - earlier.time) = omega arith in
-        let products : error * now.time ≡ error * earlier.time + error * (now.time - earlier.time) = omega (arith, ap (λ n. error * n) parts) in
+        let products : error * now.time ≡ error * earlier.time + error * (now.time - earlier.time) =
+        omega (arith, ap (λ n. error * n) parts) in
         (λ h. (omega (arith, ints), omega (arith, ints)), λ keeps. omega (arith, ints))

@@ -2,7 +2,8 @@
 use Rattle.std.proofs.Common.{◌≡◌, ℕ, ◌<◌, ◌≤◌, ◌⊎◌, inl, inr, refl, arith, Bool, true, false, List, [], ◌∷◌}
 use Rattle.std.specs.Prelude.{ℤ, ◌≤ℤ◌, ◌<ℤ◌, int_lt, neg_ℤ, All, Contains, Option, Some, None, ⊤}
 use Rattle.std.proofs.lemmas.Int.{ints}
-use Rattle.std.proofs.lemmas.List.Elements.{All-nil, All-cons, All-contains, All-weaker, Contains-get_or, Contains-append_right}
+use Rattle.std.proofs.lemmas.List.Elements.{All-nil, All-cons, All-contains, All-weaker, Contains-get_or}
+use Rattle.std.proofs.lemmas.List.Elements.{Contains-append_right}
 use Rattle.css_model.specs.WallClock.{lesser, least_by}
 use Rattle.css_moments.specs.Drifts.{Shown, excess}
 use Rattle.css_moments.specs.Numbers.{lead, lag}
@@ -36,7 +37,8 @@ least_by-none f (x ∷ xs) e = absurd (by (least_by f xs) e)
     by (Some y) h = choose y (int_lt (f x) (f y)) refl h
 
 -- what `least_by` finds among lines that rise
-pub least_by-first : (f : Shown → ℤ) (xs : List Shown) (least : Shown) → LinesRise xs → least_by f xs ≡ Some least → IsFirstLeast f xs least
+pub least_by-first : (f : Shown → ℤ) (xs : List Shown) (least : Shown) → LinesRise xs → least_by f xs ≡ Some least
+    → IsFirstLeast f xs least
 least_by-first f [] least rise e = cc
 least_by-first f (x ∷ xs) least rise e = by (λ y. least_by-first f xs y rise.1) (least_by f xs) refl e
   where
@@ -52,18 +54,25 @@ least_by-first f (x ∷ xs) least rise e = by (λ y. least_by-first f xs y rise.
     there : (y : Shown) → f y ≤ℤ f x → IsFirstLeast f xs y → IsFirstLeast f (x ∷ xs) y
     there y h first = record {
       among = Contains-append_right (x ∷ []) xs y first.among;
-      bound = All-cons (IsFirst f y) x xs (h, inl (let below = All-contains (λ s. s.line < x.line) xs y rise.0 first.among in omega arith)) first.bound;
+      bound =
+          All-cons (IsFirst f y) x xs (
+            h,
+            inl (let below = All-contains (λ s. s.line < x.line) xs y rise.0 first.among in omega arith),
+          ) first.bound;
     }
 
-    choose : (y : Shown) → IsFirstLeast f xs y → (t : Bool) → int_lt (f x) (f y) ≡ t → lesser f x (Some y) ≡ Some least → IsFirstLeast f (x ∷ xs) least
+    choose : (y : Shown) → IsFirstLeast f xs y → (t : Bool) → int_lt (f x) (f y) ≡ t → lesser f x (Some y) ≡ Some least
+        → IsFirstLeast f (x ∷ xs) least
     choose y first true g h =
         let same : x ≡ least = cc (rw g at h) in
-        rw (← same) (here (All-weaker (IsFirst f y) (λ s. f x <ℤ f s) (λ s b. omega (arith, ints, g, b.0)) xs first.bound))
+        rw (← same)
+        (here (All-weaker (IsFirst f y) (λ s. f x <ℤ f s) (λ s b. omega (arith, ints, g, b.0)) xs first.bound))
     choose y first false g h =
         let same : y ≡ least = cc (rw g at h) in
         rw (← same) (there y (omega (arith, ints, g)) first)
 
-    by : ((y : Shown) → least_by f xs ≡ Some y → IsFirstLeast f xs y) → (o : Option Shown) → least_by f xs ≡ o → lesser f x o ≡ Some least
+    by : ((y : Shown) → least_by f xs ≡ Some y → IsFirstLeast f xs y) → (o : Option Shown) → least_by f xs ≡ o
+        → lesser f x o ≡ Some least
         → IsFirstLeast f (x ∷ xs) least
     by behind None o h =
         let same : x ≡ least = cc in
@@ -71,8 +80,8 @@ least_by-first f (x ∷ xs) least rise e = by (λ y. least_by-first f xs y rise.
         rw (← same) (here (rw none (All-nil (λ s. f x <ℤ f s))))
     by behind (Some y) o h = choose y (behind y o) (int_lt (f x) (f y)) refl h
 
--- The worst line's excess is the greater of what the lead rose from the line of the least lead, and of what the lag rose
--- from that of the least lag; where one of the two is greater, the line is that one.
+-- The worst line's excess is the greater of what the lead rose from the line of the least lead, and of what the lag
+-- rose from that of the least lag; where one of the two is greater, the line is that one.
 pub record IsWorst (error : ℕ) (now by_lead by_lag worst : Shown) : Type 0 where
   pub greater : IsGreater (lead_rise error by_lead now) (lag_rise error by_lag now) (excess error worst now)
   pub lead_line : lag_rise error by_lag now <ℤ lead_rise error by_lead now → worst.line ≡ by_lead.line

@@ -1,6 +1,7 @@
 -- What one clock showed at the lines of a schedule, and whether it keeps its oscillator's declared error. In each list
 -- the newest stands first.
-use Rattle.std.specs.Prelude.{ℕ, ◌-◌, ◌*◌, ◌<◌, ◌≤◌, ◌≡◌, nat_lt, ℤ, pos, ◌-ℤ◌, ◌*ℤ◌, ◌≤ℤ◌, ◌<ℤ◌, int_lt, neg_ℤ, unsigned_abs, if◌then◌else◌, ⊤, ◌⊎◌, ◌↔◌}
+use Rattle.std.specs.Prelude.{ℕ, ◌-◌, ◌*◌, ◌<◌, ◌≤◌, ◌≡◌, nat_lt, ℤ, pos, ◌-ℤ◌, ◌*ℤ◌, ◌≤ℤ◌, ◌<ℤ◌, int_lt, neg_ℤ}
+use Rattle.std.specs.Prelude.{unsigned_abs, if◌then◌else◌, ⊤, ◌⊎◌, ◌↔◌}
 use Rattle.std.specs.Prelude.{List, [], ◌∷◌, ◌++◌, All, Option, Some, None, IfSome, Result, Ok, Err}
 use Rattle.std.specs.Result.{result_and}
 use Rattle.css_model.specs.declared.TheConstants.{F}
@@ -41,8 +42,8 @@ shown_lately (Slept ∷ older) = []
 
 -- ---- the verdict on a line
 -- By how much a clock broke its oscillator's error, in 1/256 ppm, from an earlier line to this one:
--- |(value' - value) - (time' - time)| * F - error * (time' - time) - F, in 1/F nanoseconds. The last F is one nanosecond,
--- since the clock shows whole ones. It is above 0 exactly where the error isn't kept.
+-- |(value' - value) - (time' - time)| * F - error * (time' - time) - F, in 1/F nanoseconds. The last F is one
+-- nanosecond, since the clock shows whole ones. It is above 0 exactly where the error isn't kept.
 abbrev pub excess : (error : ℕ) → (earlier now : Shown) → ℤ
 excess error earlier now =
     let passed = pos now.time -ℤ pos earlier.time in
@@ -56,7 +57,8 @@ worst error earlier now = least_by (λ shown. neg_ℤ (excess error shown now)) 
 -- true time may not be below that of the last line
 abbrev pub time_verdict : Option Shown → Shown → Result (Unit {0}) DriftFault
 time_verdict None now = Ok tt
-time_verdict (Some last) now = if nat_lt now.time last.time then Err (Broken last.line (pos (last.time - now.time))) else Ok tt
+time_verdict (Some last) now =
+    if nat_lt now.time last.time then Err (Broken last.line (pos (last.time - now.time))) else Ok tt
 
 -- the excess from the worst earlier line may not be above 0
 abbrev pub drift_verdict : (error : ℕ) → Option Shown → Shown → Result (Unit {0}) DriftFault
@@ -77,7 +79,8 @@ IsNext last line = IfSome last (λ shown. shown.line < line)
 abbrev pub IsAccepted : (error : ℕ) → List Told → Type 0
 IsAccepted error [] = ⊤
 IsAccepted error (Slept ∷ older) = IsAccepted error older
-IsAccepted error (Showed now ∷ older) = IsNext (last_shown older) now.line × (verdict error older now ≡ Ok tt) × IsAccepted error older
+IsAccepted error (Showed now ∷ older) = IsNext (last_shown older) now.line × (verdict error older now ≡ Ok tt)
+    × IsAccepted error older
 
 -- ---- what a verdict means
 -- the oscillator keeps its error from an earlier line to this one
@@ -115,7 +118,8 @@ AnyTwoKeep = (error : ℕ) (newer middle older : List Told) (earlier now : Shown
 abbrev pub AcceptsExactly : Type 0
 AcceptsExactly = (error : ℕ) (told : List Told) (now : Shown) → IsAccepted error told
     → (verdict error told now ≡ Ok tt)
-    ↔ (IfSome (last_shown told) (λ last. last.time ≤ now.time) × All (λ earlier. Keeps error earlier now) (shown_lately told))
+    ↔ (IfSome (last_shown told) (λ last. last.time ≤ now.time)
+    × All (λ earlier. Keeps error earlier now) (shown_lately told))
 
 -- true time is below that of the last line, and this much, in nanoseconds, is told
 pub record FallsBack (told : List Told) (now : Shown) (fault : DriftFault) : Type 0 where
@@ -124,8 +128,8 @@ pub record FallsBack (told : List Told) (now : Shown) (fault : DriftFault) : Typ
   pub below : now.time < last.time
   pub is_told : fault ≡ Broken last.line (pos (last.time - now.time))
 
--- Of the lines since the last sleep, the newest first, this one has the greatest excess, above 0, and it is the first line
--- with it; its number and its excess are told.
+-- Of the lines since the last sleep, the newest first, this one has the greatest excess, above 0, and it is the first
+-- line with it; its number and its excess are told.
 pub record DriftsMost (error : ℕ) (told : List Told) (now : Shown) (fault : DriftFault) : Type 0 where
   pub earlier : Shown
   pub newer : List Shown

@@ -6,4 +6,5 @@ use Rattle.css_moments.specs.declared.fault.DriftFault.TheVariants as fault
 
 -- the words of a fault
 abbrev pub fault_words : DriftFault → List ℕ
-fault_words (fault.Broken earlier excess) = codes "broken with line " ++ decimal earlier ++ codes " by " ++ signed_decimal excess
+fault_words (fault.Broken earlier excess) =
+    codes "broken with line " ++ decimal earlier ++ codes " by " ++ signed_decimal excess

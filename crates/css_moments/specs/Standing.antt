@@ -11,7 +11,8 @@ use Rattle.css_moments.specs.declared.kept.Last.{Last}
 use Rattle.css_moments.specs.declared.kept.Least.{Least}
 use Rattle.css_moments.specs.declared.kept.Extremes.{Extremes}
 
--- the oscillator's error, the last line, and the least lead and the least lag since the last sleep, each with its first line
+-- the oscillator's error, the last line, and the least lead and the least lag since the last sleep, each with its first
+-- line
 pub record Drift : Type 0 where
   pub error : ℕ
   pub last : Option Last
@@ -23,7 +24,8 @@ last_of shown = record { line = shown.line; time = shown.time }
 
 -- of what was shown, the least number with its first line
 abbrev pub first_least : (Shown → ℤ) → List Shown → Option Least
-first_least number shown = option_map (λ least. record { line = least.line; value = number least }) (least_by number shown)
+first_least number shown =
+    option_map (λ least. record { line = least.line; value = number least }) (least_by number shown)
 
 -- The drift stands for what it was told: all of it was accepted, and the drift keeps the last line and the two least
 -- numbers since the last sleep.

@@ -1,5 +1,6 @@
 -- What a drift does at a line, with the few numbers that it keeps.
-use Rattle.std.specs.Prelude.{ℕ, ◌-◌, ◌<◌, ◌^◌, nat_lt, pos, ◌-ℤ◌, int_lt, unsigned_abs, if◌then◌else◌, Option, Some, None, Result, Ok, Err}
+use Rattle.std.specs.Prelude.{ℕ, ◌-◌, ◌<◌, ◌^◌, nat_lt, pos, ◌-ℤ◌, int_lt, unsigned_abs, if◌then◌else◌, Option, Some}
+use Rattle.std.specs.Prelude.{None, Result, Ok, Err}
 use Rattle.std.specs.Result.{result_and}
 use Rattle.css_model.specs.declared.TheConstants.{F}
 use Rattle.css_moments.specs.declared.fault.DriftFault.{DriftFault}
@@ -27,7 +28,8 @@ after (Some earlier) now = record { lead = lesser earlier.lead now.lead; lag = l
 
 -- A number may not rise by more than a nanosecond from its least one: what it rose beyond that is the excess.
 abbrev pub test_rise : (least now : Least) → Result (Unit {0}) DriftFault
-test_rise least now = if int_lt (pos 0) (now.value -ℤ least.value -ℤ pos F) then Err (Broken least.line (now.value -ℤ least.value -ℤ pos F)) else Ok tt
+test_rise least now = if int_lt (pos 0) (now.value -ℤ least.value -ℤ pos F)
+    then Err (Broken least.line (now.value -ℤ least.value -ℤ pos F)) else Ok tt
 
 -- the test of a line against the last one
 abbrev pub test_time : Option Last → (time : ℕ) → Result (Unit {0}) DriftFault

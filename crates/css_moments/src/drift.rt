@@ -9,8 +9,9 @@ use crate::kept::{Extremes, Last};
 use css_model::LIMIT;
 use std::marker::Model;
 
-/// The watch over one clock of a schedule: whether true time never falls, and whether the clock keeps the declared error
-/// of its oscillator between any two lines with no sleep between. It keeps a few numbers, however many lines there are.
+/// The watch over one clock of a schedule: whether true time never falls, and whether the clock keeps the declared
+/// error of its oscillator between any two lines with no sleep between. It keeps a few numbers, however many lines
+/// there are.
 ///
 /// Contracts see the oscillator's error, the last line, and the least lead and lag since the last sleep.
 #[derive(Clone, Debug, Drop, PartialEq, Eq)]
@@ -33,7 +34,8 @@ impl Model for Drift {
 }
 
 impl Drift {
-    /// The watch over a clock whose oscillator has this error, in 1/256 ppm: at most 25,600,000. It was told nothing yet.
+    /// The watch over a clock whose oscillator has this error, in 1/256 ppm: at most 25,600,000. It was told nothing
+    /// yet.
     pub fn new(error: u32) -> Drift
         requires { error ≤ 25600000 }
         ensures value { result ≡ record { error = error; last = None; lately = None } }
@@ -46,17 +48,20 @@ impl Drift {
         }
     }
 
-    /// Tells what the clock showed at a line: the line's number, which is above that of the last line, and true time and
-    /// the clock's value in nanoseconds, both below 2^32 seconds.
+    /// Tells what the clock showed at a line: the line's number, which is above that of the last line, and true time
+    /// and the clock's value in nanoseconds, both below 2^32 seconds.
     ///
     /// It is `Broken` exactly where true time is below that of the last line, or else where the clock drifted from some
-    /// line since the last sleep by more than the error allows and one nanosecond. After a refusal the drift is as before.
+    /// line since the last sleep by more than the error allows and one nanosecond. After a refusal the drift is as
+    /// before.
     pub fn add(&mut self, line: u64, time: u64, value: u64) -> Result<(), DriftFault>
         requires time { time < LIMIT }
         requires value { value < LIMIT }
         requires next { ForSome self.old.last (λ last. last.line < line) }
-        ensures verdict { (told : List Told) → StandsFor self.old told → result ≡ verdict self.old.error told (record { line = line; time = time; value = value }) }
-        ensures stands { (told : List Told) → StandsFor self.old told → OnOk result (StandsFor self.new (Showed (record { line = line; time = time; value = value }) ∷ told)) }
+        ensures verdict { (told : List Told) → StandsFor self.old told
+            → result ≡ verdict self.old.error told (record { line = line; time = time; value = value }) }
+        ensures stands { (told : List Told) → StandsFor self.old told
+            → OnOk result (StandsFor self.new (Showed (record { line = line; time = time; value = value }) ∷ told)) }
         ensures last { OnOk result (self.new.last ≡ Some (record { line = line; time = time })) }
         ensures err { OnErr result (self.new ≡ self.old) }
         ensures error { self.new.error ≡ self.old.error }
@@ -91,8 +96,8 @@ impl Drift {
         }
     }
 
-    /// Neither the lead nor the lag may have risen too much since its least one. At most one of them has: if the lead has
-    /// since one line and the lag since another, these two lines would have broken the error between them.
+    /// Neither the lead nor the lag may have risen too much since its least one. At most one of them has: if the lead
+    /// has since one line and the lag since another, these two lines would have broken the error between them.
     fn test_drift(&self, now: &Extremes) -> Result<(), DriftFault>
         requires { AreSmall now.now }
         ensures { result ≡ test_drift self.now.lately now.now }

@@ -4,8 +4,8 @@ use std::fmt;
 /// Why a line of a schedule can't be one of a world.
 #[derive(Clone, Copy, Debug, PartialEq, Eq)]
 pub enum DriftFault {
-    /// True time fell since the last line, or the clock drifted from an earlier line by more than its oscillator's error
-    /// allows.
+    /// True time fell since the last line, or the clock drifted from an earlier line by more than its oscillator's
+    /// error allows.
     Broken {
         /// The number of the earlier line: the last one where true time fell; else the one with the greatest excess, of
         /// equals the first.

@@ -9,14 +9,14 @@ pub fn accepted_lines_keep()
     ensures any_two { AnyTwoKeep }
 {}
 
-/// After accepted lines a line is accepted exactly where true time isn't below the last one and the oscillator keeps its
-/// error from each line since the last sleep.
+/// After accepted lines a line is accepted exactly where true time isn't below the last one and the oscillator keeps
+/// its error from each line since the last sleep.
 pub fn accepts_exactly()
     ensures { AcceptsExactly }
 {}
 
-/// A line is refused for its true time, or else for the drift from the worst of the lines since the last sleep: the first
-/// one with the greatest excess.
+/// A line is refused for its true time, or else for the drift from the worst of the lines since the last sleep: the
+/// first one with the greatest excess.
 pub fn refuses_the_worst()
     ensures { RefusesTheWorst }
 {}

@@ -1,5 +1,5 @@
-//! Whether the clocks of a schedule are clocks of a world: true time never falls, and each clock keeps the declared error
-//! of its oscillator between any two lines with no sleep between.
+//! Whether the clocks of a schedule are clocks of a world: true time never falls, and each clock keeps the declared
+//! error of its oscillator between any two lines with no sleep between.
 #![tactic(auto)]
 
 mod drift;

@@ -1,10 +1,12 @@
 -- Digits and the numbers that they write: each number has one spelling, and each spelling one number.
-use Rattle.std.proofs.Common.{◌≡◌, ℕ, ◌+◌, ◌-◌, ◌*◌, ◌^◌, ◌<◌, ◌≤◌, ◌/◌, ◌%◌, suc, zero, List, [], ◌∷◌, length, get_or, drop, drop-cons, arith, refl, sym, ap, ◌∙◌, Bool, true, false, inl, inr}
+use Rattle.std.proofs.Common.{◌≡◌, ℕ, ◌+◌, ◌-◌, ◌*◌, ◌^◌, ◌<◌, ◌≤◌, ◌/◌, ◌%◌, suc, zero, List, [], ◌∷◌, length, get_or}
+use Rattle.std.proofs.Common.{drop, drop-cons, arith, refl, sym, ap, ◌∙◌, Bool, true, false, inl, inr}
 use Rattle.std.proofs.lemmas.Bool.Decides.{nat_tests}
 use Rattle.std.proofs.lemmas.Bool.{cases_lt}
 use Rattle.std.proofs.lemmas.Grind.{common_steps}
 use Rattle.std.proofs.lemmas.Str.Parse.{IsNumeralModel, numerals_by_value, tells_all_ascii_digits, digits_value_short}
-use Rattle.std.proofs.lemmas.Fmt.{decimal_is_IsNumeral_wide, digits_decimal, digits_value-decimal, decimal-digits_value, decimal_nonempty, first_decimal, decimal_digit}
+use Rattle.std.proofs.lemmas.Fmt.{decimal_is_IsNumeral_wide, digits_decimal, digits_value-decimal, decimal-digits_value}
+use Rattle.std.proofs.lemmas.Fmt.{decimal_nonempty, first_decimal, decimal_digit}
 use Rattle.std.specs.Prelude.{Option, Some, None, if◌then◌else◌, ◌&&◌, ◌==◌}
 use Rattle.std.specs.Char.{is_ascii_digit, digit_value}
 use Rattle.std.specs.Fmt.{decimal, digits, digits_onto, digit_glyph}
@@ -19,24 +21,39 @@ own : IsNumeralModel (λ bytes. all_ascii_digits bytes ≡ true) (digits_value 1
 own = numerals_by_value (λ bytes. all_ascii_digits bytes ≡ true) tells_all_ascii_digits
 
 -- more digits don't bring a number back below a limit
-pub digits_after-beyond : (limit number : ℕ) (bytes : List ℕ) → limit ≤ number → below_limit limit (digits_after number bytes) ≡ None
+pub digits_after-beyond : (limit number : ℕ) (bytes : List ℕ) → limit ≤ number
+    → below_limit limit (digits_after number bytes) ≡ None
 digits_after-beyond limit number [] h = grind (arith, nat_tests)
 digits_after-beyond limit number (byte ∷ bytes) h =
-    let rest : below_limit limit (digits_after (number * 10 + (byte - 48)) bytes) ≡ None = digits_after-beyond limit (number * 10 + (byte - 48)) bytes (omega arith) in
-    elim (is_ascii_digit byte) as (λ b. below_limit limit (if b then digits_after (number * 10 + (byte - 48)) bytes else None) ≡ None) [ true ↦ rest | false ↦ refl ]
+    let rest : below_limit limit (digits_after (number * 10 + (byte - 48)) bytes) ≡ None =
+    digits_after-beyond limit (number * 10 + (byte - 48)) bytes (omega arith) in
+    elim (is_ascii_digit byte) as (λ b.
+    below_limit limit (if b then digits_after (number * 10 + (byte - 48)) bytes else None) ≡ None) [
+      | true ↦
+          rest
+      | false ↦ refl
+    ]
 
 -- nor do the digits from a place on, where the first of them brings it beyond
-pub digits_after-next_beyond : (limit number i : ℕ) (bytes : List ℕ) → i < length bytes → limit ≤ number * 10 + (get_or bytes i 0 - 48)
+pub digits_after-next_beyond : (limit number i : ℕ) (bytes : List ℕ) → i < length bytes
+    → limit ≤ number * 10 + (get_or bytes i 0 - 48)
     → below_limit limit (digits_after number (drop i bytes)) ≡ None
 digits_after-next_beyond limit number i bytes inside h =
     let byte = get_or bytes i 0 in
     let rest = drop (suc i) bytes in
-    let beyond : below_limit limit (digits_after (number * 10 + (byte - 48)) rest) ≡ None = digits_after-beyond limit (number * 10 + (byte - 48)) rest h in
+    let beyond : below_limit limit (digits_after (number * 10 + (byte - 48)) rest) ≡ None =
+    digits_after-beyond limit (number * 10 + (byte - 48)) rest h in
     rw (drop-cons bytes i 0)
-    (elim (is_ascii_digit byte) as (λ b. below_limit limit (if b then digits_after (number * 10 + (byte - 48)) rest else None) ≡ None) [ true ↦ beyond | false ↦ refl ])
+    (elim (is_ascii_digit byte) as (λ b.
+    below_limit limit (if b then digits_after (number * 10 + (byte - 48)) rest else None) ≡ None) [
+      | true ↦
+          beyond
+      | false ↦ refl
+    ])
 
 -- past the last digit there is the number so far
-pub digits_after-end : (limit number i : ℕ) (bytes : List ℕ) → length bytes ≤ i → number < limit → below_limit limit (digits_after number (drop i bytes)) ≡ Some number
+pub digits_after-end : (limit number i : ℕ) (bytes : List ℕ) → length bytes ≤ i → number < limit
+    → below_limit limit (digits_after number (drop i bytes)) ≡ Some number
 digits_after-end limit number i bytes past h = grind (arith, nat_tests, common_steps)
 
 -- an ASCII digit is worth its distance from `0`
@@ -49,7 +66,8 @@ both true b h = (refl, h)
 both false b h = cc
 
 -- digits give their value, and nothing else gives a number
-pub digits_after-all : (number : ℕ) (bytes : List ℕ) → all_ascii_digits bytes ≡ true → digits_after number bytes ≡ Some (digits_value_after 10 number bytes)
+pub digits_after-all : (number : ℕ) (bytes : List ℕ) → all_ascii_digits bytes ≡ true
+    → digits_after number bytes ≡ Some (digits_value_after 10 number bytes)
 digits_after-all number [] h = refl
 digits_after-all number (byte ∷ bytes) h =
     let parts = both (is_ascii_digit byte) (all_ascii_digits bytes) h in
@@ -57,12 +75,14 @@ digits_after-all number (byte ∷ bytes) h =
     rw (parts.0, digit_value-ascii byte parts.0) rest
 
 -- a value that comes only under a test
-pub then_some : (test : Bool) (more : Option ℕ) (n : ℕ) → (if test then more else None) ≡ Some n → (test ≡ true) × (more ≡ Some n)
+pub then_some : (test : Bool) (more : Option ℕ) (n : ℕ) → (if test then more else None) ≡ Some n → (test ≡ true)
+    × (more ≡ Some n)
 then_some true more n h = (refl, h)
 then_some false more n h = cc
 
 -- what gives a number is digits alone
-pub digits_after-only : (number n : ℕ) (bytes : List ℕ) → digits_after number bytes ≡ Some n → all_ascii_digits bytes ≡ true
+pub digits_after-only : (number n : ℕ) (bytes : List ℕ) → digits_after number bytes ≡ Some n
+    → all_ascii_digits bytes ≡ true
 digits_after-only number n [] h = refl
 digits_after-only number n (byte ∷ bytes) h =
     let parts = then_some (is_ascii_digit byte) (digits_after (number * 10 + (byte - 48)) bytes) n h in
@@ -70,11 +90,13 @@ digits_after-only number n (byte ∷ bytes) h =
     rw (parts.0, rest)
 
 -- a zero that stands alone leads nothing
-not_leading : (byte : ℕ) (bytes : List ℕ) → (byte ≡ 48 → length (byte ∷ bytes) ≡ 1) → has_leading_zero (byte ∷ bytes) ≡ false
+not_leading : (byte : ℕ) (bytes : List ℕ) → (byte ≡ 48 → length (byte ∷ bytes) ≡ 1)
+    → has_leading_zero (byte ∷ bytes) ≡ false
 not_leading byte bytes first = grind (arith, nat_tests)
 
 -- a word of digits spells their value, if no zero leads
-number_of-all : (bytes : List ℕ) → 0 < length bytes → all_ascii_digits bytes ≡ true → (get_or bytes 0 0 ≡ 48 → length bytes ≡ 1) → number_of bytes ≡ Some (digits_value 10 bytes)
+number_of-all : (bytes : List ℕ) → 0 < length bytes → all_ascii_digits bytes ≡ true
+    → (get_or bytes 0 0 ≡ 48 → length bytes ≡ 1) → number_of bytes ≡ Some (digits_value 10 bytes)
 number_of-all [] some all first = absurd (omega arith)
 number_of-all (byte ∷ bytes) some all first = rw (not_leading byte bytes first) (digits_after-all 0 (byte ∷ bytes) all)
 
@@ -86,7 +108,8 @@ record IsSpelling (bytes : List ℕ) (n : ℕ) : Type 0 where
   value : n ≡ digits_value 10 bytes
 
 -- a value that comes only where a test fails
-else_some : (test : Bool) (more : Option ℕ) (n : ℕ) → (if test then None else more) ≡ Some n → (test ≡ false) × (more ≡ Some n)
+else_some : (test : Bool) (more : Option ℕ) (n : ℕ) → (if test then None else more) ≡ Some n → (test ≡ false)
+    × (more ≡ Some n)
 else_some true more n h = cc
 else_some false more n h = (refl, h)
 
@@ -111,7 +134,8 @@ decimal_first (suc n) small h = omega (arith, first_decimal (suc n) (omega arith
 -- the decimal of a number is read as the number
 pub number_of-decimal : (n : ℕ) → n < 2 ^ 64 → number_of (decimal n) ≡ Some n
 number_of-decimal n small =
-    number_of-all (decimal n) (decimal_nonempty n small) (digits_decimal own n small) (decimal_first n small) ∙ ap Some (digits_value-decimal own n small)
+    number_of-all (decimal n) (decimal_nonempty n small) (digits_decimal own n small) (decimal_first n small) ∙ ap Some
+    (digits_value-decimal own n small)
 
 -- what is read as a number is its decimal
 pub decimal-number_of : (bytes : List ℕ) (n : ℕ) → n < 2 ^ 64 → number_of bytes ≡ Some n → bytes ≡ decimal n

@@ -3,7 +3,8 @@ use Rattle.std.proofs.Common.{◌≡◌, ℕ, ◌+◌, ◌*◌, ◌/◌, ◌<◌
 use Rattle.std.specs.Prelude.{ℤ, pos, negsuc, ◌≤ℤ◌, ◌<ℤ◌, ◌+ℤ◌, ◌-ℤ◌, ◌*ℤ◌, neg_ℤ, unsigned_abs}
 use Rattle.std.proofs.lemmas.Int.{ints}
 use Rattle.std.proofs.lemmas.Nat.{div-add-mod', mod_below}
-use Rattle.std.proofs.Math.Nat.{mul-le-mul_right, lt_of_mul-lt-mul_right, le_of_mul-le-mul_right, div-lt_iff_lt-mul, div-le_of_le-mul}
+use Rattle.std.proofs.Math.Nat.{mul-le-mul_right, lt_of_mul-lt-mul_right, le_of_mul-le-mul_right, div-lt_iff_lt-mul}
+use Rattle.std.proofs.Math.Nat.{div-le_of_le-mul}
 use borrow.Author.Differences.{up, down, neg_is, product_is, same_in}
 use Rattle.css_num.specs.Division.{floor_div, ceil_div, IsFloor, IsCeiling}
 
@@ -16,8 +17,16 @@ floor_div_times-le (negsuc a) d p = omega (arith, ints, div-add-mod' a d, mod_be
 pub lt-floor_div_next_times : (z : ℤ) (d : ℕ) → 0 < d → z <ℤ ((floor_div z d +ℤ pos 1) *ℤ pos d)
 lt-floor_div_next_times (pos a) d p = omega (arith, ints, div-add-mod' a d, mod_below a d p)
 lt-floor_div_next_times (negsuc a) d p =
-    let next : up (floor_div (negsuc a) d +ℤ pos 1) + (a / d + 1) ≡ down (floor_div (negsuc a) d +ℤ pos 1) + 1 = omega (arith, ints) in
-    omega (arith, ints, div-add-mod' a d, mod_below a d p, product_is (floor_div (negsuc a) d +ℤ pos 1) (pos d), ap (λ n. n * d) next)
+    let next : up (floor_div (negsuc a) d +ℤ pos 1) + (a / d + 1) ≡ down (floor_div (negsuc a) d +ℤ pos 1) + 1 =
+    omega (arith, ints) in
+    omega (
+      arith,
+      ints,
+      div-add-mod' a d,
+      mod_below a d p,
+      product_is (floor_div (negsuc a) d +ℤ pos 1) (pos d),
+      ap (λ n. n * d) next,
+    )
 
 -- a quotient that is computed is the floor
 pub IsFloor-floor_div : (z : ℤ) (d : ℕ) → 0 < d → IsFloor z d (floor_div z d)
@@ -31,8 +40,26 @@ IsCeiling-negated z q d floor =
     let before : up (neg_ℤ q -ℤ pos 1) + (up q + 1) ≡ down (neg_ℤ q -ℤ pos 1) + down q = omega (arith, ints) in
     let after : up (q +ℤ pos 1) + down q ≡ down (q +ℤ pos 1) + (up q + 1) = omega (arith, ints) in
     record {
-      reached = omega (arith, ints, floor.reached, product_is q (pos d), product_is (neg_ℤ q) (pos d), ap (λ k. k * d) n.0, ap (λ k. k * d) n.1);
-      least = omega (arith, ints, floor.greatest, product_is (q +ℤ pos 1) (pos d), product_is (neg_ℤ q -ℤ pos 1) (pos d), ap (λ k. k * d) before, ap (λ k. k * d) after);
+      reached =
+          omega (
+            arith,
+            ints,
+            floor.reached,
+            product_is q (pos d),
+            product_is (neg_ℤ q) (pos d),
+            ap (λ k. k * d) n.0,
+            ap (λ k. k * d) n.1,
+          );
+      least =
+          omega (
+            arith,
+            ints,
+            floor.greatest,
+            product_is (q +ℤ pos 1) (pos d),
+            product_is (neg_ℤ q -ℤ pos 1) (pos d),
+            ap (λ k. k * d) before,
+            ap (λ k. k * d) after,
+          );
     }
 
 -- a quotient that is computed is the ceiling
@@ -96,7 +123,8 @@ pub floor_div-unique : (z q : ℤ) (d : ℕ) → 0 < d → IsFloor z d q → flo
 floor_div-unique z q d p floor =
     let own = IsFloor-floor_div z d p in
     let at_least = (le-floor_div_iff z q d p).1 floor.reached in
-    let products : (floor_div z d *ℤ pos d) <ℤ ((q +ℤ pos 1) *ℤ pos d) = omega (arith, ints, own.reached, floor.greatest) in
+    let products : (floor_div z d *ℤ pos d) <ℤ ((q +ℤ pos 1) *ℤ pos d) =
+    omega (arith, ints, own.reached, floor.greatest) in
     let at_most = lt_of_times-lt (floor_div z d) (q +ℤ pos 1) d products in
     same_in (floor_div z d) q (omega (arith, ints))
 
@@ -105,7 +133,8 @@ pub ceil_div-unique : (z q : ℤ) (d : ℕ) → 0 < d → IsCeiling z d q → ce
 ceil_div-unique z q d p ceiling =
     let own = IsCeiling-ceil_div z d p in
     let at_most = (ceil_div-le_iff z q d p).1 ceiling.reached in
-    let products : ((q -ℤ pos 1) *ℤ pos d) <ℤ (ceil_div z d *ℤ pos d) = omega (arith, ints, own.reached, ceiling.least) in
+    let products : ((q -ℤ pos 1) *ℤ pos d) <ℤ (ceil_div z d *ℤ pos d) =
+    omega (arith, ints, own.reached, ceiling.least) in
     let at_least = lt_of_times-lt (q -ℤ pos 1) (ceil_div z d) d products in
     same_in (ceil_div z d) q (omega (arith, ints))
 
@@ -133,9 +162,12 @@ pub floor_div-add_multiple : (n x : ℤ) (d : ℕ) → 0 < d → floor_div ((pos
 floor_div-add_multiple n x d p =
     let q = floor_div x d in
     let floor = IsFloor-floor_div x d p in
-    let sum : up (n +ℤ floor_div x d) + (down n + down (floor_div x d)) ≡ down (n +ℤ floor_div x d) + (up n + up (floor_div x d)) = omega (arith, ints) in
-    let next : up (n +ℤ floor_div x d +ℤ pos 1) + (down n + down (floor_div x d)) ≡ down (n +ℤ floor_div x d +ℤ pos 1) + (up n + up (floor_div x d) + 1) = omega (arith, ints) in
-    let last : up (floor_div x d +ℤ pos 1) + down (floor_div x d) ≡ down (floor_div x d +ℤ pos 1) + (up (floor_div x d) + 1) = omega (arith, ints) in
+    let sum : up (n +ℤ floor_div x d) + (down n + down (floor_div x d)) ≡ down (n +ℤ floor_div x d)
+    + (up n + up (floor_div x d)) = omega (arith, ints) in
+    let next : up (n +ℤ floor_div x d +ℤ pos 1) + (down n + down (floor_div x d)) ≡ down (n +ℤ floor_div x d +ℤ pos 1)
+    + (up n + up (floor_div x d) + 1) = omega (arith, ints) in
+    let last : up (floor_div x d +ℤ pos 1) + down (floor_div x d) ≡ down (floor_div x d +ℤ pos 1)
+    + (up (floor_div x d) + 1) = omega (arith, ints) in
     floor_div-unique ((pos d *ℤ n) +ℤ x) (n +ℤ floor_div x d) d p
     (record {
       reached = omega (arith, ints, floor.reached, ap (λ k. k * d) sum);
@@ -147,10 +179,18 @@ pub ceil_div-add_multiple : (n y : ℤ) (d : ℕ) → 0 < d → ceil_div ((pos d
 ceil_div-add_multiple n y d p =
     let turned : neg_ℤ ((pos d *ℤ n) +ℤ y) ≡ (pos d *ℤ neg_ℤ n) +ℤ neg_ℤ y =
     same_in (neg_ℤ ((pos d *ℤ n) +ℤ y)) ((pos d *ℤ neg_ℤ n) +ℤ neg_ℤ y)
-    (omega (arith, ints, product_is (pos d) n, product_is (pos d) (neg_ℤ n), ap (λ k. d * k) (neg_is n).0, ap (λ k. d * k) (neg_is n).1)) in
+    (omega (
+      arith,
+      ints,
+      product_is (pos d) n,
+      product_is (pos d) (neg_ℤ n),
+      ap (λ k. d * k) (neg_is n).0,
+      ap (λ k. d * k) (neg_is n).1,
+    )) in
     let out : floor_div (neg_ℤ ((pos d *ℤ n) +ℤ y)) d ≡ neg_ℤ n +ℤ floor_div (neg_ℤ y) d =
     ap (λ (z : ℤ). floor_div z d) turned ∙ floor_div-add_multiple (neg_ℤ n) (neg_ℤ y) d p in
-    ap neg_ℤ out ∙ same_in (neg_ℤ (neg_ℤ n +ℤ floor_div (neg_ℤ y) d)) (n +ℤ neg_ℤ (floor_div (neg_ℤ y) d)) (omega (arith, ints))
+    ap neg_ℤ out ∙ same_in (neg_ℤ (neg_ℤ n +ℤ floor_div (neg_ℤ y) d)) (n +ℤ neg_ℤ (floor_div (neg_ℤ y) d))
+    (omega (arith, ints))
 
 -- what is at most k divisors either way has a quotient of at most k either way
 pub floor_div-within : (z : ℤ) (k d : ℕ) → 0 < d → unsigned_abs z ≤ k * d → unsigned_abs (floor_div z d) ≤ k

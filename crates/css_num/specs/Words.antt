@@ -1,12 +1,16 @@
--- Numbers as words: decimal digits, no zero before other digits, no `+`. So each number has one spelling, and each spelling one number.
-use Rattle.std.specs.Prelude.{◌≡◌, ℕ, ◌+◌, ◌-◌, ◌*◌, ◌<◌, ◌≤◌, ◌&&◌, ◌==◌, Bool, false, nat_lt, nat_le, List, [], ◌∷◌, length, Option, Some, None, option_map, if◌then◌else◌, ℤ, pos, negsuc, zero, suc, unsigned_abs}
+-- Numbers as words: decimal digits, no zero before other digits, no `+`. So each number has one spelling, and each
+-- spelling one number.
+use Rattle.std.specs.Prelude.{◌≡◌, ℕ, ◌+◌, ◌-◌, ◌*◌, ◌<◌, ◌≤◌, ◌&&◌, ◌==◌, Bool, false, nat_lt, nat_le, List, [], ◌∷◌}
+use Rattle.std.specs.Prelude.{length, Option, Some, None, option_map, if◌then◌else◌, ℤ, pos, negsuc, zero, suc}
+use Rattle.std.specs.Prelude.{unsigned_abs}
 use Rattle.std.specs.Fmt.{decimal, signed_decimal}
 use Rattle.std.specs.Char.{is_ascii_digit}
 
 -- the number that the digits write when they follow those of an earlier number, and None where a byte is no digit
 abbrev pub digits_after : ℕ → List ℕ → Option ℕ
 digits_after number [] = Some number
-digits_after number (byte ∷ bytes) = if is_ascii_digit byte then digits_after (number * 10 + (byte - 48)) bytes else None
+digits_after number (byte ∷ bytes) =
+    if is_ascii_digit byte then digits_after (number * 10 + (byte - 48)) bytes else None
 
 -- the number that one digit or more write, where zeros may lead
 abbrev pub digits_number : List ℕ → Option ℕ

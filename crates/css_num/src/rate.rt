@@ -24,7 +24,8 @@ impl Model for Rate {
 
     ghost view = { λ a. record { units_per_tick = a.units_per_tick; units_per_second = a.units_per_second } };
 
-    ghost invariant = { λ a. IsTickRate (record { units_per_tick = a.units_per_tick; units_per_second = a.units_per_second }) };
+    ghost invariant = { λ a.
+        IsTickRate (record { units_per_tick = a.units_per_tick; units_per_second = a.units_per_second }) };
 
     ghost inverse = { λ a. record { units_per_tick = a.units_per_tick; units_per_second = a.units_per_second } };
 }
@@ -40,7 +41,8 @@ impl Rate {
     /// The rate of these two parts, or None where one is 0 or above 10^9.
     pub fn of(units_per_tick: u32, units_per_second: u32) -> Option<Rate>
         ensures value { result ≡ rate_of units_per_tick units_per_second }
-        ensures in_range { IsSome result ↔ IsTickRate (record { units_per_tick = units_per_tick; units_per_second = units_per_second }) }
+        ensures in_range { IsSome result
+            ↔ IsTickRate (record { units_per_tick = units_per_tick; units_per_second = units_per_second }) }
     {
         if is_part(units_per_tick) && is_part(units_per_second) {
             Some(Rate {

@@ -1,12 +1,14 @@
 -- The promises of a server rise.
-use Rattle.std.proofs.Common.{◌≡◌, ℕ, zero, suc, ◌<◌, arith, ap, sym, ◌∙◌, subst, Bool, true, false, cond, List, [], ◌∷◌, refl}
+use Rattle.std.proofs.Common.{◌≡◌, ℕ, zero, suc, ◌<◌, arith, ap, sym, ◌∙◌, subst, Bool, true, false, cond, List, []}
+use Rattle.std.proofs.Common.{◌∷◌, refl}
 use Rattle.std.specs.Prelude.{All, Option, Some, None, ◌&&◌, ◌==◌, nat_lt, slice_get, max}
 use Rattle.std.proofs.lemmas.Bool.{and_parts, ltb-true, eqb-true}
 use Rattle.std.proofs.lemmas.List.Elements.{All-nil, All-cons, All-get_or}
 use Rattle.std.proofs.lemmas.Option.{slice_get_within, get_or_from_slice_get}
 use Rattle.css_model.specs.Wire.{stamp_of, is_same_stamp}
 use Rattle.css_server.specs.Tickets.{Ticket, is_greater, greatest_with, answer_message}
-use Rattle.css_server.specs.Exchanges.{greatest_reading, ArePromised, PromisesRise, NoPromiseIsRepeated, PairsAreExchanges}
+use Rattle.css_server.specs.Exchanges.{greatest_reading, ArePromised, PromisesRise, NoPromiseIsRepeated}
+use Rattle.css_server.specs.Exchanges.{PairsAreExchanges}
 
 -- a reading that is greater than the greatest is greater than each
 above_each : (reading : ℕ) (older : List Ticket) → is_greater reading (greatest_reading older) ≡ true
@@ -18,7 +20,8 @@ above_each reading (ticket ∷ older) e = by (greatest_reading older) (above_eac
         → nat_lt (greatest_with ticket.reading greatest) reading ≡ true
         → All (λ earlier. earlier.reading < reading) (ticket ∷ older)
     by None rest e =
-        All-cons (λ (earlier : Ticket). earlier.reading < reading) ticket older (ltb-true ticket.reading reading e) (rest refl)
+        All-cons (λ (earlier : Ticket). earlier.reading < reading) ticket older (ltb-true ticket.reading reading e)
+        (rest refl)
     by (Some greatest) rest e =
         let below : max greatest ticket.reading < reading = ltb-true (max greatest ticket.reading) reading e in
         All-cons (λ (earlier : Ticket). earlier.reading < reading) ticket older (omega arith) (rest (grind arith))
@@ -27,7 +30,9 @@ above_each reading (ticket ∷ older) e = by (greatest_reading older) (above_eac
 promises_rise : (follow : Bool) (tickets : List Ticket) → ArePromised follow tickets → PromisesRise tickets
 promises_rise follow [] promised = tt
 promises_rise follow (ticket ∷ older) promised = (
-  λ promise. above_each ticket.reading older (and_parts follow (is_greater ticket.reading (greatest_reading older)) (sym promised.0 ∙ promise)).1,
+  λ promise.
+      above_each ticket.reading older
+      (and_parts follow (is_greater ticket.reading (greatest_reading older)) (sym promised.0 ∙ promise)).1,
   promises_rise follow older promised.1,
 )
 
@@ -36,7 +41,8 @@ pub no_promise_is_repeated : NoPromiseIsRepeated
 no_promise_is_repeated server tickets stands = promises_rise server.follow tickets stands.promised
 
 -- a ticket among earlier ones has a smaller reading
-earlier_is_less : (reading : ℕ) (older : List Ticket) (k : ℕ) (a : Ticket) → All (λ earlier. earlier.reading < reading) older
+earlier_is_less : (reading : ℕ) (older : List Ticket) (k : ℕ) (a : Ticket)
+    → All (λ earlier. earlier.reading < reading) older
     → slice_get older k ≡ Some a → a.reading < reading
 earlier_is_less reading older k a below e =
     subst (λ (t : Ticket). t.reading < reading) (get_or_from_slice_get older k a a e)
@@ -61,7 +67,9 @@ same_promise (ticket ∷ older) (suc i) (suc j) a b rise p q f g e =
 -- readings with one time on the wire are one
 same_reading : (r s : ℕ) → is_same_stamp (stamp_of r) (stamp_of s) ≡ true → r ≡ s
 same_reading r s e =
-    let p = and_parts ((stamp_of r).seconds == (stamp_of s).seconds) ((stamp_of r).nanoseconds == (stamp_of s).nanoseconds) e in
+    let p =
+    and_parts ((stamp_of r).seconds == (stamp_of s).seconds) ((stamp_of r).nanoseconds == (stamp_of s).nanoseconds)
+    e in
     let a = eqb-true (stamp_of r).seconds (stamp_of s).seconds p.0 in
     let b = eqb-true (stamp_of r).nanoseconds (stamp_of s).nanoseconds p.1 in
     omega (arith, a, b)
@@ -72,10 +80,14 @@ pairs_are_exchanges server tickets i j a b answered told landed stands p q g pai
   where
     by : (f : Bool) → a.follow_up ≡ f
         → (((cond f (answer_message server a 2 a.reading) (answer_message server a 1 answered)).message_type == 2)
-        && (is_same_stamp (cond f (answer_message server a 2 a.reading) (answer_message server a 1 answered)).originate b.originate
-        && is_same_stamp (cond f (answer_message server a 2 a.reading) (answer_message server a 1 answered)).receive (stamp_of b.reading))) ≡ true
+        && (is_same_stamp (cond f (answer_message server a 2 a.reading) (answer_message server a 1 answered)).originate
+        b.originate
+        && is_same_stamp (cond f (answer_message server a 2 a.reading) (answer_message server a 1 answered)).receive
+        (stamp_of b.reading))) ≡ true
         → i ≡ j
     by true f e =
         same_promise tickets i j a b (no_promise_is_repeated server tickets stands) p q f g
-        (same_reading a.reading b.reading (and_parts (is_same_stamp a.originate b.originate) (is_same_stamp (stamp_of a.reading) (stamp_of b.reading)) e).1)
+        (same_reading a.reading b.reading
+        (and_parts (is_same_stamp a.originate b.originate) (is_same_stamp (stamp_of a.reading) (stamp_of b.reading))
+        e).1)
     by false f e = absurd (cc)

@@ -36,5 +36,7 @@ abbrev pub PairsAreExchanges : Type 0
 PairsAreExchanges = (server : Server) (tickets : List Ticket) (i j : ℕ) (a b : Ticket) (answered told landed : ℕ)
     → StandsFor server tickets → slice_get tickets i ≡ Some a → slice_get tickets j ≡ Some b
     → IsTrue b.follow_up
-    → IsTrue (is_promise_of (record { message = response_to server a answered; reading = landed }) (follow_up_to server b told))
+    → IsTrue
+    (is_promise_of (record { message = response_to server a answered; reading = landed })
+    (follow_up_to server b told))
     → i ≡ j

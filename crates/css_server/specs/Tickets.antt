@@ -1,5 +1,7 @@
--- What a server remembers, which requests it takes, and what it answers. In each list of tickets the newest stands first.
-use Rattle.std.specs.Prelude.{ℕ, ℤ, ◌≤◌, ◌<◌, ◌*◌, ◌^◌, ◌≤ℤ◌, pos, List, Bool, true, ◌&&◌, ◌==◌, nat_lt, max, if◌then◌else◌}
+-- What a server remembers, which requests it takes, and what it answers. In each list of tickets the newest stands
+-- first.
+use Rattle.std.specs.Prelude.{ℕ, ℤ, ◌≤◌, ◌<◌, ◌*◌, ◌^◌, ◌≤ℤ◌, pos, List, Bool, true, ◌&&◌, ◌==◌, nat_lt, max}
+use Rattle.std.specs.Prelude.{if◌then◌else◌}
 use Rattle.std.specs.Prelude.{Option, Some, None, Result, Ok, Err}
 use Rattle.css_model.specs.declared.Stamp.{Stamp}
 use Rattle.css_model.specs.declared.Message.{Message}

@@ -1,8 +1,10 @@
-ghost use Rattle.std.specs.Prelude.{◌≡◌, ◌≤◌, ◌<◌, ◌≤ℤ◌, pos, List, [], ◌∷◌, None, Ok, OnOk, OnErr, IfOk, IfSome, take, drop};
+ghost use Rattle.std.specs.Prelude.{◌≡◌, ◌≤◌, ◌<◌, ◌≤ℤ◌, pos, List, [], ◌∷◌, None, Ok, OnOk, OnErr, IfOk, IfSome, take};
+ghost use Rattle.std.specs.Prelude.{drop};
 ghost use Rattle.std.specs.Option.{option_map};
 ghost use Rattle.css_model.specs.Numbers.{max_error};
 ghost use Rattle.css_model.specs.Wire.{encoded, decoded, stamp_bytes};
-ghost use Rattle.css_server.specs.Tickets.{Ticket as Taken, ticket_for, answer_message, received, after_ticket, response_to, follow_up_to, follow_up_for};
+ghost use Rattle.css_server.specs.Tickets.{Ticket as Taken, ticket_for, answer_message, received, after_ticket};
+ghost use Rattle.css_server.specs.Tickets.{response_to, follow_up_to, follow_up_for};
 ghost use Rattle.css_wc.specs.Datagrams.{HasNoFault};
 ghost use Rattle.css_server.specs.Exchanges.{StandsFor};
 
@@ -29,7 +31,8 @@ impl Model for Server {
 
     ghost view = { λ s. record { precision = s.precision; error = s.error; follow = s.follow; greatest = s.greatest } };
 
-    ghost invariant = { λ s. IsServer (record { precision = s.precision; error = s.error; follow = s.follow; greatest = s.greatest }) };
+    ghost invariant = { λ s.
+        IsServer (record { precision = s.precision; error = s.error; follow = s.follow; greatest = s.greatest }) };
 }
 
 /// A request that a server took and has not answered yet.
@@ -47,7 +50,8 @@ impl Model for Ticket {
 
     ghost view = { λ t. record { originate = t.originate; reading = t.reading; follow_up = t.follow_up } };
 
-    ghost invariant = { λ t. IsTicket (record { originate = t.originate; reading = t.reading; follow_up = t.follow_up }) };
+    ghost invariant = { λ t.
+        IsTicket (record { originate = t.originate; reading = t.reading; follow_up = t.follow_up }) };
 }
 
 /// The datagrams that answer a request, in the order of their sending.
@@ -90,7 +94,8 @@ impl Server {
         ensures originate { IfOk result (λ ticket. stamp_bytes ticket.originate ≡ take 8 (drop 8 bytes.now)) }
         ensures ok { OnOk result (self.new ≡ after_ticket self.old reading) }
         ensures err { OnErr result (self.new ≡ self.old) }
-        ensures stands { IfOk result (λ ticket. (tickets : List Taken) → StandsFor self.old tickets → StandsFor self.new (ticket ∷ tickets)) }
+        ensures stands { IfOk result (λ ticket. (tickets : List Taken) → StandsFor self.old tickets
+            → StandsFor self.new (ticket ∷ tickets)) }
     {
         let message = decode(bytes)?;
         if message.message_type != 0 {
@@ -127,7 +132,8 @@ impl Server {
         ensures response { result.response ≡ encoded (response_to self.now ticket reading) }
         ensures response_read_back { decoded result.response ≡ Ok (response_to self.now ticket reading) }
         ensures follow_up { result.follow_up ≡ option_map encoded (follow_up_for self.now ticket reading) }
-        ensures follow_up_read_back { IfSome result.follow_up (λ bytes. decoded bytes ≡ Ok (follow_up_to self.now ticket reading)) }
+        ensures follow_up_read_back { IfSome result.follow_up (λ bytes.
+            decoded bytes ≡ Ok (follow_up_to self.now ticket reading)) }
     {
         if ticket.follow_up {
             Answered {

@@ -1,5 +1,6 @@
 -- Each text of a session reads as what it was written for.
-use Rattle.std.proofs.Common.{◌≡◌, ℕ, zero, suc, Bool, true, false, cond, eqb, List, [], ◌∷◌, ◌++◌, take, Option, Some, None, Result, Ok, refl, sym, ap, ◌∙◌, subst}
+use Rattle.std.proofs.Common.{◌≡◌, ℕ, zero, suc, Bool, true, false, cond, eqb, List, [], ◌∷◌, ◌++◌, take, Option, Some}
+use Rattle.std.proofs.Common.{None, Result, Ok, refl, sym, ap, ◌∙◌, subst}
 use Rattle.std.specs.Prelude.{⊤, map, reverse, All, option_map}
 use Rattle.std.proofs.lemmas.List.{reverse-append}
 use Rattle.std.proofs.lemmas.List.Elements.{All-head, All-tail}
@@ -9,7 +10,8 @@ use Rattle.css_num.specs.declared.control.Control.{Control}
 use Rattle.css_num.specs.declared.control.Control.TheVariants.{Available, Unavailable}
 use Rattle.css_player.specs.Player.{Player}
 use Rattle.css_cii.specs.Messages.{message_of}
-use Rattle.css_cii.specs.States.{empty, difference, full_change, is_empty, Tells, TellsChange, TellsExactly, IsSessionFrom, last_from}
+use Rattle.css_cii.specs.States.{empty, difference, full_change, is_empty, Tells, TellsChange, TellsExactly}
+use Rattle.css_cii.specs.States.{IsSessionFrom, last_from}
 use Rattle.css_cii.specs.Texts.{change_text, EachIn, EachOf, RatesAreInRange}
 use Rattle.css_cii.specs.declared.state.State.{State}
 use Rattle.css_cii.specs.declared.change.Change.{Change}
@@ -29,24 +31,32 @@ use Rattle.css_sessions.specs.declared.session.Kind.TheVariants as kind
 use Rattle.css_sessions.specs.declared.session.Session.{Session}
 use Rattle.css_sessions.specs.declared.session.Talk.{Talk}
 use Rattle.css_sessions.specs.Offsets.{control_for}
-use Rattle.css_sessions.specs.Kept.{Event, Opened, SetUp, Published, Closed, Presented, Dropped, difference_text, full_text, other_control, same_control, talk_of}
-use Rattle.css_sessions.specs.Told.{Life, CiiLife, Unset, TsLife, Lived, born, set_life, grown_life, living, ended, when, life_of, state_of, window_of, latest, with_text, cii_texts, ts_texts, IsReadable, IsControlled, IsLawful, AreTellable, sessions_of}
-use Rattle.css_sessions.specs.ReadBack.{cii_states, cii_changes, ts_controls, ReadsAsStates, ReadsAsControls, IsReadBack, AreReadBack}
+use Rattle.css_sessions.specs.Kept.{Event, Opened, SetUp, Published, Closed, Presented, Dropped, difference_text}
+use Rattle.css_sessions.specs.Kept.{full_text, other_control, same_control, talk_of}
+use Rattle.css_sessions.specs.Told.{Life, CiiLife, Unset, TsLife, Lived, born, set_life, grown_life, living, ended}
+use Rattle.css_sessions.specs.Told.{when, life_of, state_of, window_of, latest, with_text, cii_texts, ts_texts}
+use Rattle.css_sessions.specs.Told.{IsReadable, IsControlled, IsLawful, AreTellable, sessions_of}
+use Rattle.css_sessions.specs.ReadBack.{cii_states, cii_changes, ts_controls, ReadsAsStates, ReadsAsControls}
+use Rattle.css_sessions.specs.ReadBack.{IsReadBack, AreReadBack}
 use Rattle.css_sessions.proofs.Telling.{kept, is_kept}
 
 -- ---- one change
-range_told : (old new : Option (List _)) (change : Told (List _)) → TellsExactly old new change → EachIn RatesAreInRange new → EachOf RatesAreInRange change
+range_told : (old new : Option (List _)) (change : Told (List _)) → TellsExactly old new change
+    → EachIn RatesAreInRange new → EachOf RatesAreInRange change
 range_told old new told.Unsaid exact h = tt
 range_told old new (told.Said value) exact h = subst (EachIn RatesAreInRange) (sym exact.0) h
 
-pub range_after : (old new : Option (List _)) (change : Told (List _)) → TellsExactly old new change → EachOf RatesAreInRange change → EachIn RatesAreInRange old → EachIn RatesAreInRange new
+pub range_after : (old new : Option (List _)) (change : Told (List _)) → TellsExactly old new change
+    → EachOf RatesAreInRange change → EachIn RatesAreInRange old → EachIn RatesAreInRange new
 range_after old new told.Unsaid exact h k = subst (EachIn RatesAreInRange) exact k
 range_after old new (told.Said value) exact h k = subst (EachIn RatesAreInRange) exact.0 h
 
-difference_reads : (old new : State) → IsReadable new → message_of (change_text (difference old new)) ≡ Ok (difference old new)
+difference_reads : (old new : State) → IsReadable new
+    → message_of (change_text (difference old new)) ≡ Ok (difference old new)
 difference_reads old new h =
     let exact = difference-exact old new in
-    message_reads (difference old new) (difference-utf8 old new h.utf8) (range_told old.timelines new.timelines (difference old new).timelines exact.timelines h.in_range)
+    message_reads (difference old new) (difference-utf8 old new h.utf8)
+    (range_told old.timelines new.timelines (difference old new).timelines exact.timelines h.in_range)
 
 full_in_range : (s : State) → EachIn RatesAreInRange s.timelines → EachOf RatesAreInRange (full_change s).timelines
 unfolding full_change
@@ -103,13 +113,15 @@ last_pushed : (b : State) (ss : List State) (s : State) → last_from b (ss ++ s
 last_pushed b [] s = refl
 last_pushed b (x ∷ ss) s = last_pushed x ss s
 
-session_more : (b : State) (ss : List State) (cs : List Change) (s : State) (c : Change) → IsSessionFrom b ss cs → TellsChange (last_from b ss) s c → IsSessionFrom b (ss ++ s ∷ []) (cs ++ c ∷ [])
+session_more : (b : State) (ss : List State) (cs : List Change) (s : State) (c : Change) → IsSessionFrom b ss cs
+    → TellsChange (last_from b ss) s c → IsSessionFrom b (ss ++ s ∷ []) (cs ++ c ∷ [])
 session_more b [] [] s c h tells = (tells, tt)
 session_more b [] (x ∷ cs) s c h tells = absurd h
 session_more b (x ∷ ss) [] s c h tells = absurd h
 session_more b (x ∷ ss) (y ∷ cs) s c h tells = (h.0, session_more x ss cs s c h.1 tells)
 
-session_prefix : (k : ℕ) (b : State) (ss : List State) (cs : List Change) → IsSessionFrom b ss cs → IsSessionFrom b (take k ss) (take k cs)
+session_prefix : (k : ℕ) (b : State) (ss : List State) (cs : List Change) → IsSessionFrom b ss cs
+    → IsSessionFrom b (take k ss) (take k cs)
 session_prefix zero b ss cs h = tt
 session_prefix (suc k) b [] [] h = tt
 session_prefix (suc k) b [] (y ∷ cs) h = absurd h
@@ -119,10 +131,13 @@ session_prefix (suc k) b (x ∷ ss) (y ∷ cs) h = (h.0, session_prefix k x ss c
 pushed : {X : Type 0} (x : X) (xs : List X) → reverse (x ∷ xs) ≡ reverse xs ++ x ∷ []
 pushed x xs = reverse-append (x ∷ []) xs
 
-session_grown : (b : State) (ss : List State) (cs : List Change) (s : State) (c : Change) → IsSessionFrom b (reverse ss) (reverse cs) → TellsChange (last_from b (reverse ss)) s c → IsSessionFrom b (reverse (s ∷ ss)) (reverse (c ∷ cs))
+session_grown : (b : State) (ss : List State) (cs : List Change) (s : State) (c : Change)
+    → IsSessionFrom b (reverse ss) (reverse cs) → TellsChange (last_from b (reverse ss)) s c
+    → IsSessionFrom b (reverse (s ∷ ss)) (reverse (c ∷ cs))
 session_grown b ss cs s c h tells =
     subst (λ xs. IsSessionFrom b xs (reverse (c ∷ cs))) (sym (pushed s ss))
-    (subst (IsSessionFrom b (reverse ss ++ s ∷ [])) (sym (pushed c cs)) (session_more b (reverse ss) (reverse cs) s c h tells))
+    (subst (IsSessionFrom b (reverse ss ++ s ∷ [])) (sym (pushed c cs))
+    (session_more b (reverse ss) (reverse cs) s c h tells))
 
 last_grown : (b : State) (ss : List State) (s : State) → last_from b (reverse (s ∷ ss)) ≡ s
 last_grown b ss s = ap (last_from b) (pushed s ss) ∙ last_pushed b (reverse ss) s
@@ -146,7 +161,9 @@ telling b s (state ∷ ss) = go (is_empty (difference (latest s ss) state)) refl
       }
   go false is before =
       record {
-        session = rw is (session_grown b (cii_states s ss) (cii_changes s ss) state (difference (latest s ss) state) before.session
+        session =
+            rw is
+            (session_grown b (cii_states s ss) (cii_changes s ss) state (difference (latest s ss) state) before.session
             (rw before.last (difference_tells (latest s ss) state)));
         last = rw is (last_grown b (cii_states s ss) state);
         newest = λ other. rw is refl;
@@ -157,14 +174,19 @@ abbrev pub AreReadable : State → List State → Type 0
 AreReadable s [] = IsReadable s
 AreReadable s (state ∷ ss) = AreReadable s ss × IsReadable state
 
-texts_read : (s : State) (ss : List State) → AreReadable s ss → map message_of (cii_texts s ss) ≡ map Ok (cii_changes s ss)
+texts_read : (s : State) (ss : List State) → AreReadable s ss
+    → map message_of (cii_texts s ss) ≡ map Ok (cii_changes s ss)
 unfolding difference_text
 texts_read s [] h = ap (λ (r : Result Change CiiFault). r ∷ []) (full_reads s h)
 texts_read s (state ∷ ss) h = go (is_empty (difference (latest s ss) state)) (texts_read s ss h.0) where
   go : (e : Bool) → map message_of (cii_texts s ss) ≡ map Ok (cii_changes s ss)
-      → map message_of (with_text (cond e None (Some (change_text (difference (latest s ss) state)))) (cii_texts s ss)) ≡ map Ok (cond e (cii_changes s ss) (difference (latest s ss) state ∷ cii_changes s ss))
+      → map message_of
+      (with_text (cond e None (Some (change_text (difference (latest s ss) state)))) (cii_texts s ss)) ≡ map Ok
+      (cond e (cii_changes s ss) (difference (latest s ss) state ∷ cii_changes s ss))
   go true ih = ih
-  go false ih = ap (λ (r : Result Change CiiFault). r ∷ map message_of (cii_texts s ss)) (difference_reads (latest s ss) state h.1) ∙ ap (λ rs. Ok (difference (latest s ss) state) ∷ rs) ih
+  go false ih =
+      ap (λ (r : Result Change CiiFault). r ∷ map message_of (cii_texts s ss)) (difference_reads (latest s ss) state h.1)
+      ∙ ap (λ rs. Ok (difference (latest s ss) state) ∷ rs) ih
 
 pub reads_as_states : (s : State) (ss : List State) → AreReadable s ss → ReadsAsStates s ss
 reads_as_states s ss h =
@@ -191,22 +213,30 @@ abbrev pub AreInRange : Setup → Player → List Player → Type 0
 AreInRange u p [] = IsInRange (control_for u p)
 AreInRange u p (player ∷ ps) = AreInRange u p ps × IsInRange (control_for u player)
 
-controls_read : (u : Setup) (p : Player) (ps : List Player) → AreInRange u p ps → map control_of (ts_texts u p ps) ≡ map Ok (ts_controls u p ps)
+controls_read : (u : Setup) (p : Player) (ps : List Player) → AreInRange u p ps
+    → map control_of (ts_texts u p ps) ≡ map Ok (ts_controls u p ps)
 unfolding other_control
 controls_read u p [] h = ap (λ (r : Result Control TsFault). r ∷ []) (control_reads (control_for u p) h)
-controls_read u p (player ∷ ps) h = go (same_control (control_for u (latest p ps)) (control_for u player)) (controls_read u p ps h.0) where
-  go : (e : Bool) → map control_of (ts_texts u p ps) ≡ map Ok (ts_controls u p ps)
-      → map control_of (with_text (cond e None (Some (control_text (control_for u player)))) (ts_texts u p ps)) ≡ map Ok (cond e (ts_controls u p ps) (control_for u player ∷ ts_controls u p ps))
-  go true ih = ih
-  go false ih = ap (λ (r : Result Control TsFault). r ∷ map control_of (ts_texts u p ps)) (control_reads (control_for u player) h.1) ∙ ap (λ rs. Ok (control_for u player) ∷ rs) ih
+controls_read u p (player ∷ ps) h =
+    go (same_control (control_for u (latest p ps)) (control_for u player)) (controls_read u p ps h.0) where
+      go : (e : Bool) → map control_of (ts_texts u p ps) ≡ map Ok (ts_controls u p ps)
+          → map control_of (with_text (cond e None (Some (control_text (control_for u player)))) (ts_texts u p ps)) ≡ map Ok
+          (cond e (ts_controls u p ps) (control_for u player ∷ ts_controls u p ps))
+      go true ih = ih
+      go false ih =
+          ap (λ (r : Result Control TsFault). r ∷ map control_of (ts_texts u p ps)) (control_reads (control_for u player) h.1)
+          ∙ ap (λ rs. Ok (control_for u player) ∷ rs) ih
 
-newest_control : (u : Setup) (p : Player) (ps : List Player) (other : Control) → latest other (ts_controls u p ps) ≡ control_for u (latest p ps)
+newest_control : (u : Setup) (p : Player) (ps : List Player) (other : Control)
+    → latest other (ts_controls u p ps) ≡ control_for u (latest p ps)
 newest_control u p [] other = refl
-newest_control u p (player ∷ ps) other = go (same_control (control_for u (latest p ps)) (control_for u player)) refl (newest_control u p ps other) where
-  go : (e : Bool) → same_control (control_for u (latest p ps)) (control_for u player) ≡ e → latest other (ts_controls u p ps) ≡ control_for u (latest p ps)
-      → latest other (cond e (ts_controls u p ps) (control_for u player ∷ ts_controls u p ps)) ≡ control_for u player
-  go true is ih = ih ∙ same_is (control_for u (latest p ps)) (control_for u player) is
-  go false is ih = refl
+newest_control u p (player ∷ ps) other =
+    go (same_control (control_for u (latest p ps)) (control_for u player)) refl (newest_control u p ps other) where
+      go : (e : Bool) → same_control (control_for u (latest p ps)) (control_for u player) ≡ e
+          → latest other (ts_controls u p ps) ≡ control_for u (latest p ps)
+          → latest other (cond e (ts_controls u p ps) (control_for u player ∷ ts_controls u p ps)) ≡ control_for u player
+      go true is ih = ih ∙ same_is (control_for u (latest p ps)) (control_for u player) is
+      go false is ih = refl
 
 reads_as_controls : (u : Setup) (p : Player) (ps : List Player) → AreInRange u p ps → ReadsAsControls u p ps
 reads_as_controls u p ps h = record { texts = controls_read u p ps h; newest = newest_control u p ps }
@@ -230,16 +260,19 @@ state_ready (Presented p q player ∷ h) t = state_ready h t.0
 state_ready (Dropped ∷ h) t = state_ready h t.0
 state_ready (Closed p ∷ h) t = state_ready h t.0
 
-born_ready : (b : Bool) (k : Kind) (s : State) (o : Option Lived) → IsReadable s → AreReady o → AreReady (when b (λ _. Some (born k s)) o)
+born_ready : (b : Bool) (k : Kind) (s : State) (o : Option Lived) → IsReadable s → AreReady o
+    → AreReady (when b (λ _. Some (born k s)) o)
 born_ready false k s o r h = h
 born_ready true kind.Cii s o r h = r
 born_ready true kind.Ts s o r h = tt
 
-set_ready : (b : Bool) (u : Setup) (p : Player) (o : Option Lived) → IsInRange (control_for u p) → AreReady o → AreReady (when b (option_map (living (set_life u p))) o)
+set_ready : (b : Bool) (u : Setup) (p : Player) (o : Option Lived) → IsInRange (control_for u p) → AreReady o
+    → AreReady (when b (option_map (living (set_life u p))) o)
 set_ready false u p o r h = h
 set_ready true u p None r h = tt
 set_ready true u p (Some l) r h = go l.life l.over h where
-  go : (life : Life) (over : Bool) → IsReady life → AreReady (Some (living (set_life u p) (record { life = life; over = over })))
+  go : (life : Life) (over : Bool) → IsReady life
+      → AreReady (Some (living (set_life u p) (record { life = life; over = over })))
   go life true h = h
   go (CiiLife s ss) false h = h
   go Unset false h = r
@@ -250,17 +283,22 @@ abbrev pub IsControlledIn : Player → Option Talk → Type 0
 IsControlledIn player None = ⊤
 IsControlledIn player (Some t) = IsControlled player t
 
-controlled_of : (player : Player) (peer : ℕ) (ss : List Session) → All (λ s. IsControlled player s.talk) ss → IsControlledIn player (talk_of peer ss)
+controlled_of : (player : Player) (peer : ℕ) (ss : List Session) → All (λ s. IsControlled player s.talk) ss
+    → IsControlledIn player (talk_of peer ss)
 controlled_of player peer [] h = tt
-controlled_of player peer (s ∷ ss) h = go (eqb s.peer peer) (controlled_of player peer ss (All-tail (λ s. IsControlled player s.talk) s ss h)) where
-  go : (b : Bool) → IsControlledIn player (talk_of peer ss) → IsControlledIn player (cond b (Some s.talk) (talk_of peer ss))
-  go true ih = All-head (λ s. IsControlled player s.talk) s ss h
-  go false ih = ih
+controlled_of player peer (s ∷ ss) h =
+    go (eqb s.peer peer) (controlled_of player peer ss (All-tail (λ s. IsControlled player s.talk) s ss h)) where
+      go : (b : Bool) → IsControlledIn player (talk_of peer ss)
+          → IsControlledIn player (cond b (Some s.talk) (talk_of peer ss))
+      go true ih = All-head (λ s. IsControlled player s.talk) s ss h
+      go false ih = ih
 
-grown_ready : (s : State) (p : Player) (w : Option _) (o : Option Lived) → IsReadable s → IsControlledIn p (kept w o) → AreReady o → AreReady (option_map (living (grown_life s p)) o)
+grown_ready : (s : State) (p : Player) (w : Option _) (o : Option Lived) → IsReadable s → IsControlledIn p (kept w o)
+    → AreReady o → AreReady (option_map (living (grown_life s p)) o)
 grown_ready s p w None r c h = tt
 grown_ready s p w (Some l) r c h = go l.life l.over c h where
-  go : (life : Life) (over : Bool) → IsControlledIn p (kept w (Some (record { life = life; over = over }))) → IsReady life → AreReady (Some (living (grown_life s p) (record { life = life; over = over })))
+  go : (life : Life) (over : Bool) → IsControlledIn p (kept w (Some (record { life = life; over = over })))
+      → IsReady life → AreReady (Some (living (grown_life s p) (record { life = life; over = over })))
   go life true c h = h
   go (CiiLife t ss) false c h = (h, r)
   go Unset false c h = tt
@@ -273,11 +311,14 @@ ended_ready true (Some l) h = h
 
 ready : (h : List Event) (peer : ℕ) → IsLawful h → AreTellable h → AreReady (life_of peer h)
 ready [] peer lawful t = tt
-ready (Opened p k ∷ h) peer lawful t = born_ready (eqb p peer) k (state_of h) (life_of peer h) (state_ready h t.0) (ready h peer lawful.0 t.0)
-ready (SetUp p u player ∷ h) peer lawful t = set_ready (eqb p peer) u player (life_of peer h) t.1 (ready h peer lawful.0 t.0)
+ready (Opened p k ∷ h) peer lawful t =
+    born_ready (eqb p peer) k (state_of h) (life_of peer h) (state_ready h t.0) (ready h peer lawful.0 t.0)
+ready (SetUp p u player ∷ h) peer lawful t =
+    set_ready (eqb p peer) u player (life_of peer h) t.1 (ready h peer lawful.0 t.0)
 ready (Published s player ∷ h) peer lawful t =
     grown_ready s player (window_of peer h) (life_of peer h) t.1.0
-    (subst (IsControlledIn player) ((is_kept h lawful.0).talks peer) (controlled_of player peer (sessions_of h).list t.1.1)) (ready h peer lawful.0 t.0)
+    (subst (IsControlledIn player) ((is_kept h lawful.0).talks peer)
+    (controlled_of player peer (sessions_of h).list t.1.1)) (ready h peer lawful.0 t.0)
 ready (Presented p q player ∷ h) peer lawful t = ready h peer lawful.0 t.0
 ready (Dropped ∷ h) peer lawful t = ready h peer lawful.0 t.0
 ready (Closed p ∷ h) peer lawful t = ended_ready (eqb p peer) (life_of peer h) (ready h peer lawful.0 t.0)

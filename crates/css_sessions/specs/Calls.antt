@@ -1,5 +1,6 @@
 -- What the calls on sessions and the laws promise, by name.
-use Rattle.std.specs.Prelude.{◌≡◌, ◌⊎◌, ◌≤◌, ℕ, ℤ, List, ◌∷◌, ◌++◌, map, length, Option, None, Some, true, Ok, IsOk, IsSome}
+use Rattle.std.specs.Prelude.{◌≡◌, ◌⊎◌, ◌≤◌, ℕ, ℤ, List, ◌∷◌, ◌++◌, map, length, Option, None, Some, true, Ok, IsOk}
+use Rattle.std.specs.Prelude.{IsSome}
 use Rattle.std.specs.List.{filter_map}
 use Rattle.css_num.specs.declared.control.Control.TheVariants.{Available, Unavailable}
 use Rattle.css_player.specs.Player.{Player}

@@ -141,7 +141,8 @@ pub const OTHER: &str = r#"{"contentIdStem":"","timelineSelector":"other"}"#;
 
 pub const SETUPS: [&str; 3] = [ALL, OF_SECOND, OTHER];
 
-/// Presentations with the offsets of their bounds: the content and wall time of the earliest one, and those of the latest.
+/// Presentations with the offsets of their bounds: the content and wall time of the earliest one, and those of the
+/// latest.
 pub const PRESENTATIONS: [(&str, Option<i128>, Option<i128>); 3] = [
     (
         "900000 10040000000 900000 plusinfinity",

@@ -1,5 +1,6 @@
 -- What is kept of the answers that were accepted. In each list of answers the newest stands first.
-use Rattle.std.specs.Prelude.{ℕ, suc, ◌≡◌, ◌*◌, ◌^◌, ◌≤◌, ◌<◌, ◌⊎◌, ⊤, pos, ◌≤ℤ◌, List, [], ◌∷◌, Bool, false, ◌==◌, ◌||◌, if◌then◌else◌, All}
+use Rattle.std.specs.Prelude.{ℕ, suc, ◌≡◌, ◌*◌, ◌^◌, ◌≤◌, ◌<◌, ◌⊎◌, ⊤, pos, ◌≤ℤ◌, List, [], ◌∷◌, Bool, false, ◌==◌}
+use Rattle.std.specs.Prelude.{◌||◌, if◌then◌else◌, All}
 use Rattle.css_model.specs.Wire.{second}
 use Rattle.css_model.specs.WallClock.{Answer, Local, IsLocal, IsAnswer, scaled_width, HaveSameNarrowest}
 
@@ -42,7 +43,8 @@ DeclareDifferent (answer ∷ older) = (declares answer.error older ≡ false) ×
 abbrev pub AreAmong : Answers → Answers → Type 0
 AreAmong [] accepted = ⊤
 AreAmong (answer ∷ older) [] = ⊥
-AreAmong (answer ∷ older) (newest ∷ accepted) = ((answer ≡ newest) × AreAmong older accepted) ⊎ AreAmong (answer ∷ older) accepted
+AreAmong (answer ∷ older) (newest ∷ accepted) = ((answer ≡ newest) × AreAmong older accepted)
+    ⊎ AreAmong (answer ∷ older) accepted
 
 -- The frontier is what is kept of the accepted answers: at every reading the narrowest of the kept is the narrowest of
 -- the accepted; the kept are among the accepted, in their order; the same errors are declared, and by one kept answer
@@ -63,4 +65,6 @@ pub record Accepts (old new : Frontier) (answer : Answer) (reading : ℕ) : Type
 -- the same of the kept answers alone, and all of them stay possible
 pub record KeepsFrontier (own : Local) (reading : ℕ) (answer : Answer) (old new : Answers) : Type 0 where
   pub possible : All (IsPossible own reading) old → All (IsPossible own reading) new
-  pub stands : (floor : ℕ) (accepted : Answers) → floor ≤ reading → IsLocal own → StandsFor (record { local = own; kept = old; floor = floor }) accepted → StandsFor (record { local = own; kept = new; floor = reading }) (answer ∷ accepted)
+  pub stands : (floor : ℕ) (accepted : Answers) → floor ≤ reading → IsLocal own
+      → StandsFor (record { local = own; kept = old; floor = floor }) accepted
+      → StandsFor (record { local = own; kept = new; floor = reading }) (answer ∷ accepted)

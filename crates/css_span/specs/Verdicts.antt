@@ -6,4 +6,6 @@ use Rattle.css_span.specs.declared.fault.AcceptFault.TheVariants.{Impossible}
 
 -- it is impossible where its scaled width at the reading is below zero
 abbrev pub verdict : Local → ℕ → Answer → Result (Unit {0}) AcceptFault
-verdict own reading answer = if int_lt (scaled_width own answer reading) (pos 0) then Err (Impossible (scaled_width own answer reading)) else Ok tt
+verdict own reading answer =
+    if int_lt (scaled_width own answer reading) (pos 0) then Err (Impossible (scaled_width own answer reading))
+    else Ok tt

@@ -24,11 +24,26 @@ impl Model for Answer {
 
     ghost Value = { Times };
 
-    ghost view = { λ a. record { t1 = a.t1; t2 = a.t2; t3 = a.t3; t4 = a.t4; precision = a.precision; error = a.error } };
+    ghost view = { λ a. record {
+      t1 = a.t1;
+      t2 = a.t2;
+      t3 = a.t3;
+      t4 = a.t4;
+      precision = a.precision;
+      error = a.error;
+    } };
 
-    ghost invariant = { λ a. IsAnswer (record { t1 = a.t1; t2 = a.t2; t3 = a.t3; t4 = a.t4; precision = a.precision; error = a.error }) };
+    ghost invariant = { λ a.
+        IsAnswer (record { t1 = a.t1; t2 = a.t2; t3 = a.t3; t4 = a.t4; precision = a.precision; error = a.error }) };
 
-    ghost inverse = { λ a. record { t1 = a.t1; t2 = a.t2; t3 = a.t3; t4 = a.t4; precision = a.precision; error = a.error } };
+    ghost inverse = { λ a. record {
+      t1 = a.t1;
+      t2 = a.t2;
+      t3 = a.t3;
+      t4 = a.t4;
+      precision = a.precision;
+      error = a.error;
+    } };
 }
 
 /// A companion's own clock.

@@ -76,7 +76,8 @@ impl Estimate {
     pub fn at(&self, reading: u64) -> Option<Span>
         requires range { reading < LIMIT }
         requires floor { self.now.floor ≤ reading }
-        ensures span { (accepted : Answers) → StandsFor self.now accepted → result ≡ wall_span self.now.local reading accepted }
+        ensures span { (accepted : Answers) → StandsFor self.now accepted
+            → result ≡ wall_span self.now.local reading accepted }
         ensures none { (accepted : Answers) → StandsFor self.now accepted → IsNone result ↔ (accepted ≡ []) }
         ensures near { IfSome result IsNear }
     {

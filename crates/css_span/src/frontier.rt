@@ -1,4 +1,5 @@
-ghost use Rattle.std.specs.Prelude.{◌≡◌, ◌≢◌, ◌<◌, ◌≤ℤ◌, pos, length, reverse, slice_get, All, IfSome, IfNone, OnOk, OnErr};
+ghost use Rattle.std.specs.Prelude.{◌≡◌, ◌≢◌, ◌<◌, ◌≤ℤ◌, pos, length, reverse, slice_get, All, IfSome, IfNone, OnOk};
+ghost use Rattle.std.specs.Prelude.{OnErr};
 ghost use Rattle.css_model.specs.WallClock as wall_clock;
 ghost use Rattle.css_span.specs.Frontiers.{KeepsFrontier};
 
@@ -37,7 +38,8 @@ pub(crate) fn keep(
 ) -> Result<(), Memory>
     requires range { reading < LIMIT }
     requires possible { pos 0 ≤ℤ wall_clock.scaled_width local.now answer reading }
-    ensures ok { OnOk result (KeepsFrontier local.now reading answer (reverse kept.old.items) (reverse kept.new.items)) }
+    ensures ok { OnOk result
+        (KeepsFrontier local.now reading answer (reverse kept.old.items) (reverse kept.new.items)) }
     ensures err { OnErr result (kept.new.items ≡ kept.old.items) }
 {
     match place_of(kept, answer.error) {
@@ -54,7 +56,8 @@ pub(crate) fn keep(
 }
 
 fn place_of(answers: &[Answer], error: u32) -> Option<usize>
-    ensures found { IfSome result (λ i. (i < length answers.now) × IfSome (slice_get answers.now i) (λ a. a.error ≡ error)) }
+    ensures found { IfSome result (λ i. (i < length answers.now)
+        × IfSome (slice_get answers.now i) (λ a. a.error ≡ error)) }
     ensures none { IfNone result (All (λ a. a.error ≢ error) answers.now) }
 {
     answers.iter().position(|answer| answer.error == error)

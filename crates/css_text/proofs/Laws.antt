@@ -8,8 +8,10 @@ use Rattle.serde_json.proofs.Numbers.{number_of-decimal, number_of-negative}
 use Rattle.serde_json.specs.Data.{put}
 use Rattle.serde_json.specs.Read.{number_of, of_items, of_members}
 use Rattle.serde_json.specs.Written.{items_text, members_text, comma_if}
-use Rattle.css_text.specs.Ordered.{IsCanonical, HasUtf8, ItemsHaveUtf8, MembersHaveUtf8, IsAfter, followed_by, IsOrdered, ItemsAreOrdered, AreOrderedAfter}
-use Rattle.std.proofs.Common.{◌≡◌, ℕ, ◌≤◌, List, [], ◌∷◌, ◌++◌, suc, Some, Ok, refl, sym, ap, ap₂, ◌∙◌, arith, append-nil}
+use Rattle.css_text.specs.Ordered.{IsCanonical, HasUtf8, ItemsHaveUtf8, MembersHaveUtf8, IsAfter, followed_by}
+use Rattle.css_text.specs.Ordered.{IsOrdered, ItemsAreOrdered, AreOrderedAfter}
+use Rattle.std.proofs.Common.{◌≡◌, ℕ, ◌≤◌, List, [], ◌∷◌, ◌++◌, suc, Some, Ok, refl, sym, ap, ap₂, ◌∙◌, arith}
+use Rattle.std.proofs.Common.{append-nil}
 use Rattle.std.specs.Prelude.{pos, negsuc, option_and_then, max}
 use Rattle.std.specs.Str.{IsUtf8}
 use Rattle.json.specs.Lex.{tokens}
@@ -20,7 +22,8 @@ use Rattle.json.specs.Tree.{json_tokens, HasNumbers, ItemsHaveNumbers, MembersHa
 use Rattle.json.proofs.Printed.Trees.{value-json_tokens, ArePrintable-json_tokens}
 use Rattle.json.proofs.Printed.Tokens.{tokens-print}
 use Rattle.json.proofs.Printed.Decimals.{IsNumber-decimal, IsNumber-signed_decimal}
-use Rattle.serde_json.specs.Data.{Num, unsigned, negative, float, Data, null, boolean, number, string, array, object, Items, no_items, item, Members, no_members, member, depth, items_depth, members_depth}
+use Rattle.serde_json.specs.Data.{Num, unsigned, negative, float, Data, null, boolean, number, string, array, object}
+use Rattle.serde_json.specs.Data.{Items, no_items, item, Members, no_members, member, depth, items_depth, members_depth}
 use Rattle.serde_json.specs.Read.{read, of_json, max_depth}
 use Rattle.serde_json.specs.Written.{compact_text, outline, items_outline, members_outline, number_text}
 use Rattle.serde_json.proofs.Texts.{print-outline}
@@ -74,13 +77,17 @@ mutual
 
 -- the tokens of the text are those of the outline
 compact_tokens : (d : Data) → IsPlain d → tokens (compact_text d) ≡ json_tokens (outline d)
-compact_tokens d plain = ap tokens (sym (print-outline d)) ∙ tokens-print (json_tokens (outline d)) (ArePrintable-json_tokens (outline d) (numbers d plain))
+compact_tokens d plain =
+    ap tokens (sym (print-outline d)) ∙ tokens-print (json_tokens (outline d))
+    (ArePrintable-json_tokens (outline d) (numbers d plain))
 
 -- so the text is read as the outline is
 pub read_compact : (d : Data) → IsPlain d → depth d ≤ max_depth → read (compact_text d) ≡ of_json (outline d)
 read_compact d plain shallow =
-    ap (λ ts. option_and_then of_json (option_and_then (λ p. json.if_last p.0 p.1) (json.value max_depth ts))) (compact_tokens d plain ∙ sym (append-nil (json_tokens (outline d))))
-    ∙ ap (λ r. option_and_then of_json (option_and_then (λ p. json.if_last p.0 p.1) r)) (value-json_tokens (outline d) max_depth [] (omega (arith, same_depth d)))
+    ap (λ ts. option_and_then of_json (option_and_then (λ p. json.if_last p.0 p.1) (json.value max_depth ts)))
+    (compact_tokens d plain ∙ sym (append-nil (json_tokens (outline d))))
+    ∙ ap (λ r. option_and_then of_json (option_and_then (λ p. json.if_last p.0 p.1) r))
+    (value-json_tokens (outline d) max_depth [] (omega (arith, same_depth d)))
 
 -- ---- UTF-8
 -- a byte before a text
@@ -96,7 +103,9 @@ comma_utf8 false = IsUtf8-nil
 number_utf8 : (n : Num) → IsPlainNumber n → IsUtf8 (number_text n)
 number_utf8 (unsigned n) h = IsUtf8-from_ascii (decimal n) (IsAscii-decimal n (omega arith))
 number_utf8 (negative (pos n)) h = IsUtf8-from_ascii (decimal n) (IsAscii-decimal n (omega arith))
-number_utf8 (negative (negsuc n)) h = led 45 (decimal (suc n)) (IsUtf8-are_ascii (45 ∷ []) refl) (IsUtf8-from_ascii (decimal (suc n)) (IsAscii-decimal (suc n) (omega arith)))
+number_utf8 (negative (negsuc n)) h =
+    led 45 (decimal (suc n)) (IsUtf8-are_ascii (45 ∷ []) refl)
+    (IsUtf8-from_ascii (decimal (suc n)) (IsAscii-decimal (suc n) (omega arith)))
 number_utf8 (float x) h = absurd h
 
 -- the compact text is UTF-8 where the value's texts are
@@ -107,23 +116,30 @@ mutual
   text_utf8 (number n) p h = number_utf8 n p
   text_utf8 (string s) p h = IsUtf8-quoted s h
   text_utf8 (array ds) p h = led 91 (items_text false ds) (IsUtf8-are_ascii (91 ∷ []) refl) (items_utf8 false ds p h)
-  text_utf8 (object ms) p h = led 123 (members_text false ms) (IsUtf8-are_ascii (123 ∷ []) refl) (members_utf8 false ms p h)
+  text_utf8 (object ms) p h =
+      led 123 (members_text false ms) (IsUtf8-are_ascii (123 ∷ []) refl) (members_utf8 false ms p h)
 
   items_utf8 : (later : Bool) (ds : Items) → ItemsArePlain ds → ItemsHaveUtf8 ds → IsUtf8 (items_text later ds)
   items_utf8 later no_items p h = IsUtf8-are_ascii (93 ∷ []) refl
-  items_utf8 later (item d ds) p h = IsUtf8-append (comma_if later) _ (comma_utf8 later) (IsUtf8-append (compact_text d) _ (text_utf8 d p.0 h.0) (items_utf8 true ds p.1 h.1))
+  items_utf8 later (item d ds) p h =
+      IsUtf8-append (comma_if later) _ (comma_utf8 later)
+      (IsUtf8-append (compact_text d) _ (text_utf8 d p.0 h.0) (items_utf8 true ds p.1 h.1))
 
-  members_utf8 : (later : Bool) (ms : Members) → MembersArePlain ms → MembersHaveUtf8 ms → IsUtf8 (members_text later ms)
+  members_utf8 : (later : Bool) (ms : Members) → MembersArePlain ms → MembersHaveUtf8 ms
+      → IsUtf8 (members_text later ms)
   members_utf8 later no_members p h = IsUtf8-are_ascii (125 ∷ []) refl
   members_utf8 later (member k d ms) p h =
       IsUtf8-append (comma_if later) _ (comma_utf8 later) (IsUtf8-append (quoted k) _ (IsUtf8-quoted k h.0)
-      (led 58 (compact_text d ++ members_text true ms) (IsUtf8-are_ascii (58 ∷ []) refl) (IsUtf8-append (compact_text d) _ (text_utf8 d p.0 h.1) (members_utf8 true ms p.1 h.2))))
+      (led 58 (compact_text d ++ members_text true ms) (IsUtf8-are_ascii (58 ∷ []) refl)
+      (IsUtf8-append (compact_text d) _ (text_utf8 d p.0 h.1) (members_utf8 true ms p.1 h.2))))
 
 -- ---- names in order
 -- a name after all others is put at the end
 put_last : (k : List ℕ) (d : Data) (ms : Members) → IsAfter k ms → put k d ms ≡ followed_by ms (member k d no_members)
 put_last k d no_members h = refl
-put_last k d (member l e ms) h = ap (λ o. match_ordering o (member k d (member l e ms)) (member l d ms) (member l e (put k d ms))) h.0 ∙ ap (member l e) (put_last k d ms h.1)
+put_last k d (member l e ms) h =
+    ap (λ o. match_ordering o (member k d (member l e ms)) (member l d ms) (member l e (put k d ms))) h.0 ∙ ap
+    (member l e) (put_last k d ms h.1)
 
 -- members one after another, however they are grouped
 followed-assoc : (a b c : Members) → followed_by (followed_by a b) c ≡ followed_by a (followed_by b c)
@@ -154,9 +170,12 @@ mutual
 
   items_back : (ds : Items) → ItemsArePlain ds → ItemsAreOrdered ds → of_items (items_outline ds) ≡ Some ds
   items_back no_items p h = refl
-  items_back (item d ds) p h = ap (option_and_then (λ d. option_map (item d) (of_items (items_outline ds)))) (outline_back d p.0 h.0) ∙ ap (option_map (item d)) (items_back ds p.1 h.1)
+  items_back (item d ds) p h =
+      ap (option_and_then (λ d. option_map (item d) (of_items (items_outline ds)))) (outline_back d p.0 h.0) ∙ ap
+      (option_map (item d)) (items_back ds p.1 h.1)
 
-  members_back : (ms found : Members) → MembersArePlain ms → AreOrderedAfter found ms → of_members (members_outline ms) found ≡ Some (followed_by found ms)
+  members_back : (ms found : Members) → MembersArePlain ms → AreOrderedAfter found ms
+      → of_members (members_outline ms) found ≡ Some (followed_by found ms)
   members_back no_members found p h = ap Some (sym (followed_none found))
   members_back (member k d ms) found p h =
       ap (option_and_then (λ d. of_members (members_outline ms) (put k d found))) (outline_back d p.0 h.1)
@@ -165,6 +184,8 @@ mutual
       ∙ ap Some (followed-assoc found (member k d no_members) ms)
 
 -- so the object of its text is the value's
-pub object_compact : (d : Data) → IsPlain d → depth d ≤ max_depth → HasUtf8 d → IsOrdered d → object_of (compact_text d) ≡ members_or_fault (Ok d)
+pub object_compact : (d : Data) → IsPlain d → depth d ≤ max_depth → HasUtf8 d → IsOrdered d
+    → object_of (compact_text d) ≡ members_or_fault (Ok d)
 object_compact d plain shallow utf8 ordered =
-    object_written d (compact_text d) plain refl (text_utf8 d plain utf8) (read_compact d plain shallow ∙ outline_back d plain ordered)
+    object_written d (compact_text d) plain refl (text_utf8 d plain utf8)
+    (read_compact d plain shallow ∙ outline_back d plain ordered)

@@ -11,7 +11,8 @@ use Rattle.css_text.specs.Readings.{reading, object_of}
 use Rattle.css_text.specs.declared.faults.TextFault.TheVariants.{NotJson, NotObject}
 
 -- numerals in strings and escapes stay, and `true` has none
-whole : whole_text (codes "{\"a 1.0\":1.0,\"b\":-0,\"c\":1e3,\"d\":true,\"e\\\"2.0\":[2.5]}") ≡ codes "{\"a 1.0\":1,\"b\":0,\"c\":null,\"d\":true,\"e\\\"2.0\":[null]}"
+whole : whole_text (codes "{\"a 1.0\":1.0,\"b\":-0,\"c\":1e3,\"d\":true,\"e\\\"2.0\":[2.5]}") ≡ codes
+    "{\"a 1.0\":1,\"b\":0,\"c\":null,\"d\":true,\"e\\\"2.0\":[null]}"
 unfolding whole_from rewritten after_number
 whole = refl
 

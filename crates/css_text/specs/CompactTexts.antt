@@ -1,6 +1,7 @@
 -- Values whose compact text is its own whole text.
 use Rattle.std.specs.Prelude.{suc, ◌^◌, ◌<◌, ⊤, pos, negsuc}
-use Rattle.serde_json.specs.Data.{Num, unsigned, negative, float, Data, null, boolean, number, string, array, object, Items, no_items, item, Members, no_members, member}
+use Rattle.serde_json.specs.Data.{Num, unsigned, negative, float, Data, null, boolean, number, string, array, object}
+use Rattle.serde_json.specs.Data.{Items, no_items, item, Members, no_members, member}
 
 -- a whole number of at most 18 digits
 abbrev pub IsPlainNumber : Num → Type 0

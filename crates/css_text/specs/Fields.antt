@@ -4,7 +4,8 @@ use Rattle.std.specs.Str.{IsUtf8}
 use Rattle.serde_json.specs.Data.{Data, null, boolean, number, string, array, object, Members}
 use Rattle.serde_json.specs.Find.{as_i64, get_member}
 use Rattle.css_text.specs.declared.fields.Field.{Field}
-use Rattle.css_text.specs.declared.fields.Field.TheVariants.{Missing, Null, Words, Whole, List as list_field, Object as object_field, Other}
+use Rattle.css_text.specs.declared.fields.Field.TheVariants.{Missing, Null, Words, Whole, List as list_field}
+use Rattle.css_text.specs.declared.fields.Field.TheVariants.{Object as object_field, Other}
 
 -- a whole number that an `i64` holds
 abbrev pub whole_or_other : Option ℤ → Field

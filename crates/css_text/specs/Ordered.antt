@@ -4,7 +4,8 @@ use Rattle.std.specs.Ordering.{nat_cmp}
 use Rattle.std.specs.declared.cmp.Ordering.TheVariants.{Greater}
 use Rattle.std.specs.Cmp.Lexicographic.{slice_cmp}
 use Rattle.std.specs.Str.{IsUtf8}
-use Rattle.serde_json.specs.Data.{Num, unsigned, negative, float, Data, null, boolean, number, string, array, object, Items, no_items, item, Members, no_members, member}
+use Rattle.serde_json.specs.Data.{Num, unsigned, negative, float, Data, null, boolean, number, string, array, object}
+use Rattle.serde_json.specs.Data.{Items, no_items, item, Members, no_members, member}
 
 abbrev mutual
   -- each text and each name is UTF-8
@@ -57,4 +58,5 @@ abbrev mutual
 
   pub AreOrderedAfter : Members → Members → Type 0
   AreOrderedAfter found no_members = ⊤
-  AreOrderedAfter found (member k d ms) = IsAfter k found × IsOrdered d × AreOrderedAfter (followed_by found (member k d no_members)) ms
+  AreOrderedAfter found (member k d ms) = IsAfter k found × IsOrdered d
+      × AreOrderedAfter (followed_by found (member k d no_members)) ms

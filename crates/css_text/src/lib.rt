@@ -33,5 +33,6 @@ ghost use Rattle.css_text.specs.Readings.{object_of, members_or_fault};
 
 /// The compact text of a plain value is read back as that value.
 pub fn compact_texts_are_read_back()
-    ensures { (d : Data) → IsPlain d → depth d ≤ max_depth → HasUtf8 d → IsOrdered d → object_of (compact_text d) ≡ members_or_fault (Ok d) }
+    ensures { (d : Data) → IsPlain d → depth d ≤ max_depth → HasUtf8 d → IsOrdered d
+        → object_of (compact_text d) ≡ members_or_fault (Ok d) }
 {}

@@ -1,6 +1,7 @@
 -- What a control timestamp's text is to be read as is never want of memory.
 use Rattle.std.proofs.Common.{ℕ, Bool, true, false, List, length}
-use Rattle.std.specs.Prelude.{ℤ, ◌&&◌, ◌||◌, not, nat_lt, nat_le, ◌^◌, if◌then◌else◌, Option, Some, None, Result, Ok, Err, ok_or}
+use Rattle.std.specs.Prelude.{ℤ, ◌&&◌, ◌||◌, not, nat_lt, nat_le, ◌^◌, if◌then◌else◌, Option, Some, None, Result, Ok}
+use Rattle.std.specs.Prelude.{Err, ok_or}
 use Rattle.std.specs.Str.Parse.{digits_value}
 use Rattle.serde_json.specs.Data.{Data, Members}
 use Rattle.serde_json.specs.Find.{as_object}
@@ -34,7 +35,8 @@ ranges content speed wall =
     (Ok (Available (content_value content) (digits_value 10 wall) speed)) tt tt))
 
 -- nor where a field lacks its form
-forms : (content : Option (List ℕ)) (speed : Option ℤ) (wall : Option (List ℕ)) → NotMemory (with_forms content speed wall)
+forms : (content : Option (List ℕ)) (speed : Option ℤ) (wall : Option (List ℕ))
+    → NotMemory (with_forms content speed wall)
 forms None speed wall = tt
 forms (Some content) None wall = tt
 forms (Some content) (Some speed) None = tt

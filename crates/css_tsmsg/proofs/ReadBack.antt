@@ -125,7 +125,8 @@ actual_utf8 (MinusInfinity content) h = absurd h
 actual_utf8 (PlusInfinity content) h = absurd h
 
 -- so are all texts in the object of two or three bounds
-window_utf8 : (earliest latest : Bound) (actual : Option Bound) → IsEarliest earliest → IsLatest latest → IsActual actual
+window_utf8 : (earliest latest : Bound) (actual : Option Bound) → IsEarliest earliest → IsLatest latest
+    → IsActual actual
     → HasUtf8 (data_of earliest latest actual)
 window_utf8 earliest latest None e l a =
     (IsUtf8-are_ascii _ refl, earliest_utf8 earliest e, (IsUtf8-are_ascii _ refl, latest_utf8 latest l, tt))
@@ -137,7 +138,8 @@ window_utf8 earliest latest (Some actual) e l a = (
 
 -- and its names are in alphabetical order
 window_ordered : (earliest latest : Bound) (actual : Option Bound) → IsOrdered (data_of earliest latest actual)
-window_ordered earliest latest None = (tt, (tt, tt, ((refl, tt), tt, tt)), ((refl, tt), (tt, tt, ((refl, tt), tt, tt)), tt))
+window_ordered earliest latest None =
+    (tt, (tt, tt, ((refl, tt), tt, tt)), ((refl, tt), (tt, tt, ((refl, tt), tt, tt)), tt))
 window_ordered earliest latest (Some actual) = (
   tt,
   (tt, tt, ((refl, tt), tt, tt)),

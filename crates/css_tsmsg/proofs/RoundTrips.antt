@@ -1,11 +1,13 @@
 -- A setup, a control timestamp and a presentation that are written are read back.
-use Rattle.std.proofs.Common.{◌≡◌, ℕ, zero, suc, ◌^◌, ◌<◌, ◌≤◌, ℤ, pos, negsuc, neg_ℤ, ◌≤ℤ◌, true, false, List, ◌∷◌, length, get_or, Some, Ok, decimal, refl, ap, ap₂, ◌∙◌, arith, lt-ltb, le-ltb, ne_eqb}
+use Rattle.std.proofs.Common.{◌≡◌, ℕ, zero, suc, ◌^◌, ◌<◌, ◌≤◌, ℤ, pos, negsuc, neg_ℤ, ◌≤ℤ◌, true, false, List, ◌∷◌}
+use Rattle.std.proofs.Common.{length, get_or, Some, Ok, decimal, refl, ap, ap₂, ◌∙◌, arith, lt-ltb, le-ltb, ne_eqb}
 use Rattle.std.specs.Prelude.{nat_lt}
 use Rattle.std.specs.Fmt.{signed_decimal}
 use Rattle.std.specs.Str.Parse.{digits_value}
 use Rattle.std.proofs.lemmas.Int.{ints}
 use Rattle.std.proofs.lemmas.Bool.{lt-leb}
-use Rattle.std.proofs.lemmas.Fmt.{decimal_digit, length-decimal-le, decimal_is_IsNumeral, decimal_nonempty, first_decimal}
+use Rattle.std.proofs.lemmas.Fmt.{decimal_digit, length-decimal-le, decimal_is_IsNumeral, decimal_nonempty}
+use Rattle.std.proofs.lemmas.Fmt.{first_decimal}
 use Rattle.css_num.specs.declared.control.Control.{Control}
 use Rattle.css_num.specs.declared.control.Control.TheVariants.{Available, Unavailable}
 use Rattle.serde_json.specs.Data.{depth}
@@ -18,7 +20,8 @@ use Rattle.css_text.specs.Readings.{object_of, members_or_fault}
 use Rattle.css_text.specs.WholeTexts.{odd_count}
 use Rattle.css_text.specs.declared.fields.Field.TheVariants as field
 use Rattle.css_text.proofs.CompactTexts.{decimal_digits}
-use Rattle.css_tsmsg.specs.Controls.{control_of, control_in, control_or_fault, control_from, is_speed, control_data, control_text, IsInRange, AreInRange}
+use Rattle.css_tsmsg.specs.Controls.{control_of, control_in, control_or_fault, control_from, is_speed, control_data}
+use Rattle.css_tsmsg.specs.Controls.{control_text, IsInRange, AreInRange}
 use Rattle.css_tsmsg.specs.Setups.{setup_of, setup_in, setup_or_fault, setup_data, setup_text}
 use Rattle.css_tsmsg.specs.Times.{is_wall, has_minus, without_minus, is_content, content_value, IsContent}
 use Rattle.css_tsmsg.specs.declared.setup.Setup.{Setup}
@@ -48,12 +51,14 @@ pub record Reads (bytes : List ℕ) (z : ℤ) : Type 0 where
 
 -- a number is written as digits, one or more
 pub wall_form : (n : ℕ) → n < 2 ^ 64 → is_wall (decimal n) ≡ true
-wall_form n h = rw (ne_eqb (length (decimal n)) 0 (let some = decimal_nonempty n h in λ e. omega arith), decimal_digits n h) refl
+wall_form n h =
+    rw (ne_eqb (length (decimal n)) 0 (let some = decimal_nonempty n h in λ e. omega arith), decimal_digits n h) refl
 
 -- with no `-`
 plain : (n : ℕ) → n < 2 ^ 64 → has_minus (decimal n) ≡ false
 plain zero h = rw (decimal_digit 0 (omega arith)) refl
-plain (suc n) h = let first = first_decimal (suc n) (omega arith) h in ne_eqb (get_or (decimal (suc n)) 0 0) 45 (λ e. omega arith)
+plain (suc n) h = let first = first_decimal (suc n) (omega arith) h in
+    ne_eqb (get_or (decimal (suc n)) 0 0) 45 (λ e. omega arith)
 
 -- a content time without a `-`
 reads_decimal : (n : ℕ) → n < 10 ^ 18 → Reads (decimal n) (pos n)
@@ -93,10 +98,21 @@ wall_value n h = (decimal_is_IsNumeral n (omega arith)).1
 
 -- the three fields that were written
 fields_back : (content : ℤ) (wall : ℕ) (speed : ℤ) → AreInRange content wall speed
-    → control_from (field.Words (signed_decimal content)) (whole_or_other (as_i64 (of_integer speed))) (field.Words (decimal wall)) false ≡ Ok (Available content wall speed)
+    → control_from (field.Words (signed_decimal content)) (whole_or_other (as_i64 (of_integer speed)))
+    (field.Words (decimal wall)) false ≡ Ok (Available content wall speed)
 fields_back content wall speed h =
     let c = reads_signed content h.content_time in
-    rw (speed_back speed h.slow h.fast, c.form, wall_form wall (omega (arith, h.wall_time)), le-ltb _ _ c.few, speed_fits speed h.slow h.fast, le-ltb _ _ (wall_few wall h.wall_time), wall_value wall h.wall_time, c.value, lt-leb (2 ^ 63) wall h.wall_time) refl
+    rw (
+      speed_back speed h.slow h.fast,
+      c.form,
+      wall_form wall (omega (arith, h.wall_time)),
+      le-ltb _ _ c.few,
+      speed_fits speed h.slow h.fast,
+      le-ltb _ _ (wall_few wall h.wall_time),
+      wall_value wall h.wall_time,
+      c.value,
+      lt-leb (2 ^ 63) wall h.wall_time,
+    ) refl
 
 -- the object of a control timestamp is plain
 pub control_plain : (c : Control) → IsInRange c → IsPlain (control_data c)
@@ -115,9 +131,11 @@ members_back (Available content wall speed) h = fields_back content wall speed h
 members_back Unavailable h = refl
 
 -- so its text is read back as the same control timestamp
-pub control_back : (c : Control) (text : List ℕ) → IsInRange c → object_of text ≡ members_or_fault (Ok (control_data c)) → odd_count text ≡ 0 → control_of text ≡ Ok c
+pub control_back : (c : Control) (text : List ℕ) → IsInRange c → object_of text ≡ members_or_fault (Ok (control_data c))
+    → odd_count text ≡ 0 → control_of text ≡ Ok c
 unfolding control_of
-control_back c text h told none = ap₂ (λ members odd. control_or_fault members (nat_lt 0 odd)) told none ∙ members_back c h
+control_back c text h told none =
+    ap₂ (λ members odd. control_or_fault members (nat_lt 0 odd)) told none ∙ members_back c h
 
 -- the text is that of the definition
 pub control_text_is : (c : Control) → compact_text (control_data c) ≡ control_text c
@@ -135,7 +153,8 @@ pub setup_shallow : (s : Setup) → depth (setup_data s) ≤ max_depth
 setup_shallow s = omega arith
 
 -- so its text is read back as the same setup
-pub setup_back : (s : Setup) (text : List ℕ) → object_of text ≡ members_or_fault (Ok (setup_data s)) → setup_of text ≡ Ok s
+pub setup_back : (s : Setup) (text : List ℕ) → object_of text ≡ members_or_fault (Ok (setup_data s))
+    → setup_of text ≡ Ok s
 unfolding setup_of setup_in
 setup_back s text told = ap setup_or_fault told
 

@@ -1,9 +1,11 @@
 -- The number that digits write, one digit after another.
-use Rattle.std.proofs.Common.{◌≡◌, ℕ, ◌+◌, ◌-◌, ◌*◌, ◌^◌, ◌<◌, ◌≤◌, true, false, List, [], ◌∷◌, length, take, get_or, ap, ◌∙◌, arith}
+use Rattle.std.proofs.Common.{◌≡◌, ℕ, ◌+◌, ◌-◌, ◌*◌, ◌^◌, ◌<◌, ◌≤◌, true, false, List, [], ◌∷◌, length, take, get_or}
+use Rattle.std.proofs.Common.{ap, ◌∙◌, arith}
 use Rattle.std.proofs.lemmas.Bool.{and_parts, leb-true}
 use Rattle.std.proofs.lemmas.Int.Digits.{digits_value_more}
 use Rattle.std.proofs.lemmas.Str.{digit_value_digit}
-use Rattle.std.proofs.lemmas.Str.Parse.{digit_at, digits_value_short, numerals_by_value, tells_digits, digits_value-take-le}
+use Rattle.std.proofs.lemmas.Str.Parse.{digit_at, digits_value_short, numerals_by_value, tells_digits}
+use Rattle.std.proofs.lemmas.Str.Parse.{digits_value-take-le}
 use Rattle.std.proofs.lemmas.List.{take_all}
 use Rattle.std.specs.List.{list_all}
 use Rattle.std.specs.Char.{is_ascii_digit}
@@ -30,8 +32,10 @@ pub wall_below : (ds : List ℕ) (k : ℕ) → is_wall ds ≡ true → length ds
 wall_below ds k h few = digits_value_short (numerals_by_value (AllDigits 10) tells_digits) ds k (wall_digits ds h) few
 
 -- one digit more
-pub digit_more : (ds : List ℕ) (i value : ℕ) → is_wall ds ≡ true → length ds ≤ 19 → i < length ds → value ≡ digits_value 10 (take i ds)
-    → (value * 10 + (get_or ds i 0 - 48) ≡ digits_value 10 (take (i + 1) ds)) × (value * 10 + (get_or ds i 0 - 48) < 2 ^ 64)
+pub digit_more : (ds : List ℕ) (i value : ℕ) → is_wall ds ≡ true → length ds ≤ 19 → i < length ds
+    → value ≡ digits_value 10 (take i ds)
+    → (value * 10 + (get_or ds i 0 - 48) ≡ digits_value 10 (take (i + 1) ds))
+    × (value * 10 + (get_or ds i 0 - 48) < 2 ^ 64)
 digit_more ds i value h few lt is =
     let range = digit_at ds i (wall_digits ds h) lt in
     let d = digit_value_digit (get_or ds i 0) range in
@@ -41,9 +45,11 @@ digit_more ds i value h few lt is =
     (omega arith, omega arith)
 
 -- at the end the number is that of all digits
-pub ended : (ds : List ℕ) (i value : ℕ) → length ds ≤ i → value ≡ digits_value 10 (take i ds) → value ≡ digits_value 10 ds
+pub ended : (ds : List ℕ) (i value : ℕ) → length ds ≤ i → value ≡ digits_value 10 (take i ds)
+    → value ≡ digits_value 10 ds
 ended ds i value past is = is ∙ ap (digits_value 10) (take_all i ds past)
 
 -- without a `-` no byte is left out
-pub no_minus_few : (bytes : List ℕ) (k : ℕ) → has_minus bytes ≡ false → length (without_minus bytes) ≤ k → length bytes ≤ k
+pub no_minus_few : (bytes : List ℕ) (k : ℕ) → has_minus bytes ≡ false → length (without_minus bytes) ≤ k
+    → length bytes ≤ k
 no_minus_few bytes k h few = rw h at few

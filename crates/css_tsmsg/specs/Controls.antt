@@ -1,5 +1,7 @@
 -- Control timestamps, and their texts.
-use Rattle.std.specs.Prelude.{ℕ, ℤ, pos, neg_ℤ, int_lt, ◌≤ℤ◌, ◌<◌, ◌^◌, ◌&&◌, ◌||◌, not, nat_lt, nat_le, Bool, true, false, List, length, Option, Some, None, Result, Ok, Err, codes, decimal, ⊤, if◌then◌else◌}
+use Rattle.std.specs.Prelude.{ℕ, ℤ, pos, neg_ℤ, int_lt, ◌≤ℤ◌, ◌<◌, ◌^◌, ◌&&◌, ◌||◌, not, nat_lt, nat_le, Bool, true}
+use Rattle.std.specs.Prelude.{false, List, length, Option, Some, None, Result, Ok, Err, codes, decimal, ⊤}
+use Rattle.std.specs.Prelude.{if◌then◌else◌}
 use Rattle.std.specs.Fmt.{signed_decimal}
 use Rattle.std.specs.Str.Parse.{digits_value}
 use Rattle.css_num.specs.declared.control.Control.{Control}
@@ -59,7 +61,8 @@ control_from content speed wall odd =
 -- the control timestamp that an object is
 unfoldable pub control_in : Members → Bool → Result Control TsFault
 control_in members odd =
-    control_from (field_at (json_name name.ContentTime) members) (field_at (json_name name.TimelineSpeedMultiplier) members)
+    control_from (field_at (json_name name.ContentTime) members)
+    (field_at (json_name name.TimelineSpeedMultiplier) members)
     (field_at (json_name name.WallClockTime) members) odd
 
 -- the control timestamp of an object, or the fault that the text is none
@@ -92,7 +95,8 @@ times_data content speed wall =
 
 -- the object of a control timestamp
 abbrev pub control_data : Control → Data
-control_data (Available content wall speed) = times_data (string (signed_decimal content)) (number (of_integer speed)) (string (decimal wall))
+control_data (Available content wall speed) =
+    times_data (string (signed_decimal content)) (number (of_integer speed)) (string (decimal wall))
 control_data Unavailable = times_data null null (string (codes "0"))
 
 -- the compact text of a control timestamp

@@ -1,7 +1,9 @@
 -- The names of the members in the texts.
 use Rattle.std.specs.Prelude.{ℕ, List, codes}
 use Rattle.css_tsmsg.specs.declared.name.TsName.{TsName}
-use Rattle.css_tsmsg.specs.declared.name.TsName.TheVariants.{ContentIdStem, TimelineSelector, ContentTime, TimelineSpeedMultiplier, WallClockTime, Earliest, Latest, Actual}
+use Rattle.css_tsmsg.specs.declared.name.TsName.TheVariants.{ContentIdStem, TimelineSelector, ContentTime}
+use Rattle.css_tsmsg.specs.declared.name.TsName.TheVariants.{TimelineSpeedMultiplier, WallClockTime, Earliest, Latest}
+use Rattle.css_tsmsg.specs.declared.name.TsName.TheVariants.{Actual}
 
 -- the name of a member
 abbrev pub json_name : TsName → List ℕ

@@ -1,5 +1,6 @@
 -- Presentations, and their texts.
-use Rattle.std.specs.Prelude.{◌≡◌, ℕ, ℤ, ◌<◌, ◌^◌, ◌||◌, nat_lt, nat_le, Bool, true, false, bytes_eq, List, length, Option, Some, None, option_and_then, Result, Ok, Err, codes, decimal, ⊤, if◌then◌else◌}
+use Rattle.std.specs.Prelude.{◌≡◌, ℕ, ℤ, ◌<◌, ◌^◌, ◌||◌, nat_lt, nat_le, Bool, true, false, bytes_eq, List, length}
+use Rattle.std.specs.Prelude.{Option, Some, None, option_and_then, Result, Ok, Err, codes, decimal, ⊤, if◌then◌else◌}
 use Rattle.std.specs.Fmt.{signed_decimal}
 use Rattle.std.specs.Str.Parse.{digits_value}
 use Rattle.serde_json.specs.Data.{Data, null, boolean, number, string, array, object, Members, no_members, member}
@@ -32,7 +33,8 @@ is_infinite _ words = false
 
 -- a wall time that may be infinite, which is told as None
 abbrev pub wall_form : TsName → Field → Option (Option (List ℕ))
-wall_form end (field.Words words) = if is_infinite end words then Some None else (if is_wall words then Some (Some words) else None)
+wall_form end (field.Words words) =
+    if is_infinite end words then Some None else (if is_wall words then Some (Some words) else None)
 wall_form end _ = None
 
 -- both times have their form
@@ -43,7 +45,8 @@ form_from end _ _ = Err (fault.Field end)
 -- the form of an object
 abbrev pub form_in : TsName → Members → Result Form TsFault
 form_in end members =
-    form_from end (words_that is_content (field_at (json_name name.ContentTime) members)) (wall_form end (field_at (json_name name.WallClockTime) members))
+    form_from end (words_that is_content (field_at (json_name name.ContentTime) members))
+    (wall_form end (field_at (json_name name.WallClockTime) members))
 
 -- an object with both times
 abbrev pub form_or_fault : TsName → Option Members → Result Form TsFault
@@ -169,7 +172,8 @@ IsBoundOf name.Earliest bound = IsEarliest bound
 IsBoundOf name.Latest bound = IsLatest bound
 IsBoundOf _ bound = IsFinite bound
 
--- the earliest bound isn't +infinity, the latest not -infinity, the actual one has a wall time, and all numbers are in range
+-- the earliest bound isn't +infinity, the latest not -infinity, the actual one has a wall time, and all numbers are in
+-- range
 pub record IsPresentation (presentation : Presentation) : Type 0 where
   pub earliest : IsEarliest presentation.earliest
   pub latest : IsLatest presentation.latest
@@ -205,7 +209,8 @@ window_data earliest latest = object (window_members earliest latest)
 
 -- the object of a window with its actual bound
 abbrev pub told_data : Bound → Bound → Bound → Data
-told_data earliest latest actual = object (member (json_name name.Actual) (bound_data actual) (window_members earliest latest))
+told_data earliest latest actual =
+    object (member (json_name name.Actual) (bound_data actual) (window_members earliest latest))
 
 -- the object of two bounds, and a third where it is there
 abbrev pub data_of : Bound → Bound → Option Bound → Data

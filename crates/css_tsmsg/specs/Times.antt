@@ -1,5 +1,6 @@
 -- The texts of content times and wall times.
-use Rattle.std.specs.Prelude.{ℕ, ℤ, pos, neg_ℤ, ◌<ℤ◌, ◌^◌, ◌==◌, ◌&&◌, not, Bool, List, Option, Some, None, length, slice_index, drop, if◌then◌else◌}
+use Rattle.std.specs.Prelude.{ℕ, ℤ, pos, neg_ℤ, ◌<ℤ◌, ◌^◌, ◌==◌, ◌&&◌, not, Bool, List, Option, Some, None, length}
+use Rattle.std.specs.Prelude.{slice_index, drop, if◌then◌else◌}
 use Rattle.std.specs.List.{list_all}
 use Rattle.std.specs.Char.{is_ascii_digit}
 use Rattle.std.specs.Str.Parse.{digits_value}
@@ -24,7 +25,8 @@ is_content bytes = is_wall (without_minus bytes)
 
 -- the tick that a content time is
 abbrev pub content_value : List ℕ → ℤ
-content_value bytes = if has_minus bytes then neg_ℤ (pos (digits_value 10 (without_minus bytes))) else pos (digits_value 10 bytes)
+content_value bytes = if has_minus bytes then neg_ℤ (pos (digits_value 10 (without_minus bytes)))
+    else pos (digits_value 10 bytes)
 
 -- the words of a field, where they pass
 abbrev pub words_that : (List ℕ → Bool) → Field → Option (List ℕ)

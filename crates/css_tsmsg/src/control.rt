@@ -109,7 +109,8 @@ fn control_from(content: &Field, speed: &Field, wall: &Field, odd: bool) -> Resu
 /// The control timestamp that an object is.
 #[tactic(auto, unfolding(crate::specs::Controls::control_in))]
 fn control_in(alloc: Global, map: &Map, odd: bool) -> Result<Control, TsFault>
-    ensures value { GivesBy (λ control. control) faults.Memory result (controls.control_in (members_view map.now.entries) odd) }
+    ensures value { GivesBy (λ control. control) faults.Memory result
+        (controls.control_in (members_view map.now.entries) odd) }
     ensures in_range { IfOk result controls.IsInRange }
 {
     let content = field_of(alloc, map, TsName::ContentTime.as_str())?;

@@ -87,7 +87,8 @@ fn form_from(
 
 /// The form of an object.
 fn form_in(alloc: Global, end: TsName, map: &Map) -> Result<Form, TsFault>
-    ensures value { GivesBy (λ form. form) faults.Memory result (presentations.form_in end (members_view map.now.entries)) }
+    ensures value { GivesBy (λ form. form) faults.Memory result
+        (presentations.form_in end (members_view map.now.entries)) }
     ensures form { IfOk result (presentations.IsForm end) }
 {
     let content = content_form(field_of(alloc, map, TsName::ContentTime.as_str())?);
@@ -97,7 +98,8 @@ fn form_in(alloc: Global, end: TsName, map: &Map) -> Result<Form, TsFault>
 
 /// The form of a member.
 fn form_of(alloc: Global, end: TsName, value: Option<&Value>) -> Result<Form, TsFault>
-    ensures value { GivesBy (λ form. form) faults.Memory result (presentations.form_of end (option_map (λ value. view value.now) value.entry)) }
+    ensures value { GivesBy (λ form. form) faults.Memory result
+        (presentations.form_of end (option_map (λ value. view value.now) value.entry)) }
     ensures form { IfOk result (presentations.IsForm end) }
 {
     let Some(value) = value else {
@@ -111,7 +113,8 @@ fn form_of(alloc: Global, end: TsName, value: Option<&Value>) -> Result<Form, Ts
 
 /// The form of a member that may be absent or null.
 fn actual_form(alloc: Global, value: Option<&Value>) -> Result<Option<Form>, TsFault>
-    ensures value { GivesBy (λ form. form) faults.Memory result (presentations.actual_form (option_map (λ value. view value.now) value.entry)) }
+    ensures value { GivesBy (λ form. form) faults.Memory result
+        (presentations.actual_form (option_map (λ value. view value.now) value.entry)) }
     ensures form { IfOk result (λ form. IfSome form (presentations.IsForm names.Actual)) }
 {
     match value {
@@ -182,7 +185,8 @@ fn actual_bound(form: &Option<Form>) -> Result<Option<Bound>, TsFault>
 /// The presentation that an object is: all forms are tested before all ranges.
 #[tactic(auto, unfolding(crate::specs::Presentations::presentation_in))]
 fn presentation_in(alloc: Global, map: &Map) -> Result<Presentation, TsFault>
-    ensures value { GivesBy (λ told. told) faults.Memory result (presentations.presentation_in (members_view map.now.entries)) }
+    ensures value { GivesBy (λ told. told) faults.Memory result
+        (presentations.presentation_in (members_view map.now.entries)) }
     ensures in_range { IfOk result presentations.IsPresentation }
 {
     let earliest = form_of(

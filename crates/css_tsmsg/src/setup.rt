@@ -23,7 +23,8 @@ pub struct Setup {
 
 /// The text that a member is.
 fn words_in(alloc: Global, map: &Map, name: TsName) -> Result<Text, TsFault>
-    ensures value { GivesBy (λ words. words) faults.Memory result (setups.words_in name (members_view map.now.entries)) }
+    ensures value { GivesBy (λ words. words) faults.Memory result
+        (setups.words_in name (members_view map.now.entries)) }
     ensures utf8 { IfOk result IsUtf8 }
 {
     match field_of(alloc, map, name.as_str())? {

@@ -50,7 +50,9 @@ pub fn write_setup(alloc: Global, setup: &Setup) -> Result<Text, Memory>
 
 /// The value of a control timestamp of an available timeline.
 fn available_value(alloc: Global, content: i64, wall: u64, speed: i32) -> Result<Value, AllocError>
-    ensures { IfOk result (λ value. view value ≡ controls.times_data (string (signed_decimal content)) (number (of_integer speed)) (string (decimal wall))) }
+    ensures { IfOk result (λ value.
+        view value ≡ controls.times_data (string (signed_decimal content)) (number (of_integer speed))
+        (string (decimal wall))) }
 {
     let content = format!(in alloc; "{content}")?;
     let wall = format!(in alloc; "{wall}")?;

@@ -29,10 +29,12 @@ path = (codes "/ts", (refl, refl))
 pub wc_utf8 : (host : List ℕ) (port : ℕ) → port ≤ 65534 → IsUtf8 host → IsUtf8 (wc_url host port)
 wc_utf8 host port small utf8 =
     IsUtf8-append ((codes "udp://" ++ host) ++ codes ":") (signed_decimal (pos port))
-    (IsUtf8-append (codes "udp://" ++ host) (codes ":") (IsUtf8-append (codes "udp://") host clock_scheme utf8) colon) (number port (omega arith))
+    (IsUtf8-append (codes "udp://" ++ host) (codes ":") (IsUtf8-append (codes "udp://") host clock_scheme utf8) colon)
+    (number port (omega arith))
 
 pub ts_utf8 : (host : List ℕ) (port : ℕ) → port ≤ 65534 → IsUtf8 host → IsUtf8 (ts_url host port)
 ts_utf8 host port small utf8 =
     IsUtf8-append (((codes "ws://" ++ host) ++ codes ":") ++ signed_decimal (pos (port + 1))) (codes "/ts")
     (IsUtf8-append ((codes "ws://" ++ host) ++ codes ":") (signed_decimal (pos (port + 1)))
-    (IsUtf8-append (codes "ws://" ++ host) (codes ":") (IsUtf8-append (codes "ws://") host session_scheme utf8) colon) (number (port + 1) (omega arith))) path
+    (IsUtf8-append (codes "ws://" ++ host) (codes ":") (IsUtf8-append (codes "ws://") host session_scheme utf8) colon)
+    (number (port + 1) (omega arith))) path

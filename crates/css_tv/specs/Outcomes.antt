@@ -1,6 +1,7 @@
 -- What an event of a television does: what is shown after it, what it adds to the player's calls and to the sessions'
 -- calls, whose session is hung up, and so what is told.
-use Rattle.std.specs.Prelude.{ℕ, ◌==◌, nat_lt, pos, Bool, true, false, List, [], ◌∷◌, ◌++◌, map, length, Option, Some, None, Result, Ok, Err, if◌then◌else◌}
+use Rattle.std.specs.Prelude.{ℕ, ◌==◌, nat_lt, pos, Bool, true, false, List, [], ◌∷◌, ◌++◌, map, length, Option, Some}
+use Rattle.std.specs.Prelude.{None, Result, Ok, Err, if◌then◌else◌}
 use Rattle.std.specs.Ordering.{int_eq}
 use Rattle.css_player.specs.Player.{Player, Segment, max_delay}
 use Rattle.css_player.specs.Segments.{commanded, with_delay, with_programme, with_timeline}
@@ -15,7 +16,8 @@ use Rattle.css_tsmsg.specs.declared.fault.TsFault.{TsFault}
 use Rattle.css_window.specs.Demand.{Demand}
 use Rattle.css_window.specs.Least.{least_fit}
 use Rattle.css_sessions.specs.declared.session.Said.{Said}
-use Rattle.css_sessions.specs.Kept.{Event as SessionsCall, Kept, Opened, SetUp, Published, Presented, Dropped, Closed, step_of, talk_of, set_up_in, windows_in}
+use Rattle.css_sessions.specs.Kept.{Event as SessionsCall, Kept, Opened, SetUp, Published, Presented, Dropped, Closed}
+use Rattle.css_sessions.specs.Kept.{step_of, talk_of, set_up_in, windows_in}
 use Rattle.css_tv.specs.States.{published_state}
 use Rattle.css_tv.specs.Stages.{Stage, max_sessions}
 use Rattle.css_tv.specs.declared.state.Addresses.{Addresses}
@@ -118,7 +120,8 @@ abbrev pub outcome : Addresses → TvEvent → Player → Kept → Result Outcom
 outcome a (event.Programme content_id) p k = by_player (programme_added content_id) (with_programme content_id p)
 outcome a (event.AddTimeline n selector rate base) p k =
     by_player (timeline_added a (TimelineAdded n selector rate base)) (with_timeline n selector rate base p)
-outcome a (event.Viewer command reading) p k = by_player (viewed a (Commanded command reading)) (commanded command reading p)
+outcome a (event.Viewer command reading) p k =
+    by_player (viewed a (Commanded command reading)) (commanded command reading p)
 outcome a (event.Opened peer kind) p k = Ok (opened (Opened peer kind) peer (nat_lt (length k.list) max_sessions) p)
 outcome a (event.Heard peer bytes) p k = Ok (heard a peer bytes p k (set_up_in (talk_of peer k.list)))
 outcome a (event.Closed peer) p k = Ok (only (Closed peer) p)

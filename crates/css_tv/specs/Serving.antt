@@ -6,7 +6,8 @@ use Rattle.css_tv.specs.declared.config.TvConfig.{TvConfig}
 
 -- the server of a configuration, which took no request yet
 abbrev pub server_of : TvConfig → Server
-server_of config = record { precision = config.precision; error = config.error; follow = config.follow; greatest = None }
+server_of config =
+    record { precision = config.precision; error = config.error; follow = config.follow; greatest = None }
 
 -- the server took one ticket more
 abbrev pub Serves : Server → Server → Ticket → Type 0

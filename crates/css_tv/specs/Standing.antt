@@ -1,6 +1,7 @@
--- A television after a list of events that it accepted, the newest first: the player's calls and the sessions' calls are
--- functions of them.
-use Rattle.std.specs.Prelude.{◌≡◌, ◌<◌, ◌⊎◌, ℕ, List, [], ◌∷◌, ◌++◌, Option, Some, None, Result, Ok, Err, MatchResult, OnOk, ⊤}
+-- A television after a list of events that it accepted, the newest first: the player's calls and the sessions' calls
+-- are functions of them.
+use Rattle.std.specs.Prelude.{◌≡◌, ◌<◌, ◌⊎◌, ℕ, List, [], ◌∷◌, ◌++◌, Option, Some, None, Result, Ok, Err, MatchResult}
+use Rattle.std.specs.Prelude.{OnOk, ⊤}
 use Rattle.std.specs.List.{filter_map}
 use Rattle.std.specs.Str.{IsUtf8}
 use Rattle.css_player.specs.Player.{Player}
@@ -79,15 +80,18 @@ abbrev pub IsAfterBy : Stage → Stage → List TvOut → List TvOut → Result 
 IsAfterBy old new before after (Err e) = ⊥
 IsAfterBy old new before after (Ok o) = IsAfter old new before after o
 
--- The event has the expected outcome. Or it is refused with the expected fault or for want of memory, and all is as it was.
-abbrev pub Steps : {T : Type 0} → Result T TvFault → Stage → Stage → List TvOut → List TvOut → Result Outcome TvFault → Type 0
+-- The event has the expected outcome. Or it is refused with the expected fault or for want of memory, and all is as it
+-- was.
+abbrev pub Steps : {T : Type 0} → Result T TvFault → Stage → Stage → List TvOut → List TvOut → Result Outcome TvFault
+    → Type 0
 Steps result old new before after expected = MatchResult result (λ _. IsAfterBy old new before after expected)
     (λ e. (new ≡ old) × (after ≡ before) × ((expected ≡ Err e) ⊎ (e ≡ fault.Memory)))
 
 -- The player and the sessions stand for their calls with those of the outcome.
 pub record Grows (fresh : List SessionsCall → Type 0) (old new : Stage) (o : Outcome) : Type 0 where
   pub player : (h : List PlayerCall) → PlayerStandsFor old.player h → PlayerStandsFor new.player (o.asked ++ h)
-  pub sessions : (h : List SessionsCall) → SessionsStandFor old.sessions h → fresh h → SessionsStandFor new.sessions (o.called ++ h)
+  pub sessions : (h : List SessionsCall) → SessionsStandFor old.sessions h → fresh h
+      → SessionsStandFor new.sessions (o.called ++ h)
 
 abbrev pub GrowsBy : (List SessionsCall → Type 0) → Stage → Stage → Result Outcome TvFault → Type 0
 GrowsBy fresh old new (Err e) = ⊤
@@ -100,7 +104,8 @@ Any h = ⊤
 -- after an accepted event the stage stands for one event more
 abbrev pub Stands : {T : Type 0} → Result T TvFault → Stage → Stage → TvEvent → Type 0
 Stands result old new e =
-    OnOk result ((h : List TvEvent) → StandsFor old h → IsFresh e (calls_of old.addresses h).sessions → StandsFor new (e ∷ h))
+    OnOk result ((h : List TvEvent) → StandsFor old h → IsFresh e (calls_of old.addresses h).sessions
+    → StandsFor new (e ∷ h))
 
 -- and each session was told what it was to be told by then
 abbrev pub Tells : {T : Type 0} → Result T TvFault → Stage → List TvOut → List TvOut → TvEvent → Type 0

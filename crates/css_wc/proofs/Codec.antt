@@ -31,29 +31,70 @@ stamp_same s a b p q =
     let g : ℕ → Stamp = λ n. record { seconds = s.seconds; nanoseconds = n } in
     ap f p ∙ ap g q
 
-message_same : (m : Message) (p : ℤ) (e : ℕ) (o r t : Stamp) → p ≡ m.precision → e ≡ m.error → o ≡ m.originate → r ≡ m.receive → t ≡ m.transmit
+message_same : (m : Message) (p : ℤ) (e : ℕ) (o r t : Stamp) → p ≡ m.precision → e ≡ m.error → o ≡ m.originate
+    → r ≡ m.receive → t ≡ m.transmit
     → record { message_type = m.message_type; precision = p; error = e; originate = o; receive = r; transmit = t } ≡ m
 message_same m p e o r t hp he ho hr ht =
-    let f : ℤ → Message = λ n. record { message_type = m.message_type; precision = n; error = e; originate = o; receive = r; transmit = t } in
-    let g : ℕ → Message = λ n. record { message_type = m.message_type; precision = m.precision; error = n; originate = o; receive = r; transmit = t } in
-    let h : Stamp → Message = λ n. record { message_type = m.message_type; precision = m.precision; error = m.error; originate = n; receive = r; transmit = t } in
-    let i : Stamp → Message = λ n. record { message_type = m.message_type; precision = m.precision; error = m.error; originate = m.originate; receive = n; transmit = t } in
-    let j : Stamp → Message = λ n. record { message_type = m.message_type; precision = m.precision; error = m.error; originate = m.originate; receive = m.receive; transmit = n } in
+    let f : ℤ → Message = λ n.
+    record { message_type = m.message_type; precision = n; error = e; originate = o; receive = r; transmit = t } in
+    let g : ℕ → Message = λ n.
+    record {
+      message_type = m.message_type;
+      precision = m.precision;
+      error = n;
+      originate = o;
+      receive = r;
+      transmit = t;
+    } in
+    let h : Stamp → Message =
+    λ n. record {
+      message_type = m.message_type;
+      precision = m.precision;
+      error = m.error;
+      originate = n;
+      receive = r;
+      transmit = t;
+    } in
+    let i : Stamp → Message =
+    λ n. record {
+      message_type = m.message_type;
+      precision = m.precision;
+      error = m.error;
+      originate = m.originate;
+      receive = n;
+      transmit = t;
+    } in
+    let j : Stamp → Message =
+    λ n. record {
+      message_type = m.message_type;
+      precision = m.precision;
+      error = m.error;
+      originate = m.originate;
+      receive = m.receive;
+      transmit = n;
+    } in
     ap f hp ∙ ap g he ∙ ap h ho ∙ ap i hr ∙ ap j ht
 
 stamp_in-bytes : (s : Stamp) (rest : List ℕ) → IsStamp s → stamp_in (stamp_bytes s ++ rest) ≡ s
 stamp_in-bytes s rest h =
-    let a : big_number 4 (stamp_bytes s ++ rest) ≡ s.seconds = big_number-reads_back 4 s.seconds (big_bytes 4 s.nanoseconds ++ rest) h.seconds in
-    let b : big_number 4 (drop 4 (stamp_bytes s ++ rest)) ≡ s.nanoseconds = big_number-reads_back 4 s.nanoseconds rest h.nanoseconds in
+    let a : big_number 4 (stamp_bytes s ++ rest) ≡ s.seconds =
+    big_number-reads_back 4 s.seconds (big_bytes 4 s.nanoseconds ++ rest) h.seconds in
+    let b : big_number 4 (drop 4 (stamp_bytes s ++ rest)) ≡ s.nanoseconds =
+    big_number-reads_back 4 s.nanoseconds rest h.nanoseconds in
     stamp_same s _ _ a b
 
 pub fields-encoded : (m : Message) → IsMessage m → fields (encoded m) ≡ m
 unfolding fields encoded
 fields-encoded m h =
     let a : cast_signed w8 (cast_unsigned w8 m.precision) ≡ m.precision = to_z-of_z w8 m.precision h.precision in
-    let b : big_number 4 (big_bytes 4 m.error ++ (stamp_bytes m.originate ++ stamp_bytes m.receive ++ stamp_bytes m.transmit)) ≡ m.error = big_number-reads_back 4 m.error (stamp_bytes m.originate ++ stamp_bytes m.receive ++ stamp_bytes m.transmit) h.error in
-    let c : stamp_in (stamp_bytes m.originate ++ (stamp_bytes m.receive ++ stamp_bytes m.transmit)) ≡ m.originate = stamp_in-bytes m.originate (stamp_bytes m.receive ++ stamp_bytes m.transmit) h.originate in
-    let d : stamp_in (stamp_bytes m.receive ++ stamp_bytes m.transmit) ≡ m.receive = stamp_in-bytes m.receive (stamp_bytes m.transmit) h.receive in
+    let b : big_number 4 (big_bytes 4 m.error
+    ++ (stamp_bytes m.originate ++ stamp_bytes m.receive ++ stamp_bytes m.transmit)) ≡ m.error =
+    big_number-reads_back 4 m.error (stamp_bytes m.originate ++ stamp_bytes m.receive ++ stamp_bytes m.transmit)
+    h.error in
+    let c : stamp_in (stamp_bytes m.originate ++ (stamp_bytes m.receive ++ stamp_bytes m.transmit)) ≡ m.originate =
+    stamp_in-bytes m.originate (stamp_bytes m.receive ++ stamp_bytes m.transmit) h.originate in
+    let d : stamp_in (stamp_bytes m.receive ++ stamp_bytes m.transmit) ≡ m.receive =
+    stamp_in-bytes m.receive (stamp_bytes m.transmit) h.receive in
     let e : stamp_in (stamp_bytes m.transmit ++ []) ≡ m.transmit = stamp_in-bytes m.transmit [] h.transmit in
     message_same m _ _ _ _ _ a b c d e
 
@@ -62,7 +103,9 @@ after_type b o e f = rw (e, f) refl
 
 fault-encoded : (m : Message) → IsMessage m → field_fault m ≡ None → fault (encoded m) ≡ None
 unfolding fault encoded
-fault-encoded m h sound = after_type (nat_lt 3 m.message_type) (field_fault (fields (encoded m))) (le-ltb 3 m.message_type h.message_type) (ap field_fault (fields-encoded m h) ∙ sound)
+fault-encoded m h sound =
+    after_type (nat_lt 3 m.message_type) (field_fault (fields (encoded m))) (le-ltb 3 m.message_type h.message_type)
+    (ap field_fault (fields-encoded m h) ∙ sound)
 
 -- what has no fault is read back
 pub decoded-encoded : (m : Message) → IsMessage m → field_fault m ≡ None → decoded (encoded m) ≡ Ok m

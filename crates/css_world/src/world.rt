@@ -83,8 +83,8 @@ impl World {
     /// The tests come in this order.
     ///
     /// - `Broken`: true time is below that of the line before; the wall clock, or else the companion's clock, drifted
-    ///   from an earlier line by more than its oscillator's error allows; a reading differs from what its clock shows by
-    ///   more than its precision, or is below the last one of that clock.
+    ///   from an earlier line by more than its oscillator's error allows; a reading differs from what its clock shows
+    ///   by more than its precision, or is below the last one of that clock.
     /// - `Absent`: the line names a request that wasn't sent, a take that wasn't made or has its answer, or a datagram
     ///   that wasn't made; or a session that isn't open, or opens once more; or a text while none is in flight.
     /// - `Player`: the television's player refuses what happens there.

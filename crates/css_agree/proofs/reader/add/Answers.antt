@@ -11,7 +11,8 @@ pub returns-in-Ok-clause-stands : goal.returns-in-Ok-clause-stands
 returns-in-Ok-clause-stands c = λ added stands.
     subst (StandsFor c.add.new.self)
     (sym (answer-added c.args.agree.now.local c.args.answer added
-    (sym (ap (λ (a : Answer). verdict c.args.agree.now.local a.t4 c.args.answer) c.answer.view_is) ∙ c.in-Ok.ensures.verdict)))
+    (sym (ap (λ (a : Answer). verdict c.args.agree.now.local a.t4 c.args.answer) c.answer.view_is) ∙
+    c.in-Ok.ensures.verdict)))
     (c.in-Ok.ensures.ok.stands added stands)
 
 pub returns-in-Ok-print_impossible-clause-stands : goal.returns-in-Ok-print_impossible-clause-stands

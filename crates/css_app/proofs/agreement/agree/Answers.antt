@@ -8,7 +8,8 @@ use Rattle.css_app.proofs.agreement.agree.Goals as goal
 pub returns-in-Ok-clause-promise : goal.returns-in-Ok-clause-promise
 returns-in-Ok-clause-promise g c =
     promised_done (g.S.Source.left c.args.source.now) (g.S.Source.left c.drive-ended.new.source)
-    (g.K.Sink.holds c.args.sink.now) (g.K.Sink.holds c.drive-ended.new.sink) c.drive-ended.new.lines c.in-Ok.ensures.done
+    (g.K.Sink.holds c.args.sink.now) (g.K.Sink.holds c.drive-ended.new.sink) c.drive-ended.new.lines
+    c.in-Ok.ensures.done
 
 pub returns-in-Err-clause-promise : goal.returns-in-Err-clause-promise
 returns-in-Err-clause-promise g c =
@@ -22,7 +23,8 @@ returns-in-Err-clause-complete g c = λ bytes is accepted read written.
     (g.K.Sink.holds c.drive-ended.new.sink) c.in-Err.stop
     (g.S.Source.faults c.args.source.now) (g.S.Source.faults c.drive-ended.new.source)
     (g.K.Sink.faults c.args.sink.now) (g.K.Sink.faults c.drive-ended.new.sink)
-    (c.in-Err.ensures.ran bytes is) accepted c.in-Err.ensures.counted_reads c.in-Err.ensures.counted_writes read written)
+    (c.in-Err.ensures.ran bytes is) accepted c.in-Err.ensures.counted_reads c.in-Err.ensures.counted_writes read
+    written)
 
 pub returns-in-Err-clause-agrees : goal.returns-in-Err-clause-agrees
 returns-in-Err-clause-agrees g c = λ bytes is.

@@ -16,4 +16,6 @@ pub returns-in-Some : goal.returns-in-Some
 returns-in-Some t c =
     let here : is_available c.args.nodes.now c.args.id ≡ true = search rules in
     let other : (c.args.id == c.args.top) ≡ false = grind (arith, nat_tests) in
-    c.available_to.ensures ∙ sym (available-up c.args.nodes.now c.args.top c.args.id c.in-Some.parent c.requires (sym c.in-Some.ensures) here other)
+    c.available_to.ensures ∙ sym
+    (available-up c.args.nodes.now c.args.top c.args.id c.in-Some.parent c.requires (sym c.in-Some.ensures) here
+    other)

@@ -21,7 +21,8 @@ pub returns-in_err-parent-2 : goal.returns-in_err-parent-2
 returns-in_err-parent-2 t c =
     let less : c.args.from < c.args.to = omega arith in
     let e : parent_of c.args.nodes.now c.args.to ≡ None = search rules in
-    c.from_residual-in_err-parent-2.ensures ∙ sym (common-to_root c.args.nodes.now c.args.from c.args.to c.requires less e)
+    c.from_residual-in_err-parent-2.ensures ∙ sym
+    (common-to_root c.args.nodes.now c.args.from c.args.to c.requires less e)
 
 pub nearest_common-requires-else-from-to-2 : goal.nearest_common-requires-else-from-to-2
 nearest_common-requires-else-from-to-2 t c =
@@ -33,10 +34,12 @@ pub returns-in_ok-parent : goal.returns-in_ok-parent
 returns-in_ok-parent t c =
     let less : c.args.to < c.args.from = omega arith in
     let e : parent_of c.args.nodes.now c.args.from ≡ Some c.in_ok-parent.field-0 = search rules in
-    c.nearest_common.ensures ∙ sym (common-from_up c.args.nodes.now c.args.from c.args.to c.in_ok-parent.field-0 c.requires less e)
+    c.nearest_common.ensures ∙ sym
+    (common-from_up c.args.nodes.now c.args.from c.args.to c.in_ok-parent.field-0 c.requires less e)
 
 pub returns-in_ok-parent-2 : goal.returns-in_ok-parent-2
 returns-in_ok-parent-2 t c =
     let less : c.args.from < c.args.to = omega arith in
     let e : parent_of c.args.nodes.now c.args.to ≡ Some c.in_ok-parent-2.field-0 = search rules in
-    c.nearest_common-else-from-to-2.ensures ∙ sym (common-to_up c.args.nodes.now c.args.from c.args.to c.in_ok-parent-2.field-0 c.requires less e)
+    c.nearest_common-else-from-to-2.ensures ∙ sym
+    (common-to_up c.args.nodes.now c.args.from c.args.to c.in_ok-parent-2.field-0 c.requires less e)

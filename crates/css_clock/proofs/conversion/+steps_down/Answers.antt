@@ -14,16 +14,21 @@ steps_down-requires t c =
 pub returns-in-None-clause-value : goal.returns-in-None-clause-value
 returns-in-None-clause-value t c =
     let other : (c.args.id == c.args.top) ≡ false = grind (arith, nat_tests) in
-    c.step_down.ensures.value ∙ sym (down-root c.args.nodes.now c.args.top c.args.id c.args.span (sym c.in-None.ensures) other)
+    c.step_down.ensures.value ∙ sym
+    (down-root c.args.nodes.now c.args.top c.args.id c.args.span (sym c.in-None.ensures) other)
 
 pub returns-in_err-above-in-Some-clause-value : goal.returns-in_err-above-in-Some-clause-value
 returns-in_err-above-in-Some-clause-value t c =
     let other : (c.args.id == c.args.top) ≡ false = grind (arith, nat_tests) in
-    let up = down-up c.args.nodes.now c.args.top c.args.id c.in-Some.parent c.args.span c.requires.forest (sym c.in-Some.ensures) other in
+    let up =
+    down-up c.args.nodes.now c.args.top c.args.id c.in-Some.parent c.args.span c.requires.forest
+    (sym c.in-Some.ensures) other in
     rw up (search rules)
 
 pub returns-in_ok-above-in-Some-clause-value : goal.returns-in_ok-above-in-Some-clause-value
 returns-in_ok-above-in-Some-clause-value t c =
     let other : (c.args.id == c.args.top) ≡ false = grind (arith, nat_tests) in
-    let up = down-up c.args.nodes.now c.args.top c.args.id c.in-Some.parent c.args.span c.requires.forest (sym c.in-Some.ensures) other in
+    let up =
+    down-up c.args.nodes.now c.args.top c.args.id c.in-Some.parent c.args.span c.requires.forest
+    (sym c.in-Some.ensures) other in
     rw up (search rules)

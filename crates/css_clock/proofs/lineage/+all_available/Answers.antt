@@ -12,4 +12,5 @@ all_available-requires t c =
 pub returns-in-Some : goal.returns-in-Some
 returns-in-Some t c =
     let available : is_available c.args.nodes.now c.args.id ≡ true = search rules in
-    c.all_available.ensures ∙ sym (all_available-up c.args.nodes.now c.args.id c.in-Some.parent c.requires (sym c.in-Some.ensures) available)
+    c.all_available.ensures ∙ sym
+    (all_available-up c.args.nodes.now c.args.id c.in-Some.parent c.requires (sym c.in-Some.ensures) available)

@@ -26,5 +26,7 @@ returns-in-None-clause-value t c =
 pub returns-in-Some-clause-value : goal.returns-in-Some-clause-value
 returns-in-Some-clause-value t c =
     let other : (c.args.id == c.args.top) ≡ false = grind (arith, nat_tests) in
-    let up = up-up c.args.nodes.now c.args.top c.args.id c.in-Some.parent c.args.span c.requires.forest (sym c.in-Some.ensures) other in
+    let up =
+    up-up c.args.nodes.now c.args.top c.args.id c.in-Some.parent c.args.span c.requires.forest (sym c.in-Some.ensures)
+    other in
     rw up (search rules)

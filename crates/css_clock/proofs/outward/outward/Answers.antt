@@ -5,5 +5,6 @@ use Rattle.css_clock.proofs.outward.outward.Goals as goal
 
 pub returns : goal.returns
 returns c =
-    outward-steps c.args.gear c.args.span c.scaled_span-scaled.result c.turned-turned.result c.outward_by.result c.divisor-divisor.result c.magnitude-magnitude.result
+    outward-steps c.args.gear c.args.span c.scaled_span-scaled.result c.turned-turned.result c.outward_by.result
+    c.divisor-divisor.result c.magnitude-magnitude.result
     (search rules) (search rules) (search rules) (search rules) (search rules)

@@ -14,5 +14,7 @@ invariant_of-result c =
     let magnitude : ℕ = unsigned_abs (to_z w128 (of_z w128 c.args.magnitude)) in
     let positive : 0 < magnitude = omega (arith, ints) in
     let order : low ≤ℤ high = omega (arith, ints) in
-    let ordered = outward-ordered low high c.rounded_down.result c.rounded_up.result magnitude (to_z w64 (of_z w64 c.args.ticks)) positive order c.rounded_down.ensures c.rounded_up.ensures in
+    let ordered =
+    outward-ordered low high c.rounded_down.result c.rounded_up.result magnitude (to_z w64 (of_z w64 c.args.ticks))
+    positive order c.rounded_down.ensures c.rounded_up.ensures in
     omega (arith, ints, ordered)

@@ -7,7 +7,8 @@ use mir.Val.{to_z, of_z}
 use Rattle.css_clock.proofs.Near.{product-near}
 use Rattle.css_clock.proofs.outward.scaled.Goals as goal
 
-fits : (c : goal.After-less) → FitsSigned w128 (to_z w128 (of_z w128 c.less.result) *ℤ to_z w128 (of_z w128 c.args.divisor))
+fits : (c : goal.After-less)
+    → FitsSigned w128 (to_z w128 (of_z w128 c.less.result) *ℤ to_z w128 (of_z w128 c.args.divisor))
 fits c =
     let ticks : ℤ = to_z w128 (of_z w128 c.less.result) in
     let divisor : ℤ = to_z w128 (of_z w128 c.args.divisor) in
@@ -32,4 +33,5 @@ returns-clause-small c =
     let divisor : ℤ = to_z w128 (of_z w128 c.args.divisor) in
     let first : unsigned_abs ticks ≤ 2 ^ 64 = omega (arith, ints) in
     let second : unsigned_abs divisor ≤ 1000000000000000000 = omega (arith, ints) in
-    rw (to_z-of_z w128 (to_z w128 (of_z w128 c.less.result) *ℤ to_z w128 (of_z w128 c.args.divisor)) (fits c)) (product-near ticks divisor first second)
+    rw (to_z-of_z w128 (to_z w128 (of_z w128 c.less.result) *ℤ to_z w128 (of_z w128 c.args.divisor)) (fits c))
+    (product-near ticks divisor first second)

@@ -11,10 +11,12 @@ value_down-requires t c =
 
 pub returns-in_err-above-in-Some : goal.returns-in_err-above-in-Some
 returns-in_err-above-in-Some t c =
-    let up = checked_down-up c.args.nodes.now c.args.id c.in-Some.parent c.args.root c.requires (sym c.in-Some.ensures) in
+    let up =
+    checked_down-up c.args.nodes.now c.args.id c.in-Some.parent c.args.root c.requires (sym c.in-Some.ensures) in
     rw up (search rules)
 
 pub returns-in_ok-above-in-Some : goal.returns-in_ok-above-in-Some
 returns-in_ok-above-in-Some t c =
-    let up = checked_down-up c.args.nodes.now c.args.id c.in-Some.parent c.args.root c.requires (sym c.in-Some.ensures) in
+    let up =
+    checked_down-up c.args.nodes.now c.args.id c.in-Some.parent c.args.root c.requires (sym c.in-Some.ensures) in
     rw up (search rules)

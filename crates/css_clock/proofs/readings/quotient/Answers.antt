@@ -8,5 +8,6 @@ use Rattle.css_clock.proofs.readings.quotient.Goals as goal
 pub returns-clause-near : goal.returns-clause-near
 returns-clause-near c =
     let small : unsigned_abs c.args.product < 2 ^ 126 = grind (arith, nat_tests) in
-    let near : unsigned_abs c.floor_div.result ≤ 2 ^ 126 = answer-near c.args.product c.args.divisor c.floor_div.result c.requires.positive small (search rules) in
+    let near : unsigned_abs c.floor_div.result ≤ 2 ^ 126 =
+    answer-near c.args.product c.args.divisor c.floor_div.result c.requires.positive small (search rules) in
     search (rules, near)

@@ -16,8 +16,10 @@ returns-in-None-clause-goes g c run start p h s =
     let later = option_map encoded (follow_up_for c.args.tv.now.server c.args.ticket r) in
     let x = answer_read s r _ c.in_ok-reading.ensures.told _ c.in_ok-reading.ensures.cause.peers in
     let is = ap (λ (d : List ℕ). Answers peer (d ∷ option_to_list later)) (sym c.answer-answered.ensures.response)
-    ∙ ap (λ (o : Option (List ℕ)). Answers peer (response ∷ option_to_list o)) (sym c.answer-answered.ensures.follow_up ∙ c.in-None.is) in
-    answer_sent (datagram_sent x response [] is _ c.in-Ok.ensures.told _ c.in-Ok.ensures.cause.peers) p refl refl refl refl
+    ∙ ap (λ (o : Option (List ℕ)). Answers peer (response ∷ option_to_list o))
+    (sym c.answer-answered.ensures.follow_up ∙ c.in-None.is) in
+    answer_sent (datagram_sent x response [] is _ c.in-Ok.ensures.told _ c.in-Ok.ensures.cause.peers) p refl refl refl
+    refl
 
 pub returns-in-Err-clause-goes : goal.returns-in-Err-clause-goes
 returns-in-Err-clause-goes g c run start p h s =
@@ -34,7 +36,9 @@ returns-in-Some-clause-goes g c run start p h s =
     let later = option_map encoded (follow_up_for c.args.tv.now.server c.args.ticket r) in
     let x = answer_read s r _ c.in_ok-reading.ensures.told _ c.in_ok-reading.ensures.cause.peers in
     let is = ap (λ (d : List ℕ). Answers peer (d ∷ option_to_list later)) (sym c.answer-answered.ensures.response)
-    ∙ ap (λ (o : Option (List ℕ)). Answers peer (response ∷ option_to_list o)) (sym c.answer-answered.ensures.follow_up ∙ c.in-Some.is) in
+    ∙ ap (λ (o : Option (List ℕ)). Answers peer (response ∷ option_to_list o))
+    (sym c.answer-answered.ensures.follow_up ∙ c.in-Some.is) in
     let y = datagram_sent x response (bytes ∷ []) is _ c.in-Ok.ensures.told _ c.in-Ok.ensures.cause.peers in
-    last_sent y p refl refl refl refl (g.O.Outside.told c.send-in-Some.new.outside) (g.O.Outside.counts c.send-in-Some.new.outside).peers
+    last_sent y p refl refl refl refl (g.O.Outside.told c.send-in-Some.new.outside)
+    (g.O.Outside.counts c.send-in-Some.new.outside).peers
     c.send-in-Some.ensures.cause.peers c.send-in-Some.result c.send-in-Some.ensures.told

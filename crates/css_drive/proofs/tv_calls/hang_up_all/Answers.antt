@@ -11,7 +11,8 @@ use Rattle.css_drive.proofs.tv_calls.hang_up_all.Goals as goal
 pub returns-in-Err-clause-ends : goal.returns-in-Err-clause-ends
 returns-in-Err-clause-ends g c run start p h place s fits enough =
     let x = c.loop-peer.invariant.goes run start p h place s fits enough in
-    stops_by_fault x.airs.is_at.history (g.O.Outside.told c.hang_up.new.self) c.in-Err.ensures.told c.fault_of.result c.fault_of.ensures.fault
+    stops_by_fault x.airs.is_at.history (g.O.Outside.told c.hang_up.new.self) c.in-Err.ensures.told c.fault_of.result
+    c.fault_of.ensures.fault
 
 pub loop-peer-preserved : goal.loop-peer-preserved
 loop-peer-preserved g c =
@@ -19,20 +20,30 @@ loop-peer-preserved g c =
     let i : ℕ = c.loop-peer.peer-index in
     let peer : ℕ = get_or c.deref-peer-items.result.now i 0 in
     let e : drop i items ≡ peer ∷ drop (i + 1) items =
-    subst (λ (xs : List ℕ). drop i xs ≡ peer ∷ drop (i + 1) xs) c.deref-peer-items.ensures.value (peer_from c.deref-peer-items.result.now i c.loop-peer-test.true) in
+    subst (λ (xs : List ℕ). drop i xs ≡ peer ∷ drop (i + 1) xs) c.deref-peer-items.ensures.value
+    (peer_from c.deref-peer-items.result.now i c.loop-peer-test.true) in
     record {
       goes = λ run start p h place s fits enough.
           let x = c.loop-peer.invariant.goes run start p h place s fits enough in
           elim c.if-is_open.branch [
-            | then-is_open+in-Ok w ↦ subst (λ o. HangsUp run start (g.O.Outside.told o) (g.O.Outside.counts o).peers c.args.air.now (i + 1)) (sym w.outside-is)
-                (hung_next x peer e (is_live x.airs.is_at.stays peer ∙ c.is_open.ensures.0 w.if-is_open.true) _ w.in-Ok.ensures.told _ (peers_kept w.in-Ok.ensures.counted))
-            | else-is_open w ↦ subst (λ o. HangsUp run start (g.O.Outside.told o) (g.O.Outside.counts o).peers c.args.air.now (i + 1)) (sym w.outside-is)
-                (hung_past x peer e (is_live x.airs.is_at.stays peer ∙ not_open _ _ c.is_open.ensures w.if-is_open.false))
+            | then-is_open+in-Ok w ↦
+                subst (λ o. HangsUp run start (g.O.Outside.told o) (g.O.Outside.counts o).peers c.args.air.now (i + 1))
+                (sym w.outside-is)
+                (hung_next x peer e (is_live x.airs.is_at.stays peer ∙ c.is_open.ensures.0 w.if-is_open.true) _
+                w.in-Ok.ensures.told _ (peers_kept w.in-Ok.ensures.counted))
+            | else-is_open w ↦
+                subst (λ o. HangsUp run start (g.O.Outside.told o) (g.O.Outside.counts o).peers c.args.air.now (i + 1))
+                (sym w.outside-is)
+                (hung_past x peer e
+                (is_live x.airs.is_at.stays peer ∙ not_open _ _ c.is_open.ensures w.if-is_open.false))
           ];
       counts = elim c.if-is_open.branch [
-        | then-is_open+in-Ok w ↦ subst (λ o. KeepsCounts (g.O.Outside.counts c.args.outside.now) (g.O.Outside.counts o)) (sym w.outside-is)
+        | then-is_open+in-Ok w ↦
+            subst (λ o. KeepsCounts (g.O.Outside.counts c.args.outside.now) (g.O.Outside.counts o)) (sym w.outside-is)
             (counts_kept c.loop-peer.invariant.counts w.in-Ok.ensures.counted)
-        | else-is_open w ↦ subst (λ o. KeepsCounts (g.O.Outside.counts c.args.outside.now) (g.O.Outside.counts o)) (sym w.outside-is) c.loop-peer.invariant.counts
+        | else-is_open w ↦
+            subst (λ o. KeepsCounts (g.O.Outside.counts c.args.outside.now) (g.O.Outside.counts o)) (sym w.outside-is)
+            c.loop-peer.invariant.counts
       ];
     }
 

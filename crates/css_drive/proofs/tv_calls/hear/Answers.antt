@@ -8,7 +8,8 @@ use Rattle.css_drive.proofs.tv_calls.hear.Goals as goal
 
 pub returns-in-Ok-Quiet-clause-goes : goal.returns-in-Ok-Quiet-clause-goes
 returns-in-Ok-Quiet-clause-goes g c run start p h last s d =
-    quiet_heard s c.args.peer d _ (rw c.in-Ok-Quiet.field-0-is at c.in-Ok-Quiet.ensures.told) _ (peers_kept c.in-Ok-Quiet.ensures.counted)
+    quiet_heard s c.args.peer d _ (rw c.in-Ok-Quiet.field-0-is at c.in-Ok-Quiet.ensures.told) _
+    (peers_kept c.in-Ok-Quiet.ensures.counted)
 
 pub returns-in-Ok-Text-clause-goes : goal.returns-in-Ok-Text-clause-goes
 returns-in-Ok-Text-clause-goes g c run start p h last s d =
@@ -28,7 +29,9 @@ returns-in-Ok-Closed-clause-goes g c run start p h last s d =
     let q : Progress = record p { place = Asked (Some peer) } in
     let le = peers_kept c.in-Ok-Closed.ensures.counted in
     let t = closing_told s peer d _ (rw c.in-Ok-Closed.field-0-is at c.in-Ok-Closed.ensures.told) _ le in
-    goes_on run start (g.O.Outside.told c.play-in-Ok-Closed.new.outside) (g.O.Outside.counts c.play-in-Ok-Closed.new.outside).peers c.play-in-Ok-Closed.new.tv
+    goes_on run start (g.O.Outside.told c.play-in-Ok-Closed.new.outside)
+    (g.O.Outside.counts c.play-in-Ok-Closed.new.outside).peers c.play-in-Ok-Closed.new.tv
     p (happened (addresses_in run.config) (event.Closed peer) q) (Asked (Some peer)) [] c.play-in-Ok-Closed.result
     (asked_continues run p (Asked (Some peer)) (event.Closed peer) tt)
-    (c.play-in-Ok-Closed.ensures.goes run start q (Closed peer ∷ h) t (stays_on s.stays q refl refl refl _ le) s.owes tt tt)
+    (c.play-in-Ok-Closed.ensures.goes run start q (Closed peer ∷ h) t (stays_on s.stays q refl refl refl _ le) s.owes tt
+    tt)

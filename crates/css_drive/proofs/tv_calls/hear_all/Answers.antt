@@ -30,8 +30,15 @@ peers-preserved-then-is_open g c =
       goes = λ run start p h s.
           let x = c.peers.invariant.goes run start p h s in
           let y = c.in-Ok.ensures.goes run start x.p x.h x.last x.airs.is_at
-          (text_due x peer (drop (i + 1) items) e (is_live x.airs.is_at.stays peer ∙ c.is_open.ensures.0 c.if-is_open.true)) in
-          text_heard x peer e c.in-Ok.ensures.cause.peers (record { tv = c.hear.new.tv; peers = c.peers.air.peers; lines = c.peers.air.lines; made = c.peers.air.made }) refl refl refl y;
+          (text_due x peer (drop (i + 1) items) e
+          (is_live x.airs.is_at.stays peer ∙ c.is_open.ensures.0 c.if-is_open.true)) in
+          text_heard x peer e c.in-Ok.ensures.cause.peers
+          (record {
+            tv = c.hear.new.tv;
+            peers = c.peers.air.peers;
+            lines = c.peers.air.lines;
+            made = c.peers.air.made;
+          }) refl refl refl y;
       counts = record {
         dials = c.in-Ok.ensures.cause.dials ∙ c.peers.invariant.counts.dials;
         peers = omega (arith, c.in-Ok.ensures.cause.peers, c.peers.invariant.counts.peers);
@@ -51,8 +58,14 @@ peers-preserved g c =
     record {
       goes = λ run start p h s.
           let x = c.peers.invariant.goes run start p h s in
-          peer_removed x peer (drop (i + 1) items) e (is_live x.airs.is_at.stays peer ∙ not_open _ _ c.is_open.ensures c.if-is_open.false)
-          (record { tv = c.peers.air.tv; peers = c.remove.new.self; lines = c.peers.air.lines; made = c.peers.air.made }) refl c.remove.ensures.items refl refl;
+          peer_removed x peer (drop (i + 1) items) e
+          (is_live x.airs.is_at.stays peer ∙ not_open _ _ c.is_open.ensures c.if-is_open.false)
+          (record {
+            tv = c.peers.air.tv;
+            peers = c.remove.new.self;
+            lines = c.peers.air.lines;
+            made = c.peers.air.made;
+          }) refl c.remove.ensures.items refl refl;
       counts = c.peers.invariant.counts;
       made = c.peers.invariant.made;
     }

@@ -8,7 +8,8 @@ use Rattle.css_drive.proofs.tv_calls.hear_all.Given as goal
 abbrev pub invariant-peers : goal.invariant-peers
 invariant-peers g l = record {
   goes : (run : TvRun) (start : Option History) (p : Progress) (h : History)
-      → Airs run start (g.O.Outside.told l.fn.outside) (g.O.Outside.counts l.fn.outside).peers l.fn.air (Asked None) p p h
+      → Airs run start (g.O.Outside.told l.fn.outside) (g.O.Outside.counts l.fn.outside).peers l.fn.air (Asked None) p p
+      h
       → Hears run start (g.O.Outside.told l.outside) (g.O.Outside.counts l.outside).peers l.air l.at;
   counts : KeepsCounts (g.O.Outside.counts l.fn.outside) (g.O.Outside.counts l.outside);
   made : l.air.made ≡ l.fn.air.made;

@@ -20,8 +20,15 @@ returns-clause-goes g c run start p h greatest t s at owes k lt le =
     let n : ℕ = (g.O.Outside.counts c.args.outside.now).peers in
     let m : ℕ = (g.O.Outside.counts c.play.new.outside).peers in
     let kept : n ≤ m = c.play.ensures.cause.peers in
-    let air' : OnAir = record { tv = c.play.new.tv; peers = c.push.new.self; lines = c.args.air.now.lines; made = c.args.air.now.made } in
-    arrives_open run start (g.O.Outside.told c.play.new.outside) peer kind k lt at m (omega (arith, le, kept)) air' c.in-Ok.ensures.items refl refl c.play.result
+    let air' : OnAir =
+    record {
+      tv = c.play.new.tv;
+      peers = c.push.new.self;
+      lines = c.args.air.now.lines;
+      made = c.args.air.now.made;
+    } in
+    arrives_open run start (g.O.Outside.told c.play.new.outside) peer kind k lt at m (omega (arith, le, kept)) air'
+    c.in-Ok.ensures.items refl refl c.play.result
     (c.play.ensures.goes run start p h
     (told_as _ t (sym (settled_at_place a (happened a (event.Opened peer kind) p) (Asked None) at refl)))
     (stays_on s p refl refl refl n (omega (arith, lt, le))) owes (s.unused peer lt) le)

@@ -7,7 +7,8 @@ use Rattle.css_drive.proofs.tv_calls.serve.Goals as goal
 
 pub returns-in-Ok-None-clause-goes : goal.returns-in-Ok-None-clause-goes
 returns-in-Ok-None-clause-goes g c run start p h reading s =
-    took_none s [] _ (rw c.in-Ok-None.field-0-is at c.in-Ok-None.ensures.told) _ (peers_kept c.in-Ok-None.ensures.counted)
+    took_none s [] _ (rw c.in-Ok-None.field-0-is at c.in-Ok-None.ensures.told) _
+    (peers_kept c.in-Ok-None.ensures.counted)
 
 pub returns-in-Ok-Some-clause-goes : goal.returns-in-Ok-Some-clause-goes
 returns-in-Ok-Some-clause-goes g c run start p h reading s =
@@ -15,7 +16,10 @@ returns-in-Ok-Some-clause-goes g c run start p h reading s =
     let count : ℕ = c.in-Ok-Some.count in
     let bytes : List ℕ = c.take_datagram.new.into in
     let q : Progress = record p { place = Taken peer (take count bytes) } in
-    let x = took_one s bytes peer count _ (rw c.in-Ok-Some.field-0-is at c.in-Ok-Some.ensures.told) _ (peers_kept c.in-Ok-Some.ensures.counted) in
-    goes_on run start (g.O.Outside.told c.receive.new.outside) (g.O.Outside.counts c.receive.new.outside).peers c.receive.new.tv
+    let x =
+    took_one s bytes peer count _ (rw c.in-Ok-Some.field-0-is at c.in-Ok-Some.ensures.told) _
+    (peers_kept c.in-Ok-Some.ensures.counted) in
+    goes_on run start (g.O.Outside.told c.receive.new.outside) (g.O.Outside.counts c.receive.new.outside).peers
+    c.receive.new.tv
     p q Served [] c.receive.result (continues (addresses_in run.config) p q refl refl refl refl)
     (c.receive.ensures.goes run start q _ (take count bytes) x (grind (arith, common_steps)))

@@ -20,14 +20,19 @@ returns-in-Ok-Some-default-Cii-clause-goes g c run start p h s =
     let m : ℕ = (g.O.Outside.counts c.accept.new.self).peers in
     let peer : ℕ = c.in-Ok-Some-default-Cii.peer in
     let q : Progress = record p { place = Asked None } in
-    let told = rw c.in-Ok-Some-default-Cii.field-0-0-1-is at (rw c.in-Ok-Some-default-Cii.field-0-is at c.in-Ok-Some-default-Cii.ensures.told) in
-    let opens = rw c.in-Ok-Some-default-Cii.field-0-0-1-is at (rw c.in-Ok-Some-default-Cii.field-0-is at c.in-Ok-Some-default-Cii.ensures.counted.peer) in
+    let told =
+    rw c.in-Ok-Some-default-Cii.field-0-0-1-is at
+    (rw c.in-Ok-Some-default-Cii.field-0-is at c.in-Ok-Some-default-Cii.ensures.told) in
+    let opens =
+    rw c.in-Ok-Some-default-Cii.field-0-0-1-is at
+    (rw c.in-Ok-Some-default-Cii.field-0-is at c.in-Ok-Some-default-Cii.ensures.counted.peer) in
     let lt : n < peer = opens.0 in
     let is : m ≡ peer = opens.1 in
     c.open.ensures.goes run start q (Accepted peer peer_kind.Cii ∷ h) n
     (one_came s peer kind.Cii (g.O.Outside.told c.accept.new.self) told m lt is)
     (stays_on s.is_at.stays q refl refl refl n (omega arith)) refl s.is_at.owes
-    (record { knows = s.keeps.knows; turns = s.keeps.turns; carried = s.keeps.carried; lines = s.keeps.lines }) lt (omega (arith, is))
+    (record { knows = s.keeps.knows; turns = s.keeps.turns; carried = s.keeps.carried; lines = s.keeps.lines }) lt
+    (omega (arith, is))
 
 pub returns-in-Ok-Some-default-Ts-clause-goes : goal.returns-in-Ok-Some-default-Ts-clause-goes
 returns-in-Ok-Some-default-Ts-clause-goes g c run start p h s =
@@ -35,11 +40,16 @@ returns-in-Ok-Some-default-Ts-clause-goes g c run start p h s =
     let m : ℕ = (g.O.Outside.counts c.accept.new.self).peers in
     let peer : ℕ = c.in-Ok-Some-default-Ts.peer in
     let q : Progress = record p { place = Asked None } in
-    let told = rw c.in-Ok-Some-default-Ts.field-0-0-1-is at (rw c.in-Ok-Some-default-Ts.field-0-is at c.in-Ok-Some-default-Ts.ensures.told) in
-    let opens = rw c.in-Ok-Some-default-Ts.field-0-0-1-is at (rw c.in-Ok-Some-default-Ts.field-0-is at c.in-Ok-Some-default-Ts.ensures.counted.peer) in
+    let told =
+    rw c.in-Ok-Some-default-Ts.field-0-0-1-is at
+    (rw c.in-Ok-Some-default-Ts.field-0-is at c.in-Ok-Some-default-Ts.ensures.told) in
+    let opens =
+    rw c.in-Ok-Some-default-Ts.field-0-0-1-is at
+    (rw c.in-Ok-Some-default-Ts.field-0-is at c.in-Ok-Some-default-Ts.ensures.counted.peer) in
     let lt : n < peer = opens.0 in
     let is : m ≡ peer = opens.1 in
     c.open-in-Ok-Some-default-Ts.ensures.goes run start q (Accepted peer peer_kind.Ts ∷ h) n
     (one_came s peer kind.Ts (g.O.Outside.told c.accept.new.self) told m lt is)
     (stays_on s.is_at.stays q refl refl refl n (omega arith)) refl s.is_at.owes
-    (record { knows = s.keeps.knows; turns = s.keeps.turns; carried = s.keeps.carried; lines = s.keeps.lines }) lt (omega (arith, is))
+    (record { knows = s.keeps.knows; turns = s.keeps.turns; carried = s.keeps.carried; lines = s.keeps.lines }) lt
+    (omega (arith, is))

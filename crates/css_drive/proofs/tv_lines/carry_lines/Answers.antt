@@ -13,7 +13,8 @@ returns-then-reading-line-clause-goes g c run start p h script s =
     let line : ScriptLine = c.index-script-air.result in
     let i : ℕ = c.lines.air.lines in
     turned_out x (line_waits (addresses_in run.config) c.args.reading x.p line (drop (i + 1) xs) x.airs.is_at.at
-    (left_lines x xs script (line ∷ drop (i + 1) xs) (dropped_at xs i line c.lines-test.true c.index-script-air.is)) c.if-reading-line.true)
+    (left_lines x xs script (line ∷ drop (i + 1) xs) (dropped_at xs i line c.lines-test.true c.index-script-air.is))
+    c.if-reading-line.true)
 
 pub returns-in-Err-clause-goes : goal.returns-in-Err-clause-goes
 returns-in-Err-clause-goes g c run start p h script s =
@@ -24,9 +25,12 @@ returns-in-Err-clause-goes g c run start p h script s =
     let r : ℕ = c.args.reading in
     let a = addresses_in run.config in
     let later = c.if-reading-line.false in
-    let lines = left_lines x xs script (line ∷ drop (i + 1) xs) (dropped_at xs i line c.lines-test.true c.index-script-air.is) in
+    let lines =
+    left_lines x xs script (line ∷ drop (i + 1) xs) (dropped_at xs i line c.lines-test.true c.index-script-air.is) in
     c.in-Err.ensures.goes run start x.p x.h (drop (i + 1) xs)
-    (told_as _ x.airs.is_at.history (next_line a r x.p line (drop (i + 1) xs) x.airs.is_at.at x.airs.is_at.stays.accepted x.airs.is_at.owes lines (omega (arith, later))))
+    (told_as _ x.airs.is_at.history
+    (next_line a r x.p line (drop (i + 1) xs) x.airs.is_at.at x.airs.is_at.stays.accepted x.airs.is_at.owes lines
+    (omega (arith, later))))
     x.airs.is_at.stays x.airs.is_at.at x.airs.is_at.owes x.airs.keeps.carried
 
 pub lines-preserved : goal.lines-preserved
@@ -39,10 +43,14 @@ lines-preserved g c = record {
       let r : ℕ = c.args.reading in
       let a = addresses_in run.config in
       let later = c.if-reading-line.false in
-      let lines = left_lines x xs script (line ∷ drop (i + 1) xs) (dropped_at xs i line c.lines-test.true c.index-script-air.is) in
+      let lines =
+      left_lines x xs script (line ∷ drop (i + 1) xs)
+      (dropped_at xs i line c.lines-test.true c.index-script-air.is) in
       line_carried x xs script c.in-Ok.ensures.cause.peers c.carry_out.new.tv
       (c.in-Ok.ensures.goes run start x.p x.h (drop (i + 1) xs)
-      (told_as _ x.airs.is_at.history (next_line a r x.p line (drop (i + 1) xs) x.airs.is_at.at x.airs.is_at.stays.accepted x.airs.is_at.owes lines (omega (arith, later))))
+      (told_as _ x.airs.is_at.history
+      (next_line a r x.p line (drop (i + 1) xs) x.airs.is_at.at x.airs.is_at.stays.accepted x.airs.is_at.owes lines
+      (omega (arith, later))))
       x.airs.is_at.stays x.airs.is_at.at x.airs.is_at.owes x.airs.keeps.carried);
   counts = record {
     dials = c.in-Ok.ensures.cause.dials ∙ c.lines.invariant.counts.dials;

@@ -8,7 +8,8 @@ use Rattle.css_drive.proofs.tv_lines.carry_lines.Given as goal
 abbrev pub invariant-lines : goal.invariant-lines
 invariant-lines g l = record {
   goes : (run : TvRun) (start : Option History) (p : Progress) (h : History) → run.script ≡ l.script
-      → Airs run start (g.O.Outside.told l.fn.outside) (g.O.Outside.counts l.fn.outside).peers l.fn.air (Turned l.reading) p
+      → Airs run start (g.O.Outside.told l.fn.outside) (g.O.Outside.counts l.fn.outside).peers l.fn.air
+      (Turned l.reading) p
       (settled (addresses_in run.config) p) h
       → Carries run start (g.O.Outside.told l.outside) (g.O.Outside.counts l.outside).peers l.air l.reading;
   counts : KeepsCounts (g.O.Outside.counts l.fn.outside) (g.O.Outside.counts l.outside);

@@ -9,8 +9,10 @@ use Rattle.css_drive.proofs.tv_outputs.put_all.Given as goal
 abbrev pub invariant-outs : goal.invariant-outs
 invariant-outs g l = record {
   goes : (run : TvRun) (start : Option History) (p : Progress) (h : History)
-      → Stands run start (g.O.Outside.told l.fn.outside) (g.O.Outside.counts l.fn.outside).peers l.fn.tv p h → p.owed ≡ l.fn.outs.items
-      → Comes run start (g.O.Outside.told l.outside) (g.O.Outside.counts l.outside).peers l.tv p p.place (reverse l.outs.items);
+      → Stands run start (g.O.Outside.told l.fn.outside) (g.O.Outside.counts l.fn.outside).peers l.fn.tv p h
+      → p.owed ≡ l.fn.outs.items
+      → Comes run start (g.O.Outside.told l.outside) (g.O.Outside.counts l.outside).peers l.tv p p.place
+      (reverse l.outs.items);
   counts : KeepsCounts (g.O.Outside.counts l.fn.outside) (g.O.Outside.counts l.outside);
 }
 

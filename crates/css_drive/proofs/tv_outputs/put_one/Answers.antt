@@ -8,15 +8,20 @@ pub returns-in-Ok-Sent-clause-goes : goal.returns-in-Ok-Sent-clause-goes
 returns-in-Ok-Sent-clause-goes g c run start p h rest s e =
     let peer : ℕ = c.in-Say.peer in
     let told = rw c.in-Ok-Sent.field-0-is at c.in-Ok-Sent.ensures.told in
-    wrote_one s peer c.bytes.result.now rest (e ∙ ap (λ x. x ∷ rest) c.in-Say.is ∙ ap (λ t. out.Say peer t ∷ rest) (sym c.bytes.ensures)) _ told _ (peers_kept c.in-Ok-Sent.ensures.counted)
+    wrote_one s peer c.bytes.result.now rest
+    (e ∙ ap (λ x. x ∷ rest) c.in-Say.is ∙ ap (λ t. out.Say peer t ∷ rest) (sym c.bytes.ensures)) _ told _
+    (peers_kept c.in-Ok-Sent.ensures.counted)
 
 pub returns-in-Ok-Gone-clause-goes : goal.returns-in-Ok-Gone-clause-goes
 returns-in-Ok-Gone-clause-goes g c run start p h rest s e =
     let peer : ℕ = c.in-Say.peer in
     let told = rw c.in-Ok-Gone.field-0-is at c.in-Ok-Gone.ensures.told in
-    gone_one s peer c.bytes.result.now rest (e ∙ ap (λ x. x ∷ rest) c.in-Say.is ∙ ap (λ t. out.Say peer t ∷ rest) (sym c.bytes.ensures)) _ told _ (peers_kept c.in-Ok-Gone.ensures.counted)
+    gone_one s peer c.bytes.result.now rest
+    (e ∙ ap (λ x. x ∷ rest) c.in-Say.is ∙ ap (λ t. out.Say peer t ∷ rest) (sym c.bytes.ensures)) _ told _
+    (peers_kept c.in-Ok-Gone.ensures.counted)
     _ c.close.result c.close.ensures.closes c.close.ensures.fault
 
 pub returns-in-Ok-clause-goes : goal.returns-in-Ok-clause-goes
 returns-in-Ok-clause-goes g c run start p h rest s e =
-    hung_one s c.in-HangUp.peer rest (e ∙ ap (λ x. x ∷ rest) c.in-HangUp.is) _ c.in-Ok.ensures.told _ (peers_kept c.in-Ok.ensures.counted)
+    hung_one s c.in-HangUp.peer rest (e ∙ ap (λ x. x ∷ rest) c.in-HangUp.is) _ c.in-Ok.ensures.told _
+    (peers_kept c.in-Ok.ensures.counted)

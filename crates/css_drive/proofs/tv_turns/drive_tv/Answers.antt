@@ -16,9 +16,11 @@ make_turns-made-requires-clause-ready g c =
 pub returns-in-Ok-made-clause-ran : goal.returns-in-Ok-made-clause-ran
 returns-in-Ok-made-clause-ran g c =
     let run : TvRun = record { config = c.args.config; turns = c.args.turns; script = c.args.script.now } in
-    ran_by (c.in-Ok-made.ensures.ends run (g.O.Outside.told c.args.outside.now) refl refl (c.in-Ok.ensures.goes run refl))
+    ran_by
+    (c.in-Ok-made.ensures.ends run (g.O.Outside.told c.args.outside.now) refl refl (c.in-Ok.ensures.goes run refl))
 
 pub returns-in-Err-made-clause-ran : goal.returns-in-Err-made-clause-ran
 returns-in-Err-made-clause-ran g c =
     let run : TvRun = record { config = c.args.config; turns = c.args.turns; script = c.args.script.now } in
-    ran_by (c.in-Err-made.ensures.ends run (g.O.Outside.told c.args.outside.now) refl refl (c.in-Ok.ensures.goes run refl))
+    ran_by
+    (c.in-Err-made.ensures.ends run (g.O.Outside.told c.args.outside.now) refl refl (c.in-Ok.ensures.goes run refl))

@@ -17,7 +17,8 @@ pub returns-in-Err-clause-ends : goal.returns-in-Err-clause-ends
 returns-in-Err-clause-ends g c run start script turns reaches =
     let x = c.turns.invariant.goes run start script turns reaches in
     let made : ℕ = c.turns.air.made in
-    c.in-Err.ensures.goes run start x.p x.h x.place script (subst (λ n. made < n) (sym turns) c.turns-test.true) x.fits x.airs
+    c.in-Err.ensures.goes run start x.p x.h x.place script (subst (λ n. made < n) (sym turns) c.turns-test.true) x.fits
+    x.airs
 
 pub returns-clause-ends : goal.returns-clause-ends
 returns-clause-ends g c run start script turns reaches =

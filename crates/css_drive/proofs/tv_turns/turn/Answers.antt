@@ -12,9 +12,12 @@ returns-in-Err-serve-clause-goes g c run start p h place script lt fits s =
 pub welcome-requires : goal.welcome-requires
 welcome-requires g c =
     let r = c.requires.ready in
-    let x = c.in-Ok.ensures.goes r.run r.start r.reaches.p r.reaches.h r.reaches.place r.script_so r.goes_on r.reaches.fits r.reaches.airs in
+    let x =
+    c.in-Ok.ensures.goes r.run r.start r.reaches.p r.reaches.h r.reaches.place r.script_so r.goes_on r.reaches.fits
+    r.reaches.airs in
     let y = c.in-Ok-serve.ensures.goes r.run r.start x.p x.h x.fits.0 (airs_at x.airs _ x.fits.1).is_at in
-    unused_of (served x (g.O.Outside.counts c.serve.new.outside).peers c.in-Ok-serve.ensures.cause.peers c.serve.new.tv y)
+    unused_of
+    (served x (g.O.Outside.counts c.serve.new.outside).peers c.in-Ok-serve.ensures.cause.peers c.serve.new.tv y)
 
 pub returns-in-Err-welcome-clause-goes : goal.returns-in-Err-welcome-clause-goes
 returns-in-Err-welcome-clause-goes g c run start p h place script lt fits s =
@@ -32,4 +35,5 @@ returns-clause-goes g c run start p h place script lt fits s =
     c.hear_all.ensures.goes run start z.p z.h (airs_at z.airs _ z.fits)
 
 pub returns-clause-made : goal.returns-clause-made
-returns-clause-made g c = on_ok (c.hear_all.ensures.made ∙ c.in-Ok-welcome.ensures.made ∙ c.in-Ok.ensures.made) c.hear_all.result
+returns-clause-made g c =
+    on_ok (c.hear_all.ensures.made ∙ c.in-Ok-welcome.ensures.made ∙ c.in-Ok.ensures.made) c.hear_all.result

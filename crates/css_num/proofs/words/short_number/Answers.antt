@@ -14,13 +14,15 @@ returns-in_err-number c =
 pub overflow_cast-result : goal.overflow_cast-result
 overflow_cast-result c =
     let read = short_number_of-below c.args.bytes.now c.args.digits (omega arith) (omega arith) in
-    let is : short_number_of c.args.bytes.now c.args.digits ≡ Some c.in_ok-number.number = sym (c.in_ok-number.ensures ∙ read) in
+    let is : short_number_of c.args.bytes.now c.args.digits ≡ Some c.in_ok-number.number =
+    sym (c.in_ok-number.ensures ∙ read) in
     omega (arith, ints, short_number_of-small c.args.bytes.now c.args.digits c.in_ok-number.number (omega arith) is)
 
 pub returns : goal.returns
 returns c =
     let read = short_number_of-below c.args.bytes.now c.args.digits (omega arith) (omega arith) in
-    let is : short_number_of c.args.bytes.now c.args.digits ≡ Some c.in_ok-number.number = sym (c.in_ok-number.ensures ∙ read) in
+    let is : short_number_of c.args.bytes.now c.args.digits ≡ Some c.in_ok-number.number =
+    sym (c.in_ok-number.ensures ∙ read) in
     let same : to_z w64 c.in_ok-number.number ≡ pos c.in_ok-number.number =
     omega (arith, ints, short_number_of-small c.args.bytes.now c.args.digits c.in_ok-number.number (omega arith) is) in
     ap Some same ∙ ap (option_map pos) (sym is)

@@ -6,12 +6,14 @@ use Rattle.css_num.proofs.words.signed_number.Goals as goal
 
 pub returns-in-45-clause-spelling : goal.returns-in-45-clause-spelling
 returns-in-45-clause-spelling c =
-    let value : c.negative_number.result ≡ signed_number_of c.args.bytes.now c.args.digits = grind (arith, common_steps) in
+    let value : c.negative_number.result ≡ signed_number_of c.args.bytes.now c.args.digits =
+    grind (arith, common_steps) in
     SpellsWithin-answer c.args.bytes.now c.args.digits c.negative_number.result c.requires value
 
 pub returns-in-45-clause-small : goal.returns-in-45-clause-small
 returns-in-45-clause-small c =
-    let value : c.negative_number.result ≡ signed_number_of c.args.bytes.now c.args.digits = grind (arith, common_steps) in
+    let value : c.negative_number.result ≡ signed_number_of c.args.bytes.now c.args.digits =
+    grind (arith, common_steps) in
     signed_number_of-small c.args.bytes.now c.args.digits c.negative_number.result c.requires value
 
 pub returns-in_default-clause-spelling : goal.returns-in_default-clause-spelling

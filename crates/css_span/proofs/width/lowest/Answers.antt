@@ -9,4 +9,8 @@ pub returns-clause-near : goal.returns-clause-near
 returns-clause-near c =
     let large : 134217728 ≤ unsigned_abs c.from.result = omega (arith, ints, c.from.ensures, c.local.invariant.error) in
     let small : unsigned_abs c.lower_end.result < 2 ^ 95 = omega (arith, ints, c.lower_end.ensures.bound) in
-    search (rules, c.floor_div.ensures.value, near-floor_div c.lower_end.result (unsigned_abs c.from.result) large small)
+    search (
+      rules,
+      c.floor_div.ensures.value,
+      near-floor_div c.lower_end.result (unsigned_abs c.from.result) large small,
+    )

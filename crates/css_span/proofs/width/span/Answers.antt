@@ -8,6 +8,7 @@ use Rattle.css_span.proofs.width.span.Goals as goal
 
 pub invariant_of-result : goal.invariant_of-result
 invariant_of-result c =
-    let order : lo c.args.local.now c.args.answer.now c.args.reading ≤ℤ hi c.args.local.now c.args.answer.now c.args.reading =
+    let order : lo c.args.local.now c.args.answer.now c.args.reading ≤ℤ hi c.args.local.now c.args.answer.now
+    c.args.reading =
     lo-hi c.args.local.now c.args.answer.now c.args.reading c.lowest.ensures.local c.requires.possible in
     omega (arith, ints)

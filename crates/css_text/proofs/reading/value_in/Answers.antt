@@ -7,4 +7,6 @@ pub returns-in-Ok : goal.returns-in-Ok
 returns-in-Ok c = ap value_or_fault (reading_found _ _ c.in-Ok.ensures.ok.0 c.in-Ok.ensures.ok.1)
 
 pub returns-in_default : goal.returns-in_default
-returns-in_default c = inl (ap value_or_fault (reading_none _ (c.in-Err.ensures.err (λ m. c.in_default.not-Memory (c.classify.ensures.memory.1 m)))))
+returns-in_default c =
+    inl (ap value_or_fault
+    (reading_none _ (c.in-Err.ensures.err (λ m. c.in_default.not-Memory (c.classify.ensures.memory.1 m)))))

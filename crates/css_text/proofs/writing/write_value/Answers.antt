@@ -17,8 +17,12 @@ returns-clause-text c = IfOk-weaker c.of.result _ _ (λ text is. is ∙ c.as_sli
 
 pub returns-clause-read_back : goal.returns-clause-read_back
 returns-clause-read_back c = IfOk-weaker c.of.result _ _
-    (λ text is. ap object_of (is ∙ c.as_slice.ensures.value) ∙ object_written (view c.args.value.now) c.in_ok-bytes.bytes.items c.requires.plain (compact c) c.in_ok-bytes.ensures.utf8 (c.in_ok-bytes.ensures.reads_back c.requires.shallow))
+    (λ text is.
+    ap object_of (is ∙ c.as_slice.ensures.value) ∙ object_written (view c.args.value.now) c.in_ok-bytes.bytes.items
+    c.requires.plain (compact c) c.in_ok-bytes.ensures.utf8 (c.in_ok-bytes.ensures.reads_back c.requires.shallow))
     c.of.ensures
 
 pub returns-clause-none_odd : goal.returns-clause-none_odd
-returns-clause-none_odd c = IfOk-weaker c.of.result _ _ (λ text is. odd_written (view c.args.value.now) text c.requires.plain (is ∙ c.as_slice.ensures.value ∙ compact c)) c.of.ensures
+returns-clause-none_odd c =
+    IfOk-weaker c.of.result _ _ (λ text is.
+    odd_written (view c.args.value.now) text c.requires.plain (is ∙ c.as_slice.ensures.value ∙ compact c)) c.of.ensures

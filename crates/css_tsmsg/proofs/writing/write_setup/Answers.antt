@@ -18,9 +18,12 @@ write_value-requires-clause-shallow c =
     subst P (sym c.in_ok-value.ensures) (setup_shallow c.args.setup.now)
 
 pub returns-clause-text : goal.returns-clause-text
-returns-clause-text c = IfOk-weaker c.write_value.result _ _ (λ text is. is ∙ ap compact_text c.in_ok-value.ensures ∙ setup_text_is c.args.setup.now) c.write_value.ensures.text
+returns-clause-text c =
+    IfOk-weaker c.write_value.result _ _ (λ text is.
+    is ∙ ap compact_text c.in_ok-value.ensures ∙ setup_text_is c.args.setup.now) c.write_value.ensures.text
 
 pub returns-clause-read_back : goal.returns-clause-read_back
 returns-clause-read_back c = IfOk-weaker c.write_value.result _ _
-    (λ text told. setup_back c.args.setup.now text (told ∙ ap (λ value. members_or_fault (Ok value)) c.in_ok-value.ensures))
+    (λ text told.
+    setup_back c.args.setup.now text (told ∙ ap (λ value. members_or_fault (Ok value)) c.in_ok-value.ensures))
     c.write_value.ensures.read_back

@@ -6,4 +6,6 @@ use Rattle.css_tv.proofs.laws.isolation.Goals as goal
 
 pub returns : goal.returns
 returns c = λ a b peer h k same.
-    ap texts_of_lived (sym (life_of-own peer (calls_of a h).sessions) ∙ ap (life_of peer) same ∙ life_of-own peer (calls_of b k).sessions)
+    ap texts_of_lived
+    (sym (life_of-own peer (calls_of a h).sessions) ∙ ap (life_of peer) same ∙ life_of-own peer
+    (calls_of b k).sessions)

@@ -19,8 +19,11 @@ ranges c = record {
 
 pub returns-clause-bytes : goal.returns-clause-bytes
 returns-clause-bytes c =
-    let precision = c.cast_unsigned.ensures ∙ ap (cast_unsigned w8) (to_z-of_z w8 c.args.message.precision (ranges c).precision) in
-    encoded-by_parts c.args.message _ _ _ _ _ precision c.write_number.ensures c.write_stamp.ensures c.write_stamp-2.ensures c.write_stamp-3.ensures
+    let precision =
+    c.cast_unsigned.ensures ∙ ap (cast_unsigned w8) (to_z-of_z w8 c.args.message.precision (ranges c).precision) in
+    encoded-by_parts c.args.message _ _ _ _ _ precision c.write_number.ensures c.write_stamp.ensures
+    c.write_stamp-2.ensures c.write_stamp-3.ensures
 
 pub returns-clause-read_back : goal.returns-clause-read_back
-returns-clause-read_back c = ap decoded (returns-clause-bytes c) ∙ decoded-encoded c.args.message (ranges c) c.requires.fields
+returns-clause-read_back c =
+    ap decoded (returns-clause-bytes c) ∙ decoded-encoded c.args.message (ranges c) c.requires.fields

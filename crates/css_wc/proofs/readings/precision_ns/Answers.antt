@@ -14,7 +14,8 @@ div_ceil-of_lt a b above below = rw (div-eq_of_lt below, mod-eq_of_lt below) (om
 
 -- 2^30 is above 10^9
 above_second : (k : ℕ) → 29 ≤ k → second < 2 ^ suc k
-above_second k large = let least : 2 ^ 30 ≤ 2 ^ suc k = pow-le-pow_right {n = 2} (omega arith) {i = 30} {j = suc k} (omega arith) in omega arith
+above_second k large = let least : 2 ^ 30 ≤ 2 ^ suc k =
+    pow-le-pow_right {n = 2} (omega arith) {i = 30} {j = suc k} (omega arith) in omega arith
 
 smallest : (exponent : ℤ) → exponent ≤ℤ negsuc 29 → 1 ≡ precision_ns exponent
 smallest (pos k) h = absurd (omega (arith, ints))
@@ -34,6 +35,8 @@ pub returns-then-exponent-ge0-clause-range : goal.returns-then-exponent-ge0-clau
 returns-then-exponent-ge0-clause-range c =
     let shift = unsigned_abs (to_z w8 (of_z w8 c.args.exponent)) in
     let small : unsigned_abs (to_z w8 (of_z w8 c.args.exponent)) ≤ 30 = omega (arith, ints) in
-    let most : 2 ^ unsigned_abs (to_z w8 (of_z w8 c.args.exponent)) ≤ 2 ^ 30 = pow-le-pow_right {n = 2} (omega arith) {i = unsigned_abs (to_z w8 (of_z w8 c.args.exponent))} {j = 30} small in
-    let kept : 1000000000 * 2 ^ shift % 18446744073709551616 ≤ 1000000000 * 2 ^ shift = mod-le (1000000000 * 2 ^ shift) 18446744073709551616 in
+    let most : 2 ^ unsigned_abs (to_z w8 (of_z w8 c.args.exponent)) ≤ 2 ^ 30 =
+    pow-le-pow_right {n = 2} (omega arith) {i = unsigned_abs (to_z w8 (of_z w8 c.args.exponent))} {j = 30} small in
+    let kept : 1000000000 * 2 ^ shift % 18446744073709551616 ≤ 1000000000 * 2 ^ shift =
+    mod-le (1000000000 * 2 ^ shift) 18446744073709551616 in
     omega arith

@@ -6,15 +6,21 @@ use Rattle.std.proofs.Common.{ℕ, List, ◌∷◌, [], ◌++◌, subst, sym}
 use Rattle.std.specs.Prelude.{Option}
 
 pub carry_out-requires : goal.carry_out-requires
-carry_out-requires c = record { stands = some_lines c.args.self.now c.in-Some.world c.args.number c.requires.0 c.in-Some.is c.requires.1 c.requires.2 }
+carry_out-requires c =
+    record {
+      stands =
+          some_lines c.args.self.now c.in-Some.world c.args.number c.requires.0 c.in-Some.is c.requires.1 c.requires.2;
+    }
 
 pub returns-in-Some-clause-answers : goal.returns-in-Some-clause-answers
 returns-in-Some-clause-answers c =
-    answers-line c.carry_out.result c.args.self.now c.in-Some.world c.args.number c.args.text.now c.args.out.now.items c.carry_out.new.out.items c.in-Some.is c.carry_out.ensures.answers
+    answers-line c.carry_out.result c.args.self.now c.in-Some.world c.args.number c.args.text.now c.args.out.now.items
+    c.carry_out.new.out.items c.in-Some.is c.carry_out.ensures.answers
 
 pub returns-in-Some-clause-stands : goal.returns-in-Some-clause-stands
 returns-in-Some-clause-stands c =
-    stands-after c.carry_out.result c.args.self.now c.in-Some.world c.carry_out.new.world c.args.number c.args.text.now c.in-Some.is c.carry_out.ensures.header c.carry_out.ensures.stands
+    stands-after c.carry_out.result c.args.self.now c.in-Some.world c.carry_out.new.world c.args.number c.args.text.now
+    c.in-Some.is c.carry_out.ensures.header c.carry_out.ensures.stands
     (λ other stood. next-number c.args.self.now c.args.number c.requires.0 other c.requires.1 c.requires.2 stood)
 
 pub returns-in_ok-begin-in-None-clause-answers : goal.returns-in_ok-begin-in-None-clause-answers

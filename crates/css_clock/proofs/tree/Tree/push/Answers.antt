@@ -10,5 +10,9 @@ invariant_of-self-2 c =
     let clocks = c.self.inside.nodes.items in
     let clock : IsClock (length clocks) c.new.result =
     subst (λ (node : Node). IsClock (length clocks) node) (sym c.new.ensures.value)
-    (record { rate = c.new.ensures.rate; linked = λ of h. subst (λ (seen : Clocks). IsLink (length seen) of) (sym c.self.view_is) (c.requires.clock of h) }) in
+    (record {
+      rate = c.new.ensures.rate;
+      linked =
+          λ of h. subst (λ (seen : Clocks). IsLink (length seen) of) (sym c.self.view_is) (c.requires.clock of h);
+    }) in
     rw c.in_ok-push.ensures.items (IsForest-push clocks c.new.result c.self.invariant clock)

@@ -10,5 +10,7 @@ implied P Q (Err e) more h = h
 pub returns-clause-in_force : goal.returns-clause-in_force
 returns-clause-in_force c =
     implied _ _ c.windows.result
-    (λ ws is h stands. is ∙ ap windows_in (c.as_slice.ensures.value ∙ ap (λ (k : Kept). k.list) c.self.view_is) ∙ windows_stand c.args.self.now h stands)
+    (λ ws is h stands.
+    is ∙ ap windows_in (c.as_slice.ensures.value ∙ ap (λ (k : Kept). k.list) c.self.view_is) ∙ windows_stand
+    c.args.self.now h stands)
     c.windows.ensures

@@ -12,7 +12,10 @@ pub invariant_of-self-2 : goal.invariant_of-self-2
 invariant_of-self-2 c = record {
   local = c.self.invariant.local;
   floor = omega arith;
-  kept = c.in_ok-keep.ensures.ok.possible (possible-later c.self.inside.local c.self.inside.floor c.args.reading (reverse c.self.inside.kept.items) c.self.invariant.local (risen c) c.self.invariant.kept);
+  kept =
+      c.in_ok-keep.ensures.ok.possible
+      (possible-later c.self.inside.local c.self.inside.floor c.args.reading (reverse c.self.inside.kept.items)
+      c.self.invariant.local (risen c) c.self.invariant.kept);
 }
 
 pub returns-clause-ok : goal.returns-clause-ok
@@ -20,5 +23,6 @@ returns-clause-ok c = record {
   local = ap (λ (f : Frontier). f.local) c.self.view_is;
   floor = refl;
   stands = λ accepted stands.
-      c.in_ok-keep.ensures.ok.stands c.self.inside.floor accepted (risen c) c.self.invariant.local (subst (λ (f : Frontier). StandsFor f accepted) (sym c.self.view_is) stands);
+      c.in_ok-keep.ensures.ok.stands c.self.inside.floor accepted (risen c) c.self.invariant.local
+      (subst (λ (f : Frontier). StandsFor f accepted) (sym c.self.view_is) stands);
 }
