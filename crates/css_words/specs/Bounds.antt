@@ -1,6 +1,6 @@
 -- The texts of the times at which a companion can present.
 use Rattle.std.specs.Prelude.{ℕ, ℤ, ◌+◌, ◌^◌, ◌==◌, Bool, if◌then◌else◌, bytes_eq, take, drop, position, codes}
-use Rattle.std.specs.Prelude.{Option, Some, None, option_map, Result, Ok, Err}
+use Rattle.std.specs.Prelude.{Option, Some, None, option_map, Result, Ok}
 use Rattle.clap.specs.Words.{Text}
 use Rattle.css_num.specs.Words.{whole_number_of, signed_number_of}
 use Rattle.css_tsmsg.specs.declared.bound.Bound.{Bound}

@@ -32,13 +32,18 @@ pub enum Command {
     Survey(GeneratorWords),
 }
 
-// Whether a word is `-` or `--` alone.
-fn has_bare_dashes(words: &[String]) -> bool
-    ensures { result ≡ list_any commands.is_bare_dashes (map string_bytes words.now) }
+// Whether the word is `-` or `--` alone.
+fn is_bare_dashes(word: &str) -> bool
+    ensures { result ≡ commands.is_bare_dashes word.now }
 {
-    words
-        .iter()
-        .any(|word| word.as_str() == "-" || word.as_str() == "--")
+    word == "-" || word == "--"
+}
+
+// Whether one of the words is.
+fn has_bare_dashes(words: &[String]) -> bool
+    ensures { result ≡ list_any (λ word. commands.is_bare_dashes (string_bytes word)) words.now }
+{
+    words.iter().any(|word| is_bare_dashes(word.as_str()))
 }
 
 // That a command without options has no words after its name.
