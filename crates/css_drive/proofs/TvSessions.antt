@@ -65,26 +65,26 @@ Step run peer older call = AreNumbered (call ++ older) → Good run peer (call +
 call_good : (run : TvRun) (peer : ℕ) (older : History) (d : Due) → IsNoText d
     → (progress_of run.config run.script older).owed ≡ [] → (call : History) → MayAdd d call → Good run peer older
     → Step run peer older call
-call_good run peer older (Listen host port) no none call may t =
+call_good run peer older (Listen host port) quiet none call may t =
     subst (Step run peer older) (sym may) (λ numbered. t)
-call_good run peer older (Now w) no none call may t =
+call_good run peer older (Now w) quiet none call may t =
     subst (Step run peer older) (sym may.1)
     (λ numbered. clock_good run peer older w may.0.reading may.0.slept t)
-call_good run peer older (Dial k to) no none call (inl may) t =
+call_good run peer older (Dial k to) quiet none call (inl may) t =
     subst (Step run peer older) (sym may.1) (λ numbered. t)
-call_good run peer older (Dial k to) no none call (inr may) t = subst (Step run peer older) (sym may) (λ numbered. t)
-call_good run peer older Accept no none call may t =
+call_good run peer older (Dial k to) quiet none call (inr may) t = subst (Step run peer older) (sym may) (λ numbered. t)
+call_good run peer older Accept quiet none call may t =
     subst (Step run peer older) (sym may.1) (λ numbered. opening_good run peer older may.0 none numbered t)
-call_good run peer older (SendDatagram p bytes) no none call may t =
+call_good run peer older (SendDatagram p bytes) quiet none call may t =
     subst (Step run peer older) (sym may) (λ numbered. t)
-call_good run peer older TakeDatagram no none call may t =
+call_good run peer older TakeDatagram quiet none call may t =
     subst (Step run peer older) (sym may.2) (λ numbered. datagram_good run peer older may.0 may.1 t)
-call_good run peer older (TakeText p) no none call may t =
+call_good run peer older (TakeText p) quiet none call may t =
     subst (Step run peer older) (sym may.1) (λ numbered. heard_good run peer older p may.0 none t)
-call_good run peer older (SendText p text) no none call may t = absurd no
-call_good run peer older (HangUp p) no none call may t =
+call_good run peer older (SendText p text) quiet none call may t = absurd quiet
+call_good run peer older (HangUp p) quiet none call may t =
     subst (Step run peer older) (sym may) (λ numbered. hung_good run peer older p [] t none)
-call_good run peer older (Ends ended) no none call may t = absurd may
+call_good run peer older (Ends ended) quiet none call may t = absurd may
 
 -- a call that is due
 due_good : (run : TvRun) (peer : ℕ) (older : History) (call : History) (r : Option TvFault) (owed : List TvOut)

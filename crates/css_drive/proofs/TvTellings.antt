@@ -56,21 +56,29 @@ hung_up_owed Q peer p (o ∷ os) q = q os
 other_than : (peer p n : ℕ) → p < n → n ≤ peer → eqb p peer ≡ false
 other_than peer p n lt le = grind (arith, nat_tests)
 
+-- one event more that opens no session of the peer
+unused_more : (run : TvRun) (peer : ℕ) (older : History) (e : TvEvent) → IsOther peer e
+    → At (Unused (addresses_in run.config) peer) (progress_of run.config run.script older)
+    → life_of peer (calls_of (addresses_in run.config)
+    (e ∷ (progress_of run.config run.script older).events)).sessions ≡ None
+unused_more run peer older e other none =
+    event_unused (addresses_in run.config) e (progress_of run.config run.script older).events peer other none
+
 -- a peer whose number is above those of all that came has no session
 unused : (run : TvRun) (peer n : ℕ) → n ≤ peer → (h : History) → AreBelow n h
     → At (Unused (addresses_in run.config) peer) (progress_of run.config run.script h)
 unused run peer n le [] below = refl
 unused run peer n le (Accepted p peer_kind.Wc ∷ older) below = unused run peer n le older below.1
 unused run peer n le (Accepted p peer_kind.Cii ∷ older) below =
-    event_unused (addresses_in run.config) (event.Opened p kind.Cii) _ peer (other_than peer p n below.0 le)
+    unused_more run peer older (event.Opened p kind.Cii) (other_than peer p n below.0 le)
     (unused run peer n le older below.1)
 unused run peer n le (Accepted p peer_kind.Ts ∷ older) below =
-    event_unused (addresses_in run.config) (event.Opened p kind.Ts) _ peer (other_than peer p n below.0 le)
+    unused_more run peer older (event.Opened p kind.Ts) (other_than peer p n below.0 le)
     (unused run peer n le older below.1)
 unused run peer n le (Heard p bytes ∷ older) below =
-    event_unused (addresses_in run.config) (event.Heard p bytes) _ peer tt (unused run peer n le older below)
+    unused_more run peer older (event.Heard p bytes) tt (unused run peer n le older below)
 unused run peer n le (Closed p ∷ older) below =
-    event_unused (addresses_in run.config) (event.Closed p) _ peer tt (unused run peer n le older below)
+    unused_more run peer older (event.Closed p) tt (unused run peer n le older below)
 unused run peer n le (Wrote p text ∷ older) below =
     let a = addresses_in run.config in
     kept_settled a (Unused a peer) (unused_kept a peer) (one_done (progress_of run.config run.script older))
@@ -79,7 +87,7 @@ unused run peer n le (Gone p ∷ older) below =
     let a = addresses_in run.config in
     kept_settled a (Unused a peer) (unused_kept a peer)
     (happened a (event.Closed p) (one_done (progress_of run.config run.script older)))
-    (event_unused a (event.Closed p) _ peer tt (unused run peer n le older below))
+    (unused_more run peer older (event.Closed p) tt (unused run peer n le older below))
 unused run peer n le (HungUp p ∷ older) below =
     let a = addresses_in run.config in
     let before = progress_of run.config run.script older in

@@ -180,14 +180,15 @@ kept_verb a Q k reading _ left p none q = q
 kept_carry : (a : Addresses) (Q : List TvEvent → List TvOut → Type 0) → IsKept a Q → (reading : ℕ)
     (lines : List ScriptLine) (p : Progress) → At Q p → At Q (carry a reading lines p)
 kept_carry a Q k reading [] p q = q
-kept_carry a Q k reading (line ∷ left) p q = by (is_free p) (nat_le line.due reading) refl where
-  by : (free due : Bool) → is_free p ≡ free
-      → At Q (cond (free && due) (carry a reading left (with_line a reading line left p)) p)
-  by true true e =
-      kept_carry a Q k reading left (with_line a reading line left p)
-      (kept_verb a Q k reading line.verb left p (free_owes p.refused p.owed e) q)
-  by true false e = q
-  by false due e = q
+kept_carry a Q k reading (line ∷ left) p q =
+    by (is_free p) (nat_le line.due reading) refl (kept_carry a Q k reading left (with_line a reading line left p))
+  where
+    by : (free due : Bool) → is_free p ≡ free
+        → (At Q (with_line a reading line left p) → At Q (carry a reading left (with_line a reading line left p)))
+        → At Q (cond (free && due) (carry a reading left (with_line a reading line left p)) p)
+    by true true e on = on (kept_verb a Q k reading line.verb left p (free_owes p.refused p.owed e) q)
+    by true false e on = q
+    by false due e on = q
 
 pub kept_settled : (a : Addresses) (Q : List TvEvent → List TvOut → Type 0) → IsKept a Q → (p : Progress) → At Q p
     → At Q (settled a p)
