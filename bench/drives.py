@@ -67,6 +67,7 @@ const SETUP: &str = r#"{"contentIdStem":"","timelineSelector":"urn:dvb:css:timel
 const PRESENTATION: &str = r#"{"earliest":{"contentTime":"900000","wallClockTime":"40000000"},"latest":{"contentTime":"900000","wallClockTime":"plusinfinity"}}"#;
 
 /// A writer as a sink that never fails.
+#[derive(Drop)]
 struct Out<W> {
     inner: W,
 }
@@ -83,6 +84,7 @@ impl<W: Write> Sink for Out<W> {
 }
 
 /// An outside in memory that writes what is sent.
+#[derive(Drop)]
 struct Telling<W> {
     outside: MemoryOutside,
     out: W,
@@ -147,6 +149,7 @@ impl<W: Write> Outside for Telling<W> {
 }
 
 /// An outside that allocates nothing. 256 sessions are opened, one a turn, and nothing else ever comes.
+#[derive(Drop)]
 struct Quiet {
     peers: u32,
 }
@@ -291,7 +294,7 @@ fn companion_config(alloc: Global) -> Result<DriveConfig, Memory>
     })
 }
 
-fn run_companion<W: Write>(alloc: Global, out: W) -> Result<Driven, Memory> {
+fn run_companion<W: Write + Drop>(alloc: Global, out: W) -> Result<Driven, Memory> {
     let config = companion_config(alloc)?;
     let mut outside = companion_outside(alloc)?;
     let mut sink = Out { inner: out };
@@ -326,7 +329,7 @@ fn tv_config(host: Text) -> TvConfig
     TvConfig { precision: -30, error: 0, follow: true, host, port: 6677 }
 }
 
-fn run_tv<W: Write>(alloc: Global, out: W) -> Result<Driven, Memory> {
+fn run_tv<W: Write + Drop>(alloc: Global, out: W) -> Result<Driven, Memory> {
     let config = tv_config(text(alloc, "127.0.0.1")?);
     let mut outside = Telling { outside: tv_outside(alloc)?, out };
     let script = script(alloc)?;

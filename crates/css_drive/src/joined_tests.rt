@@ -246,7 +246,11 @@ fn television_outside(
     Ok(keeping(alloc, MemoryOutside::new(alloc, script)?))
 }
 
-fn companion_outside(rt: &impl Abort, alloc: Global, television: &Keeping) -> Result<Keeping, Fail> {
+fn companion_outside(
+    rt: &impl Abort,
+    alloc: Global,
+    television: &Keeping,
+) -> Result<Keeping, Fail> {
     let course = companion_course(alloc, &television.datagrams)?;
     let script = OutsideScript {
         readings: clocked(rt, alloc, &course.readings)?,
@@ -360,7 +364,13 @@ fn each_report_contains_what_is_shown(rt: HostRuntime) -> Result<(), Fail> {
     let requests = requests(alloc)?;
     let script = script_of(alloc, SCRIPT)?;
     let mut television_side = television_outside(&rt, alloc, &requests)?;
-    let driven = drive_tv(alloc, television(&rt, alloc), TURNS, &script, &mut television_side);
+    let driven = drive_tv(
+        alloc,
+        television(&rt, alloc),
+        TURNS,
+        &script,
+        &mut television_side,
+    );
     assert!(rt; matches!(driven, Driven::Done));
     let mut companion_side = companion_outside(&rt, alloc, &television_side)?;
     let mut sink = MemorySink::new(alloc, 4096, &[])?;

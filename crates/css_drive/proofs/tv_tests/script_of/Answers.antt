@@ -8,4 +8,4 @@ use Rattle.css_drive.proofs.tv_tests.script_of.Goals as goal
 pub loop-line-preserved : goal.loop-line-preserved
 loop-line-preserved c =
     subst (All IsScriptLine) (sym c.in_ok-push.ensures.items)
-    (All-push IsScriptLine c.loop-line.lines.items _ c.loop-line.invariant c.in_ok-read_script.ensures.ok)
+    (All-push IsScriptLine c.loop-line.lines.items _ c.loop-line.invariant c.in_ok-read_script.ensures.range)
