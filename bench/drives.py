@@ -66,6 +66,9 @@ const SETUP: &str = r#"{"contentIdStem":"","timelineSelector":"urn:dvb:css:timel
 
 const PRESENTATION: &str = r#"{"earliest":{"contentTime":"900000","wallClockTime":"40000000"},"latest":{"contentTime":"900000","wallClockTime":"plusinfinity"}}"#;
 
+const SCRIPT: &str =
+    "0 programme dvb://1\n0 timeline 1 urn:dvb:css:timeline:pts 1 90000 900000\n0 change 1";
+
 /// A writer as a sink that never fails.
 #[derive(Drop)]
 struct Out<W> {
@@ -301,23 +304,17 @@ fn run_companion<W: Write + Drop>(alloc: Global, out: W) -> Result<Driven, Memor
     Ok(drive_companion(alloc, config, &mut sink, &mut outside, &mut Nobody))
 }
 
-fn line(alloc: Global, words: &str) -> Result<ScriptLine, Memory>
-    ensures { IfOk result IsScriptLine }
-{
-    match read_script(alloc, words.as_bytes()) {
-        Ok(line) => Ok(line),
-        Err(_) => Err(Memory),
-    }
-}
-
 fn script(alloc: Global) -> Result<Vec<ScriptLine>, Memory>
     ensures { IfOk result (λ lines. All IsScriptLine lines.items) }
 {
-    Ok(vec![in alloc;
-        line(alloc, "0 programme dvb://1")?,
-        line(alloc, "0 timeline 1 urn:dvb:css:timeline:pts 1 90000 900000")?,
-        line(alloc, "0 change 1")?,
-    ]?)
+    let mut lines = Vec::new(alloc);
+    for line in SCRIPT.lines() {
+        match read_script(alloc, line.as_bytes()) {
+            Ok(read) => lines.push(read)?,
+            Err(_) => return Err(Memory),
+        }
+    }
+    Ok(lines)
 }
 
 fn tv_config(host: Text) -> TvConfig
@@ -339,7 +336,9 @@ fn run_tv<W: Write + Drop>(alloc: Global, out: W) -> Result<Driven, Memory> {
 fn run_quiet(alloc: Global, turns: u64) -> Result<Driven, Memory> {
     let config = tv_config(text(alloc, "127.0.0.1")?);
     let mut outside = Quiet { peers: 0 };
-    let turns = turns.clamp(1, 1_000_000);
+    if turns < 1 || turns > 1_000_000 {
+        return Err(Memory);
+    }
     Ok(drive_tv(alloc, config, turns, &[], &mut outside))
 }
 
@@ -369,6 +368,17 @@ fn main(rt: HostRuntime) -> ExitCode {
     }
 }
 """
+
+PROOFS = {
+    "script/Invariants.antt": """-- The lines so far are lines of a script.
+use Rattle.std.specs.Prelude.{All}
+use Rattle.css_schedule.specs.Ranges.{IsScriptLine}
+use Rattle.drives.proofs.script.Given as goal
+
+abbrev pub invariant-loop-line : goal.invariant-loop-line
+invariant-loop-line l = All IsScriptLine l.lines.items
+""",
+}
 
 
 def run(program, library, words, number):
@@ -421,7 +431,7 @@ def allocations(program, library, turns):
 
 def main():
     with tempfile.TemporaryDirectory() as folder:
-        program = build(folder, "drives", LIBRARIES, PROGRAM)
+        program = build(folder, "drives", LIBRARIES, PROGRAM, PROOFS)
         library = refusals.build(folder)
         for kind in ["companion", "tv"]:
             count = refuse_each(program, library, kind)

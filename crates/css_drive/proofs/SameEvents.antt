@@ -1,5 +1,5 @@
 -- What a companion reports depends on what it was told alone.
-use Rattle.std.proofs.Common.{◌≡◌, ℕ, ℤ, Bool, true, false, List, [], ◌∷◌, ◌++◌, refl, sym, ap, ap₂, ◌∙◌, take}
+use Rattle.std.proofs.Common.{◌≡◌, ℕ, Bool, true, false, List, [], ◌∷◌, ◌++◌, refl, sym, ap, ap₂, ◌∙◌, take}
 use Rattle.std.specs.Prelude.{Option, Some, None, if◌then◌else◌, ◌||◌, Result}
 use Rattle.std.specs.List.{list_any}
 use Rattle.std.specs.Option.{option_and_then, option_map, option_or, option_to_list}
@@ -11,7 +11,7 @@ use Rattle.css_model.specs.declared.Kind.{Kind}
 use Rattle.css_model.specs.declared.Kind.TheVariants as kind
 use Rattle.css_model.specs.WallClock.{Local}
 use Rattle.css_model.specs.Wire.{is_same_stamp}
-use Rattle.css_model.specs.History.{Entry, History, Slept, Clock, Sent, Heard, Closed, Gone, LandedAnswer}
+use Rattle.css_model.specs.History.{History, Slept, Clock, Sent, Heard, Closed, Gone, LandedAnswer}
 use Rattle.css_model.specs.History.{just_taken, request_by, request_in, answer_in, requests, landed_answers}
 use Rattle.css_model.specs.History.{possible_answers}
 use Rattle.css_span.specs.WallSpans.{wall_span}
@@ -26,7 +26,7 @@ use Rattle.css_companion.specs.Printed.{line_of}
 use Rattle.css_companion.specs.Reports.{timing_of, report_by, assigned_by}
 use Rattle.css_companion.specs.TimelineRates.{rate_of}
 use Rattle.css_drive.specs.SameEvents.{Happening, Sleep, Asks, Lands, TellsCii, TellsTs, EndsTs, landing, text_of}
-use Rattle.css_drive.specs.SameEvents.{end_of, with_happening, happenings, ReportAlike, SameEventsAreReportedAlike}
+use Rattle.css_drive.specs.SameEvents.{end_of, with_happening, happenings, SameEventsAreReportedAlike}
 
 -- ---- requests
 -- the originate values of the requests since the last sleep

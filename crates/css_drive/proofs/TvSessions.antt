@@ -16,7 +16,7 @@ use Rattle.css_drive.specs.TvDue.{TvRun, due, due_at, from_end, from_hang_ups, f
 use Rattle.css_drive.specs.TvDue.{unless_owed, unless_refused}
 use Rattle.css_drive.specs.TvPeers.{above}
 use Rattle.css_drive.specs.TvRan.{AreNumbered}
-use Rattle.css_drive.specs.TvTold.{sent_to, is_gone, lost, TellsSession, SessionsAreTold}
+use Rattle.css_drive.specs.TvTold.{sent_to, is_gone, lost, SessionsAreTold}
 use Rattle.css_drive.specs.declared.driven.Driven.TheVariants as driven
 use Rattle.css_drive.proofs.TvNews.{news_of}
 use Rattle.css_drive.proofs.TvTellings.{Good, clock_good, opening_good, datagram_good, heard_good, wrote_good, hung_good}

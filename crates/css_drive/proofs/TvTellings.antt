@@ -1,7 +1,7 @@
 -- The texts of a session over a television's whole run.
 use Rattle.std.proofs.Common.{◌≡◌, ℕ, ◌+◌, ◌≤◌, ◌<◌, Bool, true, false, cond, eqb, List, [], ◌∷◌, ◌++◌, length, Option}
-use Rattle.std.proofs.Common.{Some, None, refl, sym, ap, subst, ◌∙◌, arith, append-nil, inl, inr}
-use Rattle.std.specs.Prelude.{◌⊎◌, ◌==◌, ◌||◌, nat_lt, reverse, option_map, ⊤}
+use Rattle.std.proofs.Common.{Some, None, refl, sym, ap, subst, ◌∙◌, arith, append-nil}
+use Rattle.std.specs.Prelude.{◌||◌, reverse, option_map}
 use Rattle.std.proofs.lemmas.Bool.Decides.{nat_tests}
 use Rattle.css_model.specs.declared.Kind.{Kind as PeerKind}
 use Rattle.css_model.specs.declared.Kind.TheVariants as peer_kind
@@ -13,7 +13,6 @@ use Rattle.css_outside.specs.declared.calls.Heard.{Heard as SessionHeard}
 use Rattle.css_outside.specs.declared.calls.Heard.TheVariants as heard
 use Rattle.css_outside.specs.declared.calls.Wrote.{Wrote as Outcome}
 use Rattle.css_outside.specs.declared.calls.Wrote.TheVariants as outcome
-use Rattle.css_sessions.specs.declared.session.Kind.{Kind}
 use Rattle.css_sessions.specs.declared.session.Kind.TheVariants as kind
 use Rattle.css_sessions.specs.Kept.{Event as Call}
 use Rattle.css_sessions.specs.Told.{Life, Lived, texts_of_lived, life_of, when, ended, with_text}
@@ -29,7 +28,7 @@ use Rattle.css_drive.specs.TvRan.{AreBelow, AreNumbered}
 use Rattle.css_drive.specs.TvTold.{sent_by, sent_to, is_gone, lost}
 use Rattle.css_drive.proofs.TvCalls.{IsOther, event_unused}
 use Rattle.css_drive.proofs.TvNews.{news_of}
-use Rattle.css_drive.proofs.TvTold.{Telling, IsPlayed, IsKept, At, IsPlain, gone_life, same_number, none_there, none_more}
+use Rattle.css_drive.proofs.TvTold.{Telling, IsPlayed, IsKept, At, IsPlain, gone_life, none_there, none_more}
 use Rattle.css_drive.proofs.TvTold.{tells_event, kept_settled, kept_plain}
 
 -- ---- peers that never came

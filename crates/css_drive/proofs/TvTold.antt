@@ -1,6 +1,6 @@
 -- What a television's run sent to a session is the first of what the session was to be told.
 use Rattle.std.proofs.Common.{◌≡◌, ℕ, ◌+◌, ◌≤◌, suc, Bool, true, false, cond, eqb, List, [], ◌∷◌, ◌++◌, length, Option}
-use Rattle.std.proofs.Common.{Some, None, refl, sym, ap, subst, ◌∙◌, arith, append-nil, length-append, Result, Ok, Err}
+use Rattle.std.proofs.Common.{Some, None, refl, sym, ap, subst, ◌∙◌, arith, length-append, Result, Ok, Err}
 use Rattle.std.specs.Prelude.{◌&&◌, nat_le, reverse, option_map, ⊤}
 use Rattle.std.proofs.lemmas.List.{length-reverse}
 use Rattle.std.proofs.lemmas.Bool.Decides.{nat_tests}
@@ -24,7 +24,7 @@ use Rattle.css_schedule.specs.declared.line.ScriptLine.{ScriptLine}
 use Rattle.css_schedule.specs.declared.line.Verb.{Verb}
 use Rattle.css_schedule.specs.declared.line.Verb.TheVariants.{Programme, Timeline, Viewer}
 use Rattle.css_drive.specs.TvProgress.{Place, Turned, Taken, Received, Progress, outcome_after, outs_after, happened}
-use Rattle.css_drive.specs.TvProgress.{event_of, past_line, played, played_if, with_line, is_free, is_free_of, carry}
+use Rattle.css_drive.specs.TvProgress.{event_of, played, played_if, with_line, is_free, is_free_of, carry}
 use Rattle.css_drive.specs.TvProgress.{settled_at, settled, ticketed, received_at, answered_at, after}
 use Rattle.css_drive.specs.TvTold.{lost}
 use Rattle.css_drive.proofs.TvCalls.{called_in}
