@@ -22,8 +22,9 @@ def crates_below(names, lines):
     return found
 
 
-def build(folder, name, libraries, source):
-    """Builds the program of this source in this folder, over these libraries, and gives its path."""
+def build(folder, name, libraries, source, proofs=None):
+    """Builds the program of this source in this folder, over these libraries, and gives its path. Its proof files are texts by
+    their paths, if it has any."""
     with open(os.path.join(HERE, "crates.txt"), encoding="utf-8") as file:
         lines = crates_below(libraries, file.readlines())
     for crate in lines:
@@ -34,6 +35,10 @@ def build(folder, name, libraries, source):
         file.writelines([*lines.values(), f"{name}: {' '.join(libraries)}\n"])
     with open(os.path.join(crate, "src", "main.rt"), "w", encoding="utf-8") as file:
         file.write(source)
+    for path, text in (proofs or {}).items():
+        os.makedirs(os.path.dirname(os.path.join(crate, "proofs", path)), exist_ok=True)
+        with open(os.path.join(crate, "proofs", path), "w", encoding="utf-8") as file:
+            file.write(text)
     subprocess.run(["git", "init", "-q"], cwd=folder, check=True)
     run = subprocess.run(["rt", "run"], cwd=crate, stdin=subprocess.DEVNULL, capture_output=True, text=True, check=False)
     program = os.path.join(crate, "out", name)

@@ -3,6 +3,7 @@ pub mod CompanionCalls
 pub mod CompanionEnds
 pub mod CompanionRuns
 pub mod CompanionLaws
+pub mod SameEvents
 pub mod TvPeers
 pub mod TvCalls
 pub mod TvSteps
@@ -16,3 +17,8 @@ pub mod TvLoops
 pub mod TvOpens
 pub mod TvRuns
 pub mod TvAnswers
+pub mod TvNews
+pub mod TvTold
+pub mod TvTellings
+pub mod TvSessions
+pub mod TvTested

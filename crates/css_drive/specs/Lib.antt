@@ -8,8 +8,10 @@ pub mod CompanionDue
 pub mod CompanionRun
 pub mod CompanionStanding
 pub mod CompanionLaws
+pub mod SameEvents
 pub mod TvPeers
 pub mod TvProgress
 pub mod TvDue
 pub mod TvRan
+pub mod TvTold
 pub mod TvStanding

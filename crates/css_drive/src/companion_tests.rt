@@ -17,7 +17,7 @@ use std::alloc::Global;
 use std::process::Abort;
 use std::test::Fail;
 
-fn awake(reading: u64) -> Clocked
+pub fn awake(reading: u64) -> Clocked
     ensures { result ≡ record { reading = reading; slept = false } }
 {
     Clocked {
@@ -111,7 +111,7 @@ fn datagrams_of(alloc: Global, rows: &[&[u8]]) -> Result<Vec<Option<Datagram>>, 
     Ok(datagrams)
 }
 
-fn script_of(alloc: Global, case: &Case, fails: &[u64]) -> Result<OutsideScript, Fail>
+pub fn script_of(alloc: Global, case: &Case, fails: &[u64]) -> Result<OutsideScript, Fail>
     ensures readings { IfOk result (λ script. IsTrue (are_readings 0 script.readings.items)) }
     ensures openings { IfOk result (λ script. script.openings.items ≡ []) }
 {
@@ -125,7 +125,7 @@ fn script_of(alloc: Global, case: &Case, fails: &[u64]) -> Result<OutsideScript,
     })
 }
 
-fn text(rt: &impl Abort, alloc: Global, words: &str) -> Text
+pub fn text(rt: &impl Abort, alloc: Global, words: &str) -> Text
     ensures { IsUtf8 result }
 {
     Text::of(alloc, words.as_bytes()).expect(rt, "no memory")
@@ -159,7 +159,7 @@ fn amounts_of(amounts: Amounts) -> (u64, u64, u64)
     }
 }
 
-fn config_of(rt: &impl Abort, alloc: Global, case: &Case) -> DriveConfig
+pub fn config_of(rt: &impl Abort, alloc: Global, case: &Case) -> DriveConfig
     ensures { IsWritable result }
 {
     let (reports, turns, report_every) = amounts_of(case.amounts);
@@ -185,7 +185,7 @@ fn config_of(rt: &impl Abort, alloc: Global, case: &Case) -> DriveConfig
     }
 }
 
-fn ended_as(driven: &Driven) -> Ended {
+pub fn ended_as(driven: &Driven) -> Ended {
     match driven {
         Driven::Done => Ended::Done,
         Driven::BadLine { .. } => Ended::BadLine,

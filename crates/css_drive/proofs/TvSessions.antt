@@ -1,0 +1,150 @@
+-- Each session is told the first of what it was to be told, over the calls of a proper run.
+use Rattle.std.proofs.Common.{◌≡◌, ℕ, ◌≤◌, Bool, true, false, cond, List, [], ◌∷◌, ◌++◌, length, Option, Some, None}
+use Rattle.std.proofs.Common.{refl, sym, ap, subst, ◌∙◌, arith, inl, inr, append_assoc}
+use Rattle.std.specs.Prelude.{nat_lt, reverse, ⊤}
+use Rattle.css_model.specs.declared.Why.TheVariants as why
+use Rattle.css_model.specs.History.{History, Accepted}
+use Rattle.css_tv.specs.declared.event.TvOut.{TvOut}
+use Rattle.css_tv.specs.declared.event.TvOut.TheVariants as out
+use Rattle.css_tv.specs.declared.fault.TvFault.{TvFault}
+use Rattle.css_tv.specs.declared.fault.TvFault.TheVariants as fault
+use Rattle.css_drive.specs.Proper.{Due, Listen, Now, Dial, Accept, SendDatagram, TakeDatagram, TakeText, SendText}
+use Rattle.css_drive.specs.Proper.{HangUp, Ends, MayAdd, IsProper, Empty, More}
+use Rattle.css_drive.specs.TvProgress.{Place, Begins, Listens, Turned, Taken, Received, Answers, Served, Asked, Over}
+use Rattle.css_drive.specs.TvProgress.{addresses_in, progress_of, open_after}
+use Rattle.css_drive.specs.TvDue.{TvRun, due, due_at, from_end, from_hang_ups, from_texts, from_answers}
+use Rattle.css_drive.specs.TvDue.{unless_owed, unless_refused}
+use Rattle.css_drive.specs.TvPeers.{above}
+use Rattle.css_drive.specs.TvRan.{AreNumbered}
+use Rattle.css_drive.specs.TvTold.{sent_to, is_gone, lost, SessionsAreTold}
+use Rattle.css_drive.specs.declared.driven.Driven.TheVariants as driven
+use Rattle.css_drive.proofs.TvNews.{news_of}
+use Rattle.css_drive.proofs.TvTellings.{Good, clock_good, opening_good, datagram_good, heard_good, wrote_good, hung_good}
+use Rattle.css_drive.proofs.TvTellings.{hung_due}
+
+-- ---- what is due where nothing is owed
+-- it is no text
+abbrev IsNoText : Due → Type 0
+IsNoText (SendText peer text) = ⊥
+IsNoText _ = ⊤
+
+no_text_hanging : (live : List ℕ) → IsNoText (from_hang_ups live)
+no_text_hanging [] = tt
+no_text_hanging (peer ∷ peers) = tt
+
+no_text_ending : (turns made : ℕ) (live : List ℕ) → IsNoText (from_end turns made live)
+no_text_ending turns made live = by (nat_lt made turns) where
+  by : (b : Bool) → IsNoText (cond b (Now why.Turn) (from_hang_ups live))
+  by true = tt
+  by false = no_text_hanging live
+
+no_text_asking : (turns made : ℕ) (live peers : List ℕ) → IsNoText (from_texts turns made live peers)
+no_text_asking turns made live [] = no_text_ending turns made live
+no_text_asking turns made live (peer ∷ peers) = tt
+
+no_text_answering : (peer : ℕ) (datagrams : List (List ℕ)) → IsNoText (from_answers peer datagrams)
+no_text_answering peer [] = tt
+no_text_answering peer (datagram ∷ datagrams) = tt
+
+no_text : (run : TvRun) (live : List ℕ) (made : ℕ) (place : Place) → IsNoText (due_at run live made place)
+no_text run live made Begins = tt
+no_text run live made Listens = no_text_ending run.turns made live
+no_text run live made (Turned reading) = tt
+no_text run live made (Taken peer bytes) = tt
+no_text run live made (Received peer ticket) = tt
+no_text run live made (Answers peer datagrams) = no_text_answering peer datagrams
+no_text run live made Served = tt
+no_text run live made (Asked last) = no_text_asking run.turns made live (above last live)
+no_text run live made (Over last) = no_text_hanging (above (Some last) live)
+
+-- ---- a call
+abbrev Step : TvRun → ℕ → History → History → Type 0
+Step run peer older call = AreNumbered (call ++ older) → Good run peer (call ++ older)
+
+-- a call that is no text, where nothing is owed
+call_good : (run : TvRun) (peer : ℕ) (older : History) (d : Due) → IsNoText d
+    → (progress_of run.config run.script older).owed ≡ [] → (call : History) → MayAdd d call → Good run peer older
+    → Step run peer older call
+call_good run peer older (Listen host port) quiet none call may t =
+    subst (Step run peer older) (sym may) (λ numbered. t)
+call_good run peer older (Now w) quiet none call may t =
+    subst (Step run peer older) (sym may.1)
+    (λ numbered. clock_good run peer older w may.0.reading may.0.slept t)
+call_good run peer older (Dial k to) quiet none call (inl may) t =
+    subst (Step run peer older) (sym may.1) (λ numbered. t)
+call_good run peer older (Dial k to) quiet none call (inr may) t = subst (Step run peer older) (sym may) (λ numbered. t)
+call_good run peer older Accept quiet none call may t =
+    subst (Step run peer older) (sym may.1) (λ numbered. opening_good run peer older may.0 none numbered t)
+call_good run peer older (SendDatagram p bytes) quiet none call may t =
+    subst (Step run peer older) (sym may) (λ numbered. t)
+call_good run peer older TakeDatagram quiet none call may t =
+    subst (Step run peer older) (sym may.2) (λ numbered. datagram_good run peer older may.0 may.1 t)
+call_good run peer older (TakeText p) quiet none call may t =
+    subst (Step run peer older) (sym may.1) (λ numbered. heard_good run peer older p may.0 none t)
+call_good run peer older (SendText p text) quiet none call may t = absurd quiet
+call_good run peer older (HangUp p) quiet none call may t =
+    subst (Step run peer older) (sym may) (λ numbered. hung_good run peer older p [] t none)
+call_good run peer older (Ends ended) quiet none call may t = absurd may
+
+-- a call that is due
+due_good : (run : TvRun) (peer : ℕ) (older : History) (call : History) (r : Option TvFault) (owed : List TvOut)
+    → (progress_of run.config run.script older).owed ≡ owed
+    → MayAdd (let p = progress_of run.config run.script older in unless_refused p.carried r (unless_owed owed
+    (due_at run (open_after (addresses_in run.config) p.events) p.turns p.place))) call
+    → Good run peer older → Step run peer older call
+due_good run peer older call (Some (fault.Player f)) owed owes may t = absurd may
+due_good run peer older call (Some fault.Memory) owed owes may t = absurd may
+due_good run peer older call None (out.Say p text ∷ os) owes may t =
+    subst (Step run peer older) (sym may.1) (λ numbered. wrote_good run peer older p text os may.0 owes t)
+due_good run peer older call None (out.HangUp p ∷ os) owes may t =
+    subst (Step run peer older) (sym may) (λ numbered. hung_due run peer older p os owes t)
+due_good run peer older call None [] owes may t =
+    let p = progress_of run.config run.script older in
+    let live = open_after (addresses_in run.config) p.events in
+    call_good run peer older (due_at run live p.turns p.place) (no_text run live p.turns p.place) owes call may t
+
+numbered_rest : (call older : History) → AreNumbered (call ++ older) → AreNumbered older
+numbered_rest [] older n = n
+numbered_rest (Accepted peer k ∷ call) older n = numbered_rest call older n.1
+numbered_rest (_ ∷ call) older n = numbered_rest call older n
+
+-- ---- the run
+all_good : (run : TvRun) (peer : ℕ) (h : History) → IsProper (due run) h → AreNumbered h → Good run peer h
+all_good run peer [] Empty numbered = record {
+  lawful = (tt, tt);
+  missing = [];
+  front = refl;
+  few_missing = omega arith;
+  few_owed = omega arith;
+  over = λ e. absurd (cc);
+}
+all_good run peer h (More {older} call may proper) numbered =
+    let p = progress_of run.config run.script older in
+    due_good run peer older call p.refused p.owed refl may
+    (all_good run peer older proper (numbered_rest call older numbered)) numbered
+
+-- where the end is due nothing is owed
+ended_owes : (r : Option TvFault) (owed : List TvOut) (carried : ℕ) (rest : Due)
+    → unless_refused carried r (unless_owed owed rest) ≡ Ends driven.Done → owed ≡ []
+ended_owes None [] carried rest e = refl
+ended_owes None (out.Say peer text ∷ owed) carried rest e = absurd (cc)
+ended_owes None (out.HangUp peer ∷ owed) carried rest e = absurd (cc)
+ended_owes (Some (fault.Player f)) owed carried rest e = absurd (cc)
+ended_owes (Some fault.Memory) owed carried rest e = absurd (cc)
+
+pub sessions_are_told : SessionsAreTold
+sessions_are_told run h proper numbered peer =
+    let t = all_good run peer h proper numbered in
+    let p = progress_of run.config run.script h in
+    let live = open_after (addresses_in run.config) p.events in
+    let texts : p.owed ≡ [] → news_of peer p.owed ≡ [] = λ e. ap (news_of peer) e in
+    let unsent = reverse (news_of peer p.owed) ++ t.missing in
+    let whole : p.owed ≡ [] → length unsent ≤ lost (is_gone peer h) =
+    λ e. subst (λ (xs : List (List ℕ)). length (reverse xs ++ t.missing) ≤ lost (is_gone peer h)) (sym (texts e))
+    t.few_missing in
+    record {
+      unsent = unsent;
+      first = t.front ∙ sym (append_assoc (reverse (news_of peer p.owed)) t.missing (sent_to peer h));
+      whole = whole;
+      done = λ e. whole (ended_owes p.refused p.owed p.carried (due_at run live p.turns p.place) e);
+    }

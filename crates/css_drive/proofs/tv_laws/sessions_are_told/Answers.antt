@@ -1,0 +1,5 @@
+use Rattle.css_drive.proofs.TvSessions as told
+use Rattle.css_drive.proofs.tv_laws.sessions_are_told.Goals as goal
+
+pub returns : goal.returns
+returns c = told.sessions_are_told
