@@ -1,2 +1,4 @@
 mod Parsing
 mod Named
+mod Walks
+mod Refusals
