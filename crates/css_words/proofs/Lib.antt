@@ -2,3 +2,4 @@ mod Parsing
 mod Named
 mod Walks
 mod Refusals
+mod Told

@@ -10,7 +10,7 @@ use Rattle.clap.specs.Lexer.{long_of}
 use Rattle.clap.specs.Simple.{built}
 use Rattle.clap.specs.Walk.{nothing_held, walk_from}
 use Rattle.clap.specs.Words.{App, Row, Text, matches_of}
-use Rattle.css_words.specs.Commands.{Asked, Agree, Companion, Generate, Pair, Replay, Survey, Tv, command_in}
+use Rattle.css_words.specs.Commands.{Agree, Companion, Generate, Pair, Replay, Survey, Tv, command_in}
 use Rattle.css_words.specs.Commands.{is_bare_dashes, named, no_options}
 use Rattle.css_words.specs.Companion.{companion_app, companion_in, companion_options, companion_rows}
 use Rattle.css_words.specs.Generator.{generator_app, generator_in, generator_options, generator_rows}
@@ -18,7 +18,6 @@ use Rattle.css_words.specs.Laws.{UnknownOptionsAreUsage, options_of_command}
 use Rattle.css_words.specs.Options.{◌>>=◌, rows_in, unless_refused}
 use Rattle.css_words.specs.Pair.{pair_app, pair_in, pair_options, pair_rows}
 use Rattle.css_words.specs.Tv.{tv_app, tv_in, tv_options, tv_rows}
-use Rattle.css_words.specs.declared.fault.WordsFault.{WordsFault}
 use Rattle.css_words.specs.declared.fault.WordsFault.TheVariants.{Usage}
 use Rattle.css_words.proofs.Walks.{IsRefusal, at_once, neither}
 use Rattle.css_words.proofs.Walks.{unknown_beside_flag, unknown_option, walk_refused}
@@ -56,7 +55,12 @@ module _ (name : Text) (before after : List Text) (word option : Text) (value : 
       let refusal : IsRefusal (fault_of generator_app (name ∷ (before ++ word ∷ after))) =
       at_once _ _
       (walk_refused (built generator_app).top (λ i. refl) (walk_from nothing_held) before after word clean
-      (record { name = option; given = value; spelled = long; unknown = unknown_option generator_options option unknown_name })
+      (record {
+        name = option;
+        given = value;
+        spelled = long;
+        unknown = unknown_option generator_options option unknown_name;
+      })
       (record { within = refl; whole = refl })) in
       rw (refused_rows generator_app (name ∷ (before ++ word ∷ after)) refusal) refl
 
@@ -67,7 +71,12 @@ module _ (name : Text) (before after : List Text) (word option : Text) (value : 
       let refusal : IsRefusal (fault_of companion_app (name ∷ (before ++ word ∷ after))) =
       at_once _ _
       (walk_refused (built companion_app).top (λ i. refl) (walk_from nothing_held) before after word clean
-      (record { name = option; given = value; spelled = long; unknown = unknown_option companion_options option unknown_name })
+      (record {
+        name = option;
+        given = value;
+        spelled = long;
+        unknown = unknown_option companion_options option unknown_name;
+      })
       (record { within = refl; whole = refl })) in
       rw (refused_rows companion_app (name ∷ (before ++ word ∷ after)) refusal) refl
 

@@ -12,7 +12,7 @@ use Rattle.clap.specs.Lexer.{long_of, short_of}
 use Rattle.clap.specs.Simple.{Shape, filled, filled_from, help_rule, with_index}
 use Rattle.clap.specs.Walk.{Held, Outcome, Rule, Step, Text, Waiting, Walk, after_flag, after_step, arg_by_index}
 use Rattle.clap.specs.Walk.{arg_by_long, done, has_long, idle, long_or_other, next, option, plain, plain_word}
-use Rattle.clap.specs.Walk.{positional, refused, settled, short_or_plain, subcommand, subcommand_or_other, trailing}
+use Rattle.clap.specs.Walk.{positional, refused, settled, short_or_plain, subcommand, trailing}
 use Rattle.clap.specs.Walk.{bundle, long_met, value, waits, walked, walked_from, word_met}
 use Rattle.css_words.specs.Options.{flag_rule, option_rule}
 

@@ -1,9 +1,10 @@
 -- Laws of command lines, in a reader's words.
-use Rattle.std.specs.Prelude.{◌≡◌, Bool, false, if◌then◌else◌, bytes_eq, List, [], ◌∷◌, ◌++◌, codes, Option, Some, Err}
+use Rattle.std.specs.Prelude.{◌≡◌, ◌<◌, ◌≤◌, ◌^◌, ℕ, Bool, false, if◌then◌else◌, bytes_eq, List, [], ◌∷◌, ◌++◌}
+use Rattle.std.specs.Prelude.{codes, decimal, Option, Some, Ok, Err}
 use Rattle.std.specs.List.{list_any}
 use Rattle.clap.specs.Lexer.{long_of}
 use Rattle.clap.specs.Words.{Text}
-use Rattle.css_words.specs.Commands.{command_in}
+use Rattle.css_words.specs.Commands.{Generate, command_in}
 use Rattle.css_words.specs.Companion.{companion_options}
 use Rattle.css_words.specs.Generator.{generator_options}
 use Rattle.css_words.specs.Pair.{pair_options}
@@ -31,3 +32,10 @@ UnknownOptionsAreUsage =
     (name : Text) (before after : List Text) (word option : Text) (value : Option Text)
     → long_of word ≡ Some (option, value) → has_option name option ≡ false
     → command_in (name ∷ (before ++ word ∷ after)) ≡ Err Usage
+
+-- every seed and every number of lines can be told, in decimal
+abbrev pub SchedulesCanBeTold : Type 0
+SchedulesCanBeTold =
+    (seed lines : ℕ) → seed < 2 ^ 63 → 9 ≤ lines → lines ≤ 200000
+    → command_in (codes "generate" ∷ (codes "--seed=" ++ decimal seed) ∷ (codes "--lines=" ++ decimal lines) ∷ [])
+    ≡ Ok (Generate (record { seed = seed; lines = lines }))
