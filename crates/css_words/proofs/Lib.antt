@@ -1,2 +1,5 @@
 mod Parsing
 mod Named
+mod Walks
+mod Refusals
+mod Told

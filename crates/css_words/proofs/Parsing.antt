@@ -1,5 +1,6 @@
 -- What a parse of a command gives.
-use Rattle.std.proofs.Common.{◌≡◌, ◌⊎◌, ◌∙◌, ◌&&◌, ◌+◌, ◌<◌, ◌++◌, inl, inr, refl, ap, sym, ℕ, Bool, true, false, List, []}
+use Rattle.std.proofs.Common.{◌≡◌, ◌⊎◌, ◌∙◌, ◌&&◌, ◌+◌, ◌<◌, ◌++◌, inl, inr, refl, ap, sym, ℕ, Bool, true}
+use Rattle.std.proofs.Common.{false, List, []}
 use Rattle.std.proofs.Common.{◌∷◌, Result, Ok, Err, Bor, length, map, subst, take, fold, codes, slice_index_or}
 use Rattle.std.specs.Result.{IsErrAnd}
 use Rattle.std.proofs.lemmas.List.{map-append, take_more}

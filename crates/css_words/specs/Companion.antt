@@ -113,10 +113,14 @@ cii_given (Some text) = address_read (address_of Cii text)
 abbrev pub cii : List Row → Result Address WordsFault
 cii rows = cii_given (first_of (codes "cii") rows)
 
+-- the options
+abbrev pub companion_options : List Text
+companion_options =
+    codes "cii" ∷ codes "selector" ∷ codes "stem" ∷ codes "reports" ∷ codes "turns" ∷ codes "report-every"
+    ∷ codes "ask-every" ∷ codes "local-error" ∷ codes "local-precision" ∷ codes "earliest" ∷ codes "latest" ∷ []
+
 abbrev pub companion_app : App
-companion_app = app_with (codes "cii" ∷ codes "selector" ∷ codes "stem" ∷ codes "reports" ∷ codes "turns"
-    ∷ codes "report-every" ∷ codes "ask-every" ∷ codes "local-error" ∷ codes "local-precision" ∷ codes "earliest"
-    ∷ codes "latest" ∷ [])
+companion_app = app_with companion_options
 
 unfoldable pub companion_rows : List Text → Result (List Row) WordsFault
 companion_rows words = rows_in companion_app words

@@ -14,8 +14,11 @@ abbrev pub generator_of : GeneratorWords → GeneratorAsked
 generator_of words = record { seed = words.seed; lines = words.lines }
 
 -- the options
+abbrev pub generator_options : List Text
+generator_options = codes "seed" ∷ codes "lines" ∷ []
+
 abbrev pub generator_app : App
-generator_app = app_with (codes "seed" ∷ codes "lines" ∷ [])
+generator_app = app_with generator_options
 
 unfoldable pub generator_rows : List Text → Result (List Row) WordsFault
 generator_rows words = rows_in generator_app words

@@ -7,3 +7,4 @@ pub mod Companion
 pub mod Written
 pub mod Pair
 pub mod Commands
+pub mod Laws

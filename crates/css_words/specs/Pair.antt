@@ -15,14 +15,15 @@ pub record PairAsked : Type 0 where
 abbrev pub pair_of : PairWords → PairAsked
 pair_of words = record { companion = options_of words.companion; tv = tv_of words.tv }
 
--- a companion's options and a television's, without an address and without a host
+-- a companion's options and a television's, beside the flag: without an address and without a host
+abbrev pub pair_options : List Text
+pair_options =
+    codes "selector" ∷ codes "stem" ∷ codes "reports" ∷ codes "turns" ∷ codes "report-every" ∷ codes "ask-every"
+    ∷ codes "local-error" ∷ codes "local-precision" ∷ codes "earliest" ∷ codes "latest" ∷ codes "port"
+    ∷ codes "precision" ∷ codes "error" ∷ []
+
 abbrev pub pair_app : App
-pair_app =
-    with_rule
-    (app_with (codes "selector" ∷ codes "stem" ∷ codes "reports" ∷ codes "turns" ∷ codes "report-every"
-    ∷ codes "ask-every" ∷ codes "local-error" ∷ codes "local-precision" ∷ codes "earliest" ∷ codes "latest"
-    ∷ codes "port" ∷ codes "precision" ∷ codes "error" ∷ []))
-    (flag_rule (codes "follow"))
+pair_app = with_rule (app_with pair_options) (flag_rule (codes "follow"))
 
 unfoldable pub pair_rows : List Text → Result (List Row) WordsFault
 pair_rows words = rows_in pair_app words

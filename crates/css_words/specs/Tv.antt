@@ -84,11 +84,12 @@ abbrev pub dialled : Text → Result (Unit {0}) WordsFault
 dialled url = dialled_at (address_of Cii url)
 
 -- ---- the whole
+-- its options, beside the flag
+abbrev pub tv_options : List Text
+tv_options = codes "port" ∷ codes "turns" ∷ codes "precision" ∷ codes "error" ∷ codes "host" ∷ []
+
 abbrev pub tv_app : App
-tv_app =
-    with_rule
-    (app_with (codes "port" ∷ codes "turns" ∷ codes "precision" ∷ codes "error" ∷ codes "host" ∷ []))
-    (flag_rule (codes "follow"))
+tv_app = with_rule (app_with tv_options) (flag_rule (codes "follow"))
 
 unfoldable pub tv_rows : List Text → Result (List Row) WordsFault
 tv_rows words = rows_in tv_app words

@@ -6,6 +6,7 @@ mod command;
 mod companion;
 mod fault;
 mod generator;
+pub mod laws;
 mod options;
 mod pair;
 mod tv;

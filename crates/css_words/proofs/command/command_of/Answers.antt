@@ -22,6 +22,7 @@ returns-clause-value c =
     let cut : words ≡ c.in-Some.name.now ∷ rest = search rules in
     let other = without_dashes _ string_bytes words c.in-Some.name.now rest cut
     (sym c.has_bare_dashes.ensures ∙ c.if-has_bare_dashes.false) in
-    let name = ap (λ (first : Text). named first (map string_bytes rest) (map string_bytes words)) c.as_str.ensures.value in
+    let name =
+    ap (λ (first : Text). named first (map string_bytes rest) (map string_bytes words)) c.as_str.ensures.value in
     subst (λ (expected : Result Asked WordsFault). GivesBy asked_of Memory c.command_named.result expected)
     (name ∙ sym other) c.command_named.ensures.value

@@ -9,7 +9,8 @@ use Rattle.css_words.proofs.companion.companion_matches.Goals as goal
 pub returns : goal.returns
 unfolding companion_rows
 returns c =
-    let names : map (λ name. name.now) c.as_slice.result.now ≡ codes "cii" ∷ codes "selector" ∷ codes "stem" ∷ codes "reports"
+    let names : map (λ name. name.now) c.as_slice.result.now
+    ≡ codes "cii" ∷ codes "selector" ∷ codes "stem" ∷ codes "reports"
     ∷ codes "turns" ∷ codes "report-every" ∷ codes "ask-every" ∷ codes "local-error" ∷ codes "local-precision"
     ∷ codes "earliest" ∷ codes "latest" ∷ [] = search rules in
     let is = c.in_ok-command.ensures.takes ∙ ap app_with names in

@@ -1,0 +1,162 @@
+-- Words that are no option of their command.
+use Rattle.std.proofs.Common.{◌≡◌, ◌∙◌, ◌||◌, ap, refl, Bool, true, false, List, [], ◌∷◌, ◌++◌, Option, Some, Ok}
+use Rattle.std.proofs.Common.{Err, codes}
+use Rattle.std.specs.Prelude.{if◌then◌else◌}
+use Rattle.std.specs.List.{list_any}
+use Rattle.std.specs.Str.{bytes_eq}
+use Rattle.clap.specs.Faults.{fault_of}
+use Rattle.clap.specs.Kinds.{Kinds}
+use Rattle.clap.specs.Lexer.{long_of}
+use Rattle.clap.specs.Simple.{built}
+use Rattle.clap.specs.Walk.{nothing_held, walk_from}
+use Rattle.clap.specs.Words.{App, Row, Text, matches_of}
+use Rattle.css_words.specs.Commands.{Agree, Companion, Generate, Pair, Replay, Survey, Tv, command_in}
+use Rattle.css_words.specs.Commands.{is_bare_dashes, named, no_options}
+use Rattle.css_words.specs.Companion.{companion_app, companion_in, companion_options, companion_rows}
+use Rattle.css_words.specs.Generator.{generator_app, generator_in, generator_options, generator_rows}
+use Rattle.css_words.specs.Laws.{UnknownOptionsAreUsage, options_of_command}
+use Rattle.css_words.specs.Options.{◌>>=◌, rows_in, unless_refused}
+use Rattle.css_words.specs.Pair.{pair_app, pair_in, pair_options, pair_rows}
+use Rattle.css_words.specs.Tv.{tv_app, tv_in, tv_options, tv_rows}
+use Rattle.css_words.specs.declared.fault.WordsFault.TheVariants.{Usage}
+use Rattle.css_words.proofs.Walks.{IsRefusal, at_once, neither}
+use Rattle.css_words.proofs.Walks.{unknown_beside_flag, unknown_option, walk_refused}
+
+by_refusal : (kinds : Kinds) (rows : List Row) → IsRefusal kinds → unless_refused kinds rows ≡ Err Usage
+by_refusal [] rows h = absurd h
+by_refusal (kind ∷ kinds) rows h = refl
+
+-- a command whose parse refuses the words
+refused_rows : (app : App) (words : List Text) → IsRefusal (fault_of app words) → rows_in app words ≡ Err Usage
+unfolding rows_in
+refused_rows app words h = by_refusal (fault_of app words) (matches_of app words) h
+
+-- no word is `--`
+abbrev has_double : List Text → Bool
+has_double = list_any (λ word. bytes_eq word (45 ∷ 45 ∷ []))
+
+no_double : (words : List Text) → list_any is_bare_dashes words ≡ false → has_double words ≡ false
+no_double [] h = refl
+no_double (word ∷ words) h =
+    let parts = neither (is_bare_dashes word) (list_any is_bare_dashes words) h in
+    let two = neither (bytes_eq word (codes "-")) (bytes_eq word (codes "--")) parts.0 in
+    ap (λ (b : Bool). b || has_double words) two.1 ∙ no_double words parts.1
+
+some_options : (before after : List Text) (word : Text) → no_options (before ++ word ∷ after) ≡ Err Usage
+some_options [] after word = refl
+some_options (other ∷ before) after word = refl
+
+module _ (name : Text) (before after : List Text) (word option : Text) (value : Option Text)
+    (long : long_of word ≡ Some (option, value)) (clean : has_double (before ++ word ∷ after) ≡ false) where
+  generator_usage : list_any (λ known. bytes_eq known option) generator_options ≡ false
+      → generator_in (name ∷ (before ++ word ∷ after)) ≡ Err Usage
+  unfolding generator_in generator_rows
+  generator_usage unknown_name =
+      let refusal : IsRefusal (fault_of generator_app (name ∷ (before ++ word ∷ after))) =
+      at_once _ _
+      (walk_refused (built generator_app).top (λ i. refl) (walk_from nothing_held) before after word clean
+      (record {
+        name = option;
+        given = value;
+        spelled = long;
+        unknown = unknown_option generator_options option unknown_name;
+      })
+      (record { within = refl; whole = refl })) in
+      rw (refused_rows generator_app (name ∷ (before ++ word ∷ after)) refusal) refl
+
+  companion_usage : list_any (λ known. bytes_eq known option) companion_options ≡ false
+      → companion_in (name ∷ (before ++ word ∷ after)) ≡ Err Usage
+  unfolding companion_in companion_rows
+  companion_usage unknown_name =
+      let refusal : IsRefusal (fault_of companion_app (name ∷ (before ++ word ∷ after))) =
+      at_once _ _
+      (walk_refused (built companion_app).top (λ i. refl) (walk_from nothing_held) before after word clean
+      (record {
+        name = option;
+        given = value;
+        spelled = long;
+        unknown = unknown_option companion_options option unknown_name;
+      })
+      (record { within = refl; whole = refl })) in
+      rw (refused_rows companion_app (name ∷ (before ++ word ∷ after)) refusal) refl
+
+  tv_usage : list_any (λ known. bytes_eq known option) (tv_options ++ codes "follow" ∷ []) ≡ false
+      → tv_in (name ∷ (before ++ word ∷ after)) ≡ Err Usage
+  unfolding tv_in tv_rows
+  tv_usage unknown_name =
+      let refusal : IsRefusal (fault_of tv_app (name ∷ (before ++ word ∷ after))) =
+      at_once _ _
+      (walk_refused (built tv_app).top (λ i. refl) (walk_from nothing_held) before after word clean
+      (record {
+        name = option;
+        given = value;
+        spelled = long;
+        unknown = unknown_beside_flag tv_options (codes "follow") option unknown_name;
+      })
+      (record { within = refl; whole = refl })) in
+      rw (refused_rows tv_app (name ∷ (before ++ word ∷ after)) refusal) refl
+
+  pair_usage : list_any (λ known. bytes_eq known option) (pair_options ++ codes "follow" ∷ []) ≡ false
+      → pair_in (name ∷ (before ++ word ∷ after)) ≡ Err Usage
+  unfolding pair_in pair_rows
+  pair_usage unknown_name =
+      let refusal : IsRefusal (fault_of pair_app (name ∷ (before ++ word ∷ after))) =
+      at_once _ _
+      (walk_refused (built pair_app).top (λ i. refl) (walk_from nothing_held) before after word clean
+      (record {
+        name = option;
+        given = value;
+        spelled = long;
+        unknown = unknown_beside_flag pair_options (codes "follow") option unknown_name;
+      })
+      (record { within = refl; whole = refl })) in
+      rw (refused_rows pair_app (name ∷ (before ++ word ∷ after)) refusal) refl
+
+  abbrev rest : List Text
+  rest = before ++ word ∷ after
+
+  abbrev words : List Text
+  words = name ∷ rest
+
+  by_tests : (replay agree companion tv pair generate survey : Bool)
+      → list_any (λ known. bytes_eq known option) (if companion then companion_options
+      else if tv then tv_options ++ codes "follow" ∷ []
+      else if pair then pair_options ++ codes "follow" ∷ []
+      else if generate then generator_options
+      else if survey then generator_options
+      else []) ≡ false
+      → (if replay then (no_options rest >>= λ _. Ok Replay)
+      else if agree then (no_options rest >>= λ _. Ok Agree)
+      else if companion then (companion_in words >>= λ asked. Ok (Companion asked))
+      else if tv then (tv_in words >>= λ asked. Ok (Tv asked))
+      else if pair then (pair_in words >>= λ asked. Ok (Pair asked))
+      else if generate then (generator_in words >>= λ asked. Ok (Generate asked))
+      else if survey then (generator_in words >>= λ asked. Ok (Survey asked))
+      else Err Usage) ≡ Err Usage
+  by_tests true agree companion tv pair generate survey unknown_name = rw (some_options before after word) refl
+  by_tests false true companion tv pair generate survey unknown_name = rw (some_options before after word) refl
+  by_tests false false true tv pair generate survey unknown_name = rw (companion_usage unknown_name) refl
+  by_tests false false false true pair generate survey unknown_name = rw (tv_usage unknown_name) refl
+  by_tests false false false false true generate survey unknown_name = rw (pair_usage unknown_name) refl
+  by_tests false false false false false true survey unknown_name = rw (generator_usage unknown_name) refl
+  by_tests false false false false false false true unknown_name = rw (generator_usage unknown_name) refl
+  by_tests false false false false false false false unknown_name = refl
+
+  named_usage : list_any (λ known. bytes_eq known option) (options_of_command name) ≡ false
+      → named name rest words ≡ Err Usage
+  unfolding named
+  named_usage unknown_name =
+      by_tests (bytes_eq name (codes "replay")) (bytes_eq name (codes "agree")) (bytes_eq name (codes "companion"))
+      (bytes_eq name (codes "tv")) (bytes_eq name (codes "pair")) (bytes_eq name (codes "generate"))
+      (bytes_eq name (codes "survey")) unknown_name
+
+pub unknown_usage : UnknownOptionsAreUsage
+unfolding command_in
+unknown_usage name before after word option value long unknown_name =
+    go (list_any is_bare_dashes (before ++ word ∷ after)) refl
+  where
+    go : (b : Bool) → list_any is_bare_dashes (before ++ word ∷ after) ≡ b
+        → (if b then Err Usage else named name (before ++ word ∷ after) (name ∷ (before ++ word ∷ after))) ≡ Err Usage
+    go true h = refl
+    go false h =
+        named_usage name before after word option value long (no_double (before ++ word ∷ after) h) unknown_name
