@@ -1,0 +1,131 @@
+-- A survey counts what is told at the lines of a schedule.
+use Rattle.std.proofs.Common.{◌≡◌, ℕ, suc, zero, ◌+◌, ◌-◌, ◌<◌, ◌≤◌, arith, ap, sym, subst, ◌∙◌, refl}
+use Rattle.std.proofs.Common.{List, [], ◌∷◌, ◌++◌, length}
+use Rattle.std.specs.Prelude.{Option, Some, None, Ok}
+use Rattle.std.specs.Option.{option_to_list}
+use Rattle.css_model.specs.History.{History, Clock}
+use Rattle.css_model.specs.declared.Why.TheVariants as why
+use Rattle.css_companion.specs.Meanings.{report_after}
+use Rattle.css_companion.specs.declared.report.Report.{Report}
+use Rattle.css_companion.specs.declared.report.Report.TheVariants as reports
+use Rattle.css_schedule.specs.declared.header.Header.{Header}
+use Rattle.css_schedule.specs.declared.line.Verb.{Verb}
+use Rattle.css_schedule.specs.declared.line.Verb.TheVariants.{Ask, Take, Give, Land, Wall, Print}
+use Rattle.css_schedule.specs.declared.line.Verb.TheVariants.{Programme, Timeline, Viewer}
+use Rattle.css_schedule.specs.declared.line.Verb.TheVariants.{Opening, Bring, Up, Present, Close}
+use Rattle.css_world.specs.Happened.{Numbered, datagrams, done_by, events_of, history_of}
+use Rattle.css_world.specs.Clocks.{last_reading}
+use Rattle.css_world.specs.Sessions.{setup_of}
+use Rattle.css_world.specs.Standing as worlds
+use Rattle.css_world.specs.Standing.{last_value}
+use Rattle.css_world.specs.Verdicts.{local_of, seen_of, report_at}
+use Rattle.css_world.proofs.Ends.{history_now}
+use Rattle.css_gen.specs.Accepted.{generated, AreRead, AreTaken}
+use Rattle.css_gen.specs.Generated.{text_numbered, line_numbered}
+use Rattle.css_gen.specs.Opening as opening
+use Rattle.css_app.specs.Surveyed.{Told, asked_by, told_at, told_of, counted, counted_with, summary_of}
+use Rattle.css_app.specs.Surveys.{IsTaken}
+
+-- ---- one report
+-- only `print` asks for a report
+pub asks_print : (verb : Verb) (reading : ℕ) → asked_by verb ≡ Some reading → verb ≡ Print reading
+asks_print (Print r) reading e = cc
+asks_print (Ask r) reading e = absurd (cc)
+asks_print (Take n r) reading e = absurd (cc)
+asks_print (Give n r) reading e = absurd (cc)
+asks_print (Land n r) reading e = absurd (cc)
+asks_print (Wall r) reading e = absurd (cc)
+asks_print (Programme id) reading e = absurd (cc)
+asks_print (Timeline n s r b) reading e = absurd (cc)
+asks_print (Viewer r c) reading e = absurd (cc)
+asks_print (Opening k) reading e = absurd (cc)
+asks_print (Bring k) reading e = absurd (cc)
+asks_print Up reading e = absurd (cc)
+asks_print (Present a b) reading e = absurd (cc)
+asks_print (Close k) reading e = absurd (cc)
+
+-- the companion's history after a `print` line
+history_printed : (header : Header) (now : Numbered) (older : List Numbered) (reading : ℕ) → now.line.who ≡ 1
+    → now.line.verb ≡ Print reading
+    → history_of 1 header (now ∷ older) ≡ Clock why.Turn reading ∷ history_of 1 header older
+history_printed header now older reading one verb =
+    history_now header now older one
+    ∙ ap (λ (v : Verb). done_by header 1 (datagrams header older) (events_of header older) v (history_of 1 header older))
+    verb
+
+-- its report after the line is the one at the line
+pub report_stays : (header : Header) (now : Numbered) (older : List Numbered) (reading : ℕ) → now.line.who ≡ 1
+    → now.line.verb ≡ Print reading
+    → report_after (local_of 1 header) (setup_of 1 header).selector (history_of 1 header (now ∷ older)) reading
+    ≡ report_at now.line.who header older reading
+report_stays header now older reading one verb =
+    ap (λ (h : History). report_after (local_of 1 header) (setup_of 1 header).selector h reading)
+    (history_printed header now older reading one verb)
+    ∙ ap (λ (who : ℕ). report_at who header older reading) (sym one)
+
+-- and the companion's clock was last read there
+pub read_last : (now : Numbered) (older : List Numbered) (reading : ℕ) → now.line.who ≡ 1
+    → now.line.verb ≡ Print reading → last_value (last_reading (seen_of 1 (now ∷ older))) ≡ reading
+read_last now older reading one verb = rw (one, verb) refl
+
+-- ---- counts
+-- one report more, if there is one
+pub counts_on : (told : Option Told) (older : List Told)
+    → counted_with told (summary_of older) ≡ summary_of (option_to_list told ++ older)
+counts_on None older = refl
+counts_on (Some told) older = refl
+
+-- no more is counted than was told
+few_counted : (told : List Told)
+    → ((summary_of told).prints ≤ length told) × ((summary_of told).intervals ≤ length told)
+few_counted [] = (omega arith, omega arith)
+few_counted (told ∷ older) = by told.report
+  where
+    by : (r : Report) → ((counted r (summary_of older)).prints ≤ suc (length older))
+        × ((counted r (summary_of older)).intervals ≤ suc (length older))
+    by (reports.Ticks low high) = (omega (arith, (few_counted older).0), omega (arith, (few_counted older).1))
+    by (reports.None cause) = (omega (arith, (few_counted older).0), omega (arith, (few_counted older).1))
+
+-- no more is told than there are lines
+few_told : (header : Header) (lines : List Numbered) → length (told_of header lines) ≤ length lines
+few_told header [] = omega arith
+few_told header (now ∷ older) = by (told_at header older now)
+  where
+    by : (told : Option Told) → length (option_to_list told ++ told_of header older) ≤ suc (length older)
+    by None = omega (arith, few_told header older)
+    by (Some told) = omega (arith, few_told header older)
+
+-- so the counts are small
+pub few_prints : (header : Header) (lines : List Numbered)
+    → (summary_of (told_of header lines)).prints ≤ length lines
+few_prints header lines = omega (arith, (few_counted (told_of header lines)).0, few_told header lines)
+
+pub few_intervals : (header : Header) (lines : List Numbered)
+    → (summary_of (told_of header lines)).intervals ≤ length lines
+few_intervals header lines = omega (arith, (few_counted (told_of header lines)).1, few_told header lines)
+
+-- ---- generated lines
+-- one line more
+pub one_generated : (seed number : ℕ) → 1 ≤ number → generated seed number
+    ≡ record { number = number + 1; line = line_numbered seed (number + 1) } ∷ generated seed (number - 1)
+one_generated seed zero some = absurd (omega (arith, some))
+one_generated seed (suc count) some =
+    let number : count + 2 ≡ suc count + 1 = omega arith in
+    let rest : count ≡ suc count - 1 = omega arith in
+    ap (λ (n : ℕ). record { number = n; line = line_numbered seed n } ∷ generated seed count) number
+    ∙ ap (λ (n : ℕ). record { number = suc count + 1; line = line_numbered seed (suc count + 1) } ∷ generated seed n)
+    rest
+
+-- there are so many
+pub generated_count : (seed count : ℕ) → length (generated seed count) ≡ count
+generated_count seed zero = refl
+generated_count seed (suc count) = ap suc (generated_count seed count)
+
+-- the next one is read, and a world takes it
+pub is_taken : (seed number : ℕ) → 1 ≤ number → number < 200000 → AreRead seed → AreTaken seed number
+    → IsTaken opening.header (generated seed (number - 1)) (number + 1) (text_numbered seed (number + 1))
+    (line_numbered seed (number + 1))
+is_taken seed number some few read taken = record {
+  read = read.others (number + 1) (omega (arith, some)) (omega (arith, few));
+  accepted = subst (worlds.AreAccepted opening.header) (one_generated seed number some) taken.accepted;
+}
