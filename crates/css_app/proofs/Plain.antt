@@ -5,7 +5,7 @@ use Rattle.std.specs.Prelude.{◌==◌, ◌&&◌, not, if◌then◌else◌, nat_
 use Rattle.std.specs.Char.{digit_value}
 use Rattle.std.specs.List.{All, list_all}
 use Rattle.std.specs.Str.Parse.{AllDigits}
-use Rattle.std.proofs.lemmas.Bool.{ne_eqb}
+use Rattle.std.proofs.lemmas.Bool.{ne_eqb, leb-true}
 use Rattle.std.proofs.lemmas.Fmt.{decimal_is_IsNumeral, length-decimal-le}
 use Rattle.std.proofs.lemmas.List.{length-append}
 use Rattle.std.proofs.lemmas.List.Elements.{All-nil, All-cons, All-append}
@@ -32,9 +32,9 @@ use Rattle.css_gen.proofs.Ranges.{line-range}
 
 -- ---- words
 -- a word of at most 24 bytes without a line feed
-record IsPlain (word : List ℕ) : Type 0 where
-  free : HasNoFeed word
-  short : length word ≤ 24
+pub record IsPlain (word : List ℕ) : Type 0 where
+  pub free : HasNoFeed word
+  pub short : length word ≤ 24
 
 abbrev ArePlain : List (List ℕ) → Type 0
 ArePlain [] = Unit {0}
@@ -50,6 +50,11 @@ free-by (byte ∷ bytes) e = by (is_feed byte) refl (list_all (λ b. not (is_fee
     by true is rest same p = absurd (cc)
     by false is false same p = absurd (cc)
     by false is true same p = All-cons (λ b. is_feed b ≡ false) byte bytes is (free-by bytes same)
+
+-- a word is plain, by two tests
+plain-by : (word : List ℕ) → list_all (λ byte. not (is_feed byte)) word ≡ true → nat_le (length word) 24 ≡ true
+    → IsPlain word
+plain-by word free short = record { free = free-by word free; short = leb-true (length word) 24 short }
 
 -- digits are no line feeds
 digits-free : (digits : List ℕ) → AllDigits 10 digits → HasNoFeed digits
@@ -67,8 +72,8 @@ number-plain number small =
     record { free = digits-free (decimal number) (decimal_is_IsNumeral number fits).0.1; short = omega (arith, short) }
 
 kind-plain : (kind : Kind) → IsPlain (kind_word kind)
-kind-plain Cii = record { free = free-by (codes "cii") refl; short = omega arith }
-kind-plain Ts = record { free = free-by (codes "ts") refl; short = omega arith }
+kind-plain Cii = plain-by (codes "cii") refl refl
+kind-plain Ts = plain-by (codes "ts") refl refl
 
 -- ---- verbs
 -- a verb that is generated has plain texts, and is no `wall`
@@ -89,12 +94,12 @@ record HasPlainWords (verb : Verb) : Type 0 where
 
 words-plain : (verb : Verb) → IsVerb verb → IsShort verb → HasPlainWords verb
 words-plain (Ask reading) range short = record {
-  plain = (record { free = free-by (codes "ask") refl; short = omega arith }, number-plain reading range, tt);
+  plain = (plain-by (codes "ask") refl refl, number-plain reading range, tt);
   few = omega arith;
 }
 words-plain (Take request reading) range short = record {
   plain = (
-    record { free = free-by (codes "take") refl; short = omega arith },
+    plain-by (codes "take") refl refl,
     number-plain request (omega (arith, range.number.high)),
     number-plain reading range.reading,
     tt,
@@ -103,7 +108,7 @@ words-plain (Take request reading) range short = record {
 }
 words-plain (Give take reading) range short = record {
   plain = (
-    record { free = free-by (codes "give") refl; short = omega arith },
+    plain-by (codes "give") refl refl,
     number-plain take (omega (arith, range.number.high)),
     number-plain reading range.reading,
     tt,
@@ -112,7 +117,7 @@ words-plain (Give take reading) range short = record {
 }
 words-plain (Land datagram reading) range short = record {
   plain = (
-    record { free = free-by (codes "land") refl; short = omega arith },
+    plain-by (codes "land") refl refl,
     number-plain datagram (omega (arith, range.number.high)),
     number-plain reading range.reading,
     tt,
@@ -121,16 +126,16 @@ words-plain (Land datagram reading) range short = record {
 }
 words-plain (Wall reading) range short = absurd short
 words-plain (Print reading) range short = record {
-  plain = (record { free = free-by (codes "print") refl; short = omega arith }, number-plain reading range, tt);
+  plain = (plain-by (codes "print") refl refl, number-plain reading range, tt);
   few = omega arith;
 }
 words-plain (Programme content_id) range short = record {
-  plain = (record { free = free-by (codes "programme") refl; short = omega arith }, short, tt);
+  plain = (plain-by (codes "programme") refl refl, short, tt);
   few = omega arith;
 }
 words-plain (Timeline programme selector rate (pos base)) range short = record {
   plain = (
-    record { free = free-by (codes "timeline") refl; short = omega arith },
+    plain-by (codes "timeline") refl refl,
     number-plain programme (omega (arith, range.programme.high)),
     short.0,
     number-plain rate.units_per_tick (omega (arith, range.rate.tick_small)),
@@ -143,7 +148,7 @@ words-plain (Timeline programme selector rate (pos base)) range short = record {
 words-plain (Timeline programme selector rate (negsuc base)) range short = absurd short
 words-plain (Viewer reading (commands.Change programme)) range short = record {
   plain = (
-    record { free = free-by (codes "change") refl; short = omega arith },
+    plain-by (codes "change") refl refl,
     number-plain reading range.reading,
     number-plain programme (omega (arith, range.command.high)),
     tt,
@@ -153,20 +158,20 @@ words-plain (Viewer reading (commands.Change programme)) range short = record {
 words-plain (Viewer reading (commands.Speed speed)) range short = absurd short
 words-plain (Viewer reading (commands.Seek media)) range short = absurd short
 words-plain (Opening kind) range short = record {
-  plain = (record { free = free-by (codes "open") refl; short = omega arith }, kind-plain kind, tt);
+  plain = (plain-by (codes "open") refl refl, kind-plain kind, tt);
   few = omega arith;
 }
 words-plain (Bring kind) range short = record {
-  plain = (record { free = free-by (codes "text") refl; short = omega arith }, kind-plain kind, tt);
+  plain = (plain-by (codes "text") refl refl, kind-plain kind, tt);
   few = omega arith;
 }
 words-plain Up range short = record {
-  plain = (record { free = free-by (codes "up") refl; short = omega arith }, kind-plain Ts, tt);
+  plain = (plain-by (codes "up") refl refl, kind-plain Ts, tt);
   few = omega arith;
 }
 words-plain (Present earliest latest) range short = absurd short
 words-plain (Close kind) range short = record {
-  plain = (record { free = free-by (codes "close") refl; short = omega arith }, kind-plain kind, tt);
+  plain = (plain-by (codes "close") refl refl, kind-plain kind, tt);
   few = omega arith;
 }
 
@@ -232,8 +237,8 @@ opening-short number =
         else if f then Opening Ts
         else if g then Up
         else Bring Ts)
-    by true b c d e f g = record { free = free-by (codes "dvb://1.2.3") refl; short = omega arith }
-    by false true c d e f g = (record { free = free-by pts refl; short = omega arith }, omega arith)
+    by true b c d e f g = plain-by (codes "dvb://1.2.3") refl refl
+    by false true c d e f g = (plain-by pts refl refl, omega arith)
     by false false true d e f g = tt
     by false false false true e f g = tt
     by false false false false true f g = tt
@@ -292,7 +297,10 @@ line-plain line range short =
     }
 
 header-plain : IsLineText (header_text header)
-header-plain = record { free = free-by (header_text header) refl; short = omega arith }
+header-plain = record {
+  free = free-by (header_text header) refl;
+  short = leb-true (length (header_text header)) 299 refl;
+}
 
 -- the first line is the header
 pub first_plain : (seed : ℕ) → IsLineText (text_numbered seed 1)

@@ -5,12 +5,12 @@ use Rattle.std.specs.Prelude.{Option, Some, None, Result, Ok, Err, ◌||◌}
 use Rattle.std.specs.Option.{option_map, option_to_list}
 use Rattle.std.proofs.lemmas.Bool.{le-ltb}
 use Rattle.std.proofs.lemmas.List.{append_assoc, append-nil, length-append}
-use Rattle.std.proofs.lemmas.List.Sums.{sum_by-append}
+use Rattle.std.proofs.lemmas.List.Sums.{sum_by-append, sum_by-cons}
 use Rattle.css_lines.specs.Lines.{whole_lines, last_part}
 use Rattle.css_lines.specs.Meaning.{Outcome, outcome, outcome_so_far, accepted, followed_by, reader_outcome, line_outcome}
-use Rattle.css_lines.specs.Meaning.{end_outcome, offset, refused_at}
+use Rattle.css_lines.specs.Meaning.{outcome_from, end_outcome, offset, refused_at}
 use Rattle.css_lines.specs.declared.reader.Refusal.TheVariants.{Long}
-use Rattle.css_lines.proofs.Cut.{whole_lines_feed, whole_lines_free, last_part_feed, last_part_free}
+use Rattle.css_lines.proofs.Cut.{whole_lines_is, last_part_is, whole_lines_feed, whole_lines_free, last_part_feed, last_part_free}
 use Rattle.css_lines.proofs.Meant.{outcome_at_end, so_far_free, so_far_feed}
 use Rattle.css_schedule.specs.declared.fault.LineFault.{LineFault}
 use Rattle.css_schedule.specs.declared.header.Header.{Header}
@@ -29,7 +29,7 @@ use Rattle.css_world.specs.Verdicts.{printed_for, line_meant}
 use Rattle.css_world.proofs.Worlds.{carried_ok}
 use Rattle.css_gen.specs.Accepted.{generated}
 use Rattle.css_gen.specs.Generated.{text_numbered, line_numbered}
-use Rattle.css_gen.specs.Opening.{header}
+use Rattle.css_gen.specs.Opening as opening
 use Rattle.css_gen.proofs.Accepting.{generated_accepted}
 use Rattle.css_gen.proofs.Reading.{generated_read}
 use Rattle.css_app.specs.declared.replay.Cause.{Cause}
@@ -74,7 +74,7 @@ printed-told header older now (Close k) short = refl
 
 -- what is told at the lines after the header, so many of them
 abbrev told_after : (seed count : ℕ) → List Told
-told_after seed count = told_of header (generated seed count)
+told_after seed count = told_of opening.header (generated seed count)
 
 -- ---- what lines mean
 -- the texts of the lines after the header
@@ -116,9 +116,9 @@ line-adds seed count few =
     let text = text_numbered seed (count + 2) in
     let first = text_numbered seed 1 in
     let taken = (generated_accepted seed (suc count) few).accepted.3 in
-    let printed : taken.0 ≡ line_for (told_at header older now) =
-    printed_is header older now taken.0 (carried_ok header older now taken.0 taken.1)
-    ∙ printed-told header older now line.verb (line_short seed (count + 2)) in
+    let printed : taken.0 ≡ line_for (told_at opening.header older now) =
+    printed_is opening.header older now taken.0 (carried_ok opening.header older now taken.0 taken.1)
+    ∙ printed-told opening.header older now line.verb (line_short seed (count + 2)) in
     let number : length (first ∷ texts) + 1 ≡ count + 2 = omega (arith, others-count seed count) in
     let read = (generated_read seed).others (count + 2) (omega arith) (omega (arith, few)) in
     record {
@@ -126,13 +126,13 @@ line-adds seed count few =
       meant = ap (λ (r : Result Start LineFault).
           meant_after (header_in r) (lines_in texts) (length (first ∷ texts) + 1) (line_of text))
           (generated_read seed).first
-          ∙ ap (λ (n : ℕ). read_meant header (lines_in texts) n (line_of text)) number
-          ∙ ap (λ (r : Result Line LineFault). read_meant header (lines_in texts) (count + 2) r) read
-          ∙ ap (λ (lines : List Numbered). caused (line_meant header lines now))
+          ∙ ap (λ (n : ℕ). read_meant opening.header (lines_in texts) n (line_of text)) number
+          ∙ ap (λ (r : Result Line LineFault). read_meant opening.header (lines_in texts) (count + 2) r) read
+          ∙ ap (λ (lines : List Numbered). caused (line_meant opening.header lines now))
           (others-read seed count (omega (arith, few)))
           ∙ ap caused taken.1;
-      told = told_text-more (told_at header older now) (told_of header older)
-          ∙ ap (λ (p : List ℕ). told_text (told_of header older) ++ p) (sym printed);
+      told = told_text-more (told_at opening.header older now) (told_of opening.header older)
+          ∙ ap (λ (p : List ℕ). told_text (told_of opening.header older) ++ p) (sym printed);
     }
 
 -- ---- one line after another
@@ -149,8 +149,8 @@ fits : (texts : List (List ℕ)) (text printed : List ℕ) → length text ≤ 4
 fits texts text printed short few meant =
     let end = offset texts + length text + 1 in
     let number = length texts + 1 in
-    let line_fits : ltb 4096 (length text) ≡ false = le-ltb (length text) 4096 short in
-    let input_fits : ltb 67108864 end ≡ false = le-ltb end 67108864 few in
+    let line_fits : ltb 4096 (length text) ≡ false = le-ltb 4096 (length text) short in
+    let input_fits : ltb 67108864 end ≡ false = le-ltb 67108864 end few in
     ap (λ (b : Bool). cond (b || ltb 67108864 end) (refused_at [] number Long)
     (reader_outcome number (text_meant texts text))) line_fits
     ∙ ap (λ (b : Bool). cond b (refused_at [] number Long) (reader_outcome number (text_meant texts text))) input_fits
@@ -188,23 +188,33 @@ record AllRead (seed count : ℕ) : Type 0 where
   few : offset (text_numbered seed 1 ∷ others seed count) ≤ 300 * suc count
 
 nothing-read : IsRead [] [] []
-unfolding outcome_so_far whole_lines last_part
-nothing-read = record { so_far = refl; whole = refl; last = refl }
+unfolding outcome_so_far
+nothing-read = record {
+  so_far = ap (outcome_from replayed []) (whole_lines_is []);
+  whole = whole_lines_is [];
+  last = last_part_is [];
+}
 
 offset-more : (texts : List (List ℕ)) (text : List ℕ) → length text ≤ 299
     → offset (texts ++ text ∷ []) ≤ offset texts + 300
 offset-more texts text short =
-    omega (arith, sum_by-append (λ (line : List ℕ). length line + 1) texts (text ∷ []), short)
+    omega (
+      arith,
+      sum_by-append (λ (line : List ℕ). length line + 1) texts (text ∷ []),
+      sum_by-cons (λ (line : List ℕ). length line + 1) text [],
+      short,
+    )
 
 all-read : (seed count : ℕ) → count < 200000 → AllRead seed count
 all-read seed zero few =
     let plain = first_plain seed in
     let short = plain.short in
+    let none : offset [] ≡ 0 = refl in
     let meant : text_meant [] (text_numbered seed 1) ≡ Ok [] =
     ap (λ (r : Result Start LineFault). opened (header_in r)) (generated_read seed).first in
     record {
-      read = reads_on [] [] [] (text_numbered seed 1) [] nothing-read plain (omega (arith, short)) meant;
-      few = omega (arith, short);
+      read = reads_on [] [] [] (text_numbered seed 1) [] nothing-read plain (omega (arith, short, none)) meant;
+      few = omega (arith, none, offset-more [] (text_numbered seed 1) short);
     }
 all-read seed (suc count) few =
     let before = all-read seed count (omega (arith, few)) in
@@ -213,6 +223,8 @@ all-read seed (suc count) few =
     let short = plain.short in
     let texts = text_numbered seed 1 ∷ others seed count in
     let number : count + 2 ≡ suc (suc count) = omega arith in
+    let longer : offset (text_numbered seed 1 ∷ others seed (suc count)) ≤ offset texts + 300 =
+    offset-more texts (text_numbered seed (count + 2)) short in
     let more = reads_on (schedule_text seed (suc count)) texts (told_text (told_after seed count))
     (text_numbered seed (count + 2)) adds.printed before.read plain (omega (arith, before.few, short, few)) adds.meant in
     let told = subst (λ (p : List ℕ).
@@ -221,7 +233,7 @@ all-read seed (suc count) few =
     record {
       read = subst (λ (n : ℕ). IsRead (schedule_text seed (suc count) ++ (text_numbered seed n ++ 10 ∷ []))
           (texts ++ text_numbered seed (count + 2) ∷ []) (told_text (told_after seed (suc count)))) number told;
-      few = omega (arith, before.few, offset-more texts (text_numbered seed (count + 2)) short);
+      few = omega (arith, before.few, longer);
     }
 
 -- ---- the whole
@@ -239,4 +251,4 @@ generated_replayed seed (suc count) some few =
     ∙ ap (λ (l : List ℕ). followed_by (accepted (told_text (told_after seed count))) (end_outcome replayed texts l))
     read.last
     ∙ ap accepted (append-nil (told_text (told_after seed count)))
-    ∙ ap (λ (n : ℕ). accepted (told_text (told_of header (generated seed n)))) rest
+    ∙ ap (λ (n : ℕ). accepted (told_text (told_of opening.header (generated seed n)))) rest
