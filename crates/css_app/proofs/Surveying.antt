@@ -34,7 +34,7 @@ use Rattle.css_gen.specs.Accepted.{generated, AreRead, AreTaken}
 use Rattle.css_gen.specs.Generated.{text_numbered, line_numbered}
 use Rattle.css_gen.specs.Opening as opening
 use Rattle.css_app.specs.declared.summary.Summary.{Summary}
-use Rattle.css_app.specs.declared.surveyed.Survey.{Survey}
+use Rattle.css_app.specs.declared.surveyed.Surveyor.{Surveyor}
 use Rattle.css_app.specs.Surveyed.{Told, asked_by, told_by, told_at, told_of, told_in, counted, counted_with, summary_of}
 use Rattle.css_app.specs.Surveys.{Stands, IsTaken}
 
@@ -170,7 +170,7 @@ never_refused (Ok text) printed before after fault is (same, inl e) = absurd (cc
 never_refused (Ok text) printed before after fault is (same, inr e) = e
 
 -- the survey stands for it too
-pub takes : (old new : Survey) (older : List Numbered) (now : Numbered) → Stands old older → length older < 200000
+pub takes : (old new : Surveyor) (older : List Numbered) (now : Numbered) → Stands old older → length older < 200000
     → worlds.StandsFor new.world (now ∷ older) → new.world.header ≡ old.world.header
     → new.summary ≡ counted_with (told_at new.world.header older now) old.summary → Stands new (now ∷ older)
 takes old new older now stands few world header summary = record {
@@ -208,7 +208,7 @@ is_taken seed number some few read taken = record {
 }
 
 -- the survey goes on
-pub stands_on : (survey : Survey) (seed number : ℕ) → 1 ≤ number
+pub stands_on : (survey : Surveyor) (seed number : ℕ) → 1 ≤ number
     → Stands survey (record { number = number + 1; line = line_numbered seed (number + 1) } ∷ generated seed (number - 1))
     → Stands survey (generated seed (number + 1 - 1))
 stands_on survey seed number some stands =
@@ -216,7 +216,7 @@ stands_on survey seed number some stands =
     subst (Stands survey) (sym (one_generated seed number some) ∙ ap (generated seed) same) stands
 
 -- and in the end it has counted what is told at all lines
-pub all_counted : (survey : Survey) (seed number lines : ℕ) → survey.world.header ≡ opening.header
+pub all_counted : (survey : Surveyor) (seed number lines : ℕ) → survey.world.header ≡ opening.header
     → Stands survey (generated seed (number - 1)) → number ≡ lines → survey.summary ≡ summary_of (told_in seed lines)
 all_counted survey seed number lines header stands all =
     stands.summary

@@ -5,11 +5,11 @@ use Rattle.css_schedule.specs.declared.header.Header.{Header}
 use Rattle.css_schedule.specs.declared.line.Line.{Line}
 use Rattle.css_world.specs.Happened.{Numbered}
 use Rattle.css_world.specs.Standing as worlds
-use Rattle.css_app.specs.declared.surveyed.Survey.{Survey}
+use Rattle.css_app.specs.declared.surveyed.Surveyor.{Surveyor}
 use Rattle.css_app.specs.Surveyed.{told_of, summary_of}
 
 -- The survey stands for these lines: so does its world, and it has counted what was told at them.
-pub record Stands (survey : Survey) (lines : List Numbered) : Type 0 where
+pub record Stands (survey : Surveyor) (lines : List Numbered) : Type 0 where
   pub world : worlds.StandsFor survey.world lines
   pub summary : survey.summary ≡ summary_of (told_of survey.world.header lines)
   pub few : length lines ≤ 200000

@@ -29,7 +29,7 @@ use std::alloc::Global;
 
 /// A replay of lines that a world takes, of which only the reports are counted.
 #[derive(Drop)]
-pub(crate) struct Survey {
+pub(crate) struct Surveyor {
     world: World,
     /// What is printed for a line. It is counted, and kept no longer.
     printed: Vec<u8>,
@@ -107,14 +107,14 @@ fn last_report(world: &World, reading: u64) -> Report
     }
 }
 
-impl Survey {
+impl Surveyor {
     // The survey before its first line.
-    fn begin(alloc: Global, text: &[u8]) -> Result<Survey, Memory>
+    fn begin(alloc: Global, text: &[u8]) -> Result<Surveyor, Memory>
         requires { header_of text.now ≡ Ok (One opening.header) }
         ensures header { IfOk result (λ survey. survey.world.header ≡ opening.header) }
         ensures stands { IfOk result (λ survey. Stands survey []) }
     {
-        Ok(Survey {
+        Ok(Surveyor {
             world: open(alloc, text)?,
             printed: Vec::new(alloc),
             summary: Summary::new(),
@@ -168,7 +168,7 @@ fn survey_lines(alloc: Global, seed: u64, lines: u64) -> Result<Summary, Memory>
     let Some(first) = generator.next_line(alloc)? else {
         unreachable!()
     };
-    let mut survey = Survey::begin(alloc, first.bytes())?;
+    let mut survey = Surveyor::begin(alloc, first.bytes())?;
     let mut number = 1;
     'lines: while let Some(text) = generator.next_line(alloc)? {
         number += 1;
