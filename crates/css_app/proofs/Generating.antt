@@ -12,10 +12,10 @@ use Rattle.css_app.specs.Generated.{schedule_text}
 
 -- ---- the generator
 -- A generator gave this text: it was the next one, and there was one line more.
-pub record Gave (before after : Generator) (text : List ℕ) : Type 0 where
+pub record Gave (before after : Generator) (bytes : List ℕ) : Type 0 where
   pub more : before.given < before.lines
-  pub text : text ≡ text_numbered before.seed (before.given + 1)
-  pub after : after ≡ record before { given = before.given + 1 }
+  pub text : bytes ≡ text_numbered before.seed (before.given + 1)
+  pub gone : after ≡ record before { given = before.given + 1 }
 
 pub gave : (before after : Generator) (text : List ℕ) → Some text ≡ next_text before → after ≡ after_next before
     → Gave before after text
@@ -24,12 +24,12 @@ gave before after text given left = by (ltb before.given before.lines) refl give
     next : List ℕ
     next = text_numbered before.seed (before.given + 1)
 
-    gone : Generator
-    gone = record before { given = before.given + 1 }
+    left_so : Generator
+    left_so = record before { given = before.given + 1 }
 
     by : (b : Bool) → ltb before.given before.lines ≡ b → Some text ≡ cond b (Some next) None
-        → after ≡ cond b gone before → Gave before after text
-    by true more is left = record { more = ltb-true before.given before.lines more; text = cc; after = left }
+        → after ≡ cond b left_so before → Gave before after text
+    by true more is left = record { more = ltb-true before.given before.lines more; text = cc; gone = left }
     by false more is left = absurd (cc)
 
 -- it gave nothing, since there was no line more

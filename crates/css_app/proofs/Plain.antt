@@ -43,13 +43,15 @@ ArePlain (word ∷ words) = IsPlain word × ArePlain words
 -- where no byte is a line feed, by a test
 free-by : (bytes : List ℕ) → list_all (λ byte. not (is_feed byte)) bytes ≡ true → HasNoFeed bytes
 free-by [] e = All-nil (λ byte. is_feed byte ≡ false)
-free-by (byte ∷ bytes) e = by (is_feed byte) refl (list_all (λ b. not (is_feed b)) bytes) refl e
+free-by (byte ∷ bytes) e =
+    by (is_feed byte) refl (list_all (λ b. not (is_feed b)) bytes) refl (λ h. free-by bytes h) e
   where
     by : (feed : Bool) → is_feed byte ≡ feed → (rest : Bool) → list_all (λ b. not (is_feed b)) bytes ≡ rest
+        → (list_all (λ b. not (is_feed b)) bytes ≡ true → HasNoFeed bytes)
         → (not feed && rest) ≡ true → HasNoFeed (byte ∷ bytes)
-    by true is rest same p = absurd (cc)
-    by false is false same p = absurd (cc)
-    by false is true same p = All-cons (λ b. is_feed b ≡ false) byte bytes is (free-by bytes same)
+    by true is rest same more p = absurd (cc)
+    by false is false same more p = absurd (cc)
+    by false is true same more p = All-cons (λ b. is_feed b ≡ false) byte bytes is (more same)
 
 -- a word is plain, by two tests
 plain-by : (word : List ℕ) → list_all (λ byte. not (is_feed byte)) word ≡ true → nat_le (length word) 24 ≡ true
@@ -92,86 +94,68 @@ record HasPlainWords (verb : Verb) : Type 0 where
   plain : ArePlain (verb_words verb)
   few : length (verb_words verb) ≤ 6
 
+two : {a b : List ℕ} → IsPlain a → IsPlain b → ArePlain (a ∷ b ∷ [])
+two x y = (x, (y, tt))
+
+three : {a b c : List ℕ} → IsPlain a → IsPlain b → IsPlain c → ArePlain (a ∷ b ∷ c ∷ [])
+three x y z = (x, two y z)
+
+six : {a b c d e f : List ℕ} → IsPlain a → IsPlain b → IsPlain c → IsPlain d → IsPlain e → IsPlain f
+    → ArePlain (a ∷ b ∷ c ∷ d ∷ e ∷ f ∷ [])
+six u v w x y z = (u, (v, (w, three x y z)))
+
 words-plain : (verb : Verb) → IsVerb verb → IsShort verb → HasPlainWords verb
 words-plain (Ask reading) range short = record {
-  plain = (plain-by (codes "ask") refl refl, number-plain reading range, tt);
+  plain = two (plain-by (codes "ask") refl refl) (number-plain reading range);
   few = omega arith;
 }
 words-plain (Take request reading) range short = record {
-  plain = (
-    plain-by (codes "take") refl refl,
-    number-plain request (omega (arith, range.number.high)),
-    number-plain reading range.reading,
-    tt,
-  );
+  plain = three (plain-by (codes "take") refl refl) (number-plain request (omega (arith, range.number.high))) (number-plain reading range.reading);
   few = omega arith;
 }
 words-plain (Give take reading) range short = record {
-  plain = (
-    plain-by (codes "give") refl refl,
-    number-plain take (omega (arith, range.number.high)),
-    number-plain reading range.reading,
-    tt,
-  );
+  plain = three (plain-by (codes "give") refl refl) (number-plain take (omega (arith, range.number.high))) (number-plain reading range.reading);
   few = omega arith;
 }
 words-plain (Land datagram reading) range short = record {
-  plain = (
-    plain-by (codes "land") refl refl,
-    number-plain datagram (omega (arith, range.number.high)),
-    number-plain reading range.reading,
-    tt,
-  );
+  plain = three (plain-by (codes "land") refl refl) (number-plain datagram (omega (arith, range.number.high))) (number-plain reading range.reading);
   few = omega arith;
 }
 words-plain (Wall reading) range short = absurd short
 words-plain (Print reading) range short = record {
-  plain = (plain-by (codes "print") refl refl, number-plain reading range, tt);
+  plain = two (plain-by (codes "print") refl refl) (number-plain reading range);
   few = omega arith;
 }
 words-plain (Programme content_id) range short = record {
-  plain = (plain-by (codes "programme") refl refl, short, tt);
+  plain = two (plain-by (codes "programme") refl refl) short;
   few = omega arith;
 }
 words-plain (Timeline programme selector rate (pos base)) range short = record {
-  plain = (
-    plain-by (codes "timeline") refl refl,
-    number-plain programme (omega (arith, range.programme.high)),
-    short.0,
-    number-plain rate.units_per_tick (omega (arith, range.rate.tick_small)),
-    number-plain rate.units_per_second (omega (arith, range.rate.second_small)),
-    number-plain base short.1,
-    tt,
-  );
+  plain = six (plain-by (codes "timeline") refl refl) (number-plain programme (omega (arith, range.programme.high))) short.0 (number-plain rate.units_per_tick (omega (arith, range.rate.tick_small))) (number-plain rate.units_per_second (omega (arith, range.rate.second_small))) (number-plain base short.1);
   few = omega arith;
 }
 words-plain (Timeline programme selector rate (negsuc base)) range short = absurd short
 words-plain (Viewer reading (commands.Change programme)) range short = record {
-  plain = (
-    plain-by (codes "change") refl refl,
-    number-plain reading range.reading,
-    number-plain programme (omega (arith, range.command.high)),
-    tt,
-  );
+  plain = three (plain-by (codes "change") refl refl) (number-plain reading range.reading) (number-plain programme (omega (arith, range.command.high)));
   few = omega arith;
 }
 words-plain (Viewer reading (commands.Speed speed)) range short = absurd short
 words-plain (Viewer reading (commands.Seek media)) range short = absurd short
 words-plain (Opening kind) range short = record {
-  plain = (plain-by (codes "open") refl refl, kind-plain kind, tt);
+  plain = two (plain-by (codes "open") refl refl) (kind-plain kind);
   few = omega arith;
 }
 words-plain (Bring kind) range short = record {
-  plain = (plain-by (codes "text") refl refl, kind-plain kind, tt);
+  plain = two (plain-by (codes "text") refl refl) (kind-plain kind);
   few = omega arith;
 }
 words-plain Up range short = record {
-  plain = (plain-by (codes "up") refl refl, kind-plain Ts, tt);
+  plain = two (plain-by (codes "up") refl refl) (kind-plain Ts);
   few = omega arith;
 }
 words-plain (Present earliest latest) range short = absurd short
 words-plain (Close kind) range short = record {
-  plain = (plain-by (codes "close") refl refl, kind-plain kind, tt);
+  plain = two (plain-by (codes "close") refl refl) (kind-plain kind);
   few = omega arith;
 }
 
@@ -285,7 +269,7 @@ line-plain line range short =
     let words = words-plain line.verb range.verb short in
     let t = number-plain line.t range.t in
     let all : ArePlain (decimal line.w ∷ decimal line.l ∷ verb_words line.verb) =
-    (number-plain line.w range.w, number-plain line.l range.l, words.plain) in
+    (number-plain line.w range.w, (number-plain line.l range.l, words.plain)) in
     record {
       free = with_words-free (decimal line.t) (decimal line.w ∷ decimal line.l ∷ verb_words line.verb) t.free all;
       short = omega (

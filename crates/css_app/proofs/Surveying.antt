@@ -135,21 +135,23 @@ counts_on (Some told) older = refl
 few_counted : (told : List Told)
     → ((summary_of told).prints ≤ length told) × ((summary_of told).intervals ≤ length told)
 few_counted [] = (omega arith, omega arith)
-few_counted (told ∷ older) = by told.report
+few_counted (told ∷ older) = by told.report (few_counted older).0 (few_counted older).1
   where
-    by : (r : Report) → ((counted r (summary_of older)).prints ≤ suc (length older))
+    by : (r : Report) → (summary_of older).prints ≤ length older → (summary_of older).intervals ≤ length older
+        → ((counted r (summary_of older)).prints ≤ suc (length older))
         × ((counted r (summary_of older)).intervals ≤ suc (length older))
-    by (reports.Ticks low high) = (omega (arith, (few_counted older).0), omega (arith, (few_counted older).1))
-    by (reports.None cause) = (omega (arith, (few_counted older).0), omega (arith, (few_counted older).1))
+    by (reports.Ticks low high) prints intervals = (omega (arith, prints), omega (arith, intervals))
+    by (reports.None cause) prints intervals = (omega (arith, prints), omega (arith, intervals))
 
 -- no more is told than there are lines
 few_told : (header : Header) (lines : List Numbered) → length (told_of header lines) ≤ length lines
 few_told header [] = omega arith
-few_told header (now ∷ older) = by (told_at header older now)
+few_told header (now ∷ older) = by (told_at header older now) (few_told header older)
   where
-    by : (told : Option Told) → length (option_to_list told ++ told_of header older) ≤ suc (length older)
-    by None = omega (arith, few_told header older)
-    by (Some told) = omega (arith, few_told header older)
+    by : (told : Option Told) → length (told_of header older) ≤ length older
+        → length (option_to_list told ++ told_of header older) ≤ suc (length older)
+    by None few = omega (arith, few)
+    by (Some told) few = omega (arith, few)
 
 -- so the counts are small
 pub few_prints : (header : Header) (lines : List Numbered)
