@@ -15,7 +15,7 @@ use Rattle.css_model.specs.declared.TheConstants.{LIMIT}
 use Rattle.css_player.specs.declared.command.Command.TheVariants as commands
 use Rattle.css_sessions.specs.declared.session.Kind.{Kind}
 use Rattle.css_sessions.specs.declared.session.Kind.TheVariants.{Cii, Ts}
-use Rattle.css_schedule.specs.Printed.{with_words, kind_word, verb_words, header_text, line_text}
+use Rattle.css_schedule.specs.Printed.{with_words, kind_word, verb_words, header_words, header_text, line_text}
 use Rattle.css_schedule.specs.Ranges.{IsVerb, IsLine}
 use Rattle.css_schedule.specs.declared.line.Line.{Line}
 use Rattle.css_schedule.specs.declared.line.Verb.{Verb}
@@ -280,10 +280,38 @@ line-plain line range short =
       );
     }
 
+header-words : ArePlain (header_words header)
+header-words =
+    let digits = number-plain 20 (omega arith) in
+    let short = length-decimal-le 20 20 (omega arith) (omega arith) (omega arith) in
+    let exponent : IsPlain (45 ∷ decimal 20) = record {
+      free = All-cons (λ byte. is_feed byte ≡ false) 45 (decimal 20) refl digits.free;
+      short = omega (arith, short);
+    } in (
+      plain-by (codes "1") refl refl,
+      (
+        plain-by (codes "follow") refl refl,
+        (
+          number-plain 12800 (omega arith),
+          (
+            exponent,
+            (
+              number-plain 12800 (omega arith),
+              (
+                number-plain 1000 (omega arith),
+                two (plain-by pts refl refl)
+                    (plain-by (codes "dvb://") refl refl),
+              ),
+            ),
+          ),
+        ),
+      ),
+    )
+
 header-plain : IsLineText (header_text header)
 header-plain = record {
-  free = free-by (header_text header) refl;
-  short = leb-true (length (header_text header)) 299 refl;
+  free = with_words-free (codes "css-schedule") (header_words header) (free-by (codes "css-schedule") refl) header-words;
+  short = omega (arith, with_words-short (codes "css-schedule") (header_words header) header-words);
 }
 
 -- the first line is the header
