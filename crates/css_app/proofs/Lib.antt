@@ -4,3 +4,7 @@ pub mod Promise
 pub mod Runs
 pub mod Standing
 pub mod Completeness
+pub mod Generating
+pub mod Surveying
+pub mod Plain
+pub mod Replaying

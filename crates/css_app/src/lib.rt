@@ -7,9 +7,15 @@ mod agreement;
 #[cfg(test)]
 mod both_ends_tests;
 mod command;
+mod generated;
+#[cfg(test)]
+mod generated_tests;
+pub mod laws;
 mod program;
 mod replay;
 mod status;
+mod summary;
+mod surveyed;
 #[cfg(test)]
 mod tests;
 mod told;
