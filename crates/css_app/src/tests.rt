@@ -93,7 +93,7 @@ fn other_words_are_refused(rt: HostRuntime) -> Result<(), Fail> {
 }
 
 /// A schedule, how its replay ends, and what is printed before.
-#[derive(Clone, Copy)]
+#[derive(Drop)]
 pub(crate) struct Case {
     pub(crate) bytes: &'static [u8],
     pub(crate) status: Status,
