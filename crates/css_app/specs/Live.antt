@@ -1,5 +1,5 @@
 -- How the live commands end: a companion's run by a cue sheet, and a television's run by a script.
-use Rattle.std.specs.Prelude.{◌≡◌, ◌⊎◌, ℕ, List, Option, Some, Ok, Err, Result, MatchResult, ⊤}
+use Rattle.std.specs.Prelude.{◌≡◌, ◌⊎◌, ℕ, ◌≤◌, Bool, true, false, List, Option, Some, None, Ok, Err, Result, MatchResult, ⊤}
 use Rattle.std.specs.Io.KnownBytes.{Consumes, IsAtEnd}
 use Rattle.css_lines.specs.declared.ending.Stop.{Stop}
 use Rattle.css_lines.specs.declared.ending.Stop.TheVariants as stops
@@ -27,7 +27,7 @@ use Rattle.css_tv.specs.declared.config.TvConfig.{TvConfig}
 use Rattle.css_app.specs.declared.scripts.NoLine.{NoLine}
 use Rattle.css_app.specs.declared.status.Status.{Status}
 use Rattle.css_app.specs.declared.status.Status.TheVariants as status
-use Rattle.css_app.specs.Ended.{CountsReads}
+use Rattle.css_app.specs.Ended.{CountsReads, CountsWrites}
 use Rattle.css_app.specs.Scripts.{script_in, why_of}
 
 -- ---- statuses
@@ -43,6 +43,10 @@ driven_status (driven.Spent turns) = status.Spent turns
 driven_status (driven.Unreachable turns) = status.Unreachable turns
 driven_status (driven.BadUrl property) = status.BadUrl property
 driven_status driven.Memory = status.Memory
+
+abbrev pub is_write_fault : Driven → Bool
+is_write_fault driven.WriteFault = true
+is_write_fault _ = false
 
 -- the status where a cue sheet was not read
 abbrev pub sheet_status : Stop Form → Status
@@ -66,6 +70,21 @@ CountsCalls before now _ = now ≡ before
 abbrev pub CountsDials : ℕ → ℕ → Status → Type 0
 CountsDials before now (status.Unreachable turns) = HasRisen before now
 CountsDials before now _ = before ≤ now
+
+-- The spawner's count of faults has risen where a status says so, and is as it was at `Done` and at a child's status. It
+-- never falls.
+abbrev pub CountsSpawns : ℕ → ℕ → Status → Type 0
+CountsSpawns before now status.Done = now ≡ before
+CountsSpawns before now (status.ChildFault None) = HasRisen before now
+CountsSpawns before now (status.ChildFault (Some ended)) = now ≡ before
+CountsSpawns before now _ = before ≤ now
+
+-- A status that comes before a run tells no fault of the sink, of the outside or of a spawner.
+pub record TellsNoRun (result : Status) : Type 0 where
+  pub writes : (count : ℕ) → CountsWrites count count result
+  pub calls : (count : ℕ) → CountsCalls count count result
+  pub dials : (count : ℕ) → CountsDials count count result
+  pub spawns : (count : ℕ) → CountsSpawns count count result
 
 -- the source's count, where its bytes were taken or a status says why not
 abbrev pub CountsTaking : {T : Type 0} → ℕ → ℕ → Result T Status → Type 0

@@ -1,11 +1,11 @@
 -- How a companion's run beside a television ends, which is started as a child.
-use Rattle.std.specs.Prelude.{◌≡◌, ◌⊎◌, ℕ, ◌+◌, ◌≤◌, ◌<◌, ℤ, pos, int_eq, Bool, true, false, if◌then◌else◌}
+use Rattle.std.specs.Prelude.{◌≡◌, ◌⊎◌, ℕ, ◌+◌, ◌<◌, ℤ, pos, Bool, true, false, if◌then◌else◌}
 use Rattle.std.specs.Prelude.{List, [], ◌∷◌, ◌++◌, length, codes, Option, Some, None, Result, Ok, Err, MatchResult, ⊤}
 use Rattle.std.specs.Fmt.{signed_decimal}
+use Rattle.std.specs.Ordering.{int_eq}
 use Rattle.std.specs.Option.{option_map}
 use Rattle.std.specs.Io.KnownBytes.{Consumes, IsAtEnd}
 use Rattle.css_model.specs.History.{Address, History}
-use Rattle.css_outside.specs.Faults.{HasRisen}
 use Rattle.css_outside.specs.Spawners.{Spawned, Started, Finished, TellsSpawned}
 use Rattle.css_outside.specs.declared.fault.OutFault.{OutFault}
 use Rattle.css_outside.specs.declared.fault.OutFault.TheVariants as fault
@@ -60,35 +60,15 @@ child_status (Err fault.Memory) = status.Memory
 abbrev pub with_child : Status → Result ℤ OutFault → Status
 with_child companion finished = if is_done companion then child_status finished else companion
 
--- The spawner's count of faults has risen where a status says so, and is as it was at `Done` and at a child's status. It
--- never falls.
-abbrev pub CountsSpawns : ℕ → ℕ → Status → Type 0
-CountsSpawns before now status.Done = now ≡ before
-CountsSpawns before now (status.ChildFault None) = HasRisen before now
-CountsSpawns before now (status.ChildFault (Some ended)) = now ≡ before
-CountsSpawns before now _ = before ≤ now
-
 -- ---- the script's bytes
 -- the source gave these bytes, up to its end or to more than a script has
 pub record GivesUpTo (before now : Option (List ℕ)) (read : List ℕ) : Type 0 where
   pub took : Consumes before now read
   pub reached : IsAtEnd now ⊎ (67108864 < length read)
 
--- the source was not read: a read failed, or memory ran out
-abbrev pub IsUnread : Status → Type 0
-IsUnread status.ReadFault = ⊤
-IsUnread status.Memory = ⊤
-IsUnread _ = ⊥
-
 -- these bytes are a script
 abbrev pub IsScript : List ℕ → Type 0
 IsScript bytes = (script : List ScriptLine) × (script_in bytes ≡ Ok script)
-
--- these bytes are no script, or memory ran out
-abbrev pub IsNoScript : List ℕ → Status → Type 0
-IsNoScript bytes (status.BadLine line why) = script_in bytes ≡ Err (line, why)
-IsNoScript bytes status.Memory = ⊤
-IsNoScript bytes _ = ⊥
 
 -- the source was read to its end, and its bytes, which are these, are a script
 pub record GivesScriptText (before now : Option (List ℕ)) (text : List ℕ) : Type 0 where

@@ -16,8 +16,20 @@ use Rattle.css_schedule.specs.declared.line.ScriptLine.{ScriptLine}
 use Rattle.css_app.specs.declared.scripts.NoLine.{NoLine}
 use Rattle.css_app.specs.declared.scripts.ScriptLines.{ScriptLines}
 
+-- a line, or that there is none of these bytes
+abbrev pub Reading : Type 0
+Reading = Result ScriptLine (engine.LineFault NoLine)
+
+abbrev pub read_of : Result ScriptLine LineFault → Reading
+read_of (Ok line) = Ok line
+read_of (Err fault) = Err (lacks.Refused (record {}))
+
+-- the line that bytes are, without the line feed
+abbrev pub line_of : List ℕ → Reading
+line_of bytes = read_of (script_of bytes)
+
 -- a line prints nothing, or it is outside the grammar
-abbrev pub admitted : Result ScriptLine LineFault → Result (List ℕ) NoLine
+abbrev pub admitted : Reading → Result (List ℕ) NoLine
 admitted (Ok line) = Ok []
 admitted (Err fault) = Err (record {})
 
@@ -26,18 +38,18 @@ abbrev pub script_lines : Meaning NoLine
 script_lines = record {
   longest_line = λ before. 4096;
   longest_input = λ before. 67108864;
-  line = λ before text. admitted (script_of text);
+  line = λ before text. admitted (line_of text);
   finish = λ before. Ok [];
 }
 
 -- the line that was read, if it was
-abbrev pub line_in : Result ScriptLine LineFault → List ScriptLine
+abbrev pub line_in : Reading → List ScriptLine
 line_in (Ok line) = line ∷ []
 line_in (Err fault) = []
 
 -- the lines of a script, in their order
 unfoldable pub script_of_lines : List (List ℕ) → List ScriptLine
-script_of_lines lines = flat_map (λ line. line_in (script_of line)) lines
+script_of_lines lines = flat_map (λ line. line_in (line_of line)) lines
 
 -- why a line is refused: it is too long, or outside the grammar
 abbrev pub why_of : Refusal NoLine → LineWhy
@@ -54,11 +66,6 @@ unfoldable pub script_in : List ℕ → Result (List ScriptLine) (ℕ × LineWhy
 script_in bytes = unless_refused (outcome script_lines bytes).verdict (script_of_lines (lines_of bytes))
 
 -- ---- how the reader of a script stands for the lines that it has taken
--- the line that was read, as the engine is told
-abbrev pub read_of : Result ScriptLine LineFault → Result ScriptLine (engine.LineFault NoLine)
-read_of (Ok line) = Ok line
-read_of (Err fault) = Err (lacks.Refused (record {}))
-
 -- it has the lines of the script
 pub record Stands (reader : ScriptLines) (before : List (List ℕ)) : Type 0 where
   pub lines : reader.lines.items ≡ script_of_lines before

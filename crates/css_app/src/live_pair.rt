@@ -2,8 +2,8 @@ ghost use Rattle.std.specs.Prelude.{◌≡◌, List, ℕ, IfOk, Ok, Some};
 ghost use Rattle.css_drive.specs.Configs.{IsWritable};
 ghost use Rattle.css_schedule.specs.declared.line.ScriptLine.{ScriptLine};
 ghost use Rattle.css_app.specs.Ended.{CountsReads, CountsWrites, HasNotFailed};
-ghost use Rattle.css_app.specs.Live.{CountsCalls, CountsDials, stage};
-ghost use Rattle.css_app.specs.Pairs.{Beside, CountsSpawns, Pairs, PairsAsDue, children};
+ghost use Rattle.css_app.specs.Live.{CountsCalls, CountsDials, CountsSpawns, stage};
+ghost use Rattle.css_app.specs.Pairs.{Beside, Pairs, PairsAsDue, children};
 ghost use Rattle.css_app.specs.Pairs as pairs;
 ghost use Rattle.css_app.specs.Scripts.{script_in};
 

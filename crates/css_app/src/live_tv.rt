@@ -2,11 +2,11 @@ ghost use Rattle.std.specs.Prelude.{◌≡◌, ◌≤◌, ◌≤ℤ◌, pos, Lis
 ghost use Rattle.std.specs.Str.{IsUtf8};
 ghost use Rattle.css_model.specs.Numbers.{max_error};
 ghost use Rattle.css_schedule.specs.declared.line.ScriptLine.{ScriptLine};
-ghost use Rattle.css_app.specs.Ended.{CountsReads, HasNotFailed};
+ghost use Rattle.css_app.specs.Ended.{CountsReads, CountsWrites, HasNotFailed};
 ghost use Rattle.css_app.specs.Live.{CountsCalls, Serves, ServesAsDue};
 ghost use Rattle.css_app.specs.Scripts.{script_in};
 
-use crate::driven::status_of;
+use crate::driven::{is_write_fault, status_of};
 use crate::scripts::take_script;
 use crate::status::Status;
 use css_drive::drive_tv;
@@ -41,10 +41,11 @@ pub fn tv<S: Source, O: Outside>(
         → HasNotFailed (S.faults source.old) (S.faults source.new)
         → HasNotFailed (O.counts outside.old).faults (O.counts outside.new).faults
         → ServesAsDue (record { config = config; turns = turns; script = script })
-            (O.told outside.old) (O.told outside.new) result }
+        (O.told outside.old) (O.told outside.new) result }
     // A fault is told only where the device has failed, and no other failure of a device goes untold.
     ensures counted_reads { CountsReads (S.faults source.old) (S.faults source.new) result }
     ensures counted_calls { CountsCalls (O.counts outside.old).faults (O.counts outside.new).faults result }
+    ensures writes { (count : ℕ) → CountsWrites count count result }
     ensures dials { (O.counts outside.new).dial_faults ≡ (O.counts outside.old).dial_faults }
 {
     let script = match take_script(alloc, source) {
@@ -53,5 +54,9 @@ pub fn tv<S: Source, O: Outside>(
     };
     let ended = drive_tv(alloc, config, turns, &script, outside);
     drop(script);
+    // A television writes nothing.
+    if is_write_fault(&ended) {
+        return Status::Memory;
+    }
     status_of(ended)
 }

@@ -1,10 +1,9 @@
 ghost use Rattle.std.specs.Prelude.{◌≡◌, ◌∷◌, [], ◌++◌, IfErr, IfOk, MatchResult, OnOk, All};
 ghost use Rattle.css_lines.specs.declared.reader.LineFault.TheVariants as lacks;
 ghost use Rattle.css_num.specs.Gives.{GivesBy};
-ghost use Rattle.css_schedule.specs.Lines.{script_of};
 ghost use Rattle.css_schedule.specs.Ranges.{IsScriptLine};
-ghost use Rattle.css_app.specs.Live.{CountsTaking, GivesScript, HasNoScript, script_status};
-ghost use Rattle.css_app.specs.Scripts.{read_of};
+ghost use Rattle.css_app.specs.Live.{CountsTaking, GivesScript, HasNoScript, TellsNoRun, script_status};
+ghost use Rattle.css_app.specs.Scripts.{line_of};
 
 use crate::status::Status;
 use css_lines::{LineFault, Lines, PIECE, Refusal, Stop, drive};
@@ -31,7 +30,7 @@ pub struct ScriptLines {
 
 // Reads a line.
 fn read_line(alloc: Global, text: &[u8]) -> Result<ScriptLine, LineFault<NoLine>>
-    ensures value { GivesBy (λ x. x) lacks.Memory result (read_of (script_of text.now)) }
+    ensures value { GivesBy (λ x. x) lacks.Memory result (line_of text.now) }
     ensures range { IfOk result IsScriptLine }
 {
     match read_script(alloc, text) {
@@ -141,6 +140,7 @@ pub(crate) fn take_script<S: Source>(
     ensures value { MatchResult result (λ script. GivesScript (S.left source.old) (S.left source.new) script.items)
         (HasNoScript (S.left source.old)) }
     ensures range { IfOk result (λ script. All IsScriptLine script.items) }
+    ensures quiet { IfErr result TellsNoRun }
     ensures counted { CountsTaking (S.faults source.old) (S.faults source.new) result }
 {
     let mut unused = match NeverFailsSink::new(alloc, PIECE) {

@@ -1,6 +1,6 @@
-ghost use Rattle.std.specs.Prelude.{◌≡◌, MatchResult};
-ghost use Rattle.css_app.specs.Live.{CountsTaking, HasNoScript};
-ghost use Rattle.css_app.specs.Pairs.{GivesScriptText, GivesUpTo, IsNoScript, IsScript, IsUnread};
+ghost use Rattle.std.specs.Prelude.{◌≡◌, IfErr, MatchResult, Some};
+ghost use Rattle.css_app.specs.Live.{CountsTaking, HasNoScript, TellsNoRun};
+ghost use Rattle.css_app.specs.Pairs.{GivesScriptText, GivesUpTo, IsScript};
 
 use crate::scripts::take_script;
 use crate::status::Status;
@@ -13,7 +13,9 @@ const LONGEST_INPUT: usize = 67_108_864;
 
 // Takes the bytes that the source has, up to its end or to more than a script has.
 fn take_bytes<S: Source>(alloc: Global, source: &mut S) -> Result<Vec<u8>, Status>
-    ensures value { MatchResult result (λ text. GivesUpTo (S.left source.old) (S.left source.new) text.items) IsUnread }
+    ensures value { MatchResult result (λ text. GivesUpTo (S.left source.old) (S.left source.new) text.items)
+        (HasNoScript (S.left source.old)) }
+    ensures quiet { IfErr result TellsNoRun }
     ensures counted { CountsTaking (S.faults source.old) (S.faults source.new) result }
 {
     let mut piece = [0u8; PIECE];
@@ -36,7 +38,9 @@ fn take_bytes<S: Source>(alloc: Global, source: &mut S) -> Result<Vec<u8>, Statu
 
 // Tests whether bytes are a script.
 fn check_script(alloc: Global, text: &[u8]) -> Result<(), Status>
-    ensures { MatchResult result (λ _. IsScript text.now) (IsNoScript text.now) }
+    ensures value { MatchResult result (λ _. IsScript text.now) (HasNoScript (Some text.now)) }
+    ensures quiet { IfErr result TellsNoRun }
+    ensures counted { CountsTaking 0 0 result }
 {
     let mut copy = match NeverFailsSource::new(alloc, text, PIECE) {
         Ok(copy) => copy,
@@ -52,12 +56,10 @@ fn check_script(alloc: Global, text: &[u8]) -> Result<(), Status>
 }
 
 /// Takes the bytes of the script that the source has, to the source's end.
-pub(crate) fn take_script_text<S: Source>(
-    alloc: Global,
-    source: &mut S,
-) -> Result<Vec<u8>, Status>
+pub(crate) fn take_script_text<S: Source>(alloc: Global, source: &mut S) -> Result<Vec<u8>, Status>
     ensures value { MatchResult result (λ text. GivesScriptText (S.left source.old) (S.left source.new) text.items)
         (HasNoScript (S.left source.old)) }
+    ensures quiet { IfErr result TellsNoRun }
     ensures counted { CountsTaking (S.faults source.old) (S.faults source.new) result }
 {
     let text = match take_bytes(alloc, source) {
