@@ -4,9 +4,9 @@ pub mod Promise
 pub mod Runs
 pub mod Standing
 pub mod Completeness
-pub mod Scripts
-pub mod Sheets
+pub mod ScriptsTaken
+pub mod SheetsTaken
 pub mod Live
 pub mod LongText
-pub mod ScriptTexts
+pub mod TextsTaken
 pub mod Pairs

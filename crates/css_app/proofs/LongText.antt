@@ -84,6 +84,11 @@ begun whole part rest some past =
           (long_input script_lines whole next.line next.end (omega (arith, past, next.far))));
     }
 
+-- whole lines of which none is refused
+all_within : (text : List ℕ) → (outcome_so_far script_lines text).verdict ≡ None → offset (whole_lines text) ≤ 67108864
+unfolding outcome_so_far
+all_within text e = accepted_within [] (whole_lines text) e (omega arith)
+
 from_first : (text rest : List ℕ) (v : Verdict) → (outcome_so_far script_lines text).verdict ≡ v
     → 67108864 < length text
     → SameRefusal (followed_by (outcome_so_far script_lines text)
@@ -109,11 +114,6 @@ from_first text rest None e past =
       of_other = next_verdict (outcome_so_far script_lines text) (outcome_after script_lines whole part rest) e
           ∙ same.of_other;
     }
-  where
-    all_within : (t : List ℕ) → (outcome_so_far script_lines t).verdict ≡ None → offset (whole_lines t) ≤ 67108864
-    unfolding outcome_so_far
-    all_within t e = accepted_within [] (whole_lines t) e (omega arith)
-
 -- Of more bytes than a script has a line is refused, and the same one whatever follows.
 pub long_text : (text rest : List ℕ) → 67108864 < length text
     → SameRefusal (outcome script_lines text) (outcome script_lines (text ++ rest))

@@ -18,12 +18,13 @@ mod live_tests;
 mod live_tv;
 mod program;
 mod replay;
+mod script_text;
 mod scripts;
 mod sheets;
 mod status;
 #[cfg(test)]
 mod tests;
-mod texts;
+
 mod told;
 
 pub use child::{Child, address_at};
