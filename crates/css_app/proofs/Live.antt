@@ -147,6 +147,23 @@ served_as_due run before now ended c c' ran none called nc =
       tells = refl;
     })
 
+is_write : (ended : Driven) → is_write_fault ended ≡ true → ended ≡ driven.WriteFault
+is_write driven.WriteFault fault = refl
+is_write driven.Done fault = absurd (cc)
+is_write (driven.BadLine line why) fault = absurd (cc)
+is_write driven.NetFault fault = absurd (cc)
+is_write (driven.BadCii text reason) fault = absurd (cc)
+is_write (driven.Moved property old new) fault = absurd (cc)
+is_write (driven.Spent turns) fault = absurd (cc)
+is_write (driven.Unreachable turns) fault = absurd (cc)
+is_write (driven.BadUrl property) fault = absurd (cc)
+is_write driven.Memory fault = absurd (cc)
+
+-- no other call failed then
+pub write-calls : (ended : Driven) (before now : ℕ) → is_write_fault ended ≡ true → CountsNetFault before now ended
+    → now ≡ before
+write-calls ended before now fault counted = subst (CountsNetFault before now) (is_write ended fault) counted
+
 -- a television's run that ended with a failed write may as well have lacked memory
 pub ran_out : (run : TvRun) (before now : Option History) (ended : Driven) → TvRan run before now ended
     → is_write_fault ended ≡ true → TvRan run before now driven.Memory

@@ -14,7 +14,7 @@ use Rattle.css_lines.proofs.Meant.{outcome-append, outcome_at_end, outcome_after
 use Rattle.css_app.specs.Scripts.{script_lines}
 use Rattle.css_app.specs.declared.scripts.NoLine.{NoLine}
 
-Verdict : Type 0
+abbrev pub Verdict : Type 0
 Verdict = Option (ℕ × Refusal NoLine)
 
 -- what comes after a refusal changes no verdict
@@ -70,7 +70,7 @@ begun : (whole : List (List ℕ)) (part rest : List ℕ) → 0 < length part →
     → SameRefusal (end_outcome script_lines whole part) (outcome_after script_lines whole part rest)
 begun whole part rest some past =
     let next = some_next script_lines whole part rest some in
-    let v = (length whole + 1, Long) in
+    let v : ℕ × Refusal NoLine = (length whole + 1, Long) in
     record {
       verdict = v;
       of_one = ap (λ (o : Outcome NoLine). o.verdict) (end_outcome_some script_lines whole part some)

@@ -1,6 +1,6 @@
 -- The script that a source's bytes are, where they are read first.
 use Rattle.std.proofs.Common.{◌≡◌, ℕ, ◌<◌, List, [], ◌++◌, length, ap, refl, sym, subst, ◌∙◌, arith, append-nil, inl, inr}
-use Rattle.std.specs.Prelude.{◌⊎◌, Option, Some, None, Ok, Err}
+use Rattle.std.specs.Prelude.{◌⊎◌, Option, Some, None, Result, Ok, Err}
 use Rattle.std.specs.Io.KnownBytes.{Consumes, IsAtEnd}
 use Rattle.css_lines.specs.Lines.{lines_of}
 use Rattle.css_lines.specs.Meaning.{outcome}
@@ -32,6 +32,17 @@ is_script left text now script is gives = (
       (gave_text text gives.read now (subst (λ (l : Option (List ℕ)). GivesAll l now gives.read) is gives.all))
       gives.is_script,
 )
+
+same_Ok : {A E : Type 0} (r : Result A E) (x y : A) → r ≡ Ok x → r ≡ Ok y → x ≡ y
+same_Ok r x y e f = cc
+
+-- and no other script is
+pub same_script : (left : Option (List ℕ)) (bytes : List ℕ) (now : Option (List ℕ)) (one other : List ScriptLine)
+    → left ≡ Some bytes → GivesScript left now one → script_in bytes ≡ Ok other → one ≡ other
+same_script left bytes now one other is gives ok =
+    let read = gave_text bytes gives.read now
+        (subst (λ (l : Option (List ℕ)). GivesAll l now gives.read) is gives.all) in
+    same_Ok (script_in bytes) one other (sym (ap script_in read) ∙ gives.is_script) ok
 
 -- a verdict says that there is no script
 refused : (bytes : List ℕ) (v : ℕ × Refusal NoLine) → (outcome script_lines bytes).verdict ≡ Some v

@@ -39,21 +39,22 @@ returns-in-Err-prepare-clause-ran g c =
 -- a child was to be started
 pub returns-in-Ok-prepare-clause-ran : goal.returns-in-Ok-prepare-clause-ran
 returns-in-Ok-prepare-clause-ran g c =
+    let at = stage (g.K.Sink.holds c.args.sink.now) (g.O.Outside.told c.args.outside.now) in
     let now = stage (g.K.Sink.holds c.run_beside.new.sink) (g.O.Outside.told c.run_beside.new.outside)
         (g.F.Listens.heard c.run_beside.new.followers) in
-    let kids_old = children (g.P.Spawner.told c.args.spawner.now) (g.P.Spawner.running c.args.spawner.now) in
-    let kids_new = children (g.P.Spawner.told c.run_beside.new.spawner)
-        (g.P.Spawner.running c.run_beside.new.spawner) in
+    let old = children (g.P.Spawner.told c.args.spawner.now) (g.P.Spawner.running c.args.spawner.now) in
+    let new = children (g.P.Spawner.told c.run_beside.new.spawner) (g.P.Spawner.running c.run_beside.new.spawner) in
+    let words = c.deref.ensures.value ∙ c.in-Ok-prepare.ensures.words in
     inr (record {
       text = c.in-Ok.script.items;
       gives = c.in-Ok.ensures.value;
-      beside = subst (λ words. Beside c.args.config words c.in-Ok.script.items
-          (stage (g.K.Sink.holds c.args.sink.now) (g.O.Outside.told c.args.outside.now)
-          (g.F.Listens.heard c.args.followers.now)) now kids_old kids_new c.run_beside.result)
-          c.in-Ok-prepare.ensures.words
-          (subst (λ heard. Beside c.args.config c.in-Ok-prepare.words.items c.in-Ok.script.items
-          (stage (g.K.Sink.holds c.args.sink.now) (g.O.Outside.told c.args.outside.now) heard) now kids_old kids_new
-          c.run_beside.result) c.prepare.ensures.heard c.run_beside.ensures.ran);
+      beside =
+          subst (λ w. Beside c.args.config w c.in-Ok.script.items (at (g.F.Listens.heard c.args.followers.now)) now old
+          new c.run_beside.result) words
+          (subst (λ t. Beside c.args.config c.deref.result.now t (at (g.F.Listens.heard c.args.followers.now)) now old
+          new c.run_beside.result) c.deref-in-Ok-prepare.ensures.value
+          (subst (λ h. Beside c.args.config c.deref.result.now c.deref-in-Ok-prepare.result.now (at h) now old new
+          c.run_beside.result) c.prepare.ensures.heard c.run_beside.ensures.ran));
     })
 
 pub returns-in-Ok-prepare-clause-complete : goal.returns-in-Ok-prepare-clause-complete

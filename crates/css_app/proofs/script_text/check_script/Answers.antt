@@ -13,7 +13,7 @@ returns-in-Ok-take_script-clause-value c =
     is_script _ c.args.text.now _ c.in-Ok-take_script.script.items (ap (λ s. Some s.left) c.in-Ok.ensures)
     c.in-Ok-take_script.ensures.value
 
-pub returns-in-Err-take_script-clause-value : goal.returns-in-Err-take_script-clause-value
-returns-in-Err-take_script-clause-value c =
+pub returns-clause-value : goal.returns-clause-value
+returns-clause-value c =
     subst (λ left. HasNoScript left c.in-Err-take_script.status) (ap (λ s. Some s.left) c.in-Ok.ensures)
     c.in-Err-take_script.ensures.value
