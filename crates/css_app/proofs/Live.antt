@@ -1,9 +1,7 @@
 -- What a run's end is as a status, and what is counted then.
-use Rattle.std.proofs.Common.{◌≡◌, ℕ, ◌≤◌, true, false, refl, sym, ap, subst, ◌∙◌, arith, inl, inr, List}
-use Rattle.std.specs.Prelude.{◌⊎◌, Option, Some, Ok, Err, Result}
+use Rattle.std.proofs.Common.{◌≡◌, ℕ, true, false, refl, ap, subst, ◌∙◌, arith, inl, inr, List}
+use Rattle.std.specs.Prelude.{◌⊎◌, Option, Some, Ok}
 use Rattle.css_model.specs.History.{History}
-use Rattle.css_outside.specs.Faults.{HasRisen}
-use Rattle.css_outside.specs.Outsides.{with_entries}
 use Rattle.css_follow.specs.Sheets.{sheet_in}
 use Rattle.css_follow.specs.declared.sheet.Sheet.{Sheet}
 use Rattle.css_drive.specs.CompanionDue as companion

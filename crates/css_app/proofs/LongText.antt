@@ -6,7 +6,7 @@ use Rattle.std.proofs.lemmas.Bool.{cases_lt}
 use Rattle.std.proofs.lemmas.List.Sums.{sum_by-append, sum_by-cons}
 use Rattle.css_lines.specs.Lines.{whole_lines, last_part}
 use Rattle.css_lines.specs.Meaning.{Outcome, followed_by, followed_from, offset, line_outcome, outcome_from}
-use Rattle.css_lines.specs.Meaning.{outcome_so_far, outcome, end_outcome, finish_outcome, refused_at}
+use Rattle.css_lines.specs.Meaning.{outcome_so_far, outcome, end_outcome, finish_outcome}
 use Rattle.css_lines.specs.declared.reader.Refusal.{Refusal}
 use Rattle.css_lines.specs.declared.reader.Refusal.TheVariants.{Long}
 use Rattle.css_lines.proofs.Cut.{length_read}
@@ -35,8 +35,11 @@ first_accepted o next (Some v) e none = absurd (let some = kept_verdict o next v
 -- one more line
 offset_more : (before : List (List ℕ)) (line : List ℕ) → offset (before ++ line ∷ []) ≡ offset before + length line + 1
 offset_more before line =
-    omega (arith, sum_by-append (λ (l : List ℕ). length l + 1) before (line ∷ []),
-    sum_by-cons (λ (l : List ℕ). length l + 1) line [])
+    omega (
+      arith,
+      sum_by-append (λ (l : List ℕ). length l + 1) before (line ∷ []),
+      sum_by-cons (λ (l : List ℕ). length l + 1) line [],
+    )
 
 -- lines of which none is refused are not too many bytes
 accepted_within : (before lines : List (List ℕ)) → (outcome_from script_lines before lines).verdict ≡ None
@@ -57,7 +60,7 @@ accepted_within before (line ∷ lines) none le =
     short (inr within) accepted = within
     short (inl past) accepted = absurd (
         let long = ap (λ (o : Outcome NoLine). o.verdict)
-            (long_input script_lines before line (offset before + length line + 1) past) in cc)
+        (long_input script_lines before line (offset before + length line + 1) past) in cc)
 
 -- two inputs have the same line refused
 pub record SameRefusal (one other : Outcome NoLine) : Type 0 where
@@ -114,6 +117,7 @@ from_first text rest None e past =
       of_other = next_verdict (outcome_so_far script_lines text) (outcome_after script_lines whole part rest) e
           ∙ same.of_other;
     }
+
 -- Of more bytes than a script has a line is refused, and the same one whatever follows.
 pub long_text : (text rest : List ℕ) → 67108864 < length text
     → SameRefusal (outcome script_lines text) (outcome script_lines (text ++ rest))

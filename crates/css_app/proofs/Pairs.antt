@@ -1,11 +1,11 @@
 -- A companion's run beside a child, and the status of both.
 use Rattle.std.proofs.Common.{◌≡◌, ℕ, ◌+◌, ◌≤◌, ℤ, pos, Bool, true, false, cond, List, ◌∷◌}
 use Rattle.std.proofs.Common.{ap, refl, sym, subst, ◌∙◌, arith, inl, inr}
-use Rattle.std.specs.Prelude.{◌⊎◌, Option, Some, None, Result, Ok, Err, OnOk, OnErr, MatchResult}
+use Rattle.std.specs.Prelude.{Option, Some, None, Result, Ok, Err, OnOk, OnErr, MatchResult}
 use Rattle.std.specs.Option.{option_map}
 use Rattle.std.specs.Ordering.{int_eq}
 use Rattle.css_model.specs.History.{History}
-use Rattle.css_outside.specs.Faults.{CountsCall, HasRisen}
+use Rattle.css_outside.specs.Faults.{CountsCall}
 use Rattle.css_outside.specs.Spawners.{Spawned, Started, Finished, TellsSpawned}
 use Rattle.css_outside.specs.declared.fault.OutFault.{OutFault}
 use Rattle.css_outside.specs.declared.fault.OutFault.TheVariants as fault
@@ -17,7 +17,7 @@ use Rattle.css_app.specs.declared.status.Status.TheVariants as status
 use Rattle.css_app.specs.Ended.{CountsReads, CountsWrites, HasNotFailed}
 use Rattle.css_app.specs.Live.{CountsCalls, CountsDials, CountsSpawns, EndsAsDue, IsAsDue, MakesRun, Stage}
 use Rattle.css_app.specs.Live.{driven_status}
-use Rattle.css_app.specs.Pairs.{Children, PairsAsDue, RunsBeside, child_status, is_done, with_child}
+use Rattle.css_app.specs.Pairs.{PairsAsDue, RunsBeside, child_status, is_done, with_child}
 
 -- ---- the status of both
 -- what holds of each status of a child that was waited for

@@ -1,6 +1,6 @@
 -- The cue sheet that a source gives, or why it gives none.
-use Rattle.std.proofs.Common.{◌≡◌, ℕ, ◌≤◌, List, ap, refl, arith}
-use Rattle.std.specs.Prelude.{Option, Some, Ok, Err}
+use Rattle.std.proofs.Common.{◌≡◌, ℕ, List, ap, refl, arith}
+use Rattle.std.specs.Prelude.{Option, Some, Err}
 use Rattle.css_lines.specs.declared.reader.Refusal.{Refusal}
 use Rattle.css_lines.specs.declared.ending.Stop.{Stop}
 use Rattle.css_lines.specs.declared.ending.Stop.TheVariants as stops

@@ -1,11 +1,10 @@
 -- The script that a source's bytes are, where they are read first.
 use Rattle.std.proofs.Common.{◌≡◌, ℕ, ◌<◌, List, [], ◌++◌, length, ap, refl, sym, subst, ◌∙◌, arith, append-nil, inl, inr}
 use Rattle.std.specs.Prelude.{◌⊎◌, Option, Some, None, Result, Ok, Err}
-use Rattle.std.specs.Io.KnownBytes.{Consumes, IsAtEnd}
+use Rattle.std.specs.Io.KnownBytes.{IsAtEnd}
 use Rattle.css_lines.specs.Lines.{lines_of}
 use Rattle.css_lines.specs.Meaning.{outcome}
 use Rattle.css_lines.specs.declared.reader.Refusal.{Refusal}
-use Rattle.css_outside.specs.Faults.{HasRisen}
 use Rattle.css_schedule.specs.declared.fault.LineWhy.{LineWhy}
 use Rattle.css_schedule.specs.declared.line.ScriptLine.{ScriptLine}
 use Rattle.css_app.specs.declared.scripts.NoLine.{NoLine}
@@ -15,7 +14,7 @@ use Rattle.css_app.specs.Ended.{CountsReads}
 use Rattle.css_app.specs.Live.{GivesAll, GivesScript, HasNoScript}
 use Rattle.css_app.specs.Pairs.{GivesScriptText, GivesUpTo, IsScript}
 use Rattle.css_app.specs.Scripts.{script_in, script_lines, script_of_lines, unless_refused, why_of}
-use Rattle.css_app.proofs.LongText.{SameRefusal, long_text}
+use Rattle.css_app.proofs.LongText.{long_text}
 
 -- a source of these bytes that gave all gave these
 gave_text : (text read : List ℕ) (now : Option (List ℕ)) → GivesAll (Some text) now read → read ≡ text
@@ -41,7 +40,7 @@ pub same_script : (left : Option (List ℕ)) (bytes : List ℕ) (now : Option (L
     → left ≡ Some bytes → GivesScript left now one → script_in bytes ≡ Ok other → one ≡ other
 same_script left bytes now one other is gives ok =
     let read = gave_text bytes gives.read now
-        (subst (λ (l : Option (List ℕ)). GivesAll l now gives.read) is gives.all) in
+    (subst (λ (l : Option (List ℕ)). GivesAll l now gives.read) is gives.all) in
     same_Ok (script_in bytes) one other (sym (ap script_in read) ∙ gives.is_script) ok
 
 -- a verdict says that there is no script

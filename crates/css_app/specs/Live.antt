@@ -21,7 +21,6 @@ use Rattle.css_drive.specs.TvRan.{TvRan}
 use Rattle.css_drive.specs.declared.config.DriveConfig.{DriveConfig}
 use Rattle.css_drive.specs.declared.driven.Driven.{Driven}
 use Rattle.css_drive.specs.declared.driven.Driven.TheVariants as driven
-use Rattle.css_schedule.specs.declared.fault.LineWhy.{LineWhy}
 use Rattle.css_schedule.specs.declared.line.ScriptLine.{ScriptLine}
 use Rattle.css_tv.specs.declared.config.TvConfig.{TvConfig}
 use Rattle.css_app.specs.declared.scripts.NoLine.{NoLine}

@@ -24,7 +24,6 @@ mod sheets;
 mod status;
 #[cfg(test)]
 mod tests;
-
 mod told;
 
 pub use child::{Child, address_at};

@@ -9,8 +9,8 @@ ghost use Rattle.css_app.specs.Scripts.{script_in};
 
 use crate::child::{Child, child_words};
 use crate::live_companion::make_run;
-use crate::status::Status;
 use crate::script_text::take_script_text;
+use crate::status::Status;
 use css_drive::{DriveConfig, Listens};
 use css_follow::Sheet;
 use css_num::{Memory, Text};

@@ -41,7 +41,7 @@ pub returns-in-Ok-prepare-clause-ran : goal.returns-in-Ok-prepare-clause-ran
 returns-in-Ok-prepare-clause-ran g c =
     let at = stage (g.K.Sink.holds c.args.sink.now) (g.O.Outside.told c.args.outside.now) in
     let now = stage (g.K.Sink.holds c.run_beside.new.sink) (g.O.Outside.told c.run_beside.new.outside)
-        (g.F.Listens.heard c.run_beside.new.followers) in
+    (g.F.Listens.heard c.run_beside.new.followers) in
     let old = children (g.P.Spawner.told c.args.spawner.now) (g.P.Spawner.running c.args.spawner.now) in
     let new = children (g.P.Spawner.told c.run_beside.new.spawner) (g.P.Spawner.running c.run_beside.new.spawner) in
     let words = c.deref.ensures.value ∙ c.in-Ok-prepare.ensures.words in

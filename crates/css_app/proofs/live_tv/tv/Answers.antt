@@ -68,7 +68,7 @@ pub returns-clause-complete : goal.returns-clause-complete
 returns-clause-complete g c bytes script is ok read called =
     let run : TvRun = record { config = c.args.config; turns = c.args.turns; script = script } in
     let same = same_script (g.S.Source.left c.args.source.now) bytes (g.S.Source.left c.take_script.new.source)
-        c.in-Ok.script.items script is c.in-Ok.ensures.value ok in
+    c.in-Ok.script.items script is c.in-Ok.ensures.value ok in
     subst (ServesAsDue run (g.O.Outside.told c.args.outside.now) (g.O.Outside.told c.drive_tv-ended.new.outside))
     (sym c.status_of.ensures)
     (served_as_due run (g.O.Outside.told c.args.outside.now) (g.O.Outside.told c.drive_tv-ended.new.outside)

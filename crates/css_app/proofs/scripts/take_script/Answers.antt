@@ -1,4 +1,4 @@
-use Rattle.std.proofs.Common.{subst, sym, ap}
+use Rattle.std.proofs.Common.{subst, sym}
 use Rattle.std.specs.Prelude.{All}
 use Rattle.css_schedule.specs.Ranges.{IsScriptLine}
 use Rattle.css_app.specs.Ended.{CountsReads}
