@@ -10,7 +10,8 @@ use Rattle.css_lines.specs.Meaning.{outcome_so_far, outcome, end_outcome, finish
 use Rattle.css_lines.specs.declared.reader.Refusal.{Refusal}
 use Rattle.css_lines.specs.declared.reader.Refusal.TheVariants.{Long}
 use Rattle.css_lines.proofs.Cut.{length_read}
-use Rattle.css_lines.proofs.Meant.{outcome-append, outcome_at_end, outcome_after, end_outcome_some, some_next, long_input}
+use Rattle.css_lines.proofs.Meant.{outcome-append, outcome_at_end, outcome_after, end_outcome_some, some_next}
+use Rattle.css_lines.proofs.Meant.{long_input}
 use Rattle.css_app.specs.Scripts.{script_lines}
 use Rattle.css_app.specs.declared.scripts.NoLine.{NoLine}
 

@@ -1,5 +1,6 @@
 -- How the live commands end: a companion's run by a cue sheet, and a television's run by a script.
-use Rattle.std.specs.Prelude.{◌≡◌, ◌⊎◌, ℕ, ◌≤◌, Bool, true, false, List, Option, Some, None, Ok, Err, Result, MatchResult, ⊤}
+use Rattle.std.specs.Prelude.{◌≡◌, ◌⊎◌, ℕ, ◌≤◌, Bool, true, false, List, Option, Some, None}
+use Rattle.std.specs.Prelude.{Ok, Err, Result, MatchResult, ⊤}
 use Rattle.std.specs.Io.KnownBytes.{Consumes, IsAtEnd}
 use Rattle.css_lines.specs.declared.ending.Stop.{Stop}
 use Rattle.css_lines.specs.declared.ending.Stop.TheVariants as stops
@@ -70,8 +71,8 @@ abbrev pub CountsDials : ℕ → ℕ → Status → Type 0
 CountsDials before now (status.Unreachable turns) = HasRisen before now
 CountsDials before now _ = before ≤ now
 
--- The spawner's count of faults has risen where a status says so, and is as it was at `Done` and at a child's status. It
--- never falls.
+-- The spawner's count of faults has risen where a status says so, and is as it was at `Done` and at a child's status.
+-- It never falls.
 abbrev pub CountsSpawns : ℕ → ℕ → Status → Type 0
 CountsSpawns before now status.Done = now ≡ before
 CountsSpawns before now (status.ChildFault None) = HasRisen before now

@@ -40,7 +40,8 @@ returns-in-Ok-prepared-clause-ran g c =
       makes = subst (λ heard. MakesRun c.args.config
           (stage (g.K.Sink.holds c.args.sink.now) (g.O.Outside.told c.args.outside.now) heard)
           (stage (g.K.Sink.holds c.make_run.new.sink) (g.O.Outside.told c.make_run.new.outside)
-          (g.F.Listens.heard c.make_run.new.followers)) c.make_run.result) c.prepare-prepared.ensures c.make_run.ensures.makes;
+          (g.F.Listens.heard c.make_run.new.followers)) c.make_run.result) c.prepare-prepared.ensures
+          c.make_run.ensures.makes;
     })
 
 pub returns-in-Ok-prepared-clause-complete : goal.returns-in-Ok-prepared-clause-complete
