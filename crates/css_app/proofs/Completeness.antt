@@ -1,7 +1,7 @@
 -- A replay of a schedule that no line stops ends before its end only for want of memory, unless a device failed.
-use Rattle.std.proofs.Common.{◌≡◌, ℕ, arith, ap, sym, ◌∙◌, List}
+use Rattle.std.proofs.Common.{ℕ, arith, ap, sym, ◌∙◌, List}
 use Rattle.std.specs.Prelude.{Option}
-use Rattle.css_lines.specs.Meaning.{Outcome, outcome}
+use Rattle.css_lines.specs.Meaning.{Outcome}
 use Rattle.css_lines.specs.Ending.{RanUntil, SourceCounts, SinkCounts}
 use Rattle.css_lines.specs.declared.ending.Stop.{Stop}
 use Rattle.css_lines.specs.declared.ending.Stop.TheVariants.{BadLine, ReadFault, WriteFault, Memory}

@@ -8,3 +8,9 @@ pub mod Generating
 pub mod Surveying
 pub mod Plain
 pub mod Replaying
+pub mod ScriptsTaken
+pub mod SheetsTaken
+pub mod Live
+pub mod LongText
+pub mod TextsTaken
+pub mod Pairs

@@ -18,12 +18,15 @@ use Rattle.css_app.specs.declared.command.Command.{Command}
 use Rattle.css_app.specs.declared.command.Command.TheVariants.{Replay, Agree}
 use Rattle.css_app.specs.declared.replay.Cause.{Cause}
 use Rattle.css_app.specs.declared.replay.Cause.TheVariants as causes
+use Rattle.css_cii.specs.FaultWords.{fault_words}
+use Rattle.css_cii.specs.Names.{json_name}
 use Rattle.css_schedule.specs.FaultWords.{why_words}
 use Rattle.css_schedule.specs.declared.fault.LineWhy.{LineWhy}
 use Rattle.css_schedule.specs.declared.fault.LineWhy.TheVariants.{Long, Form, Absent, Player}
 use Rattle.css_app.specs.declared.status.Status.{Status}
 use Rattle.css_app.specs.declared.status.Status.TheVariants.{Done, Usage, BadLine, Broken, ReadFault, WriteFault}
-use Rattle.css_app.specs.declared.status.Status.TheVariants.{Memory}
+use Rattle.css_app.specs.declared.status.Status.TheVariants.{NetFault, BadCii, Moved, Spent, Unreachable, ChildFault}
+use Rattle.css_app.specs.declared.status.Status.TheVariants.{BadSheet, BadUrl, Memory}
 use Rattle.css_app.specs.Replayed.{replayed}
 
 -- the command of this name
@@ -47,6 +50,14 @@ status_number (BadLine line why) = 2
 status_number (Broken line earlier excess) = 3
 status_number ReadFault = 4
 status_number WriteFault = 5
+status_number NetFault = 6
+status_number (BadCii text fault) = 7
+status_number (Moved property old new) = 8
+status_number (Spent turns) = 9
+status_number (Unreachable turns) = 10
+status_number (ChildFault status) = 11
+status_number (BadSheet line) = 12
+status_number (BadUrl property) = 13
 status_number Memory = 14
 
 -- the words of a status, which stand behind the program's name on standard error
@@ -59,6 +70,15 @@ status_words (Broken line earlier excess) =
     ++ signed_decimal excess
 status_words ReadFault = codes "read fault"
 status_words WriteFault = codes "write fault"
+status_words NetFault = codes "net fault"
+status_words (BadCii text fault) = codes "cii text " ++ decimal text ++ codes ": " ++ fault_words fault
+status_words (Moved property old new) = codes "moved " ++ json_name property
+status_words (Spent turns) = codes "spent after " ++ decimal turns ++ codes " turns"
+status_words (Unreachable turns) = codes "unreachable after " ++ decimal turns ++ codes " turns"
+status_words (ChildFault None) = codes "child fault"
+status_words (ChildFault (Some status)) = codes "child status " ++ signed_decimal status
+status_words (BadSheet line) = codes "sheet line " ++ decimal line
+status_words (BadUrl property) = codes "bad url " ++ json_name property
 status_words Memory = codes "memory"
 
 -- the program's name, the words of a status, and a line feed
@@ -95,6 +115,7 @@ Replays bytes left holds_old holds_new (Broken line earlier excess) =
 Replays bytes left holds_old holds_new ReadFault = RanUntil replayed bytes left holds_old holds_new stops.ReadFault
 Replays bytes left holds_old holds_new WriteFault = RanUntil replayed bytes left holds_old holds_new stops.WriteFault
 Replays bytes left holds_old holds_new Memory = RanUntil replayed bytes left holds_old holds_new stops.Memory
+Replays bytes left holds_old holds_new _ = ⊥
 
 -- the source's count of faults has risen where a read failed, and else is as it was
 abbrev pub CountsReads : ℕ → ℕ → Status → Type 0

@@ -5,3 +5,6 @@ pub mod Headline
 pub mod Generated
 pub mod Surveyed
 pub mod Surveys
+pub mod Scripts
+pub mod Live
+pub mod Pairs

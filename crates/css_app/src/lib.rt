@@ -6,13 +6,25 @@ mod agree_tests;
 mod agreement;
 #[cfg(test)]
 mod both_ends_tests;
+mod child;
 mod command;
+mod driven;
 mod generated;
 #[cfg(test)]
 mod generated_tests;
 pub mod laws;
+mod live_companion;
+mod live_pair;
+#[cfg(test)]
+mod live_tables;
+#[cfg(test)]
+mod live_tests;
+mod live_tv;
 mod program;
 mod replay;
+mod script_text;
+mod scripts;
+mod sheets;
 mod status;
 mod summary;
 mod surveyed;
@@ -20,7 +32,11 @@ mod surveyed;
 mod tests;
 mod told;
 
+pub use child::{Child, address_at};
 pub use css_schedule::LineWhy;
+pub use live_companion::companion;
+pub use live_pair::pair;
+pub use live_tv::tv;
 pub use program::run;
 pub use status::Status;
 pub use told::{Ending, tell};

@@ -1,14 +1,18 @@
+use css_cii::{CiiFault, CiiName};
+use css_num::Text;
 use css_schedule::LineWhy;
 use std::fmt;
 
 /// How a run ended. It is printed in the words of the program's status line.
-#[derive(Clone, Copy, Debug, PartialEq, Eq)]
+#[derive(Debug, Drop, PartialEq, Eq)]
 pub enum Status {
-    /// The input was read to its end, and all output was written.
+    /// The input was read to its end, and all output was written. Of a live command: all reports were written, or all
+    /// turns were made.
     Done,
     /// The words are those of no command. No device was touched.
     Usage,
-    /// This line, counted from 1, is the first one that is refused. The output of the lines before was written.
+    /// This line, counted from 1, is the first one that is refused. The output of the lines before was written. Of a
+    /// television's script it is refused before the run, or by the player when it is due.
     BadLine {
         line: u64,
         why: LineWhy,
@@ -24,9 +28,42 @@ pub enum Status {
     },
     /// A read failed. The output of each line whose line feed was read was written.
     ReadFault,
-    /// A write failed. A part of the output of the lines that were read was written.
+    /// A write failed. A part of the output of the lines that were read, or of the reports that were due, was written.
     WriteFault,
-    /// Memory ran out. A part of the output of the lines that were read was written.
+    /// A call of the network or of the clock failed. Of a dial that failed nothing is told here: it is made again.
+    NetFault,
+    /// The text of the CSS-CII session with this number, counted from 1, has this fault, which is never `Memory`.
+    BadCii {
+        text: u64,
+        fault: CiiFault,
+    },
+    /// A text of the CSS-CII session moves this address, `wcUrl` or `tsUrl`, from one value to another.
+    Moved {
+        property: CiiName,
+        old: Text,
+        new: Text,
+    },
+    /// All turns were made, a dial succeeded, and the last report did not come.
+    Spent {
+        turns: u64,
+    },
+    /// All turns were made, every dial failed, and the last report did not come.
+    Unreachable {
+        turns: u64,
+    },
+    /// The child ended with this status, which isn't 0; or it couldn't be started, or waited for.
+    ChildFault {
+        status: Option<i32>,
+    },
+    /// This line of the cue sheet, counted from 1, is the first one that is outside the grammar.
+    BadSheet {
+        line: u64,
+    },
+    /// This property of the CSS-CII state, `wcUrl` or `tsUrl`, is no address.
+    BadUrl {
+        property: CiiName,
+    },
+    /// Memory ran out. A part of the output of the lines that were read, or of the reports that were due, was written.
     Memory,
 }
 
@@ -45,6 +82,14 @@ impl Status {
             Status::Broken { .. } => 3,
             Status::ReadFault => 4,
             Status::WriteFault => 5,
+            Status::NetFault => 6,
+            Status::BadCii { .. } => 7,
+            Status::Moved { .. } => 8,
+            Status::Spent { .. } => 9,
+            Status::Unreachable { .. } => 10,
+            Status::ChildFault { .. } => 11,
+            Status::BadSheet { .. } => 12,
+            Status::BadUrl { .. } => 13,
             Status::Memory => 14,
         }
     }
@@ -68,6 +113,17 @@ impl fmt::Display for Status {
             } => write!(f, "line {line}: broken with line {earlier} by {excess}"),
             Status::ReadFault => f.write_str("read fault"),
             Status::WriteFault => f.write_str("write fault"),
+            Status::NetFault => f.write_str("net fault"),
+            Status::BadCii { text, fault } => write!(f, "cii text {text}: {fault}"),
+            Status::Moved { property, .. } => write!(f, "moved {property}"),
+            Status::Spent { turns } => write!(f, "spent after {turns} turns"),
+            Status::Unreachable { turns } => write!(f, "unreachable after {turns} turns"),
+            Status::ChildFault { status: None } => f.write_str("child fault"),
+            Status::ChildFault {
+                status: Some(status),
+            } => write!(f, "child status {status}"),
+            Status::BadSheet { line } => write!(f, "sheet line {line}"),
+            Status::BadUrl { property } => write!(f, "bad url {property}"),
             Status::Memory => f.write_str("memory"),
         }
     }

@@ -1,6 +1,7 @@
 ghost use Rattle.std.specs.Prelude.{◌<◌};
 
 use crate::{LineWhy, Status, run, tell};
+use css_cii::{CiiFault, CiiName};
 use css_outside::{Memory, MemorySink, MemorySource, OutFault};
 use css_schedule::PlayerFault;
 use std::alloc::{AllocError, Global};
@@ -93,7 +94,7 @@ fn other_words_are_refused(rt: HostRuntime) -> Result<(), Fail> {
 }
 
 /// A schedule, how its replay ends, and what is printed before.
-#[derive(Clone, Copy)]
+#[derive(Drop)]
 pub(crate) struct Case {
     pub(crate) bytes: &'static [u8],
     pub(crate) status: Status,
@@ -509,7 +510,7 @@ fn a_write_fault_leaves_a_part(rt: HostRuntime) -> Result<(), Fail> {
 }
 
 /// Each status, its exit status, and its line on standard error.
-const TOLD: [(Status, u8, &str); 13] = [
+const TOLD: [(Status, u8, &str); 22] = [
     (Status::Done, 0, ""),
     (Status::Usage, 1, "css: usage\n"),
     (
@@ -579,6 +580,53 @@ const TOLD: [(Status, u8, &str); 13] = [
     ),
     (Status::ReadFault, 4, "css: read fault\n"),
     (Status::WriteFault, 5, "css: write fault\n"),
+    (Status::NetFault, 6, "css: net fault\n"),
+    (
+        Status::BadCii {
+            text: 3,
+            fault: CiiFault::Field(CiiName::ContentId),
+        },
+        7,
+        "css: cii text 3: field contentId\n",
+    ),
+    (
+        Status::Spent { turns: 10_000 },
+        9,
+        "css: spent after 10000 turns\n",
+    ),
+    (
+        Status::Unreachable { turns: 3 },
+        10,
+        "css: unreachable after 3 turns\n",
+    ),
+    (
+        Status::ChildFault { status: None },
+        11,
+        "css: child fault\n",
+    ),
+    (
+        Status::ChildFault {
+            status: Some(-2_147_483_648),
+        },
+        11,
+        "css: child status -2147483648\n",
+    ),
+    (Status::BadSheet { line: 12 }, 12, "css: sheet line 12\n"),
+    (
+        Status::BadUrl {
+            property: CiiName::TsUrl,
+        },
+        13,
+        "css: bad url tsUrl\n",
+    ),
+    (
+        Status::BadCii {
+            text: 1,
+            fault: CiiFault::NotJson,
+        },
+        7,
+        "css: cii text 1: not json\n",
+    ),
     (Status::Memory, 14, "css: memory\n"),
 ];
 

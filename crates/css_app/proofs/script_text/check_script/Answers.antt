@@ -1,0 +1,19 @@
+use Rattle.std.proofs.Common.{ap, subst}
+use Rattle.std.specs.Prelude.{Some}
+use Rattle.css_app.specs.Live.{HasNoScript}
+use Rattle.css_app.proofs.ScriptsTaken.{memory-quiet}
+use Rattle.css_app.proofs.TextsTaken.{is_script}
+use Rattle.css_app.proofs.script_text.check_script.Goals as goal
+
+pub returns-in-Err-clause-quiet : goal.returns-in-Err-clause-quiet
+returns-in-Err-clause-quiet c = memory-quiet
+
+pub returns-in-Ok-take_script-clause-value : goal.returns-in-Ok-take_script-clause-value
+returns-in-Ok-take_script-clause-value c =
+    is_script _ c.args.text.now _ c.in-Ok-take_script.script.items (ap (λ s. Some s.left) c.in-Ok.ensures)
+    c.in-Ok-take_script.ensures.value
+
+pub returns-clause-value : goal.returns-clause-value
+returns-clause-value c =
+    subst (λ left. HasNoScript left c.in-Err-take_script.status) (ap (λ s. Some s.left) c.in-Ok.ensures)
+    c.in-Err-take_script.ensures.value

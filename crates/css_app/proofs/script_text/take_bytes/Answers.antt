@@ -1,0 +1,52 @@
+use Rattle.std.proofs.Common.{inl, inr, refl, subst, sym, take, ◌∙◌, arith}
+use Rattle.std.specs.Io.KnownBytes.{Consumes}
+use Rattle.css_outside.specs.Faults.{HasRisen}
+use Rattle.css_lines.proofs.Endings.{consumes_nothing}
+use Rattle.css_outside.proofs.Known.{consumes_none, consumes_more}
+use Rattle.css_app.proofs.ScriptsTaken.{memory-quiet, read-quiet}
+use Rattle.css_app.proofs.script_text.take_bytes.Goals as goal
+
+pub pieces-init : goal.pieces-init
+pieces-init g c = record {
+  took = subst (λ text. Consumes (g.S.Source.left c.args.source.now) (g.S.Source.left c.args.source.now) text)
+      (sym c.new-text.ensures.items) (consumes_none _);
+  counted = refl;
+}
+
+pub pieces-preserved : goal.pieces-preserved
+pieces-preserved g c = record {
+  took = subst (λ text. Consumes (g.S.Source.left c.args.source.now) (g.S.Source.left c.read.new.self) text)
+      (sym c.in-Ok-extend_from_slice.ensures.items)
+      (consumes_more _ _ _ c.pieces.text.items (take c.in-Ok.count c.read.new.into) c.pieces.invariant.took
+      c.in-Ok.ensures.bytes.0);
+  counted = c.in-Ok.ensures.counted ∙ c.pieces.invariant.counted;
+}
+
+pub returns-in-Err-clause-quiet : goal.returns-in-Err-clause-quiet
+returns-in-Err-clause-quiet g c = read-quiet
+
+pub returns-in-Err-clause-counted : goal.returns-in-Err-clause-counted
+returns-in-Err-clause-counted g c =
+    subst (λ n. HasRisen n (g.S.Source.faults c.read.new.self)) c.pieces.invariant.counted c.in-Err.ensures.counted
+
+pub returns-then-count-eq0-clause-value : goal.returns-then-count-eq0-clause-value
+returns-then-count-eq0-clause-value g c = record {
+  took = consumes_nothing _ _ _ c.pieces.text.items c.read.new.into _ c.pieces.invariant.took c.in-Ok.ensures.bytes.0
+      c.if-count-eq0.true;
+  reached = inl (c.in-Ok.ensures.bytes.1 c.if-count-eq0.true (omega arith));
+}
+
+pub returns-then-count-eq0-clause-counted : goal.returns-then-count-eq0-clause-counted
+returns-then-count-eq0-clause-counted g c = c.in-Ok.ensures.counted ∙ c.pieces.invariant.counted
+
+pub returns-in-Err-extend_from_slice-clause-quiet : goal.returns-in-Err-extend_from_slice-clause-quiet
+returns-in-Err-extend_from_slice-clause-quiet g c = memory-quiet
+
+pub returns-in-Err-extend_from_slice-clause-counted : goal.returns-in-Err-extend_from_slice-clause-counted
+returns-in-Err-extend_from_slice-clause-counted g c = c.in-Ok.ensures.counted ∙ c.pieces.invariant.counted
+
+pub returns-clause-value : goal.returns-clause-value
+returns-clause-value g c = record {
+  took = c.pieces.invariant.took;
+  reached = inr (omega (arith, c.len.ensures, c.pieces-test.false));
+}

@@ -1,0 +1,204 @@
+-- How the live commands end: a companion's run by a cue sheet, and a television's run by a script.
+use Rattle.std.specs.Prelude.{◌≡◌, ◌⊎◌, ℕ, ◌≤◌, Bool, true, false, List, Option, Some, None}
+use Rattle.std.specs.Prelude.{Ok, Err, Result, MatchResult, ⊤}
+use Rattle.std.specs.Io.KnownBytes.{Consumes, IsAtEnd}
+use Rattle.css_lines.specs.declared.ending.Stop.{Stop}
+use Rattle.css_lines.specs.declared.ending.Stop.TheVariants as stops
+use Rattle.css_model.specs.History.{History}
+use Rattle.css_outside.specs.Faults.{HasRisen}
+use Rattle.css_outside.specs.Outsides.{with_entries}
+use Rattle.css_follow.specs.Following.{Seen}
+use Rattle.css_follow.specs.Sheets.{sheet_in}
+use Rattle.css_follow.specs.declared.fault.SheetFault.TheVariants.{Line}
+use Rattle.css_follow.specs.declared.line.Form.{Form}
+use Rattle.css_follow.specs.declared.sheet.Sheet.{Sheet}
+use Rattle.css_drive.specs.CompanionDue as companion
+use Rattle.css_drive.specs.CompanionDue.{IsProperRun}
+use Rattle.css_drive.specs.CompanionRun.{Ran}
+use Rattle.css_drive.specs.Proper.{IsProper, Ends}
+use Rattle.css_drive.specs.TvDue as tv
+use Rattle.css_drive.specs.TvDue.{TvRun}
+use Rattle.css_drive.specs.TvRan.{TvRan}
+use Rattle.css_drive.specs.declared.config.DriveConfig.{DriveConfig}
+use Rattle.css_drive.specs.declared.driven.Driven.{Driven}
+use Rattle.css_drive.specs.declared.driven.Driven.TheVariants as driven
+use Rattle.css_schedule.specs.declared.line.ScriptLine.{ScriptLine}
+use Rattle.css_tv.specs.declared.config.TvConfig.{TvConfig}
+use Rattle.css_app.specs.declared.scripts.NoLine.{NoLine}
+use Rattle.css_app.specs.declared.status.Status.{Status}
+use Rattle.css_app.specs.declared.status.Status.TheVariants as status
+use Rattle.css_app.specs.Ended.{CountsReads, CountsWrites}
+use Rattle.css_app.specs.Scripts.{script_in, why_of}
+
+-- ---- statuses
+-- the status of a run that ended so
+abbrev pub driven_status : Driven → Status
+driven_status driven.Done = status.Done
+driven_status (driven.BadLine line why) = status.BadLine line why
+driven_status driven.WriteFault = status.WriteFault
+driven_status driven.NetFault = status.NetFault
+driven_status (driven.BadCii text fault) = status.BadCii text fault
+driven_status (driven.Moved property old new) = status.Moved property old new
+driven_status (driven.Spent turns) = status.Spent turns
+driven_status (driven.Unreachable turns) = status.Unreachable turns
+driven_status (driven.BadUrl property) = status.BadUrl property
+driven_status driven.Memory = status.Memory
+
+abbrev pub is_write_fault : Driven → Bool
+is_write_fault driven.WriteFault = true
+is_write_fault _ = false
+
+-- the status where a cue sheet was not read
+abbrev pub sheet_status : Stop Form → Status
+sheet_status (stops.BadLine line why) = status.BadSheet line
+sheet_status stops.ReadFault = status.ReadFault
+sheet_status _ = status.Memory
+
+-- the status where a script was not read
+abbrev pub script_status : Stop NoLine → Status
+script_status (stops.BadLine line why) = status.BadLine line (why_of why)
+script_status stops.ReadFault = status.ReadFault
+script_status _ = status.Memory
+
+-- ---- counts of faults
+-- The outside's count of faults of calls other than dials has risen where a call failed, and else is as it was.
+abbrev pub CountsCalls : ℕ → ℕ → Status → Type 0
+CountsCalls before now status.NetFault = HasRisen before now
+CountsCalls before now _ = now ≡ before
+
+-- Where no dial succeeded, the count of failed dials has risen. It never falls.
+abbrev pub CountsDials : ℕ → ℕ → Status → Type 0
+CountsDials before now (status.Unreachable turns) = HasRisen before now
+CountsDials before now _ = before ≤ now
+
+-- The spawner's count of faults has risen where a status says so, and is as it was at `Done` and at a child's status.
+-- It never falls.
+abbrev pub CountsSpawns : ℕ → ℕ → Status → Type 0
+CountsSpawns before now status.Done = now ≡ before
+CountsSpawns before now (status.ChildFault None) = HasRisen before now
+CountsSpawns before now (status.ChildFault (Some ended)) = now ≡ before
+CountsSpawns before now _ = before ≤ now
+
+-- A status that comes before a run tells no fault of the sink, of the outside or of a spawner.
+pub record TellsNoRun (result : Status) : Type 0 where
+  pub writes : (count : ℕ) → CountsWrites count count result
+  pub calls : (count : ℕ) → CountsCalls count count result
+  pub dials : (count : ℕ) → CountsDials count count result
+  pub spawns : (count : ℕ) → CountsSpawns count count result
+
+-- the source's count, where its bytes were taken or a status says why not
+abbrev pub CountsTaking : {T : Type 0} → ℕ → ℕ → Result T Status → Type 0
+CountsTaking before now result = MatchResult result (λ _. now ≡ before) (CountsReads before now)
+
+-- ---- what is read
+-- the source gave these bytes, and has none left
+pub record GivesAll (before now : Option (List ℕ)) (read : List ℕ) : Type 0 where
+  pub took : Consumes before now read
+  pub at_end : IsAtEnd now
+
+-- its bytes are this cue sheet
+pub record GivesSheet (before now : Option (List ℕ)) (sheet : Sheet) : Type 0 where
+  pub read : List ℕ
+  pub all : GivesAll before now read
+  pub is_sheet : sheet_in read ≡ Ok sheet
+
+-- its bytes are this script
+pub record GivesScript (before now : Option (List ℕ)) (script : List ScriptLine) : Type 0 where
+  pub read : List ℕ
+  pub all : GivesAll before now read
+  pub is_script : script_in read ≡ Ok script
+
+-- A cue sheet that was to be read of this source was not: a read failed, a line is outside the grammar, or memory ran
+-- out.
+abbrev pub HasNoSheet : Option (List ℕ) → Status → Type 0
+HasNoSheet left status.ReadFault = ⊤
+HasNoSheet left (status.BadSheet line) = (bytes : List ℕ) → left ≡ Some bytes → sheet_in bytes ≡ Err (Line line)
+HasNoSheet left status.Memory = ⊤
+HasNoSheet left _ = ⊥
+
+-- the same of a script, of which a line is too long or outside the grammar
+abbrev pub HasNoScript : Option (List ℕ) → Status → Type 0
+HasNoScript left status.ReadFault = ⊤
+HasNoScript left (status.BadLine line why) = (bytes : List ℕ) → left ≡ Some bytes → script_in bytes ≡ Err (line, why)
+HasNoScript left status.Memory = ⊤
+HasNoScript left _ = ⊥
+
+-- ---- a companion's run
+-- what there is to see of its devices: what the sink holds, what the outside tells, and what the followers heard
+pub record Stage : Type 0 where
+  pub holds : Option (List ℕ)
+  pub told : Option History
+  pub heard : List Seen
+
+abbrev pub stage : Option (List ℕ) → Option History → List Seen → Stage
+stage holds told heard = record { holds = holds; told = told; heard = heard }
+
+-- a run was made, and the status says how it ended
+pub record MakesRun (config : DriveConfig) (before now : Stage) (result : Status) : Type 0 where
+  pub ended : Driven
+  pub ran : Ran config before.told now.told before.holds now.holds before.heard now.heard ended
+  pub tells : result ≡ driven_status ended
+
+-- no run was made: nothing was asked of the outside, written or heard
+pub record MakesNoRun (left : Option (List ℕ)) (before now : Stage) (result : Status) : Type 0 where
+  pub untouched : now ≡ before
+  pub cause : HasNoSheet left result
+
+-- the source was read to its end, its bytes are a cue sheet, and then a run was made
+pub record RunsBySheet (config : DriveConfig) (left_old left_new : Option (List ℕ)) (before now : Stage)
+    (result : Status) : Type 0 where
+  pub sheet : Sheet
+  pub gives : GivesSheet left_old left_new sheet
+  pub makes : MakesRun config before now result
+
+-- what `companion` comes to
+abbrev pub Companions : DriveConfig → Option (List ℕ) → Option (List ℕ) → Stage → Stage → Status → Type 0
+Companions config left_old left_new before now result =
+    MakesNoRun left_old before now result ⊎ RunsBySheet config left_old left_new before now result
+
+-- the run was made to an end that was due
+pub record IsAsDue (config : DriveConfig) (before now : Option History) (result : Status) : Type 0 where
+  pub history : History
+  pub told : now ≡ with_entries history before
+  pub proper : IsProperRun config history
+  pub ended : Driven
+  pub due : companion.due config history ≡ Ends ended
+  pub tells : result ≡ driven_status ended
+
+-- so it was, unless memory ran out
+abbrev pub EndsAsDue : DriveConfig → Option History → Option History → Status → Type 0
+EndsAsDue config before now result = (result ≡ status.Memory) ⊎ IsAsDue config before now result
+
+-- ---- a television's run
+-- the source was read to its end, its bytes are this script, and a run was made by it
+pub record ServesByScript (config : TvConfig) (turns : ℕ) (left_old left_new : Option (List ℕ))
+    (told_old told_new : Option History) (result : Status) : Type 0 where
+  pub script : List ScriptLine
+  pub gives : GivesScript left_old left_new script
+  pub ended : Driven
+  pub ran : TvRan (record { config = config; turns = turns; script = script }) told_old told_new ended
+  pub tells : result ≡ driven_status ended
+
+-- no run was made, and nothing was asked of the outside
+pub record ServesNone (left : Option (List ℕ)) (told_old told_new : Option History) (result : Status) : Type 0 where
+  pub untouched : told_new ≡ told_old
+  pub cause : HasNoScript left result
+
+-- what `tv` comes to
+abbrev pub Serves : TvConfig → ℕ → Option (List ℕ) → Option (List ℕ) → Option History → Option History → Status → Type 0
+Serves config turns left_old left_new told_old told_new result =
+    ServesNone left_old told_old told_new result
+    ⊎ ServesByScript config turns left_old left_new told_old told_new result
+
+-- the run was made to an end that was due
+pub record IsServedAsDue (run : TvRun) (before now : Option History) (result : Status) : Type 0 where
+  pub history : History
+  pub told : now ≡ with_entries history before
+  pub proper : IsProper (tv.due run) history
+  pub ended : Driven
+  pub due : tv.due run history ≡ Ends ended
+  pub tells : result ≡ driven_status ended
+
+-- so it was, unless memory ran out
+abbrev pub ServesAsDue : TvRun → Option History → Option History → Status → Type 0
+ServesAsDue run before now result = (result ≡ status.Memory) ⊎ IsServedAsDue run before now result

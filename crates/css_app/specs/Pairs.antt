@@ -1,0 +1,137 @@
+-- How a companion's run beside a television ends, which is started as a child.
+use Rattle.std.specs.Prelude.{◌≡◌, ◌⊎◌, ℕ, ◌+◌, ◌<◌, ℤ, pos, Bool, true, false, if◌then◌else◌}
+use Rattle.std.specs.Prelude.{List, [], ◌∷◌, ◌++◌, length, codes, Option, Some, None, Result, Ok, Err, MatchResult, ⊤}
+use Rattle.std.specs.Fmt.{signed_decimal}
+use Rattle.std.specs.Ordering.{int_eq}
+use Rattle.std.specs.Option.{option_map}
+use Rattle.std.specs.Io.KnownBytes.{Consumes, IsAtEnd}
+use Rattle.css_model.specs.History.{Address, History}
+use Rattle.css_outside.specs.Spawners.{Spawned, Started, Finished, TellsSpawned}
+use Rattle.css_outside.specs.declared.fault.OutFault.{OutFault}
+use Rattle.css_outside.specs.declared.fault.OutFault.TheVariants as fault
+use Rattle.css_drive.specs.declared.config.DriveConfig.{DriveConfig}
+use Rattle.css_schedule.specs.declared.line.ScriptLine.{ScriptLine}
+use Rattle.css_app.specs.declared.child.Child.{Child}
+use Rattle.css_app.specs.declared.status.Status.{Status}
+use Rattle.css_app.specs.declared.status.Status.TheVariants as status
+use Rattle.css_app.specs.Live.{GivesAll, HasNoScript, IsAsDue, MakesRun, Stage}
+use Rattle.css_app.specs.Scripts.{script_in}
+
+-- ---- the child
+-- an option with a number
+abbrev pub option_word : List ℕ → ℤ → List ℕ
+option_word name value = name ++ signed_decimal value
+
+abbrev pub follow_words : Bool → List (List ℕ)
+follow_words true = codes "--follow" ∷ []
+follow_words false = []
+
+-- the words with which the television is started, which makes so many turns
+abbrev pub child_words : Child → ℕ → List (List ℕ)
+child_words child turns =
+    (codes "tv" ∷ option_word (codes "--port=") (pos child.port) ∷ option_word (codes "--turns=") (pos turns)
+    ∷ option_word (codes "--precision=") child.precision ∷ option_word (codes "--error=") (pos child.error) ∷ [])
+    ++ follow_words child.follow
+
+-- where its session of CSS-CII is dialled: `ws://127.0.0.1:P/cii`
+abbrev pub address_at : ℕ → Address
+address_at port = record { host = codes "127.0.0.1"; port = port; path = codes "/cii" }
+
+-- what there is to see of the children: what the spawner tells, and how many are running
+pub record Children : Type 0 where
+  pub told : Option (List Spawned)
+  pub running : ℕ
+
+abbrev pub children : Option (List Spawned) → ℕ → Children
+children told running = record { told = told; running = running }
+
+-- ---- statuses
+abbrev pub is_done : Status → Bool
+is_done status.Done = true
+is_done _ = false
+
+-- the status where the companion's run is done, and the child was waited for
+abbrev pub child_status : Result ℤ OutFault → Status
+child_status (Ok ended) = if int_eq ended (pos 0) then status.Done else status.ChildFault (Some ended)
+child_status (Err fault.Failed) = status.ChildFault None
+child_status (Err fault.Memory) = status.Memory
+
+-- a companion's status other than `Done` comes before the child's
+abbrev pub with_child : Status → Result ℤ OutFault → Status
+with_child companion finished = if is_done companion then child_status finished else companion
+
+-- ---- the script's bytes
+-- the source gave these bytes, up to its end or to more than a script has
+pub record GivesUpTo (before now : Option (List ℕ)) (read : List ℕ) : Type 0 where
+  pub took : Consumes before now read
+  pub reached : IsAtEnd now ⊎ (67108864 < length read)
+
+-- these bytes are a script
+abbrev pub IsScript : List ℕ → Type 0
+IsScript bytes = (script : List ScriptLine) × (script_in bytes ≡ Ok script)
+
+-- the source was read to its end, and its bytes, which are these, are a script
+pub record GivesScriptText (before now : Option (List ℕ)) (text : List ℕ) : Type 0 where
+  pub all : GivesAll before now text
+  pub is_script : IsScript text
+
+-- ---- what became of both
+abbrev pub IsNoStart : Status → Type 0
+IsNoStart (status.ChildFault None) = ⊤
+IsNoStart status.Memory = ⊤
+IsNoStart _ = ⊥
+
+-- the child was not started, and no run was made
+pub record StartsNone (before now : Stage) (kids_old kids_new : Children) (result : Status) : Type 0 where
+  pub untouched : now ≡ before
+  pub children : kids_new ≡ kids_old
+  pub cause : IsNoStart result
+
+-- The child was started once with these words and this script, a run was made, and then the child was waited for once.
+pub record RunsBeside (config : DriveConfig) (words : List (List ℕ)) (script : List ℕ) (before now : Stage)
+    (kids_old kids_new : Children) (result : Status) : Type 0 where
+  pub companion : Status
+  pub makes : MakesRun config before now companion
+  pub finished : Result ℤ OutFault
+  pub told : TellsSpawned (option_map (λ told. Started words script ∷ told) kids_old.told) kids_new.told finished
+      Finished
+  pub running : MatchResult finished (λ _. kids_new.running ≡ kids_old.running)
+      (λ _. kids_new.running ≡ kids_old.running + 1)
+  pub tells : result ≡ with_child companion finished
+
+abbrev pub Beside : DriveConfig → List (List ℕ) → List ℕ → Stage → Stage → Children → Children → Status → Type 0
+Beside config words script before now kids_old kids_new result =
+    StartsNone before now kids_old kids_new result
+    ⊎ RunsBeside config words script before now kids_old kids_new result
+
+-- no child was started and no run made, since there is no script, or memory ran out
+pub record PairsNone (left : Option (List ℕ)) (before now : Stage) (kids_old kids_new : Children) (result : Status)
+    : Type 0 where
+  pub untouched : now ≡ before
+  pub children : kids_new ≡ kids_old
+  pub cause : HasNoScript left result
+
+-- the source was read to its end, and a child was to be started with its bytes, which are a script
+pub record PairsByScript (config : DriveConfig) (child : Child) (left_old left_new : Option (List ℕ))
+    (before now : Stage) (kids_old kids_new : Children) (result : Status) : Type 0 where
+  pub text : List ℕ
+  pub gives : GivesScriptText left_old left_new text
+  pub beside : Beside config (child_words child config.turns) text before now kids_old kids_new result
+
+-- what `pair` comes to
+abbrev pub Pairs : DriveConfig → Child → Option (List ℕ) → Option (List ℕ) → Stage → Stage → Children → Children
+    → Status → Type 0
+Pairs config child left_old left_new before now kids_old kids_new result =
+    PairsNone left_old before now kids_old kids_new result
+    ⊎ PairsByScript config child left_old left_new before now kids_old kids_new result
+
+-- the companion's run was made to an end that was due, and the child ended
+pub record ArePairedAsDue (config : DriveConfig) (before now : Option History) (result : Status) : Type 0 where
+  pub companion : Status
+  pub due : IsAsDue config before now companion
+  pub ended : ℤ
+  pub tells : result ≡ with_child companion (Ok ended)
+
+-- so it was, unless memory ran out
+abbrev pub PairsAsDue : DriveConfig → Option History → Option History → Status → Type 0
+PairsAsDue config before now result = (result ≡ status.Memory) ⊎ ArePairedAsDue config before now result

@@ -1,0 +1,64 @@
+ghost use Rattle.std.specs.Prelude.{◌≡◌, ◌++◌, pos, IfOk, OnOk};
+ghost use Rattle.css_app.specs.Pairs as pairs;
+
+use css_num::{Memory, Text};
+use css_outside::Address;
+use std::alloc::Global;
+
+/// The television that is started beside a companion, as a child.
+#[derive(Clone, Copy, Debug, PartialEq, Eq)]
+pub struct Child {
+    /// The port of its wall clock, at most 65,534. The sessions' port is the next one.
+    pub port: u16,
+    /// The precision of its wall clock: 2^precision seconds.
+    pub precision: i8,
+    /// The greatest frequency error of its wall clock in 1/256 ppm.
+    pub error: u32,
+    /// Whether its responses promise follow-ups.
+    pub follow: bool,
+}
+
+/// Where the session of CSS-CII of a child with this port is dialled.
+pub fn address_at(alloc: Global, port: u16) -> Result<Address, Memory>
+    ensures { IfOk result (λ address. address ≡ pairs.address_at port) }
+{
+    Ok(Address {
+        host: Text::of(alloc, b"127.0.0.1")?,
+        port,
+        path: Text::of(alloc, b"/cii")?,
+    })
+}
+
+// An option with a number.
+fn option_word(alloc: Global, name: &[u8], value: i128) -> Result<Text, Memory>
+    ensures { IfOk result (λ word. word ≡ pairs.option_word name.now value) }
+{
+    let mut word = Text::of(alloc, name)?;
+    word.push_number(value)?;
+    Ok(word)
+}
+
+// Adds the word that asks for follow-ups, where they are promised.
+fn add_follow(alloc: Global, words: &mut Vec<Text>, follow: bool) -> Result<(), Memory>
+    ensures { OnOk result (words.new.items ≡ words.old.items ++ pairs.follow_words follow) }
+{
+    if follow {
+        words.push(Text::of(alloc, b"--follow")?)?;
+    }
+    Ok(())
+}
+
+/// The words with which a child is started that makes so many turns.
+pub(crate) fn child_words(alloc: Global, child: &Child, turns: u64) -> Result<Vec<Text>, Memory>
+    ensures { IfOk result (λ words. words.items ≡ pairs.child_words child.now turns) }
+{
+    let mut words = vec![in alloc;
+        Text::of(alloc, b"tv")?,
+        option_word(alloc, b"--port=", i128::from(child.port))?,
+        option_word(alloc, b"--turns=", i128::from(turns))?,
+        option_word(alloc, b"--precision=", i128::from(child.precision))?,
+        option_word(alloc, b"--error=", i128::from(child.error))?,
+    ]?;
+    add_follow(alloc, &mut words, child.follow)?;
+    Ok(words)
+}

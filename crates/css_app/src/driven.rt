@@ -1,0 +1,31 @@
+ghost use Rattle.std.specs.Prelude.{◌≡◌};
+ghost use Rattle.css_app.specs.Live.{driven_status};
+ghost use Rattle.css_app.specs.Live as live;
+
+use crate::status::Status;
+use css_drive::Driven;
+
+/// The status of a run that ended so.
+pub(crate) fn status_of(driven: Driven) -> Status
+    ensures { result ≡ driven_status driven }
+{
+    match driven {
+        Driven::Done => Status::Done,
+        Driven::BadLine { line, why } => Status::BadLine { line, why },
+        Driven::WriteFault => Status::WriteFault,
+        Driven::NetFault => Status::NetFault,
+        Driven::BadCii { text, fault } => Status::BadCii { text, fault },
+        Driven::Moved { property, old, new } => Status::Moved { property, old, new },
+        Driven::Spent { turns } => Status::Spent { turns },
+        Driven::Unreachable { turns } => Status::Unreachable { turns },
+        Driven::BadUrl { property } => Status::BadUrl { property },
+        Driven::Memory => Status::Memory,
+    }
+}
+
+/// Whether a run ended with a failed write.
+pub(crate) fn is_write_fault(driven: &Driven) -> bool
+    ensures { result ≡ live.is_write_fault driven.now }
+{
+    matches!(driven, Driven::WriteFault)
+}

@@ -1,0 +1,82 @@
+ghost use Rattle.std.specs.Prelude.{◌≡◌, List, ℕ, Ok, Some};
+ghost use Rattle.css_drive.specs.Configs.{IsWritable};
+ghost use Rattle.css_follow.specs.Sheets.{sheet_in};
+ghost use Rattle.css_follow.specs.declared.sheet.Sheet.{Sheet};
+ghost use Rattle.css_app.specs.Ended.{CountsReads, CountsWrites, HasNotFailed};
+ghost use Rattle.css_app.specs.Live.{Companions, CountsCalls, CountsDials, EndsAsDue, MakesRun, stage};
+
+use crate::driven::status_of;
+use crate::sheets::take_sheet;
+use crate::status::Status;
+use css_drive::{DriveConfig, Listens, drive_companion};
+use css_num::Memory;
+use css_outside::{Outside, Sink, Source};
+use std::alloc::Global;
+
+/// Makes a companion's run, and tells how it ended.
+pub(crate) fn make_run<K: Sink, O: Outside, F: Listens>(
+    alloc: Global,
+    config: DriveConfig,
+    sink: &mut K,
+    outside: &mut O,
+    followers: &mut F,
+) -> Status
+    requires { IsWritable config }
+    ensures makes { MakesRun config
+        (stage (K.holds sink.old) (O.told outside.old) (F.heard followers.old))
+        (stage (K.holds sink.new) (O.told outside.new) (F.heard followers.new)) result }
+    ensures reads { (count : ℕ) → CountsReads count count result }
+    ensures counted_writes { CountsWrites (K.faults sink.old) (K.faults sink.new) result }
+    ensures counted_calls { CountsCalls (O.counts outside.old).faults (O.counts outside.new).faults result }
+    ensures counted_dials { CountsDials (O.counts outside.old).dial_faults
+        (O.counts outside.new).dial_faults result }
+{
+    status_of(drive_companion(alloc, config, sink, outside, followers))
+}
+
+/// Reads a cue sheet from the source, to its end, and then makes a companion's run, which the followers of the sheet
+/// follow.
+///
+/// `BadSheet` comes exactly at the first line that is outside the grammar of sheets. With it, with `ReadFault`, and
+/// where memory ran out before the run, nothing was asked of the outside, and nothing was written. Then the status says
+/// how the run ended: `Done` with the last report, and `Spent`, or `Unreachable` where no dial succeeded, with the last
+/// turn.
+pub fn companion<S: Source, K: Sink, O: Outside, F: Listens>(
+    alloc: Global,
+    config: DriveConfig,
+    source: &mut S,
+    sink: &mut K,
+    outside: &mut O,
+    followers: &mut F,
+) -> Status
+    requires { IsWritable config }
+    // What became of the sheet and of the run: each report is what the calls of the outside give, and each interval of
+    // it is true.
+    ensures ran { Companions config (S.left source.old) (S.left source.new)
+        (stage (K.holds sink.old) (O.told outside.old) (F.heard followers.old))
+        (stage (K.holds sink.new) (O.told outside.new) (F.heard followers.new)) result }
+    // Over devices that don't fail, dials aside, a run by a sheet ends as its calls say.
+    ensures complete { (bytes : List ℕ) (sheet : Sheet) → S.left source.old ≡ Some bytes
+        → sheet_in bytes ≡ Ok sheet
+        → HasNotFailed (S.faults source.old) (S.faults source.new)
+        → HasNotFailed (K.faults sink.old) (K.faults sink.new)
+        → HasNotFailed (O.counts outside.old).faults (O.counts outside.new).faults
+        → EndsAsDue config (O.told outside.old) (O.told outside.new) result }
+    // A fault is told only where the device has failed, and no other failure of a device goes untold.
+    ensures counted_reads { CountsReads (S.faults source.old) (S.faults source.new) result }
+    ensures counted_writes { CountsWrites (K.faults sink.old) (K.faults sink.new) result }
+    ensures counted_calls { CountsCalls (O.counts outside.old).faults (O.counts outside.new).faults result }
+    ensures counted_dials { CountsDials (O.counts outside.old).dial_faults
+        (O.counts outside.new).dial_faults result }
+{
+    let sheet = match take_sheet(alloc, source) {
+        Ok(sheet) => sheet,
+        Err(status) => return status,
+    };
+    let prepared = followers.prepare(&sheet);
+    drop(sheet);
+    match prepared {
+        Ok(()) => make_run(alloc, config, sink, outside, followers),
+        Err(Memory) => Status::Memory,
+    }
+}

@@ -1,0 +1,310 @@
+//! The rows of the live commands over devices in memory.
+
+/// What the clock reads in a row.
+#[derive(Clone, Copy)]
+pub enum Times {
+    /// 0, 5, 6, 8, 10 and 20.
+    K,
+    /// 0, 1 and 2.
+    Soon,
+    /// 0, 1 and 2 seconds.
+    Seconds,
+}
+
+/// How many reports and turns a row asks for, and how often reports are due.
+#[derive(Clone, Copy)]
+pub enum Amounts {
+    /// Two reports in four turns, 10 ns apart.
+    TwoReports,
+    /// One report in three turns, a second after the first.
+    OneEachSecond,
+}
+
+/// A run: its input, what its devices give, which calls fail, how it is told, and what it writes.
+#[derive(Clone, Copy)]
+pub struct Case {
+    pub name: &'static str,
+    pub input: &'static str,
+    pub times: Times,
+    pub amounts: Amounts,
+    pub datagrams: &'static [&'static [u8]],
+    /// By the number of the session.
+    pub texts: &'static [(u32, &'static str)],
+    pub source_fails: &'static [u64],
+    pub sink_fails: &'static [u64],
+    pub fails: &'static [u64],
+    /// How the children end, and which calls of the spawner fail.
+    pub children: &'static [i32],
+    pub spawner_fails: &'static [u64],
+    pub told: &'static str,
+    pub written: &'static str,
+}
+
+/// A response with the originate value 6, the receive value 5000 and the transmit value 5001.
+const RESPONSE: [u8; 32] = [
+    0, 1, 226, 0, 0, 0, 0, 0, 0, 0, 0, 0, 0, 0, 0, 6, 0, 0, 0, 0, 0, 0, 19, 136, 0, 0, 0, 0, 0, 0,
+    19, 137,
+];
+
+const CII: &str =
+    "{\"timelines\":null,\"tsUrl\":\"ws://127.0.0.1:6678/ts\",\"wcUrl\":\"udp://127.0.0.1:6677\"}";
+
+const TS: &str =
+    "{\"contentTime\":\"900000\",\"timelineSpeedMultiplier\":1,\"wallClockTime\":\"0\"}";
+
+const TWO_INTERVALS: &str = "1 ticks 900000 900000\n2 ticks 900000 900000\n";
+
+/// Two reports, of an answer and a control timestamp, in 20 calls.
+pub const K: Case = Case {
+    name: "two intervals",
+    input: "",
+    times: Times::K,
+    amounts: Amounts::TwoReports,
+    datagrams: &[&RESPONSE],
+    texts: &[(1, CII), (2, TS)],
+    source_fails: &[],
+    sink_fails: &[],
+    fails: &[],
+    children: &[],
+    spawner_fails: &[],
+    told: "",
+    written: TWO_INTERVALS,
+};
+
+/// A television that isn't reached, and no report before the last turn.
+const UNREACHED: Case = Case {
+    name: "every dial fails",
+    times: Times::Soon,
+    amounts: Amounts::OneEachSecond,
+    datagrams: &[],
+    texts: &[],
+    fails: &[2, 4, 6],
+    told: "css: unreachable after 3 turns\n",
+    written: "",
+    ..K
+};
+
+/// Runs of `companion`.
+pub const COMPANIONS: &[Case] = &[
+    Case {
+        name: "each follower of a sheet is told",
+        input: "cue 900000 start\nmeter 1\n",
+        written: "1 ticks 900000 900000\ncue start passed\nwidth 0\n2 ticks 900000 900000\n",
+        ..K
+    },
+    UNREACHED,
+    Case {
+        name: "a report falls due though every dial fails",
+        times: Times::Seconds,
+        told: "",
+        written: "1 none NoAnswer\n",
+        ..UNREACHED
+    },
+    Case {
+        name: "a dial succeeds and the turns are spent",
+        fails: &[],
+        told: "css: spent after 3 turns\n",
+        ..UNREACHED
+    },
+    Case {
+        name: "a text is no object",
+        texts: &[(1, "[]")],
+        fails: &[],
+        told: "css: cii text 1: not object\n",
+        ..UNREACHED
+    },
+    Case {
+        name: "an address is none",
+        texts: &[(1, "{\"wcUrl\":\"http://h/\"}")],
+        fails: &[],
+        told: "css: bad url wcUrl\n",
+        ..UNREACHED
+    },
+    Case {
+        name: "an address is moved",
+        texts: &[
+            (1, "{\"wcUrl\":\"udp://127.0.0.1:6677\"}"),
+            (1, "{\"wcUrl\":\"udp://127.0.0.1:7000\"}"),
+        ],
+        fails: &[],
+        told: "css: moved wcUrl\n",
+        ..UNREACHED
+    },
+    Case {
+        name: "the clock fails",
+        fails: &[1],
+        told: "css: net fault\n",
+        ..UNREACHED
+    },
+    Case {
+        name: "a line of the sheet lacks its name",
+        input: "meter 1\ncue start\n",
+        told: "css: sheet line 2\n",
+        written: "",
+        ..K
+    },
+    Case {
+        name: "the source fails",
+        source_fails: &[1],
+        told: "css: read fault\n",
+        written: "",
+        ..K
+    },
+    Case {
+        name: "the sink fails at the second report",
+        sink_fails: &[2],
+        told: "css: write fault\n",
+        written: "1 ticks 900000 900000\n",
+        ..K
+    },
+];
+
+/// Runs of `tv`, which makes one turn over an outside that has nothing: `listen`, `now`, `take_datagram`, `accept`.
+pub const TELEVISIONS: &[Case] = &[
+    Case {
+        name: "an empty script",
+        ..K
+    },
+    Case {
+        name: "a script that is carried out in part",
+        input: "0 programme dvb://1\n0 change 1\n9 speed 0",
+        ..K
+    },
+    Case {
+        name: "the player refuses a line",
+        input: "0 speed 1\n",
+        told: "css: line 1: no programme\n",
+        ..K
+    },
+    Case {
+        name: "a line is outside the grammar",
+        input: "0 programme dvb://1\n0 play 1\n",
+        told: "css: line 2: form\n",
+        ..K
+    },
+    Case {
+        name: "the source fails",
+        source_fails: &[1],
+        told: "css: read fault\n",
+        ..K
+    },
+    Case {
+        name: "listening fails",
+        fails: &[1],
+        told: "css: net fault\n",
+        ..K
+    },
+    Case {
+        name: "the clock fails",
+        fails: &[2],
+        told: "css: net fault\n",
+        ..K
+    },
+    Case {
+        name: "taking a datagram fails",
+        fails: &[3],
+        told: "css: net fault\n",
+        ..K
+    },
+    Case {
+        name: "accepting fails",
+        fails: &[4],
+        told: "css: net fault\n",
+        ..K
+    },
+];
+
+/// Runs of `pair`.
+pub const PAIRS: &[Case] = &[
+    Case {
+        input: "0 programme dvb://1\n",
+        ..K
+    },
+    Case {
+        name: "the child ends with 3",
+        children: &[3],
+        told: "css: child status 3\n",
+        ..K
+    },
+    Case {
+        name: "the child ends with a status below 0",
+        children: &[-1],
+        told: "css: child status -1\n",
+        ..K
+    },
+    Case {
+        name: "starting the child fails",
+        spawner_fails: &[1],
+        told: "css: child fault\n",
+        written: "",
+        ..K
+    },
+    Case {
+        name: "waiting for the child fails",
+        spawner_fails: &[2],
+        told: "css: child fault\n",
+        ..K
+    },
+    Case {
+        name: "the companion's status comes before the child's",
+        children: &[3],
+        ..UNREACHED
+    },
+    Case {
+        name: "the companion's status comes before the spawner's fault",
+        spawner_fails: &[2],
+        ..UNREACHED
+    },
+    Case {
+        name: "a line is outside the grammar",
+        input: "0 play 1\n",
+        told: "css: line 1: form\n",
+        written: "",
+        ..K
+    },
+    Case {
+        name: "what the player would refuse is left to the child",
+        input: "0 speed 1\n",
+        children: &[2],
+        told: "css: child status 2\n",
+        ..K
+    },
+    Case {
+        name: "the source fails",
+        source_fails: &[1],
+        told: "css: read fault\n",
+        written: "",
+        ..K
+    },
+    Case {
+        name: "the sink fails",
+        sink_fails: &[1],
+        told: "css: write fault\n",
+        written: "",
+        ..K
+    },
+];
+
+/// Each call of the outside of a pair, and what is written where that call fails and how it is told.
+pub const FAILING: &[(u64, &str, &str)] = &[
+    (1, "css: net fault\n", ""),
+    (2, "css: spent after 4 turns\n", "1 none NoAnswer\n"),
+    (3, "css: net fault\n", ""),
+    (4, "css: net fault\n", ""),
+    (5, "css: spent after 4 turns\n", "1 none NoAnswer\n"),
+    (6, "", "1 none NoTimestamp\n2 ticks 900000 900000\n"),
+    (7, "css: net fault\n", ""),
+    (8, "css: net fault\n", ""),
+    (9, "css: net fault\n", ""),
+    (10, "css: net fault\n", ""),
+    (11, "css: net fault\n", ""),
+    (12, "css: net fault\n", ""),
+    (13, "css: net fault\n", ""),
+    (14, "css: net fault\n", ""),
+    (15, "css: net fault\n", "1 ticks 900000 900000\n"),
+    (16, "css: net fault\n", "1 ticks 900000 900000\n"),
+    (17, "css: net fault\n", "1 ticks 900000 900000\n"),
+    (18, "css: net fault\n", "1 ticks 900000 900000\n"),
+    (19, "css: net fault\n", TWO_INTERVALS),
+    (20, "css: net fault\n", TWO_INTERVALS),
+];

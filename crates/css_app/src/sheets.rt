@@ -1,0 +1,37 @@
+ghost use Rattle.std.specs.Prelude.{◌≡◌, IfErr, MatchResult};
+ghost use Rattle.css_app.specs.Live.{CountsTaking, GivesSheet, HasNoSheet, TellsNoRun, sheet_status};
+
+use crate::status::Status;
+use css_follow::{Form, Sheet, SheetLines};
+use css_lines::{PIECE, Stop, drive};
+use css_outside::{NeverFailsSink, Source};
+use std::alloc::Global;
+
+// The status where a cue sheet was not read. The sink of its reader never fails.
+fn status_of(stop: Stop<Form>) -> Status
+    ensures { result ≡ sheet_status stop }
+{
+    match stop {
+        Stop::BadLine { line, .. } => Status::BadSheet { line },
+        Stop::ReadFault => Status::ReadFault,
+        Stop::WriteFault | Stop::Memory => Status::Memory,
+    }
+}
+
+/// Reads the cue sheet that the source has, to the source's end.
+pub(crate) fn take_sheet<S: Source>(alloc: Global, source: &mut S) -> Result<Sheet, Status>
+    ensures value { MatchResult result (GivesSheet (S.left source.old) (S.left source.new))
+        (HasNoSheet (S.left source.old)) }
+    ensures quiet { IfErr result TellsNoRun }
+    ensures counted { CountsTaking (S.faults source.old) (S.faults source.new) result }
+{
+    let mut unused = match NeverFailsSink::new(alloc, PIECE) {
+        Ok(sink) => sink,
+        Err(_) => return Err(Status::Memory),
+    };
+    let mut lines = SheetLines::new(alloc);
+    match drive(alloc, source, &mut unused, &mut lines) {
+        Ok(()) => Ok(lines.sheet()),
+        Err(stop) => Err(status_of(stop)),
+    }
+}
