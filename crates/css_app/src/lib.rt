@@ -21,6 +21,8 @@ mod tests;
 mod told;
 
 pub use css_schedule::LineWhy;
+pub use generated::generate;
 pub use program::run;
 pub use status::Status;
+pub use surveyed::survey;
 pub use told::{Ending, tell};
