@@ -15,6 +15,8 @@ use Rattle.css_companion.specs.declared.report.Report.{Report}
 use Rattle.css_companion.specs.declared.report.Report.TheVariants as reports
 use Rattle.css_schedule.specs.Ranges.{IsVerb, IsLine}
 use Rattle.css_schedule.specs.declared.header.Header.{Header}
+use Rattle.css_schedule.specs.declared.fault.LineFault.{LineFault}
+use Rattle.css_schedule.specs.declared.line.Line.{Line}
 use Rattle.css_schedule.specs.declared.line.Verb.{Verb}
 use Rattle.css_schedule.specs.declared.line.Verb.TheVariants.{Ask, Take, Give, Land, Wall, Print}
 use Rattle.css_schedule.specs.declared.line.Verb.TheVariants.{Programme, Timeline, Viewer}
@@ -182,6 +184,21 @@ takes old new older now stands few world header summary = record {
       ∙ counts_on (told_at new.world.header older now) (told_of new.world.header older);
   few = omega (arith, few);
 }
+
+-- so it does by a world that it keeps
+pub takes_by : (old new : Surveyor) (world : World) (older : List Numbered) (now : Numbered) → Stands old older
+    → length older < 200000 → new.world ≡ world → worlds.StandsFor world (now ∷ older)
+    → world.header ≡ old.world.header → new.summary ≡ counted_with (told_at world.header older now) old.summary
+    → Stands new (now ∷ older)
+takes_by old new world older now stands few same stood header summary =
+    takes old new older now stands few
+    (subst (λ (w : World). worlds.StandsFor w (now ∷ older)) (sym same) stood)
+    (ap (λ (w : World). w.header) same ∙ header)
+    (summary ∙ ap (λ (w : World). counted_with (told_at w.header older now) old.summary) (sym same))
+
+-- a text is read as one line
+pub same_line : (read : Result Line LineFault) (a b : Line) → read ≡ Ok a → read ≡ Ok b → a ≡ b
+same_line read a b p q = cc
 
 -- ---- generated lines
 -- one line more

@@ -27,7 +27,7 @@ fn write_lines<K: Sink>(alloc: Global, seed: u64, lines: u64, sink: &mut K) -> R
 }
 
 /// Writes the schedule of so many lines, 9 to 200,000, that is generated of the seed.
-pub(crate) fn generate<K: Sink>(alloc: Global, seed: u64, lines: u64, sink: &mut K) -> Status
+pub fn generate<K: Sink>(alloc: Global, seed: u64, lines: u64, sink: &mut K) -> Status
     requires least { 9 ≤ lines }
     requires most { lines ≤ 200000 }
     ensures writes { Writes (schedule_text seed lines) (K.holds sink.old) (K.holds sink.new) result }

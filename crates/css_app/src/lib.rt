@@ -34,9 +34,11 @@ mod told;
 
 pub use child::{Child, address_at};
 pub use css_schedule::LineWhy;
+pub use generated::generate;
 pub use live_companion::companion;
 pub use live_pair::pair;
 pub use live_tv::tv;
 pub use program::run;
 pub use status::Status;
+pub use surveyed::survey;
 pub use told::{Ending, tell};

@@ -20,7 +20,6 @@ use crate::status::Status;
 use crate::summary::Summary;
 use css_companion::Report;
 use css_gen::Generator;
-use css_gen::laws::{generated_lines_are_accepted, generated_lines_are_read};
 use css_num::Memory;
 use css_outside::{OutFault, Sink, write_all};
 use css_schedule::{Line, LineFault, Start, Verb, read_header, read_line};
@@ -162,8 +161,6 @@ fn survey_lines(alloc: Global, seed: u64, lines: u64) -> Result<Summary, Memory>
     requires most { lines ≤ 200000 }
     ensures { IfOk result (λ summary. summary ≡ surveyed.summary_of (surveyed.told_in seed lines)) }
 {
-    generated_lines_are_read();
-    generated_lines_are_accepted();
     let mut generator = Generator::new(seed, lines, 1);
     let Some(first) = generator.next_line(alloc)? else {
         unreachable!()
@@ -193,7 +190,7 @@ fn write_survey<K: Sink>(alloc: Global, seed: u64, lines: u64, sink: &mut K) -> 
 /// Replays the schedule of so many lines, 9 to 200,000, that is generated of the seed, and writes one line: how many
 /// lines there are, how many reports are printed for them, how many of these are intervals, and the greatest width of
 /// an interval. No line is kept longer than it is replayed.
-pub(crate) fn survey<K: Sink>(alloc: Global, seed: u64, lines: u64, sink: &mut K) -> Status
+pub fn survey<K: Sink>(alloc: Global, seed: u64, lines: u64, sink: &mut K) -> Status
     requires least { 9 ≤ lines }
     requires most { lines ≤ 200000 }
     ensures writes { Writes (survey_text seed lines) (K.holds sink.old) (K.holds sink.new) result }
