@@ -378,6 +378,18 @@ use Rattle.drives.proofs.script.Given as goal
 abbrev pub invariant-loop-line : goal.invariant-loop-line
 invariant-loop-line l = All IsScriptLine l.lines.items
 """,
+    "script/Answers.antt": """-- The line that was read is a line of a script.
+use Rattle.std.proofs.Common.{subst, sym}
+use Rattle.std.specs.Prelude.{All}
+use Rattle.std.proofs.lemmas.List.Elements.{All-push}
+use Rattle.css_schedule.specs.Ranges.{IsScriptLine}
+use Rattle.drives.proofs.script.Goals as goal
+
+pub loop-line-preserved : goal.loop-line-preserved
+loop-line-preserved c =
+    subst (All IsScriptLine) (sym c.in_ok-push-in-Ok.ensures.items)
+    (All-push IsScriptLine c.loop-line.lines.items _ c.loop-line.invariant c.in-Ok.ensures.range)
+""",
 }
 
 
