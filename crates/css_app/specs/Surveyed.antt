@@ -1,5 +1,6 @@
 -- What a survey counts of the lines of a schedule: the reports that a replay prints for them.
-use Rattle.std.specs.Prelude.{ℕ, ℤ, ◌≡◌, ◌≤◌, ◌+◌, ◌-◌, ◌-ℤ◌, unsigned_abs, max, List, [], ◌∷◌, ◌++◌, Option, Some, None}
+use Rattle.std.specs.Prelude.{ℕ, ℤ, ◌≡◌, ◌≤◌, ◌+◌, ◌-◌, ◌-ℤ◌, unsigned_abs, max, List, [], ◌∷◌, ◌++◌, Option, Some}
+use Rattle.std.specs.Prelude.{None}
 use Rattle.std.specs.Prelude.{codes, decimal}
 use Rattle.std.specs.Option.{option_map, option_to_list}
 use Rattle.css_companion.specs.Printed.{line_of}

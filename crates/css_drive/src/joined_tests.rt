@@ -90,8 +90,8 @@ fn request(reading: u64) -> [u8; 32] {
     bytes
 }
 
-/// The requests of all turns but the first, in which the wall clock isn't dialled yet, and the last, which ends with its
-/// report.
+/// The requests of all turns but the first, in which the wall clock isn't dialled yet, and the last, which ends with
+/// its report.
 fn requests(alloc: Global) -> Result<Vec<Sending>, Memory> {
     let mut requests = Vec::new(alloc);
     for turn in 2..TURNS {
