@@ -4,10 +4,6 @@ pub mod Promise
 pub mod Runs
 pub mod Standing
 pub mod Completeness
-pub mod Generating
-pub mod Surveying
-pub mod Plain
-pub mod Replaying
 pub mod ScriptsTaken
 pub mod SheetsTaken
 pub mod Live

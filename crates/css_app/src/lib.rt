@@ -9,10 +9,6 @@ mod both_ends_tests;
 mod child;
 mod command;
 mod driven;
-mod generated;
-#[cfg(test)]
-mod generated_tests;
-pub mod laws;
 mod live_companion;
 mod live_pair;
 #[cfg(test)]
@@ -26,19 +22,15 @@ mod script_text;
 mod scripts;
 mod sheets;
 mod status;
-mod summary;
-mod surveyed;
 #[cfg(test)]
 mod tests;
 mod told;
 
 pub use child::{Child, address_at};
 pub use css_schedule::LineWhy;
-pub use generated::generate;
 pub use live_companion::companion;
 pub use live_pair::pair;
 pub use live_tv::tv;
 pub use program::run;
 pub use status::Status;
-pub use surveyed::survey;
 pub use told::{Ending, tell};

@@ -11,4 +11,3 @@ pub mod Lanes
 pub mod Standing
 pub mod Truth
 pub mod FaultWords
-pub mod Asked
