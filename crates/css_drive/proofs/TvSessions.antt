@@ -19,7 +19,8 @@ use Rattle.css_drive.specs.TvRan.{AreNumbered}
 use Rattle.css_drive.specs.TvTold.{sent_to, is_gone, lost, SessionsAreTold}
 use Rattle.css_drive.specs.declared.driven.Driven.TheVariants as driven
 use Rattle.css_drive.proofs.TvNews.{news_of}
-use Rattle.css_drive.proofs.TvTellings.{Good, clock_good, opening_good, datagram_good, heard_good, wrote_good, hung_good}
+use Rattle.css_drive.proofs.TvTellings.{Good, clock_good, opening_good, datagram_good, heard_good, wrote_good}
+use Rattle.css_drive.proofs.TvTellings.{hung_good}
 use Rattle.css_drive.proofs.TvTellings.{hung_due}
 
 -- ---- what is due where nothing is owed
