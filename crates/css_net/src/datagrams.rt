@@ -1,0 +1,193 @@
+ghost use Rattle.std.specs.Prelude.{IfOk};
+ghost use Rattle.css_outside.specs.Outsides.{FitsRoom};
+
+use crate::faults::no_room;
+use crate::names::any_port;
+use crate::tally::FIRST_SENDER;
+use crate::watch::Watch;
+use css_outside::OutFault;
+use mio::net::UdpSocket;
+use std::alloc::Global;
+use std::io;
+use std::io::ErrorKind;
+use std::net::{Net, SocketAddr};
+
+/// The name under which the socket of datagrams is watched.
+pub(crate) const DATAGRAMS: usize = 0;
+/// How many senders are remembered. The answer to a request goes out before the next is taken.
+const MOST_SENDERS: usize = 64;
+
+/// Who sent a datagram.
+#[derive(Clone, Copy, Debug)]
+struct Sender {
+    peer: u32,
+    address: SocketAddr,
+}
+
+/// Those who sent datagrams to a socket that listens.
+#[derive(Debug, Drop)]
+struct Senders {
+    list: Vec<Sender>,
+    oldest: usize,
+    next: u32,
+}
+
+impl Senders {
+    fn new(alloc: Global) -> Senders {
+        Senders {
+            list: Vec::new(alloc),
+            oldest: 0,
+            next: FIRST_SENDER,
+        }
+    }
+
+    /// The number of a sender: its own, or the next where it isn't remembered. The oldest one makes room.
+    fn peer_of(&mut self, address: SocketAddr) -> Result<u32, OutFault> {
+        if let Some(sender) = self.list.iter().find(|sender| sender.address == address) {
+            return Ok(sender.peer);
+        }
+        let peer = self.next;
+        let sender = Sender { peer, address };
+        if self.list.len() < MOST_SENDERS {
+            self.list.push(sender).map_err(no_room)?;
+        } else if let Some(place) = self.list.get_mut(self.oldest) {
+            *place = sender;
+            self.oldest = (self.oldest + 1) % MOST_SENDERS;
+        }
+        self.next = peer.checked_add(1).unwrap_or(FIRST_SENDER);
+        Ok(peer)
+    }
+
+    fn address_of(&self, peer: u32) -> Option<SocketAddr> {
+        let sender = self.list.iter().find(|sender| sender.peer == peer)?;
+        Some(sender.address)
+    }
+}
+
+/// Whom the socket hears.
+#[derive(Debug, Drop)]
+enum Heard {
+    /// Anyone, as a television does.
+    Anyone(Senders),
+    /// One peer, as a companion does.
+    One(u32),
+}
+
+/// The socket of datagrams. What the network does to one, or says of one, is no fault: datagrams may be lost.
+#[derive(Debug, Drop)]
+pub(crate) struct Datagrams {
+    socket: UdpSocket,
+    named: bool,
+    hears: Heard,
+}
+
+impl Datagrams {
+    /// A socket that listens at an address.
+    pub(crate) fn listening<R: Net>(
+        alloc: Global,
+        rt: &R,
+        watch: &mut Watch,
+        address: SocketAddr,
+    ) -> io::Result<Datagrams> {
+        let mut socket = UdpSocket::bind(rt, address)?;
+        watch.add(rt, &mut socket, DATAGRAMS)?;
+        Ok(Datagrams {
+            socket,
+            named: false,
+            hears: Heard::Anyone(Senders::new(alloc)),
+        })
+    }
+
+    /// A socket for the datagrams of one peer.
+    pub(crate) fn linked<R: Net>(
+        rt: &R,
+        watch: &mut Watch,
+        address: SocketAddr,
+        peer: u32,
+    ) -> io::Result<Datagrams> {
+        let mut socket = UdpSocket::bind(rt, any_port(address))?;
+        socket.connect(address)?;
+        watch.add(rt, &mut socket, DATAGRAMS)?;
+        Ok(Datagrams {
+            socket,
+            named: false,
+            hears: Heard::One(peer),
+        })
+    }
+
+    /// Something has come.
+    pub(crate) fn name(&mut self) {
+        self.named = true;
+    }
+
+    /// The next datagram, where one has come: its sender and its length, at most 64.
+    pub(crate) fn take(&mut self, into: &mut [u8; 64]) -> Result<Option<(u32, usize)>, OutFault>
+        ensures room { IfOk result FitsRoom }
+    {
+        if !self.named {
+            return Ok(None);
+        }
+        match self.socket.recv_from(into.as_mut_slice()) {
+            Ok((count, address)) => match self.sender_at(address)? {
+                Some(peer) => Ok(Some((peer, count))),
+                None => Ok(None),
+            },
+            Err(error) => {
+                if error.kind() == ErrorKind::WouldBlock {
+                    self.named = false;
+                }
+                nothing_came(&error)
+            }
+        }
+    }
+
+    /// The number of the sender at an address. A datagram from port 0 can't be answered.
+    fn sender_at(&mut self, address: SocketAddr) -> Result<Option<u32>, OutFault> {
+        match &mut self.hears {
+            Heard::One(peer) => Ok(Some(*peer)),
+            Heard::Anyone(senders) => {
+                if address.port() == 0 {
+                    return Ok(None);
+                }
+                Ok(Some(senders.peer_of(address)?))
+            }
+        }
+    }
+
+    /// Sends a datagram to a peer that was linked, or that sent one not long ago. What the system refuses to send is
+    /// lost; an error that an earlier datagram left is told first, so it is tried twice.
+    pub(crate) fn send(&self, peer: u32, bytes: &[u8; 32]) -> Result<(), OutFault> {
+        let to = match &self.hears {
+            Heard::One(one) if *one == peer => None,
+            Heard::One(_) => return Err(OutFault::Failed),
+            Heard::Anyone(senders) => match senders.address_of(peer) {
+                Some(address) => Some(address),
+                None => return Err(OutFault::Failed),
+            },
+        };
+        for _ in 0..2 {
+            let sent = match to {
+                None => self.socket.send(bytes),
+                Some(address) => self.socket.send_to(bytes, address),
+            };
+            match sent {
+                Ok(_) => return Ok(()),
+                Err(error) if error.kind() == ErrorKind::OutOfMemory => return Err(
+                    OutFault::Memory,
+                ),
+                Err(_) => {}
+            }
+        }
+        Ok(())
+    }
+}
+
+/// An error of a read says that nothing came, or what the network told of an earlier datagram.
+fn nothing_came(error: &io::Error) -> Result<Option<(u32, usize)>, OutFault>
+    ensures room { IfOk result FitsRoom }
+{
+    if error.kind() == ErrorKind::OutOfMemory {
+        return Err(OutFault::Memory);
+    }
+    Ok(None)
+}

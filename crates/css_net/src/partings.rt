@@ -1,0 +1,118 @@
+//! Sessions that are over here, until the peer has been told.
+//!
+//! A socket that is closed while something that came is unread resets its connection, and a peer may then lose the
+//! close frame that says why. So what waits is written out, and what still comes is read past for a short time.
+
+use crate::faults::{no_room, would_wait};
+use crate::session::Line;
+use crate::sockets::NetRuntime;
+use css_outside::OutFault;
+use std::alloc::Global;
+use tungstenite::Error;
+
+/// How long a session may part, in nanoseconds.
+const LONGEST_PARTING: u64 = 1_000_000_000;
+/// How many sessions may part at once; of more, the oldest is cut off.
+const MOST_PARTING: usize = 64;
+
+/// A session that parts.
+#[derive(Drop)]
+struct Parting<'a, R: NetRuntime> {
+    peer: u32,
+    line: Line<'a, R>,
+    since: u64,
+    /// Something may have come, or the stream may take more.
+    named: bool,
+    /// All was written, and the peer knows that nothing more will come.
+    told: bool,
+    /// Nothing is left to be done.
+    over: bool,
+}
+
+impl<'a, R: NetRuntime> Parting<'a, R> {
+    fn write_out(&mut self) {
+        match self.line.flush() {
+            Ok(()) => {
+                self.told = true;
+                self.over = self.line.metered().end_writing().is_err();
+            }
+            Err(Error::Io(error)) if would_wait(error.kind()) => {}
+            Err(_) => self.over = true,
+        }
+    }
+
+    fn turn(&mut self) {
+        if !self.told {
+            self.write_out();
+        }
+        match self.line.skip() {
+            Ok(0) => self.over = true,
+            Ok(_) => {}
+            Err(error) if would_wait(error.kind()) => self.named = false,
+            Err(_) => self.over = true,
+        }
+    }
+}
+
+/// The sessions that part, the oldest first.
+#[derive(Drop)]
+pub(crate) struct Partings<'a, R: NetRuntime> {
+    list: Vec<Parting<'a, R>>,
+}
+
+impl<'a, R: NetRuntime> Partings<'a, R> {
+    /// None parts.
+    pub(crate) fn new(alloc: Global) -> Partings<'a, R> {
+        Partings {
+            list: Vec::new(alloc),
+        }
+    }
+
+    /// Adds a session.
+    pub(crate) fn add(&mut self, peer: u32, line: Line<'a, R>, since: u64) -> Result<(), OutFault> {
+        if self.list.len() >= MOST_PARTING {
+            drop(self.list.remove(0));
+        }
+        let parting = Parting {
+            peer,
+            line,
+            since,
+            named: true,
+            told: false,
+            over: false,
+        };
+        self.list.push(parting).map_err(no_room)
+    }
+
+    /// Something has come on a session that parts.
+    pub(crate) fn name(&mut self, peer: u32) {
+        for parting in self.list.iter_mut() {
+            if parting.peer == peer {
+                parting.named = true;
+            }
+        }
+    }
+
+    /// Whether something was left to be read.
+    pub(crate) fn has_work(&self) -> bool {
+        self.list.iter().any(|parting| parting.named)
+    }
+
+    /// Whether none parts.
+    pub(crate) fn is_empty(&self) -> bool {
+        self.list.is_empty()
+    }
+
+    /// One turn of each, at this time.
+    pub(crate) fn turn(&mut self, now: u64) {
+        for parting in self.list.iter_mut() {
+            if parting.named {
+                parting.turn();
+            }
+            if now.saturating_sub(parting.since) >= LONGEST_PARTING {
+                parting.over = true;
+            }
+        }
+        self.list.retain(|parting| !parting.over);
+    }
+}

@@ -1,0 +1,142 @@
+ghost use Rattle.std.specs.Prelude.{◌≡◌, ◌+◌, ◌^◌, ◌<◌, ◌≤◌, IfOk, IfSome, Option};
+ghost use Rattle.css_outside.specs.Outsides.{CountsPlain, CountsClock, CountsDial, CountsOpening, IsSession};
+
+use css_model::LIMIT;
+use css_outside::{Clocked, Kind, OutFault};
+use std::marker::Model;
+
+/// The numbers of peers that sent datagrams to a television begin here. Those of sessions stay below.
+pub(crate) const FIRST_SENDER: u32 = 2_147_483_648;
+
+/// What an outside counts: its faults, the greatest reading, and the greatest number of a peer.
+#[derive(Debug, Drop)]
+pub(crate) struct Tally {
+    dial_faults: u64,
+    faults: u64,
+    last: u64,
+    peers: u32,
+}
+
+impl Model for Tally {
+    ghost use Rattle.css_outside.specs.Outsides.{Counts};
+
+    ghost Value = { Counts };
+
+    ghost view = { λ tally. record {
+      dial_faults = tally.dial_faults;
+      faults = tally.faults;
+      last = tally.last;
+      peers = tally.peers;
+    } };
+}
+
+impl Tally {
+    /// Nothing has failed, was read or was opened.
+    pub(crate) fn new() -> Tally {
+        Tally {
+            dial_faults: 0,
+            faults: 0,
+            last: 0,
+            peers: 0,
+        }
+    }
+
+    /// The number of the next peer. There is one for each turn of the longest run.
+    pub(crate) fn next_peer(&self) -> Option<u32>
+        ensures { IfSome result (λ peer. self.now.peers < peer) }
+    {
+        if self.peers < FIRST_SENDER - 1 {
+            Some(self.peers + 1)
+        } else {
+            None
+        }
+    }
+
+    /// Counts a call that opens nothing and reads no clock.
+    pub(crate) fn plain<T: Drop>(&mut self, outcome: Result<T, OutFault>) -> Result<T, OutFault>
+        ensures counted { CountsPlain self.old self.new result }
+        ensures same { result ≡ outcome }
+    {
+        if let Err(OutFault::Failed) = &outcome {
+            self.faults = self.faults.saturating_add(1);
+        }
+        outcome
+    }
+
+    /// Counts a dial that failed.
+    pub(crate) fn not_dialled(&mut self, fault: OutFault) -> Result<u32, OutFault>
+        ensures counted { CountsDial self.old self.new result }
+    {
+        if let OutFault::Failed = fault {
+            self.dial_faults = self.dial_faults.saturating_add(1);
+        }
+        Err(fault)
+    }
+
+    /// Counts a dial, which opened this peer's session where it is Ok.
+    pub(crate) fn dialled(
+        &mut self,
+        peer: u32,
+        outcome: Result<(), OutFault>,
+    ) -> Result<u32, OutFault>
+        requires { self.old.peers < peer }
+        ensures counted { CountsDial self.old self.new result }
+    {
+        match outcome {
+            Ok(()) => {
+                self.peers = peer;
+                Ok(peer)
+            }
+            Err(fault) => self.not_dialled(fault),
+        }
+    }
+
+    /// Counts a look for a session that a peer opened, which is this peer's where one came.
+    pub(crate) fn opened(
+        &mut self,
+        peer: u32,
+        outcome: Result<Option<Kind>, OutFault>,
+    ) -> Result<Option<(u32, Kind)>, OutFault>
+        requires above { self.old.peers < peer }
+        requires kind { IfOk outcome (λ came. IfSome came IsSession) }
+        ensures counted { CountsOpening self.old self.new result }
+    {
+        match outcome {
+            Ok(None) => Ok(None),
+            Ok(Some(kind)) => {
+                self.peers = peer;
+                Ok(Some((peer, kind)))
+            }
+            Err(OutFault::Failed) => {
+                self.faults = self.faults.saturating_add(1);
+                Err(OutFault::Failed)
+            }
+            Err(OutFault::Memory) => Err(OutFault::Memory),
+        }
+    }
+
+    /// Counts a reading of the clock. Where the machine slept, it is above each before; none is above the limit.
+    pub(crate) fn read(&mut self, monotone: u64, slept: bool) -> Result<Clocked, OutFault>
+        ensures counted { CountsClock self.old self.new result }
+    {
+        let reading = self.reading_of(monotone, slept);
+        if reading >= LIMIT {
+            self.faults = self.faults.saturating_add(1);
+            return Err(OutFault::Failed);
+        }
+        self.last = reading;
+        Ok(Clocked { reading, slept })
+    }
+
+    /// What is told where the monotone clock shows this.
+    fn reading_of(&self, monotone: u64, slept: bool) -> u64
+        ensures rises { self.now.last ≤ result }
+        ensures above { slept ≡ true → self.now.last < result }
+    {
+        if slept && monotone <= self.last {
+            self.last.saturating_add(1)
+        } else {
+            monotone.max(self.last)
+        }
+    }
+}
