@@ -11,7 +11,7 @@ import base64, hashlib, json, multiprocessing, os, queue, select, socket, struct
 
 HERE = os.path.dirname(os.path.abspath(__file__))
 PROGRAM = sys.argv[1:] or [os.path.join(HERE, "..", "css")]
-PORT = 20000 + os.getpid() % 10000 * 4
+PORT = 10000 + os.getpid() % 600 * 32
 SCRIPT = "0 programme dvb://1.2.3\n0 timeline 1 urn:dvb:css:timeline:pts 1 90000 900000\n0 change 1\n"
 SETUP = {"contentIdStem": "dvb://", "timelineSelector": "urn:dvb:css:timeline:pts"}
 LONGEST_TURN = 20_000_000

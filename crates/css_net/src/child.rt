@@ -1,7 +1,8 @@
 //! This same program as a child.
-ghost use Rattle.std.specs.Prelude.{◌≡◌, ◌+◌, ◌<◌, None, length};
+ghost use Rattle.std.specs.Prelude.{◌≡◌, ◌+◌, ◌<◌, None, length, OnOk, OnErr};
+ghost use Rattle.css_outside.specs.Faults.{CountsCall};
 
-use crate::faults::fault_of;
+use crate::faults::{fault_of, no_memory, no_room};
 use css_num::Text;
 use css_outside::{OutFault, Spawner};
 use std::alloc::Global;
@@ -16,6 +17,8 @@ use std::{env, io, str};
 pub struct ChildSpawner<'a, R: Processes> {
     alloc: Global,
     rt: &'a R,
+    /// Another program's file, for tests.
+    program: Option<&'static str>,
     children: Vec<Child<R::Started>>,
     faults: u64,
 }
@@ -26,6 +29,23 @@ impl<'a, R: Processes> ChildSpawner<'a, R> {
         ChildSpawner {
             alloc,
             rt,
+            program: None,
+            children: Vec::new(alloc),
+            faults: 0,
+        }
+    }
+
+    /// Starts this program in place of its own.
+    #[cfg(test)]
+    pub(crate) fn of_program(
+        alloc: Global,
+        rt: &'a R,
+        program: &'static str,
+    ) -> ChildSpawner<'a, R> {
+        ChildSpawner {
+            alloc,
+            rt,
+            program: Some(program),
             children: Vec::new(alloc),
             faults: 0,
         }
@@ -43,9 +63,8 @@ fn own_program<R: Env + Files>(alloc: Global, rt: &R) -> io::Result<Command> {
     Ok(Command::new(alloc, program.as_path())?)
 }
 
-/// The command of a child with these words.
-fn command_of<R: Env + Files>(alloc: Global, rt: &R, words: &[Text]) -> io::Result<Command> {
-    let mut command = own_program(alloc, rt)?;
+/// Gives a command these words, and a standard input.
+fn with_words(mut command: Command, words: &[Text]) -> io::Result<Command> {
     for word in words {
         match str::from_utf8(word.bytes()) {
             Ok(word) => {
@@ -67,13 +86,12 @@ fn feed<W: Write>(stdin: &mut W, input: &[u8]) -> io::Result<()> {
 }
 
 /// Starts a child, and gives it all of its standard input.
-fn begin<R: Processes + Env + Files>(
-    alloc: Global,
+fn begin<R: Processes>(
     rt: &R,
-    words: &[Text],
+    mut command: Command,
     input: &[u8],
 ) -> io::Result<Child<R::Started>> {
-    let mut child = command_of(alloc, rt, words)?.spawn(rt)?;
+    let mut child = command.spawn(rt)?;
     let fed = match &mut child.stdin {
         Some(stdin) => feed(stdin, input),
         None => Ok(()),
@@ -89,16 +107,32 @@ fn begin<R: Processes + Env + Files>(
 }
 
 impl<'a, R: Processes + Env + Files> ChildSpawner<'a, R> {
-    fn begin_one(&mut self, words: &[Text], input: &[u8]) -> Result<(), OutFault> {
-        let child = begin(self.alloc, self.rt, words, input).map_err(fault_of)?;
-        match self.children.push(child) {
-            Ok(()) => Ok(()),
-            Err(_) => Err(OutFault::Memory),
-        }
+    /// The command of a child with these words.
+    fn command_of(&self, words: &[Text]) -> io::Result<Command> {
+        let command = match self.program {
+            Some(program) => Command::new(self.alloc, program)?,
+            None => own_program(self.alloc, self.rt)?,
+        };
+        with_words(command, words)
+    }
+
+    fn begin_one(&mut self, words: &[Text], input: &[u8]) -> Result<(), OutFault>
+        ensures ok { OnOk result (length self.new.children.items ≡ length self.old.children.items + 1) }
+        ensures err { OnErr result (length self.new.children.items ≡ length self.old.children.items) }
+        ensures faults { self.new.faults ≡ self.old.faults }
+    {
+        let command = self.command_of(words).map_err(fault_of)?;
+        self.children.reserve(1).map_err(no_memory)?;
+        let child = begin(self.rt, command, input).map_err(fault_of)?;
+        self.children.push(child).map_err(no_room)
     }
 
     /// The exit status of the child that was started last. One that a signal ended has none, and counts as a fault.
-    fn end_last(&mut self) -> Result<i32, OutFault> {
+    fn end_last(&mut self) -> Result<i32, OutFault>
+        ensures ok { OnOk result (length self.new.children.items + 1 ≡ length self.old.children.items) }
+        ensures err { OnErr result (length self.new.children.items ≡ length self.old.children.items) }
+        ensures faults { self.new.faults ≡ self.old.faults }
+    {
         let Some(child) = self.children.last_mut() else {
             return Err(OutFault::Failed);
         };
@@ -111,7 +145,11 @@ impl<'a, R: Processes + Env + Files> ChildSpawner<'a, R> {
         }
     }
 
-    fn counted<T: Drop>(&mut self, outcome: Result<T, OutFault>) -> Result<T, OutFault> {
+    fn counted<T: Drop>(&mut self, outcome: Result<T, OutFault>) -> Result<T, OutFault>
+        ensures counted { CountsCall self.old.faults self.new.faults result }
+        ensures same { result ≡ outcome }
+        ensures children { self.new.children ≡ self.old.children }
+    {
         if let Err(OutFault::Failed) = &outcome {
             self.faults = self.faults.saturating_add(1);
         }

@@ -52,7 +52,7 @@ impl Senders {
             self.list.push(sender).map_err(no_room)?;
         } else if let Some(place) = self.list.get_mut(self.oldest) {
             *place = sender;
-            self.oldest = (self.oldest + 1) % MOST_SENDERS;
+            self.oldest = self.oldest.saturating_add(1) % MOST_SENDERS;
         }
         self.next = peer.checked_add(1).unwrap_or(FIRST_SENDER);
         Ok(peer)

@@ -4,7 +4,7 @@ use crate::faults::{no_memory, would_wait};
 use crate::metered::Metered;
 use crate::sockets::NetRuntime;
 use css_num::{Memory, Text};
-use css_outside::{OutFault, Wrote};
+use css_outside::OutFault;
 use mio::net::TcpStream;
 use std::alloc::Global;
 use std::io;
@@ -16,8 +16,8 @@ use tungstenite::{
 
 /// The greatest length of a text that is taken, in bytes.
 const LONGEST_MESSAGE: usize = 262_144;
-/// The most bytes that may wait to be written to a peer.
-const MOST_WAITING: usize = 4_194_304;
+/// How many bytes may wait to be written to a peer. What is said counts until the peer has taken all of it.
+pub(crate) const MOST_WAITING: usize = 4_194_304;
 /// How many bytes one read asks for.
 const READ_SIZE: usize = 16_384;
 /// How many reads a session has in one turn.
@@ -52,6 +52,17 @@ pub(crate) enum Came {
     End,
 }
 
+/// What became of a text that was said.
+#[derive(Clone, Copy, Debug, PartialEq, Eq)]
+pub(crate) enum Put {
+    /// All that was said so far was written.
+    Written,
+    /// Some of it waits until the peer takes more.
+    Waits,
+    /// The session is over.
+    Gone,
+}
+
 /// The stream of a session, at the one end or the other.
 #[derive(Drop)]
 pub(crate) enum Line<'a, R: NetRuntime> {
@@ -69,7 +80,7 @@ impl<'a, R: NetRuntime> Line<'a, R> {
     }
 
     /// Says a text. What the stream doesn't take at once goes out in later turns.
-    pub(crate) fn say(&mut self, alloc: Global, text: &str) -> Result<Wrote, OutFault> {
+    pub(crate) fn say(&mut self, alloc: Global, text: &str) -> Result<Put, OutFault> {
         match self {
             Line::Served(socket) => say(alloc, socket, text),
             Line::Dialled(socket) => say(alloc, socket, text),
@@ -122,11 +133,15 @@ impl<'a, R: NetRuntime> Line<'a, R> {
     }
 }
 
+// A peer that doesn't take what it was sent is not read: its pings would have more and more wait for it.
 fn hear<K: MaskKeys + Drop>(
     alloc: Global,
     socket: &mut WebSocket<Metered, K>,
 ) -> Result<Came, Memory> {
     socket.get_mut().begin_turn(READS);
+    if let Err(error) = socket.flush() {
+        return hear_nothing(socket, error);
+    }
     match socket.read() {
         Ok(Message::Text(text)) => Ok(Came::Text(Text::of(alloc, text.as_str().as_bytes())?)),
         Ok(Message::Close(_)) => {
@@ -166,12 +181,12 @@ fn say<K: MaskKeys + Drop>(
     alloc: Global,
     socket: &mut WebSocket<Metered, K>,
     text: &str,
-) -> Result<Wrote, OutFault> {
+) -> Result<Put, OutFault> {
     let message = Message::text(alloc, text).map_err(no_memory)?;
     match socket.send(message) {
-        Ok(()) => Ok(Wrote::Sent),
-        Err(Error::Io(error)) if would_wait(error.kind()) => Ok(Wrote::Sent),
+        Ok(()) => Ok(Put::Written),
+        Err(Error::Io(error)) if would_wait(error.kind()) => Ok(Put::Waits),
         Err(Error::OutOfMemory) => Err(OutFault::Memory),
-        Err(_) => Ok(Wrote::Gone),
+        Err(_) => Ok(Put::Gone),
     }
 }

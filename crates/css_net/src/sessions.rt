@@ -1,5 +1,5 @@
 use crate::faults::no_room;
-use crate::session::{Came, Line};
+use crate::session::{Came, Line, MOST_WAITING, Put};
 use crate::sockets::NetRuntime;
 use css_outside::{Heard, OutFault, Wrote};
 use std::alloc::Global;
@@ -11,6 +11,8 @@ struct Session<'a, R: NetRuntime> {
     line: Line<'a, R>,
     /// Something may have come that was not read yet.
     named: bool,
+    /// How many bytes were said since all was written.
+    waiting: usize,
 }
 
 impl<'a, R: NetRuntime> Session<'a, R> {
@@ -28,6 +30,19 @@ impl<'a, R: NetRuntime> Session<'a, R> {
             }
             Came::End => Ok(Heard::Closed),
         }
+    }
+
+    /// Says a text. A peer that takes too little for too long is gone.
+    fn say(&mut self, alloc: Global, text: &str) -> Result<Wrote, OutFault> {
+        match self.line.say(alloc, text)? {
+            Put::Written => self.waiting = 0,
+            Put::Waits => self.waiting = self.waiting.saturating_add(text.len()),
+            Put::Gone => return Ok(Wrote::Gone),
+        }
+        if self.waiting > MOST_WAITING {
+            return Ok(Wrote::Gone);
+        }
+        Ok(Wrote::Sent)
     }
 }
 
@@ -53,6 +68,7 @@ impl<'a, R: NetRuntime> Sessions<'a, R> {
             peer,
             line,
             named: true,
+            waiting: 0,
         };
         self.list.push(session).map_err(no_room)
     }
@@ -97,7 +113,7 @@ impl<'a, R: NetRuntime> Sessions<'a, R> {
     pub(crate) fn say(&mut self, peer: u32, text: &str) -> Result<Wrote, OutFault> {
         let alloc = self.alloc;
         match self.session_of(peer) {
-            Some(session) => session.line.say(alloc, text),
+            Some(session) => session.say(alloc, text),
             None => Ok(Wrote::Gone),
         }
     }

@@ -235,7 +235,7 @@ impl<'a, R: NetRuntime> Sockets<'a, R> {
             self.gather(Duration::ZERO)?;
         }
         if let Some(taken) = self.take_named(into)? {
-            self.in_a_row += 1;
+            self.in_a_row = self.in_a_row.saturating_add(1);
             return Ok(Some(taken));
         }
         self.in_a_row = 0;

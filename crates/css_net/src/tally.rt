@@ -18,6 +18,7 @@ pub(crate) struct Tally {
 }
 
 impl Model for Tally {
+    ghost use Rattle.std.specs.Prelude.{◌<◌};
     ghost use Rattle.css_outside.specs.Outsides.{Counts};
 
     ghost Value = { Counts };
@@ -28,6 +29,8 @@ impl Model for Tally {
       last = tally.last;
       peers = tally.peers;
     } };
+
+    ghost invariant = { λ tally. tally.last < 4294967296000000000 };
 }
 
 impl Tally {
@@ -134,7 +137,7 @@ impl Tally {
         ensures above { slept ≡ true → self.now.last < result }
     {
         if slept && monotone <= self.last {
-            self.last.saturating_add(1)
+            self.last + 1
         } else {
             monotone.max(self.last)
         }

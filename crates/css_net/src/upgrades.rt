@@ -1,5 +1,7 @@
 //! Sessions that peers open: their connections, and the handshakes that make them WebSockets.
 
+ghost use Rattle.css_outside.specs.Outsides.{IsSession};
+
 use crate::faults::no_room;
 use crate::metered::Metered;
 use crate::session::{ServedSocket, limits};
@@ -54,7 +56,9 @@ impl Service {
         }
     }
 
-    pub(crate) fn kind(self) -> Kind {
+    pub(crate) fn kind(self) -> Kind
+        ensures { IsSession result }
+    {
         match self {
             Service::Cii => Kind::Cii,
             Service::Ts => Kind::Ts,
