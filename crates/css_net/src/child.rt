@@ -133,10 +133,12 @@ impl<'a, R: Processes + Env + Files> ChildSpawner<'a, R> {
         ensures err { OnErr result (length self.new.children.items ≡ length self.old.children.items) }
         ensures faults { self.new.faults ≡ self.old.faults }
     {
-        let Some(child) = self.children.last_mut() else {
+        let count = self.children.len();
+        if count == 0 {
             return Err(OutFault::Failed);
-        };
-        match child.wait().map_err(fault_of)?.code() {
+        }
+        let ended = self.children[count - 1].wait().map_err(fault_of)?;
+        match ended.code() {
             Some(status) => {
                 drop(self.children.pop());
                 Ok(status)
@@ -150,10 +152,14 @@ impl<'a, R: Processes + Env + Files> ChildSpawner<'a, R> {
         ensures same { result ≡ outcome }
         ensures children { self.new.children ≡ self.old.children }
     {
-        if let Err(OutFault::Failed) = &outcome {
-            self.faults = self.faults.saturating_add(1);
+        match outcome {
+            Ok(value) => Ok(value),
+            Err(OutFault::Failed) => {
+                self.faults = self.faults.saturating_add(1);
+                Err(OutFault::Failed)
+            }
+            Err(OutFault::Memory) => Err(OutFault::Memory),
         }
-        outcome
     }
 }
 

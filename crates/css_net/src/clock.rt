@@ -14,13 +14,13 @@ pub(crate) struct Clocks {
     pub(crate) monotone: u64,
     /// `CLOCK_REALTIME`: it goes on in a sleep. A person, or a time service, may set it.
     pub(crate) system: u64,
-    ghost monotone_below: { monotone < 4294967296000000000 },
-    ghost system_below: { system < 4294967296000000000 },
+    ghost monotone_below: { monotone < LIMIT },
+    ghost system_below: { system < LIMIT },
 }
 
 /// A time in nanoseconds, where it is below 2^32 seconds.
 fn nanos_of(time: Duration) -> Option<u64>
-    ensures { IfSome result (λ nanos. nanos < 4294967296000000000) }
+    ensures { IfSome result (λ nanos. nanos < LIMIT) }
 {
     let nanos = time.as_nanos();
     if nanos < u128::from(LIMIT) {
@@ -32,7 +32,7 @@ fn nanos_of(time: Duration) -> Option<u64>
 
 /// The monotone clock.
 pub(crate) fn monotone(clock: &impl Clock) -> Option<u64>
-    ensures { IfSome result (λ nanos. nanos < 4294967296000000000) }
+    ensures { IfSome result (λ nanos. nanos < LIMIT) }
 {
     match clock.monotonic() {
         Ok(time) => nanos_of(time),

@@ -1,4 +1,5 @@
-ghost use Rattle.std.specs.Prelude.{◌≡◌, ◌+◌, ◌^◌, ◌<◌, ◌≤◌, IfOk, IfSome, Option};
+ghost use Rattle.std.specs.Prelude.{◌≡◌, ◌<◌, ◌≤◌, true, IfOk, IfSome};
+ghost use Rattle.css_outside.specs.Faults.{HasRisen};
 ghost use Rattle.css_outside.specs.Outsides.{CountsPlain, CountsClock, CountsDial, CountsOpening, IsSession};
 
 use css_model::LIMIT;
@@ -30,7 +31,7 @@ impl Model for Tally {
       peers = tally.peers;
     } };
 
-    ghost invariant = { λ tally. tally.last < 4294967296000000000 };
+    ghost invariant = { λ tally. tally.last < LIMIT };
 }
 
 impl Tally {
@@ -55,25 +56,40 @@ impl Tally {
         }
     }
 
+    /// Counts a fault of a call other than a dial.
+    fn fail(&mut self)
+        ensures risen { HasRisen self.old.faults self.new.faults }
+        ensures others { self.new ≡ record self.old { faults = self.new.faults } }
+    {
+        self.faults = self.faults.saturating_add(1);
+    }
+
     /// Counts a call that opens nothing and reads no clock.
     pub(crate) fn plain<T: Drop>(&mut self, outcome: Result<T, OutFault>) -> Result<T, OutFault>
         ensures counted { CountsPlain self.old self.new result }
         ensures same { result ≡ outcome }
     {
-        if let Err(OutFault::Failed) = &outcome {
-            self.faults = self.faults.saturating_add(1);
+        match outcome {
+            Ok(value) => Ok(value),
+            Err(OutFault::Failed) => {
+                self.fail();
+                Err(OutFault::Failed)
+            }
+            Err(OutFault::Memory) => Err(OutFault::Memory),
         }
-        outcome
     }
 
-    /// Counts a dial that failed.
+    /// Counts a dial that gave no session.
     pub(crate) fn not_dialled(&mut self, fault: OutFault) -> Result<u32, OutFault>
         ensures counted { CountsDial self.old self.new result }
     {
-        if let OutFault::Failed = fault {
-            self.dial_faults = self.dial_faults.saturating_add(1);
+        match fault {
+            OutFault::Failed => {
+                self.dial_faults = self.dial_faults.saturating_add(1);
+                Err(OutFault::Failed)
+            }
+            OutFault::Memory => Err(OutFault::Memory),
         }
-        Err(fault)
     }
 
     /// Counts a dial, which opened this peer's session where it is Ok.
@@ -111,7 +127,7 @@ impl Tally {
                 Ok(Some((peer, kind)))
             }
             Err(OutFault::Failed) => {
-                self.faults = self.faults.saturating_add(1);
+                self.fail();
                 Err(OutFault::Failed)
             }
             Err(OutFault::Memory) => Err(OutFault::Memory),
@@ -124,7 +140,7 @@ impl Tally {
     {
         let reading = self.reading_of(monotone, slept);
         if reading >= LIMIT {
-            self.faults = self.faults.saturating_add(1);
+            self.fail();
             return Err(OutFault::Failed);
         }
         self.last = reading;
@@ -136,10 +152,9 @@ impl Tally {
         ensures rises { self.now.last ≤ result }
         ensures above { slept ≡ true → self.now.last < result }
     {
-        if slept && monotone <= self.last {
-            self.last + 1
-        } else {
-            monotone.max(self.last)
+        if monotone > self.last {
+            return monotone;
         }
+        if slept { self.last + 1 } else { self.last }
     }
 }
