@@ -1,7 +1,7 @@
 ghost use Rattle.std.specs.Prelude.{IfOk};
 ghost use Rattle.css_outside.specs.Outsides.{FitsRoom};
 
-use crate::faults::no_room;
+use crate::faults::{fault_of, no_room};
 use crate::names::any_port;
 use crate::tally::FIRST_SENDER;
 use crate::watch::Watch;
@@ -11,9 +11,10 @@ use std::alloc::Global;
 use std::io;
 use std::io::ErrorKind;
 use std::net::{Net, SocketAddr};
+use std::time::{Clock, Duration};
 
-/// The name under which the socket of datagrams is watched.
-pub(crate) const DATAGRAMS: usize = 0;
+/// The name under which the socket is watched.
+const DATAGRAMS: usize = 0;
 /// How many senders are remembered. The answer to a request goes out before the next is taken.
 const MOST_SENDERS: usize = 64;
 
@@ -74,9 +75,11 @@ enum Heard {
 }
 
 /// The socket of datagrams. What the network does to one, or says of one, is no fault: datagrams may be lost.
-#[derive(Debug, Drop)]
+#[derive(Drop)]
 pub(crate) struct Datagrams {
     socket: UdpSocket,
+    /// Waits for this socket alone, so that nothing on a session ends a pause.
+    watch: Watch,
     named: bool,
     hears: Heard,
 }
@@ -86,38 +89,47 @@ impl Datagrams {
     pub(crate) fn listening<R: Net>(
         alloc: Global,
         rt: &R,
-        watch: &mut Watch,
         address: SocketAddr,
     ) -> io::Result<Datagrams> {
-        let mut socket = UdpSocket::bind(rt, address)?;
-        watch.add(rt, &mut socket, DATAGRAMS)?;
-        Ok(Datagrams {
-            socket,
-            named: false,
-            hears: Heard::Anyone(Senders::new(alloc)),
-        })
+        let socket = UdpSocket::bind(rt, address)?;
+        Datagrams::watched(alloc, rt, socket, Heard::Anyone(Senders::new(alloc)))
     }
 
     /// A socket for the datagrams of one peer.
     pub(crate) fn linked<R: Net>(
+        alloc: Global,
         rt: &R,
-        watch: &mut Watch,
         address: SocketAddr,
         peer: u32,
     ) -> io::Result<Datagrams> {
-        let mut socket = UdpSocket::bind(rt, any_port(address))?;
+        let socket = UdpSocket::bind(rt, any_port(address))?;
         socket.connect(address)?;
+        Datagrams::watched(alloc, rt, socket, Heard::One(peer))
+    }
+
+    fn watched<R: Net>(
+        alloc: Global,
+        rt: &R,
+        mut socket: UdpSocket,
+        hears: Heard,
+    ) -> io::Result<Datagrams> {
+        let mut watch = Watch::new(alloc);
         watch.add(rt, &mut socket, DATAGRAMS)?;
         Ok(Datagrams {
             socket,
+            watch,
             named: false,
-            hears: Heard::One(peer),
+            hears,
         })
     }
 
-    /// Something has come.
-    pub(crate) fn name(&mut self) {
-        self.named = true;
+    /// Waits until a datagram comes, or the pause is over.
+    pub(crate) fn wait<R: Clock>(&mut self, rt: &R, pause: Duration) -> Result<(), OutFault> {
+        if !self.named {
+            let named = self.watch.wait(rt, pause).map_err(fault_of)?;
+            self.named = named.iter().any(|name| *name == DATAGRAMS);
+        }
+        Ok(())
     }
 
     /// The next datagram, where one has come: its sender and its length, at most 64.

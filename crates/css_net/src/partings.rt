@@ -93,11 +93,6 @@ impl<'a, R: NetRuntime> Partings<'a, R> {
         }
     }
 
-    /// Whether something was left to be read.
-    pub(crate) fn has_work(&self) -> bool {
-        self.list.iter().any(|parting| parting.named)
-    }
-
     /// Whether none parts.
     pub(crate) fn is_empty(&self) -> bool {
         self.list.is_empty()

@@ -21,7 +21,7 @@ pub(crate) const MOST_WAITING: usize = 4_194_304;
 /// How many bytes one read asks for.
 const READ_SIZE: usize = 16_384;
 /// How many reads a session has in one turn.
-const READS: u32 = 4;
+const READS: u32 = 2;
 
 /// The limits of each session.
 pub(crate) fn limits() -> WebSocketConfig {

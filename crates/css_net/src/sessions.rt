@@ -95,11 +95,6 @@ impl<'a, R: NetRuntime> Sessions<'a, R> {
         }
     }
 
-    /// Whether something that has come was not read yet.
-    pub(crate) fn has_work(&self) -> bool {
-        self.list.iter().any(|session| session.named)
-    }
-
     /// What has come on a session. One that isn't there is closed.
     pub(crate) fn hear(&mut self, peer: u32) -> Result<Heard, OutFault> {
         let alloc = self.alloc;

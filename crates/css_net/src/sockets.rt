@@ -3,7 +3,7 @@ ghost use Rattle.std.specs.Prelude.{IfOk, IfSome};
 ghost use Rattle.css_outside.specs.Outsides.{FitsRoom, IsSession};
 
 use crate::clock::monotone;
-use crate::datagrams::{DATAGRAMS, Datagrams};
+use crate::datagrams::Datagrams;
 use crate::dials::Dials;
 use crate::faults::fault_of;
 use crate::names::addresses_of;
@@ -11,7 +11,7 @@ use crate::partings::Partings;
 use crate::session::Line;
 use crate::sessions::Sessions;
 use crate::upgrades::{FIRST_UPGRADE, Listener, Service, Upgrades};
-use crate::watch::Watch;
+use crate::watch::{NOBODY, Watch};
 use css_num::Text;
 use css_outside::{Address, Heard, Kind, OutFault, Wrote};
 use std::alloc::Global;
@@ -26,8 +26,6 @@ use tungstenite::CloseCode;
 const PAUSE_MILLIS: u64 = 4;
 /// The name of the session of peer 0. The names of sessions end below those of handshakes.
 const FIRST_SESSION: usize = 16;
-/// How many datagrams are taken at once before the sessions are looked after.
-const MOST_IN_A_ROW: u32 = 8;
 
 /// What the sockets need of the runtime.
 pub trait NetRuntime: Net + Clock + RandomSource {}
@@ -40,8 +38,9 @@ pub(crate) struct Sockets<'a, R: NetRuntime> {
     alloc: Global,
     rt: &'a R,
     watch: Watch,
+    /// Whether the watch was not asked since the last look for a datagram.
+    stale: bool,
     datagrams: Option<Datagrams>,
-    in_a_row: u32,
     upgrades: Upgrades,
     dials: Dials<'a, R>,
     sessions: Sessions<'a, R>,
@@ -60,8 +59,8 @@ impl<'a, R: NetRuntime> Sockets<'a, R> {
             alloc,
             rt,
             watch: Watch::new(alloc),
+            stale: true,
             datagrams: None,
-            in_a_row: 0,
             upgrades: Upgrades::new(alloc),
             dials: Dials::new(alloc),
             sessions: Sessions::new(alloc),
@@ -73,14 +72,13 @@ impl<'a, R: NetRuntime> Sockets<'a, R> {
         monotone(self.rt).unwrap_or(0)
     }
 
-    // ---- the one wait
+    // ---- what has come
 
     fn mark(&mut self, name: usize) {
-        if name == DATAGRAMS {
-            if let Some(datagrams) = &mut self.datagrams {
-                datagrams.name();
-            }
-        } else if name < FIRST_SESSION || name >= FIRST_UPGRADE {
+        if name == NOBODY {
+            return;
+        }
+        if name < FIRST_SESSION || name >= FIRST_UPGRADE {
             self.upgrades.name(name);
         } else if let Ok(peer) = u32::try_from(name - FIRST_SESSION) {
             if !self.sessions.name(peer) {
@@ -89,17 +87,9 @@ impl<'a, R: NetRuntime> Sockets<'a, R> {
         }
     }
 
-    fn has_work(&self) -> bool {
-        self.sessions.has_work() || self.upgrades.has_work() || self.partings.has_work()
-    }
-
-    /// Notes on which sockets something has come. Where there is nothing to do it waits for that, up to the pause.
+    /// Waits until something comes on a session, or the pause is over, and notes where it came.
     fn gather(&mut self, pause: Duration) -> Result<(), OutFault> {
-        let pause = if self.has_work() {
-            Duration::ZERO
-        } else {
-            pause
-        };
+        self.stale = false;
         let named = self.watch.wait(self.rt, pause).map_err(fault_of)?;
         for name in named {
             self.mark(name);
@@ -111,9 +101,21 @@ impl<'a, R: NetRuntime> Sockets<'a, R> {
         Ok(())
     }
 
-    /// A pause in which nothing is to be done.
+    /// Notes once in each turn what has come on the sessions.
+    fn look(&mut self) -> Result<(), OutFault> {
+        if self.stale {
+            self.gather(Duration::ZERO)?;
+        }
+        Ok(())
+    }
+
+    /// A pause in which nothing is to be done, until a datagram comes. Where none can, a session's text ends it too.
     fn rest(&mut self) -> Result<(), OutFault> {
-        self.gather(Duration::from_millis(PAUSE_MILLIS))
+        let pause = Duration::from_millis(PAUSE_MILLIS);
+        if let Some(datagrams) = &mut self.datagrams {
+            return datagrams.wait(self.rt, pause);
+        }
+        self.gather(pause)
     }
 
     // ---- a television's sockets
@@ -125,7 +127,7 @@ impl<'a, R: NetRuntime> Sockets<'a, R> {
     fn listen_at(&mut self, address: SocketAddr, next_port: u16) -> Result<(), OutFault> {
         let mut next = address;
         next.set_port(next_port);
-        let datagrams = Datagrams::listening(self.alloc, self.rt, &mut self.watch, address);
+        let datagrams = Datagrams::listening(self.alloc, self.rt, address);
         let datagrams = datagrams.map_err(fault_of)?;
         let cii = self.listener(Service::Cii, address)?;
         let ts = self.listener(Service::Ts, next)?;
@@ -155,6 +157,7 @@ impl<'a, R: NetRuntime> Sockets<'a, R> {
     pub(crate) fn accept(&mut self, peer: u32) -> Result<Option<Kind>, OutFault>
         ensures { IfOk result (λ came. IfSome came IsSession) }
     {
+        self.look()?;
         if self.upgrades.is_idle() {
             return Ok(None);
         }
@@ -177,7 +180,7 @@ impl<'a, R: NetRuntime> Sockets<'a, R> {
         let addresses = addresses_of(self.alloc, self.rt, &to.host, to.port).map_err(fault_of)?;
         let mut last = OutFault::Failed;
         for address in &addresses {
-            match Datagrams::linked(self.rt, &mut self.watch, *address, peer) {
+            match Datagrams::linked(self.alloc, self.rt, *address, peer) {
                 Ok(datagrams) => {
                     self.datagrams = Some(datagrams);
                     return Ok(());
@@ -230,15 +233,10 @@ impl<'a, R: NetRuntime> Sockets<'a, R> {
     ) -> Result<Option<(u32, usize)>, OutFault>
         ensures room { IfOk result FitsRoom }
     {
-        if self.in_a_row >= MOST_IN_A_ROW {
-            self.in_a_row = 0;
-            self.gather(Duration::ZERO)?;
-        }
+        self.stale = true;
         if let Some(taken) = self.take_named(into)? {
-            self.in_a_row = self.in_a_row.saturating_add(1);
             return Ok(Some(taken));
         }
-        self.in_a_row = 0;
         self.rest()?;
         self.take_named(into)
     }
@@ -262,6 +260,7 @@ impl<'a, R: NetRuntime> Sockets<'a, R> {
 
     /// What a session has to tell. Where it has nothing, and no datagram is waited for, there is a pause.
     pub(crate) fn take_text(&mut self, peer: u32) -> Result<Heard, OutFault> {
+        self.look()?;
         let heard = self.sessions.hear(peer)?;
         match &heard {
             Heard::Closed => self.part(peer)?,

@@ -199,11 +199,6 @@ impl Upgrades {
         }
     }
 
-    /// Whether something that has come was not read yet.
-    pub(crate) fn has_work(&self) -> bool {
-        self.list.iter().any(|upgrade| upgrade.named)
-    }
-
     /// Whether none stands and no connection waits.
     pub(crate) fn is_idle(&self) -> bool {
         self.list.is_empty() && !self.listeners.iter().any(|listener| listener.named)

@@ -8,7 +8,7 @@ use std::{io, thread};
 /// How many sockets one wait names at most; the next wait names the others.
 const MOST_NAMED: usize = 64;
 /// A name that no socket has.
-const NOBODY: usize = usize::MAX;
+pub(crate) const NOBODY: usize = usize::MAX;
 
 /// The names of sockets on which something has come, or that take more.
 pub(crate) type Named = [usize; MOST_NAMED];
@@ -38,7 +38,7 @@ impl Set {
     }
 }
 
-/// Waits for all sockets at once. The system's set is made for the first of them.
+/// Waits for some sockets at once. The system's set is made for the first of them.
 #[derive(Drop)]
 pub(crate) struct Watch {
     alloc: Global,
