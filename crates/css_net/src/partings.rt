@@ -14,6 +14,8 @@ use tungstenite::Error;
 const LONGEST_PARTING: u64 = 1_000_000_000;
 /// How many sessions may part at once; of more, the oldest is cut off.
 const MOST_PARTING: usize = 64;
+/// How many pieces are read past in one turn.
+const MOST_PIECES: usize = 16;
 
 /// A session that parts.
 #[derive(Drop)]
@@ -41,15 +43,30 @@ impl<'a, R: NetRuntime> Parting<'a, R> {
         }
     }
 
+    /// Reads past what has come.
+    fn read_past(&mut self) {
+        for _ in 0..MOST_PIECES {
+            match self.line.skip() {
+                Ok(0) => {
+                    self.over = true;
+                    return;
+                }
+                Ok(_) => {}
+                Err(error) => {
+                    self.named = false;
+                    self.over = !would_wait(error.kind());
+                    return;
+                }
+            }
+        }
+    }
+
     fn turn(&mut self) {
         if !self.told {
             self.write_out();
         }
-        match self.line.skip() {
-            Ok(0) => self.over = true,
-            Ok(_) => {}
-            Err(error) if would_wait(error.kind()) => self.named = false,
-            Err(_) => self.over = true,
+        if !self.over {
+            self.read_past();
         }
     }
 }
