@@ -1,5 +1,6 @@
 //! The system's two clocks, in whole nanoseconds.
 ghost use Rattle.std.specs.Prelude.{◌<◌, ◌+◌, ◌↔◌, IfSome, IsTrue};
+ghost use Rattle.css_model.specs.declared.TheConstants.{LIMIT};
 
 use css_model::LIMIT;
 use std::time::{Clock, Duration};

@@ -20,18 +20,18 @@ use tungstenite::{Error, RandomKeys};
 const DIAL: usize = 3;
 
 /// A client's handshake that isn't done.
-type Handshake<'a, R> = MidHandshake<ClientHandshake<Metered, RandomKeys<&'a R>>>;
+type Handshake<R> = MidHandshake<ClientHandshake<Metered, RandomKeys<R>>>;
 
 /// A session that is being dialled.
 #[derive(Drop)]
-struct Dial<'a, R: NetRuntime> {
+struct Dial<R: NetRuntime> {
     kind: Kind,
     url: String,
     /// Where the host is, and how many of these were tried.
     addresses: Vec<SocketAddr>,
     tried: usize,
     since: u64,
-    handshake: Option<Handshake<'a, R>>,
+    handshake: Option<Handshake<R>>,
 }
 
 /// An error of a handshake.
@@ -43,15 +43,15 @@ fn handshake_fault(error: Error) -> OutFault {
 }
 
 /// Connects, and asks for a session.
-fn begin<'a, R: NetRuntime>(
+fn begin<R: NetRuntime>(
     alloc: Global,
-    rt: &'a R,
+    rt: R,
     watch: &mut Watch,
     url: &str,
     address: SocketAddr,
-) -> Result<Handshake<'a, R>, OutFault> {
-    let mut stream = TcpStream::connect(rt, address).map_err(fault_of)?;
-    watch.add(rt, &mut stream, DIAL).map_err(fault_of)?;
+) -> Result<Handshake<R>, OutFault> {
+    let mut stream = TcpStream::connect(&rt, address).map_err(fault_of)?;
+    watch.add(&rt, &mut stream, DIAL).map_err(fault_of)?;
     let stream = Metered::new(stream).map_err(fault_of)?;
     let mut nonce = [0u8; 16];
     rt.fill_bytes(&mut nonce).map_err(fault_of)?;
@@ -60,12 +60,12 @@ fn begin<'a, R: NetRuntime>(
     client::start(alloc, nonce, keys, request, stream, Some(limits())).map_err(handshake_fault)
 }
 
-impl<'a, R: NetRuntime> Dial<'a, R> {
+impl<R: NetRuntime> Dial<R> {
     /// Begins the handshake at the next address. A later dial goes on where this one fails.
     fn begin_next(
         &mut self,
         alloc: Global,
-        rt: &'a R,
+        rt: R,
         watch: &mut Watch,
         now: u64,
     ) -> Result<(), OutFault> {
@@ -86,7 +86,7 @@ impl<'a, R: NetRuntime> Dial<'a, R> {
     }
 
     /// One turn of the handshake, which may be its last. One that takes too long is dropped.
-    fn turn(&mut self, now: u64) -> Result<Option<DialledSocket<'a, R>>, OutFault> {
+    fn turn(&mut self, now: u64) -> Result<Option<DialledSocket<R>>, OutFault> {
         let Some(mut handshake) = self.handshake.take() else {
             return Ok(None);
         };
@@ -111,14 +111,14 @@ impl<'a, R: NetRuntime> Dial<'a, R> {
 
 /// The sessions that are being dialled, at most one of each kind.
 #[derive(Drop)]
-pub(crate) struct Dials<'a, R: NetRuntime> {
+pub(crate) struct Dials<R: NetRuntime> {
     alloc: Global,
-    list: Vec<Dial<'a, R>>,
+    list: Vec<Dial<R>>,
 }
 
-impl<'a, R: NetRuntime> Dials<'a, R> {
+impl<R: NetRuntime> Dials<R> {
     /// None is being dialled.
-    pub(crate) fn new(alloc: Global) -> Dials<'a, R> {
+    pub(crate) fn new(alloc: Global) -> Dials<R> {
         Dials {
             alloc,
             list: Vec::new(alloc),
@@ -126,7 +126,7 @@ impl<'a, R: NetRuntime> Dials<'a, R> {
     }
 
     /// Takes out the dial of this kind.
-    fn take(&mut self, kind: Kind) -> Option<Dial<'a, R>> {
+    fn take(&mut self, kind: Kind) -> Option<Dial<R>> {
         let place = self.list.iter().position(|dial| dial.kind == kind)?;
         if place < self.list.len() {
             Some(self.list.remove(place))
@@ -136,7 +136,7 @@ impl<'a, R: NetRuntime> Dials<'a, R> {
     }
 
     /// The dial of this kind to this place: the one that stands, or a new one, for which the host is looked up.
-    fn dial_of(&mut self, rt: &'a R, kind: Kind, to: &Address) -> Result<Dial<'a, R>, OutFault> {
+    fn dial_of(&mut self, rt: R, kind: Kind, to: &Address) -> Result<Dial<R>, OutFault> {
         let url = url_of(self.alloc, to).map_err(fault_of)?;
         if let Some(dial) = self.take(kind) {
             if dial.url == url {
@@ -146,7 +146,7 @@ impl<'a, R: NetRuntime> Dials<'a, R> {
         Ok(Dial {
             kind,
             url,
-            addresses: addresses_of(self.alloc, rt, &to.host, to.port).map_err(fault_of)?,
+            addresses: addresses_of(self.alloc, &rt, &to.host, to.port).map_err(fault_of)?,
             tried: 0,
             since: 0,
             handshake: None,
@@ -156,12 +156,12 @@ impl<'a, R: NetRuntime> Dials<'a, R> {
     /// Dials, or goes on dialling, and gives the session once it stands.
     pub(crate) fn go_on(
         &mut self,
-        rt: &'a R,
+        rt: R,
         watch: &mut Watch,
         kind: Kind,
         to: &Address,
         now: u64,
-    ) -> Result<Option<DialledSocket<'a, R>>, OutFault> {
+    ) -> Result<Option<DialledSocket<R>>, OutFault> {
         let mut dial = self.dial_of(rt, kind, to)?;
         if dial.handshake.is_none() {
             dial.begin_next(self.alloc, rt, watch, now)?;

@@ -12,16 +12,16 @@ use std::alloc::Global;
 /// Readings are the monotone clock's. A reading is told with a sleep where the system's clock rose by over two seconds
 /// more than the monotone one since the reading before.
 #[derive(Drop)]
-pub struct NetOutside<'a, R: NetRuntime> {
-    rt: &'a R,
+pub struct NetOutside<R: NetRuntime> {
+    rt: R,
     tally: Tally,
     before: Option<Clocks>,
-    sockets: Sockets<'a, R>,
+    sockets: Sockets<R>,
 }
 
-impl<'a, R: NetRuntime> NetOutside<'a, R> {
+impl<R: NetRuntime> NetOutside<R> {
     /// No socket is open, and the clock wasn't read.
-    pub fn new(alloc: Global, rt: &'a R) -> NetOutside<'a, R> {
+    pub fn new(alloc: Global, rt: R) -> NetOutside<R> {
         NetOutside {
             rt,
             tally: Tally::new(),
@@ -31,7 +31,7 @@ impl<'a, R: NetRuntime> NetOutside<'a, R> {
     }
 }
 
-impl<'a, R: NetRuntime> Outside for NetOutside<'a, R> {
+impl<R: NetRuntime> Outside for NetOutside<R> {
     ghost told = { λ _. None };
 
     ghost counts = { λ outside. outside.tally };
@@ -42,7 +42,7 @@ impl<'a, R: NetRuntime> Outside for NetOutside<'a, R> {
     }
 
     fn now(&mut self, _why: Why) -> Result<Clocked, OutFault> {
-        let Some(clocks) = read_clocks(self.rt) else {
+        let Some(clocks) = read_clocks(&self.rt) else {
             return self.tally.plain(Err(OutFault::Failed));
         };
         let slept = match self.before {

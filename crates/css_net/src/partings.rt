@@ -19,9 +19,9 @@ const MOST_PIECES: usize = 16;
 
 /// A session that parts.
 #[derive(Drop)]
-struct Parting<'a, R: NetRuntime> {
+struct Parting<R: NetRuntime> {
     peer: u32,
-    line: Line<'a, R>,
+    line: Line<R>,
     since: u64,
     /// Something may have come, or the stream may take more.
     named: bool,
@@ -31,7 +31,7 @@ struct Parting<'a, R: NetRuntime> {
     over: bool,
 }
 
-impl<'a, R: NetRuntime> Parting<'a, R> {
+impl<R: NetRuntime> Parting<R> {
     fn write_out(&mut self) {
         match self.line.flush() {
             Ok(()) => {
@@ -73,20 +73,20 @@ impl<'a, R: NetRuntime> Parting<'a, R> {
 
 /// The sessions that part, the oldest first.
 #[derive(Drop)]
-pub(crate) struct Partings<'a, R: NetRuntime> {
-    list: Vec<Parting<'a, R>>,
+pub(crate) struct Partings<R: NetRuntime> {
+    list: Vec<Parting<R>>,
 }
 
-impl<'a, R: NetRuntime> Partings<'a, R> {
+impl<R: NetRuntime> Partings<R> {
     /// None parts.
-    pub(crate) fn new(alloc: Global) -> Partings<'a, R> {
+    pub(crate) fn new(alloc: Global) -> Partings<R> {
         Partings {
             list: Vec::new(alloc),
         }
     }
 
     /// Adds a session.
-    pub(crate) fn add(&mut self, peer: u32, line: Line<'a, R>, since: u64) -> Result<(), OutFault> {
+    pub(crate) fn add(&mut self, peer: u32, line: Line<R>, since: u64) -> Result<(), OutFault> {
         if self.list.len() >= MOST_PARTING {
             drop(self.list.remove(0));
         }

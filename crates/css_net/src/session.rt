@@ -37,7 +37,7 @@ pub(crate) fn limits() -> WebSocketConfig {
 pub(crate) type ServedSocket = WebSocket<Metered, NoMask>;
 
 /// A session that was dialled.
-pub(crate) type DialledSocket<'a, R> = WebSocket<Metered, RandomKeys<&'a R>>;
+pub(crate) type DialledSocket<R> = WebSocket<Metered, RandomKeys<R>>;
 
 /// What one turn of a session gave.
 #[derive(Debug, Drop)]
@@ -65,12 +65,12 @@ pub(crate) enum Put {
 
 /// The stream of a session, at the one end or the other.
 #[derive(Drop)]
-pub(crate) enum Line<'a, R: NetRuntime> {
+pub(crate) enum Line<R: NetRuntime> {
     Served(ServedSocket),
-    Dialled(DialledSocket<'a, R>),
+    Dialled(DialledSocket<R>),
 }
 
-impl<'a, R: NetRuntime> Line<'a, R> {
+impl<R: NetRuntime> Line<R> {
     /// What has come.
     pub(crate) fn hear(&mut self, alloc: Global) -> Result<Came, Memory> {
         match self {

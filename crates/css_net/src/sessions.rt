@@ -6,16 +6,16 @@ use std::alloc::Global;
 
 /// An open session.
 #[derive(Drop)]
-struct Session<'a, R: NetRuntime> {
+struct Session<R: NetRuntime> {
     peer: u32,
-    line: Line<'a, R>,
+    line: Line<R>,
     /// Something may have come that was not read yet.
     named: bool,
     /// How many bytes were said since all was written.
     waiting: usize,
 }
 
-impl<'a, R: NetRuntime> Session<'a, R> {
+impl<R: NetRuntime> Session<R> {
     /// What has come. A session on which nothing has come costs no call of the system.
     fn hear(&mut self, alloc: Global) -> Result<Heard, OutFault> {
         if !self.named {
@@ -48,14 +48,14 @@ impl<'a, R: NetRuntime> Session<'a, R> {
 
 /// The open sessions, in order of peer.
 #[derive(Drop)]
-pub(crate) struct Sessions<'a, R: NetRuntime> {
+pub(crate) struct Sessions<R: NetRuntime> {
     alloc: Global,
-    list: Vec<Session<'a, R>>,
+    list: Vec<Session<R>>,
 }
 
-impl<'a, R: NetRuntime> Sessions<'a, R> {
+impl<R: NetRuntime> Sessions<R> {
     /// None is open.
-    pub(crate) fn new(alloc: Global) -> Sessions<'a, R> {
+    pub(crate) fn new(alloc: Global) -> Sessions<R> {
         Sessions {
             alloc,
             list: Vec::new(alloc),
@@ -63,7 +63,7 @@ impl<'a, R: NetRuntime> Sessions<'a, R> {
     }
 
     /// Adds a session, whose peer is above all others. Some of it may have come with its handshake.
-    pub(crate) fn open(&mut self, peer: u32, line: Line<'a, R>) -> Result<(), OutFault> {
+    pub(crate) fn open(&mut self, peer: u32, line: Line<R>) -> Result<(), OutFault> {
         let session = Session {
             peer,
             line,
@@ -79,7 +79,7 @@ impl<'a, R: NetRuntime> Sessions<'a, R> {
             .ok()
     }
 
-    fn session_of(&mut self, peer: u32) -> Option<&mut Session<'a, R>> {
+    fn session_of(&mut self, peer: u32) -> Option<&mut Session<R>> {
         let place = self.place_of(peer)?;
         self.list.get_mut(place)
     }
@@ -114,7 +114,7 @@ impl<'a, R: NetRuntime> Sessions<'a, R> {
     }
 
     /// Takes a session out.
-    pub(crate) fn part(&mut self, peer: u32) -> Option<Line<'a, R>> {
+    pub(crate) fn part(&mut self, peer: u32) -> Option<Line<R>> {
         let place = self.place_of(peer)?;
         if place < self.list.len() {
             Some(self.list.remove(place).line)

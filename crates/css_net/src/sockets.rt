@@ -27,24 +27,24 @@ const PAUSE_MILLIS: u64 = 4;
 /// The name of the session of peer 0. The names of sessions end below those of handshakes.
 const FIRST_SESSION: usize = 16;
 
-/// What the sockets need of the runtime.
-pub trait NetRuntime: Net + Clock + RandomSource {}
+/// What the sockets need of the runtime, such as a reference to the host's.
+pub trait NetRuntime: Net + Clock + RandomSource + Copy {}
 
-impl<R: Net + Clock + RandomSource> NetRuntime for R {}
+impl<R: Net + Clock + RandomSource + Copy> NetRuntime for R {}
 
 /// The sockets of one end.
 #[derive(Drop)]
-pub(crate) struct Sockets<'a, R: NetRuntime> {
+pub(crate) struct Sockets<R: NetRuntime> {
     alloc: Global,
-    rt: &'a R,
+    rt: R,
     watch: Watch,
     /// Whether the watch was not asked since the last look for a datagram.
     stale: bool,
     datagrams: Option<Datagrams>,
     upgrades: Upgrades,
-    dials: Dials<'a, R>,
-    sessions: Sessions<'a, R>,
-    partings: Partings<'a, R>,
+    dials: Dials<R>,
+    sessions: Sessions<R>,
+    partings: Partings<R>,
 }
 
 /// The name under which a session is watched.
@@ -52,9 +52,9 @@ fn name_of(peer: u32) -> usize {
     FIRST_SESSION + peer as usize
 }
 
-impl<'a, R: NetRuntime> Sockets<'a, R> {
+impl<R: NetRuntime> Sockets<R> {
     /// None is open.
-    pub(crate) fn new(alloc: Global, rt: &'a R) -> Sockets<'a, R> {
+    pub(crate) fn new(alloc: Global, rt: R) -> Sockets<R> {
         Sockets {
             alloc,
             rt,
@@ -69,7 +69,7 @@ impl<'a, R: NetRuntime> Sockets<'a, R> {
     }
 
     fn time(&self) -> u64 {
-        monotone(self.rt).unwrap_or(0)
+        monotone(&self.rt).unwrap_or(0)
     }
 
     // ---- what has come
@@ -90,7 +90,7 @@ impl<'a, R: NetRuntime> Sockets<'a, R> {
     /// Waits until something comes on a session, or the pause is over, and notes where it came.
     fn gather(&mut self, pause: Duration) -> Result<(), OutFault> {
         self.stale = false;
-        let named = self.watch.wait(self.rt, pause).map_err(fault_of)?;
+        let named = self.watch.wait(&self.rt, pause).map_err(fault_of)?;
         for name in named {
             self.mark(name);
         }
@@ -113,7 +113,7 @@ impl<'a, R: NetRuntime> Sockets<'a, R> {
     fn rest(&mut self) -> Result<(), OutFault> {
         let pause = Duration::from_millis(PAUSE_MILLIS);
         if let Some(datagrams) = &mut self.datagrams {
-            return datagrams.wait(self.rt, pause);
+            return datagrams.wait(&self.rt, pause);
         }
         self.gather(pause)
     }
@@ -121,13 +121,13 @@ impl<'a, R: NetRuntime> Sockets<'a, R> {
     // ---- a television's sockets
 
     fn listener(&mut self, service: Service, address: SocketAddr) -> Result<Listener, OutFault> {
-        Listener::new(self.rt, &mut self.watch, service, address).map_err(fault_of)
+        Listener::new(&self.rt, &mut self.watch, service, address).map_err(fault_of)
     }
 
     fn listen_at(&mut self, address: SocketAddr, next_port: u16) -> Result<(), OutFault> {
         let mut next = address;
         next.set_port(next_port);
-        let datagrams = Datagrams::listening(self.alloc, self.rt, address);
+        let datagrams = Datagrams::listening(self.alloc, &self.rt, address);
         let datagrams = datagrams.map_err(fault_of)?;
         let cii = self.listener(Service::Cii, address)?;
         let ts = self.listener(Service::Ts, next)?;
@@ -142,7 +142,7 @@ impl<'a, R: NetRuntime> Sockets<'a, R> {
         let Some(next_port) = port.checked_add(1) else {
             return Err(OutFault::Failed);
         };
-        let addresses = addresses_of(self.alloc, self.rt, host, port).map_err(fault_of)?;
+        let addresses = addresses_of(self.alloc, &self.rt, host, port).map_err(fault_of)?;
         let mut last = OutFault::Failed;
         for address in &addresses {
             match self.listen_at(*address, next_port) {
@@ -162,7 +162,7 @@ impl<'a, R: NetRuntime> Sockets<'a, R> {
             return Ok(None);
         }
         let now = self.time();
-        self.upgrades.connect(self.rt, &mut self.watch, now)?;
+        self.upgrades.connect(&self.rt, &mut self.watch, now)?;
         let Some((service, socket)) = self.upgrades.turn(now) else {
             return Ok(None);
         };
@@ -177,10 +177,10 @@ impl<'a, R: NetRuntime> Sockets<'a, R> {
     // ---- a companion's sockets
 
     fn link(&mut self, to: &Address, peer: u32) -> Result<(), OutFault> {
-        let addresses = addresses_of(self.alloc, self.rt, &to.host, to.port).map_err(fault_of)?;
+        let addresses = addresses_of(self.alloc, &self.rt, &to.host, to.port).map_err(fault_of)?;
         let mut last = OutFault::Failed;
         for address in &addresses {
-            match Datagrams::linked(self.alloc, self.rt, *address, peer) {
+            match Datagrams::linked(self.alloc, &self.rt, *address, peer) {
                 Ok(datagrams) => {
                     self.datagrams = Some(datagrams);
                     return Ok(());

@@ -1,7 +1,7 @@
 //! The standard streams as devices. They count each failure, and tell nothing of what they hold.
 
 ghost use Rattle.std.specs.Prelude.{None};
-ghost use Rattle.std.specs.Io.{ReadsAtMost};
+ghost use Rattle.std.specs.Io.{ReadsAtMost, WritesAtMost};
 
 use css_outside::{Failed, OutFault, Sink, Source};
 use std::io;

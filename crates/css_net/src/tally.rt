@@ -20,6 +20,7 @@ pub(crate) struct Tally {
 
 impl Model for Tally {
     ghost use Rattle.std.specs.Prelude.{◌<◌};
+    ghost use Rattle.css_model.specs.declared.TheConstants.{LIMIT};
     ghost use Rattle.css_outside.specs.Outsides.{Counts};
 
     ghost Value = { Counts };

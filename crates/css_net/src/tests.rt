@@ -74,7 +74,7 @@ fn datagram_of<O: Outside>(outside: &mut O) -> Result<(u32, u8), Fail> {
 }
 
 /// A text and a datagram go there and back: what came in the end.
-fn crossed<R: NetRuntime>(alloc: Global, rt: &R, port: u16) -> Result<(Text, u8), Fail> {
+fn crossed<R: NetRuntime>(alloc: Global, rt: R, port: u16) -> Result<(Text, u8), Fail> {
     let mut tv = NetOutside::new(alloc, rt);
     let mut companion = NetOutside::new(alloc, rt);
     let host = Text::of(alloc, b"127.0.0.1")?;
