@@ -9,7 +9,7 @@ use std::time::{Clock, Duration};
 const SLEEP_NANOS: u64 = 2_000_000_000;
 
 /// The two clocks at one moment.
-#[derive(Clone, Copy, Debug, PartialEq, Eq)]
+#[derive(Clone, Copy)]
 pub(crate) struct Clocks {
     /// `CLOCK_MONOTONIC`: it never goes back, and stands still while the machine sleeps. The readings are from it.
     pub(crate) monotone: u64,

@@ -19,14 +19,14 @@ const DATAGRAMS: usize = 0;
 const MOST_SENDERS: usize = 64;
 
 /// Who sent a datagram.
-#[derive(Clone, Copy, Debug)]
+#[derive(Clone, Copy)]
 struct Sender {
     peer: u32,
     address: SocketAddr,
 }
 
 /// Those who sent datagrams to a socket that listens.
-#[derive(Debug, Drop)]
+#[derive(Drop)]
 struct Senders {
     list: Vec<Sender>,
     oldest: usize,
@@ -66,7 +66,7 @@ impl Senders {
 }
 
 /// Whom the socket hears.
-#[derive(Debug, Drop)]
+#[derive(Drop)]
 enum Heard {
     /// Anyone, as a television does.
     Anyone(Senders),

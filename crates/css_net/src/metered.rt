@@ -5,7 +5,7 @@ use std::net::Shutdown;
 
 /// A stream with so many reads in a turn. Past the last of them it answers as a stream on which nothing has come, so
 /// that one peer can't hold the loop.
-#[derive(Debug, Drop)]
+#[derive(Drop)]
 pub(crate) struct Metered {
     stream: TcpStream,
     reads: u32,

@@ -40,7 +40,7 @@ pub(crate) type ServedSocket = WebSocket<Metered, NoMask>;
 pub(crate) type DialledSocket<R> = WebSocket<Metered, RandomKeys<R>>;
 
 /// What one turn of a session gave.
-#[derive(Debug, Drop)]
+#[derive(Drop)]
 pub(crate) enum Came {
     /// A text.
     Text(Text),
@@ -53,7 +53,7 @@ pub(crate) enum Came {
 }
 
 /// What became of a text that was said.
-#[derive(Clone, Copy, Debug, PartialEq, Eq)]
+#[derive(Clone, Copy)]
 pub(crate) enum Put {
     /// All that was said so far was written.
     Written,

@@ -1,4 +1,4 @@
-//! All sockets of one end, and the one wait for them.
+//! All sockets of one end: what has come on them, and the pauses.
 ghost use Rattle.std.specs.Prelude.{IfOk, IfSome};
 ghost use Rattle.css_outside.specs.Outsides.{FitsRoom, IsSession};
 
@@ -15,7 +15,6 @@ use crate::watch::{NOBODY, Watch};
 use css_num::Text;
 use css_outside::{Address, Heard, Kind, OutFault, Wrote};
 use std::alloc::Global;
-use std::io::ErrorKind;
 use std::net::{Net, SocketAddr};
 use std::random::RandomSource;
 use std::str;

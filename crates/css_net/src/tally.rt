@@ -10,7 +10,7 @@ use std::marker::Model;
 pub(crate) const FIRST_SENDER: u32 = 2_147_483_648;
 
 /// What an outside counts: its faults, the greatest reading, and the greatest number of a peer.
-#[derive(Debug, Drop)]
+#[derive(Drop)]
 pub(crate) struct Tally {
     dial_faults: u64,
     faults: u64,

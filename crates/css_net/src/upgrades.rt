@@ -35,7 +35,7 @@ const MOST_ACCEPTED: usize = 16;
 const MOST_TURNS: usize = 16;
 
 /// What a peer opens a session for.
-#[derive(Clone, Copy, Debug, PartialEq, Eq)]
+#[derive(Clone, Copy)]
 pub(crate) enum Service {
     Cii,
     Ts,
