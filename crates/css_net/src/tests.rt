@@ -131,6 +131,7 @@ fn a_child_ends_with_its_status(rt: HostRuntime) -> Result<(), Fail> {
 }
 
 /// A clock that shows these times in turn, the monotone one's and the system's, and sockets that there are none of.
+#[derive(Drop)]
 struct Shown {
     rows: [(u64, u64); 8],
     at: Cell<usize>,
