@@ -19,9 +19,9 @@ const LONGEST_MESSAGE: usize = 262_144;
 /// How many bytes may wait to be written to a peer. What is said counts until the peer has taken all of it.
 pub(crate) const MOST_WAITING: usize = 4_194_304;
 /// How many bytes one read asks for.
-const READ_SIZE: usize = 16_384;
+const READ_SIZE: usize = 8_192;
 /// How many reads a session has in one turn.
-const READS: u32 = 2;
+const READS: u32 = 1;
 
 /// The limits of each session.
 pub(crate) fn limits() -> WebSocketConfig {
