@@ -1,0 +1,9 @@
+pub mod Faults
+pub mod Options
+pub mod Generator
+pub mod Bounds
+pub mod Tv
+pub mod Companion
+pub mod Written
+pub mod Pair
+pub mod Commands

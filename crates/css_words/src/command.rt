@@ -1,0 +1,117 @@
+ghost use Rattle.std.specs.Prelude.{◌≡◌, IfOk, map, string_bytes};
+ghost use Rattle.std.specs.List.{list_any};
+ghost use Rattle.css_num.specs.Gives.{GivesBy};
+ghost use Rattle.css_words.specs.Commands as commands;
+ghost use Rattle.css_words.specs.Written.{IsWritable};
+ghost use Rattle.css_words.specs.declared.fault.WordsFault.TheVariants as faults;
+
+use crate::companion::companion_words;
+use crate::fault::WordsFault;
+use crate::generator::generator_words;
+use crate::pair::pair_words;
+use crate::tv::tv_words;
+use crate::words::{CompanionWords, GeneratorWords, PairWords, TvWords};
+use std::alloc::Global;
+
+/// A command of the program.
+#[derive(Debug, Drop)]
+pub enum Command {
+    /// Replays a schedule.
+    Replay,
+    /// Tells what answers say together.
+    Agree,
+    /// Is a companion of the television at an address.
+    Companion(CompanionWords),
+    /// Is a television.
+    Tv(TvWords),
+    /// Starts a television, and is a companion of it.
+    Pair(PairWords),
+    /// Writes a schedule.
+    Generate(GeneratorWords),
+    /// Replays a generated schedule, and writes one line on its intervals.
+    Survey(GeneratorWords),
+}
+
+// Whether the word is `-` or `--` alone.
+fn is_bare_dashes(word: &str) -> bool
+    ensures { result ≡ commands.is_bare_dashes word.now }
+{
+    word == "-" || word == "--"
+}
+
+// Whether one of the words is.
+fn has_bare_dashes(words: &[String]) -> bool
+    ensures { result ≡ list_any (λ word. commands.is_bare_dashes (string_bytes word)) words.now }
+{
+    words.iter().any(|word| is_bare_dashes(word.as_str()))
+}
+
+// That a command without options has no words after its name.
+fn no_options(rest: &[String]) -> Result<(), WordsFault>
+    ensures { result ≡ commands.no_options (map string_bytes rest.now) }
+{
+    match rest {
+        [] => Ok(()),
+        _ => Err(WordsFault::Usage),
+    }
+}
+
+// The command with this name. It has `rest` behind it, and both are `words`.
+#[tactic(auto, unfolding(crate::specs::Commands::named))]
+fn command_named(
+    alloc: Global,
+    name: &str,
+    rest: &[String],
+    words: &[String],
+) -> Result<Command, WordsFault>
+    ensures value { GivesBy commands.asked_of faults.Memory result
+        (commands.named name.now (map string_bytes rest.now) (map string_bytes words.now)) }
+    ensures writable { IfOk result IsWritable }
+{
+    match name {
+        "replay" => {
+            no_options(rest)?;
+            Ok(Command::Replay)
+        }
+        "agree" => {
+            no_options(rest)?;
+            Ok(Command::Agree)
+        }
+        "companion" => Ok(Command::Companion(companion_words(alloc, words)?)),
+        "tv" => Ok(Command::Tv(tv_words(alloc, words)?)),
+        "pair" => Ok(Command::Pair(pair_words(alloc, words)?)),
+        "generate" => Ok(Command::Generate(generator_words(alloc, words)?)),
+        "survey" => Ok(Command::Survey(generator_words(alloc, words)?)),
+        _ => Err(WordsFault::Usage),
+    }
+}
+
+/// The command that the words after the program's name are.
+///
+/// The first word is the command's name. Those after it are its options, each as `--name value` or `--name=value`; a
+/// value that begins with `-` needs the second form. A number is in decimal, without zeros before its digits and
+/// without `+`.
+///
+/// - `replay` and `agree` take no options.
+/// - `companion` needs `--cii`, a `ws:` address. It takes `--selector`, `--stem`, `--reports`, `--turns`,
+///   `--report-every`, `--ask-every`, `--local-error`, `--local-precision`, and both `--earliest` and `--latest`.
+/// - `tv` takes `--port`, `--turns`, `--precision`, `--error`, `--follow` and `--host`.
+/// - `pair` takes what both take, without an address and a host.
+/// - `generate` and `survey` need `--seed`, 0 to 2^63 - 1, and `--lines`, 9 to 200,000.
+///
+/// `Usage` comes exactly where the words are those of no command: another name or none, an option that the command
+/// hasn't, one that is given twice, has no value or a value out of its range, a required one that is missing, a word
+/// that is no option, `-` or `--` alone, and `--help`.
+#[tactic(auto, unfolding(crate::specs::Commands::command_in))]
+pub fn command_of(alloc: Global, words: &[String]) -> Result<Command, WordsFault>
+    ensures value { GivesBy commands.asked_of faults.Memory result (commands.command_in (map string_bytes words.now)) }
+    ensures writable { IfOk result IsWritable }
+{
+    let Some((name, rest)) = words.split_first() else {
+        return Err(WordsFault::Usage);
+    };
+    if has_bare_dashes(rest) {
+        return Err(WordsFault::Usage);
+    }
+    command_named(alloc, name.as_str(), rest, words)
+}

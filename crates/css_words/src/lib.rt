@@ -1,0 +1,22 @@
+//! The words of a command line: which command they are, and what its options say.
+#![tactic(auto)]
+
+mod bounds;
+mod command;
+mod companion;
+mod fault;
+mod generator;
+mod options;
+mod pair;
+mod tv;
+mod words;
+
+pub use command::{Command, command_of};
+pub use css_address::Address;
+pub use css_num::{Memory, Text};
+pub use css_tsmsg::Bound;
+pub use fault::WordsFault;
+pub use words::{CompanionOptions, CompanionWords, GeneratorWords, PairWords, TvWords};
+
+#[cfg(test)]
+mod tests;

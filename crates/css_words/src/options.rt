@@ -1,0 +1,148 @@
+ghost use Rattle.std.specs.Prelude.{◌≡◌, ◌≤◌, IfOk, IfErr, map, option_map, string_bytes, true, false};
+ghost use Rattle.clap.specs.Words.{app_of, first_of, found_of, rows_of, rule_of, with_rule};
+ghost use Rattle.clap.specs.Faults.{is_simple_and_free};
+ghost use Rattle.css_num.specs.Gives.{GivesBy};
+ghost use Rattle.css_words.specs.Options as options;
+ghost use Rattle.css_words.specs.declared.fault.WordsFault.TheVariants as faults;
+
+use crate::fault::WordsFault;
+use clap::{Arg, ArgAction, ArgMatches};
+use css_num::whole_number;
+use std::alloc::Global;
+
+// An option that takes a value.
+fn option<'a>(alloc: Global, name: &'a str) -> Arg<'a>
+    ensures rule { rule_of result ≡ options.option_rule name.entry.now }
+    ensures local { result.global ≡ false }
+{
+    Arg::new(alloc, name).long(name).action(ArgAction::Set)
+}
+
+// An option without a value.
+fn flag<'a>(alloc: Global, name: &'a str) -> Arg<'a>
+    ensures rule { rule_of result ≡ options.flag_rule name.entry.now }
+    ensures local { result.global ≡ false }
+{
+    Arg::new(alloc, name).long(name).action(ArgAction::SetTrue)
+}
+
+/// The command with these options, each of which takes a value and may be left out.
+pub fn command_with<'a>(
+    alloc: Global,
+    names: &'a [&'a str],
+) -> Result<clap::Command<'a>, WordsFault>
+    ensures takes { IfOk result (λ command. app_of command
+        ≡ options.app_with (map (λ name. name.now) names.entry.now)) }
+    ensures memory { IfErr result (λ fault. fault ≡ faults.Memory) }
+{
+    let mut command = clap::Command::new(alloc, "css");
+    for name in names {
+        command = command.arg(option(alloc, *name))?;
+    }
+    Ok(command)
+}
+
+/// The command with a flag too.
+pub fn with_flag<'a>(
+    alloc: Global,
+    command: clap::Command<'a>,
+    name: &'a str,
+) -> Result<clap::Command<'a>, WordsFault>
+    ensures takes { IfOk result (λ more. app_of more
+        ≡ with_rule (app_of command.entry) (options.flag_rule name.entry.now)) }
+    ensures memory { IfErr result (λ fault. fault ≡ faults.Memory) }
+{
+    Ok(command.arg(flag(alloc, name))?)
+}
+
+/// What the words say of the command's options. The first word is the command's name.
+pub fn matches_in<'a>(
+    command: clap::Command<'a>,
+    words: &'a [String],
+) -> Result<ArgMatches<'a>, WordsFault>
+    requires { is_simple_and_free (app_of command) ≡ true }
+    ensures { GivesBy (λ matches. rows_of (found_of matches)) faults.Memory result
+        (options.rows_in (app_of command.entry) (map string_bytes words.entry.now)) }
+{
+    Ok(command.try_get_matches_from(words)?)
+}
+
+/// The text of an option, where it was given.
+pub fn text_given<'a>(matches: &ArgMatches<'a>, name: &str) -> Option<&'a str>
+    ensures { option_map (λ text. text.now) result ≡ first_of name.now (rows_of (found_of matches.now)) }
+{
+    matches.get_str(name)
+}
+
+/// The text of an option, or the default one where it wasn't given.
+pub fn text_given_or<'a>(matches: &ArgMatches<'a>, name: &str, default: &'a str) -> &'a str
+    ensures { result.now ≡ options.text_or default.entry.now name.now (rows_of (found_of matches.now)) }
+{
+    match text_given(matches, name) {
+        Some(text) => text,
+        None => default,
+    }
+}
+
+/// Whether a flag was given.
+pub fn is_set(matches: &ArgMatches<'_>, name: &str) -> bool
+    ensures { result ≡ options.is_set name.now (rows_of (found_of matches.now)) }
+{
+    matches!(text_given(matches, name), Some("true"))
+}
+
+// The number from `least` to `most` that a text spells.
+#[tactic(auto, unfolding(crate::specs::Options::number_in))]
+fn number_in(text: &str, least: u64, most: u64) -> Result<u64, WordsFault>
+    ensures value { result ≡ options.number_in least most text.now }
+    ensures least { IfOk result (λ number. least ≤ number) }
+    ensures most { IfOk result (λ number. number ≤ most) }
+{
+    let number = whole_number(text.as_bytes(), u64::MAX).ok_or(WordsFault::Usage)?;
+    if number < least {
+        return Err(WordsFault::Usage);
+    }
+    if number > most {
+        return Err(WordsFault::Usage);
+    }
+    Ok(number)
+}
+
+/// The number from `least` to `most` of an option that has to be given.
+pub fn number(
+    matches: &ArgMatches<'_>,
+    name: &str,
+    least: u64,
+    most: u64,
+) -> Result<u64, WordsFault>
+    ensures value { result
+        ≡ options.required (options.number_in least most) name.now (rows_of (found_of matches.now)) }
+    ensures least { IfOk result (λ number. least ≤ number) }
+    ensures most { IfOk result (λ number. number ≤ most) }
+{
+    match text_given(matches, name) {
+        None => Err(WordsFault::Usage),
+        Some(text) => number_in(text, least, most),
+    }
+}
+
+/// The number from `least` to `most` of an option, or the default one where it wasn't given.
+pub fn number_or(
+    matches: &ArgMatches<'_>,
+    name: &str,
+    default: u64,
+    least: u64,
+    most: u64,
+) -> Result<u64, WordsFault>
+    requires low { least ≤ default }
+    requires high { default ≤ most }
+    ensures value { result
+        ≡ options.optional default (options.number_in least most) name.now (rows_of (found_of matches.now)) }
+    ensures least { IfOk result (λ number. least ≤ number) }
+    ensures most { IfOk result (λ number. number ≤ most) }
+{
+    match text_given(matches, name) {
+        None => Ok(default),
+        Some(text) => number_in(text, least, most),
+    }
+}

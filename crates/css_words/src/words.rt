@@ -1,0 +1,89 @@
+ghost use Rattle.std.specs.Prelude.{◌≤◌, ◌<◌, ◌^◌, pos, ◌≤ℤ◌};
+
+use css_address::Address;
+use css_num::Text;
+use css_tsmsg::Bound;
+
+/// Which schedule is to be generated.
+#[derive(Clone, Copy, Debug, PartialEq, Eq)]
+pub struct GeneratorWords {
+    /// The seed: 0 to 2^63 - 1.
+    pub seed: u64,
+    /// How many lines it has, its header included: 9 to 200,000.
+    pub lines: u64,
+    pub ghost small_seed: { seed < 2 ^ 63 },
+    pub ghost some_lines: { 9 ≤ lines },
+    pub ghost few_lines: { lines ≤ 200000 },
+}
+
+/// What a television is started with.
+#[derive(Debug, Drop)]
+pub struct TvWords {
+    /// The port of its wall clock: 1,024 to 65,534. The sessions' port is the next one.
+    pub port: u16,
+    /// How many turns are made: 1 to 1,000,000.
+    pub turns: u64,
+    /// The precision of its wall clock: 2^precision seconds, with an exponent of -128 to 30.
+    pub precision: i8,
+    /// The greatest frequency error of its wall clock in 1/256 ppm, at most 25,600,000.
+    pub error: u32,
+    /// Whether its responses promise follow-ups.
+    pub follow: bool,
+    /// The host that companions are told, which is UTF-8.
+    pub host: Text,
+    pub ghost least_port: { 1024 ≤ port },
+    pub ghost most_port: { port ≤ 65534 },
+    pub ghost some_turns: { 1 ≤ turns },
+    pub ghost few_turns: { turns ≤ 1000000 },
+    pub ghost fine: { precision ≤ℤ pos 30 },
+    pub ghost small_error: { error ≤ 25600000 },
+}
+
+/// What a companion wants, wherever the television is.
+#[derive(Debug, Drop)]
+pub struct CompanionOptions {
+    /// The timeline that it wants, in UTF-8.
+    pub selector: Text,
+    /// The beginning of the content ids that it wants, in UTF-8; the empty one is that of all.
+    pub stem: Text,
+    /// How many reports are made: 1 to 1,000,000.
+    pub reports: u64,
+    /// How many turns are made at most: 1 to 1,000,000.
+    pub turns: u64,
+    /// The time between two reports in nanoseconds: 1 to 10^12.
+    pub report_every: u64,
+    /// The time between two requests of the wall clock in nanoseconds: 1 to 10^12.
+    pub ask_every: u64,
+    /// The greatest frequency error of its own clock in 1/256 ppm, at most 2,560,000.
+    pub local_error: u32,
+    /// How far a reading of its own clock may be off, in nanoseconds: at most 10^9.
+    pub local_precision: u64,
+    /// The earliest and the latest time at which it can present, if it tells them. The earliest is never
+    /// `PlusInfinity` and the latest never `MinusInfinity`.
+    pub present: Option<(Bound, Bound)>,
+    pub ghost some_reports: { 1 ≤ reports },
+    pub ghost few_reports: { reports ≤ 1000000 },
+    pub ghost some_turns: { 1 ≤ turns },
+    pub ghost few_turns: { turns ≤ 1000000 },
+    pub ghost reports_apart: { 1 ≤ report_every },
+    pub ghost reports_come: { report_every ≤ 1000000000000 },
+    pub ghost requests_apart: { 1 ≤ ask_every },
+    pub ghost requests_come: { ask_every ≤ 1000000000000 },
+    pub ghost small_error: { local_error ≤ 2560000 },
+    pub ghost small_precision: { local_precision ≤ 1000000000 },
+}
+
+/// A companion of the television at an address.
+#[derive(Debug, Drop)]
+pub struct CompanionWords {
+    /// Where the television's session of CSS-CII is dialled.
+    pub cii: Address,
+    pub options: CompanionOptions,
+}
+
+/// A television and a companion of it. The companion's turns are the television's too.
+#[derive(Debug, Drop)]
+pub struct PairWords {
+    pub companion: CompanionOptions,
+    pub tv: TvWords,
+}
