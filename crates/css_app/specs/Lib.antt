@@ -5,3 +5,4 @@ pub mod Headline
 pub mod Scripts
 pub mod Live
 pub mod Pairs
+pub mod ByWords

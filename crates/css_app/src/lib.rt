@@ -16,6 +16,7 @@ mod live_tables;
 #[cfg(test)]
 mod live_tests;
 mod live_tv;
+mod live_words;
 mod program;
 mod replay;
 mod script_text;

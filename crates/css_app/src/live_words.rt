@@ -1,0 +1,150 @@
+//! The live commands by the words of a command line.
+ghost use Rattle.std.specs.Prelude.{◌≡◌, List, ℕ};
+ghost use Rattle.std.specs.Str.{IsUtf8};
+ghost use Rattle.css_drive.specs.Configs.{IsWritable};
+ghost use Rattle.css_words.specs.Companion.{companion_of, options_of};
+ghost use Rattle.css_words.specs.Pair.{pair_of};
+ghost use Rattle.css_words.specs.Tv.{tv_of};
+ghost use Rattle.css_words.specs.Written.{AreWritable};
+ghost use Rattle.css_app.specs.ByWords.{CompanionsBy, IsAskedRun, PairsBy, ServesBy};
+ghost use Rattle.css_app.specs.Ended.{CountsReads, CountsWrites};
+ghost use Rattle.css_app.specs.Live.{CountsCalls, CountsDials, CountsSpawns, stage};
+ghost use Rattle.css_app.specs.Pairs.{children};
+
+use crate::child::{Child, address_at};
+use crate::live_companion::companion;
+use crate::live_pair::pair;
+use crate::live_tv::tv;
+use crate::status::Status;
+use css_client::Local;
+use css_companion::CompanionConfig;
+use css_drive::{DriveConfig, Listens};
+use css_num::Memory;
+use css_outside::{Address, Outside, Sink, Source, Spawner};
+use css_tv::TvConfig;
+use css_words::{CompanionOptions, CompanionWords, PairWords, TvWords};
+use std::alloc::Global;
+
+// The run of a companion with these options, which dials this address.
+fn run_of(options: CompanionOptions, cii: Address) -> DriveConfig
+    requires { AreWritable options }
+    ensures asked { IsAskedRun (options_of options) cii result }
+    ensures writable { IsWritable result }
+{
+    DriveConfig {
+        companion: CompanionConfig {
+            selector: options.selector,
+            stem: options.stem,
+            local: Local {
+                error: options.local_error,
+                precision: options.local_precision,
+            },
+        },
+        cii,
+        reports: options.reports,
+        turns: options.turns,
+        report_every: options.report_every,
+        ask_every: options.ask_every,
+        present: options.present,
+    }
+}
+
+/// The command `companion` with these words.
+pub(crate) fn companion_by<S: Source, K: Sink, O: Outside, F: Listens>(
+    alloc: Global,
+    words: CompanionWords,
+    source: &mut S,
+    sink: &mut K,
+    outside: &mut O,
+    followers: &mut F,
+) -> Status
+    requires { AreWritable words.options }
+    ensures ran { CompanionsBy (companion_of words) (S.left source.old) (S.left source.new)
+        (stage (K.holds sink.old) (O.told outside.old) (F.heard followers.old))
+        (stage (K.holds sink.new) (O.told outside.new) (F.heard followers.new)) result }
+    ensures counted_reads { CountsReads (S.faults source.old) (S.faults source.new) result }
+    ensures counted_writes { CountsWrites (K.faults sink.old) (K.faults sink.new) result }
+    ensures counted_calls { CountsCalls (O.counts outside.old).faults (O.counts outside.new).faults result }
+    ensures counted_dials { CountsDials (O.counts outside.old).dial_faults
+        (O.counts outside.new).dial_faults result }
+{
+    let CompanionWords { cii, options } = words;
+    companion(
+        alloc,
+        run_of(options, cii),
+        source,
+        sink,
+        outside,
+        followers,
+    )
+}
+
+/// The command `tv` with these words.
+pub(crate) fn tv_by<S: Source, O: Outside>(
+    alloc: Global,
+    words: TvWords,
+    source: &mut S,
+    outside: &mut O,
+) -> Status
+    requires { IsUtf8 words.host }
+    ensures ran { ServesBy (tv_of words) (S.left source.old) (S.left source.new)
+        (O.told outside.old) (O.told outside.new) result }
+    ensures counted_reads { CountsReads (S.faults source.old) (S.faults source.new) result }
+    ensures counted_calls { CountsCalls (O.counts outside.old).faults (O.counts outside.new).faults result }
+    ensures writes { (count : ℕ) → CountsWrites count count result }
+    ensures dials { (O.counts outside.new).dial_faults ≡ (O.counts outside.old).dial_faults }
+{
+    let turns = words.turns;
+    let config = TvConfig {
+        precision: words.precision,
+        error: words.error,
+        follow: words.follow,
+        host: words.host,
+        port: words.port,
+    };
+    tv(alloc, config, turns, source, outside)
+}
+
+/// The command `pair` with these words.
+pub(crate) fn pair_by<S: Source, K: Sink, O: Outside, P: Spawner, F: Listens>(
+    alloc: Global,
+    words: PairWords,
+    source: &mut S,
+    sink: &mut K,
+    outside: &mut O,
+    spawner: &mut P,
+    followers: &mut F,
+) -> Status
+    requires { AreWritable words.companion }
+    ensures ran { PairsBy (pair_of words) (S.left source.old) (S.left source.new)
+        (stage (K.holds sink.old) (O.told outside.old) (F.heard followers.old))
+        (stage (K.holds sink.new) (O.told outside.new) (F.heard followers.new))
+        (children (P.told spawner.old) (P.running spawner.old))
+        (children (P.told spawner.new) (P.running spawner.new)) result }
+    ensures counted_reads { CountsReads (S.faults source.old) (S.faults source.new) result }
+    ensures counted_writes { CountsWrites (K.faults sink.old) (K.faults sink.new) result }
+    ensures counted_calls { CountsCalls (O.counts outside.old).faults (O.counts outside.new).faults result }
+    ensures counted_dials { CountsDials (O.counts outside.old).dial_faults
+        (O.counts outside.new).dial_faults result }
+    ensures counted_spawns { CountsSpawns (P.faults spawner.old) (P.faults spawner.new) result }
+{
+    let child = Child {
+        port: words.tv.port,
+        precision: words.tv.precision,
+        error: words.tv.error,
+        follow: words.tv.follow,
+    };
+    match address_at(alloc, child.port) {
+        Ok(cii) => pair(
+            alloc,
+            run_of(words.companion, cii),
+            &child,
+            source,
+            sink,
+            outside,
+            spawner,
+            followers,
+        ),
+        Err(Memory) => Status::Memory,
+    }
+}
