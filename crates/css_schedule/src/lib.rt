@@ -12,8 +12,6 @@ mod opening;
 mod parts;
 mod printing;
 mod reading;
-#[cfg(test)]
-mod tests;
 pub mod words;
 
 pub use css_num::{Rate, Text};

@@ -1,7 +1,7 @@
 ghost use Rattle.std.specs.Prelude.{◌≡◌, length};
 ghost use Rattle.css_schedule.specs.Ranges.{IsPrintable};
 
-use crate::{
+use css_schedule::{
     Bound, Command, Header, Kind, Line, LineFault, LineWhy, PlayerFault, Rate, ScriptLine, Start,
     Text, Verb, print_header, print_line, read_header, read_line, read_script,
 };
