@@ -1,11 +1,11 @@
 //! What the outside and the spawner in memory give, in the order of their lists and past the ends of these.
 ghost use Rattle.std.specs.Prelude.{◌≡◌, [], IfOk};
 
-use crate::{
+use css_num::Text;
+use css_outside::{
     Address, Clocked, Datagram, Heard, Kind, MemoryOutside, MemorySpawner, NeverFailsOutside,
     NeverFailsSpawner, OutFault, Outside, OutsideScript, SessionHeard, Spawner, Why, Wrote,
 };
-use css_num::Text;
 use std::alloc::Global;
 use std::process::Abort;
 use std::test::Fail;

@@ -1,4 +1,4 @@
-use crate::{
+use css_outside::{
     Failed, Memory, MemorySink, MemorySource, NeverFailsSink, NeverFailsSource, OutFault, Sink,
     Source, write_all,
 };
