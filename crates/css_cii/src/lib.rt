@@ -16,6 +16,11 @@ mod state;
 mod timelines;
 mod writing;
 
+ghost use Rattle.std.specs.Prelude.{◌≡◌, Ok, ℕ, List};
+ghost use Rattle.css_cii.specs.Messages.{NotMemory, message_of};
+ghost use Rattle.css_cii.specs.Texts.{change_text, EachOf, RatesAreInRange, IsUtf8Change};
+ghost use Rattle.css_cii.specs.declared.change.Change.{Change as said};
+
 pub use change::{Change, Told};
 pub use fault::CiiFault;
 pub use merging::{apply, apply_to, diff, full, merge};
@@ -23,14 +28,6 @@ pub use name::CiiName;
 pub use reading::read_message;
 pub use state::State;
 pub use writing::write_message;
-
-#[cfg(test)]
-mod tests;
-
-ghost use Rattle.std.specs.Prelude.{◌≡◌, Ok, ℕ, List};
-ghost use Rattle.css_cii.specs.Messages.{NotMemory, message_of};
-ghost use Rattle.css_cii.specs.Texts.{change_text, EachOf, RatesAreInRange, IsUtf8Change};
-ghost use Rattle.css_cii.specs.declared.change.Change.{Change as said};
 
 /// A message that is written is read back as the same change.
 pub fn messages_are_read_back()

@@ -1,7 +1,7 @@
 ghost use Rattle.std.specs.Prelude.{IfOk};
 ghost use Rattle.css_cii.specs.Texts.{IsUtf8State};
 
-use crate::{
+use css_cii::{
     Change, CiiFault, CiiName, State, Told, apply, diff, full, merge, read_message, write_message,
 };
 use css_num::{Rate, Text, Timeline, Timelines};
