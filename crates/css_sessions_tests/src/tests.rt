@@ -4,10 +4,10 @@ use crate::model::{
     Call, PRESENTATIONS, SETUPS, STATES, Step, is_accepted, players, texts, window_of,
 };
 use crate::tables::{self, Row};
-use crate::{Kind, Said, SessionFault, Sessions};
 use css_cii::{State, apply_to, read_message};
 use css_num::{Memory, Text};
 use css_player::Player;
+use css_sessions::{Kind, Said, SessionFault, Sessions};
 use css_tsmsg::{TsFault, TsName};
 use css_window::Window;
 use std::alloc::Global;
