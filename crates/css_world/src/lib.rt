@@ -11,8 +11,6 @@ mod place;
 mod printed;
 mod session;
 mod television;
-#[cfg(test)]
-mod tests;
 mod watch;
 mod world;
 

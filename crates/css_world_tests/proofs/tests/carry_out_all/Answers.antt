@@ -1,7 +1,7 @@
 -- The number of the next line is above that of the last.
 use Rattle.std.proofs.Common.{◌≡◌, ◌+◌, ℕ, suc, arith, subst}
 use Rattle.css_world.specs.Standing.{IsNext}
-use Rattle.css_world.proofs.tests.carry_out_all.Goals as goal
+use Rattle.css_world_tests.proofs.tests.carry_out_all.Goals as goal
 
 pub carry_out-requires : goal.carry_out-requires
 carry_out-requires c =

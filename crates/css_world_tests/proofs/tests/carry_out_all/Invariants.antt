@@ -2,7 +2,7 @@
 use Rattle.std.proofs.Common.{List, suc}
 use Rattle.css_world.specs.Happened.{Numbered}
 use Rattle.css_world.specs.Standing.{StandsFor, IsNext}
-use Rattle.css_world.proofs.tests.carry_out_all.Given as goal
+use Rattle.css_world_tests.proofs.tests.carry_out_all.Given as goal
 
 abbrev pub invariant-loop-text : goal.invariant-loop-text
 invariant-loop-text l = (lines : List Numbered) × StandsFor l.world lines × IsNext (suc l.number) lines

@@ -1,6 +1,6 @@
 -- The line is one more, and the next number is above its own.
 use Rattle.std.proofs.Common.{suc, ◌<◌, ◌∷◌, arith}
-use Rattle.css_world.proofs.tests.carry_out.Goals as goal
+use Rattle.css_world_tests.proofs.tests.carry_out.Goals as goal
 
 pub returns-in-Ok : goal.returns-in-Ok
 returns-in-Ok c =

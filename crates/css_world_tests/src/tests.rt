@@ -3,9 +3,9 @@ ghost use Rattle.css_world.specs.Happened.{Numbered};
 ghost use Rattle.css_world.specs.Standing.{StandsFor, IsNext};
 ghost use Rattle.css_schedule.specs.Ranges.{IsHeader};
 
-use crate::{World, WorldFault};
 use css_player::PlayerFault;
 use css_schedule::{Header, Start, read_header, read_line};
+use css_world::{World, WorldFault};
 use std::alloc::Global;
 use std::process::Abort;
 use std::test::Fail;
