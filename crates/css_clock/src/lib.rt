@@ -19,8 +19,3 @@ pub use correlated::Correlated;
 pub use fault::ClockFault;
 pub use tick::{Root, Tick};
 pub use tree::Tree;
-
-#[cfg(test)]
-mod conversion_tests;
-#[cfg(test)]
-mod tests;

@@ -1,4 +1,4 @@
-use crate::{ClockFault, Correlated, Root, Tick, Tree};
+use css_clock::{ClockFault, Correlated, Root, Tick, Tree};
 use css_num::{Rate, Span};
 use std::alloc::Global;
 use std::process::Abort;

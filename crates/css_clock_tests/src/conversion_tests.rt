@@ -1,9 +1,9 @@
 ghost use Rattle.std.specs.Prelude.{◌<◌, ◌≤◌, pos, ◌≤ℤ◌, ◌<ℤ◌};
 
 use self::Made::{Early, Halted, Hidden, Late};
-use crate::ClockFault::{Beyond, NoCommon, NoSuch, Stopped, Unavailable};
 use crate::tests::{forest, rate};
-use crate::{ClockFault, Tree};
+use css_clock::ClockFault::{Beyond, NoCommon, NoSuch, Stopped, Unavailable};
+use css_clock::{ClockFault, Tree};
 use css_num::{Rate, Span};
 use std::alloc::Global;
 use std::process::Abort;
