@@ -21,4 +21,3 @@ pub mod TvNews
 pub mod TvTold
 pub mod TvTellings
 pub mod TvSessions
-pub mod TvTested

@@ -7,31 +7,15 @@ mod companion_dials;
 mod companion_hears;
 pub mod companion_laws;
 mod companion_live;
-#[cfg(test)]
-mod companion_tables;
-#[cfg(test)]
-mod companion_tests;
 mod companion_turns;
 mod config;
 mod driven;
-#[cfg(test)]
-mod follower_tests;
-#[cfg(test)]
-mod joined_outside;
-#[cfg(test)]
-mod joined_tests;
 mod listens;
 mod on_air;
 mod tv_calls;
 pub mod tv_laws;
 mod tv_lines;
-#[cfg(test)]
-mod tv_noted;
 mod tv_outputs;
-#[cfg(test)]
-mod tv_tables;
-#[cfg(test)]
-mod tv_tests;
 mod tv_turns;
 
 pub use companion::drive_companion;

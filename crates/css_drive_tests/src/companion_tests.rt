@@ -5,9 +5,9 @@ ghost use Rattle.css_outside.specs.Scripts.{are_readings};
 ghost use Rattle.css_drive.specs.Configs.{IsWindow, IsWritable};
 
 use crate::companion_tables::{Amounts, Case, Ended, FAILING, K, ROWS, Said, Times};
-use crate::{DriveConfig, Driven, Nobody, drive_companion};
 use css_client::Local;
 use css_companion::CompanionConfig;
+use css_drive::{DriveConfig, Driven, Nobody, drive_companion};
 use css_num::Text;
 use css_outside::{
     Address, Clocked, Datagram, Heard, MemoryOutside, MemorySink, OutsideScript, SessionHeard,

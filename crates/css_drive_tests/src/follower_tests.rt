@@ -1,8 +1,8 @@
 //! Followers of a companion's runs: what they say stands behind each report, and one that lacks memory ends the run.
 use crate::companion_tables::{Ended, K};
 use crate::companion_tests::{config_of, ended_as, script_of};
-use crate::{Before, Listens, Nobody, drive_companion};
 use css_companion::Report;
+use css_drive::{Before, Listens, Nobody, drive_companion};
 use css_follow::{Cues, Follower, Meter, Sheet, read_sheet};
 use css_num::{Memory, Text};
 use css_outside::{MemoryOutside, MemorySink};

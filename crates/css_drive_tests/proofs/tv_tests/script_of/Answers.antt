@@ -3,7 +3,7 @@ use Rattle.std.proofs.Common.{subst, sym}
 use Rattle.std.specs.Prelude.{All}
 use Rattle.std.proofs.lemmas.List.Elements.{All-push}
 use Rattle.css_schedule.specs.Ranges.{IsScriptLine}
-use Rattle.css_drive.proofs.tv_tests.script_of.Goals as goal
+use Rattle.css_drive_tests.proofs.tv_tests.script_of.Goals as goal
 
 pub loop-line-preserved : goal.loop-line-preserved
 loop-line-preserved c =

@@ -4,8 +4,8 @@ use Rattle.std.specs.Prelude.{IsTrue, Option, Some, List}
 use Rattle.css_model.specs.declared.Kind.{Kind}
 use Rattle.css_model.specs.declared.Kind.TheVariants as kind
 use Rattle.css_outside.specs.Scripts.{are_sessions}
-use Rattle.css_drive.proofs.TvTested.{sessions-push}
-use Rattle.css_drive.proofs.tv_tests.add_opening.Goals as goal
+use Rattle.css_drive_tests.proofs.TvTested.{sessions-push}
+use Rattle.css_drive_tests.proofs.tv_tests.add_opening.Goals as goal
 
 pub returns-in_ok-push-in-Cii : goal.returns-in_ok-push-in-Cii
 returns-in_ok-push-in-Cii c = λ all.

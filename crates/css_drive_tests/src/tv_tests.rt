@@ -6,7 +6,7 @@ ghost use Rattle.css_schedule.specs.Ranges.{IsScriptLine};
 
 use crate::tv_noted::Noted;
 use crate::tv_tables::{QUIET, ROWS, Row, Said, Times, TvEnded};
-use crate::{Driven, drive_tv};
+use css_drive::{Driven, drive_tv};
 use css_num::Text;
 use css_outside::{Clocked, Datagram, Heard, Kind, MemoryOutside, OutsideScript, SessionHeard};
 use css_schedule::{LineWhy, ScriptLine, read_script};

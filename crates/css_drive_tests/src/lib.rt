@@ -1,0 +1,19 @@
+//! Tests of the public calls of `css_drive`.
+#![tactic(auto)]
+
+#[cfg(test)]
+mod companion_tables;
+#[cfg(test)]
+mod companion_tests;
+#[cfg(test)]
+mod follower_tests;
+#[cfg(test)]
+mod joined_outside;
+#[cfg(test)]
+mod joined_tests;
+#[cfg(test)]
+mod tv_noted;
+#[cfg(test)]
+mod tv_tables;
+#[cfg(test)]
+mod tv_tests;
