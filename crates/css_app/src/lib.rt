@@ -1,20 +1,12 @@
 //! The program: what each command makes of its words and its devices.
 #![tactic(auto)]
 
-#[cfg(test)]
-mod agree_tests;
 mod agreement;
-#[cfg(test)]
-mod both_ends_tests;
 mod child;
 mod command;
 mod driven;
 mod live_companion;
 mod live_pair;
-#[cfg(test)]
-mod live_tables;
-#[cfg(test)]
-mod live_tests;
 mod live_tv;
 mod program;
 mod replay;
@@ -22,8 +14,6 @@ mod script_text;
 mod scripts;
 mod sheets;
 mod status;
-#[cfg(test)]
-mod tests;
 mod told;
 
 pub use child::{Child, address_at};

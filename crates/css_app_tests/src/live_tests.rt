@@ -6,7 +6,7 @@ ghost use Rattle.css_drive.specs.Configs.{IsWritable};
 ghost use Rattle.css_app.specs.Pairs as pairs;
 
 use crate::live_tables::{Amounts, COMPANIONS, Case, FAILING, K, PAIRS, TELEVISIONS, Times};
-use crate::{Child, Status, address_at, companion, pair, tell, tv};
+use css_app::{Child, Status, address_at, companion, pair, tell, tv};
 use css_client::Local;
 use css_companion::CompanionConfig;
 use css_drive::{Before, DriveConfig, Nobody};

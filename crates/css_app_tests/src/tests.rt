@@ -1,6 +1,6 @@
 ghost use Rattle.std.specs.Prelude.{◌<◌};
 
-use crate::{LineWhy, Status, run, tell};
+use css_app::{LineWhy, Status, run, tell};
 use css_cii::{CiiFault, CiiName};
 use css_outside::{Memory, MemorySink, MemorySource, OutFault};
 use css_schedule::PlayerFault;

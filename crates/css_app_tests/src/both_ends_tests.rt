@@ -1,5 +1,5 @@
 use crate::tests::{Case, Devices, replay, replay_each};
-use crate::{LineWhy, Status};
+use css_app::{LineWhy, Status};
 use css_schedule::PlayerFault;
 use std::test::Fail;
 

@@ -1,5 +1,5 @@
 use crate::tests::{Case, Devices, run_over};
-use crate::{LineWhy, Status};
+use css_app::{LineWhy, Status};
 use std::alloc::Global;
 use std::process::Abort;
 use std::test::Fail;

@@ -1,0 +1,13 @@
+//! Tests of the public calls of `css_app`.
+#![tactic(auto)]
+
+#[cfg(test)]
+mod agree_tests;
+#[cfg(test)]
+mod both_ends_tests;
+#[cfg(test)]
+mod live_tables;
+#[cfg(test)]
+mod live_tests;
+#[cfg(test)]
+mod tests;
