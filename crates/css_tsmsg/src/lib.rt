@@ -20,8 +20,3 @@ pub use name::TsName;
 pub use presentation::read_presentation;
 pub use setup::{Setup, read_setup};
 pub use writing::{write_control, write_presentation, write_setup};
-
-#[cfg(test)]
-mod tables;
-#[cfg(test)]
-mod tests;

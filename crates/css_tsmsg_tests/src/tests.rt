@@ -1,9 +1,9 @@
 use crate::tables::{CONTROLS, PRESENTATIONS, SETUPS};
-use crate::{
+use css_num::Text;
+use css_tsmsg::{
     Bound, Control, Presentation, Setup, TsFault, TsName, is_same, read_control, read_presentation,
     read_setup, write_control, write_presentation, write_setup,
 };
-use css_num::Text;
 use std::alloc::Global;
 use std::test::Fail;
 
