@@ -7,10 +7,10 @@ use crate::model::{
     wanted_by,
 };
 use crate::tests::{open, television};
-use crate::{Tv, TvEvent, TvOut};
 use css_num::{Rate, Text};
 use css_player::Command;
 use css_sessions::Kind;
+use css_tv::{Tv, TvEvent, TvOut};
 use std::alloc::Global;
 use std::process::Abort;
 use std::test::Fail;

@@ -3,10 +3,10 @@ ghost use Rattle.css_tv.specs.Stages.{Stage};
 ghost use Rattle.css_tv.specs.Standing.{IsEvent};
 
 use crate::tables::{self, Event, Row};
-use crate::{Tv, TvConfig, TvEvent, TvFault, TvOut};
 use css_num::{Memory, Rate, Text};
 use css_player::PlayerFault;
 use css_sessions::Kind;
+use css_tv::{Tv, TvConfig, TvEvent, TvFault, TvOut};
 use std::alloc::Global;
 use std::process::Abort;
 use std::test::Fail;
