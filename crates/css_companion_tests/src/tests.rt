@@ -3,9 +3,11 @@ ghost use Rattle.std.specs.Str.{IsUtf8};
 ghost use Rattle.css_companion.specs.Steps.{IsEvent};
 
 use crate::tables::{Answer, EARLY, EXACT, Happened, PRESENTS, RUNS, Row, Run, STAMPS};
-use crate::{Cause, Companion, CompanionConfig, CompanionEvent, CompanionFault, Report, line};
 use css_cii::{full, write_message};
 use css_client::{Landing, Local};
+use css_companion::{
+    Cause, Companion, CompanionConfig, CompanionEvent, CompanionFault, Report, line,
+};
 use css_model::LIMIT;
 use css_num::{Memory, Text};
 use css_tsmsg::Bound;

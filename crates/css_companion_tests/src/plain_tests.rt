@@ -5,7 +5,7 @@ ghost use Rattle.css_companion.specs.Steps.{IsEvent};
 
 use crate::tables::EXACT;
 use crate::tests::{datagram, new_companion};
-use crate::{Cause, Companion, CompanionEvent, Report};
+use css_companion::{Cause, Companion, CompanionEvent, Report};
 use css_num::Text;
 use css_tsmsg::{TsFault, TsName};
 use std::alloc::Global;
