@@ -1,7 +1,7 @@
 ghost use Rattle.std.specs.Prelude.{◌≤◌};
 
-use crate::{Command, Player, PlayerFault, Segment};
 use css_num::{Control, Rate};
+use css_player::{Command, Player, PlayerFault, Segment};
 use std::alloc::Global;
 use std::process::Abort;
 use std::test::Fail;
