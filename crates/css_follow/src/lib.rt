@@ -25,10 +25,3 @@ pub use line::Form;
 pub use meter::Meter;
 pub use reading::{SheetLines, read_sheet};
 pub use sheet::{Cue, CueList, Sheet};
-
-#[cfg(test)]
-mod plain_tests;
-#[cfg(test)]
-mod tables;
-#[cfg(test)]
-mod tests;

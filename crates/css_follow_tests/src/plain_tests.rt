@@ -3,7 +3,7 @@
 ghost use Rattle.std.specs.Prelude.{◌<◌, ◌≤◌, pos, ◌≤ℤ◌};
 
 use crate::tests::report_of;
-use crate::{Cues, Follower, Followers, Meter, read_sheet};
+use css_follow::{Cues, Follower, Followers, Meter, read_sheet};
 use css_num::{Memory, Text};
 use rand_core::SeedableRng;
 use rand_core::utils::NextWord;

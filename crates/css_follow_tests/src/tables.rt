@@ -1,6 +1,6 @@
 //! What is read of sheets, and what followers say of reports.
 
-use crate::SheetFault;
+use css_follow::SheetFault;
 
 /// How many cues a sheet has, and its meter.
 pub type Read = Result<(usize, Option<u32>), SheetFault>;

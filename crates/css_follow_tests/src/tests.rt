@@ -1,8 +1,8 @@
 //! Worked cases of sheets and followers.
 
 use crate::tables::{LONG_SHEETS, Read, SAYINGS, SHEETS, Step};
-use crate::{Cues, Follower, Followers, Meter, Sheet, SheetFault, read_sheet};
 use css_companion::{Cause, Report};
+use css_follow::{Cues, Follower, Followers, Meter, Sheet, SheetFault, read_sheet};
 use css_num::{Memory, Text};
 use std::alloc::Global;
 use std::process::Abort;
