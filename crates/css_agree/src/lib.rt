@@ -15,8 +15,6 @@ mod input;
 pub mod laws;
 mod printing;
 mod reader;
-#[cfg(test)]
-mod tests;
 
 pub use agree::Agree;
 pub use agreed::Agreed;

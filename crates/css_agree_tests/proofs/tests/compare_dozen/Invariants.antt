@@ -1,5 +1,5 @@
 use Rattle.std.proofs.Common.{◌≤◌, ◌*◌}
-use Rattle.css_agree.proofs.tests.compare_dozen.Given as goal
+use Rattle.css_agree_tests.proofs.tests.compare_dozen.Given as goal
 
 -- the next answer lands later
 abbrev pub invariant-loop-i : goal.invariant-loop-i

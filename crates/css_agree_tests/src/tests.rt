@@ -1,6 +1,6 @@
 ghost use Rattle.std.specs.Prelude.{◌<◌, ◌≤◌, ◌+◌, ◌*◌};
 
-use crate::{Agree, AgreeFault, Agreed, Answer, Local, Span};
+use css_agree::{Agree, AgreeFault, Agreed, Answer, Local, Span};
 use css_model::LIMIT;
 use css_span::{scaled_width, span};
 use std::alloc::Global;

@@ -1,0 +1,5 @@
+//! Tests of the public calls of `css_agree`.
+#![tactic(auto)]
+
+#[cfg(test)]
+mod tests;
