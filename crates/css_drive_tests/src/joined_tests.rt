@@ -8,8 +8,8 @@ ghost use Rattle.std.specs.Str.{IsUtf8};
 ghost use Rattle.css_outside.specs.Scripts.{are_readings};
 ghost use Rattle.css_drive.specs.Configs.{IsWritable};
 
-use crate::companion_tests::{awake, text};
 use crate::joined_outside::{Keeping, Network, Sending, keep};
+use crate::scripted::{awake, text};
 use crate::tv_tests::{openings_of, script_of};
 use css_client::Local;
 use css_companion::{CompanionConfig, Report};
@@ -313,6 +313,8 @@ impl Listens for Reports {
     ghost use Rattle.std.specs.Prelude.{[]};
 
     ghost heard = { λ _. [] };
+
+    ghost takes = { λ _ _. [] };
 
     fn prepare(&mut self, _sheet: &Sheet) -> Result<(), Memory> {
         Ok(())
