@@ -1,10 +1,10 @@
-//! The program `css` over the real standard streams.
+//! The program `css` over the real streams, sockets and programs.
 #![tactic(auto)]
 
-mod devices;
-
 use css_app::{Status, run, tell};
-use devices::{StdSink, StdSource};
+use css_drive::{Before, Nobody};
+use css_follow::{Cues, Meter};
+use css_net::{ChildSpawner, NetOutside, StdSink, StdSource};
 use std::env::Env;
 use std::io::{Error, ErrorKind};
 use std::process::ExitCode;
@@ -30,8 +30,25 @@ fn without_words(error: &Error) -> Status {
 fn main(rt: HostRuntime) -> ExitCode {
     let mut source = StdSource::new(rt.reader());
     let mut sink = StdSink::new(io::writer(&rt));
+    let mut outside = NetOutside::new(rt.alloc(), &rt);
+    let mut spawner = ChildSpawner::new(rt.alloc(), &rt);
+    let mut followers = Before {
+        first: Cues::new(rt.alloc()),
+        rest: Before {
+            first: Meter::new(rt.alloc()),
+            rest: Nobody,
+        },
+    };
     let status = match words(&rt) {
-        Ok(words) => run(rt.alloc(), &words, &mut source, &mut sink),
+        Ok(words) => run(
+            rt.alloc(),
+            &words,
+            &mut source,
+            &mut sink,
+            &mut outside,
+            &mut spawner,
+            &mut followers,
+        ),
         Err(error) => without_words(&error),
     };
     let mut errors = StdSink::new(rt.stderr().lock());

@@ -1,7 +1,8 @@
 -- What a run's end is as a status, and what is counted then.
-use Rattle.std.proofs.Common.{◌≡◌, ℕ, true, false, refl, ap, subst, ◌∙◌, arith, inl, inr, List}
-use Rattle.std.specs.Prelude.{◌⊎◌, Option, Some, Ok}
+use Rattle.std.proofs.Common.{◌≡◌, ℕ, refl, ap, subst, ◌∙◌, arith, inl, inr, List}
+use Rattle.std.specs.Prelude.{◌≢◌, ◌⊎◌, Option, Some, Ok}
 use Rattle.css_model.specs.History.{History}
+use Rattle.css_follow.specs.Following.{Plan}
 use Rattle.css_follow.specs.Sheets.{sheet_in}
 use Rattle.css_follow.specs.declared.sheet.Sheet.{Sheet}
 use Rattle.css_drive.specs.CompanionDue as companion
@@ -18,7 +19,7 @@ use Rattle.css_app.specs.declared.status.Status.{Status}
 use Rattle.css_app.specs.declared.status.Status.TheVariants as status
 use Rattle.css_app.specs.Ended.{CountsReads, CountsWrites, HasNotFailed}
 use Rattle.css_app.specs.Live.{CountsCalls, CountsDials, EndsAsDue, HasNoScript, HasNoSheet, MakesRun, ServesAsDue}
-use Rattle.css_app.specs.Live.{Stage, driven_status, is_write_fault}
+use Rattle.css_app.specs.Live.{Stage, driven_status}
 use Rattle.css_app.specs.Scripts.{script_in}
 
 -- ---- counts
@@ -48,11 +49,11 @@ driven-writes (driven.BadUrl property) before now counted = counted
 driven-writes driven.Memory before now counted = counted
 
 -- a run that ended with no failed write
-pub driven-no_writes : (ended : Driven) (count : ℕ) → is_write_fault ended ≡ false
+pub driven-no_writes : (ended : Driven) (count : ℕ) → ended ≢ driven.WriteFault
     → CountsWrites count count (driven_status ended)
 driven-no_writes driven.Done count none = refl
 driven-no_writes (driven.BadLine line why) count none = refl
-driven-no_writes driven.WriteFault count none = absurd (cc)
+driven-no_writes driven.WriteFault count none = absurd (none refl)
 driven-no_writes driven.NetFault count none = refl
 driven-no_writes (driven.BadCii text fault) count none = refl
 driven-no_writes (driven.Moved property old new) count none = refl
@@ -107,10 +108,10 @@ due_or_memory due (driven.BadUrl property) w w' c c' ends wrote called nw nc = i
 due_or_memory due driven.Memory w w' c c' ends wrote called nw nc = inl refl
 
 -- a companion's run over devices that didn't fail
-pub as_due : (config : DriveConfig) (before now : Stage) (result : Status) (w w' c c' : ℕ)
-    → MakesRun config before now result → CountsWrites w w' result → CountsCalls c c' result
+pub as_due : (config : DriveConfig) (plans : List Plan) (before now : Stage) (result : Status) (w w' c c' : ℕ)
+    → MakesRun config plans before now result → CountsWrites w w' result → CountsCalls c c' result
     → HasNotFailed w w' → HasNotFailed c c' → EndsAsDue config before.told now.told result
-as_due config before now result w w' c c' made wrote called nw nc =
+as_due config plans before now result w w' c c' made wrote called nw nc =
     by (due_or_memory (companion.due config made.ran.history) made.ended w w' c c' made.ran.ends
     (subst (CountsWrites w w') made.tells wrote) (subst (CountsCalls c c') made.tells called) nw nc)
   where
@@ -128,7 +129,7 @@ as_due config before now result w w' c c' made wrote called nw nc =
 
 -- a television's run over an outside that didn't fail
 pub served_as_due : (run : TvRun) (before now : Option History) (ended : Driven) (c c' : ℕ)
-    → TvRan run before now ended → is_write_fault ended ≡ false → CountsNetFault c c' ended → HasNotFailed c c'
+    → TvRan run before now ended → ended ≢ driven.WriteFault → CountsNetFault c c' ended → HasNotFailed c c'
     → ServesAsDue run before now (driven_status ended)
 served_as_due run before now ended c c' ran none called nc =
     by (due_or_memory (tv.due run ran.h) ended 0 0 c c' ran.ends (driven-no_writes ended 0 none)
@@ -144,35 +145,6 @@ served_as_due run before now ended c c' ran none called nc =
       due = due;
       tells = refl;
     })
-
-is_write : (ended : Driven) → is_write_fault ended ≡ true → ended ≡ driven.WriteFault
-is_write driven.WriteFault fault = refl
-is_write driven.Done fault = absurd (cc)
-is_write (driven.BadLine line why) fault = absurd (cc)
-is_write driven.NetFault fault = absurd (cc)
-is_write (driven.BadCii text reason) fault = absurd (cc)
-is_write (driven.Moved property old new) fault = absurd (cc)
-is_write (driven.Spent turns) fault = absurd (cc)
-is_write (driven.Unreachable turns) fault = absurd (cc)
-is_write (driven.BadUrl property) fault = absurd (cc)
-is_write driven.Memory fault = absurd (cc)
-
--- no other call failed then
-pub write-calls : (ended : Driven) (before now : ℕ) → is_write_fault ended ≡ true → CountsNetFault before now ended
-    → now ≡ before
-write-calls ended before now fault counted = subst (CountsNetFault before now) (is_write ended fault) counted
-
--- a television's run that ended with a failed write may as well have lacked memory
-pub ran_out : (run : TvRun) (before now : Option History) (ended : Driven) → TvRan run before now ended
-    → is_write_fault ended ≡ true → TvRan run before now driven.Memory
-ran_out run before now ended ran fault = record {
-  h = ran.h;
-  grew = ran.grew;
-  proper = ran.proper;
-  numbered = ran.numbered;
-  ends = tt;
-  whole = tt;
-}
 
 -- ---- inputs
 -- a sheet that could be read was not read only for want of memory

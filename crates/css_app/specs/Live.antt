@@ -1,5 +1,5 @@
 -- How the live commands end: a companion's run by a cue sheet, and a television's run by a script.
-use Rattle.std.specs.Prelude.{◌≡◌, ◌⊎◌, ℕ, ◌≤◌, Bool, true, false, List, Option, Some, None}
+use Rattle.std.specs.Prelude.{◌≡◌, ◌⊎◌, ℕ, ◌≤◌, List, Option, Some, None}
 use Rattle.std.specs.Prelude.{Ok, Err, Result, MatchResult, ⊤}
 use Rattle.std.specs.Io.KnownBytes.{Consumes, IsAtEnd}
 use Rattle.css_lines.specs.declared.ending.Stop.{Stop}
@@ -7,7 +7,7 @@ use Rattle.css_lines.specs.declared.ending.Stop.TheVariants as stops
 use Rattle.css_model.specs.History.{History}
 use Rattle.css_outside.specs.Faults.{HasRisen}
 use Rattle.css_outside.specs.Outsides.{with_entries}
-use Rattle.css_follow.specs.Following.{Seen}
+use Rattle.css_follow.specs.Following.{Plan, Seen}
 use Rattle.css_follow.specs.Sheets.{sheet_in}
 use Rattle.css_follow.specs.declared.fault.SheetFault.TheVariants.{Line}
 use Rattle.css_follow.specs.declared.line.Form.{Form}
@@ -15,6 +15,7 @@ use Rattle.css_follow.specs.declared.sheet.Sheet.{Sheet}
 use Rattle.css_drive.specs.CompanionDue as companion
 use Rattle.css_drive.specs.CompanionDue.{IsProperRun}
 use Rattle.css_drive.specs.CompanionRun.{Ran}
+use Rattle.css_drive.specs.Listening.{Listener, all_plans, all_seen}
 use Rattle.css_drive.specs.Proper.{IsProper, Ends}
 use Rattle.css_drive.specs.TvDue as tv
 use Rattle.css_drive.specs.TvDue.{TvRun}
@@ -43,10 +44,6 @@ driven_status (driven.Spent turns) = status.Spent turns
 driven_status (driven.Unreachable turns) = status.Unreachable turns
 driven_status (driven.BadUrl property) = status.BadUrl property
 driven_status driven.Memory = status.Memory
-
-abbrev pub is_write_fault : Driven → Bool
-is_write_fault driven.WriteFault = true
-is_write_fault _ = false
 
 -- the status where a cue sheet was not read
 abbrev pub sheet_status : Stop Form → Status
@@ -82,6 +79,12 @@ CountsSpawns before now _ = before ≤ now
 -- A status that comes before a run tells no fault of the sink, of the outside or of a spawner.
 pub record TellsNoRun (result : Status) : Type 0 where
   pub writes : (count : ℕ) → CountsWrites count count result
+  pub calls : (count : ℕ) → CountsCalls count count result
+  pub dials : (count : ℕ) → CountsDials count count result
+  pub spawns : (count : ℕ) → CountsSpawns count count result
+
+-- A status of a command over lines tells no fault of the outside or of a spawner.
+pub record TellsNoLive (result : Status) : Type 0 where
   pub calls : (count : ℕ) → CountsCalls count count result
   pub dials : (count : ℕ) → CountsDials count count result
   pub spawns : (count : ℕ) → CountsSpawns count count result
@@ -130,13 +133,18 @@ pub record Stage : Type 0 where
   pub told : Option History
   pub heard : List Seen
 
-abbrev pub stage : Option (List ℕ) → Option History → List Seen → Stage
-stage holds told heard = record { holds = holds; told = told; heard = heard }
+abbrev pub stage : Option (List ℕ) → Option History → List Listener → Stage
+stage holds told listeners = record { holds = holds; told = told; heard = all_seen listeners }
 
--- a run was made, and the status says how it ended
-pub record MakesRun (config : DriveConfig) (before now : Stage) (result : Status) : Type 0 where
+-- A run was made, which followers with these plans followed, and the status says how it ended.
+pub record MakesRun (config : DriveConfig) (plans : List Plan) (before now : Stage) (result : Status) : Type 0 where
+  pub followers : List Listener
+  pub followed : List Listener
+  pub planned : all_plans followers ≡ plans
+  pub began : all_seen followers ≡ before.heard
+  pub heard : all_seen followed ≡ now.heard
   pub ended : Driven
-  pub ran : Ran config before.told now.told before.holds now.holds before.heard now.heard ended
+  pub ran : Ran config before.told now.told before.holds now.holds followers followed ended
   pub tells : result ≡ driven_status ended
 
 -- no run was made: nothing was asked of the outside, written or heard
@@ -144,17 +152,19 @@ pub record MakesNoRun (left : Option (List ℕ)) (before now : Stage) (result : 
   pub untouched : now ≡ before
   pub cause : HasNoSheet left result
 
--- the source was read to its end, its bytes are a cue sheet, and then a run was made
-pub record RunsBySheet (config : DriveConfig) (left_old left_new : Option (List ℕ)) (before now : Stage)
-    (result : Status) : Type 0 where
+-- The source was read to its end, its bytes are a cue sheet, and then a run was made, which the followers followed by
+-- the plans that this sheet gives them.
+pub record RunsBySheet (config : DriveConfig) (takes : Sheet → List Plan) (left_old left_new : Option (List ℕ))
+    (before now : Stage) (result : Status) : Type 0 where
   pub sheet : Sheet
   pub gives : GivesSheet left_old left_new sheet
-  pub makes : MakesRun config before now result
+  pub makes : MakesRun config (takes sheet) before now result
 
 -- what `companion` comes to
-abbrev pub Companions : DriveConfig → Option (List ℕ) → Option (List ℕ) → Stage → Stage → Status → Type 0
-Companions config left_old left_new before now result =
-    MakesNoRun left_old before now result ⊎ RunsBySheet config left_old left_new before now result
+abbrev pub Companions : DriveConfig → (Sheet → List Plan) → Option (List ℕ) → Option (List ℕ) → Stage → Stage → Status
+    → Type 0
+Companions config takes left_old left_new before now result =
+    MakesNoRun left_old before now result ⊎ RunsBySheet config takes left_old left_new before now result
 
 -- the run was made to an end that was due
 pub record IsAsDue (config : DriveConfig) (before now : Option History) (result : Status) : Type 0 where

@@ -1,6 +1,7 @@
 use Rattle.std.proofs.Common.{subst, sym, ap, refl, inl, inr}
+use Rattle.css_drive.specs.Listening.{all_plans}
 use Rattle.css_app.specs.Ended.{CountsReads}
-use Rattle.css_app.specs.Live.{MakesRun, stage}
+use Rattle.css_app.specs.Live.{MakesRun, Stage, stage}
 use Rattle.css_app.proofs.Live.{as_due, sheet_lacks}
 use Rattle.css_app.proofs.live_companion.companion.Goals as goal
 
@@ -26,8 +27,13 @@ returns-in-Err-clause-counted_dials g c =
 pub returns-in-Err-prepared-clause-ran : goal.returns-in-Err-prepared-clause-ran
 returns-in-Err-prepared-clause-ran g c =
     inl (record {
-      untouched = ap (λ heard. stage (g.K.Sink.holds c.args.sink.now) (g.O.Outside.told c.args.outside.now) heard)
-          c.prepare-prepared.ensures;
+      untouched =
+          ap {B = Stage} (λ seen. record {
+            holds = g.K.Sink.holds c.args.sink.now;
+            told = g.O.Outside.told c.args.outside.now;
+            heard = seen;
+          })
+          c.prepare-prepared.ensures.same_seen;
       cause = tt;
     })
 
@@ -37,16 +43,21 @@ returns-in-Ok-prepared-clause-ran g c =
     inr (record {
       sheet = c.in-Ok.sheet;
       gives = c.in-Ok.ensures.value;
-      makes = subst (λ heard. MakesRun c.args.config
-          (stage (g.K.Sink.holds c.args.sink.now) (g.O.Outside.told c.args.outside.now) heard)
+      makes = subst (λ plans. MakesRun c.args.config plans
+          (stage (g.K.Sink.holds c.args.sink.now) (g.O.Outside.told c.args.outside.now)
+          (g.F.Listens.heard c.args.followers.now))
           (stage (g.K.Sink.holds c.make_run.new.sink) (g.O.Outside.told c.make_run.new.outside)
-          (g.F.Listens.heard c.make_run.new.followers)) c.make_run.result) c.prepare-prepared.ensures
-          c.make_run.ensures.makes;
+          (g.F.Listens.heard c.make_run.new.followers)) c.make_run.result) c.in-Ok-prepared.ensures.as_sheet
+          (subst (λ seen. MakesRun c.args.config (all_plans (g.F.Listens.heard c.prepare-prepared.new.self))
+          (record { holds = g.K.Sink.holds c.args.sink.now; told = g.O.Outside.told c.args.outside.now; heard = seen })
+          (stage (g.K.Sink.holds c.make_run.new.sink) (g.O.Outside.told c.make_run.new.outside)
+          (g.F.Listens.heard c.make_run.new.followers)) c.make_run.result) c.prepare-prepared.ensures.same_seen
+          c.make_run.ensures.makes);
     })
 
 pub returns-in-Ok-prepared-clause-complete : goal.returns-in-Ok-prepared-clause-complete
 returns-in-Ok-prepared-clause-complete g c bytes sheet is ok read wrote called =
-    as_due c.args.config _ _ _ _ _ _ _ c.make_run.ensures.makes c.make_run.ensures.counted_writes
+    as_due c.args.config _ _ _ _ _ _ _ _ c.make_run.ensures.makes c.make_run.ensures.counted_writes
     c.make_run.ensures.counted_calls wrote called
 
 pub returns-in-Ok-prepared-clause-counted_reads : goal.returns-in-Ok-prepared-clause-counted_reads
