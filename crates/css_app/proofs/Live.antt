@@ -1,6 +1,6 @@
 -- What a run's end is as a status, and what is counted then.
-use Rattle.std.proofs.Common.{◌≡◌, ℕ, true, false, refl, ap, subst, ◌∙◌, arith, inl, inr, List}
-use Rattle.std.specs.Prelude.{◌⊎◌, Option, Some, Ok}
+use Rattle.std.proofs.Common.{◌≡◌, ℕ, refl, ap, subst, ◌∙◌, arith, inl, inr, List}
+use Rattle.std.specs.Prelude.{◌≢◌, ◌⊎◌, Option, Some, Ok}
 use Rattle.css_model.specs.History.{History}
 use Rattle.css_follow.specs.Sheets.{sheet_in}
 use Rattle.css_follow.specs.declared.sheet.Sheet.{Sheet}
@@ -18,7 +18,7 @@ use Rattle.css_app.specs.declared.status.Status.{Status}
 use Rattle.css_app.specs.declared.status.Status.TheVariants as status
 use Rattle.css_app.specs.Ended.{CountsReads, CountsWrites, HasNotFailed}
 use Rattle.css_app.specs.Live.{CountsCalls, CountsDials, EndsAsDue, HasNoScript, HasNoSheet, MakesRun, ServesAsDue}
-use Rattle.css_app.specs.Live.{Stage, driven_status, is_write_fault}
+use Rattle.css_app.specs.Live.{Stage, driven_status}
 use Rattle.css_app.specs.Scripts.{script_in}
 
 -- ---- counts
@@ -48,11 +48,11 @@ driven-writes (driven.BadUrl property) before now counted = counted
 driven-writes driven.Memory before now counted = counted
 
 -- a run that ended with no failed write
-pub driven-no_writes : (ended : Driven) (count : ℕ) → is_write_fault ended ≡ false
+pub driven-no_writes : (ended : Driven) (count : ℕ) → ended ≢ driven.WriteFault
     → CountsWrites count count (driven_status ended)
 driven-no_writes driven.Done count none = refl
 driven-no_writes (driven.BadLine line why) count none = refl
-driven-no_writes driven.WriteFault count none = absurd (cc)
+driven-no_writes driven.WriteFault count none = absurd (none refl)
 driven-no_writes driven.NetFault count none = refl
 driven-no_writes (driven.BadCii text fault) count none = refl
 driven-no_writes (driven.Moved property old new) count none = refl
@@ -128,7 +128,7 @@ as_due config before now result w w' c c' made wrote called nw nc =
 
 -- a television's run over an outside that didn't fail
 pub served_as_due : (run : TvRun) (before now : Option History) (ended : Driven) (c c' : ℕ)
-    → TvRan run before now ended → is_write_fault ended ≡ false → CountsNetFault c c' ended → HasNotFailed c c'
+    → TvRan run before now ended → ended ≢ driven.WriteFault → CountsNetFault c c' ended → HasNotFailed c c'
     → ServesAsDue run before now (driven_status ended)
 served_as_due run before now ended c c' ran none called nc =
     by (due_or_memory (tv.due run ran.h) ended 0 0 c c' ran.ends (driven-no_writes ended 0 none)
@@ -144,35 +144,6 @@ served_as_due run before now ended c c' ran none called nc =
       due = due;
       tells = refl;
     })
-
-is_write : (ended : Driven) → is_write_fault ended ≡ true → ended ≡ driven.WriteFault
-is_write driven.WriteFault fault = refl
-is_write driven.Done fault = absurd (cc)
-is_write (driven.BadLine line why) fault = absurd (cc)
-is_write driven.NetFault fault = absurd (cc)
-is_write (driven.BadCii text reason) fault = absurd (cc)
-is_write (driven.Moved property old new) fault = absurd (cc)
-is_write (driven.Spent turns) fault = absurd (cc)
-is_write (driven.Unreachable turns) fault = absurd (cc)
-is_write (driven.BadUrl property) fault = absurd (cc)
-is_write driven.Memory fault = absurd (cc)
-
--- no other call failed then
-pub write-calls : (ended : Driven) (before now : ℕ) → is_write_fault ended ≡ true → CountsNetFault before now ended
-    → now ≡ before
-write-calls ended before now fault counted = subst (CountsNetFault before now) (is_write ended fault) counted
-
--- a television's run that ended with a failed write may as well have lacked memory
-pub ran_out : (run : TvRun) (before now : Option History) (ended : Driven) → TvRan run before now ended
-    → is_write_fault ended ≡ true → TvRan run before now driven.Memory
-ran_out run before now ended ran fault = record {
-  h = ran.h;
-  grew = ran.grew;
-  proper = ran.proper;
-  numbered = ran.numbered;
-  ends = tt;
-  whole = tt;
-}
 
 -- ---- inputs
 -- a sheet that could be read was not read only for want of memory

@@ -1,5 +1,5 @@
 -- How the live commands end: a companion's run by a cue sheet, and a television's run by a script.
-use Rattle.std.specs.Prelude.{◌≡◌, ◌⊎◌, ℕ, ◌≤◌, Bool, true, false, List, Option, Some, None}
+use Rattle.std.specs.Prelude.{◌≡◌, ◌⊎◌, ℕ, ◌≤◌, List, Option, Some, None}
 use Rattle.std.specs.Prelude.{Ok, Err, Result, MatchResult, ⊤}
 use Rattle.std.specs.Io.KnownBytes.{Consumes, IsAtEnd}
 use Rattle.css_lines.specs.declared.ending.Stop.{Stop}
@@ -43,10 +43,6 @@ driven_status (driven.Spent turns) = status.Spent turns
 driven_status (driven.Unreachable turns) = status.Unreachable turns
 driven_status (driven.BadUrl property) = status.BadUrl property
 driven_status driven.Memory = status.Memory
-
-abbrev pub is_write_fault : Driven → Bool
-is_write_fault driven.WriteFault = true
-is_write_fault _ = false
 
 -- the status where a cue sheet was not read
 abbrev pub sheet_status : Stop Form → Status

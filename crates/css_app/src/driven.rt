@@ -1,6 +1,5 @@
 ghost use Rattle.std.specs.Prelude.{◌≡◌};
 ghost use Rattle.css_app.specs.Live.{driven_status};
-ghost use Rattle.css_app.specs.Live as live;
 
 use crate::status::Status;
 use css_drive::Driven;
@@ -21,11 +20,4 @@ pub(crate) fn status_of(driven: Driven) -> Status
         Driven::BadUrl { property } => Status::BadUrl { property },
         Driven::Memory => Status::Memory,
     }
-}
-
-/// Whether a run ended with a failed write.
-pub(crate) fn is_write_fault(driven: &Driven) -> bool
-    ensures { result ≡ live.is_write_fault driven.now }
-{
-    matches!(driven, Driven::WriteFault)
 }

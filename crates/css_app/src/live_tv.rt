@@ -6,7 +6,7 @@ ghost use Rattle.css_app.specs.Ended.{CountsReads, CountsWrites, HasNotFailed};
 ghost use Rattle.css_app.specs.Live.{CountsCalls, Serves, ServesAsDue};
 ghost use Rattle.css_app.specs.Scripts.{script_in};
 
-use crate::driven::{is_write_fault, status_of};
+use crate::driven::status_of;
 use crate::scripts::take_script;
 use crate::status::Status;
 use css_drive::drive_tv;
@@ -54,9 +54,5 @@ pub fn tv<S: Source, O: Outside>(
     };
     let ended = drive_tv(alloc, config, turns, &script, outside);
     drop(script);
-    // A television writes nothing.
-    if is_write_fault(&ended) {
-        return Status::Memory;
-    }
     status_of(ended)
 }

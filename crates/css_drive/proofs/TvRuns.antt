@@ -111,4 +111,5 @@ counts_stopped before mid now ended dials faults (Err f) is k =
           counts_by before.faults now.faults ended (λ e.
           subst (λ n. HasRisen n now.faults) faults (k.failed (ap Err (same ∙ e))))
           (λ other. k.other (λ e. other (sym same ∙ e)) ∙ faults);
+      no_writes = λ e. k.no_writes (same ∙ e);
     }

@@ -1,5 +1,5 @@
 -- What a television's run did, and how it ended.
-use Rattle.std.specs.Prelude.{◌≡◌, ◌<◌, ◌≤◌, ℕ, List, [], ◌∷◌, Option, ⊤}
+use Rattle.std.specs.Prelude.{◌≡◌, ◌≢◌, ◌<◌, ◌≤◌, ℕ, List, [], ◌∷◌, Option, ⊤}
 use Rattle.css_model.specs.History.{Entry, History, Accepted}
 use Rattle.css_outside.specs.Outsides.{Counts, with_entries}
 use Rattle.css_drive.specs.Ends.{MayEnd, CountsNetFault}
@@ -35,7 +35,8 @@ pub record TvRan (run : TvRun) (start told : Option History) (ended : Driven) : 
   pub ends : MayEnd (due run h) ended
   pub whole : MadeTurns run h ended
 
--- what the run counted: faults of calls other than dials at `NetFault` alone
+-- What the run counted: faults of calls other than dials at `NetFault` alone. A television writes nothing.
 pub record CountsTvRun (before now : Counts) (ended : Driven) : Type 0 where
   pub dials : now.dial_faults ≡ before.dial_faults
   pub faults : CountsNetFault before.faults now.faults ended
+  pub no_writes : ended ≢ driven.WriteFault

@@ -42,6 +42,7 @@ IsRead why before now reading =
     (slept : Bool) × (now ≡ with_entries (clock_entries why (record { reading = reading; slept = slept })) before)
 
 -- No count falls. That of the faults of other calls than dials has risen at `NetFault`, and else it is as before.
+-- Nothing is written.
 pub record HasCause {T : Type 0} (before now : Counts) (result : Result T Driven) : Type 0 where
   pub dials : now.dial_faults ≡ before.dial_faults
   pub peers : before.peers ≤ now.peers
@@ -49,6 +50,7 @@ pub record HasCause {T : Type 0} (before now : Counts) (result : Result T Driven
   pub ok : OnOk result (now.faults ≡ before.faults)
   pub failed : IsErrOf result driven.NetFault → HasRisen before.faults now.faults
   pub other : IfErr result (λ ended. ended ≢ driven.NetFault → now.faults ≡ before.faults)
+  pub no_writes : IfErr result (λ ended. ended ≢ driven.WriteFault)
 
 -- ---- the history and the television
 -- The calls told this history, which is proper, and which has come so far.

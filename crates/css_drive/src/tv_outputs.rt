@@ -1,4 +1,4 @@
-ghost use Rattle.std.specs.Prelude.{◌≡◌, ◌∷◌, [], List, Option, OnOk, IfErr};
+ghost use Rattle.std.specs.Prelude.{◌≡◌, ◌≢◌, ◌∷◌, [], List, Option, OnOk, IfErr};
 ghost use Rattle.css_model.specs.History.{History};
 ghost use Rattle.css_tv.specs.Standing.{IsEvent, IsFresh, calls_of};
 ghost use Rattle.css_tv.specs.declared.event.TvOut.{TvOut as Output};
@@ -17,6 +17,7 @@ pub(crate) fn fault_of(fault: OutFault) -> Driven
     ensures fault { IsFault result }
     ensures net { result ≡ driven.NetFault → fault ≡ OutFault.Failed }
     ensures other { fault ≡ OutFault.Failed → result ≡ driven.NetFault }
+    ensures no_writes { result ≢ driven.WriteFault }
 {
     match fault {
         OutFault::Failed => Driven::NetFault,

@@ -1,12 +1,10 @@
 use Rattle.std.proofs.Common.{List, subst, sym, refl, inl, inr, ◌∙◌}
 use Rattle.css_drive.specs.TvDue.{TvRun}
 use Rattle.css_drive.specs.TvRan.{TvRan}
-use Rattle.css_drive.specs.declared.driven.Driven.TheVariants as driven
 use Rattle.css_schedule.specs.declared.line.ScriptLine.{ScriptLine}
 use Rattle.css_app.specs.Ended.{CountsReads, CountsWrites}
 use Rattle.css_app.specs.Live.{CountsCalls, ServesAsDue}
-use Rattle.css_app.proofs.Live.{driven-calls, driven-no_writes, driven-reads, ran_out, script_lacks, served_as_due}
-use Rattle.css_app.proofs.Live.{write-calls}
+use Rattle.css_app.proofs.Live.{driven-calls, driven-no_writes, driven-reads, script_lacks, served_as_due}
 use Rattle.css_app.proofs.TextsTaken.{same_script}
 use Rattle.css_app.proofs.live_tv.tv.Goals as goal
 
@@ -23,32 +21,6 @@ returns-in-Err-clause-counted_calls g c = c.in-Err.ensures.quiet.calls (g.O.Outs
 
 pub returns-in-Err-clause-writes : goal.returns-in-Err-clause-writes
 returns-in-Err-clause-writes g c = c.in-Err.ensures.quiet.writes
-
--- the run ended with a failed write, which it can't
-pub returns-then-is_write_fault-clause-ran : goal.returns-then-is_write_fault-clause-ran
-returns-then-is_write_fault-clause-ran g c =
-    let run : TvRun = record { config = c.args.config; turns = c.args.turns; script = c.in-Ok.script.items } in
-    inr (record {
-      script = c.in-Ok.script.items;
-      gives = c.in-Ok.ensures.value;
-      ended = driven.Memory;
-      ran = ran_out run (g.O.Outside.told c.args.outside.now) (g.O.Outside.told c.drive_tv-ended.new.outside)
-          c.drive_tv-ended.result
-          (subst (λ (script : List ScriptLine).
-          TvRan (record { config = c.args.config; turns = c.args.turns; script = script })
-          (g.O.Outside.told c.args.outside.now) (g.O.Outside.told c.drive_tv-ended.new.outside)
-          c.drive_tv-ended.result) c.deref.ensures.value c.drive_tv-ended.ensures.ran)
-          (sym c.is_write_fault.ensures ∙ c.if-is_write_fault.true);
-      tells = refl;
-    })
-
-pub returns-then-is_write_fault-clause-complete : goal.returns-then-is_write_fault-clause-complete
-returns-then-is_write_fault-clause-complete g c bytes script is ok read called = inl refl
-
-pub returns-then-is_write_fault-clause-counted_calls : goal.returns-then-is_write_fault-clause-counted_calls
-returns-then-is_write_fault-clause-counted_calls g c =
-    write-calls c.drive_tv-ended.result _ _ (sym c.is_write_fault.ensures ∙ c.if-is_write_fault.true)
-    c.drive_tv-ended.ensures.counted.faults
 
 -- the run
 pub returns-clause-ran : goal.returns-clause-ran
@@ -77,12 +49,12 @@ returns-clause-complete g c bytes script is ok read called =
     TvRan (record { config = c.args.config; turns = c.args.turns; script = lines })
     (g.O.Outside.told c.args.outside.now) (g.O.Outside.told c.drive_tv-ended.new.outside)
     c.drive_tv-ended.result) (c.deref.ensures.value ∙ same) c.drive_tv-ended.ensures.ran)
-    (sym c.is_write_fault.ensures ∙ c.if-is_write_fault.false) c.drive_tv-ended.ensures.counted.faults called)
+    c.drive_tv-ended.ensures.counted.no_writes c.drive_tv-ended.ensures.counted.faults called)
 
 pub returns-clause-writes : goal.returns-clause-writes
 returns-clause-writes g c n =
     subst (CountsWrites n n) (sym c.status_of.ensures)
-    (driven-no_writes c.drive_tv-ended.result n (sym c.is_write_fault.ensures ∙ c.if-is_write_fault.false))
+    (driven-no_writes c.drive_tv-ended.result n c.drive_tv-ended.ensures.counted.no_writes)
 
 pub returns-clause-counted_reads : goal.returns-clause-counted_reads
 returns-clause-counted_reads g c =
