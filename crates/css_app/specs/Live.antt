@@ -15,6 +15,7 @@ use Rattle.css_follow.specs.declared.sheet.Sheet.{Sheet}
 use Rattle.css_drive.specs.CompanionDue as companion
 use Rattle.css_drive.specs.CompanionDue.{IsProperRun}
 use Rattle.css_drive.specs.CompanionRun.{Ran}
+use Rattle.css_drive.specs.Listening.{Listener, all_seen}
 use Rattle.css_drive.specs.Proper.{IsProper, Ends}
 use Rattle.css_drive.specs.TvDue as tv
 use Rattle.css_drive.specs.TvDue.{TvRun}
@@ -126,13 +127,17 @@ pub record Stage : Type 0 where
   pub told : Option History
   pub heard : List Seen
 
-abbrev pub stage : Option (List ℕ) → Option History → List Seen → Stage
-stage holds told heard = record { holds = holds; told = told; heard = heard }
+abbrev pub stage : Option (List ℕ) → Option History → List Listener → Stage
+stage holds told listeners = record { holds = holds; told = told; heard = all_seen listeners }
 
--- a run was made, and the status says how it ended
+-- A run was made, which these followers followed, and the status says how it ended.
 pub record MakesRun (config : DriveConfig) (before now : Stage) (result : Status) : Type 0 where
+  pub followers : List Listener
+  pub followed : List Listener
+  pub began : all_seen followers ≡ before.heard
+  pub heard : all_seen followed ≡ now.heard
   pub ended : Driven
-  pub ran : Ran config before.told now.told before.holds now.holds before.heard now.heard ended
+  pub ran : Ran config before.told now.told before.holds now.holds followers followed ended
   pub tells : result ≡ driven_status ended
 
 -- no run was made: nothing was asked of the outside, written or heard

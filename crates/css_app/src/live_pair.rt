@@ -1,5 +1,6 @@
 ghost use Rattle.std.specs.Prelude.{◌≡◌, List, ℕ, IfOk, Ok, Some};
 ghost use Rattle.css_drive.specs.Configs.{IsWritable};
+ghost use Rattle.css_drive.specs.Listening.{all_seen};
 ghost use Rattle.css_schedule.specs.declared.line.ScriptLine.{ScriptLine};
 ghost use Rattle.css_app.specs.Ended.{CountsReads, CountsWrites, HasNotFailed};
 ghost use Rattle.css_app.specs.Live.{CountsCalls, CountsDials, CountsSpawns, stage};
@@ -100,7 +101,7 @@ fn prepare<F: Listens>(
     followers: &mut F,
 ) -> Result<Vec<Text>, Memory>
     ensures words { IfOk result (λ words. words.items ≡ pairs.child_words child.now turns) }
-    ensures heard { F.heard followers.new ≡ F.heard followers.old }
+    ensures heard { all_seen (F.heard followers.new) ≡ all_seen (F.heard followers.old) }
 {
     followers.prepare(&Sheet::empty(alloc))?;
     child_words(alloc, child, turns)

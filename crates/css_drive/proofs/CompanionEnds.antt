@@ -1,6 +1,7 @@
 -- How a turn begins, and how a run ends.
 use Rattle.std.proofs.Common.{◌≡◌, ℕ, ◌+◌, suc, ap, sym, ◌∙◌, subst, refl, Bool, true, false, cond, inl, inr, add-one}
 use Rattle.std.proofs.Common.{List, [], ◌∷◌, ◌++◌, append_assoc, append-nil, length, Option, Some, None, Result, Ok}
+use Rattle.std.proofs.Common.{map, flat_map}
 use Rattle.std.proofs.Common.{Err, eq-eqb}
 use Rattle.std.specs.Prelude.{is_some, nat_lt, ◌||◌, ◌&&◌, unwrap_or, ◌⊎◌}
 use Rattle.std.specs.Io.KnownBytes.{Appends}
@@ -20,13 +21,13 @@ use Rattle.css_companion.specs.Printed.{line_of}
 use Rattle.css_companion.specs.Standing.{Companion}
 use Rattle.css_companion.specs.declared.report.Report.{Report}
 use Rattle.css_companion.proofs.Headline as headline
-use Rattle.css_follow.specs.Following.{Seen, HearEach}
 use Rattle.css_drive.specs.CompanionDue.{due, hang_up, from_hang_ups, from_turn, from_cii, from_end, final}
 use Rattle.css_drive.specs.CompanionDue.{is_short, IsProperRun}
 use Rattle.css_drive.specs.CompanionReports.{due_reports, report_at, is_due, written, all_but_newest, IsPart}
 use Rattle.css_drive.specs.CompanionReports.{HasWritten}
 use Rattle.css_drive.specs.CompanionReports.{IsPromisedAt, KeepsPromises}
 use Rattle.css_drive.specs.CompanionRun.{Followed, HearFirst, HeardNewest, FollowedInPart, HasFollowed, Ran}
+use Rattle.css_drive.specs.CompanionRun.{after_all, said_of}
 use Rattle.css_drive.specs.CompanionStanding.{Shown, Facts, facts_of, facts_in, Stands, Stops, Comes, Goes, Knows}
 use Rattle.css_drive.specs.CompanionStanding.{asked_after}
 use Rattle.css_drive.specs.CompanionStanding.{IsWritten, IsPartlyWritten, IsWriteFault, Audience, HasTold, Writes}
@@ -34,6 +35,7 @@ use Rattle.css_drive.specs.CompanionStanding.{Turned}
 use Rattle.css_drive.specs.CompanionStanding.{Ended, IsOver, IsHangingUp, hung, ending_of}
 use Rattle.css_drive.specs.CompanionTurns.{turn_at, turns, dialled, opened, any_dialled, is_peer, unless}
 use Rattle.css_drive.specs.Ends.{MayEnd, CountsNetFault}
+use Rattle.css_drive.specs.Listening.{Listener, HearEach, hearing, words_of}
 use Rattle.css_drive.specs.Proper.{Due, Now, HangUp, Ends, MayAdd, Empty, More}
 use Rattle.css_drive.specs.declared.companion_live.Live.{Live}
 use Rattle.css_drive.specs.declared.config.DriveConfig.{DriveConfig}
@@ -140,14 +142,29 @@ wrote_whole reports said (driven.Spent turns) e = refl
 wrote_whole reports said (driven.Unreachable turns) e = refl
 wrote_whole reports said (driven.BadUrl property) e = refl
 
-followed_part : (reports : List Report) (said : List (List ℕ)) (before now : List Seen)
-    → Followed reports said before now → FollowedInPart reports said before now
-followed_part [] [] before now f = record { between = before; earlier = refl; newest = f }
-followed_part (r ∷ rs) (w ∷ ws) before now f = record { between = f.0; earlier = f.1; newest = inl f.2 }
-followed_part [] (w ∷ ws) before now f = absurd f
-followed_part (r ∷ rs) [] before now f = absurd f
+-- the first of two lists that are alike, and the rest
+same_head : {A : Type 0} (x y : A) (xs ys : List A) → x ∷ xs ≡ y ∷ ys → x ≡ y
+same_head x y xs ys e = cc
 
-followed_whole : (reports : List Report) (said : List (List ℕ)) (before now : List Seen) (ended : Driven)
+same_tail : {A : Type 0} (x y : A) (xs ys : List A) → x ∷ xs ≡ y ∷ ys → xs ≡ ys
+same_tail x y xs ys e = cc
+
+followed_part : (reports : List Report) (said : List (List ℕ)) (before now : List Listener)
+    → Followed reports said before now → FollowedInPart reports said before now
+followed_part [] said before now f = record {
+  between = before;
+  earlier = record { heard = refl; words = ap all_but_newest f.words };
+  newest = f.heard;
+}
+followed_part (r ∷ rs) (w ∷ ws) before now f = record {
+  between = after_all rs before;
+  earlier = record { heard = refl; words = same_tail w _ ws (said_of rs before) f.words };
+  newest =
+      inl (record { heard = f.heard; said = same_head w _ ws (said_of rs before) f.words });
+}
+followed_part (r ∷ rs) [] before now f = absurd (let e = f.words in cc)
+
+followed_whole : (reports : List Report) (said : List (List ℕ)) (before now : List Listener) (ended : Driven)
     → Followed reports said before now → HasFollowed reports said before now ended
 followed_whole reports said before now driven.WriteFault f = followed_part reports said before now f
 followed_whole reports said before now driven.Memory f = followed_part reports said before now f
@@ -179,7 +196,7 @@ ended_whole config before now started audience reports said ended s t =
         bytes = written reports said;
         grew = t.grew;
         wrote = subst P (sym s.made) (wrote_whole reports said ended t.each);
-        followed = subst Q (sym s.made) (followed_whole reports said started.heard audience.heard ended t.followed);
+        listened = subst Q (sym s.made) (followed_whole reports said started.heard audience.heard ended t.followed);
       };
       counted = s.counted;
     }
@@ -203,7 +220,11 @@ told_newest started old new number report reports said t e w =
     record {
       grew = appends_more started.holds old.holds new.holds (written reports said) (line_of (length reports + 1)
           report None ++ w.words) t.grew (subst P e w.grew);
-      followed = (old.heard, t.followed, w.heard);
+      followed = record {
+        heard = w.heard.heard ∙ ap (map (hearing report)) t.followed.heard;
+        words = ap (λ x. x ∷ said) (w.heard.said ∙ ap (flat_map (words_of report)) t.followed.heard)
+            ∙ ap (λ x. flat_map (words_of report) (after_all reports started.heard) ∷ x) t.followed.words;
+      };
       each = ap suc t.each;
     }
 
@@ -232,7 +253,7 @@ wrote_part reports said bytes (driven.Spent n) f p = absurd f
 wrote_part reports said bytes (driven.Unreachable n) f p = absurd f
 wrote_part reports said bytes (driven.BadUrl property) f p = absurd f
 
-heard_part : (reports : List Report) (said : List (List ℕ)) (before now : List Seen) (ended : Driven)
+heard_part : (reports : List Report) (said : List (List ℕ)) (before now : List Listener) (ended : Driven)
     → IsWriteFault ended → FollowedInPart reports said before now → HasFollowed reports said before now ended
 heard_part reports said before now driven.WriteFault f p = p
 heard_part reports said before now driven.Memory f p = p
@@ -281,7 +302,7 @@ ended_partly config before now live started old new report reports said history 
         bytes = bytes;
         grew = appends_more started.holds old.holds new.holds (written reports said) part.front t.grew part.grew;
         wrote = subst P (sym made) (wrote_part (report ∷ reports) (w.words ∷ said) bytes ended w.fault is_part);
-        followed = subst Q (sym made) (heard_part (report ∷ reports) (w.words ∷ said) started.heard new.heard ended
+        listened = subst Q (sym made) (heard_part (report ∷ reports) (w.words ∷ said) started.heard new.heard ended
             w.fault (record { between = old.heard; earlier = t.followed; newest = w.heard }));
       };
       counted = counts_same before.counts.faults now.counts.faults ended (no_net ended w.fault) s.faults;

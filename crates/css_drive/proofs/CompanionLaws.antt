@@ -1,9 +1,9 @@
 -- The laws of companions' runs.
 use Rattle.std.proofs.Common.{◌≡◌, ℕ, ◌+◌, ◌≤◌, ◌<◌, arith, suc, ap, sym, ◌∙◌, subst, refl, Bool, true, false, cond}
-use Rattle.std.proofs.Common.{inl, inr}
+use Rattle.std.proofs.Common.{inl, inr, map}
 use Rattle.std.proofs.Common.{List, [], ◌∷◌, ◌++◌, length, drop, Option, Some, None, Result, Ok, Err}
 use Rattle.std.proofs.lemmas.Bool.{ltb-true, ltb-false}
-use Rattle.std.specs.Prelude.{◌&&◌, nat_lt, ◌⊎◌, is_some}
+use Rattle.std.specs.Prelude.{◌&&◌, nat_lt, ◌⊎◌, is_some, if◌then◌else◌}
 use Rattle.css_model.specs.declared.Kind.{Kind}
 use Rattle.css_model.specs.declared.Kind.TheVariants as kind
 use Rattle.css_model.specs.declared.Why.{Why}
@@ -26,7 +26,7 @@ use Rattle.css_companion.specs.declared.fault.CompanionFault.TheVariants as faul
 use Rattle.css_companion.specs.Standing.{wanted_by}
 use Rattle.css_tsmsg.specs.Setups.{setup_text}
 use Rattle.css_companion.specs.declared.report.Report.{Report}
-use Rattle.css_follow.specs.Following.{Seen, Hears, HearEach, told_unless, after}
+use Rattle.css_follow.specs.Following.{Seen, Hears, told_unless, after, ends_by}
 use Rattle.css_drive.specs.CompanionDue as dues
 use Rattle.css_drive.specs.CompanionDue.{Point, due, due_at, dial_to, dial_first, take_text, hang_up, sending, send_to}
 use Rattle.css_drive.specs.CompanionDue.{from_hang_ups, from_turn, from_cii, from_wc, from_ts, from_ask, from_take}
@@ -37,7 +37,8 @@ use Rattle.css_drive.specs.CompanionLaws.{ReportsAreAsAsked, MakesReports, Follo
 use Rattle.css_drive.specs.CompanionReports.{due_reports, is_due, report_at, with_report}
 use Rattle.css_drive.specs.CompanionTurns.{turn_at, first_turn, this_turn, turns, dialled, opened, any_dialled}
 use Rattle.css_drive.specs.CompanionTurns.{asked_turn, is_asking}
-use Rattle.css_drive.specs.CompanionRun.{Followed}
+use Rattle.css_drive.specs.CompanionRun.{Followed, after_all}
+use Rattle.css_drive.specs.Listening.{Listener, hearing, words_of}
 use Rattle.css_drive.specs.Proper.{Due, Listen, Now, Dial, Accept, SendDatagram, TakeDatagram, TakeText, SendText}
 use Rattle.css_drive.specs.Proper.{HangUp}
 use Rattle.css_drive.specs.Proper.{Ends, MayAdd, IsProper, Empty, More}
@@ -77,18 +78,27 @@ hears_more report reports before between now said h s = by between.done refl
           all = λ f. refl;
         }
 
-each_more : (report : Report) (reports : List Report) (before between now : List Seen) (said : List ℕ)
-    → EachHasHeard reports before between → HearEach report between now said
-    → EachHasHeard (report ∷ reports) before now
-each_more report reports [] [] [] said e h = tt
-each_more report reports (b ∷ bs) (m ∷ ms) (n ∷ ns) said e h =
-    (hears_more report reports b m n h.0 e.0 h.3, each_more report reports bs ms ns h.1 e.1 h.4)
-each_more report reports [] (m ∷ ms) now said e h = absurd e
-each_more report reports (b ∷ bs) [] now said e h = absurd e
-each_more report reports [] [] (n ∷ ns) said e h = absurd h
-each_more report reports (b ∷ bs) (m ∷ ms) [] said e h = absurd h
+hears : (report : Report) (l : Listener) → Hears report l.seen (hearing report l).seen (words_of report l)
+hears report l = record {
+  ends = ends_by l.plan l.seen report;
+  rests = record {
+    silent = λ e. ap (λ d. if d then [] else l.plan.says l.seen.heard report) e;
+    stays = λ e. ap (λ d. if d then true else l.plan.ends l.seen.heard report) e;
+  };
+  heard = refl;
+}
 
-each_none : (before : List Seen) → EachHasHeard [] before before
+each_more : (report : Report) (reports : List Report) (before between : List Listener)
+    → EachHasHeard reports before between → EachHasHeard (report ∷ reports) before (map (hearing report) between)
+each_more report reports [] [] e = tt
+each_more report reports (b ∷ bs) (m ∷ ms) e = (
+  hears_more report reports b.seen m.seen (hearing report m).seen (words_of report m) e.0 (hears report m),
+  each_more report reports bs ms e.1,
+)
+each_more report reports [] (m ∷ ms) e = absurd e
+each_more report reports (b ∷ bs) [] e = absurd e
+
+each_none : (before : List Listener) → EachHasHeard [] before before
 each_none [] = tt
 each_none (b ∷ bs) = (
   record {
@@ -102,13 +112,14 @@ each_none (b ∷ bs) = (
   each_none bs,
 )
 
+each_hears : (reports : List Report) (before : List Listener) → EachHasHeard reports before (after_all reports before)
+each_hears [] before = each_none before
+each_hears (r ∷ rs) before = each_more r rs before (after_all rs before) (each_hears rs before)
+
 pub followers_hear : FollowersHear
-followers_hear [] [] before now f = let P : List Seen → Type 0 = λ x. EachHasHeard [] before x in subst P (sym f)
-    (each_none before)
-followers_hear (r ∷ rs) (w ∷ ws) before now f = each_more r rs before f.0 now w (followers_hear rs ws before f.0 f.1)
-    f.2
-followers_hear [] (w ∷ ws) before now f = absurd f
-followers_hear (r ∷ rs) [] before now f = absurd f
+followers_hear reports said before now f =
+    let P : List Listener → Type 0 = λ x. EachHasHeard reports before x in
+    subst P (sym f.heard) (each_hears reports before)
 
 -- ---- reports
 -- another turn, or the end with all reports made

@@ -1,6 +1,6 @@
 -- What the turns of a run come to.
 use Rattle.std.proofs.Common.{◌≡◌, ◌≤◌, ℕ, ap, sym, ◌∙◌, subst, refl, inl, inr, Bool, true, false, suc, arith}
-use Rattle.std.proofs.Common.{List, [], ◌∷◌, ◌++◌, append_assoc, append-nil, Option, Some, None, Result, Ok, Err}
+use Rattle.std.proofs.Common.{List, [], ◌∷◌, ◌++◌, append_assoc, append-nil, take, Option, Some, None, Result, Ok, Err}
 use Rattle.std.proofs.lemmas.Grind.{common_steps}
 use Rattle.std.specs.Prelude.{nat_lt, ◌⊎◌, OnOk, OnErr, IfErr, MatchResult}
 use Rattle.std.specs.Io.KnownBytes.{Appends}
@@ -13,7 +13,7 @@ use Rattle.css_companion.specs.Meanings.{report_after}
 use Rattle.css_companion.specs.Printed.{line_of}
 use Rattle.css_companion.specs.Standing.{Companion, own_of}
 use Rattle.css_companion.specs.declared.report.Report.{Report}
-use Rattle.css_follow.specs.Following.{Seen, HearEach, SayFirst, RestsWhenDone, told}
+use Rattle.css_follow.specs.Following.{Seen, Plan, told, says_by, ends_by}
 use Rattle.css_drive.specs.CompanionDue.{due, from_end}
 use Rattle.css_drive.specs.CompanionReports.{report_at}
 use Rattle.css_drive.specs.CompanionStanding.{Shown, Stands, Begins, Knows, Writes, Audience, IsWritten}
@@ -21,7 +21,7 @@ use Rattle.css_drive.specs.CompanionStanding.{IsPartlyWritten, IsWriteFault, Has
 use Rattle.css_drive.specs.CompanionStanding.{IsFault, IsOver, IsHangingUp, CountsSink}
 use Rattle.css_drive.specs.CompanionStanding.{ending_of, facts_of, facts_in, KnowsPeers}
 use Rattle.css_drive.specs.Ends.{CountsWriteFault, CountsDialFaults}
-use Rattle.css_drive.specs.Listening.{TellsEach}
+use Rattle.css_drive.specs.Listening.{Listener, HearEach, SayFirst, TellsEach, hearing, words_of}
 use Rattle.css_drive.specs.Proper.{Empty, Now}
 use Rattle.css_drive.specs.declared.companion_live.Live.{Live}
 use Rattle.css_drive.specs.declared.config.DriveConfig.{DriveConfig}
@@ -30,32 +30,55 @@ use Rattle.css_drive.specs.declared.driven.Driven.TheVariants as driven
 use Rattle.css_drive.proofs.CompanionEnds.{appends_none, next_turn, is_over}
 
 -- ---- followers
+-- one that was told a report, and keeps its plan
+pub listener_hears : (report : Report) (plan plan_new : Plan) (seen seen_new : Seen) (says : List ℕ) (ends : Bool)
+    → plan_new ≡ plan → says ≡ says_by plan seen report → ends ≡ ends_by plan seen report
+    → seen_new ≡ told report says ends seen
+    → record { plan = plan_new; seen = seen_new } ≡ hearing report (record { plan = plan; seen = seen })
+listener_hears report plan plan_new seen seen_new says ends keeps said ended heard =
+    ap {B = Listener} (λ p. record { plan = p; seen = seen_new }) keeps
+    ∙ ap {B = Listener} (λ s. record { plan = plan; seen = s })
+    (heard ∙ ap (λ w. told report w ends seen) said ∙ ap (λ d. told report (says_by plan seen report) d seen) ended)
+
+each_hears : (report : Report) (b n : Listener) (bs ns : List Listener) (words : List ℕ) → n ≡ hearing report b
+    → HearEach report bs ns words → HearEach report (b ∷ bs) (n ∷ ns) (words_of report b ++ words)
+each_hears report b n bs ns words h each = record {
+  heard = ap (λ x. x ∷ ns) h ∙ ap (λ x. hearing report b ∷ x) each.heard;
+  said = ap (λ x. words_of report b ++ x) each.said;
+}
+
 -- one that heard the report, and those who are told after it
-pub tells_on : {T E : Type 0} (r : Result T E) (report : Report) (b n : Seen) (bs ns : List Seen)
-    (old mid new says : List ℕ) (ends : Bool) → n ≡ told report says ends b → mid ≡ old ++ says
-    → RestsWhenDone b says ends → TellsEach r report bs ns mid new → TellsEach r report (b ∷ bs) (n ∷ ns) old new
-tells_on (Ok v) report b n bs ns old mid new says ends h m rests t = (
-  says ++ t.0,
-  t.1 ∙ ap (λ x. x ++ t.0) m ∙ append_assoc old says t.0,
-  (says, t.0, refl, record { ends = ends; rests = rests; heard = h }, t.2),
+pub tells_on : {T E : Type 0} (r : Result T E) (report : Report) (b n : Listener) (bs ns : List Listener)
+    (old mid new : List ℕ) → n ≡ hearing report b → mid ≡ old ++ words_of report b → TellsEach r report bs ns mid new
+    → TellsEach r report (b ∷ bs) (n ∷ ns) old new
+tells_on (Ok v) report b n bs ns old mid new h m t = (
+  words_of report b ++ t.0,
+  t.1 ∙ ap (λ x. x ++ t.0) m ∙ append_assoc old (words_of report b) t.0,
+  each_hears report b n bs ns t.0 h t.2,
 )
-tells_on (Err e) report b n bs ns old mid new says ends h m rests s = record {
+tells_on (Err e) report b n bs ns old mid new h m s = record {
   count = suc s.count;
-  said = says ++ s.said;
-  each = (says, s.said, refl, record { ends = ends; rests = rests; heard = h }, s.each);
+  said = words_of report b ++ s.said;
+  each = each_hears report b n (take s.count bs) (take s.count ns) s.said h s.each;
   rest = s.rest;
-  grew = s.grew ∙ ap (λ x. x ++ s.said) m ∙ append_assoc old says s.said;
+  grew = s.grew ∙ ap (λ x. x ++ s.said) m ∙ append_assoc old (words_of report b) s.said;
 }
 
 -- none heard it
-pub tells_none : (report : Report) (bs ns : List Seen) (old new : List ℕ) → ns ≡ bs → new ≡ old
+pub tells_none : (report : Report) (bs ns : List Listener) (old new : List ℕ) → ns ≡ bs → new ≡ old
     → SayFirst report bs ns old new
 tells_none report bs ns old new e f =
-    record { count = 0; said = []; each = refl; rest = e; grew = f ∙ sym (append-nil old) }
+    record {
+      count = 0;
+      said = [];
+      each = record { heard = refl; said = refl };
+      rest = e;
+      grew = f ∙ sym (append-nil old);
+    }
 
 -- ---- reports
 -- the text of a report was written, or a part of it
-pub wrote_text : {T : Type 0} (held holds : Option (List ℕ)) (number : ℕ) (report : Report) (before now : List Seen)
+pub wrote_text : {T : Type 0} (held holds : Option (List ℕ)) (number : ℕ) (report : Report) (before now : List Listener)
     (text : List ℕ) (r : Result T Driven) → HasSaid number report before now text → OnOk r (Appends held holds text)
     → OnErr r (AppendsPrefix held holds text) → IfErr r IsWriteFault
     → MatchResult r (λ _. IsWritten held holds number report before now)
@@ -68,7 +91,7 @@ wrote_text held holds number report before now text (Err e) s ok err fault =
     record { fault = fault; words = s.words; grew = subst P s.is err; heard = inl s.heard }
 
 -- it has no text, and nothing was written
-pub wrote_none : (held : Option (List ℕ)) (number : ℕ) (report : Report) (before now : List Seen)
+pub wrote_none : (held : Option (List ℕ)) (number : ℕ) (report : Report) (before now : List Listener)
     → HasSaidFirst report before now → IsPartlyWritten held held number report before now driven.Memory
 wrote_none held number report before now s = record {
   fault = tt;
@@ -305,7 +328,7 @@ pub new_writes : (config : DriveConfig) (before : Shown) (live : Live) (companio
 new_writes config before live companion started k facts peers = record {
   reports = [];
   said = [];
-  told = record { grew = appends_none started.holds; followed = refl; each = refl };
+  told = record { grew = appends_none started.holds; followed = record { heard = refl; words = refl }; each = refl };
   comes = record {
     history = [];
     known = k;

@@ -6,6 +6,7 @@ use Rattle.css_follow.specs.Following.{Seen}
 use Rattle.css_drive.specs.CompanionDue.{due, IsProperRun}
 use Rattle.css_drive.specs.CompanionReports.{due_reports}
 use Rattle.css_drive.specs.CompanionRun.{Followed}
+use Rattle.css_drive.specs.Listening.{Listener}
 use Rattle.css_drive.specs.Proper.{Ends}
 use Rattle.css_drive.specs.declared.config.DriveConfig.{DriveConfig}
 use Rattle.css_drive.specs.declared.driven.Driven.TheVariants as driven
@@ -30,13 +31,14 @@ pub record HasHeard (reports : List Report) (before now : Seen) : Type 0 where
   pub all : now.done ≡ false → missed ≡ 0
 
 -- each of them, in their order
-abbrev pub EachHasHeard : List Report → List Seen → List Seen → Type 0
+abbrev pub EachHasHeard : List Report → List Listener → List Listener → Type 0
 EachHasHeard reports [] [] = Unit {0}
-EachHasHeard reports (before ∷ befores) (now ∷ nows) = HasHeard reports before now × EachHasHeard reports befores nows
+EachHasHeard reports (before ∷ befores) (now ∷ nows) =
+    HasHeard reports before.seen now.seen × EachHasHeard reports befores nows
 EachHasHeard reports [] (now ∷ nows) = ⊥
 EachHasHeard reports (before ∷ befores) [] = ⊥
 
 -- Followers that followed a run have each heard it.
 abbrev pub FollowersHear : Type 0
-FollowersHear = (reports : List Report) (said : List (List ℕ)) (before now : List Seen)
+FollowersHear = (reports : List Report) (said : List (List ℕ)) (before now : List Listener)
     → Followed reports said before now → EachHasHeard reports before now

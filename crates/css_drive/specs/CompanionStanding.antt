@@ -20,13 +20,13 @@ use Rattle.css_address.specs.declared.fault.AddressFault.{AddressFault}
 use Rattle.css_cii.specs.declared.name.CiiName.{CiiName}
 use Rattle.css_companion.specs.Printed.{line_of}
 use Rattle.css_companion.specs.declared.fault.CompanionFault.{CompanionFault}
-use Rattle.css_follow.specs.Following.{Seen, HearEach}
 use Rattle.css_outside.specs.Bytes.{AppendsPrefix}
 use Rattle.css_drive.specs.CompanionRun.{Followed, HearFirst, Ran}
 use Rattle.css_drive.specs.CompanionTurns.{first_turn, this_turn, turns, dialled, opened, asked_turn}
 use Rattle.css_drive.specs.CompanionReports.{due_reports, report_at, written}
 use Rattle.css_drive.specs.CompanionDue.{due, from_hang_ups, from_turn, from_end, final, end_by, IsProperRun}
 use Rattle.css_drive.specs.Ends.{MayEnd, CountsNetFault, CountsWriteFault}
+use Rattle.css_drive.specs.Listening.{Listener, HearEach}
 use Rattle.css_drive.specs.Proper.{Due}
 use Rattle.css_drive.specs.declared.companion_live.Live.{Live}
 use Rattle.css_drive.specs.declared.config.DriveConfig.{DriveConfig}
@@ -250,18 +250,18 @@ pub record Begins (config : DriveConfig) (before now : Shown) (live : Live) (com
 
 -- ---- reports
 -- A report has this text, its line and what the followers said of it.
-pub record HasSaid (number : ℕ) (report : Report) (before now : List Seen) (text : List ℕ) : Type 0 where
+pub record HasSaid (number : ℕ) (report : Report) (before now : List Listener) (text : List ℕ) : Type 0 where
   pub words : List ℕ
   pub is : text ≡ line_of number report None ++ words
   pub heard : HearEach report before now words
 
 -- a report has no text, and the first of the followers heard it
-pub record HasSaidFirst (report : Report) (before now : List Seen) : Type 0 where
+pub record HasSaidFirst (report : Report) (before now : List Listener) : Type 0 where
   pub words : List ℕ
   pub heard : HearFirst report before now words
 
 -- A report's line was written, with what the followers said of it.
-pub record IsWritten (held holds : Option (List ℕ)) (number : ℕ) (report : Report) (before now : List Seen)
+pub record IsWritten (held holds : Option (List ℕ)) (number : ℕ) (report : Report) (before now : List Listener)
     : Type 0 where
   pub words : List ℕ
   pub grew : Appends held holds (line_of number report None ++ words)
@@ -274,7 +274,7 @@ IsWriteFault driven.Memory = ⊤
 IsWriteFault _ = ⊥
 
 -- A report was written in part, or not at all.
-pub record IsPartlyWritten (held holds : Option (List ℕ)) (number : ℕ) (report : Report) (before now : List Seen)
+pub record IsPartlyWritten (held holds : Option (List ℕ)) (number : ℕ) (report : Report) (before now : List Listener)
     (ended : Driven) : Type 0 where
   pub fault : IsWriteFault ended
   pub words : List ℕ
@@ -284,9 +284,9 @@ pub record IsPartlyWritten (held holds : Option (List ℕ)) (number : ℕ) (repo
 -- what a sink holds, and what its followers heard
 pub record Audience : Type 0 where
   pub holds : Option (List ℕ)
-  pub heard : List Seen
+  pub heard : List Listener
 
-abbrev pub audience : Option (List ℕ) → List Seen → Audience
+abbrev pub audience : Option (List ℕ) → List Listener → Audience
 audience holds heard = record { holds = holds; heard = heard }
 
 -- The sink holds these reports, and the followers heard them.

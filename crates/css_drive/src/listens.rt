@@ -1,7 +1,6 @@
 //! Those who follow a companion's run.
 ghost use Rattle.std.specs.Prelude.{◌≡◌, List};
-ghost use Rattle.css_follow.specs.Following.{Seen};
-ghost use Rattle.css_drive.specs.Listening.{TellsEach};
+ghost use Rattle.css_drive.specs.Listening.{Listener, TellsEach, all_seen};
 
 use css_companion::Report;
 use css_follow::{Follower, Sheet};
@@ -9,16 +8,16 @@ use css_num::{Memory, Text};
 
 /// Those who follow a companion's run, in their order. A run is generic in them: it boxes none.
 pub trait Listens {
-    /// What there is to see of each of them.
-    ghost heard: { Self → List Seen };
+    /// What there is to see of each of them, and by which plan each speaks.
+    ghost heard: { Self → List Listener };
 
     /// Hands a cue sheet to each of them, up to the first that lacks memory. Whatever it answers, each of them has
     /// heard and said what it had before, and is done where it was.
     fn prepare(&mut self, sheet: &Sheet) -> Result<(), Memory>
-        ensures { heard self.new ≡ heard self.old };
+        ensures { all_seen (heard self.new) ≡ all_seen (heard self.old) };
 
-    /// Tells each of them a report, and adds to `out` what they say of it. Those that are done stay as they are and say
-    /// nothing. After want of memory the first of them have heard the report.
+    /// Tells each of them a report, and adds to `out` what they say of it by their plans, which stay. Those that are done
+    /// stay as they are and say nothing. After want of memory the first of them have heard the report.
     fn tell(&mut self, report: &Report, out: &mut Text) -> Result<(), Memory>
         ensures { TellsEach result report.now (heard self.old) (heard self.new) out.old out.new };
 }
@@ -53,7 +52,7 @@ pub struct Before<A, B> {
 impl<A: Follower, B: Listens> Listens for Before<A, B> {
     ghost use Rattle.std.specs.Prelude.{◌∷◌};
 
-    ghost heard = { λ both. A.seen both.first ∷ B.heard both.rest };
+    ghost heard = { λ both. record { plan = A.plan both.first; seen = A.seen both.first } ∷ B.heard both.rest };
 
     fn prepare(&mut self, sheet: &Sheet) -> Result<(), Memory> {
         self.first.prepare(sheet)?;

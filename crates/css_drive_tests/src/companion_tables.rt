@@ -1,4 +1,5 @@
 //! The rows of a companion's runs.
+use crate::scripted::Said;
 use css_cii::{CiiFault, CiiName};
 
 /// What the clock reads in a row.
@@ -16,14 +17,6 @@ pub enum Times {
     Soon,
     /// 0, 1 and 2 seconds.
     Seconds,
-}
-
-/// What a session tells when it is asked.
-#[derive(Clone, Copy)]
-pub enum Said {
-    Quiet,
-    Text(&'static str),
-    Closed,
 }
 
 /// How a run ends.

@@ -1,39 +1,18 @@
 //! A companion's runs over an outside in memory: each fault, each refusal and each end is a row.
-ghost use Rattle.std.specs.Prelude.{◌≡◌, ◌≤◌, [], IfOk, IfSome, IsTrue, false, true};
-ghost use Rattle.std.specs.Str.{IsUtf8};
+ghost use Rattle.std.specs.Prelude.{◌≡◌, ◌≤◌, [], IfOk, IfSome, IsTrue};
 ghost use Rattle.css_outside.specs.Scripts.{are_readings};
 ghost use Rattle.css_drive.specs.Configs.{IsWindow, IsWritable};
 
-use crate::companion_tables::{Amounts, Case, Ended, FAILING, K, ROWS, Said, Times};
+use crate::companion_tables::{Amounts, Case, Ended, FAILING, K, ROWS, Times};
+use crate::scripted::{asleep, awake, datagrams_of, text, texts_of};
 use css_client::Local;
 use css_companion::CompanionConfig;
 use css_drive::{DriveConfig, Driven, Nobody, drive_companion};
-use css_num::Text;
-use css_outside::{
-    Address, Clocked, Datagram, Heard, MemoryOutside, MemorySink, OutsideScript, SessionHeard,
-};
+use css_outside::{Address, Clocked, MemoryOutside, MemorySink, OutsideScript};
 use css_tsmsg::Bound;
 use std::alloc::Global;
 use std::process::Abort;
 use std::test::Fail;
-
-pub fn awake(reading: u64) -> Clocked
-    ensures { result ≡ record { reading = reading; slept = false } }
-{
-    Clocked {
-        reading,
-        slept: false,
-    }
-}
-
-fn asleep(reading: u64) -> Clocked
-    ensures { result ≡ record { reading = reading; slept = true } }
-{
-    Clocked {
-        reading,
-        slept: true,
-    }
-}
 
 /// What the clock reads.
 fn readings_of(alloc: Global, times: Times) -> Result<Vec<Clocked>, Fail>
@@ -81,54 +60,18 @@ fn readings_of(alloc: Global, times: Times) -> Result<Vec<Clocked>, Fail>
     }
 }
 
-fn heard_of(alloc: Global, said: Said) -> Result<Heard, Fail> {
-    match said {
-        Said::Text(words) => Ok(Heard::Text(Text::of(alloc, words.as_bytes())?)),
-        Said::Quiet => Ok(Heard::Quiet),
-        Said::Closed => Ok(Heard::Closed),
-    }
-}
-
-fn texts_of(alloc: Global, rows: &[(u32, Said)]) -> Result<Vec<SessionHeard>, Fail> {
-    let mut texts = Vec::new(alloc);
-    for (session, said) in rows {
-        texts.push(SessionHeard {
-            session: *session,
-            heard: heard_of(alloc, *said)?,
-        })?;
-    }
-    Ok(texts)
-}
-
-fn datagrams_of(alloc: Global, rows: &[&[u8]]) -> Result<Vec<Option<Datagram>>, Fail> {
-    let mut datagrams = Vec::new(alloc);
-    for bytes in rows {
-        datagrams.push(Some(Datagram {
-            peer: 2,
-            bytes: Text::of(alloc, bytes)?,
-        }))?;
-    }
-    Ok(datagrams)
-}
-
 pub fn script_of(alloc: Global, case: &Case, fails: &[u64]) -> Result<OutsideScript, Fail>
     ensures readings { IfOk result (λ script. IsTrue (are_readings 0 script.readings.items)) }
     ensures openings { IfOk result (λ script. script.openings.items ≡ []) }
 {
     Ok(OutsideScript {
         readings: readings_of(alloc, case.times)?,
-        datagrams: datagrams_of(alloc, case.datagrams)?,
+        datagrams: datagrams_of(alloc, 2, case.datagrams)?,
         openings: Vec::new(alloc),
         texts: texts_of(alloc, case.texts)?,
         gone: case.gone.to_vec(alloc)?,
         fails: fails.to_vec(alloc)?,
     })
-}
-
-pub fn text(rt: &impl Abort, alloc: Global, words: &str) -> Text
-    ensures { IsUtf8 result }
-{
-    Text::of(alloc, words.as_bytes()).expect(rt, "no memory")
 }
 
 fn window_of(presents: bool) -> Option<(Bound, Bound)>

@@ -21,6 +21,8 @@ impl Follower for Lacking {
 
     ghost seen = { λ _. record { heard = []; spoken = []; done = true } };
 
+    ghost plan = { λ _. record { says = λ _ _. []; ends = λ _ _. true } };
+
     ghost says = { λ _ _. [] };
 
     ghost ends = { λ _ _. true };

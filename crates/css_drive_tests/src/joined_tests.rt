@@ -8,8 +8,8 @@ ghost use Rattle.std.specs.Str.{IsUtf8};
 ghost use Rattle.css_outside.specs.Scripts.{are_readings};
 ghost use Rattle.css_drive.specs.Configs.{IsWritable};
 
-use crate::companion_tests::{awake, text};
 use crate::joined_outside::{Keeping, Network, Sending, keep};
+use crate::scripted::{awake, text};
 use crate::tv_tests::{openings_of, script_of};
 use css_client::Local;
 use css_companion::{CompanionConfig, Report};

@@ -12,6 +12,8 @@ mod joined_outside;
 #[cfg(test)]
 mod joined_tests;
 #[cfg(test)]
+mod scripted;
+#[cfg(test)]
 mod tv_noted;
 #[cfg(test)]
 mod tv_tables;

@@ -1,4 +1,5 @@
 //! The rows of a television's runs.
+use crate::scripted::Said;
 use css_outside::Kind;
 use css_player::PlayerFault;
 
@@ -17,14 +18,6 @@ pub enum Times {
     TenSeconds,
     /// 1, 2, 3, and 4 at all times after it.
     Turns,
-}
-
-/// What a session tells when it is asked.
-#[derive(Clone, Copy)]
-pub enum Said {
-    Quiet,
-    Text(&'static str),
-    Closed,
 }
 
 /// How a run ends.

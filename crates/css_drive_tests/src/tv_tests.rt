@@ -1,37 +1,20 @@
 //! A television's runs over an outside in memory: each fault, each refusal and each end is a row.
-ghost use Rattle.std.specs.Prelude.{◌≡◌, negsuc, All, IfOk, OnOk, IsTrue, false, true};
+ghost use Rattle.std.specs.Prelude.{◌≡◌, negsuc, All, IfOk, OnOk, IsTrue};
 ghost use Rattle.std.specs.Str.{IsUtf8};
 ghost use Rattle.css_outside.specs.Scripts.{are_readings, are_sessions};
 ghost use Rattle.css_schedule.specs.Ranges.{IsScriptLine};
 
+use crate::scripted::{asleep, awake, datagrams_of, text, texts_of};
 use crate::tv_noted::Noted;
-use crate::tv_tables::{QUIET, ROWS, Row, Said, Times, TvEnded};
+use crate::tv_tables::{QUIET, ROWS, Row, Times, TvEnded};
 use css_drive::{Driven, drive_tv};
 use css_num::Text;
-use css_outside::{Clocked, Datagram, Heard, Kind, MemoryOutside, OutsideScript, SessionHeard};
+use css_outside::{Clocked, Kind, MemoryOutside, OutsideScript};
 use css_schedule::{LineWhy, ScriptLine, read_script};
 use css_tv::TvConfig;
 use std::alloc::Global;
 use std::process::Abort;
 use std::test::Fail;
-
-fn awake(reading: u64) -> Clocked
-    ensures { result ≡ record { reading = reading; slept = false } }
-{
-    Clocked {
-        reading,
-        slept: false,
-    }
-}
-
-fn asleep(reading: u64) -> Clocked
-    ensures { result ≡ record { reading = reading; slept = true } }
-{
-    Clocked {
-        reading,
-        slept: true,
-    }
-}
 
 fn readings_of(alloc: Global, times: Times) -> Result<Vec<Clocked>, Fail>
     ensures { IfOk result (λ readings. IsTrue (are_readings 0 readings.items)) }
@@ -44,33 +27,6 @@ fn readings_of(alloc: Global, times: Times) -> Result<Vec<Clocked>, Fail>
         Times::TenSeconds => Ok(vec![in alloc; awake(10_000_000_000)]?),
         Times::Turns => Ok(vec![in alloc; awake(1), awake(2), awake(3), awake(4)]?),
     }
-}
-
-fn texts_of(alloc: Global, rows: &[(u32, Said)]) -> Result<Vec<SessionHeard>, Fail> {
-    let mut texts = Vec::new(alloc);
-    for (session, said) in rows {
-        let heard = match said {
-            Said::Quiet => Heard::Quiet,
-            Said::Text(words) => Heard::Text(Text::of(alloc, words.as_bytes())?),
-            Said::Closed => Heard::Closed,
-        };
-        texts.push(SessionHeard {
-            session: *session,
-            heard,
-        })?;
-    }
-    Ok(texts)
-}
-
-fn datagrams_of(alloc: Global, rows: &[&[u8]]) -> Result<Vec<Option<Datagram>>, Fail> {
-    let mut datagrams = Vec::new(alloc);
-    for bytes in rows {
-        datagrams.push(Some(Datagram {
-            peer: 9,
-            bytes: Text::of(alloc, bytes)?,
-        }))?;
-    }
-    Ok(datagrams)
 }
 
 /// Adds a session that is opened. A wall clock's end is none.
@@ -121,7 +77,7 @@ fn outside_of(
 {
     let script = OutsideScript {
         readings: readings_of(alloc, row.times)?,
-        datagrams: datagrams_of(alloc, row.datagrams)?,
+        datagrams: datagrams_of(alloc, 9, row.datagrams)?,
         openings,
         texts: texts_of(alloc, row.texts)?,
         gone: row.gone.to_vec(alloc)?,
@@ -133,12 +89,6 @@ fn outside_of(
         calls: 0,
         before_turn: 0,
     })
-}
-
-fn text(rt: &impl Abort, alloc: Global, words: &str) -> Text
-    ensures { IsUtf8 result }
-{
-    Text::of(alloc, words.as_bytes()).expect(rt, "no memory")
 }
 
 fn config_of(rt: &impl Abort, alloc: Global, follow: bool) -> TvConfig

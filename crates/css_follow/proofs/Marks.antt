@@ -14,7 +14,7 @@ use Rattle.css_follow.specs.declared.mark.Mark.TheVariants.{Ahead, Possible, Pas
 use Rattle.css_follow.specs.declared.notes.Note.{Note}
 use Rattle.css_follow.specs.declared.sheet.Cue.{Cue}
 use Rattle.css_follow.specs.declared.waiting.Waiting.{Waiting}
-use Rattle.css_follow.specs.Announcing.{Announcing, says_of, ends_of}
+use Rattle.css_follow.specs.Announcing.{Announcing, plan_of, says_of, ends_of}
 use Rattle.css_follow.specs.Following.{told}
 use Rattle.css_follow.specs.Marks.{is_passed, is_possible, was_passed, was_possible}
 use Rattle.css_follow.specs.Marks.{announced, all_announced, are_passed}
@@ -210,6 +210,13 @@ module _ (notes next : List Note) (list marked : List Waiting) (r : Report) (tex
   ends-cues =
       ap (list_all is_done) again ∙ all-passed next (cues_in list)
       ∙ ap (are_passed (cues_in list)) (ap heard_in noted ∙ heard-more notes (record { report = r; text = text }))
+
+-- a report leaves the cues, and so the plan
+pub keeps-cues : (self : Announcing) (list marked : List Waiting) (cues : List Cue) (r : Report)
+    → self.cues ≡ cues → cues ≡ cues_in list → marked ≡ map (marked_by r) list
+    → plan_of (cues_in marked) ≡ plan_of self.cues
+keeps-cues self list marked cues r e f went =
+    ap plan_of (ap cues_in went ∙ cues-marked r list ∙ sym f ∙ sym e)
 
 -- what a follower says that isn't done
 pub says-cues : (self : Announcing) (notes : List Note) (list : List Waiting) (done : Bool) (r : Report) (text : List ℕ)

@@ -50,9 +50,11 @@ impl Cues {
 
 impl Follower for Cues {
     ghost use Rattle.std.specs.Prelude.{◌≡◌, OnOk, OnErr};
-    ghost use Rattle.css_follow.specs.Announcing.{says_of, ends_of};
+    ghost use Rattle.css_follow.specs.Announcing.{plan_of, says_of, ends_of};
 
     ghost seen = { λ c. c.seen };
+
+    ghost plan = { λ c. plan_of c.cues };
 
     ghost says = { says_of };
 

@@ -1,6 +1,6 @@
 ghost use Rattle.std.specs.Prelude.{◌≡◌, ◌++◌, List, ℕ, Bool, not, IfOk, OnOk, OnErr};
 ghost use Rattle.css_companion.specs.declared.report.Report.{Report};
-ghost use Rattle.css_follow.specs.Following.{Seen, RestsWhenDone, told};
+ghost use Rattle.css_follow.specs.Following.{Seen, Plan, RestsWhenDone, told, says_by, ends_by};
 
 use crate::sheet::Sheet;
 use css_companion::Report;
@@ -10,6 +10,10 @@ use css_num::{Memory, Text};
 pub trait Follower: Drop {
     /// Which reports it heard, what it said of each, and whether it is done.
     ghost seen: { Self → Seen };
+
+    /// By which plan it speaks: what it says of a report after those that it heard, and whether it is done then. Only a
+    /// cue sheet changes it.
+    ghost plan: { Self → Plan };
 
     /// What it would say of a report now.
     ghost says: { Self → Report → List ℕ };
@@ -30,6 +34,9 @@ pub trait Follower: Drop {
         ensures heard { OnOk result (seen self.new ≡
             told report.now (says self.old report.now) (ends self.old report.now) (seen self.old)) }
         ensures said { OnOk result (out.new ≡ out.old ++ says self.old report.now) }
+        ensures keeps { plan self.new ≡ plan self.old }
+        ensures as_planned { says self.old report.now ≡ says_by (plan self.old) (seen self.old) report.now }
+        ensures ends_as_planned { ends self.old report.now ≡ ends_by (plan self.old) (seen self.old) report.now }
         ensures rests { RestsWhenDone (seen self.old) (says self.old report.now) (ends self.old report.now) }
         ensures goes_on { IfOk result (λ goes_on. goes_on ≡ not (seen self.new).done) }
         ensures err { OnErr result (seen self.new ≡ seen self.old) }

@@ -116,9 +116,11 @@ impl Meter {
 
 impl Follower for Meter {
     ghost use Rattle.std.specs.Prelude.{◌≡◌, OnOk, OnErr};
-    ghost use Rattle.css_follow.specs.Measuring.{count_of, says_of, ends_of};
+    ghost use Rattle.css_follow.specs.Measuring.{count_of, plan_of, says_of, ends_of};
 
     ghost seen = { λ m. m.seen };
+
+    ghost plan = { λ m. plan_of m.count };
 
     ghost says = { says_of };
 

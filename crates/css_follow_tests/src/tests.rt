@@ -183,6 +183,8 @@ impl Follower for Lacks {
 
     ghost seen = { λ _. record { heard = []; spoken = []; done = false } };
 
+    ghost plan = { λ _. record { says = λ _ _. []; ends = λ _ _. false } };
+
     ghost says = { λ _ _. [] };
 
     ghost ends = { λ _ _. false };

@@ -1,6 +1,6 @@
 use Rattle.std.proofs.Common.{subst, sym, ap, refl, inl, inr}
 use Rattle.css_app.specs.Ended.{CountsReads}
-use Rattle.css_app.specs.Live.{MakesRun, stage}
+use Rattle.css_app.specs.Live.{MakesRun, Stage, stage}
 use Rattle.css_app.proofs.Live.{as_due, sheet_lacks}
 use Rattle.css_app.proofs.live_companion.companion.Goals as goal
 
@@ -26,7 +26,9 @@ returns-in-Err-clause-counted_dials g c =
 pub returns-in-Err-prepared-clause-ran : goal.returns-in-Err-prepared-clause-ran
 returns-in-Err-prepared-clause-ran g c =
     inl (record {
-      untouched = ap (λ heard. stage (g.K.Sink.holds c.args.sink.now) (g.O.Outside.told c.args.outside.now) heard)
+      untouched =
+          ap {B = Stage} (λ seen. record { holds = g.K.Sink.holds c.args.sink.now;
+          told = g.O.Outside.told c.args.outside.now; heard = seen })
           c.prepare-prepared.ensures;
       cause = tt;
     })
@@ -37,8 +39,8 @@ returns-in-Ok-prepared-clause-ran g c =
     inr (record {
       sheet = c.in-Ok.sheet;
       gives = c.in-Ok.ensures.value;
-      makes = subst (λ heard. MakesRun c.args.config
-          (stage (g.K.Sink.holds c.args.sink.now) (g.O.Outside.told c.args.outside.now) heard)
+      makes = subst (λ seen. MakesRun c.args.config
+          (record { holds = g.K.Sink.holds c.args.sink.now; told = g.O.Outside.told c.args.outside.now; heard = seen })
           (stage (g.K.Sink.holds c.make_run.new.sink) (g.O.Outside.told c.make_run.new.outside)
           (g.F.Listens.heard c.make_run.new.followers)) c.make_run.result) c.prepare-prepared.ensures
           c.make_run.ensures.makes;

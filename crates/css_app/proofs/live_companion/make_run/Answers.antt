@@ -1,4 +1,4 @@
-use Rattle.std.proofs.Common.{subst, sym}
+use Rattle.std.proofs.Common.{subst, sym, refl}
 use Rattle.css_app.specs.Ended.{CountsReads, CountsWrites}
 use Rattle.css_app.specs.Live.{CountsCalls, CountsDials}
 use Rattle.css_app.proofs.Live.{driven-calls, driven-dials, driven-reads, driven-writes}
@@ -6,6 +6,10 @@ use Rattle.css_app.proofs.live_companion.make_run.Goals as goal
 
 pub returns-clause-makes : goal.returns-clause-makes
 returns-clause-makes g c = record {
+  followers = g.F.Listens.heard c.args.followers.now;
+  followed = g.F.Listens.heard c.drive_companion.new.followers;
+  began = refl;
+  heard = refl;
   ended = c.drive_companion.result;
   ran = c.drive_companion.ensures.ran;
   tells = c.status_of.ensures;

@@ -1,6 +1,8 @@
-use Rattle.std.proofs.Common.{subst, sym, ap, refl, inl, inr, ◌∙◌}
+use Rattle.std.proofs.Common.{List, subst, sym, ap, refl, inl, inr, ◌∙◌}
+use Rattle.css_follow.specs.Following.{Seen}
+use Rattle.css_drive.specs.Listening.{all_seen}
 use Rattle.css_app.specs.Ended.{CountsReads}
-use Rattle.css_app.specs.Live.{stage}
+use Rattle.css_app.specs.Live.{Stage, stage}
 use Rattle.css_app.specs.Pairs.{Beside, children}
 use Rattle.css_app.proofs.Live.{script_lacks}
 use Rattle.css_app.proofs.live_pair.pair.Goals as goal
@@ -30,7 +32,9 @@ returns-in-Err-clause-counted_spawns g c = c.in-Err.ensures.quiet.spawns (g.P.Sp
 pub returns-in-Err-prepare-clause-ran : goal.returns-in-Err-prepare-clause-ran
 returns-in-Err-prepare-clause-ran g c =
     inl (record {
-      untouched = ap (λ heard. stage (g.K.Sink.holds c.args.sink.now) (g.O.Outside.told c.args.outside.now) heard)
+      untouched =
+          ap {B = Stage} (λ seen. record { holds = g.K.Sink.holds c.args.sink.now;
+          told = g.O.Outside.told c.args.outside.now; heard = seen })
           c.prepare.ensures.heard;
       children = refl;
       cause = tt;
@@ -39,7 +43,9 @@ returns-in-Err-prepare-clause-ran g c =
 -- a child was to be started
 pub returns-in-Ok-prepare-clause-ran : goal.returns-in-Ok-prepare-clause-ran
 returns-in-Ok-prepare-clause-ran g c =
-    let at = stage (g.K.Sink.holds c.args.sink.now) (g.O.Outside.told c.args.outside.now) in
+    let at : List Seen → Stage = λ seen. record { holds = g.K.Sink.holds c.args.sink.now;
+    told = g.O.Outside.told c.args.outside.now; heard = seen } in
+    let heard = all_seen (g.F.Listens.heard c.args.followers.now) in
     let now = stage (g.K.Sink.holds c.run_beside.new.sink) (g.O.Outside.told c.run_beside.new.outside)
     (g.F.Listens.heard c.run_beside.new.followers) in
     let old = children (g.P.Spawner.told c.args.spawner.now) (g.P.Spawner.running c.args.spawner.now) in
@@ -49,9 +55,9 @@ returns-in-Ok-prepare-clause-ran g c =
       text = c.in-Ok.script.items;
       gives = c.in-Ok.ensures.value;
       beside =
-          subst (λ w. Beside c.args.config w c.in-Ok.script.items (at (g.F.Listens.heard c.args.followers.now)) now old
+          subst (λ w. Beside c.args.config w c.in-Ok.script.items (at heard) now old
           new c.run_beside.result) words
-          (subst (λ t. Beside c.args.config c.deref.result.now t (at (g.F.Listens.heard c.args.followers.now)) now old
+          (subst (λ t. Beside c.args.config c.deref.result.now t (at heard) now old
           new c.run_beside.result) c.deref-in-Ok-prepare.ensures.value
           (subst (λ h. Beside c.args.config c.deref.result.now c.deref-in-Ok-prepare.result.now (at h) now old new
           c.run_beside.result) c.prepare.ensures.heard c.run_beside.ensures.ran));

@@ -16,7 +16,11 @@ returns-in-Err-clause-ran g c = record {
   bytes = [];
   grew = appends_none (g.K.Sink.holds c.args.sink.now);
   wrote = record { within = ([], refl); earlier = ([], refl) };
-  followed = record { between = g.F.Listens.heard c.args.followers.now; earlier = refl; newest = refl };
+  listened = record {
+    between = g.F.Listens.heard c.args.followers.now;
+    earlier = record { heard = refl; words = refl };
+    newest = refl;
+  };
 }
   where
     by : (told : Option History) → told ≡ with_entries [] told

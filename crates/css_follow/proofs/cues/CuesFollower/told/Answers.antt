@@ -1,7 +1,8 @@
-use Rattle.std.proofs.Common.{◌∙◌, ◌++◌, ap, sym}
+use Rattle.std.proofs.Common.{◌∙◌, ◌++◌, ap, sym, refl}
 use Rattle.std.specs.List.{flat_map, list_all}
+use Rattle.css_follow.specs.Announcing.{Announcing}
 use Rattle.css_follow.specs.Standing.{news_at, is_done}
-use Rattle.css_follow.proofs.Marks.{marked-next, said-cues, ends-cues, says-cues, heard-cues}
+use Rattle.css_follow.proofs.Marks.{marked-next, said-cues, ends-cues, says-cues, heard-cues, keeps-cues}
 use Rattle.css_follow.proofs.cues.CuesFollower.told.Goals as goal
 
 pub invariant_of-self-2 : goal.invariant_of-self-2
@@ -20,6 +21,11 @@ returns-clause-heard c =
     c.self.inside.done _ c.args.report.now c.in_ok-text.text (sym c.self.view_is) c.if-self.false
     c.in_ok-take_note.ensures.notes said
     (c.all_passed-self-inside.ensures ∙ ap (list_all is_done) c.deref-2.ensures.value ∙ ends)
+
+pub returns-clause-keeps : goal.returns-clause-keeps
+returns-clause-keeps c =
+    keeps-cues c.args.self.now c.self.inside.list.items _ _ c.args.report.now
+    (ap {A = Announcing} (λ a. a.cues) (sym c.self.view_is)) refl c.mark_all.ensures
 
 pub returns-clause-said : goal.returns-clause-said
 returns-clause-said c =
