@@ -27,8 +27,11 @@ pub returns-in-Err-prepared-clause-ran : goal.returns-in-Err-prepared-clause-ran
 returns-in-Err-prepared-clause-ran g c =
     inl (record {
       untouched =
-          ap {B = Stage} (λ seen. record { holds = g.K.Sink.holds c.args.sink.now;
-          told = g.O.Outside.told c.args.outside.now; heard = seen })
+          ap {B = Stage} (λ seen. record {
+            holds = g.K.Sink.holds c.args.sink.now;
+            told = g.O.Outside.told c.args.outside.now;
+            heard = seen;
+          })
           c.prepare-prepared.ensures;
       cause = tt;
     })

@@ -33,8 +33,11 @@ pub returns-in-Err-prepare-clause-ran : goal.returns-in-Err-prepare-clause-ran
 returns-in-Err-prepare-clause-ran g c =
     inl (record {
       untouched =
-          ap {B = Stage} (λ seen. record { holds = g.K.Sink.holds c.args.sink.now;
-          told = g.O.Outside.told c.args.outside.now; heard = seen })
+          ap {B = Stage} (λ seen. record {
+            holds = g.K.Sink.holds c.args.sink.now;
+            told = g.O.Outside.told c.args.outside.now;
+            heard = seen;
+          })
           c.prepare.ensures.heard;
       children = refl;
       cause = tt;
@@ -43,8 +46,11 @@ returns-in-Err-prepare-clause-ran g c =
 -- a child was to be started
 pub returns-in-Ok-prepare-clause-ran : goal.returns-in-Ok-prepare-clause-ran
 returns-in-Ok-prepare-clause-ran g c =
-    let at : List Seen → Stage = λ seen. record { holds = g.K.Sink.holds c.args.sink.now;
-    told = g.O.Outside.told c.args.outside.now; heard = seen } in
+    let at : List Seen → Stage = λ seen. record {
+      holds = g.K.Sink.holds c.args.sink.now;
+      told = g.O.Outside.told c.args.outside.now;
+      heard = seen;
+    } in
     let heard = all_seen (g.F.Listens.heard c.args.followers.now) in
     let now = stage (g.K.Sink.holds c.run_beside.new.sink) (g.O.Outside.told c.run_beside.new.outside)
     (g.F.Listens.heard c.run_beside.new.followers) in
