@@ -9,6 +9,7 @@ use Rattle.css_words.specs.Options.{◌>>=◌}
 use Rattle.css_words.specs.Pair.{PairAsked}
 use Rattle.css_words.specs.declared.fault.WordsFault.{WordsFault}
 use Rattle.css_words.specs.declared.fault.WordsFault.TheVariants as words
+use Rattle.css_app.specs.declared.child.Child.{Child}
 use Rattle.css_app.specs.declared.status.Status.{Status}
 use Rattle.css_app.specs.declared.status.Status.TheVariants as status
 use Rattle.css_app.specs.Commands.{CompanionsBy, Does, EndsAsAsked, IsAskedRun, PairsAsAsked, PairsBy, asked_child}
@@ -16,7 +17,7 @@ use Rattle.css_app.specs.Commands.{asked_in, asked_tv, offered}
 use Rattle.css_app.specs.Devices.{FollowersUse, OutsideUse, SinkUse, SourceUse, SpawnerUse, stage_after, stage_before}
 use Rattle.css_app.specs.Ended.{IsNoUsage}
 use Rattle.css_app.specs.Live.{Companions, EndsAsDue, Stage}
-use Rattle.css_app.specs.Pairs.{Children, Pairs, PairsAsDue, address_at}
+use Rattle.css_app.specs.Pairs.{Children, Pairs, PairsAsDue, PairsByScript, address_at}
 use Rattle.css_app.proofs.Quiet.{companions_no_child, pairs_no_usage, script_no_dial, serves_no_dial, sheet_no_child}
 
 -- ---- a run by what the options ask for
@@ -32,18 +33,31 @@ pub ends_as_asked : (asked : OptionsAsked) (cii : Address) (run : DriveConfig) (
 ends_as_asked asked cii run before now result is (inl memory) = inl memory
 ends_as_asked asked cii run before now result is (inr due) = inr (run, is, due)
 
-pub pairs_by : (asked : PairAsked) (run : DriveConfig) (source : SourceUse) (before now : Stage)
-    (kids_old kids_new : Children) (result : Status) → IsAskedRun asked.companion (address_at asked.tv.port) run
-    → Pairs run (asked_child asked.tv) source.left_old source.left_new before now kids_old kids_new result
+pub pairs_by : (asked : PairAsked) (child : Child) (cii : Address) (run : DriveConfig) (source : SourceUse)
+    (before now : Stage) (kids_old kids_new : Children) (result : Status) → child ≡ asked_child asked.tv
+    → cii ≡ address_at child.port → IsAskedRun asked.companion cii run
+    → Pairs run child source.left_old source.left_new before now kids_old kids_new result
     → PairsBy asked source before now kids_old kids_new result
-pairs_by asked run source before now kids_old kids_new result is (inl none) = inl none
-pairs_by asked run source before now kids_old kids_new result is (inr ran) = inr (run, is, ran)
+pairs_by asked child cii run source before now kids_old kids_new result of dials is (inl none) = inl none
+pairs_by asked child cii run source before now kids_old kids_new result of dials is (inr ran) =
+    inr (
+      run,
+      subst (λ (a : Address). IsAskedRun asked.companion a run) (dials ∙ ap (λ (k : Child). address_at k.port) of) is,
+      subst (λ (k : Child). PairsByScript run k source.left_old source.left_new before now kids_old kids_new result) of
+          ran,
+    )
 
-pub pairs_as_asked : (asked : OptionsAsked) (cii : Address) (run : DriveConfig) (before now : Option History)
-    (result : Status) → IsAskedRun asked cii run → PairsAsDue run before now result
-    → PairsAsAsked asked cii before now result
-pairs_as_asked asked cii run before now result is (inl memory) = inl memory
-pairs_as_asked asked cii run before now result is (inr due) = inr (run, is, due)
+pub pairs_as_asked : (asked : PairAsked) (child : Child) (cii : Address) (run : DriveConfig)
+    (before now : Option History) (result : Status) → child ≡ asked_child asked.tv → cii ≡ address_at child.port
+    → IsAskedRun asked.companion cii run → PairsAsDue run before now result
+    → PairsAsAsked asked.companion (address_at asked.tv.port) before now result
+pairs_as_asked asked child cii run before now result of dials is (inl memory) = inl memory
+pairs_as_asked asked child cii run before now result of dials is (inr due) =
+    inr (
+      run,
+      subst (λ (a : Address). IsAskedRun asked.companion a run) (dials ∙ ap (λ (k : Child). address_at k.port) of) is,
+      due,
+    )
 
 -- ---- Usage
 companions_no_usage : (asked : CompanionAsked) (source : SourceUse) (before now : Stage) (result : Status)

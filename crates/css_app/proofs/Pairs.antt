@@ -55,7 +55,7 @@ module _ (config : DriveConfig) (before now : Stage) (companion : Status) (finis
       (of_both P made.ended finished child (subst P made.tells p))
 
   pub keeps_no_usage : IsNoUsage companion → IsNoUsage (with_child companion finished)
-  keeps_no_usage no = keeps IsNoUsage (λ so. of_child IsNoUsage finished tt (λ e. tt) tt tt) no
+  keeps_no_usage told = keeps IsNoUsage (λ so. of_child IsNoUsage finished tt (λ e. tt) tt tt) told
 
   pub keeps_reads : (r r' : ℕ) → CountsReads r r' companion → CountsReads r r' (with_child companion finished)
   keeps_reads r r' counted =

@@ -151,9 +151,10 @@ pub serves_no_dial : (config : TvConfig) (turns : ℕ) (left_old left_new : Opti
 serves_no_dial config turns left_old left_new told_old told_new result (inl none) =
     script_no_dial left_old result none.cause
 serves_no_dial config turns left_old left_new told_old told_new result (inr ran) =
-    subst HasNoDial (sym ran.tells)
-    (driven_no_child ran.ended,
-    served_dials (record { config = config; turns = turns; script = ran.script }) ran.ran.h ran.ended ran.ran.ends)
+    subst HasNoDial (sym ran.tells) (
+      driven_no_child ran.ended,
+      served_dials (record { config = config; turns = turns; script = ran.script }) ran.ran.h ran.ended ran.ran.ends,
+    )
 
 start_no_usage : (result : Status) → IsNoStart result → IsNoUsage result
 start_no_usage (status.ChildFault None) none = tt

@@ -16,7 +16,7 @@ use Rattle.css_drive.specs.TvProgress.{addresses_in, open_after, progress_of}
 use Rattle.css_drive.specs.declared.driven.Driven.TheVariants as driven
 
 -- what is due is another end, or a call
-IsReached : Due → Type 0
+abbrev IsReached : Due → Type 0
 IsReached (Ends (driven.Unreachable turns)) = ⊥
 IsReached _ = ⊤
 

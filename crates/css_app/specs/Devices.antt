@@ -48,8 +48,12 @@ pub record SpawnerUse : Type 0 where
 
 abbrev pub spawner_use : Children → Children → ℕ → ℕ → SpawnerUse
 spawner_use children_old children_new faults_old faults_new =
-    record { children_old = children_old; children_new = children_new; faults_old = faults_old;
-    faults_new = faults_new }
+    record {
+      children_old = children_old;
+      children_new = children_new;
+      faults_old = faults_old;
+      faults_new = faults_new;
+    }
 
 -- what each of the followers has heard and said
 pub record FollowersUse : Type 0 where

@@ -1,12 +1,13 @@
 //! The live commands by the words of a command line.
-ghost use Rattle.std.specs.Prelude.{◌≡◌, ℕ};
+ghost use Rattle.std.specs.Prelude.{◌≡◌, ◌≤◌, ◌≤ℤ◌, pos, ℕ};
 ghost use Rattle.std.specs.Str.{IsUtf8};
 ghost use Rattle.css_drive.specs.Configs.{IsWritable};
+ghost use Rattle.css_model.specs.Numbers.{max_error};
 ghost use Rattle.css_words.specs.Companion.{companion_of, options_of};
 ghost use Rattle.css_words.specs.Pair.{pair_of};
 ghost use Rattle.css_words.specs.Tv.{tv_of};
 ghost use Rattle.css_words.specs.Written.{AreWritable};
-ghost use Rattle.css_app.specs.Commands.{ByCompanion, ByPair, ByTv, IsAskedRun, asked_child};
+ghost use Rattle.css_app.specs.Commands.{ByCompanion, ByPair, ByTv, IsAskedRun, asked_child, asked_tv};
 ghost use Rattle.css_app.specs.Devices.{followers_use, outside_use, sink_use, source_use, spawner_use};
 ghost use Rattle.css_app.specs.Ended.{CountsReads, CountsWrites};
 ghost use Rattle.css_app.specs.Live.{CountsCalls, CountsDials, CountsSpawns};
@@ -77,6 +78,24 @@ pub(crate) fn companion_by<S: Source, K: Sink, O: Outside, F: Listens>(
     companion(alloc, run, source, sink, outside, followers)
 }
 
+// The television that these words ask for.
+fn config_of(words: TvWords) -> TvConfig
+    requires { IsUtf8 words.host }
+    ensures asked { result ≡ asked_tv (tv_of words) }
+    ensures precision { result.precision ≤ℤ pos 30 }
+    ensures error { result.error ≤ max_error }
+    ensures host { IsUtf8 result.host }
+    ensures port { result.port ≤ 65534 }
+{
+    TvConfig {
+        precision: words.precision,
+        error: words.error,
+        follow: words.follow,
+        host: words.host,
+        port: words.port,
+    }
+}
+
 /// The command `tv` with these words.
 pub(crate) fn tv_by<S: Source, O: Outside>(
     alloc: Global,
@@ -96,13 +115,7 @@ pub(crate) fn tv_by<S: Source, O: Outside>(
     ensures spawns { (count : ℕ) → CountsSpawns count count result }
 {
     let turns = words.turns;
-    let config = TvConfig {
-        precision: words.precision,
-        error: words.error,
-        follow: words.follow,
-        host: words.host,
-        port: words.port,
-    };
+    let config = config_of(words);
     tv(alloc, config, turns, source, outside)
 }
 
@@ -143,10 +156,7 @@ pub(crate) fn pair_by<S: Source, K: Sink, O: Outside, P: Spawner, F: Listens>(
         (O.counts outside.new).dial_faults result }
     ensures counted_spawns { CountsSpawns (P.faults spawner.old) (P.faults spawner.new) result }
 {
-    let PairWords {
-        companion,
-        tv,
-    } = words;
+    let PairWords { companion, tv } = words;
     let child = child_of(&tv);
     drop(tv);
     let cii = match address_at(alloc, child.port) {
@@ -154,5 +164,7 @@ pub(crate) fn pair_by<S: Source, K: Sink, O: Outside, P: Spawner, F: Listens>(
         Err(Memory) => return Status::Memory,
     };
     let run = run_of(companion, cii);
-    pair(alloc, run, &child, source, sink, outside, spawner, followers)
+    pair(
+        alloc, run, &child, source, sink, outside, spawner, followers,
+    )
 }

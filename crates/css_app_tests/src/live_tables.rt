@@ -45,14 +45,16 @@ const TS: &str =
     "{\"contentTime\":\"900000\",\"timelineSpeedMultiplier\":1,\"wallClockTime\":\"0\"}";
 
 /// Two reports in four turns, 10 ns apart.
-const COMPANION: &str = "companion --cii ws://127.0.0.1:6677/cii --reports 2 --turns 4 --report-every 10 \
+const COMPANION: &str =
+    "companion --cii ws://127.0.0.1:6677/cii --reports 2 --turns 4 --report-every 10 \
 --ask-every 1000 --local-error 0 --local-precision 0";
 
 /// One report in three turns, a second after the first.
 const SHORT: &str = "companion --cii ws://127.0.0.1:6677/cii --selector urn:dvb:css:timeline:pts \
 --reports 1 --turns 3";
 
-const PAIR: &str = "pair --follow --reports 2 --turns 4 --report-every 10 --ask-every 1000 --local-error 0 \
+const PAIR: &str =
+    "pair --follow --reports 2 --turns 4 --report-every 10 --ask-every 1000 --local-error 0 \
 --local-precision 0";
 
 const SHORT_PAIR: &str = "pair --reports 1 --turns 3";

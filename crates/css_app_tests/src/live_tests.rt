@@ -2,7 +2,9 @@
 ghost use Rattle.std.specs.Prelude.{◌≡◌, [], IfOk, IsTrue, false, true};
 ghost use Rattle.css_outside.specs.Scripts.{are_readings};
 
-use crate::live_tables::{COMPANIONS, Case, FAILING, NEVER_FAILING, PAIRS, TELEVISIONS, TWO_BESIDE, Times};
+use crate::live_tables::{
+    COMPANIONS, Case, FAILING, NEVER_FAILING, PAIRS, TELEVISIONS, TWO_BESIDE, Times,
+};
 use crate::running::words_of;
 use css_app::{Status, run, tell};
 use css_drive::{Before, Nobody};

@@ -1,11 +1,12 @@
 //! What the tests hand to a run beside its input.
 
+ghost use Rattle.std.specs.Prelude.{◌≡◌, ◌<◌, []};
+
 use css_app::{Status, run};
 use css_drive::Nobody;
 use css_num::Memory;
 use css_outside::{MemoryOutside, MemorySink, MemorySource, MemorySpawner, OutsideScript};
 use std::alloc::Global;
-ghost use Rattle.std.specs.Prelude.{◌≡◌, ◌<◌, []};
 
 /// The words of a line, which are separated by spaces. A line without bytes has none.
 pub fn words_of(alloc: Global, line: &str) -> Result<Vec<String>, Memory> {

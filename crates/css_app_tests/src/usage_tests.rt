@@ -15,7 +15,12 @@ const DEVICES: Devices<'static> = Devices {
 
 fn assert_usage(rt: &impl Abort, alloc: Global, lines: &str) -> Result<(), Fail> {
     for line in lines.lines() {
-        let ran = run_over(alloc, line, b"css-schedule 1 plain 0 -30 0 0 s -\n", &DEVICES)?;
+        let ran = run_over(
+            alloc,
+            line,
+            b"css-schedule 1 plain 0 -30 0 0 s -\n",
+            &DEVICES,
+        )?;
         assert_eq!(rt; ran.status, Status::Usage, "{line}");
         assert_eq!(rt; ran.sink.bytes(), b"".as_slice(), "{line}");
     }
@@ -70,7 +75,7 @@ tv --precision=31
 tv --error 25600001
 tv --follow --follow
 tv --follow=true
-tv --host a/b
+tv --host ::1
 pair --cii ws://127.0.0.1:6677/cii
 pair --ask-every 0
 pair --local-precision 1000000001";
@@ -80,5 +85,9 @@ pair --local-precision 1000000001";
 /// They will be commands of a later version.
 #[test]
 fn commands_that_are_not_there_yet_are_refused(rt: HostRuntime) -> Result<(), Fail> {
-    assert_usage(&rt, rt.alloc(), "generate --seed 1 --lines 9\nsurvey --seed 1 --lines 9")
+    assert_usage(
+        &rt,
+        rt.alloc(),
+        "generate --seed 1 --lines 9\nsurvey --seed 1 --lines 9",
+    )
 }

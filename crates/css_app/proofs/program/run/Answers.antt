@@ -1,5 +1,5 @@
 -- What a run promises of its words and its devices, from what its command does.
-use Rattle.std.proofs.Common.{◌≡◌, ◌∙◌, ap, refl, sym, arith, map}
+use Rattle.std.proofs.Common.{◌∙◌, ap, sym, map}
 use Rattle.std.specs.Prelude.{Ok, Err, string_bytes}
 use Rattle.css_words.specs.Commands.{Replay, Agree, Companion, Tv, Pair, asked_of}
 use Rattle.css_words.specs.declared.fault.WordsFault.TheVariants as words
