@@ -2,9 +2,13 @@
 #![tactic(auto)]
 
 mod devices;
+mod offline;
 
 use css_app::{Status, run, tell};
+use css_drive::{Before, Nobody};
+use css_follow::{Cues, Meter};
 use devices::{StdSink, StdSource};
+use offline::{Childless, Offline};
 use std::env::Env;
 use std::io::{Error, ErrorKind};
 use std::process::ExitCode;
@@ -30,8 +34,25 @@ fn without_words(error: &Error) -> Status {
 fn main(rt: HostRuntime) -> ExitCode {
     let mut source = StdSource::new(rt.reader());
     let mut sink = StdSink::new(io::writer(&rt));
+    let mut outside = Offline::new();
+    let mut spawner = Childless::new();
+    let mut followers = Before {
+        first: Cues::new(rt.alloc()),
+        rest: Before {
+            first: Meter::new(rt.alloc()),
+            rest: Nobody,
+        },
+    };
     let status = match words(&rt) {
-        Ok(words) => run(rt.alloc(), &words, &mut source, &mut sink),
+        Ok(words) => run(
+            rt.alloc(),
+            &words,
+            &mut source,
+            &mut sink,
+            &mut outside,
+            &mut spawner,
+            &mut followers,
+        ),
         Err(error) => without_words(&error),
     };
     let mut errors = StdSink::new(rt.stderr().lock());

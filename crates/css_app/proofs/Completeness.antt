@@ -3,13 +3,16 @@ use Rattle.std.proofs.Common.{ℕ, arith, ap, sym, ◌∙◌, List}
 use Rattle.std.specs.Prelude.{Option}
 use Rattle.css_lines.specs.Meaning.{Outcome}
 use Rattle.css_lines.specs.Ending.{RanUntil, SourceCounts, SinkCounts}
+use Rattle.css_lines.specs.declared.reader.Refusal.TheVariants as refusals
 use Rattle.css_lines.specs.declared.ending.Stop.{Stop}
 use Rattle.css_lines.specs.declared.ending.Stop.TheVariants.{BadLine, ReadFault, WriteFault, Memory}
 use Rattle.css_agree.specs.declared.reader.Cause as agree
 use Rattle.css_agree.specs.Agreeing.{agreeing}
 use Rattle.css_app.specs.declared.replay.Cause.{Cause}
 use Rattle.css_app.specs.Replayed.{replayed}
-use Rattle.css_app.specs.Ended.{IsAccepted, AreAllRead, HasNotFailed, IsDoneUnlessMemory, status_of, agree_status_of}
+use Rattle.css_app.specs.declared.replay.Cause.TheVariants as causes
+use Rattle.css_app.specs.Ended.{IsAccepted, AreAllRead, HasNotFailed, IsDoneUnlessMemory, Replays, status_of}
+use Rattle.css_app.specs.Ended.{agree_status_of}
 
 pub completes : (bytes : List ℕ) (left holds_old holds_new : Option (List ℕ)) (stop : Stop Cause)
     (reads reads_new writes writes_new : ℕ)
@@ -28,6 +31,18 @@ completes bytes left holds_old holds_new WriteFault reads reads_new writes write
     absurd (omega (arith, sink.risen written.below, written.same))
 completes bytes left holds_old holds_new Memory reads reads_new writes writes_new ran accepted source sink read
     written = tt
+
+-- a replay that stopped leaves what its status says
+pub stopped : (bytes : List ℕ) (left holds_old holds_new : Option (List ℕ)) (stop : Stop Cause)
+    → RanUntil replayed bytes left holds_old holds_new stop → Replays bytes left holds_old holds_new (status_of stop)
+stopped bytes left holds_old holds_new (BadLine line refusals.Long) ran = ran
+stopped bytes left holds_old holds_new (BadLine line (refusals.Refused causes.Form)) ran = ran
+stopped bytes left holds_old holds_new (BadLine line (refusals.Refused causes.Absent)) ran = ran
+stopped bytes left holds_old holds_new (BadLine line (refusals.Refused (causes.Player fault))) ran = ran
+stopped bytes left holds_old holds_new (BadLine line (refusals.Refused (causes.Broken earlier excess))) ran = ran
+stopped bytes left holds_old holds_new ReadFault ran = ran
+stopped bytes left holds_old holds_new WriteFault ran = ran
+stopped bytes left holds_old holds_new Memory ran = ran
 
 -- so does a run over answers of which no line is refused
 pub answers_complete : (bytes : List ℕ) (left holds_old holds_new : Option (List ℕ)) (stop : Stop agree.Cause)

@@ -10,3 +10,7 @@ pub mod Live
 pub mod LongText
 pub mod TextsTaken
 pub mod Pairs
+pub mod TvEnds
+pub mod Quiet
+pub mod Lacking
+pub mod Commands

@@ -14,7 +14,7 @@ use Rattle.css_drive.specs.declared.driven.Driven.{Driven}
 use Rattle.css_drive.specs.declared.driven.Driven.TheVariants as driven
 use Rattle.css_app.specs.declared.status.Status.{Status}
 use Rattle.css_app.specs.declared.status.Status.TheVariants as status
-use Rattle.css_app.specs.Ended.{CountsReads, CountsWrites, HasNotFailed}
+use Rattle.css_app.specs.Ended.{CountsReads, CountsWrites, HasNotFailed, IsNoUsage}
 use Rattle.css_app.specs.Live.{CountsCalls, CountsDials, CountsSpawns, EndsAsDue, IsAsDue, MakesRun, Stage}
 use Rattle.css_app.specs.Live.{driven_status}
 use Rattle.css_app.specs.Pairs.{PairsAsDue, RunsBeside, child_status, is_done, with_child}
@@ -53,6 +53,9 @@ module _ (config : DriveConfig) (before now : Stage) (companion : Status) (finis
   keeps P child p =
       subst (λ (s : Status). P (with_child s finished)) (sym made.tells)
       (of_both P made.ended finished child (subst P made.tells p))
+
+  pub keeps_no_usage : IsNoUsage companion → IsNoUsage (with_child companion finished)
+  keeps_no_usage told = keeps IsNoUsage (λ so. of_child IsNoUsage finished tt (λ e. tt) tt tt) told
 
   pub keeps_reads : (r r' : ℕ) → CountsReads r r' companion → CountsReads r r' (with_child companion finished)
   keeps_reads r r' counted =

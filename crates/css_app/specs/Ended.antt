@@ -1,5 +1,5 @@
 -- How a run ends, as a status.
-use Rattle.std.specs.Prelude.{ℕ, ◌≡◌, ◌<◌, ◌-◌, ◌^◌, ◌⊎◌, if◌then◌else◌, bytes_eq, List, [], ◌∷◌, ◌++◌, codes, decimal}
+use Rattle.std.specs.Prelude.{ℕ, ◌≡◌, ◌<◌, ◌-◌, ◌^◌, ◌⊎◌, List, [], ◌++◌, codes, decimal}
 use Rattle.std.specs.Prelude.{Option, Some, None}
 use Rattle.std.specs.Fmt.{signed_decimal}
 use Rattle.std.specs.Io.KnownBytes.{Appends}
@@ -13,8 +13,6 @@ use Rattle.css_lines.specs.Ending.{RanUntil}
 use Rattle.css_agree.specs.declared.reader.Cause as agree
 use Rattle.css_agree.specs.declared.reader.Cause.TheVariants as agrees
 use Rattle.css_agree.specs.Agreeing.{agreeing}
-use Rattle.css_app.specs.declared.command.Command.{Command}
-use Rattle.css_app.specs.declared.command.Command.TheVariants.{Replay, Agree}
 use Rattle.css_app.specs.declared.replay.Cause.{Cause}
 use Rattle.css_app.specs.declared.replay.Cause.TheVariants as causes
 use Rattle.css_cii.specs.FaultWords.{fault_words}
@@ -27,19 +25,6 @@ use Rattle.css_app.specs.declared.status.Status.TheVariants.{Done, Usage, BadLin
 use Rattle.css_app.specs.declared.status.Status.TheVariants.{NetFault, BadCii, Moved, Spent, Unreachable, ChildFault}
 use Rattle.css_app.specs.declared.status.Status.TheVariants.{BadSheet, BadUrl, Memory}
 use Rattle.css_app.specs.Replayed.{replayed}
-
--- the command of this name
-abbrev pub named : List ℕ → Option Command
-named word =
-    if bytes_eq word (codes "replay") then Some Replay
-    else if bytes_eq word (codes "agree") then Some Agree
-    else None
-
--- the command of words: its name alone
-abbrev pub command_of : List (List ℕ) → Option Command
-command_of [] = None
-command_of (word ∷ []) = named word
-command_of (word ∷ next ∷ words) = None
 
 -- the exit status of the program
 abbrev pub status_number : Status → ℕ

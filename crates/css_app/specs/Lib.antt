@@ -5,3 +5,5 @@ pub mod Headline
 pub mod Scripts
 pub mod Live
 pub mod Pairs
+pub mod Devices
+pub mod Commands

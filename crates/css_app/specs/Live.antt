@@ -83,6 +83,12 @@ pub record TellsNoRun (result : Status) : Type 0 where
   pub dials : (count : ℕ) → CountsDials count count result
   pub spawns : (count : ℕ) → CountsSpawns count count result
 
+-- A status of a command over lines tells no fault of the outside or of a spawner.
+pub record TellsNoLive (result : Status) : Type 0 where
+  pub calls : (count : ℕ) → CountsCalls count count result
+  pub dials : (count : ℕ) → CountsDials count count result
+  pub spawns : (count : ℕ) → CountsSpawns count count result
+
 -- the source's count, where its bytes were taken or a status says why not
 abbrev pub CountsTaking : {T : Type 0} → ℕ → ℕ → Result T Status → Type 0
 CountsTaking before now result = MatchResult result (λ _. now ≡ before) (CountsReads before now)

@@ -1,7 +1,8 @@
-ghost use Rattle.std.specs.Prelude.{◌≡◌, List, ℕ, Some};
-ghost use Rattle.css_agree.specs.Promise.{Promised};
-ghost use Rattle.css_app.specs.Ended.{Agrees, AreAllRead, CountsReads, CountsWrites, HasNotFailed, IsDoneUnlessMemory};
-ghost use Rattle.css_app.specs.Ended.{IsNoUsage, agree_status_of};
+ghost use Rattle.std.specs.Prelude.{◌≡◌};
+ghost use Rattle.css_app.specs.Commands.{ByAgree};
+ghost use Rattle.css_app.specs.Devices.{sink_use, source_use};
+ghost use Rattle.css_app.specs.Ended.{CountsReads, CountsWrites, agree_status_of};
+ghost use Rattle.css_app.specs.Live.{TellsNoLive};
 
 use crate::status::Status;
 use css_agree::{Agreeing, Cause};
@@ -45,14 +46,10 @@ fn status_of(stop: Stop<Cause>) -> Status
 
 /// Reads answers from the source, line by line, and writes what they say together where a line asks for it.
 pub(crate) fn agree<S: Source, K: Sink>(alloc: Global, source: &mut S, sink: &mut K) -> Status
-    ensures no_usage { IsNoUsage result }
-    ensures agrees { (bytes : List ℕ) → S.left source.old ≡ Some bytes
-        → Agrees bytes (S.left source.new) (K.holds sink.old) (K.holds sink.new) result }
-    ensures complete { (bytes : List ℕ) → S.left source.old ≡ Some bytes → AreAllRead bytes
-        → HasNotFailed (S.faults source.old) (S.faults source.new)
-        → HasNotFailed (K.faults sink.old) (K.faults sink.new)
-        → IsDoneUnlessMemory result }
-    ensures promise { Promised (S.left source.old) (S.left source.new) (K.holds sink.old) (K.holds sink.new) }
+    ensures does { ByAgree
+        (source_use (S.left source.old) (S.left source.new) (S.faults source.old) (S.faults source.new))
+        (sink_use (K.holds sink.old) (K.holds sink.new) (K.faults sink.old) (K.faults sink.new)) result }
+    ensures quiet { TellsNoLive result }
     ensures counted_reads { CountsReads (S.faults source.old) (S.faults source.new) result }
     ensures counted_writes { CountsWrites (K.faults sink.old) (K.faults sink.new) result }
 {

@@ -2,8 +2,8 @@
 #![tactic(auto)]
 
 mod agreement;
+mod by_words;
 mod child;
-mod command;
 mod driven;
 mod live_companion;
 mod live_pair;

@@ -1,17 +1,29 @@
-ghost use Rattle.std.specs.Prelude.{◌≡◌, ◌↔◌, List, ℕ, Some, None, map, string_bytes};
-ghost use Rattle.css_agree.specs.Promise as agree;
-ghost use Rattle.css_app.specs.Ended.{Agrees, AreAllRead, IsNoUsage};
-ghost use Rattle.css_app.specs.Ended.{Replays, IsAccepted, HasNotFailed, IsDoneUnlessMemory, CountsReads, CountsWrites};
+ghost use Rattle.std.specs.Prelude.{◌≡◌, List, ℕ, Some, Ok, Err, false, map, string_bytes};
+ghost use Rattle.css_words.specs.Commands.{asked_of};
+ghost use Rattle.css_words.specs.Commands as commands;
+ghost use Rattle.css_words.specs.Companion.{CompanionAsked};
+ghost use Rattle.css_words.specs.Pair.{PairAsked};
+ghost use Rattle.css_words.specs.Tv.{TvAsked};
+ghost use Rattle.css_words.specs.Written.{IsWritable};
+ghost use Rattle.css_words.specs.declared.fault.WordsFault.TheVariants as words_fault;
+ghost use Rattle.css_app.specs.Commands.{ByAgree, ByCompanion, ByPair, ByReplay, ByTv, Does, IsUsageUnlessMemory};
+ghost use Rattle.css_app.specs.Commands.{asked_in, offered, uses_followers, uses_outside, uses_sink, uses_source};
+ghost use Rattle.css_app.specs.Commands.{uses_spawner};
+ghost use Rattle.css_app.specs.Devices.{followers_use, outside_use, sink_use, source_use, spawner_use};
+ghost use Rattle.css_app.specs.Ended.{CountsReads, CountsWrites};
 ghost use Rattle.css_app.specs.Ended as ended;
-ghost use Rattle.css_app.specs.Headline.{Promised};
+ghost use Rattle.css_app.specs.Live.{CountsCalls, CountsDials, CountsSpawns, TellsNoLive};
+ghost use Rattle.css_app.specs.Pairs.{children};
 
 use crate::agreement::agree;
-use crate::command::{Command, command_of};
+use crate::by_words::{companion_by, pair_by, tv_by};
 use crate::replay::{Cause, Replay};
 use crate::status::Status;
+use css_drive::Listens;
 use css_lines::{Refusal, Stop, drive};
-use css_outside::{Sink, Source};
+use css_outside::{Outside, Sink, Source, Spawner};
 use css_schedule::LineWhy;
+use css_words::{Command, WordsFault, command_of};
 use std::alloc::Global;
 
 // The status of a replay that stopped.
@@ -63,14 +75,10 @@ fn status_of(stop: Stop<Cause>) -> Status
 
 // Replays the schedule that the source has.
 fn replay<S: Source, K: Sink>(alloc: Global, source: &mut S, sink: &mut K) -> Status
-    ensures no_usage { IsNoUsage result }
-    ensures replays { (bytes : List ℕ) → S.left source.old ≡ Some bytes
-        → Replays bytes (S.left source.new) (K.holds sink.old) (K.holds sink.new) result }
-    ensures complete { (bytes : List ℕ) → S.left source.old ≡ Some bytes → IsAccepted bytes
-        → HasNotFailed (S.faults source.old) (S.faults source.new)
-        → HasNotFailed (K.faults sink.old) (K.faults sink.new)
-        → IsDoneUnlessMemory result }
-    ensures promise { Promised (S.left source.old) (S.left source.new) (K.holds sink.old) (K.holds sink.new) }
+    ensures does { ByReplay
+        (source_use (S.left source.old) (S.left source.new) (S.faults source.old) (S.faults source.new))
+        (sink_use (K.holds sink.old) (K.holds sink.new) (K.faults sink.old) (K.faults sink.new)) result }
+    ensures quiet { TellsNoLive result }
     ensures counted_reads { CountsReads (S.faults source.old) (S.faults source.new) result }
     ensures counted_writes { CountsWrites (K.faults sink.old) (K.faults sink.new) result }
 {
@@ -84,60 +92,132 @@ fn replay<S: Source, K: Sink>(alloc: Global, source: &mut S, sink: &mut K) -> St
     }
 }
 
+// Runs a command.
+fn run_command<S: Source, K: Sink, O: Outside, P: Spawner, F: Listens>(
+    alloc: Global,
+    command: Command,
+    source: &mut S,
+    sink: &mut K,
+    outside: &mut O,
+    spawner: &mut P,
+    followers: &mut F,
+) -> Status
+    requires { IsWritable command }
+    ensures does { Does (offered (asked_of command))
+        (source_use (S.left source.old) (S.left source.new) (S.faults source.old) (S.faults source.new))
+        (sink_use (K.holds sink.old) (K.holds sink.new) (K.faults sink.old) (K.faults sink.new))
+        (outside_use (O.told outside.old) (O.told outside.new) (O.counts outside.old) (O.counts outside.new))
+        (spawner_use (children (P.told spawner.old) (P.running spawner.old))
+        (children (P.told spawner.new) (P.running spawner.new)) (P.faults spawner.old) (P.faults spawner.new))
+        (followers_use (F.heard followers.old) (F.heard followers.new)) result }
+    ensures same_source { uses_source (offered (asked_of command)) ≡ false → source.new ≡ source.old }
+    ensures same_sink { uses_sink (offered (asked_of command)) ≡ false → sink.new ≡ sink.old }
+    ensures same_outside { uses_outside (offered (asked_of command)) ≡ false → outside.new ≡ outside.old }
+    ensures same_spawner { uses_spawner (offered (asked_of command)) ≡ false → spawner.new ≡ spawner.old }
+    ensures same_followers { uses_followers (offered (asked_of command)) ≡ false → followers.new ≡ followers.old }
+    ensures counted_reads { CountsReads (S.faults source.old) (S.faults source.new) result }
+    ensures counted_writes { CountsWrites (K.faults sink.old) (K.faults sink.new) result }
+    ensures counted_calls { CountsCalls (O.counts outside.old).faults (O.counts outside.new).faults result }
+    ensures counted_dials { CountsDials (O.counts outside.old).dial_faults
+        (O.counts outside.new).dial_faults result }
+    ensures counted_spawns { CountsSpawns (P.faults spawner.old) (P.faults spawner.new) result }
+{
+    match command {
+        Command::Replay => replay(alloc, source, sink),
+        Command::Agree => agree(alloc, source, sink),
+        Command::Companion(words) => companion_by(alloc, words, source, sink, outside, followers),
+        Command::Tv(words) => tv_by(alloc, words, source, outside),
+        Command::Pair(words) => pair_by(alloc, words, source, sink, outside, spawner, followers),
+        Command::Generate(_) => Status::Usage,
+        Command::Survey(_) => Status::Usage,
+    }
+}
+
 /// Runs the program: the words are those after its name.
 ///
-/// The commands are `replay` and `agree`, each without further words. Both read lines from the source, and write what
-/// each line gives to the sink before they read on. `replay` reads a schedule; `agree` reads the answers of a wall
-/// clock, and tells what they say together.
-pub fn run<S: Source, K: Sink>(
+/// - `replay` reads a schedule from the source, and writes what each line gives to the sink before it reads on.
+/// - `agree` reads the answers of a wall clock in the same way, and tells what they say together.
+/// - `companion` reads a cue sheet from the source, to its end. Then it is a companion of the television at an address:
+///   it writes its reports to the sink, and the followers are told them.
+/// - `tv` reads a script from the source, to its end, and then is a television.
+/// - `pair` reads a script, starts `tv` with it as a child, and is a companion of it.
+///
+/// `generate` and `survey` are no commands of it yet. The options of each command are those of `css_words`.
+///
+/// `Usage` comes exactly where the words are those of no command; then no device was touched. Want of memory, which may
+/// come in place of any status, comes as `Memory`.
+pub fn run<S: Source, K: Sink, O: Outside, P: Spawner, F: Listens>(
     alloc: Global,
     words: &[String],
     source: &mut S,
     sink: &mut K,
+    outside: &mut O,
+    spawner: &mut P,
+    followers: &mut F,
 ) -> Status
-    // Which words are accepted. Others touch no device.
-    ensures usage { (result ≡ Status.Usage) ↔ (ended.command_of (map string_bytes words.now) ≡ None) }
-    ensures source_untouched { result ≡ Status.Usage → S.left source.new ≡ S.left source.old }
-    ensures sink_untouched { result ≡ Status.Usage → K.holds sink.new ≡ K.holds sink.old }
+    // Which words are accepted.
+    ensures usage { result ≡ Status.Usage → asked_in (map string_bytes words.now) ≡ Err words_fault.Usage }
+    ensures refused { asked_in (map string_bytes words.now) ≡ Err words_fault.Usage → IsUsageUnlessMemory result }
 
-    // Of a source that tells its bytes: what became of them, and what the sink holds.
-    ensures replays { ended.command_of (map string_bytes words.now) ≡ Some Command.Replay → (bytes : List ℕ)
-        → S.left source.old ≡ Some bytes
-        → Replays bytes (S.left source.new) (K.holds sink.old) (K.holds sink.new) result }
-    ensures agrees { ended.command_of (map string_bytes words.now) ≡ Some Command.Agree → (bytes : List ℕ)
-        → S.left source.old ≡ Some bytes
-        → Agrees bytes (S.left source.new) (K.holds sink.old) (K.holds sink.new) result }
+    // A device that the command doesn't use is as before. A refused command line uses none.
+    ensures same_source { uses_source (asked_in (map string_bytes words.now)) ≡ false → source.new ≡ source.old }
+    ensures same_sink { uses_sink (asked_in (map string_bytes words.now)) ≡ false → sink.new ≡ sink.old }
+    ensures same_outside { uses_outside (asked_in (map string_bytes words.now)) ≡ false → outside.new ≡ outside.old }
+    ensures same_spawner { uses_spawner (asked_in (map string_bytes words.now)) ≡ false → spawner.new ≡ spawner.old }
+    ensures same_followers { uses_followers (asked_in (map string_bytes words.now)) ≡ false
+        → followers.new ≡ followers.old }
 
-    // An input of which no line is refused is read to its end, over devices that don't fail.
-    ensures complete { ended.command_of (map string_bytes words.now) ≡ Some Command.Replay → (bytes : List ℕ)
-        → S.left source.old ≡ Some bytes → IsAccepted bytes
-        → HasNotFailed (S.faults source.old) (S.faults source.new)
-        → HasNotFailed (K.faults sink.old) (K.faults sink.new)
-        → IsDoneUnlessMemory result }
-    ensures complete_answers { ended.command_of (map string_bytes words.now) ≡ Some Command.Agree → (bytes : List ℕ)
-        → S.left source.old ≡ Some bytes → AreAllRead bytes
-        → HasNotFailed (S.faults source.old) (S.faults source.new)
-        → HasNotFailed (K.faults sink.old) (K.faults sink.new)
-        → IsDoneUnlessMemory result }
+    // A schedule: what became of its lines. Of every source, what the sink gained keeps the promise: each interval of
+    // ticks contains the position that the last control timestamp received assigns to the value that its line gives the
+    // television's wall clock, and comes from the narrowest accepted response; lacking a response or usable timestamp
+    // the cause is printed. Once told, the companion's state of the content is one that the television published.
+    ensures replay { asked_in (map string_bytes words.now) ≡ Ok commands.Replay
+        → ByReplay (source_use (S.left source.old) (S.left source.new) (S.faults source.old) (S.faults source.new))
+        (sink_use (K.holds sink.old) (K.holds sink.new) (K.faults sink.old) (K.faults sink.new)) result }
 
-    // Of every source: what the sink gained keeps the promise. Each interval of ticks contains the position that the
-    // last control timestamp received assigns to the value that its line gives the television's wall clock, and comes
-    // from the narrowest accepted response; lacking a response or usable timestamp the cause is printed. Once told, the
-    // companion's state of the content is one that the television published.
-    ensures promise { ended.command_of (map string_bytes words.now) ≡ Some Command.Replay
-        → Promised (S.left source.old) (S.left source.new) (K.holds sink.old) (K.holds sink.new) }
+    // Answers: what is printed of them is what they say together, true in every world that makes them truthful.
+    ensures agree { asked_in (map string_bytes words.now) ≡ Ok commands.Agree
+        → ByAgree (source_use (S.left source.old) (S.left source.new) (S.faults source.old) (S.faults source.new))
+        (sink_use (K.holds sink.old) (K.holds sink.new) (K.faults sink.old) (K.faults sink.new)) result }
 
-    // What is printed of answers is what they say together, and it is true in every world that makes them truthful.
-    ensures agreement { ended.command_of (map string_bytes words.now) ≡ Some Command.Agree
-        → agree.Promised (S.left source.old) (S.left source.new) (K.holds sink.old) (K.holds sink.new) }
+    // A companion by its sheet: each report is that of the calls before it, and each interval contains the position
+    // that the last control timestamp received assigns to the television's wall clock, in every world that explains
+    // what the companion was told.
+    ensures companion { (asked : CompanionAsked)
+        → asked_in (map string_bytes words.now) ≡ Ok (commands.Companion asked)
+        → ByCompanion asked
+        (source_use (S.left source.old) (S.left source.new) (S.faults source.old) (S.faults source.new))
+        (sink_use (K.holds sink.old) (K.holds sink.new) (K.faults sink.old) (K.faults sink.new))
+        (outside_use (O.told outside.old) (O.told outside.new) (O.counts outside.old) (O.counts outside.new))
+        (followers_use (F.heard followers.old) (F.heard followers.new)) result }
 
-    // A fault is told only where the device has failed, and no other failure of a device goes untold.
+    // A television by its script: each call is the one that is due.
+    ensures tv { (asked : TvAsked) → asked_in (map string_bytes words.now) ≡ Ok (commands.Tv asked)
+        → ByTv asked (source_use (S.left source.old) (S.left source.new) (S.faults source.old) (S.faults source.new))
+        (outside_use (O.told outside.old) (O.told outside.new) (O.counts outside.old) (O.counts outside.new)) result }
+
+    // A companion beside a child: as `companion`, without a sheet; the child has the script's bytes.
+    ensures pair { (asked : PairAsked) → asked_in (map string_bytes words.now) ≡ Ok (commands.Pair asked)
+        → ByPair asked
+        (source_use (S.left source.old) (S.left source.new) (S.faults source.old) (S.faults source.new))
+        (sink_use (K.holds sink.old) (K.holds sink.new) (K.faults sink.old) (K.faults sink.new))
+        (outside_use (O.told outside.old) (O.told outside.new) (O.counts outside.old) (O.counts outside.new))
+        (spawner_use (children (P.told spawner.old) (P.running spawner.old))
+        (children (P.told spawner.new) (P.running spawner.new)) (P.faults spawner.old) (P.faults spawner.new))
+        (followers_use (F.heard followers.old) (F.heard followers.new)) result }
+
+    // A fault is told only where the device has failed. A failure of the spawner yields to the companion's status, and
+    // of dials it is told where every one failed; no other failure of a device goes untold.
     ensures counted_reads { CountsReads (S.faults source.old) (S.faults source.new) result }
     ensures counted_writes { CountsWrites (K.faults sink.old) (K.faults sink.new) result }
+    ensures counted_calls { CountsCalls (O.counts outside.old).faults (O.counts outside.new).faults result }
+    ensures counted_dials { CountsDials (O.counts outside.old).dial_faults
+        (O.counts outside.new).dial_faults result }
+    ensures counted_spawns { CountsSpawns (P.faults spawner.old) (P.faults spawner.new) result }
 {
-    match command_of(words) {
-        Some(Command::Replay) => replay(alloc, source, sink),
-        Some(Command::Agree) => agree(alloc, source, sink),
-        None => Status::Usage,
+    match command_of(alloc, words) {
+        Ok(command) => run_command(alloc, command, source, sink, outside, spawner, followers),
+        Err(WordsFault::Usage) => Status::Usage,
+        Err(WordsFault::Memory) => Status::Memory,
     }
 }

@@ -1,4 +1,5 @@
-use crate::tests::{Case, Devices, run_over};
+use crate::running::{Devices, run_over};
+use crate::tests::Case;
 use css_app::{LineWhy, Status};
 use std::alloc::Global;
 use std::process::Abort;
@@ -44,9 +45,8 @@ const fn broken(line: u64, bytes: &'static [u8], printed: &'static [u8]) -> Case
 }
 
 fn run_each(rt: &impl Abort, alloc: Global, cases: &[Case]) -> Result<(), Fail> {
-    let words = vec![in alloc; "agree".to_string(alloc)?]?;
     for case in cases {
-        let ran = run_over(alloc, &words, case.bytes, &DEVICES)?;
+        let ran = run_over(alloc, "agree", case.bytes, &DEVICES)?;
         assert_eq!(rt; ran.status, case.status);
         assert_eq!(rt; ran.sink.bytes(), case.printed);
     }

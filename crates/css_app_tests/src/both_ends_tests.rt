@@ -1,4 +1,5 @@
-use crate::tests::{Case, Devices, replay, replay_each};
+use crate::running::Devices;
+use crate::tests::{Case, replay, replay_each};
 use css_app::{LineWhy, Status};
 use css_schedule::PlayerFault;
 use std::test::Fail;

@@ -10,4 +10,8 @@ mod live_tables;
 #[cfg(test)]
 mod live_tests;
 #[cfg(test)]
+mod running;
+#[cfg(test)]
 mod tests;
+#[cfg(test)]
+mod usage_tests;

@@ -11,22 +11,14 @@ pub enum Times {
     Seconds,
 }
 
-/// How many reports and turns a row asks for, and how often reports are due.
-#[derive(Clone, Copy)]
-pub enum Amounts {
-    /// Two reports in four turns, 10 ns apart.
-    TwoReports,
-    /// One report in three turns, a second after the first.
-    OneEachSecond,
-}
-
-/// A run: its input, what its devices give, which calls fail, how it is told, and what it writes.
+/// A run: its words, its input, what its devices give, which calls fail, how it is told, and what it writes.
 #[derive(Clone, Copy)]
 pub struct Case {
     pub name: &'static str,
+    /// The words, separated by spaces.
+    pub words: &'static str,
     pub input: &'static str,
     pub times: Times,
-    pub amounts: Amounts,
     pub datagrams: &'static [&'static [u8]],
     /// By the number of the session.
     pub texts: &'static [(u32, &'static str)],
@@ -52,14 +44,31 @@ const CII: &str =
 const TS: &str =
     "{\"contentTime\":\"900000\",\"timelineSpeedMultiplier\":1,\"wallClockTime\":\"0\"}";
 
+/// Two reports in four turns, 10 ns apart.
+const COMPANION: &str =
+    "companion --cii ws://127.0.0.1:6677/cii --reports 2 --turns 4 --report-every 10 \
+--ask-every 1000 --local-error 0 --local-precision 0";
+
+/// One report in three turns, a second after the first.
+const SHORT: &str = "companion --cii ws://127.0.0.1:6677/cii --selector urn:dvb:css:timeline:pts \
+--reports 1 --turns 3";
+
+const PAIR: &str =
+    "pair --follow --reports 2 --turns 4 --report-every 10 --ask-every 1000 --local-error 0 \
+--local-precision 0";
+
+const SHORT_PAIR: &str = "pair --reports 1 --turns 3";
+
+const TV: &str = "tv --turns 1";
+
 const TWO_INTERVALS: &str = "1 ticks 900000 900000\n2 ticks 900000 900000\n";
 
 /// Two reports, of an answer and a control timestamp, in 20 calls.
 pub const K: Case = Case {
     name: "two intervals",
+    words: COMPANION,
     input: "",
     times: Times::K,
-    amounts: Amounts::TwoReports,
     datagrams: &[&RESPONSE],
     texts: &[(1, CII), (2, TS)],
     source_fails: &[],
@@ -74,8 +83,8 @@ pub const K: Case = Case {
 /// A television that isn't reached, and no report before the last turn.
 const UNREACHED: Case = Case {
     name: "every dial fails",
+    words: SHORT,
     times: Times::Soon,
-    amounts: Amounts::OneEachSecond,
     datagrams: &[],
     texts: &[],
     fails: &[2, 4, 6],
@@ -159,58 +168,80 @@ pub const COMPANIONS: &[Case] = &[
     },
 ];
 
+/// A television that makes one turn.
+const TELEVISION: Case = Case {
+    name: "a television",
+    words: TV,
+    written: "",
+    ..K
+};
+
+/// Two reports beside a child.
+pub const TWO_BESIDE: Case = Case {
+    name: "two intervals beside a child",
+    words: PAIR,
+    ..K
+};
+
+/// A child that isn't reached.
+const UNREACHED_BESIDE: Case = Case {
+    name: "every dial to a child fails",
+    words: SHORT_PAIR,
+    ..UNREACHED
+};
+
 /// Runs of `tv`, which makes one turn over an outside that has nothing: `listen`, `now`, `take_datagram`, `accept`.
 pub const TELEVISIONS: &[Case] = &[
     Case {
         name: "an empty script",
-        ..K
+        ..TELEVISION
     },
     Case {
         name: "a script that is carried out in part",
         input: "0 programme dvb://1\n0 change 1\n9 speed 0",
-        ..K
+        ..TELEVISION
     },
     Case {
         name: "the player refuses a line",
         input: "0 speed 1\n",
         told: "css: line 1: no programme\n",
-        ..K
+        ..TELEVISION
     },
     Case {
         name: "a line is outside the grammar",
         input: "0 programme dvb://1\n0 play 1\n",
         told: "css: line 2: form\n",
-        ..K
+        ..TELEVISION
     },
     Case {
         name: "the source fails",
         source_fails: &[1],
         told: "css: read fault\n",
-        ..K
+        ..TELEVISION
     },
     Case {
         name: "listening fails",
         fails: &[1],
         told: "css: net fault\n",
-        ..K
+        ..TELEVISION
     },
     Case {
         name: "the clock fails",
         fails: &[2],
         told: "css: net fault\n",
-        ..K
+        ..TELEVISION
     },
     Case {
         name: "taking a datagram fails",
         fails: &[3],
         told: "css: net fault\n",
-        ..K
+        ..TELEVISION
     },
     Case {
         name: "accepting fails",
         fails: &[4],
         told: "css: net fault\n",
-        ..K
+        ..TELEVISION
     },
 ];
 
@@ -218,70 +249,70 @@ pub const TELEVISIONS: &[Case] = &[
 pub const PAIRS: &[Case] = &[
     Case {
         input: "0 programme dvb://1\n",
-        ..K
+        ..TWO_BESIDE
     },
     Case {
         name: "the child ends with 3",
         children: &[3],
         told: "css: child status 3\n",
-        ..K
+        ..TWO_BESIDE
     },
     Case {
         name: "the child ends with a status below 0",
         children: &[-1],
         told: "css: child status -1\n",
-        ..K
+        ..TWO_BESIDE
     },
     Case {
         name: "starting the child fails",
         spawner_fails: &[1],
         told: "css: child fault\n",
         written: "",
-        ..K
+        ..TWO_BESIDE
     },
     Case {
         name: "waiting for the child fails",
         spawner_fails: &[2],
         told: "css: child fault\n",
-        ..K
+        ..TWO_BESIDE
     },
     Case {
         name: "the companion's status comes before the child's",
         children: &[3],
-        ..UNREACHED
+        ..UNREACHED_BESIDE
     },
     Case {
         name: "the companion's status comes before the spawner's fault",
         spawner_fails: &[2],
-        ..UNREACHED
+        ..UNREACHED_BESIDE
     },
     Case {
         name: "a line is outside the grammar",
         input: "0 play 1\n",
         told: "css: line 1: form\n",
         written: "",
-        ..K
+        ..TWO_BESIDE
     },
     Case {
         name: "what the player would refuse is left to the child",
         input: "0 speed 1\n",
         children: &[2],
         told: "css: child status 2\n",
-        ..K
+        ..TWO_BESIDE
     },
     Case {
         name: "the source fails",
         source_fails: &[1],
         told: "css: read fault\n",
         written: "",
-        ..K
+        ..TWO_BESIDE
     },
     Case {
         name: "the sink fails",
         sink_fails: &[1],
         told: "css: write fault\n",
         written: "",
-        ..K
+        ..TWO_BESIDE
     },
 ];
 
@@ -307,4 +338,34 @@ pub const FAILING: &[(u64, &str, &str)] = &[
     (18, "css: net fault\n", "1 ticks 900000 900000\n"),
     (19, "css: net fault\n", TWO_INTERVALS),
     (20, "css: net fault\n", TWO_INTERVALS),
+];
+
+/// Runs in which no device fails.
+pub const NEVER_FAILING: &[Case] = &[
+    K,
+    Case {
+        name: "one exchange",
+        words: "replay",
+        input: "css-schedule 1 plain 0 -30 0 0 urn:dvb:css:timeline:pts -\n\
+1000 4800 1000 ask 1000\n\
+1200 5000 1200 take 1 5000\n\
+1400 5200 1400 give 1 5200\n\
+1600 5400 1600 land 1 1600\n\
+1600 5400 1600 wall 1600\n",
+        written: "6 wall 5197 5603 at 5400\n",
+        ..K
+    },
+    Case {
+        name: "the child ends with 3",
+        children: &[3],
+        told: "css: child status 3\n",
+        ..TWO_BESIDE
+    },
+    Case {
+        name: "the player refuses a line",
+        input: "0 speed 1\n",
+        told: "css: line 1: no programme\n",
+        ..TELEVISION
+    },
+    TELEVISION,
 ];

@@ -1,8 +1,7 @@
-ghost use Rattle.std.specs.Prelude.{◌<◌};
-
-use css_app::{LineWhy, Status, run, tell};
+use crate::running::{Devices, Ran, run_over};
+use css_app::{LineWhy, Status, tell};
 use css_cii::{CiiFault, CiiName};
-use css_outside::{Memory, MemorySink, MemorySource, OutFault};
+use css_outside::{MemorySink, OutFault};
 use css_schedule::PlayerFault;
 use std::alloc::{AllocError, Global};
 use std::process::Abort;
@@ -20,37 +19,8 @@ const PRINTED: &[u8] = b"6 wall 5197 5603 at 5400\n";
 
 const HEADER: &[u8] = b"css-schedule 1 plain 0 -30 0 0 urn:x -\n";
 
-/// The devices of a run: how many bytes a call takes at most, and which calls fail, counted from 1.
-#[derive(Clone, Copy)]
-pub(crate) struct Devices<'a> {
-    pub(crate) piece: usize,
-    pub(crate) reads: &'a [u64],
-    pub(crate) writes: &'a [u64],
-    ghost some: { 0 < piece },
-}
-
-/// How a run ended, and what the sink holds.
-#[derive(Drop)]
-pub(crate) struct Ran {
-    pub(crate) status: Status,
-    pub(crate) sink: MemorySink,
-}
-
-pub(crate) fn run_over(
-    alloc: Global,
-    words: &[String],
-    bytes: &[u8],
-    devices: &Devices<'_>,
-) -> Result<Ran, Memory> {
-    let mut source = MemorySource::new(alloc, bytes, devices.piece, devices.reads)?;
-    let mut sink = MemorySink::new(alloc, devices.piece, devices.writes)?;
-    let status = run(alloc, words, &mut source, &mut sink);
-    Ok(Ran { status, sink })
-}
-
 pub(crate) fn replay(alloc: Global, bytes: &[u8], devices: &Devices<'_>) -> Result<Ran, Fail> {
-    let words = vec![in alloc; "replay".to_string(alloc)?]?;
-    Ok(run_over(alloc, &words, bytes, devices)?)
+    Ok(run_over(alloc, "replay", bytes, devices)?)
 }
 
 /// Devices that never fail, of whole pieces.
@@ -73,22 +43,6 @@ fn one_exchange_gives_its_interval(rt: HostRuntime) -> Result<(), Fail> {
         let ran = replay(rt.alloc(), SCHEDULE, &devices)?;
         assert_eq!(rt; ran.status, Status::Done);
         assert_eq!(rt; ran.sink.bytes(), PRINTED);
-    }
-    Ok(())
-}
-
-#[test]
-fn other_words_are_refused(rt: HostRuntime) -> Result<(), Fail> {
-    let alloc = rt.alloc();
-    let lists = vec![in alloc;
-        vec![in alloc; "reply".to_string(alloc)?]?,
-        vec![in alloc; "replay".to_string(alloc)?, "now".to_string(alloc)?]?,
-        vec![in alloc]?,
-    ]?;
-    for words in &lists {
-        let ran = run_over(alloc, words, SCHEDULE, &WHOLE)?;
-        assert_eq!(rt; ran.status, Status::Usage);
-        assert_eq!(rt; ran.sink.bytes(), b"".as_slice());
     }
     Ok(())
 }

@@ -1,0 +1,117 @@
+-- What a run did, by the words of its command line.
+use Rattle.std.proofs.Common.{◌≡◌, ◌∙◌, ℕ, List, ap, refl, sym, subst, inl, inr}
+use Rattle.std.specs.Prelude.{◌⊎◌, Option, Result, Ok, Err}
+use Rattle.css_model.specs.History.{Address, History}
+use Rattle.css_drive.specs.declared.config.DriveConfig.{DriveConfig}
+use Rattle.css_words.specs.Commands.{Asked, Replay, Agree, Companion, Tv, Pair, Generate, Survey, command_in}
+use Rattle.css_words.specs.Companion.{CompanionAsked, OptionsAsked}
+use Rattle.css_words.specs.Options.{◌>>=◌}
+use Rattle.css_words.specs.Pair.{PairAsked}
+use Rattle.css_words.specs.declared.fault.WordsFault.{WordsFault}
+use Rattle.css_words.specs.declared.fault.WordsFault.TheVariants as words
+use Rattle.css_app.specs.declared.child.Child.{Child}
+use Rattle.css_app.specs.declared.status.Status.{Status}
+use Rattle.css_app.specs.declared.status.Status.TheVariants as status
+use Rattle.css_app.specs.Commands.{CompanionsBy, Does, EndsAsAsked, IsAskedRun, PairsAsAsked, PairsBy, asked_child}
+use Rattle.css_app.specs.Commands.{asked_in, asked_tv, offered}
+use Rattle.css_app.specs.Devices.{FollowersUse, OutsideUse, SinkUse, SourceUse, SpawnerUse, stage_after, stage_before}
+use Rattle.css_app.specs.Ended.{IsNoUsage}
+use Rattle.css_app.specs.Live.{Companions, EndsAsDue, Stage}
+use Rattle.css_app.specs.Pairs.{Children, Pairs, PairsAsDue, PairsByScript, address_at}
+use Rattle.css_app.proofs.Quiet.{companions_no_child, pairs_no_usage, script_no_dial, serves_no_dial, sheet_no_child}
+
+-- ---- a run by what the options ask for
+pub companions_by : (asked : CompanionAsked) (run : DriveConfig) (source : SourceUse) (before now : Stage)
+    (result : Status) → IsAskedRun asked.options asked.cii run
+    → Companions run source.left_old source.left_new before now result → CompanionsBy asked source before now result
+companions_by asked run source before now result is (inl none) = inl none
+companions_by asked run source before now result is (inr ran) = inr (run, is, ran)
+
+pub ends_as_asked : (asked : OptionsAsked) (cii : Address) (run : DriveConfig) (before now : Option History)
+    (result : Status) → IsAskedRun asked cii run → EndsAsDue run before now result
+    → EndsAsAsked asked cii before now result
+ends_as_asked asked cii run before now result is (inl memory) = inl memory
+ends_as_asked asked cii run before now result is (inr due) = inr (run, is, due)
+
+pub pairs_by : (asked : PairAsked) (child : Child) (cii : Address) (run : DriveConfig) (source : SourceUse)
+    (before now : Stage) (kids_old kids_new : Children) (result : Status) → child ≡ asked_child asked.tv
+    → cii ≡ address_at child.port → IsAskedRun asked.companion cii run
+    → Pairs run child source.left_old source.left_new before now kids_old kids_new result
+    → PairsBy asked source before now kids_old kids_new result
+pairs_by asked child cii run source before now kids_old kids_new result of dials is (inl none) = inl none
+pairs_by asked child cii run source before now kids_old kids_new result of dials is (inr ran) =
+    inr (
+      run,
+      subst (λ (a : Address). IsAskedRun asked.companion a run) (dials ∙ ap (λ (k : Child). address_at k.port) of) is,
+      subst (λ (k : Child). PairsByScript run k source.left_old source.left_new before now kids_old kids_new result) of
+          ran,
+    )
+
+pub pairs_as_asked : (asked : PairAsked) (child : Child) (cii : Address) (run : DriveConfig)
+    (before now : Option History) (result : Status) → child ≡ asked_child asked.tv → cii ≡ address_at child.port
+    → IsAskedRun asked.companion cii run → PairsAsDue run before now result
+    → PairsAsAsked asked.companion (address_at asked.tv.port) before now result
+pairs_as_asked asked child cii run before now result of dials is (inl memory) = inl memory
+pairs_as_asked asked child cii run before now result of dials is (inr due) =
+    inr (
+      run,
+      subst (λ (a : Address). IsAskedRun asked.companion a run) (dials ∙ ap (λ (k : Child). address_at k.port) of) is,
+      due,
+    )
+
+-- ---- Usage
+companions_no_usage : (asked : CompanionAsked) (source : SourceUse) (before now : Stage) (result : Status)
+    → CompanionsBy asked source before now result → IsNoUsage result
+companions_no_usage asked source before now result (inl none) =
+    (sheet_no_child source.left_old result none.cause).0
+companions_no_usage asked source before now result (inr ran) =
+    (companions_no_child ran.0 source.left_old source.left_new before now result (inr ran.2)).0
+
+pairs_by_no_usage : (asked : PairAsked) (source : SourceUse) (before now : Stage) (kids_old kids_new : Children)
+    (result : Status) → PairsBy asked source before now kids_old kids_new result → IsNoUsage result
+pairs_by_no_usage asked source before now kids_old kids_new result (inl none) =
+    (script_no_dial source.left_old result none.cause).0.0
+pairs_by_no_usage asked source before now kids_old kids_new result (inr ran) =
+    pairs_no_usage ran.0 (asked_child asked.tv) source.left_old source.left_new before now kids_old kids_new result
+    (inr ran.2)
+
+-- Usage tells that the words are those of no command
+pub usage_only : (asked : Result Asked WordsFault) (source : SourceUse) (sink : SinkUse) (outside : OutsideUse)
+    (spawner : SpawnerUse) (followers : FollowersUse) (result : Status)
+    → Does asked source sink outside spawner followers result → result ≡ status.Usage → asked ≡ Err words.Usage
+usage_only (Ok Replay) source sink outside spawner followers result did is =
+    absurd (subst IsNoUsage is did.no_usage)
+usage_only (Ok Agree) source sink outside spawner followers result did is =
+    absurd (subst IsNoUsage is did.no_usage)
+usage_only (Ok (Companion asked)) source sink outside spawner followers result did is =
+    absurd (subst IsNoUsage is (companions_no_usage asked source (stage_before sink outside followers)
+    (stage_after sink outside followers) result did.ran))
+usage_only (Ok (Tv asked)) source sink outside spawner followers result did is =
+    absurd (subst IsNoUsage is (serves_no_dial (asked_tv asked) asked.turns source.left_old source.left_new
+    outside.told_old outside.told_new result did.ran).0.0)
+usage_only (Ok (Pair asked)) source sink outside spawner followers result did is =
+    absurd (subst IsNoUsage is (pairs_by_no_usage asked source (stage_before sink outside followers)
+    (stage_after sink outside followers) spawner.children_old spawner.children_new result did.ran))
+usage_only (Ok (Generate asked)) source sink outside spawner followers result did is = absurd (cc)
+usage_only (Ok (Survey asked)) source sink outside spawner followers result did is = absurd (cc)
+usage_only (Err words.Usage) source sink outside spawner followers result did is = refl
+usage_only (Err words.Memory) source sink outside spawner followers result did is = absurd (cc)
+
+-- ---- words
+pub asked_so : (line : List (List ℕ)) (asked : Asked) → command_in line ≡ Ok asked → asked_in line ≡ offered asked
+asked_so line asked of = ap (λ (r : Result Asked WordsFault). r >>= offered) of
+
+-- what a command did, whatever its words are expected to be
+pub does_so : (line : List (List ℕ)) (asked : Asked) (expected : Result Asked WordsFault) (source : SourceUse)
+    (sink : SinkUse) (outside : OutsideUse) (spawner : SpawnerUse) (followers : FollowersUse) (result : Status)
+    → command_in line ≡ Ok asked → Does (offered asked) source sink outside spawner followers result
+    → asked_in line ≡ expected → Does expected source sink outside spawner followers result
+does_so line asked expected source sink outside spawner followers result of did is =
+    subst (λ (a : Result Asked WordsFault). Does a source sink outside spawner followers result)
+    (sym (asked_so line asked of) ∙ is) did
+
+-- words that are refused are those of no command
+pub usage_of : (line : List (List ℕ)) (fault : WordsFault) → fault ≡ words.Usage
+    → (command_in line ≡ Err fault) ⊎ (fault ≡ words.Memory) → asked_in line ≡ Err words.Usage
+usage_of line fault is (inl refused) = ap (λ (r : Result Asked WordsFault). r >>= offered) (refused ∙ ap Err is)
+usage_of line fault is (inr memory) = absurd (cc)

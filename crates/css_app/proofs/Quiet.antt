@@ -1,0 +1,192 @@
+-- Which faults a command's status never tells.
+use Rattle.std.proofs.Common.{ℕ, List, refl, sym, subst, arith, inl, inr}
+use Rattle.std.specs.Prelude.{Option, Some, None}
+use Rattle.css_model.specs.History.{History}
+use Rattle.css_lines.specs.declared.ending.Stop.{Stop}
+use Rattle.css_lines.specs.declared.ending.Stop.TheVariants as stops
+use Rattle.css_lines.specs.declared.reader.Refusal.TheVariants as refusals
+use Rattle.css_agree.specs.declared.reader.Cause as agree
+use Rattle.css_agree.specs.declared.reader.Cause.TheVariants as agrees
+use Rattle.css_drive.specs.declared.config.DriveConfig.{DriveConfig}
+use Rattle.css_drive.specs.declared.driven.Driven.{Driven}
+use Rattle.css_drive.specs.declared.driven.Driven.TheVariants as driven
+use Rattle.css_drive.specs.Ends.{MayEnd}
+use Rattle.css_drive.specs.TvDue.{TvRun, due}
+use Rattle.css_tv.specs.declared.config.TvConfig.{TvConfig}
+use Rattle.css_app.specs.declared.child.Child.{Child}
+use Rattle.css_app.specs.declared.replay.Cause.{Cause}
+use Rattle.css_app.specs.declared.replay.Cause.TheVariants as causes
+use Rattle.css_app.specs.declared.status.Status.{Status}
+use Rattle.css_app.specs.declared.status.Status.TheVariants as status
+use Rattle.css_app.specs.Ended.{IsNoUsage, agree_status_of, status_of}
+use Rattle.css_app.specs.Live.{Companions, CountsDials, CountsSpawns, HasNoScript, HasNoSheet, Serves, Stage}
+use Rattle.css_app.specs.Live.{TellsNoLive, driven_status}
+use Rattle.css_app.specs.Pairs.{Beside, Children, IsNoStart, Pairs}
+use Rattle.css_app.proofs.Pairs.{keeps_no_usage}
+use Rattle.css_app.proofs.TvEnds.{never_unreachable}
+
+-- ---- commands over lines
+pub replay_quiet : (stop : Stop Cause) → TellsNoLive (status_of stop)
+replay_quiet (stops.BadLine line refusals.Long) =
+    record { calls = λ n. refl; dials = λ n. omega arith; spawns = λ n. omega arith }
+replay_quiet (stops.BadLine line (refusals.Refused causes.Form)) =
+    record { calls = λ n. refl; dials = λ n. omega arith; spawns = λ n. omega arith }
+replay_quiet (stops.BadLine line (refusals.Refused causes.Absent)) =
+    record { calls = λ n. refl; dials = λ n. omega arith; spawns = λ n. omega arith }
+replay_quiet (stops.BadLine line (refusals.Refused (causes.Player fault))) =
+    record { calls = λ n. refl; dials = λ n. omega arith; spawns = λ n. omega arith }
+replay_quiet (stops.BadLine line (refusals.Refused (causes.Broken earlier excess))) =
+    record { calls = λ n. refl; dials = λ n. omega arith; spawns = λ n. omega arith }
+replay_quiet stops.ReadFault = record { calls = λ n. refl; dials = λ n. omega arith; spawns = λ n. omega arith }
+replay_quiet stops.WriteFault = record { calls = λ n. refl; dials = λ n. omega arith; spawns = λ n. omega arith }
+replay_quiet stops.Memory = record { calls = λ n. refl; dials = λ n. omega arith; spawns = λ n. omega arith }
+
+pub agree_quiet : (stop : Stop agree.Cause) → TellsNoLive (agree_status_of stop)
+agree_quiet (stops.BadLine line refusals.Long) =
+    record { calls = λ n. refl; dials = λ n. omega arith; spawns = λ n. omega arith }
+agree_quiet (stops.BadLine line (refusals.Refused agrees.Form)) =
+    record { calls = λ n. refl; dials = λ n. omega arith; spawns = λ n. omega arith }
+agree_quiet (stops.BadLine line (refusals.Refused (agrees.Broken earlier excess))) =
+    record { calls = λ n. refl; dials = λ n. omega arith; spawns = λ n. omega arith }
+agree_quiet stops.ReadFault = record { calls = λ n. refl; dials = λ n. omega arith; spawns = λ n. omega arith }
+agree_quiet stops.WriteFault = record { calls = λ n. refl; dials = λ n. omega arith; spawns = λ n. omega arith }
+agree_quiet stops.Memory = record { calls = λ n. refl; dials = λ n. omega arith; spawns = λ n. omega arith }
+
+pub replay_no_usage : (stop : Stop Cause) → IsNoUsage (status_of stop)
+replay_no_usage (stops.BadLine line refusals.Long) = tt
+replay_no_usage (stops.BadLine line (refusals.Refused causes.Form)) = tt
+replay_no_usage (stops.BadLine line (refusals.Refused causes.Absent)) = tt
+replay_no_usage (stops.BadLine line (refusals.Refused (causes.Player fault))) = tt
+replay_no_usage (stops.BadLine line (refusals.Refused (causes.Broken earlier excess))) = tt
+replay_no_usage stops.ReadFault = tt
+replay_no_usage stops.WriteFault = tt
+replay_no_usage stops.Memory = tt
+
+pub agree_no_usage : (stop : Stop agree.Cause) → IsNoUsage (agree_status_of stop)
+agree_no_usage (stops.BadLine line refusals.Long) = tt
+agree_no_usage (stops.BadLine line (refusals.Refused agrees.Form)) = tt
+agree_no_usage (stops.BadLine line (refusals.Refused (agrees.Broken earlier excess))) = tt
+agree_no_usage stops.ReadFault = tt
+agree_no_usage stops.WriteFault = tt
+agree_no_usage stops.Memory = tt
+
+-- ---- live commands
+-- Neither Usage nor a child's fault: what the statuses are of a run that was made, and of an input that wasn't read.
+abbrev pub HasNoChild : Status → Type 0
+HasNoChild result = IsNoUsage result × ((n : ℕ) → CountsSpawns n n result)
+
+driven_no_child : (ended : Driven) → HasNoChild (driven_status ended)
+driven_no_child driven.Done = (tt, λ n. refl)
+driven_no_child (driven.BadLine line why) = (tt, λ n. omega arith)
+driven_no_child driven.WriteFault = (tt, λ n. omega arith)
+driven_no_child driven.NetFault = (tt, λ n. omega arith)
+driven_no_child (driven.BadCii text fault) = (tt, λ n. omega arith)
+driven_no_child (driven.Moved property old new) = (tt, λ n. omega arith)
+driven_no_child (driven.Spent turns) = (tt, λ n. omega arith)
+driven_no_child (driven.Unreachable turns) = (tt, λ n. omega arith)
+driven_no_child (driven.BadUrl property) = (tt, λ n. omega arith)
+driven_no_child driven.Memory = (tt, λ n. omega arith)
+
+pub sheet_no_child : (left : Option (List ℕ)) (result : Status) → HasNoSheet left result → HasNoChild result
+sheet_no_child left status.ReadFault none = (tt, λ n. omega arith)
+sheet_no_child left (status.BadSheet line) none = (tt, λ n. omega arith)
+sheet_no_child left status.Memory none = (tt, λ n. omega arith)
+sheet_no_child left status.Done none = absurd none
+sheet_no_child left status.Usage none = absurd none
+sheet_no_child left (status.BadLine line why) none = absurd none
+sheet_no_child left (status.Broken line earlier excess) none = absurd none
+sheet_no_child left status.WriteFault none = absurd none
+sheet_no_child left status.NetFault none = absurd none
+sheet_no_child left (status.BadCii text fault) none = absurd none
+sheet_no_child left (status.Moved property old new) none = absurd none
+sheet_no_child left (status.Spent turns) none = absurd none
+sheet_no_child left (status.Unreachable turns) none = absurd none
+sheet_no_child left (status.ChildFault ended) none = absurd none
+sheet_no_child left (status.BadUrl property) none = absurd none
+
+-- the same of a script, and no dial failed
+abbrev pub HasNoDial : Status → Type 0
+HasNoDial result = HasNoChild result × ((n : ℕ) → CountsDials n n result)
+
+pub script_no_dial : (left : Option (List ℕ)) (result : Status) → HasNoScript left result → HasNoDial result
+script_no_dial left status.ReadFault none = ((tt, λ n. omega arith), λ n. omega arith)
+script_no_dial left (status.BadLine line why) none = ((tt, λ n. omega arith), λ n. omega arith)
+script_no_dial left status.Memory none = ((tt, λ n. omega arith), λ n. omega arith)
+script_no_dial left status.Done none = absurd none
+script_no_dial left status.Usage none = absurd none
+script_no_dial left (status.Broken line earlier excess) none = absurd none
+script_no_dial left status.WriteFault none = absurd none
+script_no_dial left status.NetFault none = absurd none
+script_no_dial left (status.BadCii text fault) none = absurd none
+script_no_dial left (status.Moved property old new) none = absurd none
+script_no_dial left (status.Spent turns) none = absurd none
+script_no_dial left (status.Unreachable turns) none = absurd none
+script_no_dial left (status.ChildFault ended) none = absurd none
+script_no_dial left (status.BadSheet line) none = absurd none
+script_no_dial left (status.BadUrl property) none = absurd none
+
+pub companions_no_child : (config : DriveConfig) (left_old left_new : Option (List ℕ)) (before now : Stage)
+    (result : Status) → Companions config left_old left_new before now result → HasNoChild result
+companions_no_child config left_old left_new before now result (inl none) = sheet_no_child left_old result none.cause
+companions_no_child config left_old left_new before now result (inr ran) =
+    subst HasNoChild (sym ran.makes.tells) (driven_no_child ran.makes.ended)
+
+-- a television's run that ended so dialled nobody
+served_dials : (run : TvRun) (h : History) (ended : Driven) → MayEnd (due run h) ended
+    → (n : ℕ) → CountsDials n n (driven_status ended)
+served_dials run h driven.Done ends n = omega arith
+served_dials run h (driven.BadLine line why) ends n = omega arith
+served_dials run h driven.WriteFault ends n = omega arith
+served_dials run h driven.NetFault ends n = omega arith
+served_dials run h (driven.BadCii text fault) ends n = omega arith
+served_dials run h (driven.Moved property old new) ends n = omega arith
+served_dials run h (driven.Spent turns) ends n = omega arith
+served_dials run h (driven.Unreachable turns) ends n = absurd (never_unreachable run h turns ends)
+served_dials run h (driven.BadUrl property) ends n = omega arith
+served_dials run h driven.Memory ends n = omega arith
+
+pub serves_no_dial : (config : TvConfig) (turns : ℕ) (left_old left_new : Option (List ℕ))
+    (told_old told_new : Option History) (result : Status)
+    → Serves config turns left_old left_new told_old told_new result → HasNoDial result
+serves_no_dial config turns left_old left_new told_old told_new result (inl none) =
+    script_no_dial left_old result none.cause
+serves_no_dial config turns left_old left_new told_old told_new result (inr ran) =
+    subst HasNoDial (sym ran.tells) (
+      driven_no_child ran.ended,
+      served_dials (record { config = config; turns = turns; script = ran.script }) ran.ran.h ran.ended ran.ran.ends,
+    )
+
+start_no_usage : (result : Status) → IsNoStart result → IsNoUsage result
+start_no_usage (status.ChildFault None) none = tt
+start_no_usage (status.ChildFault (Some ended)) none = absurd none
+start_no_usage status.Memory none = tt
+start_no_usage status.Done none = absurd none
+start_no_usage status.Usage none = absurd none
+start_no_usage (status.BadLine line why) none = absurd none
+start_no_usage (status.Broken line earlier excess) none = absurd none
+start_no_usage status.ReadFault none = absurd none
+start_no_usage status.WriteFault none = absurd none
+start_no_usage status.NetFault none = absurd none
+start_no_usage (status.BadCii text fault) none = absurd none
+start_no_usage (status.Moved property old new) none = absurd none
+start_no_usage (status.Spent turns) none = absurd none
+start_no_usage (status.Unreachable turns) none = absurd none
+start_no_usage (status.BadSheet line) none = absurd none
+start_no_usage (status.BadUrl property) none = absurd none
+
+beside_no_usage : (config : DriveConfig) (words : List (List ℕ)) (script : List ℕ) (before now : Stage)
+    (kids_old kids_new : Children) (result : Status)
+    → Beside config words script before now kids_old kids_new result → IsNoUsage result
+beside_no_usage config words script before now kids_old kids_new result (inl none) = start_no_usage result none.cause
+beside_no_usage config words script before now kids_old kids_new result (inr ran) =
+    subst IsNoUsage (sym ran.tells)
+    (keeps_no_usage config before now ran.companion ran.finished ran.makes
+    (subst IsNoUsage (sym ran.makes.tells) (driven_no_child ran.makes.ended).0))
+
+pub pairs_no_usage : (config : DriveConfig) (child : Child) (left_old left_new : Option (List ℕ))
+    (before now : Stage) (kids_old kids_new : Children) (result : Status)
+    → Pairs config child left_old left_new before now kids_old kids_new result → IsNoUsage result
+pairs_no_usage config child left_old left_new before now kids_old kids_new result (inl none) =
+    (script_no_dial left_old result none.cause).0.0
+pairs_no_usage config child left_old left_new before now kids_old kids_new result (inr ran) =
+    beside_no_usage config _ ran.text before now kids_old kids_new result ran.beside

@@ -1,0 +1,23 @@
+use Rattle.std.proofs.Common.{refl, inl}
+use Rattle.css_words.specs.Pair.{pair_of}
+use Rattle.css_app.specs.Devices.{source_use}
+use Rattle.css_app.proofs.Commands.{pairs_as_asked, pairs_by}
+use Rattle.css_app.proofs.by_words.pair_by.Goals as goal
+
+pub returns-in-Err-clause-does : goal.returns-in-Err-clause-does
+returns-in-Err-clause-does g c = record {
+  ran = inl (record { untouched = refl; children = refl; cause = tt });
+  complete = λ bytes script is ok read wrote called spawned. inl refl;
+}
+
+pub returns-clause-does : goal.returns-clause-does
+returns-clause-does g c = record {
+  ran = pairs_by (pair_of c.args.words) c.child_of-child.result c.in-Ok.cii c.run_of-run.result
+      (source_use (g.S.Source.left c.args.source.now) (g.S.Source.left c.pair.new.source)
+      (g.S.Source.faults c.args.source.now) (g.S.Source.faults c.pair.new.source)) _ _ _ _ _
+      c.child_of-child.ensures c.in-Ok.ensures c.run_of-run.ensures.asked c.pair.ensures.ran;
+  complete = λ bytes script is ok read wrote called spawned.
+      pairs_as_asked (pair_of c.args.words) c.child_of-child.result c.in-Ok.cii c.run_of-run.result _ _ _
+      c.child_of-child.ensures c.in-Ok.ensures c.run_of-run.ensures.asked
+      (c.pair.ensures.complete bytes script is ok read wrote called spawned);
+}

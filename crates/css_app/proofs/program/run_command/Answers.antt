@@ -1,0 +1,35 @@
+use Rattle.css_app.proofs.program.run_command.Goals as goal
+
+-- commands over lines tell no fault of the outside or of a spawner
+pub returns-in-Replay-clause-counted_calls : goal.returns-in-Replay-clause-counted_calls
+returns-in-Replay-clause-counted_calls g c =
+    c.replay.ensures.quiet.calls (g.O.Outside.counts c.args.outside.now).faults
+
+pub returns-in-Replay-clause-counted_dials : goal.returns-in-Replay-clause-counted_dials
+returns-in-Replay-clause-counted_dials g c =
+    c.replay.ensures.quiet.dials (g.O.Outside.counts c.args.outside.now).dial_faults
+
+pub returns-in-Replay-clause-counted_spawns : goal.returns-in-Replay-clause-counted_spawns
+returns-in-Replay-clause-counted_spawns g c = c.replay.ensures.quiet.spawns (g.P.Spawner.faults c.args.spawner.now)
+
+pub returns-in-Agree-clause-counted_calls : goal.returns-in-Agree-clause-counted_calls
+returns-in-Agree-clause-counted_calls g c =
+    c.agree.ensures.quiet.calls (g.O.Outside.counts c.args.outside.now).faults
+
+pub returns-in-Agree-clause-counted_dials : goal.returns-in-Agree-clause-counted_dials
+returns-in-Agree-clause-counted_dials g c =
+    c.agree.ensures.quiet.dials (g.O.Outside.counts c.args.outside.now).dial_faults
+
+pub returns-in-Agree-clause-counted_spawns : goal.returns-in-Agree-clause-counted_spawns
+returns-in-Agree-clause-counted_spawns g c = c.agree.ensures.quiet.spawns (g.P.Spawner.faults c.args.spawner.now)
+
+-- a companion and a television start no child, and a television writes nothing
+pub returns-in-Companion-clause-counted_spawns : goal.returns-in-Companion-clause-counted_spawns
+returns-in-Companion-clause-counted_spawns g c =
+    c.companion_by.ensures.spawns (g.P.Spawner.faults c.args.spawner.now)
+
+pub returns-in-Tv-clause-counted_writes : goal.returns-in-Tv-clause-counted_writes
+returns-in-Tv-clause-counted_writes g c = c.tv_by.ensures.writes (g.K.Sink.faults c.args.sink.now)
+
+pub returns-in-Tv-clause-counted_spawns : goal.returns-in-Tv-clause-counted_spawns
+returns-in-Tv-clause-counted_spawns g c = c.tv_by.ensures.spawns (g.P.Spawner.faults c.args.spawner.now)

@@ -1,0 +1,207 @@
+-- What each command of a command line does to its devices.
+use Rattle.std.specs.Prelude.{◌≡◌, ◌⊎◌, ℕ, Bool, true, false, List, Option, Some, Result, Ok, Err}
+use Rattle.css_model.specs.History.{Address, History}
+use Rattle.css_agree.specs.Promise as agree
+use Rattle.css_drive.specs.declared.config.DriveConfig.{DriveConfig}
+use Rattle.css_follow.specs.Sheets.{sheet_in}
+use Rattle.css_follow.specs.declared.sheet.Sheet.{Sheet}
+use Rattle.css_schedule.specs.declared.line.ScriptLine.{ScriptLine}
+use Rattle.css_tv.specs.declared.config.TvConfig.{TvConfig}
+use Rattle.css_words.specs.Commands.{Asked, Replay, Agree, Companion, Tv, Pair, Generate, Survey, command_in}
+use Rattle.css_words.specs.Companion.{CompanionAsked, OptionsAsked}
+use Rattle.css_words.specs.Options.{◌>>=◌}
+use Rattle.css_words.specs.Pair.{PairAsked}
+use Rattle.css_words.specs.Tv.{TvAsked}
+use Rattle.css_words.specs.declared.fault.WordsFault.{WordsFault}
+use Rattle.css_words.specs.declared.fault.WordsFault.TheVariants as words
+use Rattle.css_app.specs.declared.child.Child.{Child}
+use Rattle.css_app.specs.declared.status.Status.{Status}
+use Rattle.css_app.specs.declared.status.Status.TheVariants as status
+use Rattle.css_app.specs.Devices.{SourceUse, SinkUse, OutsideUse, SpawnerUse, FollowersUse, stage_before, stage_after}
+use Rattle.css_app.specs.Ended.{Agrees, AreAllRead, HasNotFailed, IsAccepted, IsDoneUnlessMemory, IsNoUsage, Replays}
+use Rattle.css_app.specs.Headline.{Promised}
+use Rattle.css_app.specs.Live.{IsAsDue, MakesNoRun, RunsBySheet, Serves, ServesAsDue, Stage}
+use Rattle.css_app.specs.Pairs.{ArePairedAsDue, Children, PairsByScript, PairsNone, address_at}
+use Rattle.css_app.specs.Scripts.{script_in}
+
+-- ---- which words are accepted
+-- a command that this program has: `generate` and `survey` are none yet
+abbrev pub offered : Asked → Result Asked WordsFault
+offered (Generate asked) = Err words.Usage
+offered (Survey asked) = Err words.Usage
+offered asked = Ok asked
+
+-- the command that the words after the program's name are
+abbrev pub asked_in : List (List ℕ) → Result Asked WordsFault
+asked_in line = command_in line >>= offered
+
+-- the words are those of no command, or memory ran out before that was known
+abbrev pub IsUsageUnlessMemory : Status → Type 0
+IsUsageUnlessMemory status.Usage = Unit {0}
+IsUsageUnlessMemory status.Memory = Unit {0}
+IsUsageUnlessMemory _ = ⊥
+
+-- ---- which devices a command uses
+abbrev pub uses_source : Result Asked WordsFault → Bool
+uses_source (Ok Replay) = true
+uses_source (Ok Agree) = true
+uses_source (Ok (Companion asked)) = true
+uses_source (Ok (Tv asked)) = true
+uses_source (Ok (Pair asked)) = true
+uses_source _ = false
+
+abbrev pub uses_sink : Result Asked WordsFault → Bool
+uses_sink (Ok Replay) = true
+uses_sink (Ok Agree) = true
+uses_sink (Ok (Companion asked)) = true
+uses_sink (Ok (Pair asked)) = true
+uses_sink _ = false
+
+abbrev pub uses_outside : Result Asked WordsFault → Bool
+uses_outside (Ok (Companion asked)) = true
+uses_outside (Ok (Tv asked)) = true
+uses_outside (Ok (Pair asked)) = true
+uses_outside _ = false
+
+abbrev pub uses_spawner : Result Asked WordsFault → Bool
+uses_spawner (Ok (Pair asked)) = true
+uses_spawner _ = false
+
+abbrev pub uses_followers : Result Asked WordsFault → Bool
+uses_followers (Ok (Companion asked)) = true
+uses_followers (Ok (Pair asked)) = true
+uses_followers _ = false
+
+-- ---- what the options ask for
+-- the run is what the options of a companion ask for, and it dials this address
+pub record IsAskedRun (asked : OptionsAsked) (cii : Address) (run : DriveConfig) : Type 0 where
+  pub selector : run.companion.selector ≡ asked.selector
+  pub stem : run.companion.stem ≡ asked.stem
+  pub local_error : run.companion.local.error ≡ asked.local_error
+  pub local_precision : run.companion.local.precision ≡ asked.local_precision
+  pub dials : run.cii ≡ cii
+  pub reports : run.reports ≡ asked.reports
+  pub turns : run.turns ≡ asked.turns
+  pub report_every : run.report_every ≡ asked.report_every
+  pub ask_every : run.ask_every ≡ asked.ask_every
+  pub present : run.present ≡ asked.present
+
+-- the television that the options ask for
+abbrev pub asked_tv : TvAsked → TvConfig
+asked_tv asked = record {
+  precision = asked.precision;
+  error = asked.error;
+  follow = asked.follow;
+  host = asked.host;
+  port = asked.port;
+}
+
+-- the same as a child
+abbrev pub asked_child : TvAsked → Child
+asked_child asked =
+    record { port = asked.port; precision = asked.precision; error = asked.error; follow = asked.follow }
+
+-- ---- `replay`
+-- The status says how the schedule was read, and the sink holds the output of its lines. Whatever the source, what the
+-- sink gained keeps the promise of `Headline`: each interval of ticks contains the position that the last control
+-- timestamp received assigns to the value that its line gives the television's wall clock, and comes from the narrowest
+-- accepted response; lacking a response or usable timestamp the cause is printed. Once told, the companion's state of
+-- the content is one that the television published.
+pub record ByReplay (source : SourceUse) (sink : SinkUse) (result : Status) : Type 0 where
+  pub no_usage : IsNoUsage result
+  pub replays : (bytes : List ℕ) → source.left_old ≡ Some bytes
+      → Replays bytes source.left_new sink.holds_old sink.holds_new result
+  pub promise : Promised source.left_old source.left_new sink.holds_old sink.holds_new
+  -- a schedule of which no line is refused is read to its end, over devices that don't fail
+  pub complete : (bytes : List ℕ) → source.left_old ≡ Some bytes → IsAccepted bytes
+      → HasNotFailed source.faults_old source.faults_new → HasNotFailed sink.faults_old sink.faults_new
+      → IsDoneUnlessMemory result
+
+-- ---- `agree`
+-- The same of answers. What is printed of them is what they say together, and it is true in every world that makes them
+-- truthful.
+pub record ByAgree (source : SourceUse) (sink : SinkUse) (result : Status) : Type 0 where
+  pub no_usage : IsNoUsage result
+  pub agrees : (bytes : List ℕ) → source.left_old ≡ Some bytes
+      → Agrees bytes source.left_new sink.holds_old sink.holds_new result
+  pub promise : agree.Promised source.left_old source.left_new sink.holds_old sink.holds_new
+  pub complete : (bytes : List ℕ) → source.left_old ≡ Some bytes → AreAllRead bytes
+      → HasNotFailed source.faults_old source.faults_new → HasNotFailed sink.faults_old sink.faults_new
+      → IsDoneUnlessMemory result
+
+-- ---- `companion`
+-- what became of the sheet and of the run that the options ask for
+abbrev pub CompanionsBy : CompanionAsked → SourceUse → Stage → Stage → Status → Type 0
+CompanionsBy asked source before now result =
+    MakesNoRun source.left_old before now result
+    ⊎ ((run : DriveConfig) × IsAskedRun asked.options asked.cii run
+    × RunsBySheet run source.left_old source.left_new before now result)
+
+-- a run that the options ask for ended as its calls say, unless memory ran out
+abbrev pub EndsAsAsked : OptionsAsked → Address → Option History → Option History → Status → Type 0
+EndsAsAsked asked cii before now result =
+    (result ≡ status.Memory) ⊎ ((run : DriveConfig) × IsAskedRun asked cii run × IsAsDue run before now result)
+
+-- Each report is that of what the outside gave before it, each interval contains the position that the last control
+-- timestamp received assigns to the television's wall clock, in every world that explains what the outside gave, and
+-- the sink gained the line of each report, and what the followers said of it.
+pub record ByCompanion (asked : CompanionAsked) (source : SourceUse) (sink : SinkUse) (outside : OutsideUse)
+    (followers : FollowersUse) (result : Status) : Type 0 where
+  pub ran : CompanionsBy asked source (stage_before sink outside followers) (stage_after sink outside followers) result
+  -- over devices that don't fail, dials aside, a run by a sheet ends as its calls say
+  pub complete : (bytes : List ℕ) (sheet : Sheet) → source.left_old ≡ Some bytes → sheet_in bytes ≡ Ok sheet
+      → HasNotFailed source.faults_old source.faults_new → HasNotFailed sink.faults_old sink.faults_new
+      → HasNotFailed outside.faults_old outside.faults_new
+      → EndsAsAsked asked.options asked.cii outside.told_old outside.told_new result
+
+-- ---- `tv`
+-- Each call of the outside is the one that is due by the script and by what came.
+pub record ByTv (asked : TvAsked) (source : SourceUse) (outside : OutsideUse) (result : Status) : Type 0 where
+  pub ran : Serves (asked_tv asked) asked.turns source.left_old source.left_new outside.told_old outside.told_new result
+  -- over devices that don't fail a run by a script ends as its calls say
+  pub complete : (bytes : List ℕ) (script : List ScriptLine) → source.left_old ≡ Some bytes
+      → script_in bytes ≡ Ok script
+      → HasNotFailed source.faults_old source.faults_new → HasNotFailed outside.faults_old outside.faults_new
+      → ServesAsDue (record { config = asked_tv asked; turns = asked.turns; script = script })
+      outside.told_old outside.told_new result
+
+-- ---- `pair`
+-- what became of the script, of the child and of the run that the options ask for
+abbrev pub PairsBy : PairAsked → SourceUse → Stage → Stage → Children → Children → Status → Type 0
+PairsBy asked source before now kids_old kids_new result =
+    PairsNone source.left_old before now kids_old kids_new result
+    ⊎ ((run : DriveConfig) × IsAskedRun asked.companion (address_at asked.tv.port) run
+    × PairsByScript run (asked_child asked.tv) source.left_old source.left_new before now kids_old kids_new result)
+
+-- a run that the options ask for ended as its calls say, and so did the child, unless memory ran out
+abbrev pub PairsAsAsked : OptionsAsked → Address → Option History → Option History → Status → Type 0
+PairsAsAsked asked cii before now result =
+    (result ≡ status.Memory) ⊎ ((run : DriveConfig) × IsAskedRun asked cii run × ArePairedAsDue run before now result)
+
+-- The same as of `companion`, with an empty sheet, beside a child that was started once with the bytes of the script,
+-- and was waited for once.
+pub record ByPair (asked : PairAsked) (source : SourceUse) (sink : SinkUse) (outside : OutsideUse)
+    (spawner : SpawnerUse) (followers : FollowersUse) (result : Status) : Type 0 where
+  pub ran : PairsBy asked source (stage_before sink outside followers) (stage_after sink outside followers)
+      spawner.children_old spawner.children_new result
+  -- over devices that don't fail, dials aside, a run beside a child with a script ends as its calls say
+  pub complete : (bytes : List ℕ) (script : List ScriptLine) → source.left_old ≡ Some bytes
+      → script_in bytes ≡ Ok script
+      → HasNotFailed source.faults_old source.faults_new → HasNotFailed sink.faults_old sink.faults_new
+      → HasNotFailed outside.faults_old outside.faults_new → HasNotFailed spawner.faults_old spawner.faults_new
+      → PairsAsAsked asked.companion (address_at asked.tv.port) outside.told_old outside.told_new result
+
+-- ---- all commands
+-- what a command does to the devices that it uses, or words that are those of none
+abbrev pub Does : Result Asked WordsFault → SourceUse → SinkUse → OutsideUse → SpawnerUse → FollowersUse → Status → Type 0
+Does (Ok Replay) source sink outside spawner followers result = ByReplay source sink result
+Does (Ok Agree) source sink outside spawner followers result = ByAgree source sink result
+Does (Ok (Companion asked)) source sink outside spawner followers result =
+    ByCompanion asked source sink outside followers result
+Does (Ok (Tv asked)) source sink outside spawner followers result = ByTv asked source outside result
+Does (Ok (Pair asked)) source sink outside spawner followers result =
+    ByPair asked source sink outside spawner followers result
+Does (Ok (Generate asked)) source sink outside spawner followers result = result ≡ status.Memory
+Does (Ok (Survey asked)) source sink outside spawner followers result = result ≡ status.Memory
+Does (Err words.Usage) source sink outside spawner followers result = IsUsageUnlessMemory result
+Does (Err words.Memory) source sink outside spawner followers result = result ≡ status.Memory

@@ -1,0 +1,71 @@
+-- What there is to see of the devices of a run, before it and after it.
+use Rattle.std.specs.Prelude.{ℕ, List, Option}
+use Rattle.css_model.specs.History.{History}
+use Rattle.css_outside.specs.Outsides.{Counts}
+use Rattle.css_follow.specs.Following.{Seen}
+use Rattle.css_app.specs.Live.{Stage, stage}
+use Rattle.css_app.specs.Pairs.{Children}
+
+-- the bytes that the source has left, where it tells them, and how often a read has failed
+pub record SourceUse : Type 0 where
+  pub left_old : Option (List ℕ)
+  pub left_new : Option (List ℕ)
+  pub faults_old : ℕ
+  pub faults_new : ℕ
+
+abbrev pub source_use : Option (List ℕ) → Option (List ℕ) → ℕ → ℕ → SourceUse
+source_use left_old left_new faults_old faults_new =
+    record { left_old = left_old; left_new = left_new; faults_old = faults_old; faults_new = faults_new }
+
+-- the bytes that the sink holds, where it tells them, and how often a write has failed
+pub record SinkUse : Type 0 where
+  pub holds_old : Option (List ℕ)
+  pub holds_new : Option (List ℕ)
+  pub faults_old : ℕ
+  pub faults_new : ℕ
+
+abbrev pub sink_use : Option (List ℕ) → Option (List ℕ) → ℕ → ℕ → SinkUse
+sink_use holds_old holds_new faults_old faults_new =
+    record { holds_old = holds_old; holds_new = holds_new; faults_old = faults_old; faults_new = faults_new }
+
+-- the calls of the outside, where it tells them, and how often a call other than a dial has failed
+pub record OutsideUse : Type 0 where
+  pub told_old : Option History
+  pub told_new : Option History
+  pub faults_old : ℕ
+  pub faults_new : ℕ
+
+abbrev pub outside_use : Option History → Option History → Counts → Counts → OutsideUse
+outside_use told_old told_new counts_old counts_new =
+    record { told_old = told_old; told_new = told_new; faults_old = counts_old.faults; faults_new = counts_new.faults }
+
+-- the children of the spawner, and how often a call has failed
+pub record SpawnerUse : Type 0 where
+  pub children_old : Children
+  pub children_new : Children
+  pub faults_old : ℕ
+  pub faults_new : ℕ
+
+abbrev pub spawner_use : Children → Children → ℕ → ℕ → SpawnerUse
+spawner_use children_old children_new faults_old faults_new =
+    record {
+      children_old = children_old;
+      children_new = children_new;
+      faults_old = faults_old;
+      faults_new = faults_new;
+    }
+
+-- what each of the followers has heard and said
+pub record FollowersUse : Type 0 where
+  pub heard_old : List Seen
+  pub heard_new : List Seen
+
+abbrev pub followers_use : List Seen → List Seen → FollowersUse
+followers_use heard_old heard_new = record { heard_old = heard_old; heard_new = heard_new }
+
+-- what there is to see of the devices of a companion's run
+abbrev pub stage_before : SinkUse → OutsideUse → FollowersUse → Stage
+stage_before sink outside followers = stage sink.holds_old outside.told_old followers.heard_old
+
+abbrev pub stage_after : SinkUse → OutsideUse → FollowersUse → Stage
+stage_after sink outside followers = stage sink.holds_new outside.told_new followers.heard_new

@@ -1,0 +1,170 @@
+//! The live commands by the words of a command line.
+ghost use Rattle.std.specs.Prelude.{◌≡◌, ◌≤◌, ◌≤ℤ◌, pos, ℕ};
+ghost use Rattle.std.specs.Str.{IsUtf8};
+ghost use Rattle.css_drive.specs.Configs.{IsWritable};
+ghost use Rattle.css_model.specs.Numbers.{max_error};
+ghost use Rattle.css_words.specs.Companion.{companion_of, options_of};
+ghost use Rattle.css_words.specs.Pair.{pair_of};
+ghost use Rattle.css_words.specs.Tv.{tv_of};
+ghost use Rattle.css_words.specs.Written.{AreWritable};
+ghost use Rattle.css_app.specs.Commands.{ByCompanion, ByPair, ByTv, IsAskedRun, asked_child, asked_tv};
+ghost use Rattle.css_app.specs.Devices.{followers_use, outside_use, sink_use, source_use, spawner_use};
+ghost use Rattle.css_app.specs.Ended.{CountsReads, CountsWrites};
+ghost use Rattle.css_app.specs.Live.{CountsCalls, CountsDials, CountsSpawns};
+ghost use Rattle.css_app.specs.Pairs.{children};
+
+use crate::child::{Child, address_at};
+use crate::live_companion::companion;
+use crate::live_pair::pair;
+use crate::live_tv::tv;
+use crate::status::Status;
+use css_client::Local;
+use css_companion::CompanionConfig;
+use css_drive::{DriveConfig, Listens};
+use css_num::Memory;
+use css_outside::{Address, Outside, Sink, Source, Spawner};
+use css_tv::TvConfig;
+use css_words::{CompanionOptions, CompanionWords, PairWords, TvWords};
+use std::alloc::Global;
+
+// The run of a companion with these options, which dials this address.
+fn run_of(options: CompanionOptions, cii: Address) -> DriveConfig
+    requires { AreWritable options }
+    ensures asked { IsAskedRun (options_of options) cii result }
+    ensures writable { IsWritable result }
+{
+    DriveConfig {
+        companion: CompanionConfig {
+            selector: options.selector,
+            stem: options.stem,
+            local: Local {
+                error: options.local_error,
+                precision: options.local_precision,
+            },
+        },
+        cii,
+        reports: options.reports,
+        turns: options.turns,
+        report_every: options.report_every,
+        ask_every: options.ask_every,
+        present: options.present,
+    }
+}
+
+/// The command `companion` with these words.
+pub(crate) fn companion_by<S: Source, K: Sink, O: Outside, F: Listens>(
+    alloc: Global,
+    words: CompanionWords,
+    source: &mut S,
+    sink: &mut K,
+    outside: &mut O,
+    followers: &mut F,
+) -> Status
+    requires { AreWritable words.options }
+    ensures does { ByCompanion (companion_of words)
+        (source_use (S.left source.old) (S.left source.new) (S.faults source.old) (S.faults source.new))
+        (sink_use (K.holds sink.old) (K.holds sink.new) (K.faults sink.old) (K.faults sink.new))
+        (outside_use (O.told outside.old) (O.told outside.new) (O.counts outside.old) (O.counts outside.new))
+        (followers_use (F.heard followers.old) (F.heard followers.new)) result }
+    ensures counted_reads { CountsReads (S.faults source.old) (S.faults source.new) result }
+    ensures counted_writes { CountsWrites (K.faults sink.old) (K.faults sink.new) result }
+    ensures counted_calls { CountsCalls (O.counts outside.old).faults (O.counts outside.new).faults result }
+    ensures counted_dials { CountsDials (O.counts outside.old).dial_faults
+        (O.counts outside.new).dial_faults result }
+    ensures spawns { (count : ℕ) → CountsSpawns count count result }
+{
+    let CompanionWords { cii, options } = words;
+    let run = run_of(options, cii);
+    companion(alloc, run, source, sink, outside, followers)
+}
+
+// The television that these words ask for.
+fn config_of(words: TvWords) -> TvConfig
+    requires { IsUtf8 words.host }
+    ensures asked { result ≡ asked_tv (tv_of words) }
+    ensures precision { result.precision ≤ℤ pos 30 }
+    ensures error { result.error ≤ max_error }
+    ensures host { IsUtf8 result.host }
+    ensures port { result.port ≤ 65534 }
+{
+    TvConfig {
+        precision: words.precision,
+        error: words.error,
+        follow: words.follow,
+        host: words.host,
+        port: words.port,
+    }
+}
+
+/// The command `tv` with these words.
+pub(crate) fn tv_by<S: Source, O: Outside>(
+    alloc: Global,
+    words: TvWords,
+    source: &mut S,
+    outside: &mut O,
+) -> Status
+    requires { IsUtf8 words.host }
+    ensures does { ByTv (tv_of words)
+        (source_use (S.left source.old) (S.left source.new) (S.faults source.old) (S.faults source.new))
+        (outside_use (O.told outside.old) (O.told outside.new) (O.counts outside.old) (O.counts outside.new)) result }
+    ensures counted_reads { CountsReads (S.faults source.old) (S.faults source.new) result }
+    ensures writes { (count : ℕ) → CountsWrites count count result }
+    ensures counted_calls { CountsCalls (O.counts outside.old).faults (O.counts outside.new).faults result }
+    ensures counted_dials { CountsDials (O.counts outside.old).dial_faults
+        (O.counts outside.new).dial_faults result }
+    ensures spawns { (count : ℕ) → CountsSpawns count count result }
+{
+    let turns = words.turns;
+    let config = config_of(words);
+    tv(alloc, config, turns, source, outside)
+}
+
+// The child that these words ask for.
+fn child_of(words: &TvWords) -> Child
+    ensures { result ≡ asked_child (tv_of words.now) }
+{
+    Child {
+        port: words.port,
+        precision: words.precision,
+        error: words.error,
+        follow: words.follow,
+    }
+}
+
+/// The command `pair` with these words.
+pub(crate) fn pair_by<S: Source, K: Sink, O: Outside, P: Spawner, F: Listens>(
+    alloc: Global,
+    words: PairWords,
+    source: &mut S,
+    sink: &mut K,
+    outside: &mut O,
+    spawner: &mut P,
+    followers: &mut F,
+) -> Status
+    requires { AreWritable words.companion }
+    ensures does { ByPair (pair_of words)
+        (source_use (S.left source.old) (S.left source.new) (S.faults source.old) (S.faults source.new))
+        (sink_use (K.holds sink.old) (K.holds sink.new) (K.faults sink.old) (K.faults sink.new))
+        (outside_use (O.told outside.old) (O.told outside.new) (O.counts outside.old) (O.counts outside.new))
+        (spawner_use (children (P.told spawner.old) (P.running spawner.old))
+        (children (P.told spawner.new) (P.running spawner.new)) (P.faults spawner.old) (P.faults spawner.new))
+        (followers_use (F.heard followers.old) (F.heard followers.new)) result }
+    ensures counted_reads { CountsReads (S.faults source.old) (S.faults source.new) result }
+    ensures counted_writes { CountsWrites (K.faults sink.old) (K.faults sink.new) result }
+    ensures counted_calls { CountsCalls (O.counts outside.old).faults (O.counts outside.new).faults result }
+    ensures counted_dials { CountsDials (O.counts outside.old).dial_faults
+        (O.counts outside.new).dial_faults result }
+    ensures counted_spawns { CountsSpawns (P.faults spawner.old) (P.faults spawner.new) result }
+{
+    let PairWords { companion, tv } = words;
+    let child = child_of(&tv);
+    drop(tv);
+    let cii = match address_at(alloc, child.port) {
+        Ok(cii) => cii,
+        Err(Memory) => return Status::Memory,
+    };
+    let run = run_of(companion, cii);
+    pair(
+        alloc, run, &child, source, sink, outside, spawner, followers,
+    )
+}
