@@ -7,7 +7,7 @@ use Rattle.css_lines.specs.declared.ending.Stop.TheVariants as stops
 use Rattle.css_lines.specs.Ending.{RanUntil, StopsInPiece}
 use Rattle.css_lines.specs.Lines.{whole_lines, last_part}
 use Rattle.css_lines.specs.Meaning.{IsSound, Meaning, outcome_so_far}
-use Rattle.css_follow.specs.Following.{Seen}
+use Rattle.css_drive.specs.Listening.{Listener}
 use Rattle.css_agree.specs.Agreeing.{agreeing}
 use Rattle.css_words.specs.Commands.{Asked, Replay, Agree, Companion, Tv, Pair, Generate, Survey}
 use Rattle.css_words.specs.declared.fault.WordsFault.{WordsFault}
@@ -86,7 +86,7 @@ agree_lacks left holds r w = record {
 
 -- whatever the words ask for
 pub lacks : (asked : Result Asked WordsFault) (left holds : Option (List ℕ)) (told : Option History)
-    (kids : Children) (heard : List Seen) (r w c s : ℕ)
+    (kids : Children) (heard : List Listener) (r w c s : ℕ)
     → Does asked (source_use left left r r) (sink_use holds holds w w)
     (record { told_old = told; told_new = told; faults_old = c; faults_new = c })
     (record { children_old = kids; children_new = kids; faults_old = s; faults_new = s })

@@ -2,7 +2,7 @@
 use Rattle.std.specs.Prelude.{ℕ, List, Option}
 use Rattle.css_model.specs.History.{History}
 use Rattle.css_outside.specs.Outsides.{Counts}
-use Rattle.css_follow.specs.Following.{Seen}
+use Rattle.css_drive.specs.Listening.{Listener}
 use Rattle.css_app.specs.Live.{Stage, stage}
 use Rattle.css_app.specs.Pairs.{Children}
 
@@ -57,10 +57,10 @@ spawner_use children_old children_new faults_old faults_new =
 
 -- what each of the followers has heard and said
 pub record FollowersUse : Type 0 where
-  pub heard_old : List Seen
-  pub heard_new : List Seen
+  pub heard_old : List Listener
+  pub heard_new : List Listener
 
-abbrev pub followers_use : List Seen → List Seen → FollowersUse
+abbrev pub followers_use : List Listener → List Listener → FollowersUse
 followers_use heard_old heard_new = record { heard_old = heard_old; heard_new = heard_new }
 
 -- what there is to see of the devices of a companion's run
