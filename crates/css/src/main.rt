@@ -1,10 +1,8 @@
 //! The program `css` over the real standard streams.
 #![tactic(auto)]
 
-mod devices;
-
 use css_app::{Status, run, tell};
-use devices::{StdSink, StdSource};
+use css_net::{StdSink, StdSource};
 use std::env::Env;
 use std::io::{Error, ErrorKind};
 use std::process::ExitCode;
