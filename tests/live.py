@@ -296,11 +296,54 @@ def in_use(port):
     other.close()
 
 
-# ---- a companion, and a television of this program's own
+# ---- hosts and addresses
+
+def status_of(words, given=""):
+    child = start(PROGRAM, words, given)
+    status = child.wait(60)
+    return status, child.stderr.read().decode().strip()
+
+
+def hosts(port):
+    for host, wanted in (("0.0.0.0", 0), ("[::]", 0), ("localhost", 0), ("192.0.2.1", 6), ("no-such-name.invalid", 6),
+                         ("a b", 1)):
+        told = status_of(["tv", "--port", str(port), "--turns", "1", "--host", host], SCRIPT)
+        check(f"a television at the host '{host}'", told[0] == wanted, told)
+
+
+def addresses(port):
+    """A companion reaches a television by some of these, and has no answer by the others."""
+    child = television(PROGRAM, port, SCRIPT, ["--host", "0.0.0.0"])
+    rest = ["--reports", "1", "--report-every", "300000000"]
+    for url, wanted in (("ws://127.0.0.1:{}/cii", "1 ticks "), ("ws://localhost:{}/cii", "1 ticks "),
+                        ("ws://user:word@127.0.0.1:{}/cii", "1 ticks "), ("ws://127.0.0.1:{}/cii#part", "1 ticks "),
+                        ("ws://127.0.0.1:0/cii", "1 none NoAnswer"), ("ws://127.0.0.1:{}/other", "1 none NoAnswer"),
+                        ("ws://no-such-name.invalid:{}/cii", "1 none NoAnswer")):
+        companion = start(PROGRAM, ["companion", "--cii", url.format(port), *rest])
+        line = companion.stdout.read().decode().strip()
+        check(f"a companion of {url.format('PORT')}", companion.wait(60) == 0 and line.startswith(wanted), line)
+    told = status_of(["companion", "--cii", f"http://127.0.0.1:{port}/cii", *rest])
+    check("a companion of another scheme", told[0] == 1, told)
+    child.kill()
+    child.wait()
+
+
+def pair(port):
+    child = start(PROGRAM, ["pair", "--port", str(port), "--reports", "5", "--report-every", "200000000", "--ask-every",
+                            "50000000", "--turns", "2000"], SCRIPT)
+    lines = child.stdout.read().decode().splitlines()
+    told = child.wait(60), lines[-1:]
+    check("a pair makes its reports", told[0] == 0 and len(lines) == 5 and lines[-1].startswith("5 ticks "), told)
+
+
+# ---- all of it
 
 if __name__ == "__main__":
     against_television()
     in_use(PORT)
-    against_companion(PORT + 2, PROGRAM, check)
+    hosts(PORT + 2)
+    addresses(PORT + 4)
+    pair(PORT + 6)
+    against_companion(PORT + 8, PROGRAM, check)
     print(f"{len(failed)} failed")
     sys.exit(1 if failed else 0)

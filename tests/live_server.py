@@ -170,9 +170,9 @@ def run(port, program, does, words=()):
 
 
 def are_true(lines):
-    """Each interval contains the tick that was assigned shortly before its line came: at most 20 ms."""
+    """Each interval contains the tick that was assigned shortly before its line came: at most 100 ms."""
     rows = [(line.split(), tick) for line, tick in lines if " ticks " in line]
-    return bool(rows) and all(int(w[2]) <= tick and tick - 1800 <= int(w[3]) for w, tick in rows)
+    return bool(rows) and all(int(w[2]) <= tick and tick - 9000 <= int(w[3]) for w, tick in rows)
 
 
 def widths(lines):

@@ -5,12 +5,11 @@
 
 mod child;
 mod clock;
-mod faults;
+pub mod faults;
 mod streams;
 mod tally;
 
 pub use child::ChildSpawner;
 pub use clock::monotone;
-pub use faults::{fault_of, no_memory, no_room, would_wait};
 pub use streams::{StdSink, StdSource};
 pub use tally::{FIRST_SENDER, Tally};

@@ -3,7 +3,8 @@ ghost use Rattle.css_outside.specs.Outsides.{FitsRoom};
 
 use crate::names::any_port;
 use crate::watch::Watch;
-use css_devices::{FIRST_SENDER, fault_of, no_room};
+use css_devices::FIRST_SENDER;
+use css_devices::faults::{fault_of, no_room};
 use css_outside::OutFault;
 use mio::net::UdpSocket;
 use std::alloc::Global;

@@ -6,7 +6,7 @@ use crate::session::{DialledSocket, limits};
 use crate::sockets::NetRuntime;
 use crate::upgrades::{LONGEST_HANDSHAKE, READS};
 use crate::watch::Watch;
-use css_devices::{fault_of, no_room};
+use css_devices::faults::{fault_of, no_room};
 use css_outside::{Address, Kind, OutFault};
 use mio::net::TcpStream;
 use std::alloc::Global;

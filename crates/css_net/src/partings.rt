@@ -5,7 +5,7 @@
 
 use crate::session::Line;
 use crate::sockets::NetRuntime;
-use css_devices::{no_room, would_wait};
+use css_devices::faults::{no_room, would_wait};
 use css_outside::OutFault;
 use std::alloc::Global;
 use tungstenite::Error;

@@ -2,7 +2,7 @@
 
 use crate::metered::Metered;
 use crate::sockets::NetRuntime;
-use css_devices::{no_memory, would_wait};
+use css_devices::faults::{no_memory, would_wait};
 use css_num::{Memory, Text};
 use css_outside::OutFault;
 use mio::net::TcpStream;

@@ -1,6 +1,6 @@
 use crate::session::{Came, Line, MOST_WAITING, Put};
 use crate::sockets::NetRuntime;
-use css_devices::no_room;
+use css_devices::faults::no_room;
 use css_outside::{Heard, OutFault, Wrote};
 use std::alloc::Global;
 

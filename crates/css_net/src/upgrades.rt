@@ -5,7 +5,7 @@ ghost use Rattle.css_outside.specs.Outsides.{IsSession};
 use crate::metered::Metered;
 use crate::session::{ServedSocket, limits};
 use crate::watch::Watch;
-use css_devices::no_room;
+use css_devices::faults::no_room;
 use css_outside::{Kind, OutFault};
 use http::{Request, Response, StatusCode};
 use mio::net::{TcpListener, TcpStream};
