@@ -1,14 +1,10 @@
-//! The program `css` over the real standard streams.
+//! The program `css` over the real streams, sockets and programs.
 #![tactic(auto)]
-
-mod devices;
-mod offline;
 
 use css_app::{Status, run, tell};
 use css_drive::{Before, Nobody};
 use css_follow::{Cues, Meter};
-use devices::{StdSink, StdSource};
-use offline::{Childless, Offline};
+use css_net::{ChildSpawner, NetOutside, StdSink, StdSource};
 use std::env::Env;
 use std::io::{Error, ErrorKind};
 use std::process::ExitCode;
@@ -34,8 +30,8 @@ fn without_words(error: &Error) -> Status {
 fn main(rt: HostRuntime) -> ExitCode {
     let mut source = StdSource::new(rt.reader());
     let mut sink = StdSink::new(io::writer(&rt));
-    let mut outside = Offline::new();
-    let mut spawner = Childless::new();
+    let mut outside = NetOutside::new(rt.alloc(), &rt);
+    let mut spawner = ChildSpawner::new(rt.alloc(), &rt);
     let mut followers = Before {
         first: Cues::new(rt.alloc()),
         rest: Before {

@@ -1,0 +1,177 @@
+//! This same program as a child.
+ghost use Rattle.std.specs.Prelude.{◌≡◌, ◌+◌, ◌<◌, None, length, OnOk, OnErr};
+ghost use Rattle.css_outside.specs.Faults.{CountsCall};
+
+use crate::faults::{fault_of, no_memory, no_room};
+use css_num::Text;
+use css_outside::{OutFault, Spawner};
+use std::alloc::Global;
+use std::env::Env;
+use std::fs::Files;
+use std::io::{ErrorKind, Write};
+use std::process::{Child, Command, Processes, Stdio};
+use std::{env, io, str};
+
+/// Starts this program again with other words, and waits for it. A child writes where this program does.
+#[derive(Drop)]
+pub struct ChildSpawner<'a, R: Processes> {
+    alloc: Global,
+    rt: &'a R,
+    /// Another program's file, in place of this one's.
+    program: Option<&'a str>,
+    children: Vec<Child<R::Started>>,
+    faults: u64,
+}
+
+impl<'a, R: Processes> ChildSpawner<'a, R> {
+    /// No child was started.
+    pub fn new(alloc: Global, rt: &'a R) -> ChildSpawner<'a, R> {
+        ChildSpawner {
+            alloc,
+            rt,
+            program: None,
+            children: Vec::new(alloc),
+            faults: 0,
+        }
+    }
+
+    /// Starts the program of this file in place of its own.
+    pub fn of_program(alloc: Global, rt: &'a R, program: &'a str) -> ChildSpawner<'a, R> {
+        ChildSpawner {
+            alloc,
+            rt,
+            program: Some(program),
+            children: Vec::new(alloc),
+            faults: 0,
+        }
+    }
+}
+
+/// This program's file. Its first word is taken where it is a path: a program that a loader runs is the loader's file.
+fn own_program<R: Env + Files>(alloc: Global, rt: &R) -> io::Result<Command> {
+    if let Some(first) = env::args(&(rt, alloc))?.next() {
+        if first.as_str().contains('/') {
+            return Ok(Command::new(alloc, first.as_str())?);
+        }
+    }
+    let program = env::current_exe(&(rt, alloc))?;
+    Ok(Command::new(alloc, program.as_path())?)
+}
+
+/// Gives a command these words, and a standard input.
+fn with_words(mut command: Command, words: &[Text]) -> io::Result<Command> {
+    for word in words {
+        match str::from_utf8(word.bytes()) {
+            Ok(word) => {
+                command.arg(word)?;
+            }
+            Err(_) => return Err(io::Error::from(ErrorKind::InvalidInput)),
+        }
+    }
+    command.stdin(Stdio::piped());
+    Ok(command)
+}
+
+/// Gives a child its standard input. One that has gone, or doesn't read to the end, is told nothing more.
+fn feed<W: Write>(stdin: &mut W, input: &[u8]) -> io::Result<()> {
+    match stdin.write_all(input) {
+        Err(error) if error.kind() == ErrorKind::BrokenPipe => Ok(()),
+        other => other,
+    }
+}
+
+/// Starts a child, and gives it all of its standard input.
+fn begin<R: Processes>(
+    rt: &R,
+    mut command: Command,
+    input: &[u8],
+) -> io::Result<Child<R::Started>> {
+    let mut child = command.spawn(rt)?;
+    let fed = match &mut child.stdin {
+        Some(stdin) => feed(stdin, input),
+        None => Ok(()),
+    };
+    child.stdin = None;
+    if let Err(error) = fed {
+        if child.kill().is_ok() {
+            let _ = child.wait();
+        }
+        return Err(error);
+    }
+    Ok(child)
+}
+
+impl<'a, R: Processes + Env + Files> ChildSpawner<'a, R> {
+    /// The command of a child with these words.
+    fn command_of(&self, words: &[Text]) -> io::Result<Command> {
+        let command = match self.program {
+            Some(program) => Command::new(self.alloc, program)?,
+            None => own_program(self.alloc, self.rt)?,
+        };
+        with_words(command, words)
+    }
+
+    fn begin_one(&mut self, words: &[Text], input: &[u8]) -> Result<(), OutFault>
+        ensures ok { OnOk result (length self.new.children.items ≡ length self.old.children.items + 1) }
+        ensures err { OnErr result (length self.new.children.items ≡ length self.old.children.items) }
+        ensures faults { self.new.faults ≡ self.old.faults }
+    {
+        let command = self.command_of(words).map_err(fault_of)?;
+        self.children.reserve(1).map_err(no_memory)?;
+        let child = begin(self.rt, command, input).map_err(fault_of)?;
+        self.children.push(child).map_err(no_room)
+    }
+
+    /// The exit status of the child that was started last. One that a signal ended has none, and counts as a fault.
+    fn end_last(&mut self) -> Result<i32, OutFault>
+        ensures ok { OnOk result (length self.new.children.items + 1 ≡ length self.old.children.items) }
+        ensures err { OnErr result (length self.new.children.items ≡ length self.old.children.items) }
+        ensures faults { self.new.faults ≡ self.old.faults }
+    {
+        let count = self.children.len();
+        if count == 0 {
+            return Err(OutFault::Failed);
+        }
+        let ended = self.children[count - 1].wait().map_err(fault_of)?;
+        match ended.code() {
+            Some(status) => {
+                drop(self.children.pop());
+                Ok(status)
+            }
+            None => Err(OutFault::Failed),
+        }
+    }
+
+    fn counted<T: Drop>(&mut self, outcome: Result<T, OutFault>) -> Result<T, OutFault>
+        ensures counted { CountsCall self.old.faults self.new.faults result }
+        ensures same { result ≡ outcome }
+        ensures children { self.new.children ≡ self.old.children }
+    {
+        match outcome {
+            Ok(value) => Ok(value),
+            Err(OutFault::Failed) => {
+                self.faults = self.faults.saturating_add(1);
+                Err(OutFault::Failed)
+            }
+            Err(OutFault::Memory) => Err(OutFault::Memory),
+        }
+    }
+}
+
+impl<'a, R: Processes + Env + Files> Spawner for ChildSpawner<'a, R> {
+    ghost told = { λ _. None };
+
+    ghost running = { λ spawner. length spawner.children.items };
+
+    ghost faults = { λ spawner. spawner.faults };
+
+    fn start(&mut self, words: &[Text], input: &[u8]) -> Result<(), OutFault> {
+        let started = self.begin_one(words, input);
+        self.counted(started)
+    }
+
+    fn finish(&mut self) -> Result<i32, OutFault> {
+        let ended = self.end_last();
+        self.counted(ended)
+    }
+}

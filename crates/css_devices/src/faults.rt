@@ -1,0 +1,35 @@
+//! The system's errors as faults of a device.
+ghost use Rattle.std.specs.Prelude.{◌≡◌};
+
+use css_outside::OutFault;
+use std::alloc::{AllocError, AllocFailed};
+use std::io;
+use std::io::ErrorKind;
+
+/// An error of the system. Want of memory is no fault of the device.
+pub fn fault_of(error: io::Error) -> OutFault {
+    if error.kind() == ErrorKind::OutOfMemory {
+        OutFault::Memory
+    } else {
+        OutFault::Failed
+    }
+}
+
+/// Memory ran out.
+pub fn no_memory(_error: AllocError) -> OutFault
+    ensures { result ≡ OutFault.Memory }
+{
+    OutFault::Memory
+}
+
+/// Memory for one more item ran out.
+pub fn no_room<T: Drop>(_error: AllocFailed<T>) -> OutFault
+    ensures { result ≡ OutFault.Memory }
+{
+    OutFault::Memory
+}
+
+/// Whether a call would have to wait, or was cut short by a signal.
+pub fn would_wait(kind: ErrorKind) -> bool {
+    kind == ErrorKind::WouldBlock || kind == ErrorKind::TimedOut || kind == ErrorKind::Interrupted
+}

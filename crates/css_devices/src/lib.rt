@@ -1,0 +1,15 @@
+//! The system's streams, clocks and programs as devices of `css_outside`, and what an outside over real sockets counts.
+//!
+//! The devices count their faults, and tell nothing of what they hold. They know no socket: `css_net` does.
+#![tactic(auto)]
+
+mod child;
+mod clock;
+pub mod faults;
+mod streams;
+mod tally;
+
+pub use child::ChildSpawner;
+pub use clock::monotone;
+pub use streams::{StdSink, StdSource};
+pub use tally::{FIRST_SENDER, Tally};

@@ -1,0 +1,21 @@
+//! The trusted edge: the system's sockets as an outside of `css_outside`, beside the devices of `css_devices`.
+//!
+//! It counts its faults, and tells nothing of what it holds. Nothing here waits for a peer: a loop that makes its calls
+//! in turn is held for 5 milliseconds at most where nothing comes, and a bounded time where much comes.
+#![tactic(auto)]
+
+mod datagrams;
+mod dials;
+mod metered;
+mod names;
+mod net_outside;
+mod partings;
+mod session;
+mod sessions;
+mod sockets;
+mod upgrades;
+mod watch;
+
+pub use css_devices::{ChildSpawner, StdSink, StdSource};
+pub use net_outside::NetOutside;
+pub use sockets::NetRuntime;

@@ -1,0 +1,48 @@
+//! Where a host is reached, and the texts that a dial is made with.
+
+use css_num::Text;
+use css_outside::Address;
+use std::alloc::Global;
+use std::io::ErrorKind;
+use std::net::{Ipv4Addr, Ipv6Addr, Net, SocketAddr, SocketAddrV4, SocketAddrV6, ToSocketAddrs};
+use std::{io, str};
+
+/// The characters of a text, which must be UTF-8.
+fn words_of(text: &Text) -> io::Result<&str> {
+    match str::from_utf8(text.bytes()) {
+        Ok(words) => Ok(words),
+        Err(_) => Err(io::Error::from(ErrorKind::InvalidInput)),
+    }
+}
+
+/// The addresses of a port of a host, in the order of the resolver. A name is looked up, which may take seconds.
+pub(crate) fn addresses_of<R: Net>(
+    alloc: Global,
+    rt: &R,
+    host: &Text,
+    port: u16,
+) -> io::Result<Vec<SocketAddr>> {
+    let host = words_of(host)?;
+    let authority = format!(in alloc; "{host}:{port}")?;
+    let mut addresses = Vec::new(alloc);
+    for address in authority.as_str().to_socket_addrs(rt)? {
+        addresses.push(address)?;
+    }
+    Ok(addresses)
+}
+
+/// The URL at which a session is asked for.
+pub(crate) fn url_of(alloc: Global, to: &Address) -> io::Result<String> {
+    let host = words_of(&to.host)?;
+    let path = words_of(&to.path)?;
+    let port = to.port;
+    Ok(format!(in alloc; "ws://{host}:{port}{path}")?)
+}
+
+/// Any free port of this machine, in the family of an address.
+pub(crate) fn any_port(family: SocketAddr) -> SocketAddr {
+    match family {
+        SocketAddr::V4(_) => SocketAddr::V4(SocketAddrV4::new(Ipv4Addr::UNSPECIFIED, 0)),
+        SocketAddr::V6(_) => SocketAddr::V6(SocketAddrV6::new(Ipv6Addr::UNSPECIFIED, 0, 0, 0)),
+    }
+}

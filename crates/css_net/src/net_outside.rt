@@ -1,0 +1,84 @@
+ghost use Rattle.std.specs.Prelude.{◌≡◌, None};
+
+use crate::sockets::{NetRuntime, Sockets};
+use css_devices::Tally;
+use css_num::Text;
+use css_outside::{Address, Clocked, Heard, Kind, OutFault, Outside, Why, Wrote};
+use std::alloc::Global;
+
+/// The system's clock and its sockets.
+///
+/// Its readings and its counts are those of `css_devices::Tally`.
+#[derive(Drop)]
+pub struct NetOutside<R: NetRuntime> {
+    rt: R,
+    tally: Tally,
+    sockets: Sockets<R>,
+}
+
+impl<R: NetRuntime> NetOutside<R> {
+    /// No socket is open, and the clock wasn't read.
+    pub fn new(alloc: Global, rt: R) -> NetOutside<R> {
+        NetOutside {
+            rt,
+            tally: Tally::new(),
+            sockets: Sockets::new(alloc, rt),
+        }
+    }
+}
+
+impl<R: NetRuntime> Outside for NetOutside<R> {
+    ghost told = { λ _. None };
+
+    ghost counts = { λ outside. outside.tally };
+
+    fn listen(&mut self, host: &Text, port: u16) -> Result<(), OutFault> {
+        let listens = self.sockets.listen(host, port);
+        self.tally.plain(listens)
+    }
+
+    fn now(&mut self, _why: Why) -> Result<Clocked, OutFault> {
+        self.tally.now(&self.rt)
+    }
+
+    fn dial(&mut self, kind: Kind, to: &Address) -> Result<u32, OutFault> {
+        let Some(peer) = self.tally.next_peer() else {
+            return self.tally.not_dialled(OutFault::Failed);
+        };
+        let dialled = self.sockets.dial(kind, to, peer);
+        self.tally.dialled(peer, dialled)
+    }
+
+    fn accept(&mut self) -> Result<Option<(u32, Kind)>, OutFault> {
+        let Some(peer) = self.tally.next_peer() else {
+            return self.tally.plain(Err(OutFault::Failed));
+        };
+        let came = self.sockets.accept(peer);
+        self.tally.opened(peer, came)
+    }
+
+    fn send_datagram(&mut self, peer: u32, bytes: &[u8; 32]) -> Result<(), OutFault> {
+        let sent = self.sockets.send_datagram(peer, bytes);
+        self.tally.plain(sent)
+    }
+
+    fn take_datagram(&mut self, into: &mut [u8; 64]) -> Result<Option<(u32, usize)>, OutFault> {
+        let taken = self.sockets.take_datagram(into);
+        self.tally.plain(taken)
+    }
+
+    fn take_text(&mut self, peer: u32) -> Result<Heard, OutFault> {
+        let heard = self.sockets.take_text(peer);
+        self.tally.plain(heard)
+    }
+
+    fn send_text(&mut self, peer: u32, text: &[u8]) -> Result<Wrote, OutFault> {
+        let wrote = self.sockets.send_text(peer, text);
+        self.tally.plain(wrote)
+    }
+
+    fn hang_up(&mut self, peer: u32) -> Result<(), OutFault> {
+        let hung_up = self.sockets.hang_up(peer);
+        self.tally.plain(hung_up)
+    }
+}

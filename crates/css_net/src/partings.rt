@@ -1,0 +1,130 @@
+//! Sessions that are over here, until the peer has been told.
+//!
+//! A socket that is closed while something that came is unread resets its connection, and a peer may then lose the
+//! close frame that says why. So what waits is written out, and what still comes is read past for a short time.
+
+use crate::session::Line;
+use crate::sockets::NetRuntime;
+use css_devices::faults::{no_room, would_wait};
+use css_outside::OutFault;
+use std::alloc::Global;
+use tungstenite::Error;
+
+/// How long a session may part, in nanoseconds.
+const LONGEST_PARTING: u64 = 1_000_000_000;
+/// How many sessions may part at once; of more, the oldest is cut off.
+const MOST_PARTING: usize = 64;
+/// How many pieces are read past in one turn.
+const MOST_PIECES: usize = 16;
+
+/// A session that parts.
+#[derive(Drop)]
+struct Parting<R: NetRuntime> {
+    peer: u32,
+    line: Line<R>,
+    since: u64,
+    /// Something may have come, or the stream may take more.
+    named: bool,
+    /// All was written, and the peer knows that nothing more will come.
+    told: bool,
+    /// Nothing is left to be done.
+    over: bool,
+}
+
+impl<R: NetRuntime> Parting<R> {
+    fn write_out(&mut self) {
+        match self.line.flush() {
+            Ok(()) => {
+                self.told = true;
+                self.over = self.line.metered().end_writing().is_err();
+            }
+            Err(Error::Io(error)) if would_wait(error.kind()) => {}
+            Err(_) => self.over = true,
+        }
+    }
+
+    /// Reads past what has come.
+    fn read_past(&mut self) {
+        for _ in 0..MOST_PIECES {
+            match self.line.skip() {
+                Ok(0) => {
+                    self.over = true;
+                    return;
+                }
+                Ok(_) => {}
+                Err(error) => {
+                    self.named = false;
+                    self.over = !would_wait(error.kind());
+                    return;
+                }
+            }
+        }
+    }
+
+    fn turn(&mut self) {
+        if !self.told {
+            self.write_out();
+        }
+        if !self.over {
+            self.read_past();
+        }
+    }
+}
+
+/// The sessions that part, the oldest first.
+#[derive(Drop)]
+pub(crate) struct Partings<R: NetRuntime> {
+    list: Vec<Parting<R>>,
+}
+
+impl<R: NetRuntime> Partings<R> {
+    /// None parts.
+    pub(crate) fn new(alloc: Global) -> Partings<R> {
+        Partings {
+            list: Vec::new(alloc),
+        }
+    }
+
+    /// Adds a session.
+    pub(crate) fn add(&mut self, peer: u32, line: Line<R>, since: u64) -> Result<(), OutFault> {
+        if self.list.len() >= MOST_PARTING {
+            drop(self.list.remove(0));
+        }
+        let parting = Parting {
+            peer,
+            line,
+            since,
+            named: true,
+            told: false,
+            over: false,
+        };
+        self.list.push(parting).map_err(no_room)
+    }
+
+    /// Something has come on a session that parts.
+    pub(crate) fn name(&mut self, peer: u32) {
+        for parting in self.list.iter_mut() {
+            if parting.peer == peer {
+                parting.named = true;
+            }
+        }
+    }
+
+    /// Whether none parts.
+    pub(crate) fn is_empty(&self) -> bool {
+        self.list.is_empty()
+    }
+
+    /// One turn of each, at this time.
+    pub(crate) fn turn(&mut self, now: u64) {
+        for parting in self.list.iter_mut() {
+            if parting.named {
+                parting.turn();
+            }
+            if now.saturating_sub(parting.since) >= LONGEST_PARTING {
+                parting.over = true;
+            }
+        }
+        self.list.retain(|parting| !parting.over);
+    }
+}

@@ -1,0 +1,349 @@
+#!/usr/bin/env python3
+"""Tries `css tv` and `css companion` on real sockets against plain peers of its own, good and bad.
+
+    tests/live.py [PROGRAM ..]       the program's words before the command; ./css where there are none
+
+A television is watched by a prober, which asks its wall clock every 2 ms all the time. Both read the same monotone
+clock of this machine, so the time from the sending of a request to its receive value is told exactly: the greatest of
+them bounds the longest turn. Time in which the television waited for a processor is taken off, as Linux tells it. A
+machine may stall otherwise too, so an attack with a long turn is made again: what the program does comes again, and
+of three attacks the shortest longest turn counts. Each check prints a line. The exit status is 1 where one failed.
+"""
+import json, multiprocessing, os, socket, struct, sys, time
+
+from live_peer import (CLOSE, PING, PONG, SETUP, TEXT, Peer, connection, dial, frame, nanos, request, set_up, stamp,
+                       start, television)
+from live_server import against_companion
+
+HERE = os.path.dirname(os.path.abspath(__file__))
+PROGRAM = sys.argv[1:] or [os.path.join(HERE, "..", "css")]
+PORT = 10000 + os.getpid() % 600 * 32
+SCRIPT = "0 programme dvb://1.2.3\n0 timeline 1 urn:dvb:css:timeline:pts 1 90000 900000\n0 change 1\n"
+LONGEST_TURN = 20_000_000
+failed = []
+
+
+def check(name, holds, told=""):
+    print(("ok      " if holds else "FAILED  ") + name + (f": {told}" if told != "" else ""), flush=True)
+    if not holds:
+        failed.append(name)
+
+
+# ---- the wall clock
+
+def waited(process):
+    """How long a process has waited for a processor so far, in nanoseconds; 0 where the system doesn't tell."""
+    try:
+        with open(f"/proc/{process}/schedstat", encoding="ascii") as file:
+            return int(file.read().split()[1])
+    except OSError:
+        return 0
+
+
+def probe(port, process, ends, told):
+    """Asks every 2 ms until told to end. Tells how many were answered, and the delays to the receive value."""
+    udp = socket.socket(socket.AF_INET, socket.SOCK_DGRAM)
+    udp.connect(("127.0.0.1", port))
+    udp.setblocking(False)
+    asked, delays, before = 0, [], {}
+    while not ends.is_set():
+        now = time.monotonic_ns()
+        before[now] = waited(process)
+        try:
+            udp.send(request(now))
+            asked += 1
+        except OSError:
+            pass
+        time.sleep(0.002)
+        try:
+            while True:
+                answer = udp.recv(64)
+                sent = nanos(answer[8:16])
+                delays.append(nanos(answer[16:24]) - sent - (waited(process) - before.pop(sent)))
+        except OSError:
+            pass
+    told.put((asked, delays))
+
+
+class Prober:
+    def __init__(self, port, process):
+        self.ends, self.told = multiprocessing.Event(), multiprocessing.Queue()
+        self.process = multiprocessing.Process(target=probe, args=(port, process, self.ends, self.told), daemon=True)
+        self.process.start()
+
+    def end(self):
+        self.ends.set()
+        told = self.told.get(timeout=10)
+        self.process.join()
+        return told
+
+
+# ---- a television, and its peers
+
+def good_session(port):
+    state = dial(port, "/cii").text()
+    wanted = {
+        "protocolVersion": "1.1", "mrsUrl": None, "contentId": "dvb://1.2.3", "contentIdStatus": "final",
+        "presentationStatus": "okay", "wcUrl": f"udp://127.0.0.1:{port}", "tsUrl": f"ws://127.0.0.1:{port + 1}/ts",
+        "teUrl": None, "timelines": [{"timelineSelector": "urn:dvb:css:timeline:pts",
+                                      "timelineProperties": {"unitsPerTick": 1, "unitsPerSecond": 90000}}]}
+    check("a session of CSS-CII is told the full state", state == wanted, state if state != wanted else "")
+    peer, control = set_up(port)
+    holds = control.get("contentTime") == "900000" and control.get("timelineSpeedMultiplier") == 1
+    check("a setup is answered by the control timestamp", holds, control)
+    peer.say(b"are you there", PING)
+    check("a ping is answered", peer.hear() == (PONG, b"are you there"))
+    peer.say(struct.pack(">H", 1000), CLOSE)
+    check("a close is answered", peer.ending() == 1000)
+    check("and the connection ends", peer.ending() is None)
+
+
+def fragments(port):
+    peer = dial(port + 1, "/ts")
+    text = json.dumps(SETUP).encode()
+    peer.say(text[:10], TEXT, False)
+    peer.say(b"between", PING)
+    peer.say(text[10:30], 0, False)
+    time.sleep(0.02)
+    peer.say(text[30:], 0)
+    check("a ping between fragments is answered", peer.hear() == (PONG, b"between"))
+    check("a text in fragments is a setup", "contentTime" in peer.text())
+    wall = int(set_up(port)[1]["wallClockTime"])
+    bound = {"contentTime": "900000", "wallClockTime": str(wall + 40_000_000)}
+    peer.say({"earliest": bound, "latest": {"contentTime": "900000", "wallClockTime": "plusinfinity"}})
+    check("a presentation delays the timeline", int(peer.text()["wallClockTime"]) == wall + 40_000_000)
+    peer.conn.close()
+
+
+def datagrams(port):
+    udp = socket.socket(socket.AF_INET, socket.SOCK_DGRAM)
+    udp.settimeout(2)
+    udp.connect(("127.0.0.1", port))
+    for bad in (b"", b"x", bytes(31), bytes(33), bytes(2000), b"\1" + bytes(31), b"\0\1" + bytes(30)):
+        udp.send(bad)
+    before = time.monotonic_ns()
+    udp.send(request(before))
+    answer = udp.recv(64)
+    received, sent = nanos(answer[16:24]), nanos(answer[24:32])
+    check("bad datagrams aren't answered, and a request is", answer[8:16] == stamp(before) and len(answer) == 32)
+    check("its times are in order", before <= received <= sent <= time.monotonic_ns())
+    check("type, precision and error are declared", answer[:2] == b"\0\1" and answer[4:8] == struct.pack(">I", 128000))
+
+
+def refusals(port):
+    try:
+        dial(port, "/other")
+        check("another path is refused", False)
+    except ConnectionError as told:
+        check("another path is refused", "404" in str(told), told)
+    peer = Peer(connection(port), True)
+    peer.conn.sendall(os.urandom(400) + b"\r\n\r\n")
+    check("garbage ends its connection", peer.ending() is None)
+    peer = Peer(connection(port), True)
+    try:
+        for _ in range(4000):
+            peer.conn.sendall(b"GET /cii HTTP/1.1\r\n" + b"X: " + b"a" * 60 + b"\r\n")
+    except OSError:
+        pass
+    check("a head without end ends its connection", peer.ending() is None)
+    peer = dial(port, "/cii")
+    peer.text()
+    peer.say("a text")
+    check("a text on CSS-CII is hung up", peer.ending() == 1000)
+
+
+def slow_head(port):
+    peer = Peer(connection(port), True)
+    peer.conn.sendall(b"GET /cii HT")
+    begun = time.monotonic()
+    ending = peer.ending(8)
+    took = time.monotonic() - begun
+    check("a handshake that stops is dropped after 5 s", ending is None and 4.5 < took < 6, f"{took:.2f} s")
+
+
+def long_messages(port):
+    peer = dial(port + 1, "/ts")
+    text = json.dumps(SETUP).encode()
+    peer.say(text + b" " * (262_144 - len(text)))
+    check("a text of 262,144 bytes is taken", "contentTime" in peer.text())
+    peer = dial(port + 1, "/ts")
+    peer.say(text + b" " * (262_145 - len(text)))
+    check("one more byte is closed with 1009", peer.ending() == 1009)
+    peer = dial(port + 1, "/ts")
+    try:
+        peer.say(b"a" * 20_971_520)
+    except OSError:
+        pass
+    check("a message of 20 MiB is closed with 1009", peer.ending() == 1009)
+    peer = dial(port + 1, "/ts")
+    try:
+        for _ in range(400):
+            peer.say(b"a" * 1000, TEXT if _ == 0 else 0, False)
+    except OSError:
+        pass
+    check("so are fragments without end", peer.ending() == 1009)
+    peer = dial(port + 1, "/ts")
+    peer.say(b"\xff\xfe")
+    check("a text that isn't UTF-8 is closed with 1007", peer.ending() == 1007)
+
+
+def crowds(port):
+    idle = [connection(port) for _ in range(300)]
+    check("300 connections that say nothing leave room", "wcUrl" in dial(port, "/cii").text())
+    for conn in idle:
+        conn.close()
+    open_ones, told = [], 0
+    for _ in range(300):
+        try:
+            peer = dial(port, "/cii")
+            peer.text(5)
+            open_ones.append(peer)
+        except (EOFError, OSError):
+            told += 1
+    check("of 300 sessions about 256 stay and the others are hung up", 250 <= len(open_ones) <= 256, len(open_ones))
+    open_ones[0].say(b"still", PING)
+    check("the first of them is served", open_ones[0].hear() == (PONG, b"still"))
+    for peer in open_ones:
+        peer.conn.close()
+    time.sleep(0.3)
+
+
+def unread(port):
+    peer = dial(port + 1, "/ts")
+    peer.say(SETUP)
+    peer.conn.setblocking(False)
+    flood, sent, end = frame(PING, b"p" * 125), 0, time.monotonic() + 2
+    while time.monotonic() < end:
+        try:
+            sent += peer.conn.send(flood * 100)
+        except BlockingIOError:
+            time.sleep(0.001)
+        except OSError:
+            break
+    check("a peer that never reads is no bother", "wcUrl" in dial(port, "/cii").text(), f"{sent} bytes of pings")
+    peer.conn.close()
+
+
+def tiny_frames(port):
+    peer = dial(port + 1, "/ts")
+    peer.conn.sendall(frame(TEXT, b"{", False))
+    flood, end = frame(0, b"", False) * 10000, time.monotonic() + 2
+    peer.conn.settimeout(1)
+    try:
+        while time.monotonic() < end:
+            peer.conn.sendall(flood)
+    except OSError:
+        pass
+    check("a flood of empty fragments is no bother", "wcUrl" in dial(port, "/cii").text())
+    peer.conn.close()
+
+
+def cut_off(port):
+    for part in (b"\x81", b"\x81\xfe\x10", frame(TEXT, b"a" * 500)[:200]):
+        peer = dial(port + 1, "/ts")
+        peer.conn.sendall(part)
+        peer.conn.close()
+    peer = dial(port + 1, "/ts")
+    peer.conn.setsockopt(socket.SOL_SOCKET, socket.SO_LINGER, struct.pack("ii", 1, 0))
+    peer.conn.sendall(b"\x81\xfe")
+    peer.conn.close()
+    peer = dial(port + 1, "/ts")
+    peer.conn.sendall(b"\xf1\x80abcd")
+    check("a bad frame is closed with 1002", peer.ending() == 1002)
+    check("peers that close in mid-frame are no bother", "contentTime" in set_up(port)[1])
+
+
+def attacked(attack, port, process, witness):
+    """Makes an attack: whether another session was served, how many requests were asked, and their delays."""
+    prober = Prober(port, process)
+    time.sleep(0.1)
+    served = False
+    try:
+        attack(port)
+        witness.say(b"w", PING)
+        served = witness.hear() == (PONG, b"w")
+    except Exception as error:
+        check(f"{attack.__name__} goes through", False, repr(error))
+    asked, delays = prober.end()
+    return served, asked, sorted(delays) or [LONGEST_TURN]
+
+
+def against_television():
+    port = PORT
+    child = television(PROGRAM, port, SCRIPT)
+    witness = dial(port, "/cii")
+    witness.text()
+    for attack in (good_session, fragments, datagrams, refusals, slow_head, long_messages, crowds, unread,
+                   tiny_frames, cut_off):
+        longest, told = LONGEST_TURN, []
+        while longest >= LONGEST_TURN and len(told) < 3:
+            served, asked, delays = attacked(attack, port, child.pid, witness)
+            check(f"{attack.__name__}: the session of another peer is served", served)
+            check(f"{attack.__name__}: requests are answered", len(delays) > asked * 0.98, f"{len(delays)} of {asked}")
+            longest = delays[-1]
+            told.append(f"{longest / 1e6:.2f} ms, in the middle {delays[len(delays) // 2] / 1e6:.3f} ms")
+        check(f"{attack.__name__}: the longest turn is below 20 ms", longest < LONGEST_TURN, "; ".join(told))
+    check("the television still runs", child.poll() is None)
+    child.kill()
+    child.wait()
+
+
+def in_use(port):
+    other = socket.socket(socket.AF_INET, socket.SOCK_DGRAM)
+    other.bind(("127.0.0.1", port))
+    child = start(PROGRAM, ["tv", "--port", str(port), "--turns", "1"], SCRIPT)
+    check("a port in use is a net fault", child.wait(60) == 6, child.stderr.read().decode().strip())
+    other.close()
+
+
+# ---- hosts and addresses
+
+def status_of(words, given=""):
+    child = start(PROGRAM, words, given)
+    status = child.wait(60)
+    return status, child.stderr.read().decode().strip()
+
+
+def hosts(port):
+    for host, wanted in (("0.0.0.0", 0), ("[::]", 0), ("localhost", 0), ("192.0.2.1", 6), ("no-such-name.invalid", 6),
+                         ("a b", 1)):
+        told = status_of(["tv", "--port", str(port), "--turns", "1", "--host", host], SCRIPT)
+        check(f"a television at the host '{host}'", told[0] == wanted, told)
+
+
+def addresses(port):
+    """A companion reaches a television by some of these, and has no answer by the others."""
+    child = television(PROGRAM, port, SCRIPT, ["--host", "0.0.0.0"])
+    rest = ["--reports", "1", "--report-every", "300000000"]
+    for url, wanted in (("ws://127.0.0.1:{}/cii", "1 ticks "), ("ws://localhost:{}/cii", "1 ticks "),
+                        ("ws://user:word@127.0.0.1:{}/cii", "1 ticks "), ("ws://127.0.0.1:{}/cii#part", "1 ticks "),
+                        ("ws://127.0.0.1:0/cii", "1 none NoAnswer"), ("ws://127.0.0.1:{}/other", "1 none NoAnswer"),
+                        ("ws://no-such-name.invalid:{}/cii", "1 none NoAnswer")):
+        companion = start(PROGRAM, ["companion", "--cii", url.format(port), *rest])
+        line = companion.stdout.read().decode().strip()
+        check(f"a companion of {url.format('PORT')}", companion.wait(60) == 0 and line.startswith(wanted), line)
+    told = status_of(["companion", "--cii", f"http://127.0.0.1:{port}/cii", *rest])
+    check("a companion of another scheme", told[0] == 1, told)
+    child.kill()
+    child.wait()
+
+
+def pair(port):
+    child = start(PROGRAM, ["pair", "--port", str(port), "--reports", "5", "--report-every", "200000000", "--ask-every",
+                            "50000000", "--turns", "2000"], SCRIPT)
+    lines = child.stdout.read().decode().splitlines()
+    told = child.wait(60), lines[-1:]
+    check("a pair makes its reports", told[0] == 0 and len(lines) == 5 and lines[-1].startswith("5 ticks "), told)
+
+
+# ---- all of it
+
+if __name__ == "__main__":
+    against_television()
+    in_use(PORT)
+    hosts(PORT + 2)
+    addresses(PORT + 4)
+    pair(PORT + 6)
+    against_companion(PORT + 8, PROGRAM, check)
+    print(f"{len(failed)} failed")
+    sys.exit(1 if failed else 0)
