@@ -16,8 +16,8 @@ pub trait Listens {
     fn prepare(&mut self, sheet: &Sheet) -> Result<(), Memory>
         ensures { all_seen (heard self.new) ≡ all_seen (heard self.old) };
 
-    /// Tells each of them a report, and adds to `out` what they say of it by their plans, which stay. Those that are done
-    /// stay as they are and say nothing. After want of memory the first of them have heard the report.
+    /// Tells each of them a report, and adds to `out` what they say of it by their plans, which stay. Those that are
+    /// done stay as they are and say nothing. After want of memory the first of them have heard the report.
     fn tell(&mut self, report: &Report, out: &mut Text) -> Result<(), Memory>
         ensures { TellsEach result report.now (heard self.old) (heard self.new) out.old out.new };
 }
