@@ -139,8 +139,11 @@ def request(now):
 def start(program, words, given=""):
     """A run of the program with these words and this standard input."""
     child = subprocess.Popen(program + words, stdin=subprocess.PIPE, stdout=subprocess.PIPE, stderr=subprocess.PIPE)
-    child.stdin.write(given.encode())
-    child.stdin.close()
+    try:
+        child.stdin.write(given.encode())
+        child.stdin.close()
+    except BrokenPipeError:
+        pass  # It has ended already, as with refused words.
     return child
 
 
