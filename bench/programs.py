@@ -11,8 +11,8 @@ HERE = os.path.dirname(os.path.dirname(os.path.abspath(__file__)))
 
 
 def css(named=None):
-    """The path of the program `css`: the one that is named, here or as $CSS; or else the proved one, which `./css` builds
-    first where it is missing or older than its sources."""
+    """The path of the program `css`: the one that is named, here or as $CSS; or else the proved one, which is built
+    first by `./css`, where it is missing or older than its sources."""
     named = named or os.environ.get("CSS")
     if not named:
         subprocess.run([os.path.join(HERE, "css"), "replay"], input=b"css-schedule 1 plain 0 -30 0 0 x -\n", check=True)
