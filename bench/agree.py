@@ -6,19 +6,17 @@ the way and by the exchange. `css agree` tells the agreement of 2, 10 and 100 an
 and be the one that this script computes. Prints the median of the ratio of the widths. Then answers with as many
 declared errors as lines, to see that the time grows with the number of errors and not with its square.
 
-    bench/agree.py [PROGRAM]       the program is crates/css/out/css unless it is named
+    bench/agree.py [PROGRAM]       the program that ./css builds, where none is given
 """
 
-import os
 import random
 import resource
 import statistics
 import subprocess
 import sys
 
+from programs import css
 from second import F, precision_ns, span
-
-PROGRAM = os.path.join(os.path.dirname(os.path.dirname(os.path.abspath(__file__))), "crates", "css", "out", "css")
 
 ERROR = 12_800
 OWN = (ERROR, 1_000)
@@ -82,7 +80,7 @@ def errors(program, count):
 
 
 def main():
-    program = sys.argv[1] if len(sys.argv) > 1 else PROGRAM
+    program = css(*sys.argv[1:2])
     draw = random.Random(1)
     for count in (2, 10, 100):
         ratios = [ratio(program, draw, count) for _ in range(200)]

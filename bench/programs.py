@@ -1,5 +1,5 @@
-"""Builds and times the programs of the other scripts here, which stand over copies of the crates and are no part of
-this repository."""
+"""The programs of the other scripts here: `css` itself, and those that stand over copies of the crates and are no part
+of this repository, which are built and timed here."""
 
 import os
 import resource
@@ -8,6 +8,15 @@ import subprocess
 import sys
 
 HERE = os.path.dirname(os.path.dirname(os.path.abspath(__file__)))
+
+
+def css(named=None):
+    """The path of the program `css`: the one that is named, here or as $CSS; or else the proved one, which is built
+    first by `./css`, where it is missing or older than its sources."""
+    named = named or os.environ.get("CSS")
+    if not named:
+        subprocess.run([os.path.join(HERE, "css"), "replay"], input=b"css-schedule 1 plain 0 -30 0 0 x -\n", check=True)
+    return named or os.path.join(HERE, "crates", "css", "out", "proved", "css")
 
 
 def crates_below(names, lines):

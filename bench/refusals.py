@@ -1,7 +1,8 @@
 #!/usr/bin/env python3
 """Refuses each allocation of a replay in turn, one number a run, until a run meets no refusal.
 
-    bench/refusals.py [SCHEDULE]         examples/evening.schedule, where none is given
+    bench/refusals.py [SCHEDULE]         examples/evening.schedule, where none is given; by the program that ./css
+                                         builds, or by $CSS
 
 Each run with a refusal must end with the status of want of memory, its line on standard error, and a front part of the
 output. A small library in front of the C library's allocator does the refusing; it is built by `cc`, or by $CC.
@@ -12,8 +13,8 @@ import subprocess
 import sys
 import tempfile
 
-HERE = os.path.dirname(os.path.dirname(os.path.abspath(__file__)))
-PROGRAM = os.path.join(HERE, "crates", "css", "out", "css")
+from programs import HERE, css
+
 LIBRARY = r"""
 #define _GNU_SOURCE
 #include <dlfcn.h>
@@ -69,7 +70,7 @@ def build(folder):
     return library
 
 
-def run(library, schedule, number):
+def run(program, library, schedule, number):
     """Exit status, output, standard error, and whether an allocation was refused."""
     reads, writes = os.pipe()
     environment = {"LD_PRELOAD": library, "REFUSED": str(number)}
@@ -77,7 +78,7 @@ def run(library, schedule, number):
     def tell_at_3():
         os.dup2(writes, 3)
 
-    ran = subprocess.run([PROGRAM, "replay"], input=schedule, capture_output=True, env=environment, timeout=60,
+    ran = subprocess.run([program, "replay"], input=schedule, capture_output=True, env=environment, timeout=60,
                          preexec_fn=tell_at_3, pass_fds=(3, writes))
     os.close(writes)
     with os.fdopen(reads, "rb") as told:
@@ -89,14 +90,15 @@ def main():
     path = sys.argv[1] if len(sys.argv) > 1 else os.path.join(HERE, "examples", "evening.schedule")
     with open(path, "rb") as told:
         schedule = told.read()
+    program = css()
     with tempfile.TemporaryDirectory() as folder:
         library = build(folder)
-        status, whole, errors, _ = run(library, schedule, 0)
+        status, whole, errors, _ = run(program, library, schedule, 0)
         if status != 0 or errors:
             sys.exit(f"{path}: status {status}, {errors}")
         number = 1
         while True:
-            status, printed, errors, refused = run(library, schedule, number)
+            status, printed, errors, refused = run(program, library, schedule, number)
             if not refused:
                 break
             if status != 14 or errors != b"css: memory\n" or not whole.startswith(printed):

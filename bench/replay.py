@@ -21,8 +21,9 @@ import sys
 import tempfile
 import time
 
-HERE = os.path.dirname(os.path.dirname(os.path.abspath(__file__)))
-PROGRAM = os.path.join(HERE, "crates", "css", "out", "css")
+from programs import css
+
+PROGRAM = css()
 HEADER = "css-schedule 1 follow 12800 -20 12800 1000 urn:dvb:css:timeline:pts -\n"
 WHOLE = 256_000_000
 FASTER = 12_800
@@ -221,7 +222,6 @@ def measure(name, count, write, empty, folder):
 
 def main():
     counts = [int(word) for word in sys.argv[1:]] or [10_000, 100_000, 1_000_000]
-    subprocess.run([os.path.join(HERE, "css"), "replay"], input=HEADER.encode(), check=True)
     with tempfile.TemporaryDirectory() as folder:
         path = os.path.join(folder, "empty.schedule")
         with open(path, "w", encoding="ascii") as out:

@@ -1,7 +1,7 @@
 #!/usr/bin/env python3
 """Replays drawn schedules of both ends by a plain second computation, and compares it with the program `css`.
 
-    bench/second.py [COUNT [SEED]]       COUNT schedules (500) by the program crates/css/out/css
+    bench/second.py [COUNT [SEED]]       COUNT schedules (500), replayed by the program that ./css builds, or by $CSS
     bench/second.py --write FOLDER [COUNT [SEED]]
                                          writes the schedules, and beside each what is to be printed, to a folder
 
@@ -14,8 +14,8 @@ import random
 import subprocess
 import sys
 
-HERE = os.path.dirname(os.path.dirname(os.path.abspath(__file__)))
-PROGRAM = os.path.join(HERE, "crates", "css", "out", "css")
+from programs import css
+
 F = 256_000_000
 SECOND = 10**9
 PTS = "urn:dvb:css:timeline:pts"
@@ -522,8 +522,8 @@ def drawn(count, seed):
         yield number, Drawer(f"{seed} {number}").schedule(draw.choice([20, 40, 60]))
 
 
-def run(schedule):
-    ran = subprocess.run([PROGRAM, "replay"], input=schedule.encode(), capture_output=True, timeout=60)
+def run(program, schedule):
+    ran = subprocess.run([program, "replay"], input=schedule.encode(), capture_output=True, timeout=60)
     return ran.stdout.decode(), ran.returncode, ran.stderr.decode()
 
 
@@ -535,10 +535,11 @@ def write(folder, count, seed):
 
 
 def compare(count, seed):
+    program = css()
     lines = printed = intervals = 0
     ends = {}
     for number, schedule in drawn(count, seed):
-        wanted, found = replay(schedule), run(schedule)
+        wanted, found = replay(schedule), run(program, schedule)
         if wanted != found:
             sys.exit(f"schedule {number} of seed {seed} differs:\n{schedule}wanted {wanted}\nfound  {found}")
         lines += schedule.count("\n")

@@ -1,7 +1,7 @@
 #!/usr/bin/env python3
 """Runs the built program css to each status of a replay, and compares what it writes and the exit status.
 
-    bench/statuses.py [PROGRAM]         crates/css/out/proved/css, which ./css builds, where none is given
+    bench/statuses.py [PROGRAM]         the program that ./css builds, where none is given
 
 A failed read comes from a standard input that is open for writing alone, a failed write from /dev/full, and want of
 memory from a limit of the address space. A status is also told by its number where standard error takes nothing.
@@ -12,8 +12,9 @@ import resource
 import subprocess
 import sys
 
-HERE = os.path.dirname(os.path.dirname(os.path.abspath(__file__)))
-PROGRAM = sys.argv[1] if len(sys.argv) > 1 else os.path.join(HERE, "crates", "css", "out", "proved", "css")
+from programs import css
+
+PROGRAM = css(*sys.argv[1:2])
 HEADER = b"css-schedule 1 plain 0 -30 0 0 urn:x -\n"
 EXCHANGE = b"""1000 4800 1000 ask 1000
 1200 5000 1200 take 1 5000
