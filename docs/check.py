@@ -1,0 +1,125 @@
+#!/usr/bin/env python3
+"""Checks the pages: the sessions that they show, the contracts that they name, their tables and their links.
+
+    docs/check.py          runs ./css, which proves and builds the program where it is old
+    docs/check.py --try    runs ./css --try, without proofs; each command builds the program anew
+
+A session is a block of README.md or docs/*.md in which a line begins with "$ ". The lines behind it are what the
+command writes: those that begin with "css: " on standard error, and all others on standard output. In a block that
+begins with "```text live" numbers differ from run to run, so only the words are compared; a line that begins with
+"television$ " is a command that runs beside those after it, to the end of the block. --try leaves these blocks out.
+The status is 1 where a page shows something else than what comes.
+"""
+import re
+import subprocess
+import sys
+import time
+
+sys.dont_write_bytecode = True
+import claims
+import sources
+import trusted
+
+PAGES = [sources.TOP / "README.md", *sorted((sources.TOP / "docs").glob("*.md"))]
+
+
+def blocks(text):
+    """The blocks of a page: whether each is live, the number of its first line, and its lines."""
+    block = None
+    for number, line in enumerate(text.splitlines(), 1):
+        if line.startswith("```"):
+            if block:
+                yield block
+            block = None if block else (line == "```text live", number + 1, [])
+        elif block:
+            block[2].append(line)
+
+
+def sessions(lines, first):
+    """Each command of a block, with the number of its line and the lines that it is to write."""
+    command = None
+    for number, line in enumerate(lines, first):
+        if line.startswith("$ "):
+            if command:
+                yield command
+            command = (number, line[2:], [])
+        elif command:
+            command[2].append(line)
+    if command:
+        yield command
+
+
+def run(command, unproved):
+    """What a command writes on its two streams, as lines."""
+    words = command.replace("./css", "./css --try") if unproved else command
+    done = subprocess.run(["bash", "-c", words], cwd=sources.TOP, capture_output=True, text=True, check=False)
+    errors = [line for line in done.stderr.splitlines() if line.startswith("css: ") or not unproved]
+    return done.stdout.splitlines(), errors
+
+
+def build():
+    """Builds the program where it is old, so that no session shows how a build goes on."""
+    if subprocess.run(["./css"], cwd=sources.TOP, capture_output=True, check=False).returncode == 70:
+        sys.exit("docs/check.py: ./css isn't built")
+
+
+def without_numbers(lines):
+    return [re.sub(r"\d+", "#", line) for line in lines]
+
+
+def television(lines):
+    """The command that is to run beside the others of a block, a second before them."""
+    for line in lines:
+        if line.startswith("television$ "):
+            shell = ["bash", "-c", "exec " + line.removeprefix("television$ ")]
+            started = subprocess.Popen(shell, cwd=sources.TOP)
+            time.sleep(1)
+            return started
+    return None
+
+
+def session_faults(page, unproved):
+    for live, first, lines in blocks(page.read_text()):
+        if live and unproved:
+            continue
+        beside = television(lines) if live else None
+        seen = without_numbers if live else list
+        for number, command, shown in sessions(lines, first):
+            out, errors = run(command, unproved)
+            told = [line for line in shown if line.startswith("css: ")]
+            if seen(out) != seen(line for line in shown if line not in told) or errors != told:
+                yield f"line {number}: $ {command}\n" + "\n".join(out + errors)
+        if beside:
+            beside.terminate()
+            beside.wait()
+
+
+def anchors(page):
+    """The names by which other pages link to the headings of a page."""
+    heads = re.findall(r"^#+ (.*)", page.read_text(), re.M)
+    return {re.sub(r"[^\w\- ]", "", head.lower()).replace(" ", "-") for head in heads}
+
+
+def link_faults(page):
+    for link in re.findall(r"\]\(([^)]+)\)", page.read_text()):
+        file, _, anchor = link.partition("#")
+        target = page.parent / file if file else page
+        if "://" not in link and not target.exists():
+            yield f"no file {link}"
+        elif "://" not in link and anchor and anchor not in anchors(target):
+            yield f"no heading {link}"
+
+
+def main(words):
+    bad = claims.main() + trusted.main(["--check"])
+    if "--try" not in words:
+        build()
+    for page in PAGES:
+        for fault in [*link_faults(page), *session_faults(page, "--try" in words)]:
+            print(f"{page.relative_to(sources.TOP)}, {fault}")
+            bad += 1
+    return 1 if bad else 0
+
+
+if __name__ == "__main__":
+    sys.exit(main(sys.argv[1:]))
