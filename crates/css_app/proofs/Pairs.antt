@@ -1,5 +1,5 @@
 -- A companion's run beside a child, and the status of both.
-use Rattle.std.proofs.Common.{◌≡◌, ℕ, ◌+◌, ◌≤◌, ℤ, pos, Bool, true, false, cond, List, [], ◌∷◌}
+use Rattle.std.proofs.Common.{◌≡◌, ℕ, ◌+◌, ◌≤◌, ℤ, pos, Bool, true, false, cond, List, ◌∷◌}
 use Rattle.std.proofs.Common.{ap, refl, sym, subst, ◌∙◌, arith, inl, inr}
 use Rattle.std.specs.Prelude.{Option, Some, None, Result, Ok, Err, OnOk, OnErr, MatchResult}
 use Rattle.std.specs.Option.{option_map}
@@ -10,8 +10,6 @@ use Rattle.css_outside.specs.Spawners.{Spawned, Started, Finished, TellsSpawned}
 use Rattle.css_outside.specs.declared.fault.OutFault.{OutFault}
 use Rattle.css_outside.specs.declared.fault.OutFault.TheVariants as fault
 use Rattle.css_follow.specs.Following.{Plan}
-use Rattle.css_follow.specs.declared.sheet.Cue.{Cue}
-use Rattle.css_follow.specs.declared.sheet.Sheet.{Sheet}
 use Rattle.css_drive.specs.declared.config.DriveConfig.{DriveConfig}
 use Rattle.css_drive.specs.declared.driven.Driven.{Driven}
 use Rattle.css_drive.specs.declared.driven.Driven.TheVariants as driven
@@ -20,20 +18,7 @@ use Rattle.css_app.specs.declared.status.Status.TheVariants as status
 use Rattle.css_app.specs.Ended.{CountsReads, CountsWrites, HasNotFailed, IsNoUsage}
 use Rattle.css_app.specs.Live.{CountsCalls, CountsDials, CountsSpawns, EndsAsDue, IsAsDue, MakesRun, Stage}
 use Rattle.css_app.specs.Live.{driven_status}
-use Rattle.css_app.specs.Pairs.{PairsAsDue, RunsBeside, child_status, empty_sheet, is_done, with_child}
-
--- ---- the empty sheet
--- the plans of a sheet without a cue and a meter are those of the empty sheet
-pub empty_takes : (takes : Sheet → List Plan) (sheet : Sheet) → sheet.cues ≡ [] → sheet.meter ≡ None
-    → takes sheet ≡ takes empty_sheet
-empty_takes takes sheet cues meter =
-    ap {A = List Cue} (λ c. takes (record { cues = c; meter = sheet.meter })) cues
-    ∙ ap {A = Option ℕ} (λ m. takes (record { cues = []; meter = m })) meter
-
--- what holds whatever a call answers holds where it went well
-pub holds_ok : {T E : Type 0} {P : Type 0} (result : Result T E) → P → OnOk result P
-holds_ok (Ok x) p = p
-holds_ok (Err e) p = tt
+use Rattle.css_app.specs.Pairs.{PairsAsDue, RunsBeside, child_status, is_done, with_child}
 
 -- ---- the status of both
 -- what holds of each status of a child that was waited for
