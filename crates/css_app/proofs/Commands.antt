@@ -2,6 +2,8 @@
 use Rattle.std.proofs.Common.{◌≡◌, ◌∙◌, ℕ, List, ap, refl, sym, subst, inl, inr}
 use Rattle.std.specs.Prelude.{◌⊎◌, Option, Result, Ok, Err}
 use Rattle.css_model.specs.History.{Address, History}
+use Rattle.css_follow.specs.Following.{Plan}
+use Rattle.css_follow.specs.declared.sheet.Sheet.{Sheet}
 use Rattle.css_drive.specs.declared.config.DriveConfig.{DriveConfig}
 use Rattle.css_words.specs.Commands.{Asked, Replay, Agree, Companion, Tv, Pair, Generate, Survey, command_in}
 use Rattle.css_words.specs.Companion.{CompanionAsked, OptionsAsked}
@@ -21,11 +23,12 @@ use Rattle.css_app.specs.Pairs.{Children, Pairs, PairsAsDue, PairsByScript, addr
 use Rattle.css_app.proofs.Quiet.{companions_no_child, pairs_no_usage, script_no_dial, serves_no_dial, sheet_no_child}
 
 -- ---- a run by what the options ask for
-pub companions_by : (asked : CompanionAsked) (run : DriveConfig) (source : SourceUse) (before now : Stage)
-    (result : Status) → IsAskedRun asked.options asked.cii run
-    → Companions run source.left_old source.left_new before now result → CompanionsBy asked source before now result
-companions_by asked run source before now result is (inl none) = inl none
-companions_by asked run source before now result is (inr ran) = inr (run, is, ran)
+pub companions_by : (asked : CompanionAsked) (run : DriveConfig) (takes : Sheet → List Plan) (source : SourceUse)
+    (before now : Stage) (result : Status) → IsAskedRun asked.options asked.cii run
+    → Companions run takes source.left_old source.left_new before now result
+    → CompanionsBy asked takes source before now result
+companions_by asked run takes source before now result is (inl none) = inl none
+companions_by asked run takes source before now result is (inr ran) = inr (run, is, ran)
 
 pub ends_as_asked : (asked : OptionsAsked) (cii : Address) (run : DriveConfig) (before now : Option History)
     (result : Status) → IsAskedRun asked cii run → EndsAsDue run before now result
@@ -33,18 +36,18 @@ pub ends_as_asked : (asked : OptionsAsked) (cii : Address) (run : DriveConfig) (
 ends_as_asked asked cii run before now result is (inl memory) = inl memory
 ends_as_asked asked cii run before now result is (inr due) = inr (run, is, due)
 
-pub pairs_by : (asked : PairAsked) (child : Child) (cii : Address) (run : DriveConfig) (source : SourceUse)
-    (before now : Stage) (kids_old kids_new : Children) (result : Status) → child ≡ asked_child asked.tv
+pub pairs_by : (asked : PairAsked) (child : Child) (cii : Address) (run : DriveConfig) (takes : Sheet → List Plan)
+    (source : SourceUse) (before now : Stage) (kids_old kids_new : Children) (result : Status) → child ≡ asked_child asked.tv
     → cii ≡ address_at child.port → IsAskedRun asked.companion cii run
-    → Pairs run child source.left_old source.left_new before now kids_old kids_new result
-    → PairsBy asked source before now kids_old kids_new result
-pairs_by asked child cii run source before now kids_old kids_new result of dials is (inl none) = inl none
-pairs_by asked child cii run source before now kids_old kids_new result of dials is (inr ran) =
+    → Pairs run takes child source.left_old source.left_new before now kids_old kids_new result
+    → PairsBy asked takes source before now kids_old kids_new result
+pairs_by asked child cii run takes source before now kids_old kids_new result of dials is (inl none) = inl none
+pairs_by asked child cii run takes source before now kids_old kids_new result of dials is (inr ran) =
     inr (
       run,
       subst (λ (a : Address). IsAskedRun asked.companion a run) (dials ∙ ap (λ (k : Child). address_at k.port) of) is,
-      subst (λ (k : Child). PairsByScript run k source.left_old source.left_new before now kids_old kids_new result) of
-          ran,
+      subst (λ (k : Child). PairsByScript run takes k source.left_old source.left_new before now kids_old kids_new
+          result) of ran,
     )
 
 pub pairs_as_asked : (asked : PairAsked) (child : Child) (cii : Address) (run : DriveConfig)
@@ -60,19 +63,20 @@ pairs_as_asked asked child cii run before now result of dials is (inr due) =
     )
 
 -- ---- Usage
-companions_no_usage : (asked : CompanionAsked) (source : SourceUse) (before now : Stage) (result : Status)
-    → CompanionsBy asked source before now result → IsNoUsage result
-companions_no_usage asked source before now result (inl none) =
+companions_no_usage : (asked : CompanionAsked) (takes : Sheet → List Plan) (source : SourceUse) (before now : Stage)
+    (result : Status) → CompanionsBy asked takes source before now result → IsNoUsage result
+companions_no_usage asked takes source before now result (inl none) =
     (sheet_no_child source.left_old result none.cause).0
-companions_no_usage asked source before now result (inr ran) =
-    (companions_no_child ran.0 source.left_old source.left_new before now result (inr ran.2)).0
+companions_no_usage asked takes source before now result (inr ran) =
+    (companions_no_child ran.0 takes source.left_old source.left_new before now result (inr ran.2)).0
 
-pairs_by_no_usage : (asked : PairAsked) (source : SourceUse) (before now : Stage) (kids_old kids_new : Children)
-    (result : Status) → PairsBy asked source before now kids_old kids_new result → IsNoUsage result
-pairs_by_no_usage asked source before now kids_old kids_new result (inl none) =
+pairs_by_no_usage : (asked : PairAsked) (takes : Sheet → List Plan) (source : SourceUse) (before now : Stage)
+    (kids_old kids_new : Children) (result : Status)
+    → PairsBy asked takes source before now kids_old kids_new result → IsNoUsage result
+pairs_by_no_usage asked takes source before now kids_old kids_new result (inl none) =
     (script_no_dial source.left_old result none.cause).0.0
-pairs_by_no_usage asked source before now kids_old kids_new result (inr ran) =
-    pairs_no_usage ran.0 (asked_child asked.tv) source.left_old source.left_new before now kids_old kids_new result
+pairs_by_no_usage asked takes source before now kids_old kids_new result (inr ran) =
+    pairs_no_usage ran.0 takes (asked_child asked.tv) source.left_old source.left_new before now kids_old kids_new result
     (inr ran.2)
 
 -- Usage tells that the words are those of no command
@@ -84,13 +88,13 @@ usage_only (Ok Replay) source sink outside spawner followers result did is =
 usage_only (Ok Agree) source sink outside spawner followers result did is =
     absurd (subst IsNoUsage is did.no_usage)
 usage_only (Ok (Companion asked)) source sink outside spawner followers result did is =
-    absurd (subst IsNoUsage is (companions_no_usage asked source (stage_before sink outside followers)
+    absurd (subst IsNoUsage is (companions_no_usage asked followers.takes source (stage_before sink outside followers)
     (stage_after sink outside followers) result did.ran))
 usage_only (Ok (Tv asked)) source sink outside spawner followers result did is =
     absurd (subst IsNoUsage is (serves_no_dial (asked_tv asked) asked.turns source.left_old source.left_new
     outside.told_old outside.told_new result did.ran).0.0)
 usage_only (Ok (Pair asked)) source sink outside spawner followers result did is =
-    absurd (subst IsNoUsage is (pairs_by_no_usage asked source (stage_before sink outside followers)
+    absurd (subst IsNoUsage is (pairs_by_no_usage asked followers.takes source (stage_before sink outside followers)
     (stage_after sink outside followers) spawner.children_old spawner.children_new result did.ran))
 usage_only (Ok (Generate asked)) source sink outside spawner followers result did is = absurd (cc)
 usage_only (Ok (Survey asked)) source sink outside spawner followers result did is = absurd (cc)

@@ -7,6 +7,8 @@ use Rattle.css_lines.specs.declared.ending.Stop.TheVariants as stops
 use Rattle.css_lines.specs.Ending.{RanUntil, StopsInPiece}
 use Rattle.css_lines.specs.Lines.{whole_lines, last_part}
 use Rattle.css_lines.specs.Meaning.{IsSound, Meaning, outcome_so_far}
+use Rattle.css_follow.specs.Following.{Plan}
+use Rattle.css_follow.specs.declared.sheet.Sheet.{Sheet}
 use Rattle.css_drive.specs.Listening.{Listener}
 use Rattle.css_agree.specs.Agreeing.{agreeing}
 use Rattle.css_words.specs.Commands.{Asked, Replay, Agree, Companion, Tv, Pair, Generate, Survey}
@@ -86,26 +88,26 @@ agree_lacks left holds r w = record {
 
 -- whatever the words ask for
 pub lacks : (asked : Result Asked WordsFault) (left holds : Option (List ℕ)) (told : Option History)
-    (kids : Children) (heard : List Listener) (r w c s : ℕ)
+    (kids : Children) (takes : Sheet → List Plan) (heard : List Listener) (r w c s : ℕ)
     → Does asked (source_use left left r r) (sink_use holds holds w w)
     (record { told_old = told; told_new = told; faults_old = c; faults_new = c })
     (record { children_old = kids; children_new = kids; faults_old = s; faults_new = s })
-    (followers_use heard heard) status.Memory
-lacks (Ok Replay) left holds told kids heard r w c s = replay_lacks left holds r w
-lacks (Ok Agree) left holds told kids heard r w c s = agree_lacks left holds r w
-lacks (Ok (Companion asked)) left holds told kids heard r w c s = record {
+    (followers_use takes heard heard) status.Memory
+lacks (Ok Replay) left holds told kids takes heard r w c s = replay_lacks left holds r w
+lacks (Ok Agree) left holds told kids takes heard r w c s = agree_lacks left holds r w
+lacks (Ok (Companion asked)) left holds told kids takes heard r w c s = record {
   ran = inl (record { untouched = refl; cause = tt });
   complete = λ bytes sheet is ok read written called. inl refl;
 }
-lacks (Ok (Tv asked)) left holds told kids heard r w c s = record {
+lacks (Ok (Tv asked)) left holds told kids takes heard r w c s = record {
   ran = inl (record { untouched = refl; cause = tt });
   complete = λ bytes script is ok read called. inl refl;
 }
-lacks (Ok (Pair asked)) left holds told kids heard r w c s = record {
+lacks (Ok (Pair asked)) left holds told kids takes heard r w c s = record {
   ran = inl (record { untouched = refl; children = refl; cause = tt });
   complete = λ bytes script is ok read written called spawned. inl refl;
 }
-lacks (Ok (Generate asked)) left holds told kids heard r w c s = refl
-lacks (Ok (Survey asked)) left holds told kids heard r w c s = refl
-lacks (Err words.Usage) left holds told kids heard r w c s = tt
-lacks (Err words.Memory) left holds told kids heard r w c s = refl
+lacks (Ok (Generate asked)) left holds told kids takes heard r w c s = refl
+lacks (Ok (Survey asked)) left holds told kids takes heard r w c s = refl
+lacks (Err words.Usage) left holds told kids takes heard r w c s = tt
+lacks (Err words.Memory) left holds told kids takes heard r w c s = refl

@@ -2,6 +2,7 @@
 use Rattle.std.proofs.Common.{◌≡◌, ℕ, refl, ap, subst, ◌∙◌, arith, inl, inr, List}
 use Rattle.std.specs.Prelude.{◌≢◌, ◌⊎◌, Option, Some, Ok}
 use Rattle.css_model.specs.History.{History}
+use Rattle.css_follow.specs.Following.{Plan}
 use Rattle.css_follow.specs.Sheets.{sheet_in}
 use Rattle.css_follow.specs.declared.sheet.Sheet.{Sheet}
 use Rattle.css_drive.specs.CompanionDue as companion
@@ -107,10 +108,10 @@ due_or_memory due (driven.BadUrl property) w w' c c' ends wrote called nw nc = i
 due_or_memory due driven.Memory w w' c c' ends wrote called nw nc = inl refl
 
 -- a companion's run over devices that didn't fail
-pub as_due : (config : DriveConfig) (before now : Stage) (result : Status) (w w' c c' : ℕ)
-    → MakesRun config before now result → CountsWrites w w' result → CountsCalls c c' result
+pub as_due : (config : DriveConfig) (plans : List Plan) (before now : Stage) (result : Status) (w w' c c' : ℕ)
+    → MakesRun config plans before now result → CountsWrites w w' result → CountsCalls c c' result
     → HasNotFailed w w' → HasNotFailed c c' → EndsAsDue config before.told now.told result
-as_due config before now result w w' c c' made wrote called nw nc =
+as_due config plans before now result w w' c c' made wrote called nw nc =
     by (due_or_memory (companion.due config made.ran.history) made.ended w w' c c' made.ran.ends
     (subst (CountsWrites w w') made.tells wrote) (subst (CountsCalls c c') made.tells called) nw nc)
   where

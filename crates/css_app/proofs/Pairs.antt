@@ -9,6 +9,7 @@ use Rattle.css_outside.specs.Faults.{CountsCall}
 use Rattle.css_outside.specs.Spawners.{Spawned, Started, Finished, TellsSpawned}
 use Rattle.css_outside.specs.declared.fault.OutFault.{OutFault}
 use Rattle.css_outside.specs.declared.fault.OutFault.TheVariants as fault
+use Rattle.css_follow.specs.Following.{Plan}
 use Rattle.css_drive.specs.declared.config.DriveConfig.{DriveConfig}
 use Rattle.css_drive.specs.declared.driven.Driven.{Driven}
 use Rattle.css_drive.specs.declared.driven.Driven.TheVariants as driven
@@ -45,8 +46,8 @@ of_both P (driven.Unreachable turns) finished child p = p
 of_both P (driven.BadUrl property) finished child p = p
 of_both P driven.Memory finished child p = p
 
-module _ (config : DriveConfig) (before now : Stage) (companion : Status) (finished : Result ℤ OutFault)
-    (made : MakesRun config before now companion) where
+module _ (config : DriveConfig) (plans : List Plan) (before now : Stage) (companion : Status)
+    (finished : Result ℤ OutFault) (made : MakesRun config plans before now companion) where
   -- the same of a run that was made
   keeps : (P : Status → Type 0) → (P status.Done → P (child_status finished)) → P companion
       → P (with_child companion finished)
@@ -102,26 +103,26 @@ driven_spawns (driven.BadUrl property) finished before now counted = never_falls
 driven_spawns driven.Memory finished before now counted = never_falls finished before now counted
 
 -- after a start that went well
-pub counts_spawns : (config : DriveConfig) (before now : Stage) (companion : Status) (finished : Result ℤ OutFault)
-    (old mid new : ℕ) → MakesRun config before now companion → mid ≡ old → CountsCall mid new finished
-    → CountsSpawns old new (with_child companion finished)
-counts_spawns config before now companion finished old mid new made same counted =
+pub counts_spawns : (config : DriveConfig) (plans : List Plan) (before now : Stage) (companion : Status)
+    (finished : Result ℤ OutFault) (old mid new : ℕ) → MakesRun config plans before now companion → mid ≡ old
+    → CountsCall mid new finished → CountsSpawns old new (with_child companion finished)
+counts_spawns config plans before now companion finished old mid new made same counted =
     subst (λ (s : Status). CountsSpawns old new (with_child s finished)) (sym made.tells)
     (driven_spawns made.ended finished old new (subst (λ n. CountsCall n new finished) same counted))
 
 -- ---- the run
 -- the child was started and waited for
-pub runs_beside : (config : DriveConfig) (words : List (List ℕ)) (script : List ℕ) (before now : Stage)
-    (told_old told_mid told_new : Option (List Spawned)) (running_old running_mid running_new : ℕ)
-    (companion : Status) (finished : Result ℤ OutFault) (result : Status) → MakesRun config before now companion
+pub runs_beside : (config : DriveConfig) (plans : List Plan) (words : List (List ℕ)) (script : List ℕ)
+    (before now : Stage) (told_old told_mid told_new : Option (List Spawned)) (running_old running_mid running_new : ℕ)
+    (companion : Status) (finished : Result ℤ OutFault) (result : Status) → MakesRun config plans before now companion
     → told_mid ≡ option_map (λ told. Started words script ∷ told) told_old → running_mid ≡ running_old + 1
     → TellsSpawned told_mid told_new finished Finished
     → OnOk finished (running_new + 1 ≡ running_mid) → OnErr finished (running_new ≡ running_mid)
     → result ≡ with_child companion finished
-    → RunsBeside config words script before now (record { told = told_old; running = running_old })
+    → RunsBeside config plans words script before now (record { told = told_old; running = running_old })
     (record { told = told_new; running = running_new }) result
-runs_beside config words script before now told_old told_mid told_new old mid new companion finished result made started
-    runs tells ok err is = record {
+runs_beside config plans words script before now told_old told_mid told_new old mid new companion finished result made
+    started runs tells ok err is = record {
       companion = companion;
       makes = made;
       finished = finished;

@@ -7,6 +7,8 @@ use Rattle.css_lines.specs.declared.ending.Stop.TheVariants as stops
 use Rattle.css_lines.specs.declared.reader.Refusal.TheVariants as refusals
 use Rattle.css_agree.specs.declared.reader.Cause as agree
 use Rattle.css_agree.specs.declared.reader.Cause.TheVariants as agrees
+use Rattle.css_follow.specs.Following.{Plan}
+use Rattle.css_follow.specs.declared.sheet.Sheet.{Sheet}
 use Rattle.css_drive.specs.declared.config.DriveConfig.{DriveConfig}
 use Rattle.css_drive.specs.declared.driven.Driven.{Driven}
 use Rattle.css_drive.specs.declared.driven.Driven.TheVariants as driven
@@ -21,7 +23,7 @@ use Rattle.css_app.specs.declared.status.Status.TheVariants as status
 use Rattle.css_app.specs.Ended.{IsNoUsage, agree_status_of, status_of}
 use Rattle.css_app.specs.Live.{Companions, CountsDials, CountsSpawns, HasNoScript, HasNoSheet, Serves, Stage}
 use Rattle.css_app.specs.Live.{TellsNoLive, driven_status}
-use Rattle.css_app.specs.Pairs.{Beside, Children, IsNoStart, Pairs}
+use Rattle.css_app.specs.Pairs.{Beside, Children, IsNoStart, Pairs, empty_sheet}
 use Rattle.css_app.proofs.Pairs.{keeps_no_usage}
 use Rattle.css_app.proofs.TvEnds.{never_unreachable}
 
@@ -125,10 +127,12 @@ script_no_dial left (status.ChildFault ended) none = absurd none
 script_no_dial left (status.BadSheet line) none = absurd none
 script_no_dial left (status.BadUrl property) none = absurd none
 
-pub companions_no_child : (config : DriveConfig) (left_old left_new : Option (List ℕ)) (before now : Stage)
-    (result : Status) → Companions config left_old left_new before now result → HasNoChild result
-companions_no_child config left_old left_new before now result (inl none) = sheet_no_child left_old result none.cause
-companions_no_child config left_old left_new before now result (inr ran) =
+pub companions_no_child : (config : DriveConfig) (takes : Sheet → List Plan) (left_old left_new : Option (List ℕ))
+    (before now : Stage) (result : Status) → Companions config takes left_old left_new before now result
+    → HasNoChild result
+companions_no_child config takes left_old left_new before now result (inl none) =
+    sheet_no_child left_old result none.cause
+companions_no_child config takes left_old left_new before now result (inr ran) =
     subst HasNoChild (sym ran.makes.tells) (driven_no_child ran.makes.ended)
 
 -- a television's run that ended so dialled nobody
@@ -174,19 +178,20 @@ start_no_usage (status.Unreachable turns) none = absurd none
 start_no_usage (status.BadSheet line) none = absurd none
 start_no_usage (status.BadUrl property) none = absurd none
 
-beside_no_usage : (config : DriveConfig) (words : List (List ℕ)) (script : List ℕ) (before now : Stage)
-    (kids_old kids_new : Children) (result : Status)
-    → Beside config words script before now kids_old kids_new result → IsNoUsage result
-beside_no_usage config words script before now kids_old kids_new result (inl none) = start_no_usage result none.cause
-beside_no_usage config words script before now kids_old kids_new result (inr ran) =
+beside_no_usage : (config : DriveConfig) (plans : List Plan) (words : List (List ℕ)) (script : List ℕ)
+    (before now : Stage) (kids_old kids_new : Children) (result : Status)
+    → Beside config plans words script before now kids_old kids_new result → IsNoUsage result
+beside_no_usage config plans words script before now kids_old kids_new result (inl none) =
+    start_no_usage result none.cause
+beside_no_usage config plans words script before now kids_old kids_new result (inr ran) =
     subst IsNoUsage (sym ran.tells)
-    (keeps_no_usage config before now ran.companion ran.finished ran.makes
+    (keeps_no_usage config plans before now ran.companion ran.finished ran.makes
     (subst IsNoUsage (sym ran.makes.tells) (driven_no_child ran.makes.ended).0))
 
-pub pairs_no_usage : (config : DriveConfig) (child : Child) (left_old left_new : Option (List ℕ))
-    (before now : Stage) (kids_old kids_new : Children) (result : Status)
-    → Pairs config child left_old left_new before now kids_old kids_new result → IsNoUsage result
-pairs_no_usage config child left_old left_new before now kids_old kids_new result (inl none) =
+pub pairs_no_usage : (config : DriveConfig) (takes : Sheet → List Plan) (child : Child)
+    (left_old left_new : Option (List ℕ)) (before now : Stage) (kids_old kids_new : Children) (result : Status)
+    → Pairs config takes child left_old left_new before now kids_old kids_new result → IsNoUsage result
+pairs_no_usage config takes child left_old left_new before now kids_old kids_new result (inl none) =
     (script_no_dial left_old result none.cause).0.0
-pairs_no_usage config child left_old left_new before now kids_old kids_new result (inr ran) =
-    beside_no_usage config _ ran.text before now kids_old kids_new result ran.beside
+pairs_no_usage config takes child left_old left_new before now kids_old kids_new result (inr ran) =
+    beside_no_usage config (takes empty_sheet) _ ran.text before now kids_old kids_new result ran.beside

@@ -3,6 +3,7 @@ use Rattle.std.specs.Prelude.{◌≡◌, ◌⊎◌, ℕ, Bool, true, false, List
 use Rattle.css_model.specs.History.{Address, History}
 use Rattle.css_agree.specs.Promise as agree
 use Rattle.css_drive.specs.declared.config.DriveConfig.{DriveConfig}
+use Rattle.css_follow.specs.Following.{Plan}
 use Rattle.css_follow.specs.Sheets.{sheet_in}
 use Rattle.css_follow.specs.declared.sheet.Sheet.{Sheet}
 use Rattle.css_schedule.specs.declared.line.ScriptLine.{ScriptLine}
@@ -131,11 +132,11 @@ pub record ByAgree (source : SourceUse) (sink : SinkUse) (result : Status) : Typ
 
 -- ---- `companion`
 -- what became of the sheet and of the run that the options ask for
-abbrev pub CompanionsBy : CompanionAsked → SourceUse → Stage → Stage → Status → Type 0
-CompanionsBy asked source before now result =
+abbrev pub CompanionsBy : CompanionAsked → (Sheet → List Plan) → SourceUse → Stage → Stage → Status → Type 0
+CompanionsBy asked takes source before now result =
     MakesNoRun source.left_old before now result
     ⊎ ((run : DriveConfig) × IsAskedRun asked.options asked.cii run
-    × RunsBySheet run source.left_old source.left_new before now result)
+    × RunsBySheet run takes source.left_old source.left_new before now result)
 
 -- a run that the options ask for ended as its calls say, unless memory ran out
 abbrev pub EndsAsAsked : OptionsAsked → Address → Option History → Option History → Status → Type 0
@@ -144,10 +145,11 @@ EndsAsAsked asked cii before now result =
 
 -- Each report is that of what the outside gave before it, each interval contains the position that the last control
 -- timestamp received assigns to the television's wall clock, in every world that explains what the outside gave, and
--- the sink gained the line of each report, and what the followers said of it.
+-- the sink gained the line of each report, and what the followers said of it by the plans that the sheet gives them.
 pub record ByCompanion (asked : CompanionAsked) (source : SourceUse) (sink : SinkUse) (outside : OutsideUse)
     (followers : FollowersUse) (result : Status) : Type 0 where
-  pub ran : CompanionsBy asked source (stage_before sink outside followers) (stage_after sink outside followers) result
+  pub ran : CompanionsBy asked followers.takes source (stage_before sink outside followers)
+      (stage_after sink outside followers) result
   -- over devices that don't fail, dials aside, a run by a sheet ends as its calls say
   pub complete : (bytes : List ℕ) (sheet : Sheet) → source.left_old ≡ Some bytes → sheet_in bytes ≡ Ok sheet
       → HasNotFailed source.faults_old source.faults_new → HasNotFailed sink.faults_old sink.faults_new
@@ -167,11 +169,12 @@ pub record ByTv (asked : TvAsked) (source : SourceUse) (outside : OutsideUse) (r
 
 -- ---- `pair`
 -- what became of the script, of the child and of the run that the options ask for
-abbrev pub PairsBy : PairAsked → SourceUse → Stage → Stage → Children → Children → Status → Type 0
-PairsBy asked source before now kids_old kids_new result =
+abbrev pub PairsBy : PairAsked → (Sheet → List Plan) → SourceUse → Stage → Stage → Children → Children → Status → Type 0
+PairsBy asked takes source before now kids_old kids_new result =
     PairsNone source.left_old before now kids_old kids_new result
     ⊎ ((run : DriveConfig) × IsAskedRun asked.companion (address_at asked.tv.port) run
-    × PairsByScript run (asked_child asked.tv) source.left_old source.left_new before now kids_old kids_new result)
+    × PairsByScript run takes (asked_child asked.tv) source.left_old source.left_new before now kids_old kids_new
+    result)
 
 -- a run that the options ask for ended as its calls say, and so did the child, unless memory ran out
 abbrev pub PairsAsAsked : OptionsAsked → Address → Option History → Option History → Status → Type 0
@@ -182,8 +185,8 @@ PairsAsAsked asked cii before now result =
 -- and was waited for once.
 pub record ByPair (asked : PairAsked) (source : SourceUse) (sink : SinkUse) (outside : OutsideUse)
     (spawner : SpawnerUse) (followers : FollowersUse) (result : Status) : Type 0 where
-  pub ran : PairsBy asked source (stage_before sink outside followers) (stage_after sink outside followers)
-      spawner.children_old spawner.children_new result
+  pub ran : PairsBy asked followers.takes source (stage_before sink outside followers)
+      (stage_after sink outside followers) spawner.children_old spawner.children_new result
   -- over devices that don't fail, dials aside, a run beside a child with a script ends as its calls say
   pub complete : (bytes : List ℕ) (script : List ScriptLine) → source.left_old ≡ Some bytes
       → script_in bytes ≡ Ok script

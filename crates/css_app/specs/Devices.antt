@@ -2,6 +2,8 @@
 use Rattle.std.specs.Prelude.{ℕ, List, Option}
 use Rattle.css_model.specs.History.{History}
 use Rattle.css_outside.specs.Outsides.{Counts}
+use Rattle.css_follow.specs.Following.{Plan}
+use Rattle.css_follow.specs.declared.sheet.Sheet.{Sheet}
 use Rattle.css_drive.specs.Listening.{Listener}
 use Rattle.css_app.specs.Live.{Stage, stage}
 use Rattle.css_app.specs.Pairs.{Children}
@@ -55,13 +57,14 @@ spawner_use children_old children_new faults_old faults_new =
       faults_new = faults_new;
     }
 
--- what each of the followers has heard and said
+-- the plans that a sheet gives the followers, and what each of them has heard and said
 pub record FollowersUse : Type 0 where
+  pub takes : Sheet → List Plan
   pub heard_old : List Listener
   pub heard_new : List Listener
 
-abbrev pub followers_use : List Listener → List Listener → FollowersUse
-followers_use heard_old heard_new = record { heard_old = heard_old; heard_new = heard_new }
+abbrev pub followers_use : (Sheet → List Plan) → List Listener → List Listener → FollowersUse
+followers_use takes heard_old heard_new = record { takes = takes; heard_old = heard_old; heard_new = heard_new }
 
 -- what there is to see of the devices of a companion's run
 abbrev pub stage_before : SinkUse → OutsideUse → FollowersUse → Stage

@@ -7,7 +7,7 @@ use Rattle.css_lines.specs.declared.ending.Stop.TheVariants as stops
 use Rattle.css_model.specs.History.{History}
 use Rattle.css_outside.specs.Faults.{HasRisen}
 use Rattle.css_outside.specs.Outsides.{with_entries}
-use Rattle.css_follow.specs.Following.{Seen}
+use Rattle.css_follow.specs.Following.{Plan, Seen}
 use Rattle.css_follow.specs.Sheets.{sheet_in}
 use Rattle.css_follow.specs.declared.fault.SheetFault.TheVariants.{Line}
 use Rattle.css_follow.specs.declared.line.Form.{Form}
@@ -15,7 +15,7 @@ use Rattle.css_follow.specs.declared.sheet.Sheet.{Sheet}
 use Rattle.css_drive.specs.CompanionDue as companion
 use Rattle.css_drive.specs.CompanionDue.{IsProperRun}
 use Rattle.css_drive.specs.CompanionRun.{Ran}
-use Rattle.css_drive.specs.Listening.{Listener, all_seen}
+use Rattle.css_drive.specs.Listening.{Listener, all_plans, all_seen}
 use Rattle.css_drive.specs.Proper.{IsProper, Ends}
 use Rattle.css_drive.specs.TvDue as tv
 use Rattle.css_drive.specs.TvDue.{TvRun}
@@ -136,10 +136,11 @@ pub record Stage : Type 0 where
 abbrev pub stage : Option (List ℕ) → Option History → List Listener → Stage
 stage holds told listeners = record { holds = holds; told = told; heard = all_seen listeners }
 
--- A run was made, which these followers followed, and the status says how it ended.
-pub record MakesRun (config : DriveConfig) (before now : Stage) (result : Status) : Type 0 where
+-- A run was made, which followers with these plans followed, and the status says how it ended.
+pub record MakesRun (config : DriveConfig) (plans : List Plan) (before now : Stage) (result : Status) : Type 0 where
   pub followers : List Listener
   pub followed : List Listener
+  pub planned : all_plans followers ≡ plans
   pub began : all_seen followers ≡ before.heard
   pub heard : all_seen followed ≡ now.heard
   pub ended : Driven
@@ -151,17 +152,19 @@ pub record MakesNoRun (left : Option (List ℕ)) (before now : Stage) (result : 
   pub untouched : now ≡ before
   pub cause : HasNoSheet left result
 
--- the source was read to its end, its bytes are a cue sheet, and then a run was made
-pub record RunsBySheet (config : DriveConfig) (left_old left_new : Option (List ℕ)) (before now : Stage)
-    (result : Status) : Type 0 where
+-- The source was read to its end, its bytes are a cue sheet, and then a run was made, which the followers followed by
+-- the plans that this sheet gives them.
+pub record RunsBySheet (config : DriveConfig) (takes : Sheet → List Plan) (left_old left_new : Option (List ℕ))
+    (before now : Stage) (result : Status) : Type 0 where
   pub sheet : Sheet
   pub gives : GivesSheet left_old left_new sheet
-  pub makes : MakesRun config before now result
+  pub makes : MakesRun config (takes sheet) before now result
 
 -- what `companion` comes to
-abbrev pub Companions : DriveConfig → Option (List ℕ) → Option (List ℕ) → Stage → Stage → Status → Type 0
-Companions config left_old left_new before now result =
-    MakesNoRun left_old before now result ⊎ RunsBySheet config left_old left_new before now result
+abbrev pub Companions : DriveConfig → (Sheet → List Plan) → Option (List ℕ) → Option (List ℕ) → Stage → Stage → Status
+    → Type 0
+Companions config takes left_old left_new before now result =
+    MakesNoRun left_old before now result ⊎ RunsBySheet config takes left_old left_new before now result
 
 -- the run was made to an end that was due
 pub record IsAsDue (config : DriveConfig) (before now : Option History) (result : Status) : Type 0 where

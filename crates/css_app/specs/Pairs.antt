@@ -9,6 +9,8 @@ use Rattle.css_model.specs.History.{Address, History}
 use Rattle.css_outside.specs.Spawners.{Spawned, Started, Finished, TellsSpawned}
 use Rattle.css_outside.specs.declared.fault.OutFault.{OutFault}
 use Rattle.css_outside.specs.declared.fault.OutFault.TheVariants as fault
+use Rattle.css_follow.specs.Following.{Plan}
+use Rattle.css_follow.specs.declared.sheet.Sheet.{Sheet}
 use Rattle.css_drive.specs.declared.config.DriveConfig.{DriveConfig}
 use Rattle.css_schedule.specs.declared.line.ScriptLine.{ScriptLine}
 use Rattle.css_app.specs.declared.child.Child.{Child}
@@ -36,6 +38,10 @@ child_words child turns =
 -- where its session of CSS-CII is dialled: `ws://127.0.0.1:P/cii`
 abbrev pub address_at : ℕ → Address
 address_at port = record { host = codes "127.0.0.1"; port = port; path = codes "/cii" }
+
+-- the sheet without a line, which the followers of a run beside a child have
+abbrev pub empty_sheet : Sheet
+empty_sheet = record { cues = []; meter = None }
 
 -- what there is to see of the children: what the spawner tells, and how many are running
 pub record Children : Type 0 where
@@ -87,11 +93,12 @@ pub record StartsNone (before now : Stage) (kids_old kids_new : Children) (resul
   pub children : kids_new ≡ kids_old
   pub cause : IsNoStart result
 
--- The child was started once with these words and this script, a run was made, and then the child was waited for once.
-pub record RunsBeside (config : DriveConfig) (words : List (List ℕ)) (script : List ℕ) (before now : Stage)
-    (kids_old kids_new : Children) (result : Status) : Type 0 where
+-- The child was started once with these words and this script, a run was made, which followers with these plans
+-- followed, and then the child was waited for once.
+pub record RunsBeside (config : DriveConfig) (plans : List Plan) (words : List (List ℕ)) (script : List ℕ)
+    (before now : Stage) (kids_old kids_new : Children) (result : Status) : Type 0 where
   pub companion : Status
-  pub makes : MakesRun config before now companion
+  pub makes : MakesRun config plans before now companion
   pub finished : Result ℤ OutFault
   pub told : TellsSpawned (option_map (λ told. Started words script ∷ told) kids_old.told) kids_new.told finished
       Finished
@@ -99,10 +106,11 @@ pub record RunsBeside (config : DriveConfig) (words : List (List ℕ)) (script :
       (λ _. kids_new.running ≡ kids_old.running + 1)
   pub tells : result ≡ with_child companion finished
 
-abbrev pub Beside : DriveConfig → List (List ℕ) → List ℕ → Stage → Stage → Children → Children → Status → Type 0
-Beside config words script before now kids_old kids_new result =
+abbrev pub Beside : DriveConfig → List Plan → List (List ℕ) → List ℕ → Stage → Stage → Children → Children → Status
+    → Type 0
+Beside config plans words script before now kids_old kids_new result =
     StartsNone before now kids_old kids_new result
-    ⊎ RunsBeside config words script before now kids_old kids_new result
+    ⊎ RunsBeside config plans words script before now kids_old kids_new result
 
 -- no child was started and no run made, since there is no script, or memory ran out
 pub record PairsNone (left : Option (List ℕ)) (before now : Stage) (kids_old kids_new : Children) (result : Status)
@@ -111,19 +119,22 @@ pub record PairsNone (left : Option (List ℕ)) (before now : Stage) (kids_old k
   pub children : kids_new ≡ kids_old
   pub cause : HasNoScript left result
 
--- the source was read to its end, and a child was to be started with its bytes, which are a script
-pub record PairsByScript (config : DriveConfig) (child : Child) (left_old left_new : Option (List ℕ))
-    (before now : Stage) (kids_old kids_new : Children) (result : Status) : Type 0 where
+-- The source was read to its end, and a child was to be started with its bytes, which are a script. The followers have
+-- the plans that the empty sheet gives them.
+pub record PairsByScript (config : DriveConfig) (takes : Sheet → List Plan) (child : Child)
+    (left_old left_new : Option (List ℕ)) (before now : Stage) (kids_old kids_new : Children) (result : Status)
+    : Type 0 where
   pub text : List ℕ
   pub gives : GivesScriptText left_old left_new text
-  pub beside : Beside config (child_words child config.turns) text before now kids_old kids_new result
+  pub beside : Beside config (takes empty_sheet) (child_words child config.turns) text before now kids_old kids_new
+      result
 
 -- what `pair` comes to
-abbrev pub Pairs : DriveConfig → Child → Option (List ℕ) → Option (List ℕ) → Stage → Stage → Children → Children
-    → Status → Type 0
-Pairs config child left_old left_new before now kids_old kids_new result =
+abbrev pub Pairs : DriveConfig → (Sheet → List Plan) → Child → Option (List ℕ) → Option (List ℕ) → Stage → Stage
+    → Children → Children → Status → Type 0
+Pairs config takes child left_old left_new before now kids_old kids_new result =
     PairsNone left_old before now kids_old kids_new result
-    ⊎ PairsByScript config child left_old left_new before now kids_old kids_new result
+    ⊎ PairsByScript config takes child left_old left_new before now kids_old kids_new result
 
 -- the companion's run was made to an end that was due, and the child ended
 pub record ArePairedAsDue (config : DriveConfig) (before now : Option History) (result : Status) : Type 0 where

@@ -65,7 +65,7 @@ pub(crate) fn companion_by<S: Source, K: Sink, O: Outside, F: Listens>(
         (source_use (S.left source.old) (S.left source.new) (S.faults source.old) (S.faults source.new))
         (sink_use (K.holds sink.old) (K.holds sink.new) (K.faults sink.old) (K.faults sink.new))
         (outside_use (O.told outside.old) (O.told outside.new) (O.counts outside.old) (O.counts outside.new))
-        (followers_use (F.heard followers.old) (F.heard followers.new)) result }
+        (followers_use (F.takes followers.old) (F.heard followers.old) (F.heard followers.new)) result }
     ensures counted_reads { CountsReads (S.faults source.old) (S.faults source.new) result }
     ensures counted_writes { CountsWrites (K.faults sink.old) (K.faults sink.new) result }
     ensures counted_calls { CountsCalls (O.counts outside.old).faults (O.counts outside.new).faults result }
@@ -148,7 +148,7 @@ pub(crate) fn pair_by<S: Source, K: Sink, O: Outside, P: Spawner, F: Listens>(
         (outside_use (O.told outside.old) (O.told outside.new) (O.counts outside.old) (O.counts outside.new))
         (spawner_use (children (P.told spawner.old) (P.running spawner.old))
         (children (P.told spawner.new) (P.running spawner.new)) (P.faults spawner.old) (P.faults spawner.new))
-        (followers_use (F.heard followers.old) (F.heard followers.new)) result }
+        (followers_use (F.takes followers.old) (F.heard followers.old) (F.heard followers.new)) result }
     ensures counted_reads { CountsReads (S.faults source.old) (S.faults source.new) result }
     ensures counted_writes { CountsWrites (K.faults sink.old) (K.faults sink.new) result }
     ensures counted_calls { CountsCalls (O.counts outside.old).faults (O.counts outside.new).faults result }

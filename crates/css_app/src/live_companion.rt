@@ -2,6 +2,7 @@ ghost use Rattle.std.specs.Prelude.{◌≡◌, List, ℕ, Ok, Some};
 ghost use Rattle.css_drive.specs.Configs.{IsWritable};
 ghost use Rattle.css_follow.specs.Sheets.{sheet_in};
 ghost use Rattle.css_follow.specs.declared.sheet.Sheet.{Sheet};
+ghost use Rattle.css_drive.specs.Listening.{all_plans};
 ghost use Rattle.css_app.specs.Ended.{CountsReads, CountsWrites, HasNotFailed};
 ghost use Rattle.css_app.specs.Live.{Companions, CountsCalls, CountsDials, EndsAsDue, MakesRun, stage};
 
@@ -22,7 +23,7 @@ pub(crate) fn make_run<K: Sink, O: Outside, F: Listens>(
     followers: &mut F,
 ) -> Status
     requires { IsWritable config }
-    ensures makes { MakesRun config
+    ensures makes { MakesRun config (all_plans (F.heard followers.old))
         (stage (K.holds sink.old) (O.told outside.old) (F.heard followers.old))
         (stage (K.holds sink.new) (O.told outside.new) (F.heard followers.new)) result }
     ensures reads { (count : ℕ) → CountsReads count count result }
@@ -34,8 +35,8 @@ pub(crate) fn make_run<K: Sink, O: Outside, F: Listens>(
     status_of(drive_companion(alloc, config, sink, outside, followers))
 }
 
-/// Reads a cue sheet from the source, to its end, and then makes a companion's run, which the followers of the sheet
-/// follow.
+/// Reads a cue sheet from the source, to its end, and then makes a companion's run, which the followers follow by this
+/// sheet.
 ///
 /// `BadSheet` comes exactly at the first line that is outside the grammar of sheets. With it, with `ReadFault`, and
 /// where memory ran out before the run, nothing was asked of the outside, and nothing was written. Then the status says
@@ -51,8 +52,8 @@ pub fn companion<S: Source, K: Sink, O: Outside, F: Listens>(
 ) -> Status
     requires { IsWritable config }
     // What became of the sheet and of the run: each report is what the calls of the outside give, and each interval of
-    // it is true.
-    ensures ran { Companions config (S.left source.old) (S.left source.new)
+    // it is true. The followers speak by the plans that the sheet gives them.
+    ensures ran { Companions config (F.takes followers.old) (S.left source.old) (S.left source.new)
         (stage (K.holds sink.old) (O.told outside.old) (F.heard followers.old))
         (stage (K.holds sink.new) (O.told outside.new) (F.heard followers.new)) result }
     // Over devices that don't fail, dials aside, a run by a sheet ends as its calls say.

@@ -1,6 +1,6 @@
-ghost use Rattle.std.specs.Prelude.{◌≡◌, List, ℕ, IfOk, Ok, Some};
+ghost use Rattle.std.specs.Prelude.{◌≡◌, List, ℕ, IfOk, OnOk, Ok, Some};
 ghost use Rattle.css_drive.specs.Configs.{IsWritable};
-ghost use Rattle.css_drive.specs.Listening.{all_seen};
+ghost use Rattle.css_drive.specs.Listening.{all_plans, all_seen};
 ghost use Rattle.css_schedule.specs.declared.line.ScriptLine.{ScriptLine};
 ghost use Rattle.css_app.specs.Ended.{CountsReads, CountsWrites, HasNotFailed};
 ghost use Rattle.css_app.specs.Live.{CountsCalls, CountsDials, CountsSpawns, stage};
@@ -67,7 +67,7 @@ fn run_beside<K: Sink, O: Outside, P: Spawner, F: Listens>(
     followers: &mut F,
 ) -> Status
     requires { IsWritable config }
-    ensures ran { Beside config words.now script.now
+    ensures ran { Beside config (all_plans (F.heard followers.old)) words.now script.now
         (stage (K.holds sink.old) (O.told outside.old) (F.heard followers.old))
         (stage (K.holds sink.new) (O.told outside.new) (F.heard followers.new))
         (children (P.told spawner.old) (P.running spawner.old))
@@ -102,6 +102,7 @@ fn prepare<F: Listens>(
 ) -> Result<Vec<Text>, Memory>
     ensures words { IfOk result (λ words. words.items ≡ pairs.child_words child.now turns) }
     ensures heard { all_seen (F.heard followers.new) ≡ all_seen (F.heard followers.old) }
+    ensures plans { OnOk result (all_plans (F.heard followers.new) ≡ F.takes followers.old pairs.empty_sheet) }
 {
     followers.prepare(&Sheet::empty(alloc))?;
     child_words(alloc, child, turns)
@@ -128,8 +129,8 @@ pub fn pair<S: Source, K: Sink, O: Outside, P: Spawner, F: Listens>(
     requires writable { IsWritable config }
     requires dials { config.cii ≡ pairs.address_at child.now.port }
     // What became of the script, of the child, and of the run: each report is what the calls of the outside give, and
-    // each interval of it is true.
-    ensures ran { Pairs config child.now (S.left source.old) (S.left source.new)
+    // each interval of it is true. The followers speak by the plans that the empty sheet gives them.
+    ensures ran { Pairs config (F.takes followers.old) child.now (S.left source.old) (S.left source.new)
         (stage (K.holds sink.old) (O.told outside.old) (F.heard followers.old))
         (stage (K.holds sink.new) (O.told outside.new) (F.heard followers.new))
         (children (P.told spawner.old) (P.running spawner.old))

@@ -109,7 +109,7 @@ fn run_command<S: Source, K: Sink, O: Outside, P: Spawner, F: Listens>(
         (outside_use (O.told outside.old) (O.told outside.new) (O.counts outside.old) (O.counts outside.new))
         (spawner_use (children (P.told spawner.old) (P.running spawner.old))
         (children (P.told spawner.new) (P.running spawner.new)) (P.faults spawner.old) (P.faults spawner.new))
-        (followers_use (F.heard followers.old) (F.heard followers.new)) result }
+        (followers_use (F.takes followers.old) (F.heard followers.old) (F.heard followers.new)) result }
     ensures same_source { uses_source (offered (asked_of command)) ≡ false → source.new ≡ source.old }
     ensures same_sink { uses_sink (offered (asked_of command)) ≡ false → sink.new ≡ sink.old }
     ensures same_outside { uses_outside (offered (asked_of command)) ≡ false → outside.new ≡ outside.old }
@@ -189,7 +189,7 @@ pub fn run<S: Source, K: Sink, O: Outside, P: Spawner, F: Listens>(
         (source_use (S.left source.old) (S.left source.new) (S.faults source.old) (S.faults source.new))
         (sink_use (K.holds sink.old) (K.holds sink.new) (K.faults sink.old) (K.faults sink.new))
         (outside_use (O.told outside.old) (O.told outside.new) (O.counts outside.old) (O.counts outside.new))
-        (followers_use (F.heard followers.old) (F.heard followers.new)) result }
+        (followers_use (F.takes followers.old) (F.heard followers.old) (F.heard followers.new)) result }
 
     // A television by its script: each call is the one that is due.
     ensures tv { (asked : TvAsked) → asked_in (map string_bytes words.now) ≡ Ok (commands.Tv asked)
@@ -204,7 +204,7 @@ pub fn run<S: Source, K: Sink, O: Outside, P: Spawner, F: Listens>(
         (outside_use (O.told outside.old) (O.told outside.new) (O.counts outside.old) (O.counts outside.new))
         (spawner_use (children (P.told spawner.old) (P.running spawner.old))
         (children (P.told spawner.new) (P.running spawner.new)) (P.faults spawner.old) (P.faults spawner.new))
-        (followers_use (F.heard followers.old) (F.heard followers.new)) result }
+        (followers_use (F.takes followers.old) (F.heard followers.old) (F.heard followers.new)) result }
 
     // A fault is told only where the device has failed. A failure of the spawner yields to the companion's status, and
     // of dials it is told where every one failed; no other failure of a device goes untold.

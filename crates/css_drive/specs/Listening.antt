@@ -13,6 +13,10 @@ pub record Listener : Type 0 where
 abbrev pub all_seen : List Listener → List Seen
 all_seen listeners = map (λ listener. listener.seen) listeners
 
+-- by which plan each of them speaks
+abbrev pub all_plans : List Listener → List Plan
+all_plans listeners = map (λ listener. listener.plan) listeners
+
 -- what it says of a report
 abbrev pub words_of : Report → Listener → List ℕ
 words_of report listener = says_by listener.plan listener.seen report

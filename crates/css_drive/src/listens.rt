@@ -1,6 +1,8 @@
 //! Those who follow a companion's run.
-ghost use Rattle.std.specs.Prelude.{◌≡◌, List};
-ghost use Rattle.css_drive.specs.Listening.{Listener, TellsEach, all_seen};
+ghost use Rattle.std.specs.Prelude.{◌≡◌, List, OnOk};
+ghost use Rattle.css_follow.specs.Following.{Plan};
+ghost use Rattle.css_follow.specs.declared.sheet.Sheet as sheets;
+ghost use Rattle.css_drive.specs.Listening.{Listener, TellsEach, all_plans, all_seen};
 
 use css_companion::Report;
 use css_follow::{Follower, Sheet};
@@ -11,10 +13,14 @@ pub trait Listens {
     /// What there is to see of each of them, and by which plan each speaks.
     ghost heard: { Self → List Listener };
 
-    /// Hands a cue sheet to each of them, up to the first that lacks memory. Whatever it answers, each of them has
-    /// heard and said what it had before, and is done where it was.
+    /// The plans that a cue sheet gives them, in their order.
+    ghost takes: { Self → sheets.Sheet → List Plan };
+
+    /// Hands a cue sheet to each of them, up to the first that lacks memory: each speaks by the plan of this sheet from
+    /// now on. Whatever it answers, each of them has heard and said what it had before, and is done where it was.
     fn prepare(&mut self, sheet: &Sheet) -> Result<(), Memory>
-        ensures { all_seen (heard self.new) ≡ all_seen (heard self.old) };
+        ensures same_seen { all_seen (heard self.new) ≡ all_seen (heard self.old) }
+        ensures as_sheet { OnOk result (all_plans (heard self.new) ≡ takes self.old sheet.now) };
 
     /// Tells each of them a report, and adds to `out` what they say of it by their plans, which stay. Those that are
     /// done stay as they are and say nothing. After want of memory the first of them have heard the report.
@@ -30,6 +36,8 @@ impl Listens for Nobody {
     ghost use Rattle.std.specs.Prelude.{[]};
 
     ghost heard = { λ _. [] };
+
+    ghost takes = { λ _ _. [] };
 
     fn prepare(&mut self, _sheet: &Sheet) -> Result<(), Memory> {
         Ok(())
@@ -53,6 +61,8 @@ impl<A: Follower, B: Listens> Listens for Before<A, B> {
     ghost use Rattle.std.specs.Prelude.{◌∷◌};
 
     ghost heard = { λ both. record { plan = A.plan both.first; seen = A.seen both.first } ∷ B.heard both.rest };
+
+    ghost takes = { λ both sheet. A.takes both.first sheet ∷ B.takes both.rest sheet };
 
     fn prepare(&mut self, sheet: &Sheet) -> Result<(), Memory> {
         self.first.prepare(sheet)?;

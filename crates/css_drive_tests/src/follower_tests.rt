@@ -23,6 +23,8 @@ impl Follower for Lacking {
 
     ghost plan = { λ _. record { says = λ _ _. []; ends = λ _ _. true } };
 
+    ghost takes = { λ _ _. record { says = λ _ _. []; ends = λ _ _. true } };
+
     ghost says = { λ _ _. [] };
 
     ghost ends = { λ _ _. true };

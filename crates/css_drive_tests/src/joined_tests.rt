@@ -314,6 +314,8 @@ impl Listens for Reports {
 
     ghost heard = { λ _. [] };
 
+    ghost takes = { λ _ _. [] };
+
     fn prepare(&mut self, _sheet: &Sheet) -> Result<(), Memory> {
         Ok(())
     }

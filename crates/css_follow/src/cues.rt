@@ -56,6 +56,8 @@ impl Follower for Cues {
 
     ghost plan = { λ c. plan_of c.cues };
 
+    ghost takes = { λ _ sheet. plan_of sheet.cues };
+
     ghost says = { says_of };
 
     ghost ends = { ends_of };

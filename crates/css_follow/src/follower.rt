@@ -1,6 +1,7 @@
 ghost use Rattle.std.specs.Prelude.{◌≡◌, ◌++◌, List, ℕ, Bool, not, IfOk, OnOk, OnErr};
 ghost use Rattle.css_companion.specs.declared.report.Report.{Report};
 ghost use Rattle.css_follow.specs.Following.{Seen, Plan, RestsWhenDone, told, says_by, ends_by};
+ghost use Rattle.css_follow.specs.declared.sheet.Sheet as sheets;
 
 use crate::sheet::Sheet;
 use css_companion::Report;
@@ -15,16 +16,20 @@ pub trait Follower: Drop {
     /// cue sheet changes it.
     ghost plan: { Self → Plan };
 
+    /// The plan that a cue sheet gives it.
+    ghost takes: { Self → sheets.Sheet → Plan };
+
     /// What it would say of a report now.
     ghost says: { Self → Report → List ℕ };
 
     /// Whether it would be done after a report that it hears now.
     ghost ends: { Self → Report → Bool };
 
-    /// Takes a cue sheet, which says what to follow. Whatever it answers, it has heard and said what it had before, and
-    /// is done where it was.
+    /// Takes a cue sheet, which says what to follow: it speaks by the plan of this sheet from now on. Whatever it
+    /// answers, it has heard and said what it had before, and is done where it was.
     fn prepare(&mut self, sheet: &Sheet) -> Result<(), Memory>
-        ensures { seen self.new ≡ seen self.old };
+        ensures same_seen { seen self.new ≡ seen self.old }
+        ensures as_sheet { OnOk result (plan self.new ≡ takes self.old sheet.now) };
 
     /// Hears a report, and adds to `out` what it says of it. It answers whether it goes on: false where it is done now.
     ///

@@ -122,6 +122,8 @@ impl Follower for Meter {
 
     ghost plan = { λ m. plan_of m.count };
 
+    ghost takes = { λ _ sheet. plan_of (count_of sheet.meter) };
+
     ghost says = { says_of };
 
     ghost ends = { ends_of };

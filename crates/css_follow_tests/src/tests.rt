@@ -185,6 +185,8 @@ impl Follower for Lacks {
 
     ghost plan = { λ _. record { says = λ _ _. []; ends = λ _ _. false } };
 
+    ghost takes = { λ _ _. record { says = λ _ _. []; ends = λ _ _. false } };
+
     ghost says = { λ _ _. [] };
 
     ghost ends = { λ _ _. false };

@@ -6,7 +6,7 @@ use Rattle.css_app.proofs.by_words.companion_by.Goals as goal
 
 pub returns-clause-does : goal.returns-clause-does
 returns-clause-does g c = record {
-  ran = companions_by (companion_of c.args.words) c.run_of-run.result
+  ran = companions_by (companion_of c.args.words) c.run_of-run.result _
       (source_use (g.S.Source.left c.args.source.now) (g.S.Source.left c.companion.new.source)
       (g.S.Source.faults c.args.source.now) (g.S.Source.faults c.companion.new.source)) _ _ _
       c.run_of-run.ensures.asked c.companion.ensures.ran;
@@ -16,4 +16,4 @@ returns-clause-does g c = record {
 }
 
 pub returns-clause-spawns : goal.returns-clause-spawns
-returns-clause-spawns g c = (companions_no_child _ _ _ _ _ _ c.companion.ensures.ran).1
+returns-clause-spawns g c = (companions_no_child _ _ _ _ _ _ _ c.companion.ensures.ran).1

@@ -12,7 +12,7 @@ returns-in-Err-clause-does g c = record {
 
 pub returns-clause-does : goal.returns-clause-does
 returns-clause-does g c = record {
-  ran = pairs_by (pair_of c.args.words) c.child_of-child.result c.in-Ok.cii c.run_of-run.result
+  ran = pairs_by (pair_of c.args.words) c.child_of-child.result c.in-Ok.cii c.run_of-run.result _
       (source_use (g.S.Source.left c.args.source.now) (g.S.Source.left c.pair.new.source)
       (g.S.Source.faults c.args.source.now) (g.S.Source.faults c.pair.new.source)) _ _ _ _ _
       c.child_of-child.ensures c.in-Ok.ensures c.run_of-run.ensures.asked c.pair.ensures.ran;

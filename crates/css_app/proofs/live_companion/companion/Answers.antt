@@ -1,4 +1,5 @@
 use Rattle.std.proofs.Common.{subst, sym, ap, refl, inl, inr}
+use Rattle.css_drive.specs.Listening.{all_plans}
 use Rattle.css_app.specs.Ended.{CountsReads}
 use Rattle.css_app.specs.Live.{MakesRun, Stage, stage}
 use Rattle.css_app.proofs.Live.{as_due, sheet_lacks}
@@ -32,7 +33,7 @@ returns-in-Err-prepared-clause-ran g c =
             told = g.O.Outside.told c.args.outside.now;
             heard = seen;
           })
-          c.prepare-prepared.ensures;
+          c.prepare-prepared.ensures.same_seen;
       cause = tt;
     })
 
@@ -42,16 +43,21 @@ returns-in-Ok-prepared-clause-ran g c =
     inr (record {
       sheet = c.in-Ok.sheet;
       gives = c.in-Ok.ensures.value;
-      makes = subst (λ seen. MakesRun c.args.config
+      makes = subst (λ plans. MakesRun c.args.config plans
+          (stage (g.K.Sink.holds c.args.sink.now) (g.O.Outside.told c.args.outside.now)
+          (g.F.Listens.heard c.args.followers.now))
+          (stage (g.K.Sink.holds c.make_run.new.sink) (g.O.Outside.told c.make_run.new.outside)
+          (g.F.Listens.heard c.make_run.new.followers)) c.make_run.result) c.in-Ok-prepared.ensures.as_sheet
+          (subst (λ seen. MakesRun c.args.config (all_plans (g.F.Listens.heard c.prepare-prepared.new.self))
           (record { holds = g.K.Sink.holds c.args.sink.now; told = g.O.Outside.told c.args.outside.now; heard = seen })
           (stage (g.K.Sink.holds c.make_run.new.sink) (g.O.Outside.told c.make_run.new.outside)
-          (g.F.Listens.heard c.make_run.new.followers)) c.make_run.result) c.prepare-prepared.ensures
-          c.make_run.ensures.makes;
+          (g.F.Listens.heard c.make_run.new.followers)) c.make_run.result) c.prepare-prepared.ensures.same_seen
+          c.make_run.ensures.makes);
     })
 
 pub returns-in-Ok-prepared-clause-complete : goal.returns-in-Ok-prepared-clause-complete
 returns-in-Ok-prepared-clause-complete g c bytes sheet is ok read wrote called =
-    as_due c.args.config _ _ _ _ _ _ _ c.make_run.ensures.makes c.make_run.ensures.counted_writes
+    as_due c.args.config _ _ _ _ _ _ _ _ c.make_run.ensures.makes c.make_run.ensures.counted_writes
     c.make_run.ensures.counted_calls wrote called
 
 pub returns-in-Ok-prepared-clause-counted_reads : goal.returns-in-Ok-prepared-clause-counted_reads

@@ -8,6 +8,7 @@ pub returns-clause-makes : goal.returns-clause-makes
 returns-clause-makes g c = record {
   followers = g.F.Listens.heard c.args.followers.now;
   followed = g.F.Listens.heard c.drive_companion.new.followers;
+  planned = refl;
   began = refl;
   heard = refl;
   ended = c.drive_companion.result;

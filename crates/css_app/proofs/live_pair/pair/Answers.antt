@@ -1,9 +1,9 @@
 use Rattle.std.proofs.Common.{List, subst, sym, ap, refl, inl, inr, ◌∙◌}
 use Rattle.css_follow.specs.Following.{Seen}
-use Rattle.css_drive.specs.Listening.{all_seen}
+use Rattle.css_drive.specs.Listening.{all_plans, all_seen}
 use Rattle.css_app.specs.Ended.{CountsReads}
 use Rattle.css_app.specs.Live.{Stage, stage}
-use Rattle.css_app.specs.Pairs.{Beside, children}
+use Rattle.css_app.specs.Pairs.{Beside, child_words, children}
 use Rattle.css_app.proofs.Live.{script_lacks}
 use Rattle.css_app.proofs.live_pair.pair.Goals as goal
 
@@ -56,17 +56,20 @@ returns-in-Ok-prepare-clause-ran g c =
     (g.F.Listens.heard c.run_beside.new.followers) in
     let old = children (g.P.Spawner.told c.args.spawner.now) (g.P.Spawner.running c.args.spawner.now) in
     let new = children (g.P.Spawner.told c.run_beside.new.spawner) (g.P.Spawner.running c.run_beside.new.spawner) in
+    let plans = all_plans (g.F.Listens.heard c.prepare.new.followers) in
     let words = c.deref.ensures.value ∙ c.in-Ok-prepare.ensures.words in
     inr (record {
       text = c.in-Ok.script.items;
       gives = c.in-Ok.ensures.value;
       beside =
-          subst (λ w. Beside c.args.config w c.in-Ok.script.items (at heard) now old
+          subst (λ p. Beside c.args.config p (child_words c.args.child.now c.args.config.turns) c.in-Ok.script.items
+          (at heard) now old new c.run_beside.result) c.in-Ok-prepare.ensures.plans
+          (subst (λ w. Beside c.args.config plans w c.in-Ok.script.items (at heard) now old
           new c.run_beside.result) words
-          (subst (λ t. Beside c.args.config c.deref.result.now t (at heard) now old
+          (subst (λ t. Beside c.args.config plans c.deref.result.now t (at heard) now old
           new c.run_beside.result) c.deref-in-Ok-prepare.ensures.value
-          (subst (λ h. Beside c.args.config c.deref.result.now c.deref-in-Ok-prepare.result.now (at h) now old new
-          c.run_beside.result) c.prepare.ensures.heard c.run_beside.ensures.ran));
+          (subst (λ h. Beside c.args.config plans c.deref.result.now c.deref-in-Ok-prepare.result.now (at h) now old new
+          c.run_beside.result) c.prepare.ensures.heard c.run_beside.ensures.ran)));
     })
 
 pub returns-in-Ok-prepare-clause-complete : goal.returns-in-Ok-prepare-clause-complete

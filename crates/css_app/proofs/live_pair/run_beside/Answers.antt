@@ -42,7 +42,7 @@ returns-in-Err-Memory-clause-complete g c wrote called spawned = inl refl
 -- the child was started
 pub returns-clause-ran : goal.returns-clause-ran
 returns-clause-ran g c =
-    inr (runs_beside c.args.config c.args.words.now c.args.script.now _ _ _ _ _ _ _ _ c.make_run-companion.result
+    inr (runs_beside c.args.config _ c.args.words.now c.args.script.now _ _ _ _ _ _ _ _ c.make_run-companion.result
     c.finish-finished.result c.with_child.result c.make_run-companion.ensures.makes c.in-Ok.ensures.told
     c.in-Ok.ensures.ok c.finish-finished.ensures.told c.finish-finished.ensures.ok c.finish-finished.ensures.err
     c.with_child.ensures)
@@ -55,42 +55,42 @@ returns-clause-complete g c wrote called spawned =
     (g.O.Outside.told c.make_run-companion.new.outside) c.make_run-companion.result c.finish-finished.result
     (g.P.Spawner.faults c.args.spawner.now) (g.P.Spawner.faults c.start.new.self)
     (g.P.Spawner.faults c.finish-finished.new.self)
-    (as_due c.args.config _ _ _ _ _ _ _ c.make_run-companion.ensures.makes
+    (as_due c.args.config _ _ _ _ _ _ _ _ c.make_run-companion.ensures.makes
     c.make_run-companion.ensures.counted_writes c.make_run-companion.ensures.counted_calls wrote called)
     c.in-Ok.ensures.counted c.finish-finished.ensures.counted spawned)
 
 pub returns-clause-reads : goal.returns-clause-reads
 returns-clause-reads g c n =
     subst (CountsReads n n) (sym c.with_child.ensures)
-    (keeps_reads _ _ _ c.make_run-companion.result c.finish-finished.result c.make_run-companion.ensures.makes n n
+    (keeps_reads _ _ _ _ c.make_run-companion.result c.finish-finished.result c.make_run-companion.ensures.makes n n
     (c.make_run-companion.ensures.reads n))
 
 pub returns-clause-counted_writes : goal.returns-clause-counted_writes
 returns-clause-counted_writes g c =
     subst (CountsWrites (g.K.Sink.faults c.args.sink.now) (g.K.Sink.faults c.make_run-companion.new.sink))
     (sym c.with_child.ensures)
-    (keeps_writes _ _ _ c.make_run-companion.result c.finish-finished.result c.make_run-companion.ensures.makes _ _
+    (keeps_writes _ _ _ _ c.make_run-companion.result c.finish-finished.result c.make_run-companion.ensures.makes _ _
     c.make_run-companion.ensures.counted_writes)
 
 pub returns-clause-counted_calls : goal.returns-clause-counted_calls
 returns-clause-counted_calls g c =
     subst (CountsCalls (g.O.Outside.counts c.args.outside.now).faults
     (g.O.Outside.counts c.make_run-companion.new.outside).faults) (sym c.with_child.ensures)
-    (keeps_calls _ _ _ c.make_run-companion.result c.finish-finished.result c.make_run-companion.ensures.makes _ _
+    (keeps_calls _ _ _ _ c.make_run-companion.result c.finish-finished.result c.make_run-companion.ensures.makes _ _
     c.make_run-companion.ensures.counted_calls)
 
 pub returns-clause-counted_dials : goal.returns-clause-counted_dials
 returns-clause-counted_dials g c =
     subst (CountsDials (g.O.Outside.counts c.args.outside.now).dial_faults
     (g.O.Outside.counts c.make_run-companion.new.outside).dial_faults) (sym c.with_child.ensures)
-    (keeps_dials _ _ _ c.make_run-companion.result c.finish-finished.result c.make_run-companion.ensures.makes _ _
+    (keeps_dials _ _ _ _ c.make_run-companion.result c.finish-finished.result c.make_run-companion.ensures.makes _ _
     c.make_run-companion.ensures.counted_dials)
 
 pub returns-clause-counted_spawns : goal.returns-clause-counted_spawns
 returns-clause-counted_spawns g c =
     subst (CountsSpawns (g.P.Spawner.faults c.args.spawner.now) (g.P.Spawner.faults c.finish-finished.new.self))
     (sym c.with_child.ensures)
-    (counts_spawns c.args.config _ _ c.make_run-companion.result c.finish-finished.result
+    (counts_spawns c.args.config _ _ _ c.make_run-companion.result c.finish-finished.result
     (g.P.Spawner.faults c.args.spawner.now) (g.P.Spawner.faults c.start.new.self)
     (g.P.Spawner.faults c.finish-finished.new.self) c.make_run-companion.ensures.makes c.in-Ok.ensures.counted
     c.finish-finished.ensures.counted)

@@ -107,7 +107,7 @@ returns-in-Err-Memory-clause-replay g c is =
     lacks (Ok Replay) (g.S.Source.left c.args.source.now) (g.K.Sink.holds c.args.sink.now)
     (g.O.Outside.told c.args.outside.now)
     (children (g.P.Spawner.told c.args.spawner.now) (g.P.Spawner.running c.args.spawner.now))
-    (g.F.Listens.heard c.args.followers.now) (g.S.Source.faults c.args.source.now)
+    (g.F.Listens.takes c.args.followers.now) (g.F.Listens.heard c.args.followers.now) (g.S.Source.faults c.args.source.now)
     (g.K.Sink.faults c.args.sink.now) (g.O.Outside.counts c.args.outside.now).faults
     (g.P.Spawner.faults c.args.spawner.now)
 
@@ -116,7 +116,7 @@ returns-in-Err-Memory-clause-agree g c is =
     lacks (Ok Agree) (g.S.Source.left c.args.source.now) (g.K.Sink.holds c.args.sink.now)
     (g.O.Outside.told c.args.outside.now)
     (children (g.P.Spawner.told c.args.spawner.now) (g.P.Spawner.running c.args.spawner.now))
-    (g.F.Listens.heard c.args.followers.now) (g.S.Source.faults c.args.source.now)
+    (g.F.Listens.takes c.args.followers.now) (g.F.Listens.heard c.args.followers.now) (g.S.Source.faults c.args.source.now)
     (g.K.Sink.faults c.args.sink.now) (g.O.Outside.counts c.args.outside.now).faults
     (g.P.Spawner.faults c.args.spawner.now)
 
@@ -125,7 +125,7 @@ returns-in-Err-Memory-clause-companion g c asked is =
     lacks (Ok (Companion asked)) (g.S.Source.left c.args.source.now) (g.K.Sink.holds c.args.sink.now)
     (g.O.Outside.told c.args.outside.now)
     (children (g.P.Spawner.told c.args.spawner.now) (g.P.Spawner.running c.args.spawner.now))
-    (g.F.Listens.heard c.args.followers.now) (g.S.Source.faults c.args.source.now)
+    (g.F.Listens.takes c.args.followers.now) (g.F.Listens.heard c.args.followers.now) (g.S.Source.faults c.args.source.now)
     (g.K.Sink.faults c.args.sink.now) (g.O.Outside.counts c.args.outside.now).faults
     (g.P.Spawner.faults c.args.spawner.now)
 
@@ -134,7 +134,7 @@ returns-in-Err-Memory-clause-tv g c asked is =
     lacks (Ok (Tv asked)) (g.S.Source.left c.args.source.now) (g.K.Sink.holds c.args.sink.now)
     (g.O.Outside.told c.args.outside.now)
     (children (g.P.Spawner.told c.args.spawner.now) (g.P.Spawner.running c.args.spawner.now))
-    (g.F.Listens.heard c.args.followers.now) (g.S.Source.faults c.args.source.now)
+    (g.F.Listens.takes c.args.followers.now) (g.F.Listens.heard c.args.followers.now) (g.S.Source.faults c.args.source.now)
     (g.K.Sink.faults c.args.sink.now) (g.O.Outside.counts c.args.outside.now).faults
     (g.P.Spawner.faults c.args.spawner.now)
 
@@ -143,6 +143,6 @@ returns-in-Err-Memory-clause-pair g c asked is =
     lacks (Ok (Pair asked)) (g.S.Source.left c.args.source.now) (g.K.Sink.holds c.args.sink.now)
     (g.O.Outside.told c.args.outside.now)
     (children (g.P.Spawner.told c.args.spawner.now) (g.P.Spawner.running c.args.spawner.now))
-    (g.F.Listens.heard c.args.followers.now) (g.S.Source.faults c.args.source.now)
+    (g.F.Listens.takes c.args.followers.now) (g.F.Listens.heard c.args.followers.now) (g.S.Source.faults c.args.source.now)
     (g.K.Sink.faults c.args.sink.now) (g.O.Outside.counts c.args.outside.now).faults
     (g.P.Spawner.faults c.args.spawner.now)
