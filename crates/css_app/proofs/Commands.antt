@@ -37,8 +37,8 @@ ends_as_asked asked cii run before now result is (inl memory) = inl memory
 ends_as_asked asked cii run before now result is (inr due) = inr (run, is, due)
 
 pub pairs_by : (asked : PairAsked) (child : Child) (cii : Address) (run : DriveConfig) (takes : Sheet → List Plan)
-    (source : SourceUse) (before now : Stage) (kids_old kids_new : Children) (result : Status) → child ≡ asked_child asked.tv
-    → cii ≡ address_at child.port → IsAskedRun asked.companion cii run
+    (source : SourceUse) (before now : Stage) (kids_old kids_new : Children) (result : Status)
+    → child ≡ asked_child asked.tv → cii ≡ address_at child.port → IsAskedRun asked.companion cii run
     → Pairs run takes child source.left_old source.left_new before now kids_old kids_new result
     → PairsBy asked takes source before now kids_old kids_new result
 pairs_by asked child cii run takes source before now kids_old kids_new result of dials is (inl none) = inl none
@@ -76,8 +76,8 @@ pairs_by_no_usage : (asked : PairAsked) (takes : Sheet → List Plan) (source : 
 pairs_by_no_usage asked takes source before now kids_old kids_new result (inl none) =
     (script_no_dial source.left_old result none.cause).0.0
 pairs_by_no_usage asked takes source before now kids_old kids_new result (inr ran) =
-    pairs_no_usage ran.0 takes (asked_child asked.tv) source.left_old source.left_new before now kids_old kids_new result
-    (inr ran.2)
+    pairs_no_usage ran.0 takes (asked_child asked.tv) source.left_old source.left_new before now kids_old kids_new
+    result (inr ran.2)
 
 -- Usage tells that the words are those of no command
 pub usage_only : (asked : Result Asked WordsFault) (source : SourceUse) (sink : SinkUse) (outside : OutsideUse)

@@ -107,42 +107,42 @@ returns-in-Err-Memory-clause-replay g c is =
     lacks (Ok Replay) (g.S.Source.left c.args.source.now) (g.K.Sink.holds c.args.sink.now)
     (g.O.Outside.told c.args.outside.now)
     (children (g.P.Spawner.told c.args.spawner.now) (g.P.Spawner.running c.args.spawner.now))
-    (g.F.Listens.takes c.args.followers.now) (g.F.Listens.heard c.args.followers.now) (g.S.Source.faults c.args.source.now)
-    (g.K.Sink.faults c.args.sink.now) (g.O.Outside.counts c.args.outside.now).faults
-    (g.P.Spawner.faults c.args.spawner.now)
+    (g.F.Listens.takes c.args.followers.now) (g.F.Listens.heard c.args.followers.now)
+    (g.S.Source.faults c.args.source.now) (g.K.Sink.faults c.args.sink.now)
+    (g.O.Outside.counts c.args.outside.now).faults (g.P.Spawner.faults c.args.spawner.now)
 
 pub returns-in-Err-Memory-clause-agree : goal.returns-in-Err-Memory-clause-agree
 returns-in-Err-Memory-clause-agree g c is =
     lacks (Ok Agree) (g.S.Source.left c.args.source.now) (g.K.Sink.holds c.args.sink.now)
     (g.O.Outside.told c.args.outside.now)
     (children (g.P.Spawner.told c.args.spawner.now) (g.P.Spawner.running c.args.spawner.now))
-    (g.F.Listens.takes c.args.followers.now) (g.F.Listens.heard c.args.followers.now) (g.S.Source.faults c.args.source.now)
-    (g.K.Sink.faults c.args.sink.now) (g.O.Outside.counts c.args.outside.now).faults
-    (g.P.Spawner.faults c.args.spawner.now)
+    (g.F.Listens.takes c.args.followers.now) (g.F.Listens.heard c.args.followers.now)
+    (g.S.Source.faults c.args.source.now) (g.K.Sink.faults c.args.sink.now)
+    (g.O.Outside.counts c.args.outside.now).faults (g.P.Spawner.faults c.args.spawner.now)
 
 pub returns-in-Err-Memory-clause-companion : goal.returns-in-Err-Memory-clause-companion
 returns-in-Err-Memory-clause-companion g c asked is =
     lacks (Ok (Companion asked)) (g.S.Source.left c.args.source.now) (g.K.Sink.holds c.args.sink.now)
     (g.O.Outside.told c.args.outside.now)
     (children (g.P.Spawner.told c.args.spawner.now) (g.P.Spawner.running c.args.spawner.now))
-    (g.F.Listens.takes c.args.followers.now) (g.F.Listens.heard c.args.followers.now) (g.S.Source.faults c.args.source.now)
-    (g.K.Sink.faults c.args.sink.now) (g.O.Outside.counts c.args.outside.now).faults
-    (g.P.Spawner.faults c.args.spawner.now)
+    (g.F.Listens.takes c.args.followers.now) (g.F.Listens.heard c.args.followers.now)
+    (g.S.Source.faults c.args.source.now) (g.K.Sink.faults c.args.sink.now)
+    (g.O.Outside.counts c.args.outside.now).faults (g.P.Spawner.faults c.args.spawner.now)
 
 pub returns-in-Err-Memory-clause-tv : goal.returns-in-Err-Memory-clause-tv
 returns-in-Err-Memory-clause-tv g c asked is =
     lacks (Ok (Tv asked)) (g.S.Source.left c.args.source.now) (g.K.Sink.holds c.args.sink.now)
     (g.O.Outside.told c.args.outside.now)
     (children (g.P.Spawner.told c.args.spawner.now) (g.P.Spawner.running c.args.spawner.now))
-    (g.F.Listens.takes c.args.followers.now) (g.F.Listens.heard c.args.followers.now) (g.S.Source.faults c.args.source.now)
-    (g.K.Sink.faults c.args.sink.now) (g.O.Outside.counts c.args.outside.now).faults
-    (g.P.Spawner.faults c.args.spawner.now)
+    (g.F.Listens.takes c.args.followers.now) (g.F.Listens.heard c.args.followers.now)
+    (g.S.Source.faults c.args.source.now) (g.K.Sink.faults c.args.sink.now)
+    (g.O.Outside.counts c.args.outside.now).faults (g.P.Spawner.faults c.args.spawner.now)
 
 pub returns-in-Err-Memory-clause-pair : goal.returns-in-Err-Memory-clause-pair
 returns-in-Err-Memory-clause-pair g c asked is =
     lacks (Ok (Pair asked)) (g.S.Source.left c.args.source.now) (g.K.Sink.holds c.args.sink.now)
     (g.O.Outside.told c.args.outside.now)
     (children (g.P.Spawner.told c.args.spawner.now) (g.P.Spawner.running c.args.spawner.now))
-    (g.F.Listens.takes c.args.followers.now) (g.F.Listens.heard c.args.followers.now) (g.S.Source.faults c.args.source.now)
-    (g.K.Sink.faults c.args.sink.now) (g.O.Outside.counts c.args.outside.now).faults
-    (g.P.Spawner.faults c.args.spawner.now)
+    (g.F.Listens.takes c.args.followers.now) (g.F.Listens.heard c.args.followers.now)
+    (g.S.Source.faults c.args.source.now) (g.K.Sink.faults c.args.sink.now)
+    (g.O.Outside.counts c.args.outside.now).faults (g.P.Spawner.faults c.args.spawner.now)
