@@ -4,6 +4,10 @@ pub mod Promise
 pub mod Runs
 pub mod Standing
 pub mod Completeness
+pub mod Generating
+pub mod Surveying
+pub mod Plain
+pub mod Replaying
 pub mod ScriptsTaken
 pub mod SheetsTaken
 pub mod Live

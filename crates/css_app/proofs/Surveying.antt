@@ -1,0 +1,243 @@
+-- A survey counts what is told at the lines of a schedule.
+use Rattle.std.proofs.Common.{◌≡◌, ℕ, suc, zero, ◌+◌, ◌-◌, ◌<◌, ◌≤◌, arith, ap, sym, subst, ◌∙◌, refl}
+use Rattle.std.proofs.Common.{List, [], ◌∷◌, ◌++◌, length}
+use Rattle.std.proofs.Common.{◌⊎◌, inl, inr}
+use Rattle.std.specs.Prelude.{Option, Some, None, Result, Ok, Err}
+use Rattle.std.specs.Option.{option_map, option_to_list}
+use Rattle.css_model.specs.History.{History, Clock}
+use Rattle.css_model.specs.WallClock.{Local}
+use Rattle.css_model.specs.declared.TheConstants.{LIMIT}
+use Rattle.css_model.specs.declared.Why.TheVariants as why
+use Rattle.css_companion.specs.Meanings.{report_after}
+use Rattle.css_companion.specs.Standing as companions
+use Rattle.css_companion.specs.Standing.{Companion, own_of}
+use Rattle.css_companion.specs.declared.report.Report.{Report}
+use Rattle.css_companion.specs.declared.report.Report.TheVariants as reports
+use Rattle.css_schedule.specs.Ranges.{IsVerb, IsLine}
+use Rattle.css_schedule.specs.declared.header.Header.{Header}
+use Rattle.css_schedule.specs.declared.fault.LineFault.{LineFault}
+use Rattle.css_schedule.specs.declared.line.Line.{Line}
+use Rattle.css_schedule.specs.declared.line.Verb.{Verb}
+use Rattle.css_schedule.specs.declared.line.Verb.TheVariants.{Ask, Take, Give, Land, Wall, Print}
+use Rattle.css_schedule.specs.declared.line.Verb.TheVariants.{Programme, Timeline, Viewer}
+use Rattle.css_schedule.specs.declared.line.Verb.TheVariants.{Opening, Bring, Up, Present, Close}
+use Rattle.css_world.specs.Happened.{Numbered, datagrams, done_by, events_of, history_of}
+use Rattle.css_tsmsg.specs.declared.setup.Setup.{Setup}
+use Rattle.css_world.specs.Asked.{MayBeAsked}
+use Rattle.css_world.specs.declared.fault.WorldFault.{WorldFault}
+use Rattle.css_world.specs.declared.fault.WorldFault.TheVariants as faults
+use Rattle.css_world.specs.Clocks.{last_reading}
+use Rattle.css_world.specs.Sessions.{setup_of}
+use Rattle.css_world.specs.Standing as worlds
+use Rattle.css_world.specs.Standing.{World, last_value}
+use Rattle.css_world.specs.Verdicts.{local_of, seen_of, report_at}
+use Rattle.css_world.proofs.Ends.{history_now}
+use Rattle.css_gen.specs.Accepted.{generated, AreRead, AreTaken}
+use Rattle.css_gen.specs.Generated.{text_numbered, line_numbered}
+use Rattle.css_gen.specs.Opening as opening
+use Rattle.css_app.specs.declared.summary.Summary.{Summary}
+use Rattle.css_app.specs.declared.surveyed.Surveyor.{Surveyor}
+use Rattle.css_app.specs.Surveyed.{Told, asked_by, told_by, told_at, told_of, told_in, counted, counted_with, summary_of}
+use Rattle.css_app.specs.Surveys.{Stands, IsTaken}
+
+-- ---- one report
+-- only `print` asks for a report
+pub asks_print : (verb : Verb) (reading : ℕ) → asked_by verb ≡ Some reading → verb ≡ Print reading
+asks_print (Print r) reading e = cc
+asks_print (Ask r) reading e = absurd (cc)
+asks_print (Take n r) reading e = absurd (cc)
+asks_print (Give n r) reading e = absurd (cc)
+asks_print (Land n r) reading e = absurd (cc)
+asks_print (Wall r) reading e = absurd (cc)
+asks_print (Programme id) reading e = absurd (cc)
+asks_print (Timeline n s r b) reading e = absurd (cc)
+asks_print (Viewer r c) reading e = absurd (cc)
+asks_print (Opening k) reading e = absurd (cc)
+asks_print (Bring k) reading e = absurd (cc)
+asks_print Up reading e = absurd (cc)
+asks_print (Present a b) reading e = absurd (cc)
+asks_print (Close k) reading e = absurd (cc)
+
+-- the companion's history after a `print` line
+history_printed : (header : Header) (now : Numbered) (older : List Numbered) (reading : ℕ) → now.line.who ≡ 1
+    → now.line.verb ≡ Print reading
+    → history_of 1 header (now ∷ older) ≡ Clock why.Turn reading ∷ history_of 1 header older
+history_printed header now older reading one verb =
+    history_now header now older one
+    ∙ ap (λ (v : Verb). done_by header 1 (datagrams header older) (events_of header older) v (history_of 1 header older))
+    verb
+
+-- its report after the line is the one at the line
+pub report_stays : (header : Header) (now : Numbered) (older : List Numbered) (reading : ℕ) → now.line.who ≡ 1
+    → now.line.verb ≡ Print reading
+    → report_after (local_of 1 header) (setup_of 1 header).selector (history_of 1 header (now ∷ older)) reading
+    ≡ report_at now.line.who header older reading
+report_stays header now older reading one verb =
+    ap (λ (h : History). report_after (local_of 1 header) (setup_of 1 header).selector h reading)
+    (history_printed header now older reading one verb)
+    ∙ ap (λ (who : ℕ). report_at who header older reading) (sym one)
+
+-- and the companion's clock was last read there
+pub read_last : (now : Numbered) (older : List Numbered) (reading : ℕ) → now.line.who ≡ 1
+    → now.line.verb ≡ Print reading → last_value (last_reading (seen_of 1 (now ∷ older))) ≡ reading
+read_last now older reading one verb = rw (one, verb) refl
+
+-- the reading is one of a clock
+pub reads_clock : (now : Numbered) (reading : ℕ) → IsLine now.line → asked_by now.line.verb ≡ Some reading
+    → reading < LIMIT
+reads_clock now reading range asked = subst IsVerb (asks_print now.line.verb reading asked) range.verb
+
+-- the companion may be asked there
+pub reads_on : (world : World) (companion : Companion) (now : Numbered) (older : List Numbered) (reading : ℕ)
+    → MayBeAsked world companion → worlds.StandsFor world (now ∷ older) → asked_by now.line.verb ≡ Some reading
+    → companion.client.floor ≤ reading
+reads_on world companion now older reading may stands asked =
+    subst (λ (n : ℕ). companion.client.floor ≤ n)
+    (ap last_value stands.readings.own
+    ∙ read_last now older reading stands.accepted.1 (asks_print now.line.verb reading asked)) may.floor
+
+-- what it then tells is the report at the line
+pub tells_report : (world : World) (companion : Companion) (now : Numbered) (older : List Numbered) (reading : ℕ)
+    (report : Report) → companion ≡ world.lane.companion → MayBeAsked world companion
+    → worlds.StandsFor world (now ∷ older) → asked_by now.line.verb ≡ Some reading
+    → ((history : History) → companions.StandsFor companion history
+    → report ≡ report_after (own_of companion) companion.setup.selector history reading)
+    → report ≡ report_at now.line.who world.header older reading
+tells_report world companion now older reading report same may stands asked told =
+    let history = history_of 1 world.header (now ∷ older) in
+    told history
+    (subst (λ (c : Companion). companions.StandsFor c history) (sym same) stands.ends.lane.companion)
+    ∙ ap (λ (own : Local). report_after own companion.setup.selector history reading) may.own
+    ∙ ap (λ (setup : Setup). report_after (local_of 1 world.header) setup.selector history reading) may.setup
+    ∙ report_stays world.header now older reading stands.accepted.1 (asks_print now.line.verb reading asked)
+
+-- ---- counts
+-- a report is counted
+pub counts_told : (header : Header) (older : List Numbered) (now : Numbered) (reading : ℕ) (report : Report)
+    (before after : Summary) → asked_by now.line.verb ≡ Some reading
+    → report ≡ report_at now.line.who header older reading → after ≡ counted report before
+    → after ≡ counted_with (told_at header older now) before
+counts_told header older now reading report before after asked is counts =
+    counts ∙ ap (λ (r : Report). counted r before) is
+    ∙ ap (λ (o : Option ℕ). counted_with (option_map (told_by header older now) o) before) (sym asked)
+
+-- where none is told, nothing is
+pub counts_none : (header : Header) (older : List Numbered) (now : Numbered) (before : Summary)
+    → asked_by now.line.verb ≡ None → before ≡ counted_with (told_at header older now) before
+counts_none header older now before asked =
+    ap (λ (o : Option ℕ). counted_with (option_map (told_by header older now) o) before) (sym asked)
+
+-- one report more, if there is one
+pub counts_on : (told : Option Told) (older : List Told)
+    → counted_with told (summary_of older) ≡ summary_of (option_to_list told ++ older)
+counts_on None older = refl
+counts_on (Some told) older = refl
+
+-- no more is counted than was told
+few_counted : (told : List Told)
+    → ((summary_of told).prints ≤ length told) × ((summary_of told).intervals ≤ length told)
+few_counted [] = (omega arith, omega arith)
+few_counted (told ∷ older) = by told.report (few_counted older).0 (few_counted older).1
+  where
+    by : (r : Report) → (summary_of older).prints ≤ length older → (summary_of older).intervals ≤ length older
+        → ((counted r (summary_of older)).prints ≤ suc (length older))
+        × ((counted r (summary_of older)).intervals ≤ suc (length older))
+    by (reports.Ticks low high) prints intervals = (omega (arith, prints), omega (arith, intervals))
+    by (reports.None cause) prints intervals = (omega (arith, prints), omega (arith, intervals))
+
+-- no more is told than there are lines
+few_told : (header : Header) (lines : List Numbered) → length (told_of header lines) ≤ length lines
+few_told header [] = omega arith
+few_told header (now ∷ older) = by (told_at header older now) (few_told header older)
+  where
+    by : (told : Option Told) → length (told_of header older) ≤ length older
+        → length (option_to_list told ++ told_of header older) ≤ suc (length older)
+    by None few = omega (arith, few)
+    by (Some told) few = omega (arith, few)
+
+-- so the counts are small
+pub few_prints : (header : Header) (lines : List Numbered)
+    → (summary_of (told_of header lines)).prints ≤ length lines
+few_prints header lines = omega (arith, (few_counted (told_of header lines)).0, few_told header lines)
+
+pub few_intervals : (header : Header) (lines : List Numbered)
+    → (summary_of (told_of header lines)).intervals ≤ length lines
+few_intervals header lines = omega (arith, (few_counted (told_of header lines)).1, few_told header lines)
+
+-- ---- one line more
+-- a line that a world takes isn't refused
+pub never_refused : (meant : Result (List ℕ) WorldFault) (printed before after : List ℕ) (fault : WorldFault)
+    → meant ≡ Ok printed
+    → (after ≡ before) × ((worlds.appended before meant ≡ Err fault) ⊎ (fault ≡ faults.Memory)) → fault ≡ faults.Memory
+never_refused (Err other) printed before after fault is told = absurd (cc)
+never_refused (Ok text) printed before after fault is (same, inl e) = absurd (cc)
+never_refused (Ok text) printed before after fault is (same, inr e) = e
+
+-- the survey stands for it too
+pub takes : (old new : Surveyor) (older : List Numbered) (now : Numbered) → Stands old older → length older < 200000
+    → worlds.StandsFor new.world (now ∷ older) → new.world.header ≡ old.world.header
+    → new.summary ≡ counted_with (told_at new.world.header older now) old.summary → Stands new (now ∷ older)
+takes old new older now stands few world header summary = record {
+  world = world;
+  summary = summary ∙ ap (counted_with (told_at new.world.header older now)) stands.summary
+      ∙ ap (λ (h : Header). counted_with (told_at new.world.header older now) (summary_of (told_of h older))) (sym header)
+      ∙ counts_on (told_at new.world.header older now) (told_of new.world.header older);
+  few = omega (arith, few);
+}
+
+-- so it does by a world that it keeps
+pub takes_by : (old new : Surveyor) (world : World) (older : List Numbered) (now : Numbered) → Stands old older
+    → length older < 200000 → new.world ≡ world → worlds.StandsFor world (now ∷ older)
+    → world.header ≡ old.world.header → new.summary ≡ counted_with (told_at world.header older now) old.summary
+    → Stands new (now ∷ older)
+takes_by old new world older now stands few same stood header summary =
+    takes old new older now stands few
+    (subst (λ (w : World). worlds.StandsFor w (now ∷ older)) (sym same) stood)
+    (ap (λ (w : World). w.header) same ∙ header)
+    (summary ∙ ap (λ (w : World). counted_with (told_at w.header older now) old.summary) (sym same))
+
+-- a text is read as one line
+pub same_line : (read : Result Line LineFault) (a b : Line) → read ≡ Ok a → read ≡ Ok b → a ≡ b
+same_line read a b p q = cc
+
+-- ---- generated lines
+-- one line more
+pub one_generated : (seed number : ℕ) → 1 ≤ number → generated seed number
+    ≡ record { number = number + 1; line = line_numbered seed (number + 1) } ∷ generated seed (number - 1)
+one_generated seed zero some = absurd (omega (arith, some))
+one_generated seed (suc count) some =
+    let number : count + 2 ≡ suc count + 1 = omega arith in
+    let rest : count ≡ suc count - 1 = omega arith in
+    ap (λ (n : ℕ). record { number = n; line = line_numbered seed n } ∷ generated seed count) number
+    ∙ ap (λ (n : ℕ). record { number = suc count + 1; line = line_numbered seed (suc count + 1) } ∷ generated seed n)
+    rest
+
+-- there are so many
+pub generated_count : (seed count : ℕ) → length (generated seed count) ≡ count
+generated_count seed zero = refl
+generated_count seed (suc count) = ap suc (generated_count seed count)
+
+-- the next one is read, and a world takes it
+pub is_taken : (seed number : ℕ) → 1 ≤ number → number < 200000 → AreRead seed → AreTaken seed number
+    → IsTaken opening.header (generated seed (number - 1)) (number + 1) (text_numbered seed (number + 1))
+    (line_numbered seed (number + 1))
+is_taken seed number some few read taken = record {
+  read = read.others (number + 1) (omega (arith, some)) (omega (arith, few));
+  accepted = subst (worlds.AreAccepted opening.header) (one_generated seed number some) taken.accepted;
+}
+
+-- the survey goes on
+pub stands_on : (survey : Surveyor) (seed number : ℕ) → 1 ≤ number
+    → Stands survey (record { number = number + 1; line = line_numbered seed (number + 1) } ∷ generated seed (number - 1))
+    → Stands survey (generated seed (number + 1 - 1))
+stands_on survey seed number some stands =
+    let same : number ≡ number + 1 - 1 = omega arith in
+    subst (Stands survey) (sym (one_generated seed number some) ∙ ap (generated seed) same) stands
+
+-- and in the end it has counted what is told at all lines
+pub all_counted : (survey : Surveyor) (seed number lines : ℕ) → survey.world.header ≡ opening.header
+    → Stands survey (generated seed (number - 1)) → number ≡ lines → survey.summary ≡ summary_of (told_in seed lines)
+all_counted survey seed number lines header stands all =
+    stands.summary
+    ∙ ap (λ (h : Header). summary_of (told_of h (generated seed (number - 1)))) header
+    ∙ ap (λ (n : ℕ). summary_of (told_of opening.header (generated seed (n - 1)))) all
