@@ -32,17 +32,25 @@ gave before after text given left = by (ltb before.given before.lines) refl give
     by true more is left = record { more = ltb-true before.given before.lines more; text = cc; gone = left }
     by false more is left = absurd (cc)
 
--- it gave nothing, since there was no line more
-pub gave_none : (before : Generator) → None ≡ next_text before → before.lines ≤ before.given
-gave_none before given = by (ltb before.given before.lines) refl given
+-- It gave nothing, since there was no line more.
+pub record GaveNone (before after : Generator) : Type 0 where
+  pub none : before.lines ≤ before.given
+  pub same : after ≡ before
+
+pub gave_none : (before after : Generator) → None ≡ next_text before → after ≡ after_next before
+    → GaveNone before after
+gave_none before after given left = by (ltb before.given before.lines) refl given left
   where
     next : List ℕ
     next = text_numbered before.seed (before.given + 1)
 
+    left_so : Generator
+    left_so = record before { given = before.given + 1 }
+
     by : (b : Bool) → ltb before.given before.lines ≡ b → None ≡ cond b (Some next) None
-        → before.lines ≤ before.given
-    by true more is = absurd (cc)
-    by false more is = ltb-false before.given before.lines more
+        → after ≡ cond b left_so before → GaveNone before after
+    by true more is left = absurd (cc)
+    by false more is left = record { none = ltb-false before.given before.lines more; same = left }
 
 -- ---- the schedule
 -- it begins with its first lines

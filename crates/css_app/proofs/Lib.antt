@@ -5,6 +5,11 @@ pub mod Runs
 pub mod Standing
 pub mod Completeness
 pub mod Generating
+pub mod Watched
+pub mod Exchanged
+pub mod Openings
+pub mod Stepped
+pub mod Accepting
 pub mod Surveying
 pub mod Plain
 pub mod Replaying

@@ -27,10 +27,10 @@ use Rattle.css_world.specs.declared.fault.WorldFault.{WorldFault}
 use Rattle.css_world.specs.Happened.{Numbered}
 use Rattle.css_world.specs.Verdicts.{printed_for, line_meant}
 use Rattle.css_world.proofs.Worlds.{carried_ok}
-use Rattle.css_gen.specs.Accepted.{generated}
+use Rattle.css_app.specs.Generated.{generated}
 use Rattle.css_gen.specs.Generated.{text_numbered, line_numbered}
 use Rattle.css_gen.specs.Opening as opening
-use Rattle.css_gen.proofs.Accepting.{generated_accepted}
+use Rattle.css_app.proofs.Accepting.{generated_accepted}
 use Rattle.css_gen.proofs.Reading.{generated_read}
 use Rattle.css_app.specs.declared.replay.Cause.{Cause}
 use Rattle.css_app.specs.Generated.{schedule_text}
@@ -89,6 +89,7 @@ others-count seed (suc count) =
 
 -- they are read as the generated lines
 others-read : (seed count : ℕ) → count < 200000 → lines_in (others seed count) ≡ generated seed count
+unfolding generated
 others-read seed zero few = refl
 others-read seed (suc count) few =
     let text = text_numbered seed (count + 2) in
@@ -108,6 +109,7 @@ record Adds (seed count : ℕ) : Type 0 where
   told : told_text (told_after seed (suc count)) ≡ told_text (told_after seed count) ++ printed
 
 line-adds : (seed count : ℕ) → suc count < 200000 → Adds seed count
+unfolding generated
 line-adds seed count few =
     let line = line_numbered seed (count + 2) in
     let now : Numbered = record { number = count + 2; line = line } in
@@ -206,6 +208,7 @@ offset-more texts text short =
     )
 
 all-read : (seed count : ℕ) → count < 200000 → AllRead seed count
+unfolding generated
 all-read seed zero few =
     let plain = first_plain seed in
     let short = plain.short in
@@ -238,6 +241,7 @@ all-read seed (suc count) few =
 
 -- ---- the whole
 pub generated_replayed : GeneratedSchedulesAreReplayed
+unfolding told_in
 generated_replayed seed zero some few = absurd (omega (arith, some))
 generated_replayed seed (suc count) some few =
     let bytes = schedule_text seed (suc count) in

@@ -2,7 +2,7 @@
 use Rattle.std.proofs.Common.{◌≡◌, ℕ, suc, zero, ◌+◌, ◌-◌, ◌<◌, ◌≤◌, arith, ap, sym, subst, ◌∙◌, refl}
 use Rattle.std.proofs.Common.{List, [], ◌∷◌, ◌++◌, length}
 use Rattle.std.proofs.Common.{◌⊎◌, inl, inr}
-use Rattle.std.specs.Prelude.{Option, Some, None, Result, Ok, Err}
+use Rattle.std.specs.Prelude.{Option, Some, None, Result, Ok, Err, IfOk}
 use Rattle.std.specs.Option.{option_map, option_to_list}
 use Rattle.css_model.specs.History.{History, Clock}
 use Rattle.css_model.specs.WallClock.{Local}
@@ -15,6 +15,9 @@ use Rattle.css_companion.specs.declared.report.Report.{Report}
 use Rattle.css_companion.specs.declared.report.Report.TheVariants as reports
 use Rattle.css_schedule.specs.Ranges.{IsVerb, IsLine}
 use Rattle.css_schedule.specs.declared.header.Header.{Header}
+use Rattle.css_schedule.specs.declared.header.Start.TheVariants.{One}
+use Rattle.css_schedule.specs.Headers.{header_of}
+use Rattle.css_schedule.specs.Lines.{line_of}
 use Rattle.css_schedule.specs.declared.fault.LineFault.{LineFault}
 use Rattle.css_schedule.specs.declared.line.Line.{Line}
 use Rattle.css_schedule.specs.declared.line.Verb.{Verb}
@@ -29,16 +32,19 @@ use Rattle.css_world.specs.declared.fault.WorldFault.TheVariants as faults
 use Rattle.css_world.specs.Clocks.{last_reading}
 use Rattle.css_world.specs.Sessions.{setup_of}
 use Rattle.css_world.specs.Standing as worlds
-use Rattle.css_world.specs.Standing.{World, last_value}
+use Rattle.css_world.specs.Standing.{World, AreAccepted, last_value}
 use Rattle.css_world.specs.Verdicts.{local_of, seen_of, report_at}
 use Rattle.css_world.proofs.Ends.{history_now}
-use Rattle.css_gen.specs.Accepted.{generated, AreRead, AreTaken}
-use Rattle.css_gen.specs.Generated.{text_numbered, line_numbered}
+use Rattle.css_app.specs.Generated.{generated}
+use Rattle.css_gen.specs.Generated.{Generator, text_numbered, line_numbered}
+use Rattle.css_gen.proofs.Reading.{generated_read}
 use Rattle.css_gen.specs.Opening as opening
 use Rattle.css_app.specs.declared.summary.Summary.{Summary}
 use Rattle.css_app.specs.declared.surveyed.Surveyor.{Surveyor}
 use Rattle.css_app.specs.Surveyed.{Told, asked_by, told_by, told_at, told_of, told_in, counted, counted_with, summary_of}
-use Rattle.css_app.specs.Surveys.{Stands, IsTaken}
+use Rattle.css_app.specs.Surveys.{Stands, IsTaken, HasTaken}
+use Rattle.css_app.proofs.Generating.{Gave}
+use Rattle.css_app.proofs.Accepting.{generated_accepted}
 
 -- ---- one report
 -- only `print` asks for a report
@@ -200,12 +206,19 @@ takes_by old new world older now stands few same stood header summary =
 pub same_line : (read : Result Line LineFault) (a b : Line) → read ≡ Ok a → read ≡ Ok b → a ≡ b
 same_line read a b p q = cc
 
+-- what two facts of a success say together
+pub if_ok_both : {A E : Type 0} {P Q : A → Type 0} (R : A → Type 0) (r : Result A E) → IfOk r P → IfOk r Q
+    → ((x : A) → P x → Q x → R x) → IfOk r R
+if_ok_both R (Ok x) p q both = both x p q
+if_ok_both R (Err e) p q both = tt
+
 -- ---- generated lines
 -- one line more
-pub one_generated : (seed number : ℕ) → 1 ≤ number → generated seed number
+one-generated : (seed number : ℕ) → 1 ≤ number → generated seed number
     ≡ record { number = number + 1; line = line_numbered seed (number + 1) } ∷ generated seed (number - 1)
-one_generated seed zero some = absurd (omega (arith, some))
-one_generated seed (suc count) some =
+unfolding generated
+one-generated seed zero some = absurd (omega (arith, some))
+one-generated seed (suc count) some =
     let number : count + 2 ≡ suc count + 1 = omega arith in
     let rest : count ≡ suc count - 1 = omega arith in
     ap (λ (n : ℕ). record { number = n; line = line_numbered seed n } ∷ generated seed count) number
@@ -213,31 +226,101 @@ one_generated seed (suc count) some =
     rest
 
 -- there are so many
-pub generated_count : (seed count : ℕ) → length (generated seed count) ≡ count
-generated_count seed zero = refl
-generated_count seed (suc count) = ap suc (generated_count seed count)
+generated-count : (seed count : ℕ) → length (generated seed count) ≡ count
+unfolding generated
+generated-count seed zero = refl
+generated-count seed (suc count) = ap suc (generated-count seed count)
 
--- the next one is read, and a world takes it
-pub is_taken : (seed number : ℕ) → 1 ≤ number → number < 200000 → AreRead seed → AreTaken seed number
-    → IsTaken opening.header (generated seed (number - 1)) (number + 1) (text_numbered seed (number + 1))
-    (line_numbered seed (number + 1))
-is_taken seed number some few read taken = record {
-  read = read.others (number + 1) (omega (arith, some)) (omega (arith, few));
-  accepted = subst (worlds.AreAccepted opening.header) (one_generated seed number some) taken.accepted;
-}
+-- the lines that were taken, and the one that comes next
+abbrev pub lines_before : Generator → List Numbered
+lines_before generator = generated generator.seed (generator.given - 1)
 
--- the survey goes on
-pub stands_on : (survey : Surveyor) (seed number : ℕ) → 1 ≤ number
-    → Stands survey (record { number = number + 1; line = line_numbered seed (number + 1) } ∷ generated seed (number - 1))
-    → Stands survey (generated seed (number + 1 - 1))
-stands_on survey seed number some stands =
-    let same : number ≡ number + 1 - 1 = omega arith in
-    subst (Stands survey) (sym (one_generated seed number some) ∙ ap (generated seed) same) stands
+abbrev pub next_generated : Generator → Line
+next_generated generator = line_numbered generator.seed (generator.given + 1)
 
--- and in the end it has counted what is told at all lines
-pub all_counted : (survey : Surveyor) (seed number lines : ℕ) → survey.world.header ≡ opening.header
-    → Stands survey (generated seed (number - 1)) → number ≡ lines → survey.summary ≡ summary_of (told_in seed lines)
-all_counted survey seed number lines header stands all =
-    stands.summary
-    ∙ ap (λ (h : Header). summary_of (told_of h (generated seed (number - 1)))) header
-    ∙ ap (λ (n : ℕ). summary_of (told_of opening.header (generated seed (n - 1)))) all
+pub ready_next : (survey : Surveyor) (before after : Generator) (number : ℕ) (text : List ℕ) → HasTaken survey before
+    → Gave before after text → number ≡ before.given + 1
+    → IsTaken survey.world.header (lines_before before) number text (next_generated before)
+ready_next survey before after number text has gave is =
+    let given = before.given in
+    let few : given < 200000 = omega (arith, gave.more, has.few) in
+    let read = (generated_read before.seed).others (given + 1) (omega (arith, has.some)) (omega (arith, few)) in
+    let taken : AreAccepted opening.header (generated before.seed given) =
+    (generated_accepted before.seed given few).accepted in
+    let first : AreAccepted opening.header
+    (record { number = given + 1; line = next_generated before } ∷ lines_before before) =
+    subst (AreAccepted opening.header) (one-generated before.seed given has.some) taken in
+    let here : AreAccepted survey.world.header
+    (record { number = given + 1; line = next_generated before } ∷ lines_before before) =
+    subst (λ (h : Header). AreAccepted h (record { number = given + 1; line = next_generated before } ∷ lines_before before))
+    (sym has.header) first in
+    record {
+      read = ap line_of gave.text ∙ read;
+      accepted = subst (λ (n : ℕ). AreAccepted survey.world.header
+          (record { number = n; line = next_generated before } ∷ lines_before before)) (sym is) here;
+    }
+
+-- there are few lines before it
+pub few_before : (survey : Surveyor) (before after : Generator) (text : List ℕ) → HasTaken survey before
+    → Gave before after text → length (lines_before before) < 200000
+few_before survey before after text has gave =
+    omega (arith, generated-count before.seed (before.given - 1), has.few, gave.more)
+
+-- the survey has taken it too
+pub taken_next : (old new : Surveyor) (before after : Generator) (number : ℕ) (text : List ℕ) → HasTaken old before
+    → Gave before after text → number ≡ before.given + 1 → new.world.header ≡ old.world.header
+    → Stands new (record { number = number; line = next_generated before } ∷ lines_before before)
+    → HasTaken new after
+taken_next old new before after number text has gave is header stands =
+    let given = before.given in
+    let here : Stands new (record { number = given + 1; line = next_generated before } ∷ lines_before before) =
+    subst (λ (n : ℕ). Stands new (record { number = n; line = next_generated before } ∷ lines_before before)) is stands in
+    let same : given ≡ given + 1 - 1 = omega arith in
+    let all : Stands new (generated before.seed (given + 1 - 1)) =
+    subst (Stands new) (sym (one-generated before.seed given has.some) ∙ ap (generated before.seed) same) here in
+    subst (HasTaken new) (sym gave.gone) (record {
+      some = omega arith;
+      within = omega (arith, gave.more);
+      few = has.few;
+      header = header ∙ has.header;
+      stands = all;
+    })
+
+-- where there is no line more, it has taken what it had
+pub taken_still : (survey : Surveyor) (before after : Generator) → HasTaken survey before → after ≡ before
+    → HasTaken survey after
+taken_still survey before after has same = subst (HasTaken survey) (sym same) has
+
+-- a survey that has taken the header has taken what a new generator gave
+pub taken_first : (survey : Surveyor) (before after : Generator) (text : List ℕ) → before.given ≡ 0
+    → before.lines ≤ 200000 → Gave before after text → survey.world.header ≡ opening.header → Stands survey []
+    → HasTaken survey after
+unfolding generated
+taken_first survey before after text none few gave header stands =
+    let same : 0 ≡ before.given + 1 - 1 = omega (arith, none) in
+    subst (HasTaken survey) (sym gave.gone) (record {
+      some = omega arith;
+      within = omega (arith, gave.more);
+      few = few;
+      header = header;
+      stands = subst (λ (n : ℕ). Stands survey (generated before.seed n)) same stands;
+    })
+
+-- the header is read
+pub reads_header : (before after : Generator) (text : List ℕ) → before.given ≡ 0 → Gave before after text
+    → header_of text ≡ Ok (One opening.header)
+reads_header before after text none gave =
+    ap header_of (gave.text ∙ ap (λ (n : ℕ). text_numbered before.seed (n + 1)) none)
+    ∙ (generated_read before.seed).first
+
+-- In the end it has counted what is told at all lines.
+pub all_counted : (survey : Surveyor) (generator : Generator) (seed lines : ℕ) → HasTaken survey generator
+    → generator.seed ≡ seed → generator.lines ≡ lines → generator.lines ≤ generator.given
+    → survey.summary ≡ summary_of (told_in seed lines)
+unfolding told_in
+all_counted survey generator seed lines has same all none =
+    let given : generator.given ≡ lines = omega (arith, has.within, all, none) in
+    has.stands.summary
+    ∙ ap (λ (h : Header). summary_of (told_of h (generated generator.seed (generator.given - 1)))) has.header
+    ∙ ap (λ (s : ℕ). summary_of (told_of opening.header (generated s (generator.given - 1)))) same
+    ∙ ap (λ (n : ℕ). summary_of (told_of opening.header (generated seed (n - 1)))) given

@@ -6,7 +6,6 @@ use Rattle.std.specs.Option.{option_map, option_to_list}
 use Rattle.css_companion.specs.Printed.{line_of}
 use Rattle.css_companion.specs.declared.report.Report.{Report}
 use Rattle.css_companion.specs.declared.report.Report.TheVariants.{Ticks}
-use Rattle.css_gen.specs.Accepted.{generated}
 use Rattle.css_gen.specs.Opening as opening
 use Rattle.css_lines.specs.Meaning.{outcome, accepted}
 use Rattle.css_schedule.specs.declared.header.Header.{Header}
@@ -15,7 +14,7 @@ use Rattle.css_schedule.specs.declared.line.Verb.TheVariants.{Print}
 use Rattle.css_world.specs.Happened.{Numbered}
 use Rattle.css_world.specs.Verdicts.{report_at, assigned_at}
 use Rattle.css_app.specs.declared.summary.Summary.{Summary}
-use Rattle.css_app.specs.Generated.{schedule_text}
+use Rattle.css_app.specs.Generated.{generated, schedule_text}
 use Rattle.css_app.specs.Replayed.{replayed}
 
 -- ---- reports
@@ -78,7 +77,7 @@ summary_of (told ∷ older) = counted told.report (summary_of older)
 
 -- ---- generated schedules
 -- what is told at the lines of a generated schedule; the first one is its header
-abbrev pub told_in : (seed : ℕ) → (lines : ℕ) → List Told
+unfoldable pub told_in : (seed : ℕ) → (lines : ℕ) → List Told
 told_in seed lines = told_of opening.header (generated seed (lines - 1))
 
 -- `lines N prints P intervals I widest W`

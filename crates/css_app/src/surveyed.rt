@@ -1,21 +1,20 @@
-ghost use Rattle.std.specs.Prelude.{◌≡◌, ◌≤◌, ◌<◌, ◌-◌, ◌^◌, ℕ, List, [], ◌∷◌, length, Ok, Some, IfOk, IfSome, OnOk};
-ghost use Rattle.std.specs.Prelude.{OnErr};
+ghost use Rattle.std.specs.Prelude.{◌≡◌, ◌≤◌, ◌<◌, ◌+◌, ◌^◌, nat_lt, ℕ, List, [], ◌∷◌, length, Ok, Some, IfOk, OnOk, OnErr};
 ghost use Rattle.std.specs.Io.KnownBytes.{Appends};
 ghost use Rattle.css_outside.specs.Bytes.{AppendsPrefix};
 ghost use Rattle.css_outside.specs.Faults.{CountsCall};
 ghost use Rattle.css_schedule.specs.Headers.{header_of};
 ghost use Rattle.css_schedule.specs.Lines.{line_of};
-ghost use Rattle.css_schedule.specs.Ranges.{IsLine};
 ghost use Rattle.css_schedule.specs.declared.header.Start.TheVariants.{One};
 ghost use Rattle.css_schedule.specs.declared.line.Line.{Line as Happening};
 ghost use Rattle.css_world.specs.Happened.{Numbered};
 ghost use Rattle.css_world.specs.Standing as worlds;
 ghost use Rattle.css_world.specs.Verdicts as verdicts;
 ghost use Rattle.css_gen.specs.Opening as opening;
+ghost use Rattle.css_gen.specs.Generated.{after_next};
 ghost use Rattle.css_app.specs.Ended.{Writes, CountsWrites, HasNotFailed, IsDoneUnlessMemory};
 ghost use Rattle.css_app.specs.Surveyed as surveyed;
 ghost use Rattle.css_app.specs.Surveyed.{survey_text};
-ghost use Rattle.css_app.specs.Surveys.{Stands, IsTaken};
+ghost use Rattle.css_app.specs.Surveys.{Stands, IsTaken, HasTaken};
 
 use crate::status::Status;
 use crate::summary::Summary;
@@ -156,6 +155,44 @@ impl Surveyor {
     }
 }
 
+// Begins a survey with the header that a new generator gives.
+fn begin(alloc: Global, generator: &mut Generator) -> Result<Surveyor, Memory>
+    requires given { generator.old.given ≡ 0 }
+    requires some { 1 ≤ generator.old.lines }
+    requires few { generator.old.lines ≤ 200000 }
+    ensures generator { OnOk result (generator.new ≡ after_next generator.old) }
+    ensures taken { IfOk result (λ survey. HasTaken survey generator.new) }
+{
+    let next = generator.next_line(alloc)?;
+    match next {
+        Some(text) => Surveyor::begin(alloc, text.bytes()),
+        None => unreachable!(),
+    }
+}
+
+// Takes the next line that is generated, which has that number, and tells whether there was one.
+fn take_next(
+    alloc: Global,
+    number: u64,
+    generator: &mut Generator,
+    survey: &mut Surveyor,
+) -> Result<bool, Memory>
+    requires number { number ≡ generator.old.given + 1 }
+    requires taken { HasTaken survey.old generator.old }
+    ensures more { IfOk result (λ more. more ≡ nat_lt generator.old.given generator.old.lines) }
+    ensures generator { OnOk result (generator.new ≡ after_next generator.old) }
+    ensures taken { OnOk result (HasTaken survey.new generator.new) }
+{
+    let next = generator.next_line(alloc)?;
+    match next {
+        Some(text) => {
+            survey.take(alloc, number, text.bytes())?;
+            Ok(true)
+        }
+        None => Ok(false),
+    }
+}
+
 // Surveys the schedule of so many lines that is generated of the seed.
 fn survey_lines(alloc: Global, seed: u64, lines: u64) -> Result<Summary, Memory>
     requires least { 9 ≤ lines }
@@ -163,14 +200,10 @@ fn survey_lines(alloc: Global, seed: u64, lines: u64) -> Result<Summary, Memory>
     ensures { IfOk result (λ summary. summary ≡ surveyed.summary_of (surveyed.told_in seed lines)) }
 {
     let mut generator = Generator::new(seed, lines, 1);
-    let Some(first) = generator.next_line(alloc)? else {
-        unreachable!()
-    };
-    let mut survey = Surveyor::begin(alloc, first.bytes())?;
-    let mut number = 1;
-    'lines: while let Some(text) = generator.next_line(alloc)? {
+    let mut survey = begin(alloc, &mut generator)?;
+    let mut number = 2;
+    'lines: while take_next(alloc, number, &mut generator, &mut survey)? {
         number += 1;
-        survey.take(alloc, number, text.bytes())?;
     }
     Ok(survey.summary)
 }
