@@ -52,6 +52,38 @@ gave_none before after given left = by (ltb before.given before.lines) refl give
     by true more is left = absurd (cc)
     by false more is left = record { none = ltb-false before.given before.lines more; same = left }
 
+-- ---- whether there was a line more
+-- There was one.
+pub record WentOn (before after : Generator) : Type 0 where
+  pub more : before.given < before.lines
+  pub seed : after.seed ≡ before.seed
+  pub lines : after.lines ≡ before.lines
+  pub given : after.given ≡ before.given + 1
+
+pub went_on : (before after : Generator) (more : Bool) → more ≡ ltb before.given before.lines → more ≡ true
+    → after ≡ after_next before → WentOn before after
+went_on before after more is yes left =
+    let left_so : Generator = record before { given = before.given + 1 } in
+    let fewer : ltb before.given before.lines ≡ true = sym is ∙ yes in
+    let same : after ≡ left_so = left ∙ ap (λ (b : Bool). cond b left_so before) fewer in
+    record {
+      more = ltb-true before.given before.lines fewer;
+      seed = ap (λ (x : Generator). x.seed) same;
+      lines = ap (λ (x : Generator). x.lines) same;
+      given = ap (λ (x : Generator). x.given) same;
+    }
+
+-- There was none.
+pub stayed : (before after : Generator) (more : Bool) → more ≡ ltb before.given before.lines → more ≡ false
+    → after ≡ after_next before → GaveNone before after
+stayed before after more is no left =
+    let left_so : Generator = record before { given = before.given + 1 } in
+    let none : ltb before.given before.lines ≡ false = sym is ∙ no in
+    record {
+      none = ltb-false before.given before.lines none;
+      same = left ∙ ap (λ (b : Bool). cond b left_so before) none;
+    }
+
 -- ---- the schedule
 -- it begins with its first lines
 schedule-front : (seed given more : ℕ) → IsPrefix (schedule_text seed given) (schedule_text seed (given + more))

@@ -1,8 +1,9 @@
 -- A survey counts what is told at the lines of a schedule.
 use Rattle.std.proofs.Common.{◌≡◌, ℕ, suc, zero, ◌+◌, ◌-◌, ◌<◌, ◌≤◌, arith, ap, sym, subst, ◌∙◌, refl}
-use Rattle.std.proofs.Common.{List, [], ◌∷◌, ◌++◌, length}
+use Rattle.std.proofs.Common.{Bool, true, ltb, List, [], ◌∷◌, ◌++◌, length}
+use Rattle.std.proofs.lemmas.Bool.{lt-ltb}
 use Rattle.std.proofs.Common.{◌⊎◌, inl, inr}
-use Rattle.std.specs.Prelude.{Option, Some, None, Result, Ok, Err, IfOk}
+use Rattle.std.specs.Prelude.{Option, Some, None, Result, Ok, Err, IfOk, OnOk, IsErrAnd}
 use Rattle.std.specs.Option.{option_map, option_to_list}
 use Rattle.css_model.specs.History.{History, Clock}
 use Rattle.css_model.specs.WallClock.{Local}
@@ -36,14 +37,14 @@ use Rattle.css_world.specs.Standing.{World, AreAccepted, last_value}
 use Rattle.css_world.specs.Verdicts.{local_of, seen_of, report_at}
 use Rattle.css_world.proofs.Ends.{history_now}
 use Rattle.css_app.specs.Generated.{generated}
-use Rattle.css_gen.specs.Generated.{Generator, text_numbered, line_numbered}
+use Rattle.css_gen.specs.Generated.{Generator, text_numbered, line_numbered, next_text, after_next}
 use Rattle.css_gen.proofs.Reading.{generated_read}
 use Rattle.css_gen.specs.Opening as opening
 use Rattle.css_app.specs.declared.summary.Summary.{Summary}
 use Rattle.css_app.specs.declared.surveyed.Surveyor.{Surveyor}
 use Rattle.css_app.specs.Surveyed.{Told, asked_by, told_by, told_at, told_of, told_in, counted, counted_with, summary_of}
 use Rattle.css_app.specs.Surveys.{Stands, IsTaken, HasTaken}
-use Rattle.css_app.proofs.Generating.{Gave}
+use Rattle.css_app.proofs.Generating.{Gave, gave}
 use Rattle.css_app.proofs.Accepting.{generated_accepted}
 
 -- ---- one report
@@ -206,6 +207,15 @@ takes_by old new world older now stands few same stood header summary =
 pub same_line : (read : Result Line LineFault) (a b : Line) → read ≡ Ok a → read ≡ Ok b → a ≡ b
 same_line read a b p q = cc
 
+-- at an error nothing is said of a success
+pub no_ok_at_err : {A E : Type 0} {Q : E → Type 0} (P : A → Type 0) (r : Result A E) → IsErrAnd r Q → IfOk r P
+no_ok_at_err P (Ok x) h = absurd h
+no_ok_at_err P (Err e) h = tt
+
+pub no_on_ok_at_err : {A E : Type 0} {Q : E → Type 0} (P : Type 0) (r : Result A E) → IsErrAnd r Q → OnOk r P
+no_on_ok_at_err P (Ok x) h = absurd h
+no_on_ok_at_err P (Err e) h = tt
+
 -- what two facts of a success say together
 pub if_ok_both : {A E : Type 0} {P Q : A → Type 0} (R : A → Type 0) (r : Result A E) → IfOk r P → IfOk r Q
     → ((x : A) → P x → Q x → R x) → IfOk r R
@@ -285,6 +295,46 @@ taken_next old new before after number text has gave is header stands =
       header = header ∙ has.header;
       stands = all;
     })
+
+-- ---- a call
+-- what the generator answered is the next text, and the survey takes it
+pub can_take : (survey : Surveyor) (before after : Generator) (number : ℕ) (next : Option (List ℕ)) (text bytes : List ℕ)
+    → HasTaken survey before → number ≡ before.given + 1 → next ≡ Some text → next ≡ next_text before
+    → after ≡ after_next before → bytes ≡ text
+    → (older : List Numbered) × (line : Line) × Stands survey older × (length older < 200000)
+    × IsTaken survey.world.header older number bytes line
+can_take survey before after number next text bytes has is some answer left same =
+    let step = gave before after text (sym some ∙ answer) left in
+    let ready = ready_next survey before after number text has step is in (
+      lines_before before,
+      next_generated before,
+      has.stands,
+      few_before survey before after text has step,
+      subst (λ (t : List ℕ). IsTaken survey.world.header (lines_before before) number t (next_generated before)) (sym same)
+          ready,
+    )
+
+-- so it has taken it
+pub has_taken : (old new : Surveyor) (before after : Generator) (number : ℕ) (next : Option (List ℕ)) (text bytes : List ℕ)
+    → HasTaken old before → number ≡ before.given + 1 → next ≡ Some text → next ≡ next_text before
+    → after ≡ after_next before → bytes ≡ text → new.world.header ≡ old.world.header
+    → ((older : List Numbered) (line : Line) → Stands old older → length older < 200000
+    → IsTaken old.world.header older number bytes line → Stands new (record { number = number; line = line } ∷ older))
+    → HasTaken new after
+has_taken old new before after number next text bytes has is some answer left same header stands =
+    let step = gave before after text (sym some ∙ answer) left in
+    let ready = ready_next old before after number text has step is in
+    let taken : IsTaken old.world.header (lines_before before) number bytes (next_generated before) =
+    subst (λ (t : List ℕ). IsTaken old.world.header (lines_before before) number t (next_generated before)) (sym same) ready
+    in
+    taken_next old new before after number text has step is header
+    (stands (lines_before before) (next_generated before) has.stands (few_before old before after text has step) taken)
+
+-- there was a line more
+pub one_more_given : (before after : Generator) (next : Option (List ℕ)) (text : List ℕ) → next ≡ Some text
+    → next ≡ next_text before → after ≡ after_next before → true ≡ ltb before.given before.lines
+one_more_given before after next text some answer left =
+    sym (lt-ltb before.given before.lines (gave before after text (sym some ∙ answer) left).more)
 
 -- where there is no line more, it has taken what it had
 pub taken_still : (survey : Surveyor) (before after : Generator) → HasTaken survey before → after ≡ before

@@ -9,14 +9,14 @@ use Rattle.css_app.proofs.surveyed.begin.Goals as goal
 
 pub begin-requires : goal.begin-requires
 begin-requires c =
-    let step = gave c.args.generator.now c.next_line-next.new.self c.in-Some.text
+    let step = gave c.args.generator.now c.next_line.new.self c.in-Some.text
     (sym c.in-Some.is ∙ c.in_ok-next.ensures.text) c.in_ok-next.ensures.given in
     ap header_of c.bytes.ensures
-    ∙ reads_header c.args.generator.now c.next_line-next.new.self c.in-Some.text c.requires.given step
+    ∙ reads_header c.args.generator.now c.next_line.new.self c.in-Some.text c.requires.given step
 
 pub prove-unreachable-requires : goal.prove-unreachable-requires
 prove-unreachable-requires c =
-    let none = gave_none c.args.generator.now c.next_line-next.new.self
+    let none = gave_none c.args.generator.now c.next_line.new.self
     (sym c.in-None.is ∙ c.in_ok-next.ensures.text) c.in_ok-next.ensures.given in
     let some = c.requires.some in
     let given = c.requires.given in
@@ -25,7 +25,7 @@ prove-unreachable-requires c =
 pub returns-in-Some-clause-taken : goal.returns-in-Some-clause-taken
 returns-in-Some-clause-taken c =
     let before = c.args.generator.now in
-    let after = c.next_line-next.new.self in
+    let after = c.next_line.new.self in
     let step = gave before after c.in-Some.text
     (sym c.in-Some.is ∙ c.in_ok-next.ensures.text) c.in_ok-next.ensures.given in
     if_ok_both (λ survey. HasTaken survey after) c.begin.result c.begin.ensures.header c.begin.ensures.stands
