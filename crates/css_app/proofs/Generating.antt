@@ -62,9 +62,9 @@ pub record WentOn (before after : Generator) : Type 0 where
 
 pub went_on : (before after : Generator) (more : Bool) → more ≡ ltb before.given before.lines → more ≡ true
     → after ≡ after_next before → WentOn before after
-went_on before after more is yes left =
+went_on before after more is there left =
     let left_so : Generator = record before { given = before.given + 1 } in
-    let fewer : ltb before.given before.lines ≡ true = sym is ∙ yes in
+    let fewer : ltb before.given before.lines ≡ true = sym is ∙ there in
     let same : after ≡ left_so = left ∙ ap (λ (b : Bool). cond b left_so before) fewer in
     record {
       more = ltb-true before.given before.lines fewer;
@@ -76,9 +76,9 @@ went_on before after more is yes left =
 -- There was none.
 pub stayed : (before after : Generator) (more : Bool) → more ≡ ltb before.given before.lines → more ≡ false
     → after ≡ after_next before → GaveNone before after
-stayed before after more is no left =
+stayed before after more is gone left =
     let left_so : Generator = record before { given = before.given + 1 } in
-    let none : ltb before.given before.lines ≡ false = sym is ∙ no in
+    let none : ltb before.given before.lines ≡ false = sym is ∙ gone in
     record {
       none = ltb-false before.given before.lines none;
       same = left ∙ ap (λ (b : Bool). cond b left_so before) none;

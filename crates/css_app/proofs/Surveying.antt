@@ -208,13 +208,13 @@ pub same_line : (read : Result Line LineFault) (a b : Line) → read ≡ Ok a �
 same_line read a b p q = cc
 
 -- at an error nothing is said of a success
-pub no_ok_at_err : {A E : Type 0} {Q : E → Type 0} (P : A → Type 0) (r : Result A E) → IsErrAnd r Q → IfOk r P
-no_ok_at_err P (Ok x) h = absurd h
-no_ok_at_err P (Err e) h = tt
+pub no_ok_at_err : {A E : Type 0} (Q : E → Type 0) (P : A → Type 0) (r : Result A E) → IsErrAnd r Q → IfOk r P
+no_ok_at_err Q P (Ok x) h = absurd h
+no_ok_at_err Q P (Err e) h = tt
 
-pub no_on_ok_at_err : {A E : Type 0} {Q : E → Type 0} (P : Type 0) (r : Result A E) → IsErrAnd r Q → OnOk r P
-no_on_ok_at_err P (Ok x) h = absurd h
-no_on_ok_at_err P (Err e) h = tt
+pub no_on_ok_at_err : {A E : Type 0} (Q : E → Type 0) (P : Type 0) (r : Result A E) → IsErrAnd r Q → OnOk r P
+no_on_ok_at_err Q P (Ok x) h = absurd h
+no_on_ok_at_err Q P (Err e) h = tt
 
 -- what two facts of a success say together
 pub if_ok_both : {A E : Type 0} {P Q : A → Type 0} (R : A → Type 0) (r : Result A E) → IfOk r P → IfOk r Q

@@ -193,6 +193,20 @@ fn take_next(
     }
 }
 
+// Takes each further line that is generated.
+fn take_all(alloc: Global, generator: &mut Generator, survey: &mut Surveyor) -> Result<(), Memory>
+    requires given { generator.old.given ≡ 1 }
+    requires taken { HasTaken survey.old generator.old }
+    ensures generator { OnOk result (generator.new ≡ record generator.old { given = generator.old.lines }) }
+    ensures taken { OnOk result (HasTaken survey.new generator.new) }
+{
+    let mut number = 2;
+    'lines: while take_next(alloc, number, generator, survey)? {
+        number += 1;
+    }
+    Ok(())
+}
+
 // Surveys the schedule of so many lines that is generated of the seed.
 fn survey_lines(alloc: Global, seed: u64, lines: u64) -> Result<Summary, Memory>
     requires least { 9 ≤ lines }
@@ -201,10 +215,7 @@ fn survey_lines(alloc: Global, seed: u64, lines: u64) -> Result<Summary, Memory>
 {
     let mut generator = Generator::new(seed, lines, 1);
     let mut survey = begin(alloc, &mut generator)?;
-    let mut number = 2;
-    'lines: while take_next(alloc, number, &mut generator, &mut survey)? {
-        number += 1;
-    }
+    take_all(alloc, &mut generator, &mut survey)?;
     Ok(survey.summary)
 }
 
