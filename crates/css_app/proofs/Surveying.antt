@@ -2,6 +2,7 @@
 use Rattle.std.proofs.Common.{◌≡◌, ℕ, suc, zero, ◌+◌, ◌-◌, ◌<◌, ◌≤◌, arith, ap, sym, subst, ◌∙◌, refl}
 use Rattle.std.proofs.Common.{Bool, true, ltb, List, [], ◌∷◌, ◌++◌, length}
 use Rattle.std.proofs.lemmas.Bool.{lt-ltb}
+use Rattle.std.proofs.lemmas.List.{append_assoc}
 use Rattle.std.proofs.Common.{◌⊎◌, inl, inr}
 use Rattle.std.specs.Prelude.{Option, Some, None, Result, Ok, Err, IfOk, OnOk, IsErrAnd}
 use Rattle.std.specs.Option.{option_map, option_to_list}
@@ -44,7 +45,7 @@ use Rattle.css_app.specs.declared.summary.Summary.{Summary}
 use Rattle.css_app.specs.declared.surveyed.Surveyor.{Surveyor}
 use Rattle.css_app.specs.Surveyed.{Told, asked_by, told_by, told_at, told_of, told_in, counted, counted_with, summary_of}
 use Rattle.css_app.specs.Surveys.{Stands, IsTaken, HasTaken}
-use Rattle.css_app.proofs.Generating.{Gave, gave}
+use Rattle.css_app.proofs.Generating.{Gave, gave, gave_none}
 use Rattle.css_app.proofs.Accepting.{generated_accepted}
 
 -- ---- one report
@@ -216,11 +217,10 @@ pub no_on_ok_at_err : {A E : Type 0} (Q : E → Type 0) (P : Type 0) (r : Result
 no_on_ok_at_err Q P (Ok x) h = absurd h
 no_on_ok_at_err Q P (Err e) h = tt
 
--- what two facts of a success say together
-pub if_ok_both : {A E : Type 0} {P Q : A → Type 0} (R : A → Type 0) (r : Result A E) → IfOk r P → IfOk r Q
-    → ((x : A) → P x → Q x → R x) → IfOk r R
-if_ok_both R (Ok x) p q both = both x p q
-if_ok_both R (Err e) p q both = tt
+-- what holds anyway holds of a success
+pub on_ok_from : {A E P : Type 0} (r : Result A E) → P → OnOk r P
+on_ok_from (Ok x) p = p
+on_ok_from (Err e) p = tt
 
 -- ---- generated lines
 -- one line more
@@ -363,6 +363,38 @@ reads_header before after text none gave =
     ap header_of (gave.text ∙ ap (λ (n : ℕ). text_numbered before.seed (n + 1)) none)
     ∙ (generated_read before.seed).first
 
+-- ---- the first call
+-- what the generator answered is the header
+pub can_begin : (before after : Generator) (next : Option (List ℕ)) (text bytes : List ℕ) → before.given ≡ 0
+    → next ≡ Some text → next ≡ next_text before → after ≡ after_next before → bytes ≡ text
+    → header_of bytes ≡ Ok (One opening.header)
+can_begin before after next text bytes none some answer left same =
+    ap header_of same ∙ reads_header before after text none (gave before after text (sym some ∙ answer) left)
+
+-- there is one
+pub never_none : (before after : Generator) (next : Option (List ℕ)) → before.given ≡ 0 → 1 ≤ before.lines
+    → next ≡ None → next ≡ next_text before → after ≡ after_next before → ⊥
+never_none before after next none some gone answer left =
+    let all = (gave_none before after (sym gone ∙ answer) left).none in
+    omega (arith, all, some, none)
+
+-- so it was given
+pub gave_header : (before after : Generator) (next : Option (List ℕ)) (text : List ℕ) → before.given ≡ 0
+    → next ≡ Some text → next ≡ next_text before → after ≡ after_next before → after ≡ record before { given = 1 }
+gave_header before after next text none some answer left =
+    (gave before after text (sym some ∙ answer) left).gone
+    ∙ ap (λ (n : ℕ). record before { given = n + 1 }) none
+
+-- and the survey that begins with it has taken it
+pub has_begun : {E : Type 0} (begun : Result Surveyor E) (before after : Generator) (next : Option (List ℕ))
+    (text : List ℕ) → before.given ≡ 0 → before.lines ≤ 200000 → next ≡ Some text → next ≡ next_text before
+    → after ≡ after_next before → IfOk begun (λ survey. survey.world.header ≡ opening.header)
+    → IfOk begun (λ survey. Stands survey []) → IfOk begun (λ survey. HasTaken survey after)
+has_begun (Ok survey) before after next text none few some answer left header stands =
+    taken_first survey before after text none few (gave before after text (sym some ∙ answer) left) header stands
+has_begun (Err fault) before after next text none few some answer left header stands = tt
+
+-- ---- all lines
 -- In the end it has counted what is told at all lines.
 pub all_counted : (survey : Surveyor) (generator : Generator) (seed lines : ℕ) → HasTaken survey generator
     → generator.seed ≡ seed → generator.lines ≡ lines → generator.lines ≤ generator.given
@@ -374,3 +406,22 @@ all_counted survey generator seed lines has same all none =
     ∙ ap (λ (h : Header). summary_of (told_of h (generated generator.seed (generator.given - 1)))) has.header
     ∙ ap (λ (s : ℕ). summary_of (told_of opening.header (generated s (generator.given - 1)))) same
     ∙ ap (λ (n : ℕ). summary_of (told_of opening.header (generated seed (n - 1)))) given
+
+pub counted_in_all : (survey : Surveyor) (new begun all : Generator) (seed lines : ℕ)
+    → new ≡ record { seed = seed; lines = lines; given = 0 } → begun ≡ record new { given = 1 }
+    → all ≡ record begun { given = begun.lines } → HasTaken survey all
+    → survey.summary ≡ summary_of (told_in seed lines)
+counted_in_all survey new begun all seed lines is first last has =
+    let of : all.seed ≡ seed =
+    ap (λ (g : Generator). g.seed) last ∙ ap (λ (g : Generator). g.seed) first ∙ ap (λ (g : Generator). g.seed) is in
+    let same : all.lines ≡ lines =
+    ap (λ (g : Generator). g.lines) last ∙ ap (λ (g : Generator). g.lines) first ∙ ap (λ (g : Generator). g.lines) is in
+    let given : all.given ≡ begun.lines = ap (λ (g : Generator). g.given) last in
+    let few : all.lines ≡ begun.lines = ap (λ (g : Generator). g.lines) last in
+    all_counted survey all seed lines has of same (omega (arith, given, few))
+
+-- ---- the line
+-- the pieces of a line, one after another
+pub nine_pieces : (a b c d e f g h i : List ℕ)
+    → a ++ (b ++ (c ++ (d ++ (e ++ (f ++ (g ++ (h ++ i))))))) ≡ a ++ b ++ c ++ d ++ e ++ f ++ g ++ h ++ i
+nine_pieces a b c d e f g h i = simp append_assoc

@@ -49,7 +49,7 @@ impl Summary {
             prints,
             intervals,
             widest,
-        } = self;
+        } = *self;
         let line = format!(in alloc;
             "lines {lines} prints {prints} intervals {intervals} widest {widest}\n"
         )?;

@@ -1,4 +1,5 @@
 ghost use Rattle.std.specs.Prelude.{◌≡◌, ◌≤◌, ◌<◌, ◌+◌, ◌^◌, nat_lt, ℕ, List, [], ◌∷◌, length, Ok, Some, IfOk, OnOk, OnErr};
+ghost use Rattle.std.specs.Prelude.{string_bytes};
 ghost use Rattle.std.specs.Io.KnownBytes.{Appends};
 ghost use Rattle.css_outside.specs.Bytes.{AppendsPrefix};
 ghost use Rattle.css_outside.specs.Faults.{CountsCall};
@@ -160,7 +161,7 @@ fn begin(alloc: Global, generator: &mut Generator) -> Result<Surveyor, Memory>
     requires given { generator.old.given ≡ 0 }
     requires some { 1 ≤ generator.old.lines }
     requires few { generator.old.lines ≤ 200000 }
-    ensures generator { OnOk result (generator.new ≡ after_next generator.old) }
+    ensures generator { OnOk result (generator.new ≡ record generator.old { given = 1 }) }
     ensures taken { IfOk result (λ survey. HasTaken survey generator.new) }
 {
     let next = generator.next_line(alloc)?;
@@ -219,7 +220,16 @@ fn survey_lines(alloc: Global, seed: u64, lines: u64) -> Result<Summary, Memory>
     Ok(survey.summary)
 }
 
-// Writes the line of a survey.
+// The line of a survey.
+fn survey_line(alloc: Global, seed: u64, lines: u64) -> Result<String, Memory>
+    requires least { 9 ≤ lines }
+    requires most { lines ≤ 200000 }
+    ensures { IfOk result (λ line. string_bytes line ≡ survey_text seed lines) }
+{
+    let summary = survey_lines(alloc, seed, lines)?;
+    summary.line(alloc, lines)
+}
+
 fn write_survey<K: Sink>(alloc: Global, seed: u64, lines: u64, sink: &mut K) -> Result<(), OutFault>
     requires least { 9 ≤ lines }
     requires most { lines ≤ 200000 }
@@ -227,9 +237,10 @@ fn write_survey<K: Sink>(alloc: Global, seed: u64, lines: u64, sink: &mut K) -> 
     ensures err { OnErr result (AppendsPrefix (K.holds sink.old) (K.holds sink.new) (survey_text seed lines)) }
     ensures counted { CountsCall (K.faults sink.old) (K.faults sink.new) result }
 {
-    let summary = survey_lines(alloc, seed, lines)?;
-    let line = summary.line(alloc, lines)?;
-    write_all(sink, line.as_bytes())
+    match survey_line(alloc, seed, lines) {
+        Ok(line) => write_all(sink, line.as_bytes()),
+        Err(Memory) => Err(OutFault::Memory),
+    }
 }
 
 /// Replays the schedule of so many lines, 9 to 200,000, that is generated of the seed, and writes one line: how many

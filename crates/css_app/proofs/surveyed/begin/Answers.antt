@@ -1,33 +1,32 @@
 -- The generator gives the header, and the survey begins with it.
-use Rattle.std.proofs.Common.{arith, ap, sym, ◌∙◌, []}
-use Rattle.css_schedule.specs.Headers.{header_of}
-use Rattle.css_gen.specs.Opening as opening
-use Rattle.css_app.specs.Surveys.{Stands, HasTaken}
-use Rattle.css_app.proofs.Generating.{gave, gave_none}
-use Rattle.css_app.proofs.Surveying.{if_ok_both, reads_header, taken_first}
+use Rattle.css_app.proofs.Surveying.{can_begin, gave_header, has_begun, never_none, no_ok_at_err, no_on_ok_at_err}
+use Rattle.css_app.proofs.Surveying.{on_ok_from}
 use Rattle.css_app.proofs.surveyed.begin.Goals as goal
 
 pub begin-requires : goal.begin-requires
 begin-requires c =
-    let step = gave c.args.generator.now c.next_line.new.self c.in-Some.text
-    (sym c.in-Some.is ∙ c.in_ok-next.ensures.text) c.in_ok-next.ensures.given in
-    ap header_of c.bytes.ensures
-    ∙ reads_header c.args.generator.now c.next_line.new.self c.in-Some.text c.requires.given step
+    can_begin c.args.generator.now c.next_line.new.self c.in_ok-next.next c.in-Some.text c.bytes.result.now
+    c.requires.given c.in-Some.is c.in_ok-next.ensures.text c.in_ok-next.ensures.given c.bytes.ensures
 
-pub prove-unreachable-requires : goal.prove-unreachable-requires
-prove-unreachable-requires c =
-    let none = gave_none c.args.generator.now c.next_line.new.self
-    (sym c.in-None.is ∙ c.in_ok-next.ensures.text) c.in_ok-next.ensures.given in
-    let some = c.requires.some in
-    let given = c.requires.given in
-    omega (arith, none.none, some, given)
+pub unreachable-requires : goal.unreachable-requires
+unreachable-requires c =
+    absurd (never_none c.args.generator.now c.next_line.new.self c.in_ok-next.next c.requires.given c.requires.some
+    c.in-None.is c.in_ok-next.ensures.text c.in_ok-next.ensures.given)
 
-pub returns-in-Some-clause-taken : goal.returns-in-Some-clause-taken
-returns-in-Some-clause-taken c =
-    let before = c.args.generator.now in
-    let after = c.next_line.new.self in
-    let step = gave before after c.in-Some.text
-    (sym c.in-Some.is ∙ c.in_ok-next.ensures.text) c.in_ok-next.ensures.given in
-    if_ok_both (λ survey. HasTaken survey after) c.begin.result c.begin.ensures.header c.begin.ensures.stands
-    (λ survey header stands.
-    taken_first survey before after c.in-Some.text c.requires.given c.requires.few step header stands)
+pub returns-clause-generator : goal.returns-clause-generator
+returns-clause-generator c =
+    on_ok_from c.begin.result
+    (gave_header c.args.generator.now c.next_line.new.self c.in_ok-next.next c.in-Some.text c.requires.given
+    c.in-Some.is c.in_ok-next.ensures.text c.in_ok-next.ensures.given)
+
+pub returns-clause-taken : goal.returns-clause-taken
+returns-clause-taken c =
+    has_begun c.begin.result c.args.generator.now c.next_line.new.self c.in_ok-next.next c.in-Some.text
+    c.requires.given c.requires.few c.in-Some.is c.in_ok-next.ensures.text c.in_ok-next.ensures.given
+    c.begin.ensures.header c.begin.ensures.stands
+
+pub returns-in_err-next-clause-generator : goal.returns-in_err-next-clause-generator
+returns-in_err-next-clause-generator c = no_on_ok_at_err _ _ c.from_residual.result c.from_residual.ensures.1
+
+pub returns-in_err-next-clause-taken : goal.returns-in_err-next-clause-taken
+returns-in_err-next-clause-taken c = no_ok_at_err _ _ c.from_residual.result c.from_residual.ensures.1
