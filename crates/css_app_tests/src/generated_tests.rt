@@ -1,6 +1,7 @@
 ghost use Rattle.std.specs.Prelude.{◌≤◌};
 
-use crate::tests::{Devices, Ran, replay};
+use crate::running::{Devices, Ran, run_over};
+use crate::tests::replay;
 use css_app::{Status, generate, survey};
 use css_num::signed_number;
 use css_outside::MemorySink;
@@ -34,9 +35,6 @@ const SURVEYS: [(u64, &str); 2] = [
     (9, "lines 9 prints 0 intervals 0 widest 0\n"),
     (2000, "lines 2000 prints 512 intervals 508 widest 2295\n"),
 ];
-
-/// The survey of the longest schedule of seed 1, from the other program too.
-const LONGEST: &str = "lines 200000 prints 50114 intervals 50110 widest 8178\n";
 
 /// Seeds and numbers of lines.
 const SCHEDULES: [(u64, u64); 5] = [
@@ -94,14 +92,6 @@ fn generated_lines_are_surveyed(rt: HostRuntime) -> Result<(), Fail> {
         assert_eq!(rt; ran.status, Status::Done);
         assert_eq!(rt; ran.sink.bytes(), expected.as_bytes());
     }
-    Ok(())
-}
-
-#[test]
-fn the_longest_schedule_is_surveyed(rt: HostRuntime) -> Result<(), Fail> {
-    let ran = surveyed(rt.alloc(), 1, 200_000)?;
-    assert_eq!(rt; ran.status, Status::Done);
-    assert_eq!(rt; ran.sink.bytes(), LONGEST.as_bytes());
     Ok(())
 }
 
@@ -175,6 +165,66 @@ fn a_replay_of_generated_lines_prints_what_is_counted(rt: HostRuntime) -> Result
             assert_eq!(rt; told.status, Status::Done);
             assert_eq!(rt; told.sink.bytes(), expected.as_bytes());
         }
+    }
+    Ok(())
+}
+
+/// Command lines, and what each of them writes. The surveys come from another program.
+const COMMANDS: [(&str, &[u8]); 4] = [
+    ("generate --seed 1 --lines 9", OPENING),
+    ("generate --lines=9 --seed=7", OPENING),
+    (
+        "survey --seed 1 --lines 9",
+        b"lines 9 prints 0 intervals 0 widest 0\n",
+    ),
+    (
+        "survey --lines=2000 --seed=1",
+        b"lines 2000 prints 512 intervals 508 widest 2295\n",
+    ),
+];
+
+#[test]
+fn both_are_commands_of_the_program(rt: HostRuntime) -> Result<(), Fail> {
+    for (line, expected) in COMMANDS {
+        let ran = run_over(rt.alloc(), line, b"", &DEVICES)?;
+        assert_eq!(rt; ran.status, Status::Done, "{line}");
+        assert_eq!(rt; ran.sink.bytes(), expected, "{line}");
+    }
+    Ok(())
+}
+
+/// Command lines of which the third write fails, after 5 bytes each, and what was written before.
+const CUT: [(&str, &[u8]); 2] = [
+    ("generate --seed 1 --lines 9", b"css-schedu"),
+    ("survey --seed 1 --lines 9", b"lines 9 pr"),
+];
+
+#[test]
+fn a_failed_write_ends_both_commands(rt: HostRuntime) -> Result<(), Fail> {
+    let devices = Devices {
+        piece: 5,
+        reads: &[],
+        writes: &[3],
+    };
+    for (line, expected) in CUT {
+        let ran = run_over(rt.alloc(), line, b"", &devices)?;
+        assert_eq!(rt; ran.status, Status::WriteFault, "{line}");
+        assert_eq!(rt; ran.sink.bytes(), expected, "{line}");
+    }
+    Ok(())
+}
+
+#[test]
+fn neither_command_reads(rt: HostRuntime) -> Result<(), Fail> {
+    let devices = Devices {
+        piece: 4096,
+        reads: &[1],
+        writes: &[],
+    };
+    for (line, expected) in COMMANDS {
+        let ran = run_over(rt.alloc(), line, b"", &devices)?;
+        assert_eq!(rt; ran.status, Status::Done, "{line}");
+        assert_eq!(rt; ran.sink.bytes(), expected, "{line}");
     }
     Ok(())
 }

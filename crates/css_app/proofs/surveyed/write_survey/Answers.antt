@@ -16,13 +16,13 @@ survey_line-requires-clause-most g c = c.requires.most
 pub returns-in-Ok-clause-ok : goal.returns-in-Ok-clause-ok
 returns-in-Ok-clause-ok g c =
     subst (λ (l : List ℕ). OnOk c.write_all.result
-        (Appends (g.K.Sink.holds c.args.sink.now) (g.K.Sink.holds c.write_all.new.sink) l))
+    (Appends (g.K.Sink.holds c.args.sink.now) (g.K.Sink.holds c.write_all.new.sink) l))
     (c.as_bytes.ensures.value ∙ c.in-Ok.ensures) c.write_all.ensures.ok
 
 pub returns-in-Ok-clause-err : goal.returns-in-Ok-clause-err
 returns-in-Ok-clause-err g c =
     subst (λ (l : List ℕ). OnErr c.write_all.result
-        (AppendsPrefix (g.K.Sink.holds c.args.sink.now) (g.K.Sink.holds c.write_all.new.sink) l))
+    (AppendsPrefix (g.K.Sink.holds c.args.sink.now) (g.K.Sink.holds c.write_all.new.sink) l))
     (c.as_bytes.ensures.value ∙ c.in-Ok.ensures) c.write_all.ensures.err
 
 pub returns-in-Ok-clause-counted : goal.returns-in-Ok-clause-counted
