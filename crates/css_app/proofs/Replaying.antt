@@ -1,13 +1,13 @@
 -- A replay of a generated schedule accepts each line, and prints what is told at it.
 use Rattle.std.proofs.Common.{◌≡◌, ℕ, suc, zero, ◌+◌, ◌-◌, ◌*◌, ◌<◌, ◌≤◌, arith, ap, sym, subst, ◌∙◌, refl}
-use Rattle.std.proofs.Common.{Bool, true, false, cond, ltb, List, [], ◌∷◌, ◌++◌, length}
-use Rattle.std.specs.Prelude.{Option, Some, None, Result, Ok, Err, ◌||◌}
+use Rattle.std.proofs.Common.{Bool, false, cond, ltb, List, [], ◌∷◌, ◌++◌, length}
+use Rattle.std.specs.Prelude.{Option, Some, None, Result, Ok, ◌||◌}
 use Rattle.std.specs.Option.{option_map, option_to_list}
 use Rattle.std.proofs.lemmas.Bool.{le-ltb}
 use Rattle.std.proofs.lemmas.List.{append_assoc, append-nil, length-append}
 use Rattle.std.proofs.lemmas.List.Sums.{sum_by-append, sum_by-cons}
 use Rattle.css_lines.specs.Lines.{whole_lines, last_part}
-use Rattle.css_lines.specs.Meaning.{Outcome, outcome, outcome_so_far, accepted, followed_by, reader_outcome, line_outcome}
+use Rattle.css_lines.specs.Meaning.{Outcome, outcome_so_far, accepted, followed_by, reader_outcome, line_outcome}
 use Rattle.css_lines.specs.Meaning.{outcome_from, end_outcome, offset, refused_at}
 use Rattle.css_lines.specs.declared.reader.Refusal.TheVariants.{Long}
 use Rattle.css_lines.proofs.Cut.{whole_lines_is, last_part_is, whole_lines_feed, whole_lines_free, last_part_feed, last_part_free}
@@ -20,10 +20,8 @@ use Rattle.css_schedule.specs.declared.line.Verb.{Verb}
 use Rattle.css_schedule.specs.declared.line.Verb.TheVariants.{Ask, Take, Give, Land, Wall, Print}
 use Rattle.css_schedule.specs.declared.line.Verb.TheVariants.{Programme, Timeline, Viewer}
 use Rattle.css_schedule.specs.declared.line.Verb.TheVariants.{Opening, Bring, Up, Present, Close}
-use Rattle.css_schedule.specs.Headers.{header_of}
 use Rattle.css_schedule.specs.Lines.{line_of}
 use Rattle.css_companion.specs.Printed as companions
-use Rattle.css_world.specs.declared.fault.WorldFault.{WorldFault}
 use Rattle.css_world.specs.Happened.{Numbered}
 use Rattle.css_world.specs.Verdicts.{printed_for, line_meant}
 use Rattle.css_world.proofs.Worlds.{carried_ok}

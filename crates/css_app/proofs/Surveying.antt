@@ -1,6 +1,6 @@
 -- A survey counts what is told at the lines of a schedule.
 use Rattle.std.proofs.Common.{◌≡◌, ℕ, suc, zero, ◌+◌, ◌-◌, ◌<◌, ◌≤◌, arith, ap, sym, subst, ◌∙◌, refl}
-use Rattle.std.proofs.Common.{Bool, true, ltb, List, [], ◌∷◌, ◌++◌, length}
+use Rattle.std.proofs.Common.{true, ltb, List, [], ◌∷◌, ◌++◌, length}
 use Rattle.std.proofs.lemmas.Bool.{lt-ltb}
 use Rattle.std.proofs.lemmas.List.{append_assoc}
 use Rattle.std.proofs.Common.{◌⊎◌, inl, inr}

@@ -36,7 +36,7 @@ returns-in-Tv-clause-counted_spawns g c = c.tv_by.ensures.spawns (g.P.Spawner.fa
 
 -- what is generated or surveyed is written alone
 pub returns-in-Generate-clause-does : goal.returns-in-Generate-clause-does
-returns-in-Generate-clause-does g c = c.generate_by.ensures.does
+returns-in-Generate-clause-does g c = rw c.in-Generate.is c.generate_by.ensures.does
 
 pub returns-in-Generate-clause-counted_reads : goal.returns-in-Generate-clause-counted_reads
 returns-in-Generate-clause-counted_reads g c = c.generate_by.ensures.reads (g.S.Source.faults c.args.source.now)
@@ -53,7 +53,7 @@ pub returns-in-Generate-clause-counted_spawns : goal.returns-in-Generate-clause-
 returns-in-Generate-clause-counted_spawns g c = c.generate_by.ensures.quiet.spawns (g.P.Spawner.faults c.args.spawner.now)
 
 pub returns-in-Survey-clause-does : goal.returns-in-Survey-clause-does
-returns-in-Survey-clause-does g c = c.survey_by.ensures.does
+returns-in-Survey-clause-does g c = rw c.in-Survey.is c.survey_by.ensures.does
 
 pub returns-in-Survey-clause-counted_reads : goal.returns-in-Survey-clause-counted_reads
 returns-in-Survey-clause-counted_reads g c = c.survey_by.ensures.reads (g.S.Source.faults c.args.source.now)

@@ -1,5 +1,5 @@
 -- The header is taken, then each further line, and in the end all lines are counted.
-use Rattle.std.proofs.Common.{◌≡◌, ℕ, ◌≤◌, arith, ap, refl, sym, subst}
+use Rattle.std.proofs.Common.{ℕ, ◌≤◌, arith, ap, refl, sym, subst}
 use Rattle.css_gen.specs.Generated.{Generator}
 use Rattle.css_app.proofs.Surveying.{counted_in_all, no_ok_at_err}
 use Rattle.css_app.proofs.surveyed.survey_lines.Goals as goal
