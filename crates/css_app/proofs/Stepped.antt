@@ -9,8 +9,8 @@ use Rattle.css_gen.specs.Course.{Happening, asked, taken, taken_back, given, giv
 use Rattle.css_gen.specs.Course.{chosen, happening, tv_clock, own_clock}
 use Rattle.css_gen.specs.declared.course.Course.{Course}
 use Rattle.css_gen.proofs.Draws.{draw-below}
-use Rattle.css_gen.proofs.Exchanged.{AreExchanged, IsDone, at}
-use Rattle.css_gen.proofs.Exchanged.{ask-done, print-done, land-done, take-done, give-done}
+use Rattle.css_app.proofs.Exchanged.{AreExchanged, IsDone, at}
+use Rattle.css_app.proofs.Exchanged.{ask-done, print-done, land-done, take-done, give-done}
 
 -- What happens is carried out, and its readings are what the clocks show. Neither time nor oscillators change by it.
 pub record IsStep (lines : List Numbered) (number : ℕ) (course : Course) (next : Happening) : Type 0 where

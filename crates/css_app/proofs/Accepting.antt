@@ -19,15 +19,15 @@ use Rattle.css_gen.specs.Course.{clock, tv_clock, own_clock, started, later, hap
 use Rattle.css_gen.specs.Course.{course_after}
 use Rattle.css_gen.specs.Opening.{header, companion, opening_line}
 use Rattle.css_gen.specs.Generated.{line_numbered}
-use Rattle.css_gen.specs.Accepted.{generated, GeneratedLinesAreAccepted}
+use Rattle.css_app.specs.Generated.{generated, GeneratedLinesAreAccepted}
 use Rattle.css_gen.specs.declared.course.Course.{Course}
 use Rattle.css_gen.proofs.Bounds.{course-small}
 use Rattle.css_gen.proofs.Clocks.{clock-start, clock-goes_on}
 use Rattle.css_gen.proofs.Ranges.{next-range, opening-range, pts-utf8, stem-utf8}
-use Rattle.css_gen.proofs.Watched.{IsSeen, AreSeen, clock-ok, seen_next, reading-ok, both-ok}
-use Rattle.css_gen.proofs.Exchanged.{AreExchanged, at}
-use Rattle.css_gen.proofs.Openings.{to_9, opening-accepted, opening-exchanged, opening-tv, opening-own}
-use Rattle.css_gen.proofs.Stepped.{IsBefore, happening-step}
+use Rattle.css_app.proofs.Watched.{IsSeen, AreSeen, clock-ok, seen_next, reading-ok, both-ok}
+use Rattle.css_app.proofs.Exchanged.{AreExchanged, at}
+use Rattle.css_app.proofs.Openings.{to_9, opening-accepted, opening-exchanged, opening-tv, opening-own}
+use Rattle.css_app.proofs.Stepped.{IsBefore, happening-step}
 
 -- the opening, and so many lines after it
 further : (seed : ℕ) → (lines : ℕ) → List Numbered
@@ -165,7 +165,7 @@ line-late seed number lines e =
 
 -- these are the generated lines
 further-is : (seed lines : ℕ) → generated seed (lines + 8) ≡ further seed lines
-unfolding further line_numbered
+unfolding further line_numbered generated
 further-is seed zero = refl
 further-is seed (suc lines) =
     let count : suc lines + 8 ≡ suc (lines + 8) = omega arith in
@@ -182,6 +182,7 @@ further-is seed (suc lines) =
 -- the first lines of accepted ones are accepted
 front-accepted : (seed count more : ℕ) → AreAccepted header (generated seed (count + more))
     → AreAccepted header (generated seed count)
+unfolding generated
 front-accepted seed count zero h =
     let same : count + 0 ≡ count = omega arith in subst (λ n. AreAccepted header (generated seed n)) same h
 front-accepted seed count (suc more) h =

@@ -13,8 +13,8 @@ use Rattle.css_world.specs.Standing.{AreAccepted}
 use Rattle.css_gen.specs.Course.{clock}
 use Rattle.css_gen.specs.Opening.{pts, header, opening_line, opening_verb}
 use Rattle.css_gen.proofs.Clocks.{clock-start}
-use Rattle.css_gen.proofs.Exchanged.{AreExchanged, IsTicket}
-use Rattle.css_gen.proofs.Watched.{IsSeen, AreSeen, seen_next}
+use Rattle.css_app.proofs.Exchanged.{AreExchanged, IsTicket}
+use Rattle.css_app.proofs.Watched.{IsSeen, AreSeen, seen_next}
 
 -- a line of the opening
 abbrev line : ℕ → Numbered
