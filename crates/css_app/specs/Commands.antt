@@ -203,7 +203,8 @@ BySurvey asked sink result = ByWriting (survey_text asked.seed asked.lines) sink
 
 -- ---- all commands
 -- what a command does to the devices that it uses, or words that are those of none
-abbrev pub Does : Result Asked WordsFault → SourceUse → SinkUse → OutsideUse → SpawnerUse → FollowersUse → Status → Type 0
+abbrev pub Does : Result Asked WordsFault → SourceUse → SinkUse → OutsideUse → SpawnerUse → FollowersUse → Status
+    → Type 0
 Does (Ok Replay) source sink outside spawner followers result = ByReplay source sink result
 Does (Ok Agree) source sink outside spawner followers result = ByAgree source sink result
 Does (Ok (Companion asked)) source sink outside spawner followers result =
