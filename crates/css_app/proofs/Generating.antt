@@ -99,7 +99,8 @@ schedule-front seed given (suc more) =
           ∙ append_assoc (schedule_text seed given) front.0 line,
     )
 
-schedule-begins : (seed given lines : ℕ) → given ≤ lines → IsPrefix (schedule_text seed given) (schedule_text seed lines)
+schedule-begins : (seed given lines : ℕ) → given ≤ lines
+    → IsPrefix (schedule_text seed given) (schedule_text seed lines)
 schedule-begins seed given lines fewer =
     let same : given + (lines - given) ≡ lines = omega (arith, fewer) in
     subst (λ (n : ℕ). IsPrefix (schedule_text seed given) (schedule_text seed n)) same
@@ -107,7 +108,8 @@ schedule-begins seed given lines fewer =
 
 -- one line more was written
 pub one_more : (seed given : ℕ) (start held holds : Option (List ℕ)) → Appends start held (schedule_text seed given)
-    → Appends held holds (text_numbered seed (given + 1) ++ 10 ∷ []) → Appends start holds (schedule_text seed (given + 1))
+    → Appends held holds (text_numbered seed (given + 1) ++ 10 ∷ [])
+    → Appends start holds (schedule_text seed (given + 1))
 one_more seed given start held holds grew line =
     let more : suc given ≡ given + 1 = omega arith in
     let wrote : Appends held holds (text_numbered seed (suc given) ++ 10 ∷ []) =

@@ -43,7 +43,8 @@ use Rattle.css_gen.proofs.Reading.{generated_read}
 use Rattle.css_gen.specs.Opening as opening
 use Rattle.css_app.specs.declared.summary.Summary.{Summary}
 use Rattle.css_app.specs.declared.surveyed.Surveyor.{Surveyor}
-use Rattle.css_app.specs.Surveyed.{Told, asked_by, told_by, told_at, told_of, told_in, counted, counted_with, summary_of}
+use Rattle.css_app.specs.Surveyed.{Told, asked_by, told_by, told_at, told_of, told_in, counted, counted_with}
+use Rattle.css_app.specs.Surveyed.{summary_of}
 use Rattle.css_app.specs.Surveys.{Stands, IsTaken, HasTaken}
 use Rattle.css_app.proofs.Generating.{Gave, gave, gave_none}
 use Rattle.css_app.proofs.Accepting.{generated_accepted}
@@ -72,8 +73,8 @@ history_printed : (header : Header) (now : Numbered) (older : List Numbered) (re
     → history_of 1 header (now ∷ older) ≡ Clock why.Turn reading ∷ history_of 1 header older
 history_printed header now older reading one verb =
     history_now header now older one
-    ∙ ap (λ (v : Verb). done_by header 1 (datagrams header older) (events_of header older) v (history_of 1 header older))
-    verb
+    ∙ ap (λ (v : Verb).
+    done_by header 1 (datagrams header older) (events_of header older) v (history_of 1 header older)) verb
 
 -- its report after the line is the one at the line
 pub report_stays : (header : Header) (now : Numbered) (older : List Numbered) (reading : ℕ) → now.line.who ≡ 1
@@ -188,7 +189,8 @@ pub takes : (old new : Surveyor) (older : List Numbered) (now : Numbered) → St
 takes old new older now stands few world header summary = record {
   world = world;
   summary = summary ∙ ap (counted_with (told_at new.world.header older now)) stands.summary
-      ∙ ap (λ (h : Header). counted_with (told_at new.world.header older now) (summary_of (told_of h older))) (sym header)
+      ∙ ap (λ (h : Header). counted_with (told_at new.world.header older now) (summary_of (told_of h older)))
+      (sym header)
       ∙ counts_on (told_at new.world.header older now) (told_of new.world.header older);
   few = omega (arith, few);
 }
@@ -262,7 +264,8 @@ ready_next survey before after number text has gave is =
     subst (AreAccepted opening.header) (one-generated before.seed given has.some) taken in
     let here : AreAccepted survey.world.header
     (record { number = given + 1; line = next_generated before } ∷ lines_before before) =
-    subst (λ (h : Header). AreAccepted h (record { number = given + 1; line = next_generated before } ∷ lines_before before))
+    subst (λ (h : Header). AreAccepted h
+    (record { number = given + 1; line = next_generated before } ∷ lines_before before))
     (sym has.header) first in
     record {
       read = ap line_of gave.text ∙ read;
@@ -284,7 +287,8 @@ pub taken_next : (old new : Surveyor) (before after : Generator) (number : ℕ) 
 taken_next old new before after number text has gave is header stands =
     let given = before.given in
     let here : Stands new (record { number = given + 1; line = next_generated before } ∷ lines_before before) =
-    subst (λ (n : ℕ). Stands new (record { number = n; line = next_generated before } ∷ lines_before before)) is stands in
+    subst (λ (n : ℕ). Stands new (record { number = n; line = next_generated before } ∷ lines_before before))
+    is stands in
     let same : given ≡ given + 1 - 1 = omega arith in
     let all : Stands new (generated before.seed (given + 1 - 1)) =
     subst (Stands new) (sym (one-generated before.seed given has.some) ∙ ap (generated before.seed) same) here in
@@ -298,7 +302,8 @@ taken_next old new before after number text has gave is header stands =
 
 -- ---- a call
 -- what the generator answered is the next text, and the survey takes it
-pub can_take : (survey : Surveyor) (before after : Generator) (number : ℕ) (next : Option (List ℕ)) (text bytes : List ℕ)
+pub can_take : (survey : Surveyor) (before after : Generator) (number : ℕ) (next : Option (List ℕ))
+    (text bytes : List ℕ)
     → HasTaken survey before → number ≡ before.given + 1 → next ≡ Some text → next ≡ next_text before
     → after ≡ after_next before → bytes ≡ text
     → (older : List Numbered) × (line : Line) × Stands survey older × (length older < 200000)
@@ -310,12 +315,13 @@ can_take survey before after number next text bytes has is some answer left same
       next_generated before,
       has.stands,
       few_before survey before after text has step,
-      subst (λ (t : List ℕ). IsTaken survey.world.header (lines_before before) number t (next_generated before)) (sym same)
-          ready,
+      subst (λ (t : List ℕ). IsTaken survey.world.header (lines_before before) number t (next_generated before))
+          (sym same) ready,
     )
 
 -- so it has taken it
-pub has_taken : (old new : Surveyor) (before after : Generator) (number : ℕ) (next : Option (List ℕ)) (text bytes : List ℕ)
+pub has_taken : (old new : Surveyor) (before after : Generator) (number : ℕ) (next : Option (List ℕ))
+    (text bytes : List ℕ)
     → HasTaken old before → number ≡ before.given + 1 → next ≡ Some text → next ≡ next_text before
     → after ≡ after_next before → bytes ≡ text → new.world.header ≡ old.world.header
     → ((older : List Numbered) (line : Line) → Stands old older → length older < 200000
@@ -325,8 +331,8 @@ has_taken old new before after number next text bytes has is some answer left sa
     let step = gave before after text (sym some ∙ answer) left in
     let ready = ready_next old before after number text has step is in
     let taken : IsTaken old.world.header (lines_before before) number bytes (next_generated before) =
-    subst (λ (t : List ℕ). IsTaken old.world.header (lines_before before) number t (next_generated before)) (sym same) ready
-    in
+    subst (λ (t : List ℕ). IsTaken old.world.header (lines_before before) number t (next_generated before))
+    (sym same) ready in
     taken_next old new before after number text has step is header
     (stands (lines_before before) (next_generated before) has.stands (few_before old before after text has step) taken)
 

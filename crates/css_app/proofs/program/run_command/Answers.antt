@@ -50,7 +50,8 @@ returns-in-Generate-clause-counted_dials g c =
     c.generate_by.ensures.quiet.dials (g.O.Outside.counts c.args.outside.now).dial_faults
 
 pub returns-in-Generate-clause-counted_spawns : goal.returns-in-Generate-clause-counted_spawns
-returns-in-Generate-clause-counted_spawns g c = c.generate_by.ensures.quiet.spawns (g.P.Spawner.faults c.args.spawner.now)
+returns-in-Generate-clause-counted_spawns g c =
+    c.generate_by.ensures.quiet.spawns (g.P.Spawner.faults c.args.spawner.now)
 
 pub returns-in-Survey-clause-does : goal.returns-in-Survey-clause-does
 returns-in-Survey-clause-does g c = rw c.in-Survey.is c.survey_by.ensures.does
@@ -67,4 +68,5 @@ returns-in-Survey-clause-counted_dials g c =
     c.survey_by.ensures.quiet.dials (g.O.Outside.counts c.args.outside.now).dial_faults
 
 pub returns-in-Survey-clause-counted_spawns : goal.returns-in-Survey-clause-counted_spawns
-returns-in-Survey-clause-counted_spawns g c = c.survey_by.ensures.quiet.spawns (g.P.Spawner.faults c.args.spawner.now)
+returns-in-Survey-clause-counted_spawns g c =
+    c.survey_by.ensures.quiet.spawns (g.P.Spawner.faults c.args.spawner.now)

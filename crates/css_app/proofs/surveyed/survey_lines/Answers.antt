@@ -41,6 +41,6 @@ returns-in_err-take_all c =
 
 pub returns : goal.returns
 returns c =
-    counted_in_all c.take_all.new.survey c.new-generator.result c.begin.new.generator c.take_all.new.generator c.args.seed
-    c.args.lines c.new-generator.ensures c.in_ok-survey.ensures.generator c.in_ok-take_all.ensures.generator
+    counted_in_all c.take_all.new.survey c.new-generator.result c.begin.new.generator c.take_all.new.generator
+    c.args.seed c.args.lines c.new-generator.ensures c.in_ok-survey.ensures.generator c.in_ok-take_all.ensures.generator
     c.in_ok-take_all.ensures.taken

@@ -18,8 +18,8 @@ returns-in_ok-take-in-Some-clause-more c =
 
 pub returns-in_ok-take-in-Some-clause-taken : goal.returns-in_ok-take-in-Some-clause-taken
 returns-in_ok-take-in-Some-clause-taken c =
-    has_taken c.args.survey.now c.take.new.self c.args.generator.now c.next_line.new.self c.args.number c.in_ok-next.next
-    c.in-Some.text c.bytes.result.now c.requires.taken c.requires.number c.in-Some.is c.in_ok-next.ensures.text
+    has_taken c.args.survey.now c.take.new.self c.args.generator.now c.next_line.new.self c.args.number
+    c.in_ok-next.next c.in-Some.text c.bytes.result.now c.requires.taken c.requires.number c.in-Some.is c.in_ok-next.ensures.text
     c.in_ok-next.ensures.given c.bytes.ensures c.in_ok-take-in-Some.ensures.header c.in_ok-take-in-Some.ensures.stands
 
 pub returns-in-None-clause-more : goal.returns-in-None-clause-more
@@ -44,13 +44,19 @@ pub returns-in_err-next-clause-taken : goal.returns-in_err-next-clause-taken
 returns-in_err-next-clause-taken c = no_on_ok_at_err _ _ c.from_residual.result c.from_residual.ensures.1
 
 pub returns-in_err-take-in-Some-clause-more : goal.returns-in_err-take-in-Some-clause-more
-returns-in_err-take-in-Some-clause-more c = no_ok_at_err _ _ c.from_residual-in_err-take-in-Some.result c.from_residual-in_err-take-in-Some.ensures.1
+returns-in_err-take-in-Some-clause-more c =
+    no_ok_at_err _ _ c.from_residual-in_err-take-in-Some.result
+    c.from_residual-in_err-take-in-Some.ensures.1
 
 pub returns-in_err-take-in-Some-clause-generator : goal.returns-in_err-take-in-Some-clause-generator
-returns-in_err-take-in-Some-clause-generator c = no_on_ok_at_err _ _ c.from_residual-in_err-take-in-Some.result c.from_residual-in_err-take-in-Some.ensures.1
+returns-in_err-take-in-Some-clause-generator c =
+    no_on_ok_at_err _ _ c.from_residual-in_err-take-in-Some.result
+    c.from_residual-in_err-take-in-Some.ensures.1
 
 pub returns-in_err-take-in-Some-clause-taken : goal.returns-in_err-take-in-Some-clause-taken
-returns-in_err-take-in-Some-clause-taken c = no_on_ok_at_err _ _ c.from_residual-in_err-take-in-Some.result c.from_residual-in_err-take-in-Some.ensures.1
+returns-in_err-take-in-Some-clause-taken c =
+    no_on_ok_at_err _ _ c.from_residual-in_err-take-in-Some.result
+    c.from_residual-in_err-take-in-Some.ensures.1
 
 pub returns-in_ok-take-in-Some-clause-generator : goal.returns-in_ok-take-in-Some-clause-generator
 returns-in_ok-take-in-Some-clause-generator c = c.in_ok-next.ensures.given
