@@ -15,8 +15,8 @@ use std::marker::Model;
 
 /// What a companion knows of the television's wall clock from all answers that it accepted.
 ///
-/// Of each declared error it keeps one answer at most, the narrowest. Contracts see its own clock, the kept answers,
-/// the newest first, and the least reading that it may be handed next.
+/// It keeps one answer of each declared error, the narrowest. Contracts see the companion's own clock, the kept
+/// answers, the newest first, and the least reading that it may be handed next.
 #[derive(Debug, Drop)]
 pub struct Estimate {
     local: Local,
@@ -71,8 +71,9 @@ impl Estimate {
         Ok(())
     }
 
-    /// The wall span at a reading that isn't below that of the last answer accepted: the span of the accepted answer
-    /// with the least scaled width at the reading, of equals the one accepted first. None where none was accepted.
+    /// The span of the wall clock at a reading: that of the accepted answer with the least scaled width there, of
+    /// equals the one accepted first. None where none was accepted. The reading isn't below that of the last answer
+    /// accepted.
     pub fn at(&self, reading: u64) -> Option<Span>
         requires range { reading < LIMIT }
         requires floor { self.now.floor ≤ reading }

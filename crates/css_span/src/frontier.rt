@@ -28,8 +28,8 @@ pub(crate) fn narrowest(answers: &[Answer], local: &Local, reading: u64) -> Opti
     best
 }
 
-/// Takes an answer in: of those of its declared error the narrowest is kept, of equals the first. Widths of answers
-/// of one error grow alike, so none that is dropped would be the narrowest later.
+/// Takes an answer in: the narrowest of its declared error is kept, of equals the first. Widths of answers of one error
+/// grow alike, so none that is dropped could be the narrowest later.
 pub(crate) fn keep(
     kept: &mut Vec<Answer>,
     local: &Local,
