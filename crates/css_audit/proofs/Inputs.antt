@@ -1,7 +1,6 @@
 -- What the header of a record names is UTF-8.
 use Rattle.std.proofs.Common.{◌≡◌, List}
 use Rattle.std.specs.Prelude.{ℕ, ◌+◌, codes, Result, Ok, Err, IfOk}
-use Rattle.std.specs.Str.{IsUtf8}
 use Rattle.css_num.specs.Gives.{GivesBy}
 use Rattle.css_model.specs.Numbers.{max_local_error, max_local_precision}
 use Rattle.css_companion.specs.declared.config.CompanionConfig.{CompanionConfig}
@@ -11,11 +10,7 @@ use Rattle.css_schedule.specs.Ranges.{IsText}
 use Rattle.css_schedule.specs.Words.{after_word, number_at, text_at, all_read, words_of}
 use Rattle.css_schedule.specs.declared.fault.LineFault.{LineFault}
 use Rattle.css_schedule.specs.declared.fault.LineFault.TheVariants.{Memory}
-use Rattle.css_audit.specs.Inputs.{header_of_words, header_of}
-
--- both texts are UTF-8
-abbrev pub IsUtf8Config : CompanionConfig → Type 0
-IsUtf8Config config = IsUtf8 config.selector × IsUtf8 config.stem
+use Rattle.css_audit.specs.Inputs.{IsUtf8Config, header_of_words, header_of}
 
 words-utf8 : (words : List (List ℕ)) → IfOk (header_of_words words) IsUtf8Config
 unfolding header_of_words

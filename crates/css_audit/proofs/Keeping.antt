@@ -19,8 +19,8 @@ use Rattle.css_companion.specs.declared.report.Report.{Report}
 use Rattle.css_cii.specs.declared.state.State.{State}
 use Rattle.css_audit.specs.Entries.{history_in, last_in, slept_in, turn_in, reports_in}
 use Rattle.css_audit.specs.Faults.{told_fault}
-use Rattle.css_audit.specs.Standing.{config_of, place_in, Keeps, IsSound, MayBeHanded, least_of, slept, passed, passed_by}
-use Rattle.css_audit.specs.Standing.{pass_of, place_after, IsRecorded, event_verdict}
+use Rattle.css_audit.specs.Standing.{config_of, place_in, Keeps, IsSound, MayBeHanded, least_of, slept, passed}
+use Rattle.css_audit.specs.Standing.{passed_by, pass_of, place_after, IsRecorded, event_verdict}
 use Rattle.css_audit.specs.Verdicts.{Verdict, least_after, order_after, order_of, cii_verdict, report_verdict}
 use Rattle.css_audit.specs.Verdicts.{report_at, right_after, IsRight, AreRight}
 use Rattle.css_audit.specs.declared.fault.AuditFault.{AuditFault}

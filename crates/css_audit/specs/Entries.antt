@@ -1,4 +1,5 @@
--- What the lines of a record tell. In each list of lines the newest stands first; the header, which is line 1, is in none.
+-- What the lines of a record tell. In each list of lines the newest stands first. The header, which is line 1, is in
+-- none of them.
 use Rattle.std.specs.Prelude.{ℕ, ◌+◌, Bool, true, false, if◌then◌else◌, List, [], ◌∷◌, Option, Some, None}
 use Rattle.std.specs.Option.{option_map, option_or}
 use Rattle.css_model.specs.declared.Kind.TheVariants as kind

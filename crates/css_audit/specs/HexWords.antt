@@ -1,6 +1,6 @@
 -- Bytes as words of hex digits.
-use Rattle.std.specs.Prelude.{ℕ, ◌==◌, ◌&&◌, ◌||◌, nat_le, Bool, not, if◌then◌else◌, List, [], ◌∷◌, length, codes, bytes_eq}
-use Rattle.std.specs.Prelude.{Result, Ok, Err}
+use Rattle.std.specs.Prelude.{ℕ, ◌==◌, ◌&&◌, ◌||◌, nat_le, Bool, not, if◌then◌else◌, List, [], length}
+use Rattle.std.specs.Prelude.{codes, bytes_eq, Result, Ok, Err}
 use Rattle.std.specs.List.{list_all}
 use Rattle.std.specs.Result.{result_ok}
 use Rattle.hex.specs.Hex.{decode_of, encode_lower}
@@ -29,5 +29,4 @@ bytes_of word =
 
 -- the word that spells bytes
 abbrev pub hex_of : List ℕ → List ℕ
-hex_of [] = codes "-"
-hex_of (byte ∷ bytes) = encode_lower (byte ∷ bytes)
+hex_of bytes = if length bytes == 0 then codes "-" else encode_lower bytes

@@ -2,6 +2,7 @@
 use Rattle.std.specs.Prelude.{ℕ, ◌+◌, ◌<◌, ◌&&◌, ⊤, nat_le, Bool, if◌then◌else◌, List, [], ◌∷◌, length, take, drop}
 use Rattle.std.specs.Prelude.{Option, Some, None, Result, Ok, Err, codes, bytes_eq}
 use Rattle.std.specs.List.{list_all}
+use Rattle.std.specs.Str.{IsUtf8}
 use Rattle.css_model.specs.declared.TheConstants.{LIMIT}
 use Rattle.css_model.specs.Numbers.{max_local_error, max_local_precision}
 use Rattle.css_model.specs.WallClock.{Local}
@@ -155,3 +156,7 @@ header_of_words words = do
 -- the header that bytes are, or that they are none
 abbrev pub header_of : List ℕ → Result CompanionConfig LineFault
 header_of bytes = header_of_words (words_of bytes)
+
+-- what the header names is UTF-8
+abbrev pub IsUtf8Config : CompanionConfig → Type 0
+IsUtf8Config config = IsUtf8 config.selector × IsUtf8 config.stem

@@ -8,4 +8,5 @@ pub mod Verdicts
 pub mod Standing
 pub mod Auditing
 pub mod Reading
+pub mod Promise
 pub mod Recorded

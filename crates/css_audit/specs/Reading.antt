@@ -18,7 +18,8 @@ IsRead text = (line : RecordLine) × (line_of text ≡ Ok line)
 -- The reader stands for these texts: the first is the header, each other one is a line, and its audit stands for them.
 abbrev pub Stands : Auditing → List (List ℕ) → Type 0
 Stands reader [] = reader.audit ≡ None
-Stands reader (first ∷ texts) = (audit : Audit) × (reader.audit ≡ Some audit) × (header_of first ≡ Ok (config_of audit.companion))
+Stands reader (first ∷ texts) = (audit : Audit) × (reader.audit ≡ Some audit)
+    × (header_of first ≡ Ok (config_of audit.companion))
     × All IsRead texts × StandsFor audit (lines_in texts)
 
 -- a header opens the audit of no lines, and anything else is refused

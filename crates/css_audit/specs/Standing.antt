@@ -39,8 +39,8 @@ abbrev pub opened : Result CompanionConfig LineFault → Result CompanionConfig 
 opened (Ok config) = Ok config
 opened (Err unread) = Err (read_fault unread)
 
--- the place after lines: how many lines and reports there were, the last reading, whether the companion slept since, and
--- the reading of the last line, where that was a turn
+-- The place after lines: how many lines and reports there were, the last reading, whether the companion slept since,
+-- and the reading of the last line, where that was a turn.
 abbrev pub place_in : List RecordLine → Place
 place_in lines = record {
   lines = number_of lines;

@@ -74,7 +74,8 @@ impl Audit {
         ensures keeps { config_of self.new.companion ≡ config_of self.old.companion }
     {
         let line = read_line(self.alloc, bytes)?;
-        self.place = take(self.alloc, &mut self.companion, &self.place, line)?;
+        let place = take(self.alloc, &mut self.companion, &self.place, line)?;
+        self.place = place;
         Ok(())
     }
 }

@@ -1,7 +1,6 @@
 ghost use Rattle.std.specs.Prelude.{◌≡◌, ◌≤◌, ◌<◌, Option, IfOk};
 ghost use Rattle.std.specs.List.{list_all};
 ghost use Rattle.std.specs.Option.{option_copied};
-ghost use Rattle.std.specs.Str.{IsUtf8};
 ghost use Rattle.css_num.specs.Gives.{GivesBy};
 ghost use Rattle.css_model.specs.Numbers.{max_local_error, max_local_precision};
 ghost use Rattle.css_schedule.specs.Headers.{stem_of};
@@ -321,8 +320,7 @@ fn header(alloc: Global, words: Words<'_>) -> Result<CompanionConfig, LineFault>
 #[tactic(auto, using(crate::proofs::Inputs::header_utf8))]
 pub fn read_header(alloc: Global, bytes: &[u8]) -> Result<CompanionConfig, LineFault>
     ensures value { GivesBy (λ x. x) faults.Memory result (inputs.header_of bytes.now) }
-    ensures selector { IfOk result (λ config. IsUtf8 config.selector) }
-    ensures stem { IfOk result (λ config. IsUtf8 config.stem) }
+    ensures utf8 { IfOk result inputs.IsUtf8Config }
 {
     header(alloc, all_words(bytes))
 }

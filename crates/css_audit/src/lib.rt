@@ -8,6 +8,7 @@
 mod audit;
 mod fault;
 mod input;
+pub mod laws;
 mod place;
 mod printing;
 mod reader;

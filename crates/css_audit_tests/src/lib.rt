@@ -3,9 +3,7 @@
 
 #[cfg(test)]
 mod changes;
-
 #[cfg(test)]
 mod plain;
-
 #[cfg(test)]
 mod tests;

@@ -1,7 +1,7 @@
 //! Whether a short record is right, computed a second time in a plain way: its seven lines in their order, one request,
 //! its one answer, and one control timestamp.
 
-ghost use Rattle.std.specs.Prelude.{◌<◌, IfSome};
+ghost use Rattle.std.specs.Prelude.{◌<◌, IfOk, IfSome};
 
 use css_model::{LIMIT, Message};
 use css_num::{Control, Memory, Span, whole_number};
@@ -66,7 +66,11 @@ fn own_clock(alloc: Global, line: &[u8]) -> Result<Option<Local>, Memory> {
         return Ok(None);
     };
     let is_stem = !stem.is_empty() && stem.iter().all(|byte| b'!' <= *byte && *byte <= b'~');
-    if name != b"css-record".as_slice() || version != b"1".as_slice() || selector != WANTED || !is_stem {
+    if name != b"css-record".as_slice()
+        || version != b"1".as_slice()
+        || selector != WANTED
+        || !is_stem
+    {
         return Ok(None);
     }
     match (number(error, 2_560_001), number(precision, 1_000_000_001)) {
@@ -86,5 +90,139 @@ fn named(alloc: Global, line: &[u8], name: &[u8]) -> Result<Option<u64>, Memory>
     match words.as_slice() {
         &[first, second] if first == name => Ok(number(second, LIMIT)),
         _ => Ok(None),
+    }
+}
+
+/// The answer that a datagram tells, which landed at this reading and answers the request of that one.
+fn answer(bytes: &[u8], asked: u64, landed: u64) -> Option<Answer>
+    requires asked { asked < LIMIT }
+    requires landed { landed < LIMIT }
+{
+    let Ok(message) = decode(bytes) else {
+        return None;
+    };
+    if message.message_type == 0 || message.originate != stamp_of(asked) {
+        return None;
+    }
+    Some(Answer {
+        t1: asked,
+        t2: reading(message.receive),
+        t3: reading(message.transmit),
+        t4: landed,
+        precision: precision_ns(message.precision),
+        error: message.error,
+    })
+}
+
+/// The span of the wall clock at a reading, where the answer is possible at its landing.
+fn wall(answer: &Answer, local: &Local, landed: u64, reading: u64) -> Option<Span>
+    requires landed { landed < LIMIT }
+    requires reading { reading < LIMIT }
+{
+    if scaled_width(answer, local, landed) < 0 || scaled_width(answer, local, reading) < 0 {
+        return None;
+    }
+    Some(span(answer, local, reading))
+}
+
+/// The tick of the timeline, of 90,000 a second, at a value of the wall clock.
+fn tick(content: i64, wall: u64, speed: i32, at: i128) -> i128 {
+    let since = at.wrapping_sub(i128::from(wall));
+    let scaled = since.wrapping_mul(i128::from(speed)).wrapping_mul(90_000);
+    i128::from(content).wrapping_add(scaled.div_euclid(1_000_000_000))
+}
+
+/// The line of the first report at a span of the wall clock, where it has ticks.
+fn report(alloc: Global, span: Span, text: &[u8]) -> Result<Option<String>, Memory> {
+    let (content, wall, speed) = match read_control(alloc, text) {
+        Ok(
+            Control::Available {
+                content,
+                wall,
+                speed,
+            },
+        ) => (content, wall, speed),
+        Ok(Control::Unavailable) => return Ok(None),
+        Err(TsFault::Memory) => return Err(Memory),
+        Err(_) => return Ok(None),
+    };
+    let one = tick(content, wall, speed, span.lo);
+    let other = tick(content, wall, speed, span.hi);
+    let (lo, hi) = if one <= other {
+        (one, other)
+    } else {
+        (other, one)
+    };
+    Ok(Some(format!(in alloc; "report 1 ticks {lo} {hi}")?))
+}
+
+/// The reading and the bytes of a landing.
+fn landing(alloc: Global, line: &[u8]) -> Result<Option<(u64, Vec<u8>)>, Memory>
+    ensures { IfOk result (λ found. IfSome found (λ x. x.0 < LIMIT)) }
+{
+    let words = parts(alloc, line, b' ')?;
+    let &[name, landed, digits] = words.as_slice() else {
+        return Ok(None);
+    };
+    if name != b"land".as_slice() {
+        return Ok(None);
+    }
+    let Some(landed) = number(landed, LIMIT) else {
+        return Ok(None);
+    };
+    match unhex(alloc, digits)? {
+        Some(bytes) => Ok(Some((landed, bytes))),
+        None => Ok(None),
+    }
+}
+
+/// The bytes of a text of the timeline session.
+fn text(alloc: Global, line: &[u8]) -> Result<Option<Vec<u8>>, Memory> {
+    let words = parts(alloc, line, b' ')?;
+    match words.as_slice() {
+        &[name, digits] if name == b"ts".as_slice() => unhex(alloc, digits),
+        _ => Ok(None),
+    }
+}
+
+/// The line of the report that is due after these lines.
+fn due(alloc: Global, lines: &[&[u8]]) -> Result<Option<String>, Memory> {
+    let &[header, begun, asked, landed, told, turned] = lines else {
+        return Ok(None);
+    };
+    let Some(local) = own_clock(alloc, header)? else {
+        return Ok(None);
+    };
+    let (Some(begun), Some(asked), Some((landed, datagram)), Some(told), Some(turned)) = (
+        named(alloc, begun, b"turn")?,
+        named(alloc, asked, b"ask")?,
+        landing(alloc, landed)?,
+        text(alloc, told)?,
+        named(alloc, turned, b"turn")?,
+    ) else {
+        return Ok(None);
+    };
+    if asked < begun || landed < asked || turned < landed {
+        return Ok(None);
+    }
+    let Some(answer) = answer(&datagram, asked, landed) else {
+        return Ok(None);
+    };
+    match wall(&answer, &local, landed, turned) {
+        Some(span) => report(alloc, span, &told),
+        None => Ok(None),
+    }
+}
+
+/// Whether these bytes are such a record, and its report is right.
+pub(crate) fn is_right(alloc: Global, bytes: &[u8]) -> Result<bool, Memory> {
+    let whole = bytes.strip_suffix(b"\n").unwrap_or(bytes);
+    let lines = parts(alloc, whole, b'\n')?;
+    let Some((reported, before)) = lines.split_last() else {
+        return Ok(false);
+    };
+    match due(alloc, before)? {
+        Some(due) => Ok(*reported == due.as_bytes()),
+        None => Ok(false),
     }
 }

@@ -1,4 +1,6 @@
-use css_audit::{AuditFault, Auditing};
+use css_audit::{
+    Audit, AuditFault, Auditing, LineFault, print_header, print_line, read_header, read_line,
+};
 use css_lines::{Refusal, Stop, drive};
 use css_num::Memory;
 use css_outside::{MemorySink, MemorySource};
@@ -6,18 +8,21 @@ use std::alloc::{AllocError, Global};
 use std::process::Abort;
 use std::test::Fail;
 
-const HEADER: &str = "css-record 1 0 0 urn:dvb:css:timeline:pts -";
+pub(crate) const HEADER: &str = "css-record 1 0 0 urn:dvb:css:timeline:pts -";
 
 /// `{"timelines":null,"tsUrl":"ws://127.0.0.1:6678/ts","wcUrl":"udp://127.0.0.1:6677"}`
-const ADDRESSES: &str =
-    "cii 7b2274696d656c696e6573223a6e756c6c2c22747355726c223a2277733a2f2f3132372e302e302e313a363637382f7473222c22776355726c223a227564703a2f2f3132372e302e302e313a36363737227d";
+const ADDRESSES: &str = "\
+cii 7b2274696d656c696e6573223a6e756c6c2c22747355726c223a2277733a2f2f3132372e302e302e313a363637382f74\
+73222c22776355726c223a227564703a2f2f3132372e302e302e313a36363737227d";
 
 /// `{"contentTime":"900000","timelineSpeedMultiplier":1,"wallClockTime":"0"}`
-const CONTROL: &str =
-    "ts 7b22636f6e74656e7454696d65223a22393030303030222c2274696d656c696e6553706565644d756c7469706c696572223a312c2277616c6c436c6f636b54696d65223a2230227d";
+pub(crate) const CONTROL: &str = "\
+ts 7b22636f6e74656e7454696d65223a22393030303030222c2274696d656c696e6553706565644d756c7469706c6965722\
+23a312c2277616c6c436c6f636b54696d65223a2230227d";
 
 /// A response to the request of reading 6, received at 5000 ns and sent at 5001 ns, with a precision of 1 ns.
-const LANDING: &str = "land 8 0001e20000000000000000000000000600000000000013880000000000001389";
+pub(crate) const LANDING: &str =
+    "land 8 0001e20000000000000000000000000600000000000013880000000000001389";
 
 /// The record of a companion that reported twice.
 const RECORD: [&str; 11] = [
@@ -45,7 +50,10 @@ pub(crate) fn joined(alloc: Global, lines: &[&str]) -> Result<Vec<u8>, AllocErro
 }
 
 /// Audits these bytes, and gives how it ended and what was printed.
-pub(crate) fn audited(alloc: Global, bytes: &[u8]) -> Result<(Result<(), Stop<AuditFault>>, Vec<u8>), Memory> {
+pub(crate) fn audited(
+    alloc: Global,
+    bytes: &[u8],
+) -> Result<(Result<(), Stop<AuditFault>>, Vec<u8>), Memory> {
     let mut source = MemorySource::new(alloc, bytes, 4096, &[])?;
     let mut sink = MemorySink::new(alloc, 100, &[])?;
     let ended = drive(alloc, &mut source, &mut sink, &mut Auditing::new(alloc));
@@ -437,5 +445,57 @@ fn a_line_has_a_longest_length(rt: HostRuntime) -> Result<(), Fail> {
     assert_eq!(rt; longest.as_slice(), b"line 2: absent".as_slice());
     let longer = words(alloc, &long_report(alloc, 16_777_217)?)?;
     assert_eq!(rt; longer.as_slice(), b"line 2: long".as_slice());
+    Ok(())
+}
+
+#[test]
+fn an_audit_goes_line_by_line(rt: HostRuntime) -> Result<(), Fail> {
+    let alloc = rt.alloc();
+    let mut audit = Audit::new(alloc, HEADER.as_bytes())?;
+    for line in RECORD.iter().skip(1) {
+        audit.line(line.as_bytes())?;
+    }
+    assert_eq!(rt; audit.reports(), 2);
+    let wrong = audit.line(b"turn 19");
+    assert!(rt;
+        matches!(
+            &wrong,
+            Err(AuditFault::Broken {
+                earlier: 10,
+                excess: 1
+            })
+        )
+    );
+    assert!(rt; matches!(&Audit::new(alloc, b"css-record"), Err(AuditFault::Form)));
+    Ok(())
+}
+
+#[test]
+fn what_is_read_is_printed_as_it_was(rt: HostRuntime) -> Result<(), Fail> {
+    let alloc = rt.alloc();
+    let others = [
+        "slept",
+        "cii -",
+        "closed cii",
+        "closed ts",
+        "land 4294967295999999999 -",
+        "report  x ",
+        "report ",
+    ];
+    for line in RECORD.iter().skip(1).chain(others.iter()) {
+        let read = read_line(alloc, line.as_bytes())?;
+        assert_eq!(rt; print_line(alloc, &read)?.bytes(), line.as_bytes());
+    }
+    for header in [HEADER, "css-record 1 2560000 1000000000 urn:x dvb://1"] {
+        let read = read_header(alloc, header.as_bytes())?;
+        assert_eq!(rt; print_header(alloc, &read)?.bytes(), header.as_bytes());
+    }
+    assert!(rt; matches!(&read_line(alloc, b"land 1 f"), Err(LineFault::Form)));
+    assert!(rt;
+        matches!(
+            &read_header(alloc, b"css-record 1 0 0 -"),
+            Err(LineFault::Form)
+        )
+    );
     Ok(())
 }
