@@ -1,6 +1,7 @@
 -- A companion that has read its clock for nothing yet has nothing to forget in a sleep.
 use Rattle.std.proofs.Common.{◌≡◌, ◌⊎◌, inl, inr, ap, sym, subst, ◌∙◌, refl, List, [], ◌∷◌}
-use Rattle.std.specs.Prelude.{ℕ, map, take, Option, Some, None, All, IfSome, false, IsTrue, ◌<◌, ◌≤◌}
+use Rattle.std.specs.Prelude.{ℕ, map, take, Option, Some, None, All, IfSome, false, true, IsTrue, ◌<◌, ◌≤◌}
+use Rattle.std.proofs.lemmas.List.Elements.{All-head}
 use Rattle.css_model.specs.declared.Stamp.{Stamp}
 use Rattle.css_model.specs.declared.Message.{Message}
 use Rattle.css_model.specs.Wire.{stamp_of, reading_of as stamp_reading}
@@ -8,7 +9,7 @@ use Rattle.css_model.specs.WallClock.{Answer}
 use Rattle.css_model.specs.History.{Entry, Slept, History, Each, sleeps, asking_at, requests, LandedAnswer}
 use Rattle.css_model.specs.History.{landed_answers, accepted_answers, possible_answers, first_promised_at}
 use Rattle.css_span.specs.Frontiers as frontiers
-use Rattle.css_client.specs.Clients.{Client, local_of, first_landed, RemembersOnly}
+use Rattle.css_client.specs.Clients.{Client, local_of, first_landed, is_among, RemembersOnly}
 use Rattle.css_client.specs.Standing as clients
 use Rattle.css_client.specs.declared.promises.Promise.{Promise}
 use Rattle.css_companion.specs.Standing as companions
@@ -54,7 +55,10 @@ none_mapped (reading ∷ asked) e = absurd (cc)
 -- of no request nothing is remembered
 none_remembered : (promises : List Promise) → RemembersOnly [] promises → promises ≡ []
 none_remembered [] only = refl
-none_remembered (promise ∷ promises) only = absurd (cc only.of_asked.0)
+none_remembered (promise ∷ promises) only =
+    let there : false ≡ true =
+    All-head (λ (p : Promise). IsTrue (is_among p.originate [])) promise promises only.of_asked in
+    absurd (cc)
 
 none_asked : (client : Client) (slept : ℕ) (history : History)
     → Each (λ entry older. asking_at entry ≡ None) history → Each (clients.IsBelow client slept) history

@@ -6,6 +6,7 @@ use Rattle.std.specs.Prelude.{MatchResult, IfOk}
 use Rattle.std.proofs.lemmas.Bool.{ltb-false}
 use Rattle.css_num.specs.Gives.{GivesBy}
 use Rattle.css_model.specs.WallClock.{Local}
+use Rattle.css_client.specs.Clients.{Client, local_of}
 use Rattle.css_companion.specs.Contents.{next_number}
 use Rattle.css_companion.specs.Printed.{line_of as report_line}
 use Rattle.css_companion.specs.Standing as companions
@@ -17,6 +18,7 @@ use Rattle.css_companion.specs.declared.fault.CompanionFault.{CompanionFault}
 use Rattle.css_companion.specs.declared.fault.CompanionFault.TheVariants as told
 use Rattle.css_companion.specs.declared.report.Report.{Report}
 use Rattle.css_cii.specs.declared.state.State.{State}
+use Rattle.css_tsmsg.specs.declared.setup.Setup.{Setup}
 use Rattle.css_audit.specs.Entries.{history_in, last_in, slept_in, turn_in, reports_in}
 use Rattle.css_audit.specs.Faults.{told_fault}
 use Rattle.css_audit.specs.Standing.{config_of, place_in, Keeps, IsSound, MayBeHanded, least_of, slept, passed}
@@ -55,6 +57,42 @@ same_config old new e own =
       local = companions.own_of new;
     }) e
     ∙ ap (λ (o : Local). record { selector = old.setup.selector; stem = old.setup.stem; local = o }) own
+
+-- so has one that keeps its client and what it asks for
+pub kept_config : (old new : companions.Companion) → new.client ≡ old.client → new.setup ≡ old.setup
+    → config_of new ≡ config_of old
+kept_config old new client setup =
+    ap (λ (s : Setup). record {
+      selector = s.selector;
+      stem = s.stem;
+      local = companions.own_of new;
+    }) setup
+    ∙ ap (λ (k : Client). record {
+      selector = old.setup.selector;
+      stem = old.setup.stem;
+      local = local_of k;
+    }) client
+
+-- what holds unless there was want of memory holds of an answer
+pub unless_ok : {T : Type 0} (result : Result T CompanionFault) (value : T) (P : Type 0) → result ≡ Ok value
+    → steps.UnlessMemory result P → P
+unless_ok {T} result value P is h = subst (λ (r : Result T CompanionFault). steps.UnlessMemory r P) is h
+
+-- an audit stays sound where its companion keeps its client
+pub sound_kept : (old new : companions.Companion) (place : Place) → new.client ≡ old.client → IsSound old place
+    → IsSound new place
+sound_kept old new place same sound = record {
+  floor = subst (λ (k : Client). k.floor ≤ least_of place.last place.slept) (sym same) sound.floor;
+  asleep = λ e. subst (λ (k : Client). IfSome place.last (λ _. k.after_sleep ≤ k.floor)) (sym same) (sound.asleep e);
+  turn = handed place.turn sound.turn;
+}
+  where
+    handed : (turn : Option ℕ) → IfSome turn (MayBeHanded old) → IfSome turn (MayBeHanded new)
+    handed None h = tt
+    handed (Some reading) h = record {
+      range = h.range;
+      floor = subst (λ (k : Client). k.floor ≤ reading) (sym same) h.floor;
+    }
 
 -- the reports that were right are right for a companion with this configuration
 same-right : (old new : companions.Companion) (taken : List RecordLine) → config_of new ≡ config_of old

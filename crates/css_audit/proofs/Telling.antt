@@ -27,9 +27,9 @@ turns companion history reading stands = stands_aside companion history (Clock w
 })
 
 -- and for the dials of both sessions
-dials : (companion : companions.Companion) (history : History) (kind : Kind) (peer : ℕ)
-    → companions.StandsFor companion history → companions.StandsFor companion (Dialled kind peer ∷ history)
-dials companion history kind peer stands = stands_aside companion history (Dialled kind peer) stands (record {
+dials : (companion : companions.Companion) (history : History) (of : Kind) (peer : ℕ)
+    → companions.StandsFor companion history → companions.StandsFor companion (Dialled of peer ∷ history)
+dials companion history of peer stands = stands_aside companion history (Dialled of peer) stands (record {
   client = record { awake = refl; asks_none = refl; sends_none = refl; lands_none = refl };
   no_cii = refl;
   no_ts = refl;
