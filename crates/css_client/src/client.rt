@@ -1,8 +1,9 @@
 ghost use Rattle.std.specs.Prelude.{◌≡◌, ◌≤◌, ◌<◌, ◌+◌, ℕ, [], ◌∷◌, length, max, IfOk, IfSome, OnOk, OnErr};
 ghost use Rattle.css_model.specs.declared.Why.TheVariants as why;
+ghost use Rattle.css_model.specs.Numbers.{max_error};
 ghost use Rattle.css_model.specs.Wire.{encoded, request_at};
 ghost use Rattle.css_model.specs.History.{History, Clock, Sent, Took, Slept, accepted_answers};
-ghost use Rattle.css_span.specs.Frontiers.{error_count};
+ghost use Rattle.css_span.specs.Frontiers.{error_count, greatest_error};
 ghost use Rattle.css_span.specs.WallSpans.{wall_span, IsNear};
 ghost use Rattle.css_wc.specs.Datagrams.{HasNoFault};
 ghost use Rattle.css_client.specs.Clients.{local_of};
@@ -168,6 +169,17 @@ impl Client {
             → result ≡ error_count (accepted_answers (local_of self.now) history) }
     {
         self.estimate.kept()
+    }
+
+    /// The greatest max_freq_error that an answer declares of those that were accepted since the last sleep, in 1/256
+    /// ppm. It is 0 where there is none.
+    pub fn greatest_error(&self) -> u32
+        ensures value { result ≡ greatest_error self.now.estimate.kept }
+        ensures accepted { (history : History) → StandsFor self.now history
+            → result ≡ greatest_error (accepted_answers (local_of self.now) history) }
+        ensures range { result ≤ max_error }
+    {
+        self.estimate.greatest_error()
     }
 
     /// The companion slept: forgets all requests and answers. Each later reading is above those that were asked at.

@@ -1,12 +1,14 @@
 ghost use Rattle.std.specs.Prelude.{◌≡◌, ◌≤◌, ◌<◌, ◌↔◌, [], length, OnOk, OnErr, IsNone, IfSome};
 ghost use Rattle.css_num.specs.Gives.{GivesBy};
 ghost use Rattle.css_span.specs.Frontiers.{Answers, StandsFor, Accepts, error_count};
+ghost use Rattle.css_span.specs.Frontiers as frontiers;
+ghost use Rattle.css_model.specs.Numbers.{max_error};
 ghost use Rattle.css_span.specs.WallSpans.{wall_span, IsNear};
 ghost use Rattle.css_span.specs.Verdicts.{verdict};
 
 use crate::answer::{Answer, Local};
 use crate::fault::AcceptFault;
-use crate::frontier::{keep, narrowest};
+use crate::frontier::{greatest_error, keep, narrowest};
 use crate::width::{scaled_width, span};
 use css_model::LIMIT;
 use css_num::Span;
@@ -91,5 +93,14 @@ impl Estimate {
         ensures errors { (accepted : Answers) → StandsFor self.now accepted → result ≡ error_count accepted }
     {
         self.kept.len()
+    }
+    /// The greatest max_freq_error that an accepted answer declares, in 1/256 ppm. It is 0 where none was accepted.
+    pub fn greatest_error(&self) -> u32
+        ensures value { result ≡ frontiers.greatest_error self.now.kept }
+        ensures accepted { (accepted : Answers) → StandsFor self.now accepted
+            → result ≡ frontiers.greatest_error accepted }
+        ensures range { result ≤ max_error }
+    {
+        greatest_error(&self.kept)
     }
 }
