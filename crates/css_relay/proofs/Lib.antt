@@ -1,1 +1,5 @@
+pub mod HostTexts
 pub mod Exponents
+pub mod Readings
+pub mod Responses
+pub mod TwoHops

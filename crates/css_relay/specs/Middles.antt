@@ -3,7 +3,7 @@ use Rattle.std.specs.Prelude.{ℕ, ◌+◌, ◌-◌, ◌/◌, min, ℤ, pos, neg
 use Rattle.std.specs.Prelude.{Option, Some, None, Result, Ok, Err}
 use Rattle.std.specs.Int.{div_ceil}
 use Rattle.css_num.specs.Spans.{Interval}
-use Rattle.css_model.specs.Numbers.{LIMIT}
+use Rattle.css_model.specs.declared.TheConstants.{LIMIT}
 use Rattle.css_relay.specs.declared.fault.RelayFault.{RelayFault}
 use Rattle.css_relay.specs.declared.fault.RelayFault.TheVariants as faults
 use Rattle.css_relay.specs.declared.middle.Middle.{Middle}

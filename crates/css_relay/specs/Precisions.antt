@@ -1,11 +1,11 @@
 -- The precision that a relay declares.
-use Rattle.std.specs.Prelude.{ℕ, suc, ◌≤◌, ◌<◌, ℤ, pos, neg_ℤ, ◌-ℤ◌, ◌≤ℤ◌, ◌<ℤ◌, nat_lt, if◌then◌else◌}
+use Rattle.std.specs.Prelude.{ℕ, zero, suc, ◌≤◌, ◌<◌, ℤ, pos, neg_ℤ, ◌-ℤ◌, ◌≤ℤ◌, ◌<ℤ◌, nat_lt, if◌then◌else◌}
 use Rattle.css_model.specs.Numbers.{precision_ns}
 
 -- Of the exponents from 30 less `before` up to 30, the first whose precision isn't below the half width; 30 where there
 -- is none.
 abbrev pub first_enough : ℕ → ℕ → ℤ
-first_enough 0 half = pos 30
+first_enough zero half = pos 30
 first_enough (suc before) half =
     if nat_lt (precision_ns (pos 30 -ℤ pos (suc before))) half then first_enough before half
     else pos 30 -ℤ pos (suc before)
