@@ -11,7 +11,7 @@ abbrev pub AreTooFine : ℕ → ℤ → Type 0
 AreTooFine half exponent = (lesser : ℤ) → neg_ℤ (pos 30) ≤ℤ lesser → lesser <ℤ exponent → precision_ns lesser < half
 
 -- one more is too fine
-pub one_more : (half : ℕ) (exponent next : ℤ) → next ≤ℤ exponent +ℤ pos 1 → precision_ns exponent < half
+pub one_more : (half : ℕ) (exponent next : ℤ) → next ≤ℤ (exponent +ℤ pos 1) → precision_ns exponent < half
     → AreTooFine half exponent → AreTooFine half next
 one_more half exponent next step fine below lesser from under =
     by_lt_z lesser exponent (λ less. below lesser from less) (λ no.

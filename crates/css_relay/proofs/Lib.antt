@@ -1,3 +1,4 @@
+pub mod Originates
 pub mod HostTexts
 pub mod Exponents
 pub mod Readings

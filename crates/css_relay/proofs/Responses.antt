@@ -50,17 +50,19 @@ response_is_true ticket error middle message world tv_error taken given receive 
         → IsTrueResponse world tv_error taken given message
     by true test is = absurd (cc)
     by false test is =
-        let half : ℕ = max ticket.half middle.half in
-        let enough : half ≤ precision_ns (exponent_for half) =
-        (exponents_are_least half (ltb-false (precision_ns (pos 30)) half test)).enough in
+        let enough : max ticket.half middle.half ≤ precision_ns (exponent_for (max ticket.half middle.half)) =
+        (exponents_are_least (max ticket.half middle.half)
+        (ltb-false (precision_ns (pos 30)) (max ticket.half middle.half) test)).enough in
         subst (λ (m : Message). IsTrueResponse world tv_error taken given m)
         (same_ok (response_to ticket error middle) message is)
         (record {
           response = refl;
-          receive = told_within ticket.value ticket.half (precision_ns (exponent_for half)) (world taken).wall receive
-              (omega (arith, enough));
-          transmit = told_within middle.value middle.half (precision_ns (exponent_for half)) (world given).wall transmit
-              (omega (arith, enough));
+          receive =
+              told_within ticket.value ticket.half (precision_ns (exponent_for (max ticket.half middle.half)))
+              (world taken).wall receive (omega (arith, enough));
+          transmit =
+              told_within middle.value middle.half (precision_ns (exponent_for (max ticket.half middle.half)))
+              (world given).wall transmit (omega (arith, enough));
           declared = declared;
         })
 
@@ -130,7 +132,8 @@ declares_enough : (own : Local) (reading : ℕ) (accepted : List Answer) (ticket
     → answered (wall_span own reading accepted) (greatest_error accepted) ticket ≡ Ok message
     → tv_error ≤ greatest_error accepted
 declares_enough own reading [] ticket message tv_error declares is = absurd (cc)
-declares_enough own reading (answer ∷ older) ticket message tv_error declares is = omega (arith, declares)
+declares_enough own reading (answer ∷ older) ticket message tv_error declares is =
+    let newest : tv_error ≤ answer.error = declares in omega (arith, newest)
 
 -- ---- both
 pub answer_is_true : (own : Local) (reading : ℕ) (accepted : List Answer) (ticket : Ticket) (message : Message)

@@ -1,6 +1,6 @@
 -- What a relay answers is true, and so it serves a second companion as the television does.
 use Rattle.std.proofs.Common.{◌≡◌, ℕ, suc, ◌≤◌, ◌<◌, arith, subst, sym, refl, inl, inr, [], ◌∷◌, length}
-use Rattle.std.specs.Prelude.{List, Option, Some, None, IfSome, Result, Ok, Err, IfOk}
+use Rattle.std.specs.Prelude.{List, Option, Some, None, IfSome, IsTrue, Result, Ok, Err, IfOk}
 use Rattle.std.specs.Option.{option_map}
 use Rattle.css_model.specs.declared.Message.{Message}
 use Rattle.css_model.specs.declared.Why.{Why}
@@ -11,7 +11,7 @@ use Rattle.css_model.specs.World.{World, Errors, IsWorldFor, IsInRange}
 use Rattle.css_model.specs.Numbers.{IsWithin}
 use Rattle.css_model.specs.Wire.{decoded}
 use Rattle.css_model.specs.History.{Entry, Clock, History, Each, Once, LandedAnswer, landed_answer, accepted_answers}
-use Rattle.css_model.specs.History.{wall_answer}
+use Rattle.css_model.specs.History.{landed_answers, is_possible, wall_answer}
 use Rattle.css_model.specs.Explains.{IsLawful, IsTruthful, TruthfulAt, HappensIn, Explains}
 use Rattle.css_model.proofs.Prefixes.{IsLawful-older, Explains-older}
 use Rattle.css_model.proofs.Wall.{wall_is_true}
@@ -233,7 +233,11 @@ each_truthful : (errors : Errors) (world : World) (who : ℕ) (own : Local) (his
 each_truthful errors world who own history moment_of second_own second_moment_of [] for range known relayed = tt
 each_truthful errors world who own history moment_of second_own second_moment_of (entry ∷ older) for range known
     relayed = (
-      some_weaker _ _ (landed_answer entry older) (λ landed truth possible. truthful landed (truth possible)) relayed.0,
+      some_weaker (λ (landed : LandedAnswer). IsTrue (is_possible second_own landed (landed_answers older))
+          → IsRelayed own history moment_of second_moment_of landed older)
+          (λ (landed : LandedAnswer). IsTrue (is_possible second_own landed (landed_answers older))
+          → IsTruthful world errors.tv second_moment_of landed older)
+          (landed_answer entry older) (λ landed truth possible. truthful landed (truth possible)) relayed.0,
       each_truthful errors world who own history moment_of second_own second_moment_of older for range known relayed.1,
     )
   where

@@ -9,6 +9,7 @@ use css_wc::{decode, precision_ns, reading, stamp_of};
 use rand_core::SeedableRng;
 use rand_core::utils::NextWord;
 use rand_pcg::Lcg64Xsh32;
+use std::alloc::Global;
 use std::process::Abort;
 
 /// A number below another.
@@ -57,6 +58,7 @@ impl Clock {
 }
 
 /// The clocks at a moment.
+#[derive(Drop)]
 struct House {
     words: Lcg64Xsh32,
     time: u64,
@@ -202,11 +204,11 @@ fn assert_contains(rt: &impl Abort, house: &House, second: &Client, floor: u64) 
 }
 
 /// Four rounds of both exchanges, and what the second companion then knows.
-fn assert_world(rt: &HostRuntime, seed: u64) {
+fn assert_world(rt: &impl Abort, alloc: Global, seed: u64) {
     let mut house = House::new(seed);
-    let mut relay = new_relay(rt, rt.alloc(), local(rt, &house.relay));
+    let mut relay = new_relay(rt, alloc, local(rt, &house.relay));
     let local = local(rt, &house.second);
-    let mut second = Client::new(rt.alloc(), local).expect(rt, "no memory");
+    let mut second = Client::new(alloc, local).expect(rt, "no memory");
     let mut floors = (0, 0);
     for _ in 0..4 {
         let landed = ask_television(rt, &mut house, &mut relay, floors.0);
@@ -230,6 +232,6 @@ fn local(rt: &impl Abort, clock: &Clock) -> Local {
 #[test]
 fn two_hops_are_true_in_each_world(rt: HostRuntime) {
     for seed in 0..300 {
-        assert_world(&rt, seed);
+        assert_world(&rt, rt.alloc(), seed);
     }
 }
