@@ -1,4 +1,4 @@
-ghost use Rattle.std.specs.Prelude.{◌≡◌, ◌≤◌, ◌<◌, ◌+◌, ◌^◌};
+ghost use Rattle.std.specs.Prelude.{◌≡◌, ◌≤◌, ◌<◌, ◌+◌};
 
 use crate::tables::{EXACT, FIRST, LAST, REFUSED, ROWS, Response, Row, Told};
 use css_cii::write_message;

@@ -1,5 +1,5 @@
 //! Worlds with three clocks, those of a television, of its relay, and of a companion that asks the relay.
-ghost use Rattle.std.specs.Prelude.{◌≡◌, ◌≤◌, ◌<◌};
+ghost use Rattle.std.specs.Prelude.{◌≤◌, ◌<◌};
 
 use crate::tests::{datagram, new_relay};
 use css_client::{Client, Landing, Local};
