@@ -10,11 +10,12 @@ use Rattle.css_span.specs.Frontiers.{Answers, Frontier, IsPossible, StandsFor, d
 -- no error that is declared is above the greatest
 pub declared_below : (e : ℕ) (xs : Answers) → declares e xs ≡ true → e ≤ greatest_error xs
 declared_below e [] h = absurd (cc)
-declared_below e (x ∷ xs) h = by (x.error == e) refl h
+declared_below e (x ∷ xs) h = by (x.error == e) refl h (declared_below e xs)
   where
-    by : (t : Bool) → (x.error == e) ≡ t → (t || declares e xs) ≡ true → e ≤ greatest_error (x ∷ xs)
-    by true g h = let same : x.error ≡ e = eqb-true x.error e g in omega arith
-    by false g h = let rest : e ≤ greatest_error xs = declared_below e xs h in omega arith
+    by : (t : Bool) → (x.error == e) ≡ t → (t || declares e xs) ≡ true
+        → (declares e xs ≡ true → e ≤ greatest_error xs) → e ≤ greatest_error (x ∷ xs)
+    by true g h rest = let same : x.error ≡ e = eqb-true x.error e g in omega arith
+    by false g h rest = let below : e ≤ greatest_error xs = rest h in omega arith
 
 -- the greatest is declared, unless it is 0
 greatest_declared : (xs : Answers) → (declares (greatest_error xs) xs ≡ true) ⊎ (greatest_error xs ≡ 0)
