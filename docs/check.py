@@ -8,7 +8,8 @@ A session is a block of README.md or docs/*.md in which a line begins with "$ ".
 command writes: those that begin with "css: " on standard error, and all others on standard output. In a block that
 begins with "```text live" numbers differ from run to run, so only the words are compared; a line that begins with
 "television$ " is a command that runs beside those after it, to the end of the block. --try leaves these blocks out.
-The status is 1 where a page shows something else than what comes.
+A block that begins with "```rust FILE" is a part of this file. The status is 1 where a page shows something else than
+what comes.
 """
 import re
 import subprocess
@@ -110,12 +111,18 @@ def link_faults(page):
             yield f"no heading {link}"
 
 
+def quote_faults(page):
+    for file, lines in re.findall(r"^```rust (\S+)\n(.*?)^```$", page.read_text(), re.M | re.S):
+        if lines not in (sources.TOP / file).read_text():
+            yield f"{file} hasn't these lines:\n{lines}"
+
+
 def main(words):
     bad = claims.main() + trusted.main(["--check"])
     if "--try" not in words:
         build()
     for page in PAGES:
-        for fault in [*link_faults(page), *session_faults(page, "--try" in words)]:
+        for fault in [*link_faults(page), *quote_faults(page), *session_faults(page, "--try" in words)]:
             print(f"{page.relative_to(sources.TOP)}, {fault}")
             bad += 1
     return 1 if bad else 0

@@ -21,6 +21,7 @@ TABLES = {
     "replay": ["css_app.Headline.Promised"],
     "live": ["css_drive.CompanionRun.Ran"],
     "commands": ["css_app.Commands.ByCompanion", "css_app.Commands.ByPair", "css_app.Commands.ByTv"],
+    "generated": ["css_app.Commands.ByGenerate", "css_app.Commands.BySurvey"],
 }
 
 

@@ -11,7 +11,7 @@ of three attacks the shortest longest turn counts. Each check prints a line. The
 """
 import json, multiprocessing, os, socket, struct, sys, time
 
-from live_peer import (CLOSE, PING, PONG, SETUP, TEXT, Peer, connection, dial, frame, nanos, request, set_up, stamp,
+from live_peer import (CLOSE, PING, SETUP, TEXT, Peer, connection, dial, frame, nanos, request, serves, sets_up, stamp,
                        start, television)
 from live_server import against_companion
 
@@ -81,18 +81,19 @@ class Prober:
 # ---- a television, and its peers
 
 def good_session(port):
-    state = dial(port, "/cii").text()
+    state = dial(port, "/cii").told()
     wanted = {
         "protocolVersion": "1.1", "mrsUrl": None, "contentId": "dvb://1.2.3", "contentIdStatus": "final",
         "presentationStatus": "okay", "wcUrl": f"udp://127.0.0.1:{port}", "tsUrl": f"ws://127.0.0.1:{port + 1}/ts",
         "teUrl": None, "timelines": [{"timelineSelector": "urn:dvb:css:timeline:pts",
                                       "timelineProperties": {"unitsPerTick": 1, "unitsPerSecond": 90000}}]}
     check("a session of CSS-CII is told the full state", state == wanted, state if state != wanted else "")
-    peer, control = set_up(port)
+    peer = dial(port + 1, "/ts")
+    peer.say(SETUP)
+    control = peer.told()
     holds = control.get("contentTime") == "900000" and control.get("timelineSpeedMultiplier") == 1
     check("a setup is answered by the control timestamp", holds, control)
-    peer.say(b"are you there", PING)
-    check("a ping is answered", peer.hear() == (PONG, b"are you there"))
+    check("a ping is answered", peer.answers(b"are you there"))
     peer.say(struct.pack(">H", 1000), CLOSE)
     check("a close is answered", peer.ending() == 1000)
     check("and the connection ends", peer.ending() is None)
@@ -102,16 +103,16 @@ def fragments(port):
     peer = dial(port + 1, "/ts")
     text = json.dumps(SETUP).encode()
     peer.say(text[:10], TEXT, False)
-    peer.say(b"between", PING)
+    check("a ping between fragments is answered", peer.answers(b"between"))
     peer.say(text[10:30], 0, False)
     time.sleep(0.02)
     peer.say(text[30:], 0)
-    check("a ping between fragments is answered", peer.hear() == (PONG, b"between"))
-    check("a text in fragments is a setup", "contentTime" in peer.text())
-    wall = int(set_up(port)[1]["wallClockTime"])
+    control = peer.told()
+    check("a text in fragments is a setup", "contentTime" in control)
+    wall = int(control.get("wallClockTime", 0))
     bound = {"contentTime": "900000", "wallClockTime": str(wall + 40_000_000)}
     peer.say({"earliest": bound, "latest": {"contentTime": "900000", "wallClockTime": "plusinfinity"}})
-    check("a presentation delays the timeline", int(peer.text()["wallClockTime"]) == wall + 40_000_000)
+    check("a presentation delays the timeline", peer.told().get("wallClockTime") == str(wall + 40_000_000))
     peer.conn.close()
 
 
@@ -123,11 +124,15 @@ def datagrams(port):
         udp.send(bad)
     before = time.monotonic_ns()
     udp.send(request(before))
-    answer = udp.recv(64)
+    try:
+        answer = udp.recv(64)
+    except OSError:
+        answer = bytes(32)
+    after = time.monotonic_ns()
     received, sent = nanos(answer[16:24]), nanos(answer[24:32])
     check("bad datagrams aren't answered, and a request is", answer[8:16] == stamp(before) and len(answer) == 32)
-    check("its times are in order", before <= received <= sent <= time.monotonic_ns())
-    check("type, precision and error are declared", answer[:2] == b"\0\1" and answer[4:8] == struct.pack(">I", 128000))
+    check("its times are in order", before <= received <= sent <= after)
+    check("type, precision and error are declared", answer[:8] == struct.pack(">BBbxI", 0, 1, -20, 128000))
 
 
 def refusals(port):
@@ -165,7 +170,7 @@ def long_messages(port):
     peer = dial(port + 1, "/ts")
     text = json.dumps(SETUP).encode()
     peer.say(text + b" " * (262_144 - len(text)))
-    check("a text of 262,144 bytes is taken", "contentTime" in peer.text())
+    check("a text of 262,144 bytes is taken", "contentTime" in peer.told())
     peer = dial(port + 1, "/ts")
     peer.say(text + b" " * (262_145 - len(text)))
     check("one more byte is closed with 1009", peer.ending() == 1009)
@@ -189,7 +194,7 @@ def long_messages(port):
 
 def crowds(port):
     idle = [connection(port) for _ in range(300)]
-    check("300 connections that say nothing leave room", "wcUrl" in dial(port, "/cii").text())
+    check("300 connections that say nothing leave room", serves(port))
     for conn in idle:
         conn.close()
     open_ones, told = [], 0
@@ -201,18 +206,18 @@ def crowds(port):
         except (EOFError, OSError):
             told += 1
     check("of 300 sessions about 256 stay and the others are hung up", 250 <= len(open_ones) <= 256, len(open_ones))
-    open_ones[0].say(b"still", PING)
-    check("the first of them is served", open_ones[0].hear() == (PONG, b"still"))
+    check("the first of them is served", bool(open_ones) and open_ones[0].answers(b"still"))
     for peer in open_ones:
         peer.conn.close()
     time.sleep(0.3)
 
 
 def unread(port):
-    peer = dial(port + 1, "/ts")
+    peer = dial(port + 1, "/ts", room=4096)
     peer.say(SETUP)
     peer.conn.setblocking(False)
-    flood, sent, end = frame(PING, b"p" * 125), 0, time.monotonic() + 2
+    # One ping is answered in a turn: it takes some seconds until no more pongs go out.
+    flood, sent, end = frame(PING, b"p" * 125), 0, time.monotonic() + 6
     while time.monotonic() < end:
         try:
             sent += peer.conn.send(flood * 100)
@@ -220,7 +225,7 @@ def unread(port):
             time.sleep(0.001)
         except OSError:
             break
-    check("a peer that never reads is no bother", "wcUrl" in dial(port, "/cii").text(), f"{sent} bytes of pings")
+    check("a peer that never reads is no bother", serves(port), f"{sent} bytes of pings")
     peer.conn.close()
 
 
@@ -234,7 +239,7 @@ def tiny_frames(port):
             peer.conn.sendall(flood)
     except OSError:
         pass
-    check("a flood of empty fragments is no bother", "wcUrl" in dial(port, "/cii").text())
+    check("a flood of empty fragments is no bother", serves(port))
     peer.conn.close()
 
 
@@ -250,7 +255,7 @@ def cut_off(port):
     peer = dial(port + 1, "/ts")
     peer.conn.sendall(b"\xf1\x80abcd")
     check("a bad frame is closed with 1002", peer.ending() == 1002)
-    check("peers that close in mid-frame are no bother", "contentTime" in set_up(port)[1])
+    check("peers that close in mid-frame are no bother", sets_up(port))
 
 
 def attacked(attack, port, process, witness):
@@ -260,12 +265,11 @@ def attacked(attack, port, process, witness):
     served = False
     try:
         attack(port)
-        witness.say(b"w", PING)
-        served = witness.hear() == (PONG, b"w")
+        served = witness.answers(b"w")
     except Exception as error:
         check(f"{attack.__name__} goes through", False, repr(error))
     asked, delays = prober.end()
-    return served, asked, sorted(delays) or [LONGEST_TURN]
+    return served, asked, sorted(delays)
 
 
 def against_television():
@@ -280,8 +284,9 @@ def against_television():
             served, asked, delays = attacked(attack, port, child.pid, witness)
             check(f"{attack.__name__}: the session of another peer is served", served)
             check(f"{attack.__name__}: requests are answered", len(delays) > asked * 0.98, f"{len(delays)} of {asked}")
-            longest = delays[-1]
-            told.append(f"{longest / 1e6:.2f} ms, in the middle {delays[len(delays) // 2] / 1e6:.3f} ms")
+            longest = delays[-1] if delays else LONGEST_TURN
+            middle = f", in the middle {delays[len(delays) // 2] / 1e6:.3f} ms" if delays else ", nothing was answered"
+            told.append(f"{longest / 1e6:.2f} ms{middle}")
         check(f"{attack.__name__}: the longest turn is below 20 ms", longest < LONGEST_TURN, "; ".join(told))
     check("the television still runs", child.poll() is None)
     child.kill()

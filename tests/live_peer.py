@@ -81,6 +81,21 @@ class Peer:
             if opcode == CLOSE:
                 raise EOFError
 
+    def answers(self, payload):
+        """Whether a ping is answered by its own pong, and nothing comes before that."""
+        try:
+            self.say(payload, PING)
+            return self.hear() == (PONG, payload)
+        except (EOFError, OSError):
+            return False
+
+    def told(self):
+        """The next text; an empty one where none comes, or the session ends first."""
+        try:
+            return self.text()
+        except (EOFError, OSError):
+            return {}
+
     def ending(self, seconds=3):
         """How the session ends: the code of the close frame, None where the connection ends without one."""
         try:
@@ -94,8 +109,14 @@ class Peer:
             return "nothing"
 
 
-def connection(port):
-    conn = socket.create_connection(("127.0.0.1", port), timeout=5)
+def connection(port, room=None):
+    """A connection, which takes only so many unread bytes where room is given."""
+    conn = socket.socket(socket.AF_INET, socket.SOCK_STREAM)
+    if room is not None:
+        conn.setsockopt(socket.SOL_SOCKET, socket.SO_RCVBUF, room)
+        conn.setsockopt(socket.IPPROTO_TCP, socket.TCP_MAXSEG, 536)  # The other end keeps less, too.
+    conn.settimeout(5)
+    conn.connect(("127.0.0.1", port))
     conn.setsockopt(socket.IPPROTO_TCP, socket.TCP_NODELAY, 1)
     return conn
 
@@ -105,9 +126,9 @@ def upgrade_head(port, path, key):
             f"Sec-WebSocket-Key: {key.decode()}\r\nSec-WebSocket-Version: 13\r\n\r\n").encode()
 
 
-def dial(port, path):
+def dial(port, path, room=None):
     """A session that this program dials."""
-    peer = Peer(connection(port), True)
+    peer = Peer(connection(port, room), True)
     key = base64.b64encode(os.urandom(16))
     peer.conn.sendall(upgrade_head(port, path, key))
     head = peer.head()
@@ -121,6 +142,22 @@ def set_up(port, setup=SETUP):
     peer = dial(port + 1, "/ts")
     peer.say(setup)
     return peer, peer.text()
+
+
+def serves(port):
+    """Whether a new session of CSS-CII is told a state."""
+    try:
+        return "wcUrl" in dial(port, "/cii").text()
+    except (EOFError, OSError):
+        return False
+
+
+def sets_up(port):
+    """Whether a new session of CSS-TS is told a control timestamp."""
+    try:
+        return "contentTime" in set_up(port)[1]
+    except (EOFError, OSError):
+        return False
 
 
 def stamp(nanos):

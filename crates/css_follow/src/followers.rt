@@ -38,14 +38,16 @@ fn tell_each(list: &mut [Box<dyn Follower>], report: &Report, out: &mut Text) ->
 
 // Hands a sheet to one of them.
 fn prepare_one(follower: &mut Box<dyn Follower>, sheet: &Sheet) -> Result<(), Memory>
-    ensures { seen follower.new ≡ seen follower.old }
+    ensures same_seen { seen follower.new ≡ seen follower.old }
+    ensures as_sheet { OnOk result (plan follower.new ≡ takes follower.old sheet.now) }
 {
     follower.prepare(sheet)
 }
 
 // Hands a sheet to each of them.
 fn prepare_each(list: &mut [Box<dyn Follower>], sheet: &Sheet) -> Result<(), Memory>
-    ensures { map (λ f. seen f) list.new ≡ map (λ f. seen f) list.old }
+    ensures same_seen { map (λ f. seen f) list.new ≡ map (λ f. seen f) list.old }
+    ensures as_sheet { OnOk result (map (λ f. plan f) list.new ≡ map (λ f. takes f sheet.now) list.old) }
 {
     for follower in list.iter_mut() {
         prepare_one(follower, sheet)?;
@@ -77,7 +79,9 @@ impl Followers {
     /// Hands a cue sheet to each of them, in their order, up to the first that lacks memory. Whatever it answers, each
     /// has heard and said what it had before, and is done where it was.
     pub fn prepare(&mut self, sheet: &Sheet) -> Result<(), Memory>
-        ensures { map (λ f. seen f) self.new.list.items ≡ map (λ f. seen f) self.old.list.items }
+        ensures same_seen { map (λ f. seen f) self.new.list.items ≡ map (λ f. seen f) self.old.list.items }
+        ensures as_sheet { OnOk result (map (λ f. plan f) self.new.list.items ≡
+            map (λ f. takes f sheet.now) self.old.list.items) }
     {
         prepare_each(&mut self.list, sheet)
     }
