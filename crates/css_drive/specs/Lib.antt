@@ -15,3 +15,5 @@ pub mod TvDue
 pub mod TvRan
 pub mod TvTold
 pub mod TvStanding
+pub mod RelayProgress
+pub mod RelayDue
