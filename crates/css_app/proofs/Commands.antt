@@ -7,7 +7,6 @@ use Rattle.css_follow.specs.declared.sheet.Sheet.{Sheet}
 use Rattle.css_drive.specs.declared.config.DriveConfig.{DriveConfig}
 use Rattle.css_words.specs.Commands.{Asked, Replay, Agree, Companion, Tv, Pair, Generate, Survey, command_in}
 use Rattle.css_words.specs.Companion.{CompanionAsked, OptionsAsked}
-use Rattle.css_words.specs.Options.{◌>>=◌}
 use Rattle.css_words.specs.Pair.{PairAsked}
 use Rattle.css_words.specs.declared.fault.WordsFault.{WordsFault}
 use Rattle.css_words.specs.declared.fault.WordsFault.TheVariants as words
@@ -15,12 +14,15 @@ use Rattle.css_app.specs.declared.child.Child.{Child}
 use Rattle.css_app.specs.declared.status.Status.{Status}
 use Rattle.css_app.specs.declared.status.Status.TheVariants as status
 use Rattle.css_app.specs.Commands.{CompanionsBy, Does, EndsAsAsked, IsAskedRun, PairsAsAsked, PairsBy, asked_child}
-use Rattle.css_app.specs.Commands.{asked_in, asked_tv, offered}
+use Rattle.css_app.specs.Commands.{asked_tv}
 use Rattle.css_app.specs.Devices.{FollowersUse, OutsideUse, SinkUse, SourceUse, SpawnerUse, stage_after, stage_before}
 use Rattle.css_app.specs.Ended.{IsNoUsage}
 use Rattle.css_app.specs.Live.{Companions, EndsAsDue, Stage}
 use Rattle.css_app.specs.Pairs.{Children, Pairs, PairsAsDue, PairsByScript, address_at}
+use Rattle.css_app.specs.Generated.{schedule_text}
+use Rattle.css_app.specs.Surveyed.{survey_text}
 use Rattle.css_app.proofs.Quiet.{companions_no_child, pairs_no_usage, script_no_dial, serves_no_dial, sheet_no_child}
+use Rattle.css_app.proofs.Quiet.{writes_no_usage}
 
 -- ---- a run by what the options ask for
 pub companions_by : (asked : CompanionAsked) (run : DriveConfig) (takes : Sheet → List Plan) (source : SourceUse)
@@ -37,8 +39,8 @@ ends_as_asked asked cii run before now result is (inl memory) = inl memory
 ends_as_asked asked cii run before now result is (inr due) = inr (run, is, due)
 
 pub pairs_by : (asked : PairAsked) (child : Child) (cii : Address) (run : DriveConfig) (takes : Sheet → List Plan)
-    (source : SourceUse) (before now : Stage) (kids_old kids_new : Children) (result : Status) → child ≡ asked_child asked.tv
-    → cii ≡ address_at child.port → IsAskedRun asked.companion cii run
+    (source : SourceUse) (before now : Stage) (kids_old kids_new : Children) (result : Status)
+    → child ≡ asked_child asked.tv → cii ≡ address_at child.port → IsAskedRun asked.companion cii run
     → Pairs run takes child source.left_old source.left_new before now kids_old kids_new result
     → PairsBy asked takes source before now kids_old kids_new result
 pairs_by asked child cii run takes source before now kids_old kids_new result of dials is (inl none) = inl none
@@ -76,8 +78,8 @@ pairs_by_no_usage : (asked : PairAsked) (takes : Sheet → List Plan) (source : 
 pairs_by_no_usage asked takes source before now kids_old kids_new result (inl none) =
     (script_no_dial source.left_old result none.cause).0.0
 pairs_by_no_usage asked takes source before now kids_old kids_new result (inr ran) =
-    pairs_no_usage ran.0 takes (asked_child asked.tv) source.left_old source.left_new before now kids_old kids_new result
-    (inr ran.2)
+    pairs_no_usage ran.0 takes (asked_child asked.tv) source.left_old source.left_new before now kids_old kids_new
+    result (inr ran.2)
 
 -- Usage tells that the words are those of no command
 pub usage_only : (asked : Result Asked WordsFault) (source : SourceUse) (sink : SinkUse) (outside : OutsideUse)
@@ -96,26 +98,26 @@ usage_only (Ok (Tv asked)) source sink outside spawner followers result did is =
 usage_only (Ok (Pair asked)) source sink outside spawner followers result did is =
     absurd (subst IsNoUsage is (pairs_by_no_usage asked followers.takes source (stage_before sink outside followers)
     (stage_after sink outside followers) spawner.children_old spawner.children_new result did.ran))
-usage_only (Ok (Generate asked)) source sink outside spawner followers result did is = absurd (cc)
-usage_only (Ok (Survey asked)) source sink outside spawner followers result did is = absurd (cc)
+usage_only (Ok (Generate asked)) source sink outside spawner followers result did is =
+    absurd (subst IsNoUsage is (writes_no_usage (schedule_text asked.seed asked.lines) sink.holds_old sink.holds_new
+    result did.writes))
+usage_only (Ok (Survey asked)) source sink outside spawner followers result did is =
+    absurd (subst IsNoUsage is (writes_no_usage (survey_text asked.seed asked.lines) sink.holds_old sink.holds_new
+    result did.writes))
 usage_only (Err words.Usage) source sink outside spawner followers result did is = refl
 usage_only (Err words.Memory) source sink outside spawner followers result did is = absurd (cc)
 
 -- ---- words
-pub asked_so : (line : List (List ℕ)) (asked : Asked) → command_in line ≡ Ok asked → asked_in line ≡ offered asked
-asked_so line asked of = ap (λ (r : Result Asked WordsFault). r >>= offered) of
-
 -- what a command did, whatever its words are expected to be
 pub does_so : (line : List (List ℕ)) (asked : Asked) (expected : Result Asked WordsFault) (source : SourceUse)
     (sink : SinkUse) (outside : OutsideUse) (spawner : SpawnerUse) (followers : FollowersUse) (result : Status)
-    → command_in line ≡ Ok asked → Does (offered asked) source sink outside spawner followers result
-    → asked_in line ≡ expected → Does expected source sink outside spawner followers result
+    → command_in line ≡ Ok asked → Does (Ok asked) source sink outside spawner followers result
+    → command_in line ≡ expected → Does expected source sink outside spawner followers result
 does_so line asked expected source sink outside spawner followers result of did is =
-    subst (λ (a : Result Asked WordsFault). Does a source sink outside spawner followers result)
-    (sym (asked_so line asked of) ∙ is) did
+    subst (λ (a : Result Asked WordsFault). Does a source sink outside spawner followers result) (sym of ∙ is) did
 
 -- words that are refused are those of no command
 pub usage_of : (line : List (List ℕ)) (fault : WordsFault) → fault ≡ words.Usage
-    → (command_in line ≡ Err fault) ⊎ (fault ≡ words.Memory) → asked_in line ≡ Err words.Usage
-usage_of line fault is (inl refused) = ap (λ (r : Result Asked WordsFault). r >>= offered) (refused ∙ ap Err is)
+    → (command_in line ≡ Err fault) ⊎ (fault ≡ words.Memory) → command_in line ≡ Err words.Usage
+usage_of line fault is (inl refused) = refused ∙ ap Err is
 usage_of line fault is (inr memory) = absurd (cc)

@@ -15,10 +15,12 @@ use Rattle.css_words.specs.Commands.{Asked, Replay, Agree, Companion, Tv, Pair, 
 use Rattle.css_words.specs.declared.fault.WordsFault.{WordsFault}
 use Rattle.css_words.specs.declared.fault.WordsFault.TheVariants as words
 use Rattle.css_app.specs.declared.status.Status.TheVariants as status
-use Rattle.css_app.specs.Commands.{ByAgree, ByReplay, Does}
+use Rattle.css_app.specs.Commands.{ByAgree, ByReplay, ByWriting, Does}
 use Rattle.css_app.specs.Devices.{followers_use, sink_use, source_use}
+use Rattle.css_app.specs.Generated.{schedule_text}
 use Rattle.css_app.specs.Pairs.{Children}
 use Rattle.css_app.specs.Replayed.{replayed}
+use Rattle.css_app.specs.Surveyed.{survey_text}
 
 module _ {Cause : Type 0} (meaning : Meaning Cause) where
   nothing_sound : IsSound meaning []
@@ -86,6 +88,13 @@ agree_lacks left holds r w = record {
   complete = λ bytes is accepted read written. tt;
 }
 
+writing_lacks : (text : List ℕ) (holds : Option (List ℕ)) (w : ℕ)
+    → ByWriting text (sink_use holds holds w w) status.Memory
+writing_lacks text holds w = record {
+  writes = record { front = []; of = (text, refl); grew = appends_none holds };
+  complete = λ written. tt;
+}
+
 -- whatever the words ask for
 pub lacks : (asked : Result Asked WordsFault) (left holds : Option (List ℕ)) (told : Option History)
     (kids : Children) (takes : Sheet → List Plan) (heard : List Listener) (r w c s : ℕ)
@@ -107,7 +116,9 @@ lacks (Ok (Pair asked)) left holds told kids takes heard r w c s = record {
   ran = inl (record { untouched = refl; children = refl; cause = tt });
   complete = λ bytes script is ok read written called spawned. inl refl;
 }
-lacks (Ok (Generate asked)) left holds told kids takes heard r w c s = refl
-lacks (Ok (Survey asked)) left holds told kids takes heard r w c s = refl
+lacks (Ok (Generate asked)) left holds told kids takes heard r w c s =
+    writing_lacks (schedule_text asked.seed asked.lines) holds w
+lacks (Ok (Survey asked)) left holds told kids takes heard r w c s =
+    writing_lacks (survey_text asked.seed asked.lines) holds w
 lacks (Err words.Usage) left holds told kids takes heard r w c s = tt
 lacks (Err words.Memory) left holds told kids takes heard r w c s = refl

@@ -4,6 +4,15 @@ pub mod Promise
 pub mod Runs
 pub mod Standing
 pub mod Completeness
+pub mod Generating
+pub mod Watched
+pub mod Exchanged
+pub mod Openings
+pub mod Stepped
+pub mod Accepting
+pub mod Surveying
+pub mod Plain
+pub mod Replaying
 pub mod ScriptsTaken
 pub mod SheetsTaken
 pub mod Live

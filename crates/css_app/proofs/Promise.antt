@@ -57,9 +57,9 @@ use Rattle.css_app.proofs.Texts.{lines_in-push, is_next}
 
 -- ---- one line
 -- what is printed for a line that was accepted
-printed-is : (header : Header) (older : List Numbered) (now : Numbered) (printed : List ℕ)
+pub printed_is : (header : Header) (older : List Numbered) (now : Numbered) (printed : List ℕ)
     → carried_out header older now ≡ Ok printed → printed ≡ printed_for header older now now.line.verb
-printed-is header older now printed e =
+printed_is header older now printed e =
     by (can_happen header older now.line.who now.line.verb)
     (played (events_of header older) (event_at header older now.line.who now.line.verb)) e
   where
@@ -175,7 +175,7 @@ kept_line header older now printed declared accepted e =
     let truth = accepted_lines_are_true header older now declared accepted in
     record {
       kept = kept-by header older now now.line.verb printed refl truth.wall truth.report
-          (printed-is header older now printed (carried_ok header older now printed e));
+          (printed_is header older now printed (carried_ok header older now printed e));
       told = truth.told;
       in_step = truth.in_step;
     }

@@ -20,7 +20,7 @@ use Rattle.css_app.specs.declared.replay.Cause.{Cause}
 use Rattle.css_app.specs.declared.replay.Cause.TheVariants as causes
 use Rattle.css_app.specs.declared.status.Status.{Status}
 use Rattle.css_app.specs.declared.status.Status.TheVariants as status
-use Rattle.css_app.specs.Ended.{IsNoUsage, agree_status_of, status_of}
+use Rattle.css_app.specs.Ended.{CountsReads, IsNoUsage, Writes, agree_status_of, status_of}
 use Rattle.css_app.specs.Live.{Companions, CountsDials, CountsSpawns, HasNoScript, HasNoSheet, Serves, Stage}
 use Rattle.css_app.specs.Live.{TellsNoLive, driven_status}
 use Rattle.css_app.specs.Pairs.{Beside, Children, IsNoStart, Pairs, empty_sheet}
@@ -71,6 +71,64 @@ agree_no_usage (stops.BadLine line (refusals.Refused (agrees.Broken earlier exce
 agree_no_usage stops.ReadFault = tt
 agree_no_usage stops.WriteFault = tt
 agree_no_usage stops.Memory = tt
+
+-- ---- texts that are written
+pub writes_no_usage : (text : List ℕ) (old new : Option (List ℕ)) (result : Status) → Writes text old new result
+    → IsNoUsage result
+writes_no_usage text old new status.Done wrote = tt
+writes_no_usage text old new status.WriteFault wrote = tt
+writes_no_usage text old new status.Memory wrote = tt
+writes_no_usage text old new status.Usage none = absurd none
+writes_no_usage text old new (status.BadLine line why) none = absurd none
+writes_no_usage text old new (status.Broken line earlier excess) none = absurd none
+writes_no_usage text old new status.ReadFault none = absurd none
+writes_no_usage text old new status.NetFault none = absurd none
+writes_no_usage text old new (status.BadCii number fault) none = absurd none
+writes_no_usage text old new (status.Moved property was is) none = absurd none
+writes_no_usage text old new (status.Spent turns) none = absurd none
+writes_no_usage text old new (status.Unreachable turns) none = absurd none
+writes_no_usage text old new (status.ChildFault ended) none = absurd none
+writes_no_usage text old new (status.BadSheet line) none = absurd none
+writes_no_usage text old new (status.BadUrl property) none = absurd none
+
+pub writes_quiet : (text : List ℕ) (old new : Option (List ℕ)) (result : Status) → Writes text old new result
+    → TellsNoLive result
+writes_quiet text old new status.Done wrote =
+    record { calls = λ n. refl; dials = λ n. omega arith; spawns = λ n. refl }
+writes_quiet text old new status.WriteFault wrote =
+    record { calls = λ n. refl; dials = λ n. omega arith; spawns = λ n. omega arith }
+writes_quiet text old new status.Memory wrote =
+    record { calls = λ n. refl; dials = λ n. omega arith; spawns = λ n. omega arith }
+writes_quiet text old new status.Usage none = absurd none
+writes_quiet text old new (status.BadLine line why) none = absurd none
+writes_quiet text old new (status.Broken line earlier excess) none = absurd none
+writes_quiet text old new status.ReadFault none = absurd none
+writes_quiet text old new status.NetFault none = absurd none
+writes_quiet text old new (status.BadCii number fault) none = absurd none
+writes_quiet text old new (status.Moved property was is) none = absurd none
+writes_quiet text old new (status.Spent turns) none = absurd none
+writes_quiet text old new (status.Unreachable turns) none = absurd none
+writes_quiet text old new (status.ChildFault ended) none = absurd none
+writes_quiet text old new (status.BadSheet line) none = absurd none
+writes_quiet text old new (status.BadUrl property) none = absurd none
+
+pub writes_no_read : (text : List ℕ) (old new : Option (List ℕ)) (result : Status) → Writes text old new result
+    → (n : ℕ) → CountsReads n n result
+writes_no_read text old new status.Done wrote n = refl
+writes_no_read text old new status.WriteFault wrote n = refl
+writes_no_read text old new status.Memory wrote n = refl
+writes_no_read text old new status.Usage none n = absurd none
+writes_no_read text old new (status.BadLine line why) none n = absurd none
+writes_no_read text old new (status.Broken line earlier excess) none n = absurd none
+writes_no_read text old new status.ReadFault none n = absurd none
+writes_no_read text old new status.NetFault none n = absurd none
+writes_no_read text old new (status.BadCii number fault) none n = absurd none
+writes_no_read text old new (status.Moved property was is) none n = absurd none
+writes_no_read text old new (status.Spent turns) none n = absurd none
+writes_no_read text old new (status.Unreachable turns) none n = absurd none
+writes_no_read text old new (status.ChildFault ended) none n = absurd none
+writes_no_read text old new (status.BadSheet line) none n = absurd none
+writes_no_read text old new (status.BadUrl property) none n = absurd none
 
 -- ---- live commands
 -- Neither Usage nor a child's fault: what the statuses are of a run that was made, and of an input that wasn't read.

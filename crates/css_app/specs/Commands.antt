@@ -8,9 +8,9 @@ use Rattle.css_follow.specs.Sheets.{sheet_in}
 use Rattle.css_follow.specs.declared.sheet.Sheet.{Sheet}
 use Rattle.css_schedule.specs.declared.line.ScriptLine.{ScriptLine}
 use Rattle.css_tv.specs.declared.config.TvConfig.{TvConfig}
-use Rattle.css_words.specs.Commands.{Asked, Replay, Agree, Companion, Tv, Pair, Generate, Survey, command_in}
+use Rattle.css_words.specs.Commands.{Asked, Replay, Agree, Companion, Tv, Pair, Generate, Survey}
 use Rattle.css_words.specs.Companion.{CompanionAsked, OptionsAsked}
-use Rattle.css_words.specs.Options.{◌>>=◌}
+use Rattle.css_words.specs.Generator.{GeneratorAsked}
 use Rattle.css_words.specs.Pair.{PairAsked}
 use Rattle.css_words.specs.Tv.{TvAsked}
 use Rattle.css_words.specs.declared.fault.WordsFault.{WordsFault}
@@ -20,22 +20,15 @@ use Rattle.css_app.specs.declared.status.Status.{Status}
 use Rattle.css_app.specs.declared.status.Status.TheVariants as status
 use Rattle.css_app.specs.Devices.{SourceUse, SinkUse, OutsideUse, SpawnerUse, FollowersUse, stage_before, stage_after}
 use Rattle.css_app.specs.Ended.{Agrees, AreAllRead, HasNotFailed, IsAccepted, IsDoneUnlessMemory, IsNoUsage, Replays}
+use Rattle.css_app.specs.Ended.{Writes}
+use Rattle.css_app.specs.Generated.{schedule_text}
 use Rattle.css_app.specs.Headline.{Promised}
 use Rattle.css_app.specs.Live.{IsAsDue, MakesNoRun, RunsBySheet, Serves, ServesAsDue, Stage}
 use Rattle.css_app.specs.Pairs.{ArePairedAsDue, Children, PairsByScript, PairsNone, address_at}
 use Rattle.css_app.specs.Scripts.{script_in}
+use Rattle.css_app.specs.Surveyed.{survey_text}
 
--- ---- which words are accepted
--- a command that this program has: `generate` and `survey` are none yet
-abbrev pub offered : Asked → Result Asked WordsFault
-offered (Generate asked) = Err words.Usage
-offered (Survey asked) = Err words.Usage
-offered asked = Ok asked
-
--- the command that the words after the program's name are
-abbrev pub asked_in : List (List ℕ) → Result Asked WordsFault
-asked_in line = command_in line >>= offered
-
+-- ---- refused words
 -- the words are those of no command, or memory ran out before that was known
 abbrev pub IsUsageUnlessMemory : Status → Type 0
 IsUsageUnlessMemory status.Usage = Unit {0}
@@ -56,6 +49,8 @@ uses_sink (Ok Replay) = true
 uses_sink (Ok Agree) = true
 uses_sink (Ok (Companion asked)) = true
 uses_sink (Ok (Pair asked)) = true
+uses_sink (Ok (Generate asked)) = true
+uses_sink (Ok (Survey asked)) = true
 uses_sink _ = false
 
 abbrev pub uses_outside : Result Asked WordsFault → Bool
@@ -194,6 +189,21 @@ pub record ByPair (asked : PairAsked) (source : SourceUse) (sink : SinkUse) (out
       → HasNotFailed outside.faults_old outside.faults_new → HasNotFailed spawner.faults_old spawner.faults_new
       → PairsAsAsked asked.companion (address_at asked.tv.port) outside.told_old outside.told_new result
 
+-- ---- `generate` and `survey`
+-- The sink gained this text, or a front part of it where a write failed or memory ran out.
+pub record ByWriting (text : List ℕ) (sink : SinkUse) (result : Status) : Type 0 where
+  pub writes : Writes text sink.holds_old sink.holds_new result
+  -- over a sink that doesn't fail it is the whole text
+  pub complete : HasNotFailed sink.faults_old sink.faults_new → IsDoneUnlessMemory result
+
+-- the text is the schedule of so many lines that is generated of the seed
+abbrev pub ByGenerate : GeneratorAsked → SinkUse → Status → Type 0
+ByGenerate asked sink result = ByWriting (schedule_text asked.seed asked.lines) sink result
+
+-- the text is the line that counts the reports which a replay of this schedule prints
+abbrev pub BySurvey : GeneratorAsked → SinkUse → Status → Type 0
+BySurvey asked sink result = ByWriting (survey_text asked.seed asked.lines) sink result
+
 -- ---- all commands
 -- what a command does to the devices that it uses, or words that are those of none
 abbrev pub Does :
@@ -205,7 +215,7 @@ Does (Ok (Companion asked)) source sink outside spawner followers result =
 Does (Ok (Tv asked)) source sink outside spawner followers result = ByTv asked source outside result
 Does (Ok (Pair asked)) source sink outside spawner followers result =
     ByPair asked source sink outside spawner followers result
-Does (Ok (Generate asked)) source sink outside spawner followers result = result ≡ status.Memory
-Does (Ok (Survey asked)) source sink outside spawner followers result = result ≡ status.Memory
+Does (Ok (Generate asked)) source sink outside spawner followers result = ByGenerate asked sink result
+Does (Ok (Survey asked)) source sink outside spawner followers result = BySurvey asked sink result
 Does (Err words.Usage) source sink outside spawner followers result = IsUsageUnlessMemory result
 Does (Err words.Memory) source sink outside spawner followers result = result ≡ status.Memory

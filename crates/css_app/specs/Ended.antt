@@ -3,6 +3,7 @@ use Rattle.std.specs.Prelude.{ℕ, ◌≡◌, ◌<◌, ◌-◌, ◌^◌, ◌⊎�
 use Rattle.std.specs.Prelude.{Option, Some, None}
 use Rattle.std.specs.Fmt.{signed_decimal}
 use Rattle.std.specs.Io.KnownBytes.{Appends}
+use Rattle.css_outside.specs.Bytes.{AppendsPrefix}
 use Rattle.css_outside.specs.Faults.{HasRisen}
 use Rattle.css_lines.specs.declared.reader.Refusal.{Refusal}
 use Rattle.css_lines.specs.declared.reader.Refusal.TheVariants as refusals
@@ -173,3 +174,12 @@ AreAllRead bytes = (outcome agreeing bytes).verdict ≡ None
 abbrev pub IsNoUsage : Status → Type 0
 IsNoUsage Usage = ⊥
 IsNoUsage _ = Unit {0}
+
+-- ---- what is written whole
+-- The sink grew by the whole text, or by a front part of it where a write failed or memory ran out. There is no other
+-- end.
+abbrev pub Writes : List ℕ → Option (List ℕ) → Option (List ℕ) → Status → Type 0
+Writes text holds_old holds_new Done = Appends holds_old holds_new text
+Writes text holds_old holds_new WriteFault = AppendsPrefix holds_old holds_new text
+Writes text holds_old holds_new Memory = AppendsPrefix holds_old holds_new text
+Writes text holds_old holds_new _ = ⊥

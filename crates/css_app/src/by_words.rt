@@ -1,30 +1,34 @@
-//! The live commands by the words of a command line.
+//! The commands that have options, by the words of a command line.
 ghost use Rattle.std.specs.Prelude.{◌≡◌, ◌≤◌, ◌≤ℤ◌, pos, ℕ};
 ghost use Rattle.std.specs.Str.{IsUtf8};
 ghost use Rattle.css_drive.specs.Configs.{IsWritable};
 ghost use Rattle.css_model.specs.Numbers.{max_error};
 ghost use Rattle.css_words.specs.Companion.{companion_of, options_of};
+ghost use Rattle.css_words.specs.Generator.{generator_of};
 ghost use Rattle.css_words.specs.Pair.{pair_of};
 ghost use Rattle.css_words.specs.Tv.{tv_of};
 ghost use Rattle.css_words.specs.Written.{AreWritable};
-ghost use Rattle.css_app.specs.Commands.{ByCompanion, ByPair, ByTv, IsAskedRun, asked_child, asked_tv};
+ghost use Rattle.css_app.specs.Commands.{ByCompanion, ByGenerate, ByPair, BySurvey, ByTv, IsAskedRun};
+ghost use Rattle.css_app.specs.Commands.{asked_child, asked_tv};
 ghost use Rattle.css_app.specs.Devices.{followers_use, outside_use, sink_use, source_use, spawner_use};
 ghost use Rattle.css_app.specs.Ended.{CountsReads, CountsWrites};
-ghost use Rattle.css_app.specs.Live.{CountsCalls, CountsDials, CountsSpawns};
+ghost use Rattle.css_app.specs.Live.{CountsCalls, CountsDials, CountsSpawns, TellsNoLive};
 ghost use Rattle.css_app.specs.Pairs.{children};
 
 use crate::child::{Child, address_at};
+use crate::generated::generate;
 use crate::live_companion::companion;
 use crate::live_pair::pair;
 use crate::live_tv::tv;
 use crate::status::Status;
+use crate::surveyed::survey;
 use css_client::Local;
 use css_companion::CompanionConfig;
 use css_drive::{DriveConfig, Listens};
 use css_num::Memory;
 use css_outside::{Address, Outside, Sink, Source, Spawner};
 use css_tv::TvConfig;
-use css_words::{CompanionOptions, CompanionWords, PairWords, TvWords};
+use css_words::{CompanionOptions, CompanionWords, GeneratorWords, PairWords, TvWords};
 use std::alloc::Global;
 
 // The run of a companion with these options, which dials this address.
@@ -167,4 +171,26 @@ pub(crate) fn pair_by<S: Source, K: Sink, O: Outside, P: Spawner, F: Listens>(
     pair(
         alloc, run, &child, source, sink, outside, spawner, followers,
     )
+}
+
+/// The command `generate` with these words.
+pub(crate) fn generate_by<K: Sink>(alloc: Global, words: GeneratorWords, sink: &mut K) -> Status
+    ensures does { ByGenerate (generator_of words)
+        (sink_use (K.holds sink.old) (K.holds sink.new) (K.faults sink.old) (K.faults sink.new)) result }
+    ensures quiet { TellsNoLive result }
+    ensures reads { (count : ℕ) → CountsReads count count result }
+    ensures counted_writes { CountsWrites (K.faults sink.old) (K.faults sink.new) result }
+{
+    generate(alloc, words.seed, words.lines, sink)
+}
+
+/// The command `survey` with these words.
+pub(crate) fn survey_by<K: Sink>(alloc: Global, words: GeneratorWords, sink: &mut K) -> Status
+    ensures does { BySurvey (generator_of words)
+        (sink_use (K.holds sink.old) (K.holds sink.new) (K.faults sink.old) (K.faults sink.new)) result }
+    ensures quiet { TellsNoLive result }
+    ensures reads { (count : ℕ) → CountsReads count count result }
+    ensures counted_writes { CountsWrites (K.faults sink.old) (K.faults sink.new) result }
+{
+    survey(alloc, words.seed, words.lines, sink)
 }

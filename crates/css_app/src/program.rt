@@ -1,13 +1,14 @@
 ghost use Rattle.std.specs.Prelude.{◌≡◌, List, ℕ, Some, Ok, Err, false, map, string_bytes};
-ghost use Rattle.css_words.specs.Commands.{asked_of};
+ghost use Rattle.css_words.specs.Commands.{asked_of, command_in};
 ghost use Rattle.css_words.specs.Commands as commands;
 ghost use Rattle.css_words.specs.Companion.{CompanionAsked};
+ghost use Rattle.css_words.specs.Generator.{GeneratorAsked};
 ghost use Rattle.css_words.specs.Pair.{PairAsked};
 ghost use Rattle.css_words.specs.Tv.{TvAsked};
 ghost use Rattle.css_words.specs.Written.{IsWritable};
 ghost use Rattle.css_words.specs.declared.fault.WordsFault.TheVariants as words_fault;
-ghost use Rattle.css_app.specs.Commands.{ByAgree, ByCompanion, ByPair, ByReplay, ByTv, Does, IsUsageUnlessMemory};
-ghost use Rattle.css_app.specs.Commands.{asked_in, offered, uses_followers, uses_outside, uses_sink, uses_source};
+ghost use Rattle.css_app.specs.Commands.{ByAgree, ByCompanion, ByGenerate, ByPair, ByReplay, BySurvey, ByTv, Does};
+ghost use Rattle.css_app.specs.Commands.{IsUsageUnlessMemory, uses_followers, uses_outside, uses_sink, uses_source};
 ghost use Rattle.css_app.specs.Commands.{uses_spawner};
 ghost use Rattle.css_app.specs.Devices.{followers_use, outside_use, sink_use, source_use, spawner_use};
 ghost use Rattle.css_app.specs.Ended.{CountsReads, CountsWrites};
@@ -16,7 +17,7 @@ ghost use Rattle.css_app.specs.Live.{CountsCalls, CountsDials, CountsSpawns, Tel
 ghost use Rattle.css_app.specs.Pairs.{children};
 
 use crate::agreement::agree;
-use crate::by_words::{companion_by, pair_by, tv_by};
+use crate::by_words::{companion_by, generate_by, pair_by, survey_by, tv_by};
 use crate::replay::{Cause, Replay};
 use crate::status::Status;
 use css_drive::Listens;
@@ -103,18 +104,18 @@ fn run_command<S: Source, K: Sink, O: Outside, P: Spawner, F: Listens>(
     followers: &mut F,
 ) -> Status
     requires { IsWritable command }
-    ensures does { Does (offered (asked_of command))
+    ensures does { Does (Ok (asked_of command))
         (source_use (S.left source.old) (S.left source.new) (S.faults source.old) (S.faults source.new))
         (sink_use (K.holds sink.old) (K.holds sink.new) (K.faults sink.old) (K.faults sink.new))
         (outside_use (O.told outside.old) (O.told outside.new) (O.counts outside.old) (O.counts outside.new))
         (spawner_use (children (P.told spawner.old) (P.running spawner.old))
         (children (P.told spawner.new) (P.running spawner.new)) (P.faults spawner.old) (P.faults spawner.new))
         (followers_use (F.takes followers.old) (F.heard followers.old) (F.heard followers.new)) result }
-    ensures same_source { uses_source (offered (asked_of command)) ≡ false → source.new ≡ source.old }
-    ensures same_sink { uses_sink (offered (asked_of command)) ≡ false → sink.new ≡ sink.old }
-    ensures same_outside { uses_outside (offered (asked_of command)) ≡ false → outside.new ≡ outside.old }
-    ensures same_spawner { uses_spawner (offered (asked_of command)) ≡ false → spawner.new ≡ spawner.old }
-    ensures same_followers { uses_followers (offered (asked_of command)) ≡ false → followers.new ≡ followers.old }
+    ensures same_source { uses_source (Ok (asked_of command)) ≡ false → source.new ≡ source.old }
+    ensures same_sink { uses_sink (Ok (asked_of command)) ≡ false → sink.new ≡ sink.old }
+    ensures same_outside { uses_outside (Ok (asked_of command)) ≡ false → outside.new ≡ outside.old }
+    ensures same_spawner { uses_spawner (Ok (asked_of command)) ≡ false → spawner.new ≡ spawner.old }
+    ensures same_followers { uses_followers (Ok (asked_of command)) ≡ false → followers.new ≡ followers.old }
     ensures counted_reads { CountsReads (S.faults source.old) (S.faults source.new) result }
     ensures counted_writes { CountsWrites (K.faults sink.old) (K.faults sink.new) result }
     ensures counted_calls { CountsCalls (O.counts outside.old).faults (O.counts outside.new).faults result }
@@ -128,8 +129,8 @@ fn run_command<S: Source, K: Sink, O: Outside, P: Spawner, F: Listens>(
         Command::Companion(words) => companion_by(alloc, words, source, sink, outside, followers),
         Command::Tv(words) => tv_by(alloc, words, source, outside),
         Command::Pair(words) => pair_by(alloc, words, source, sink, outside, spawner, followers),
-        Command::Generate(_) => Status::Usage,
-        Command::Survey(_) => Status::Usage,
+        Command::Generate(words) => generate_by(alloc, words, sink),
+        Command::Survey(words) => survey_by(alloc, words, sink),
     }
 }
 
@@ -141,8 +142,10 @@ fn run_command<S: Source, K: Sink, O: Outside, P: Spawner, F: Listens>(
 ///   it writes its reports to the sink, and the followers are told them.
 /// - `tv` reads a script from the source, to its end, and then is a television.
 /// - `pair` reads a script, starts `tv` with it as a child, and is a companion of it.
+/// - `generate` writes the schedule of so many lines that is generated of a seed.
+/// - `survey` replays this schedule as it is generated, and writes one line, which counts the reports.
 ///
-/// `generate` and `survey` are no commands of it yet. The options of each command are those of `css_words`.
+/// The options of each command are those of `css_words`.
 ///
 /// `Usage` comes exactly where the words are those of no command; then no device was touched. Want of memory, which may
 /// come in place of any status, comes as `Memory`.
@@ -156,27 +159,27 @@ pub fn run<S: Source, K: Sink, O: Outside, P: Spawner, F: Listens>(
     followers: &mut F,
 ) -> Status
     // Which words are accepted.
-    ensures usage { result ≡ Status.Usage → asked_in (map string_bytes words.now) ≡ Err words_fault.Usage }
-    ensures refused { asked_in (map string_bytes words.now) ≡ Err words_fault.Usage → IsUsageUnlessMemory result }
+    ensures usage { result ≡ Status.Usage → command_in (map string_bytes words.now) ≡ Err words_fault.Usage }
+    ensures refused { command_in (map string_bytes words.now) ≡ Err words_fault.Usage → IsUsageUnlessMemory result }
 
     // A device that the command doesn't use is as before. A refused command line uses none.
-    ensures same_source { uses_source (asked_in (map string_bytes words.now)) ≡ false → source.new ≡ source.old }
-    ensures same_sink { uses_sink (asked_in (map string_bytes words.now)) ≡ false → sink.new ≡ sink.old }
-    ensures same_outside { uses_outside (asked_in (map string_bytes words.now)) ≡ false → outside.new ≡ outside.old }
-    ensures same_spawner { uses_spawner (asked_in (map string_bytes words.now)) ≡ false → spawner.new ≡ spawner.old }
-    ensures same_followers { uses_followers (asked_in (map string_bytes words.now)) ≡ false
+    ensures same_source { uses_source (command_in (map string_bytes words.now)) ≡ false → source.new ≡ source.old }
+    ensures same_sink { uses_sink (command_in (map string_bytes words.now)) ≡ false → sink.new ≡ sink.old }
+    ensures same_outside { uses_outside (command_in (map string_bytes words.now)) ≡ false → outside.new ≡ outside.old }
+    ensures same_spawner { uses_spawner (command_in (map string_bytes words.now)) ≡ false → spawner.new ≡ spawner.old }
+    ensures same_followers { uses_followers (command_in (map string_bytes words.now)) ≡ false
         → followers.new ≡ followers.old }
 
     // A schedule: what became of its lines. Of every source, what the sink gained keeps the promise: each interval of
     // ticks contains the position that the last control timestamp received assigns to the value that its line gives the
     // television's wall clock, and comes from the narrowest accepted response; lacking a response or usable timestamp
     // the cause is printed. Once told, the companion's state of the content is one that the television published.
-    ensures replay { asked_in (map string_bytes words.now) ≡ Ok commands.Replay
+    ensures replay { command_in (map string_bytes words.now) ≡ Ok commands.Replay
         → ByReplay (source_use (S.left source.old) (S.left source.new) (S.faults source.old) (S.faults source.new))
         (sink_use (K.holds sink.old) (K.holds sink.new) (K.faults sink.old) (K.faults sink.new)) result }
 
     // Answers: what is printed of them is what they say together, true in every world that makes them truthful.
-    ensures agree { asked_in (map string_bytes words.now) ≡ Ok commands.Agree
+    ensures agree { command_in (map string_bytes words.now) ≡ Ok commands.Agree
         → ByAgree (source_use (S.left source.old) (S.left source.new) (S.faults source.old) (S.faults source.new))
         (sink_use (K.holds sink.old) (K.holds sink.new) (K.faults sink.old) (K.faults sink.new)) result }
 
@@ -184,7 +187,7 @@ pub fn run<S: Source, K: Sink, O: Outside, P: Spawner, F: Listens>(
     // that the last control timestamp received assigns to the television's wall clock, in every world that explains
     // what the companion was told.
     ensures companion { (asked : CompanionAsked)
-        → asked_in (map string_bytes words.now) ≡ Ok (commands.Companion asked)
+        → command_in (map string_bytes words.now) ≡ Ok (commands.Companion asked)
         → ByCompanion asked
         (source_use (S.left source.old) (S.left source.new) (S.faults source.old) (S.faults source.new))
         (sink_use (K.holds sink.old) (K.holds sink.new) (K.faults sink.old) (K.faults sink.new))
@@ -192,12 +195,12 @@ pub fn run<S: Source, K: Sink, O: Outside, P: Spawner, F: Listens>(
         (followers_use (F.takes followers.old) (F.heard followers.old) (F.heard followers.new)) result }
 
     // A television by its script: each call is the one that is due.
-    ensures tv { (asked : TvAsked) → asked_in (map string_bytes words.now) ≡ Ok (commands.Tv asked)
+    ensures tv { (asked : TvAsked) → command_in (map string_bytes words.now) ≡ Ok (commands.Tv asked)
         → ByTv asked (source_use (S.left source.old) (S.left source.new) (S.faults source.old) (S.faults source.new))
         (outside_use (O.told outside.old) (O.told outside.new) (O.counts outside.old) (O.counts outside.new)) result }
 
     // A companion beside a child: as `companion`, without a sheet; the child has the script's bytes.
-    ensures pair { (asked : PairAsked) → asked_in (map string_bytes words.now) ≡ Ok (commands.Pair asked)
+    ensures pair { (asked : PairAsked) → command_in (map string_bytes words.now) ≡ Ok (commands.Pair asked)
         → ByPair asked
         (source_use (S.left source.old) (S.left source.new) (S.faults source.old) (S.faults source.new))
         (sink_use (K.holds sink.old) (K.holds sink.new) (K.faults sink.old) (K.faults sink.new))
@@ -205,6 +208,16 @@ pub fn run<S: Source, K: Sink, O: Outside, P: Spawner, F: Listens>(
         (spawner_use (children (P.told spawner.old) (P.running spawner.old))
         (children (P.told spawner.new) (P.running spawner.new)) (P.faults spawner.old) (P.faults spawner.new))
         (followers_use (F.takes followers.old) (F.heard followers.old) (F.heard followers.new)) result }
+
+    // The schedule of a seed, which a replay accepts.
+    ensures generate { (asked : GeneratorAsked)
+        → command_in (map string_bytes words.now) ≡ Ok (commands.Generate asked) → ByGenerate asked
+        (sink_use (K.holds sink.old) (K.holds sink.new) (K.faults sink.old) (K.faults sink.new)) result }
+
+    // How many reports a replay of this schedule prints, how many of them are intervals, and the widest of these.
+    ensures survey { (asked : GeneratorAsked)
+        → command_in (map string_bytes words.now) ≡ Ok (commands.Survey asked) → BySurvey asked
+        (sink_use (K.holds sink.old) (K.holds sink.new) (K.faults sink.old) (K.faults sink.new)) result }
 
     // A fault is told only where the device has failed. A failure of the spawner yields to the companion's status, and
     // of dials it is told where every one failed; no other failure of a device goes untold.

@@ -6,6 +6,8 @@ mod agree_tests;
 #[cfg(test)]
 mod both_ends_tests;
 #[cfg(test)]
+mod generated_tests;
+#[cfg(test)]
 mod live_tables;
 #[cfg(test)]
 mod live_tests;

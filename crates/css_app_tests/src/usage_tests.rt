@@ -82,12 +82,24 @@ pair --local-precision 1000000001";
     assert_usage(&rt, rt.alloc(), lines)
 }
 
-/// They will be commands of a later version.
 #[test]
-fn commands_that_are_not_there_yet_are_refused(rt: HostRuntime) -> Result<(), Fail> {
-    assert_usage(
-        &rt,
-        rt.alloc(),
-        "generate --seed 1 --lines 9\nsurvey --seed 1 --lines 9",
-    )
+fn schedules_that_cannot_be_generated_are_refused(rt: HostRuntime) -> Result<(), Fail> {
+    let lines = "\
+generate
+survey
+generate --seed 1
+survey --lines 9
+generate --seed 1 --lines 8
+survey --seed 1 --lines 8
+generate --seed 1 --lines 200001
+survey --seed 1 --lines 200001
+generate --seed 9223372036854775808 --lines 9
+survey --seed=-1 --lines 9
+generate --seed 01 --lines 9
+survey --seed 1 --lines 9 --lines 9
+generate --seed 1 --lines 9 --reports 1
+survey --seed 1 --lines 9 now
+generate --seed 1 --lines 9 --help
+survey --help";
+    assert_usage(&rt, rt.alloc(), lines)
 }

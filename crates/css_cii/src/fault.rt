@@ -11,8 +11,8 @@ pub enum CiiFault {
     NotJson,
     /// It reads as another value than an object.
     NotObject,
-    /// A property that it has is of another form than the property's own: of
-    /// those the first, in the order of [`State`](crate::State).
+    /// A property has another form than it should. Of several the first is told, in the order of
+    /// [`State`](crate::State).
     Field(CiiName),
     /// Want of memory.
     Memory,

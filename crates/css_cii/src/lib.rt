@@ -1,10 +1,8 @@
-//! Content identification, CSS-CII of ETSI TS 103 286-2: the state that a
-//! television tells its companions, and the messages that change what they know
-//! of it.
+//! Content identification, CSS-CII of ETSI TS 103 286-2: the state that a television tells its companions, and the
+//! messages that tell it.
 //!
-//! A message says some of nine properties. The first message of a connection
-//! gives the state, where each property that it leaves unsaid is null; each later
-//! one sets what it says and keeps the rest.
+//! A message says some of nine properties. The first message of a connection gives the state, where each property that
+//! it leaves unsaid is null. Each later one sets what it says and keeps the rest.
 #![tactic(auto)]
 
 mod change;
@@ -34,7 +32,7 @@ pub fn messages_are_read_back()
     ensures { (c : said) → IsUtf8Change c → EachOf RatesAreInRange c.timelines → message_of (change_text c) ≡ Ok c }
 {}
 
-/// Want of memory is never what a message's text is to be read as.
+/// What a message's text is to be read as is never want of memory.
 pub fn messages_are_total()
     ensures { (bytes : List ℕ) → NotMemory (message_of bytes) }
 {}

@@ -103,10 +103,9 @@ fn set_properties(state: &mut State, change: Change)
 
 /// The state after the messages of a connection so far.
 ///
-/// Where they tell the states of a television, one after another, it is the last
-/// of these: the first message says at least each property that isn't null in
-/// the first state, each later one at least each property that changed, and each
-/// with its value in the state that it tells.
+/// Let them tell the states of a television, one after another: the first message says at least each property that
+/// isn't null in the first state, and each later one at least each property that changed, each with its value in that
+/// state. Then it is the last of these states.
 pub fn merge(changes: &[Change]) -> Result<State, Memory>
     ensures value { IfOk result (λ last. last ≡ states.merged changes.now) }
     ensures session { IfOk result

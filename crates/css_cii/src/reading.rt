@@ -82,16 +82,15 @@ fn change_in(alloc: Global, map: &Map) -> Result<Change, CiiFault>
     })
 }
 
-/// Reads a message of CSS-CII (ETSI TS 103 286-2): a JSON object, of which other
-/// members than the nine properties are passed over.
+/// Reads a message of CSS-CII (ETSI TS 103 286-2): a JSON object. Other members than the nine properties are passed
+/// over.
 ///
-/// `protocolVersion`, `mrsUrl`, `contentId`, `contentIdStatus`,
-/// `presentationStatus`, `wcUrl`, `tsUrl` and `teUrl` are texts or null.
-/// `timelines` is a list or null; each entry of the list is an object with the
-/// text `timelineSelector` and the object `timelineProperties`, which has whole
-/// `unitsPerTick` and `unitsPerSecond`, each 1 to 10^9. The first property of
-/// another form, in the order of [`State`](crate::State), is the fault `Field`.
-/// Each text that is read is UTF-8.
+/// `protocolVersion`, `mrsUrl`, `contentId`, `contentIdStatus`, `presentationStatus`, `wcUrl`, `tsUrl` and `teUrl` are
+/// texts or null. `timelines` is a list or null. Each entry of the list is an object with the text `timelineSelector`
+/// and the object `timelineProperties`, which has whole `unitsPerTick` and `unitsPerSecond`, each 1 to 10^9.
+///
+/// The first property of another form, in the order of [`State`](crate::State), is the fault `Field`. Each text that is
+/// read is UTF-8.
 #[tactic(auto, unfolding(crate::specs::Messages::message_of))]
 pub fn read_message(alloc: Global, bytes: &[u8]) -> Result<Change, CiiFault>
     ensures value { GivesBy (λ change. change) faults.Memory result (messages.message_of bytes.now) }

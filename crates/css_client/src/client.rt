@@ -1,8 +1,9 @@
 ghost use Rattle.std.specs.Prelude.{◌≡◌, ◌≤◌, ◌<◌, ◌+◌, ℕ, [], ◌∷◌, length, max, IfOk, IfSome, OnOk, OnErr};
 ghost use Rattle.css_model.specs.declared.Why.TheVariants as why;
+ghost use Rattle.css_model.specs.Numbers.{max_error};
 ghost use Rattle.css_model.specs.Wire.{encoded, request_at};
 ghost use Rattle.css_model.specs.History.{History, Clock, Sent, Took, Slept, accepted_answers};
-ghost use Rattle.css_span.specs.Frontiers.{error_count};
+ghost use Rattle.css_span.specs.Frontiers.{error_count, greatest_error};
 ghost use Rattle.css_span.specs.WallSpans.{wall_span, IsNear};
 ghost use Rattle.css_wc.specs.Datagrams.{HasNoFault};
 ghost use Rattle.css_client.specs.Clients.{local_of};
@@ -31,10 +32,9 @@ const NO_TIME: Stamp = Stamp {
 /// none may be below an earlier one that changed the client. The clock stands still while the companion sleeps, so a
 /// sleep ends all that the client knows.
 ///
-/// It remembers when the first response with each pair of originate and receive values landed that promised a
-/// follow-up, for the requests to which an answer may still come: a response is forgotten with its request. A landing
-/// looks it up in an ordered map, so it costs a logarithm of their number. Nothing else grows without bound, and this
-/// only by a flood of such responses to one request, with ever new receive values.
+/// It remembers when a response landed that promised a follow-up: the first with each pair of originate and receive
+/// values. A response is forgotten with its request. A landing looks it up in an ordered map. Only a flood of such
+/// responses to one request, with ever new receive values, makes the client grow.
 #[derive(Drop)]
 pub struct Client {
     asked: Asked,
@@ -93,8 +93,8 @@ impl Client {
         })
     }
 
-    /// The request to send, where the clock reads so now. An answer to it may come from then on, and none any more to
-    /// the request before the last 64.
+    /// The request to send, at this reading of the clock. From then on an answer to it may come, and none to a request
+    /// before the last 64.
     pub fn ask(&mut self, reading: u64) -> [u8; 32]
         requires range { reading < LIMIT }
         requires floor { self.old.floor ≤ reading }
@@ -110,13 +110,16 @@ impl Client {
         encode(&request(reading))
     }
 
-    /// Takes in a datagram that landed when the clock read so.
+    /// Takes in a datagram that landed at this reading of the clock. The refusals are tested in this order:
     ///
-    /// The refusals are tested in this order: `Undecodable`; `NotAnAnswer`, of a request; `Unasked`, where the
-    /// originate value is that of none of the last 64 requests since the last sleep; `Impossible`, where the width of
-    /// the answer's span is below zero at its landing. A follow-up counts from the landing of the first response with
-    /// its originate and receive values, if one landed, also where that was impossible. After the first three refusals,
-    /// and after want of memory, the client is as before.
+    /// 1. `Undecodable`: it is no datagram of CSS-WC.
+    /// 2. `NotAnAnswer`: it is a request.
+    /// 3. `Unasked`: its originate value is that of none of the last 64 requests since the last sleep.
+    /// 4. `Impossible`: the width of its span is below zero at its landing.
+    ///
+    /// A follow-up counts from the landing of the first response with its originate and receive values, if one landed,
+    /// also where that was impossible. After the first three refusals, and after want of memory, the client is as
+    /// before.
     pub fn land(&mut self, bytes: &[u8], reading: u64) -> Result<Landing, Memory>
         requires range { reading < LIMIT }
         requires floor { self.old.floor ≤ reading }
@@ -145,8 +148,8 @@ impl Client {
         Ok(landing)
     }
 
-    /// The span of the television's wall clock when the companion's own reads so: that of the narrowest of the answers
-    /// that were accepted since the last sleep. None where there is none.
+    /// The span of the television's wall clock at this reading of the companion's own: that of the narrowest answer
+    /// accepted since the last sleep. None where there is none.
     ///
     /// It contains what the wall clock shows then, if the oscillators keep to their errors and what was accepted is the
     /// television's.
@@ -168,6 +171,17 @@ impl Client {
             → result ≡ error_count (accepted_answers (local_of self.now) history) }
     {
         self.estimate.kept()
+    }
+
+    /// The greatest max_freq_error that an answer declares of those that were accepted since the last sleep, in 1/256
+    /// ppm. It is 0 where there is none.
+    pub fn greatest_error(&self) -> u32
+        ensures value { result ≡ greatest_error self.now.estimate.kept }
+        ensures accepted { (history : History) → StandsFor self.now history
+            → result ≡ greatest_error (accepted_answers (local_of self.now) history) }
+        ensures range { result ≤ max_error }
+    {
+        self.estimate.greatest_error()
     }
 
     /// The companion slept: forgets all requests and answers. Each later reading is above those that were asked at.

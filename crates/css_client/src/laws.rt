@@ -2,8 +2,8 @@
 
 ghost use Rattle.css_client.specs.Standing.{StandsAside as IgnoresTheRest};
 
-/// A client that stands for a history stands for it with one more entry too, unless this is a sleep, a request, the
-/// reading for one, or the landing of an answer. So nobody tells a client of the other things that a companion does.
+/// A client stands for the same history with one more entry, unless this is a sleep, a request, the reading for one, or
+/// the landing of an answer. So nobody tells a client of the other things that a companion does.
 pub fn stands_aside()
     ensures { IgnoresTheRest }
 {}

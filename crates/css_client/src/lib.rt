@@ -8,8 +8,6 @@ mod landing;
 pub mod laws;
 mod promises;
 mod receiving;
-#[cfg(test)]
-mod tests;
 
 pub use client::Client;
 pub use css_model::WcFault;

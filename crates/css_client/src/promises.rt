@@ -36,8 +36,8 @@ pub(crate) struct Exchange {
 /// When the first response of each exchange landed, of those that promised follow-ups. Contracts see a list of them, in
 /// the order of the requests.
 ///
-/// Only a flood of such responses, to one request and with ever new receive values, makes it grow: of each pair of
-/// values one is kept, and none of a request to which no answer may come any more.
+/// Of each pair of values one is kept, and none of a request to which no answer may come any more. So only a flood of
+/// such responses, to one request and with ever new receive values, makes it grow.
 #[derive(Drop)]
 pub(crate) struct Promises {
     landings: BTreeMap<Exchange, u64>,

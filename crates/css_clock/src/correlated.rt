@@ -4,13 +4,11 @@ use crate::steps::{child_span, divisor, factor, since};
 use crate::tick::Tick;
 use css_num::{Rate, Span, fits};
 
-/// A clock that goes by a parent clock: where the parent reads `parent_ticks`
-/// it reads `child_ticks`, and from there it goes at `speed` times its tick
-/// rate, each tick rounded down. So does the correlated clock of companion
-/// screen libraries, by its parent, tick rate, speed and correlation.
+/// A clock that goes by a parent clock, as the correlated clock of companion screen libraries does.
 ///
-/// A speed is whole, -64 to 64: 0 where the clock is stopped, below 0 where it
-/// goes backward.
+/// Where the parent reads `parent_ticks` it reads `child_ticks`. From there it goes at `speed` times its tick rate, in
+/// whole ticks, rounded down. A speed is whole, -64 to 64: 0 where the clock is stopped, below 0 where it goes
+/// backward.
 #[derive(Debug, Drop)]
 pub struct Correlated<P: Tick> {
     /// The clock that it goes by.

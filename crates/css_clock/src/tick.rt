@@ -5,11 +5,10 @@ ghost use Rattle.css_clock.specs.Goes.{root_goes};
 
 use css_num::{Rate, Span};
 
-/// A clock, by the values of the root clock that it stands on.
+/// A clock object, by the values of the root clock that it stands on.
 ///
-/// It is a clock object as companion screen libraries document it, with a tick
-/// rate and a conversion from root ticks, but its ticks are whole and it tells
-/// spans beside points.
+/// As in companion screen libraries it has a tick rate and a conversion from root ticks. Here ticks are whole, and a
+/// clock tells spans beside points.
 pub trait Tick {
     /// The clock's tick rate.
     ghost rate_of: { Self → TickRate };
@@ -27,9 +26,8 @@ pub trait Tick {
     fn rate(&self) -> Rate
         ensures { result ≡ rate_of self.now };
 
-    /// Whether [`Tick::value`] and [`Tick::span`] may be asked for these values
-    /// of the root: at both ends no product on the way is 2^126 or more either
-    /// way.
+    /// Whether [`Tick::value`] and [`Tick::span`] may be asked for these values of the root: at both ends each product
+    /// on the way is below 2^126 either way.
     fn holds(&self, root: Span) -> bool
         ensures { IsTrue result ↔ ticks.HoldsOver (holds_at self.now) root };
 

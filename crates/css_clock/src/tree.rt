@@ -16,14 +16,11 @@ use css_num::{Rate, Span};
 use std::alloc::Global;
 use std::marker::Model;
 
-/// A forest of clocks, numbered from 0 in the order in which they were added:
-/// roots, and clocks that go by one another.
+/// A forest of clocks, numbered from 0 in the order in which they were added: roots, and clocks that go by one another.
 ///
-/// These are the clock objects that companion screen libraries document: a root
-/// is a clock without a parent, as a system clock, and every other clock is a
-/// correlated clock, with a parent, a tick rate, a speed and a correlation.
-/// There a clock's ticks may have a fraction. Here they are whole, rounded
-/// down, so what is converted is a span of ticks and no point.
+/// These are the clock objects of companion screen libraries. A root has no parent, as a system clock. Every other
+/// clock is a correlated clock, with a parent, a tick rate, a speed and a correlation. In a library a clock's ticks may
+/// have a fraction. Here they are whole, rounded down, so what is converted is a span of ticks and no point.
 #[derive(Debug, Drop)]
 pub struct Tree {
     nodes: Vec<Node>,
@@ -75,16 +72,11 @@ impl Tree {
         self.push(rate, None)
     }
 
-    /// Adds a clock that goes by the clock `parent`, and answers its number:
-    /// where the parent reads `parent_ticks` it reads `child_ticks`, and it
-    /// goes at `speed`, -64 to 64, times its tick rate.
+    /// Adds a clock that goes by the clock `parent`, and answers its number. Where the parent reads `parent_ticks` it
+    /// reads `child_ticks`, and it goes at `speed`, -64 to 64, times its tick rate.
     ///
-    /// It is a correlated clock, whose correlation is a pair of parent ticks and
-    /// child ticks. Speeds are whole here.
-    ///
-    /// The faults come in this order: NoSuch of the parent; Full where there
-    /// are 4,096 clocks; Deep where it would have more than 16 clocks above it;
-    /// Memory. After each the forest is as it was.
+    /// The faults come in this order: NoSuch of the parent; Full where there are 4,096 clocks; Deep where it would have
+    /// more than 16 clocks above it; Memory. After each the forest is as it was.
     #[tactic(auto, unfolding(crate::specs::Trees::with_child))]
     pub fn add(
         &mut self,
@@ -112,14 +104,12 @@ impl Tree {
         self.push(rate, Some(link))
     }
 
-    /// Gives a clock another speed, -64 to 64, and another correlation with its
-    /// parent. No other clock changes.
+    /// Gives a clock another speed, -64 to 64, and another correlation with its parent. No other clock changes.
     ///
-    /// Where a library sets a correlated clock's speed and its correlation one
-    /// after the other, here nobody sees the one without the other.
+    /// A library sets the speed and the correlation one after the other. Here both change at once.
     ///
-    /// The faults come in this order: NoSuch of the clock; IsRoot where it has
-    /// no parent. After each the forest is as it was.
+    /// The faults come in this order: NoSuch of the clock; IsRoot where it has no parent. After each the forest is as
+    /// it was.
     #[tactic(auto, unfolding(crate::specs::Trees::with_correlation))]
     pub fn set(
         &mut self,
@@ -186,25 +176,21 @@ impl Tree {
         value_down(nodes, id, root)
     }
 
-    /// A span of ticks of the clock `from` as ticks of the clock `to`: up to
-    /// the nearest clock that is above both, where each clock is above itself,
-    /// and down from it. For each value of that clock at which `from` reads a
-    /// tick of the span, the answer has what `to` reads. The same holds of each
-    /// value of the root at which [`Tree::value`] tells both.
+    /// Converts a span of ticks of the clock `from` to ticks of the clock `to`.
     ///
-    /// It is a library's conversion to the ticks of another clock, which takes
-    /// and gives a point.
+    /// It goes up to the nearest clock that is above both, where each clock is above itself, and down from it. For each
+    /// value of that clock at which `from` reads a tick of the span, the answer has what `to` reads. The same holds of
+    /// each value of the root at which [`Tree::value`] tells both. A library's conversion takes and gives a point.
     ///
     /// The span's ends fit an `i64`. The faults come in this order:
     ///
     /// 1. NoSuch of `from`, then of `to`.
     /// 2. NoCommon where the two have different roots.
-    /// 3. Unavailable of the first clock that isn't available, upwards from
-    ///    `from` to the nearest common clock and then upwards from `to`.
-    /// 4. On the way up, in order: Stopped of a clock at speed 0, and Beyond of
-    ///    its parent where an end of the new span doesn't fit an `i64`.
-    /// 5. On the way down, in order: Beyond of a clock, as in [`Tree::value`],
-    ///    for either end.
+    /// 3. Unavailable of the first clock that isn't available, upwards from `from` to the nearest common clock and then
+    ///    upwards from `to`.
+    /// 4. On the way up, in order: Stopped of a clock at speed 0, and Beyond of its parent where an end of the new span
+    ///    doesn't fit an `i64`.
+    /// 5. On the way down, in order: Beyond of a clock, as in [`Tree::value`], for either end.
     #[tactic(auto, unfolding(crate::specs::Conversions::converted))]
     pub fn convert(&self, from: u32, to: u32, span: Span) -> Result<Span, ClockFault>
         requires { conversions.IsTicks span }

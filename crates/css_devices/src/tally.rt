@@ -1,4 +1,4 @@
-ghost use Rattle.std.specs.Prelude.{◌≡◌, ◌<◌, ◌≤◌, true, IfOk, IfSome};
+ghost use Rattle.std.specs.Prelude.{◌≡◌, ◌<◌, ◌≤◌, ◌+◌, true, IfOk, IfSome, IfNone, Ok, Err, MatchResult, option_map};
 ghost use Rattle.css_outside.specs.Faults.{HasRisen};
 ghost use Rattle.css_outside.specs.Outsides.{CountsPlain, CountsClock, CountsDial, CountsOpening, IsSession};
 
@@ -56,7 +56,9 @@ impl Tally {
 
     /// The number of the next peer. There is one for each turn of the longest run.
     pub fn next_peer(&self) -> Option<u32>
-        ensures { IfSome result (λ peer. self.now.peers < peer) }
+        ensures above { IfSome result (λ peer. self.now.peers < peer) }
+        ensures next { IfSome result (λ peer. peer ≡ self.now.peers + 1) }
+        ensures none { IfNone result (2147483648 ≤ self.now.peers + 1) }
     {
         if self.peers < FIRST_SENDER - 1 {
             Some(self.peers + 1)
@@ -91,6 +93,7 @@ impl Tally {
     /// Counts a dial that gave no session.
     pub fn not_dialled(&mut self, fault: OutFault) -> Result<u32, OutFault>
         ensures counted { CountsDial self.old self.new result }
+        ensures same { result ≡ Err fault }
     {
         match fault {
             OutFault::Failed => {
@@ -105,6 +108,7 @@ impl Tally {
     pub fn dialled(&mut self, peer: u32, outcome: Result<(), OutFault>) -> Result<u32, OutFault>
         requires { self.old.peers < peer }
         ensures counted { CountsDial self.old self.new result }
+        ensures same { MatchResult outcome (λ _. result ≡ Ok peer) (λ fault. result ≡ Err fault) }
     {
         match outcome {
             Ok(()) => {
@@ -124,6 +128,9 @@ impl Tally {
         requires above { self.old.peers < peer }
         requires kind { IfOk outcome (λ came. IfSome came IsSession) }
         ensures counted { CountsOpening self.old self.new result }
+        ensures same { MatchResult outcome
+            (λ came. result ≡ Ok (option_map (λ kind. (peer, kind)) came))
+            (λ fault. result ≡ Err fault) }
     {
         match outcome {
             Ok(None) => Ok(None),
@@ -158,6 +165,7 @@ impl Tally {
     /// Counts a reading of the clock. Where the machine slept, it is above each before; none is above the limit.
     fn read(&mut self, monotone: u64, slept: bool) -> Result<Clocked, OutFault>
         ensures counted { CountsClock self.old self.new result }
+        ensures slept { IfOk result (λ clocked. clocked.slept ≡ slept) }
     {
         let reading = self.reading_of(monotone, slept);
         if reading >= LIMIT {

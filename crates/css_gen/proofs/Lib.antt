@@ -3,9 +3,4 @@ pub mod Bounds
 pub mod Clocks
 pub mod Ranges
 pub mod Going
-pub mod Watched
-pub mod Exchanged
-pub mod Openings
-pub mod Stepped
-pub mod Accepting
 pub mod Reading

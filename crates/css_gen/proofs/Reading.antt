@@ -8,7 +8,7 @@ use Rattle.css_schedule.specs.Ranges.{IsPrintable, IsPrintableCompanion}
 use Rattle.css_schedule.proofs.ReadBack.{line_back, header_text-back}
 use Rattle.css_gen.specs.Opening.{header, companion}
 use Rattle.css_gen.specs.Generated.{line_numbered, text_numbered}
-use Rattle.css_gen.specs.Accepted.{GeneratedLinesAreRead}
+use Rattle.css_gen.specs.Readable.{GeneratedLinesAreRead}
 use Rattle.css_gen.proofs.Ranges.{line-range}
 
 -- the header can be printed

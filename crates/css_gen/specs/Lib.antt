@@ -3,4 +3,4 @@ pub mod Course
 pub mod Opening
 pub mod Generated
 pub mod Bounds
-pub mod Accepted
+pub mod Readable

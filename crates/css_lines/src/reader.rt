@@ -5,8 +5,7 @@ ghost use Rattle.css_lines.specs.Answers.{Answers};
 /// Why a line is refused.
 #[derive(Clone, Copy, Debug, PartialEq, Eq, Drop)]
 pub enum Refusal<C> {
-    /// It has more bytes than a line may have, or the input has more than it may have: the first byte too many stands
-    /// in this line, or is its line feed.
+    /// The line is too long, or the whole input is: the first byte too many stands in this line, or is its line feed.
     Long,
     /// Its reader refuses it.
     Refused(C),
@@ -21,12 +20,12 @@ pub enum LineFault<C> {
     Memory,
 }
 
-/// A reader of lines.
+/// A reader of lines: what it prints for each line, and which line it refuses.
 pub trait Lines {
     /// Why it refuses a line.
     type Cause: Drop;
 
-    /// What it makes of lines, whatever it is and however it keeps what it needs of them.
+    /// What it makes of the next line after those before, whatever it keeps of them.
     ghost meaning: { Meaning Self.Cause };
 
     /// It stands for these lines: they are those that it has taken.

@@ -1,4 +1,4 @@
--- Two histories with a world that explains each: what the promise of the wall clock takes for granted can be had.
+-- Two histories, each with a world that explains it: the premises of the wall clock's promise can be met.
 use Rattle.std.specs.Prelude.{ℕ, ◌+◌, ◌-◌, ◌*◌, ◌≡◌, ℤ, pos, negsuc, min, [], ◌∷◌, length, ◌==◌, if◌then◌else◌, Some}
 use Rattle.std.specs.Prelude.{None}
 use Rattle.css_model.specs.declared.Message.{Message}

@@ -1,19 +1,19 @@
 //! What is proved of the definitions alone. Each law is the contract of a function that does nothing, so the check
-//! proves it like any contract, and later crates rest on it.
+//! proves it like any contract. The crates above rest on these laws.
 
 ghost use Rattle.css_model.specs.Explains.{WallIsTrue, TruthIsAccepted};
 ghost use Rattle.css_model.specs.Examples.{IsExample, one_exchange, follow_up_after_sleep};
 ghost use Rattle.css_model.specs.Truth.{SpansAreTrue};
 ghost use Rattle.css_model.specs.WallClock.{FrontierIsEnough, NarrowestIsLeast, SpansAreTheStandard};
 
-/// The two ends of a span and its width are those of a round trip with each rounding made outward; the width grows with
-/// both errors; and where it isn't below zero the ends are in order from then on.
+/// The ends of a span and its width are those of the standard's round trip, each rounding made outward. The width grows
+/// with both errors. Where it isn't below zero, the ends are in order from then on.
 pub fn spans_are_the_standard()
     ensures { SpansAreTheStandard }
 {}
 
-/// An answer whose times are readings of a world's clocks, and which declares at least the television's error, has a
-/// span that contains the television's wall clock at every later reading before a sleep.
+/// Let an answer's four times be readings of a world's clocks, and let it declare at least the television's error. Then
+/// its span contains the television's wall clock at every later reading before a sleep.
 pub fn spans_are_true()
     ensures { SpansAreTrue }
 {}
@@ -30,21 +30,21 @@ pub fn frontier_is_enough()
 {}
 
 /// In each world that keeps the oscillators' errors and explains what a companion did, the span of its narrowest
-/// accepted answer contains the television's wall clock, at every reading of the companion's clock: whatever datagrams
-/// were lost, repeated or reordered, and however often it slept.
+/// accepted answer contains the television's wall clock, at every reading of the companion's clock. It doesn't matter
+/// which datagrams were lost, repeated or reordered, or how often the companion slept.
 pub fn wall_is_true()
     ensures { WallIsTrue }
 {}
 
-/// In each world that keeps the oscillators' errors and that has the readings of a companion, a truthful answer is
-/// accepted when it lands: what is refused then as contradicting itself isn't what a television said.
+/// In each world that keeps the oscillators' errors and has the readings of a companion, a truthful answer is accepted
+/// when it lands. So an answer that is refused as impossible isn't what a television said.
 pub fn truth_is_accepted()
     ensures { TruthIsAccepted }
 {}
 
-/// What the last two laws take for granted can be had: two worlds, each with a lawful history that it explains, and the
-/// span that is then told. The first is one exchange between exact clocks; the second has clocks that drift, readings
-/// that are off by up to their precision, a sleep, a late answer, and a response with its follow-up.
+/// The premises of the last two laws can be met: two worlds, each with a lawful history that it explains, and the span
+/// that is told then. The first is one exchange between exact clocks. The second has clocks that drift, readings that
+/// are off by up to their precision, a sleep, a late answer, and a response with its follow-up.
 pub fn premises_can_be_met()
     ensures exact { IsExample one_exchange }
     ensures drifting { IsExample follow_up_after_sleep }

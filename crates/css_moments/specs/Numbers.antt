@@ -1,4 +1,4 @@
--- The two numbers of a line that tell a clock's drift from it.
+-- How far a clock is ahead of true time at a line, and how far behind: the two numbers by which its drift is tested.
 use Rattle.std.specs.Prelude.{ℕ, ◌*◌, ℤ, pos, ◌-ℤ◌, ◌*ℤ◌}
 use Rattle.css_model.specs.declared.TheConstants.{F}
 

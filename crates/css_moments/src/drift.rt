@@ -9,7 +9,7 @@ use crate::kept::{Extremes, Last};
 use css_model::LIMIT;
 use std::marker::Model;
 
-/// The watch over one clock of a schedule: whether true time never falls, and whether the clock keeps the declared
+/// The watch over one clock of a schedule. It tests that true time never falls, and that the clock keeps the declared
 /// error of its oscillator between any two lines with no sleep between. It keeps a few numbers, however many lines
 /// there are.
 ///
@@ -48,12 +48,11 @@ impl Drift {
         }
     }
 
-    /// Tells what the clock showed at a line: the line's number, which is above that of the last line, and true time
-    /// and the clock's value in nanoseconds, both below 2^32 seconds.
+    /// Tells what the clock showed at a line. The line's number is above that of the last line. True time and the
+    /// clock's value are in nanoseconds below 2^32 seconds.
     ///
-    /// It is `Broken` exactly where true time is below that of the last line, or else where the clock drifted from some
-    /// line since the last sleep by more than the error allows and one nanosecond. After a refusal the drift is as
-    /// before.
+    /// It is `Broken` exactly where true time fell since the last line, or else where the clock drifted from some line
+    /// since the last sleep by more than the error allows and one nanosecond. After a refusal the drift is as before.
     pub fn add(&mut self, line: u64, time: u64, value: u64) -> Result<(), DriftFault>
         requires time { time < LIMIT }
         requires value { value < LIMIT }

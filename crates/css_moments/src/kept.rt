@@ -12,7 +12,7 @@ pub(crate) struct Last {
     pub time: u64,
 }
 
-/// The least of a number of some lines, with the first line that has it.
+/// The smallest value so far, and the first line that had it.
 #[derive(Clone, Copy, Debug, PartialEq, Eq)]
 pub(crate) struct Least {
     pub line: u64,
@@ -20,7 +20,7 @@ pub(crate) struct Least {
 }
 
 impl Least {
-    /// The lesser of this number and that of a later line; of equals this one.
+    /// The smaller of this value and that of a later line; of equals this one.
     fn lesser(self, later: Least) -> Least
         ensures { result ≡ lesser self later }
     {
@@ -48,7 +48,7 @@ impl Least {
     }
 }
 
-/// The least lead and the least lag of a clock at some lines.
+/// The smallest lead and the smallest lag of a clock so far.
 #[derive(Clone, Copy, Debug, PartialEq, Eq)]
 pub(crate) struct Extremes {
     pub lead: Least,

@@ -1,6 +1,6 @@
--- What a call answers or leaves, beside what it should: the words in which contracts say it exactly.
--- What is expected is a total definition, a value or the fault that comes first, and is never want of memory.
--- Want of memory has no cause that a contract could name, so it may come in place of anything that is expected.
+-- The words in which contracts say exactly what a call answers and what it leaves. What is expected is a total
+-- definition, a value or the fault that comes first, and is never want of memory. Want of memory has no cause that a
+-- contract could name, so it may come in place of anything that is expected.
 use Rattle.std.specs.Prelude.{◌≡◌, ◌⊎◌, Result, Ok, Err, MatchResult}
 
 -- the call answers what is expected, where `view` shows its value, or it answers want of memory

@@ -4,9 +4,8 @@ ghost use Rattle.std.specs.Prelude.{◌≡◌, ◌↔◌, IsTrue};
 /// the timeline the television presents at which value of the wall clock.
 #[derive(Clone, Copy, Debug)]
 pub enum Control {
-    /// At wall clock value `wall`, in nanoseconds, the television presents tick
-    /// `content` of the timeline, which goes at `speed` times its tick rate: 0
-    /// where the presentation is paused, below 0 where it goes backward.
+    /// The television presents tick `content` of the timeline when its wall clock shows `wall`, in nanoseconds. The
+    /// timeline goes at `speed` times its tick rate: 0 is a pause, and below 0 it goes backward.
     Available { content: i64, wall: u64, speed: i32 },
     /// The timeline isn't being presented.
     Unavailable,

@@ -59,8 +59,10 @@ fn scaled_number(number: i128, num: i128, den: i128) -> i128
     floor_div(number * num, den)
 }
 
-/// The span of all that the numbers of `span` become times `num / den`, each
-/// rounded down. Its ends are those of the ends of `span`, the lesser first.
+/// The least span that has `number * num / den`, rounded down, for each number of `span`. Its ends are what the ends of
+/// `span` become, the lesser first.
+///
+/// `den` is above 0, and [`fits`] is true of `span` and `num`.
 pub fn image(span: Span, num: i128, den: i128) -> Span
     requires positive { pos 0 <ℤ den }
     requires fits { spans.ProductsFit span num }

@@ -29,8 +29,8 @@ fn number(bytes: &[u8]) -> Option<u64>
     }
 }
 
-/// The number below `below` that a word spells in decimal, and None where the
-/// bytes are no such number: it has no zero before other digits and no sign.
+/// Reads a word as a decimal number below `below`. None where the bytes are no such number: they are digits alone, with
+/// no zero before other digits.
 pub fn whole_number(bytes: &[u8], below: u64) -> Option<u64>
     ensures value { result ≡ words.whole_number_of bytes.now below }
     ensures spelling { (number : ℕ) → (result ≡ Some number) ↔ words.SpellsBelow bytes.now below number }
@@ -61,9 +61,8 @@ fn negative_number(magnitude: &[u8], digits: u32) -> Option<i64>
     }
 }
 
-/// The number of at most `digits` digits, up to 18, that a word spells in
-/// decimal, and None where the bytes are no such number: a `-` may lead, but
-/// zero has none, and there is no zero before other digits and no `+`.
+/// Reads a word as a decimal number of at most `digits` digits, up to 18, with or without a `-` before them. None where
+/// the bytes are no such number: zero has no `-`, no zero stands before other digits, and there is no `+`.
 pub fn signed_number(bytes: &[u8], digits: u32) -> Option<i64>
     requires { digits ≤ 18 }
     ensures value { result ≡ words.signed_number_of bytes.now digits }

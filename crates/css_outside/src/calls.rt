@@ -13,10 +13,10 @@ pub struct Clocked {
 /// Where a session is dialled, or a wall clock asked.
 #[derive(Debug, Drop)]
 pub struct Address {
-    /// A name, or an address of IP.
+    /// A host's name, or its IP address.
     pub host: Text,
     pub port: u16,
-    /// From its `/` on, with the query.
+    /// The path from its `/` on, with the query.
     pub path: Text,
 }
 
@@ -30,7 +30,7 @@ impl Model for Address {
     ghost inverse = { λ address. record { host = address.host; port = address.port; path = address.path } };
 }
 
-/// What a session gave.
+/// What a session gives that is asked for a text.
 #[derive(Debug, Drop)]
 pub enum Heard {
     /// Nothing came.

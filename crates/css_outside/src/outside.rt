@@ -11,8 +11,9 @@ use css_num::Text;
 
 /// An end's clock and its sockets.
 ///
-/// Each call adds to a history what it did, where it tells that. A call that is Ok, or lacks memory, leaves the counts
-/// of faults as they were; a call that fails raises the one that it belongs to, and adds nothing, but for a dial.
+/// A call that is Ok adds to a history what it did, where the outside tells that. A call that fails raises its count of
+/// faults, that of dials or that of all other calls. It adds nothing, but for a dial, which adds that it failed. A call
+/// that lacks memory leaves the counts.
 pub trait Outside {
     /// What its calls did, the newest first, where it tells that.
     ghost told: { Self → Option History };
@@ -52,7 +53,7 @@ pub trait Outside {
         ensures room { IfOk result FitsRoom }
         ensures counted { CountsPlain (counts self.old) (counts self.new) result };
 
-    /// What a session has to tell.
+    /// Asks a session for its next text.
     fn take_text(&mut self, peer: u32) -> Result<Heard, OutFault>
         ensures told { Tells (told self.old) (told self.new) result (calls.heard_entries peer) }
         ensures counted { CountsPlain (counts self.old) (counts self.new) result };

@@ -7,7 +7,7 @@ use css_num::Text;
 
 /// What starts child programs.
 ///
-/// A call that is Ok, or lacks memory, leaves the count of faults as it was, and a call that fails raises it.
+/// A call that fails raises the count of faults. A call that is Ok, or lacks memory, leaves it.
 pub trait Spawner {
     /// The children that were started, and how they ended, the newest first, where it tells that.
     ghost told: { Self → Option (List Spawned) };

@@ -47,8 +47,8 @@ pub enum LineWhy {
     /// It is outside the grammar, or a number is outside its range.
     Form,
     /// What it names isn't there: a request that wasn't sent, a take that wasn't made or has its answer, a datagram
-    /// that wasn't made, a session that isn't open, or a text where none is in flight. Or it opens a session a second
-    /// time.
+    /// that wasn't made, a session that isn't open, or a text where none is in flight. A session that is opened a
+    /// second time is told so too.
     Absent,
     /// The television's player refuses it. Want of memory never stands here.
     Player(PlayerFault),

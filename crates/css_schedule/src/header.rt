@@ -9,7 +9,7 @@ pub struct CompanionLine {
     pub local: Local,
     /// The selector of the timeline that it wants.
     pub selector: Text,
-    /// The stem of the content that it wants; empty for any.
+    /// How the content id has to begin; empty for any content.
     pub stem: Text,
 }
 

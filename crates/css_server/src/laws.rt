@@ -7,8 +7,8 @@ pub fn no_promise_is_repeated()
     ensures { NoPromiseIsRepeated }
 {}
 
-/// A response and a follow-up of one server that a companion pairs, since their originate and receive values are equal,
-/// are of one exchange.
+/// Where a companion pairs a follow-up of a server with a response of it, by their equal originate and receive values,
+/// both are of one exchange.
 pub fn pairs_are_exchanges()
     ensures { PairsAreExchanges }
 {}

@@ -15,7 +15,7 @@ use std::marker::Model;
 
 /// The television's end of CSS-WC.
 ///
-/// It keeps what its answers declare, and the greatest reading of its tickets.
+/// It keeps what its answers declare, and the greatest reading at which it took a request.
 #[derive(Debug, Drop)]
 pub struct Server {
     precision: i8,

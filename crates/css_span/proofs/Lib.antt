@@ -4,3 +4,4 @@ pub mod Standing
 pub mod Counting
 pub mod Leasts
 pub mod Nearness
+pub mod Greatest

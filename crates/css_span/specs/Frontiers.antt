@@ -1,6 +1,6 @@
 -- What is kept of the answers that were accepted. In each list of answers the newest stands first.
 use Rattle.std.specs.Prelude.{ℕ, suc, ◌≡◌, ◌*◌, ◌^◌, ◌≤◌, ◌<◌, ◌⊎◌, ⊤, pos, ◌≤ℤ◌, List, [], ◌∷◌, Bool, false, ◌==◌}
-use Rattle.std.specs.Prelude.{◌||◌, if◌then◌else◌, All}
+use Rattle.std.specs.Prelude.{◌||◌, if◌then◌else◌, All, max}
 use Rattle.css_model.specs.Wire.{second}
 use Rattle.css_model.specs.WallClock.{Answer, Local, IsLocal, IsAnswer, scaled_width, HaveSameNarrowest}
 
@@ -33,6 +33,11 @@ declares error (answer ∷ older) = (answer.error == error) || declares error ol
 abbrev pub error_count : Answers → ℕ
 error_count [] = 0
 error_count (answer ∷ older) = if declares answer.error older then error_count older else suc (error_count older)
+
+-- the greatest error that the answers declare, 0 where there are none
+abbrev pub greatest_error : Answers → ℕ
+greatest_error [] = 0
+greatest_error (answer ∷ older) = max answer.error (greatest_error older)
 
 -- no two of the answers declare the same error
 abbrev pub DeclareDifferent : Answers → Type 0

@@ -1,6 +1,7 @@
 use std::marker::Model;
 
-/// An answer to a request: what a response, or its follow-up, tells with the two times of the companion's own clock.
+/// An answer to a request: the four times of a round trip, and what the television declares of its clock. A response
+/// gives one, and so does its follow-up.
 ///
 /// The times are readings in nanoseconds, below 2^32 seconds.
 #[derive(Clone, Copy, Debug, PartialEq, Eq)]

@@ -1,12 +1,14 @@
 ghost use Rattle.std.specs.Prelude.{◌≡◌, ◌≤◌, ◌<◌, ◌↔◌, [], length, OnOk, OnErr, IsNone, IfSome};
 ghost use Rattle.css_num.specs.Gives.{GivesBy};
 ghost use Rattle.css_span.specs.Frontiers.{Answers, StandsFor, Accepts, error_count};
+ghost use Rattle.css_span.specs.Frontiers as frontiers;
+ghost use Rattle.css_model.specs.Numbers.{max_error};
 ghost use Rattle.css_span.specs.WallSpans.{wall_span, IsNear};
 ghost use Rattle.css_span.specs.Verdicts.{verdict};
 
 use crate::answer::{Answer, Local};
 use crate::fault::AcceptFault;
-use crate::frontier::{keep, narrowest};
+use crate::frontier::{greatest_error, keep, narrowest};
 use crate::width::{scaled_width, span};
 use css_model::LIMIT;
 use css_num::Span;
@@ -15,8 +17,8 @@ use std::marker::Model;
 
 /// What a companion knows of the television's wall clock from all answers that it accepted.
 ///
-/// Of each declared error it keeps one answer at most, the narrowest. Contracts see its own clock, the kept answers,
-/// the newest first, and the least reading that it may be handed next.
+/// It keeps one answer of each declared error, the narrowest. Contracts see the companion's own clock, the kept
+/// answers, the newest first, and the least reading that it may be handed next.
 #[derive(Debug, Drop)]
 pub struct Estimate {
     local: Local,
@@ -71,8 +73,9 @@ impl Estimate {
         Ok(())
     }
 
-    /// The wall span at a reading that isn't below that of the last answer accepted: the span of the accepted answer
-    /// with the least scaled width at the reading, of equals the one accepted first. None where none was accepted.
+    /// The span of the wall clock at a reading: that of the accepted answer with the least scaled width there, of
+    /// equals the one accepted first. None where none was accepted. The reading isn't below that of the last answer
+    /// accepted.
     pub fn at(&self, reading: u64) -> Option<Span>
         requires range { reading < LIMIT }
         requires floor { self.now.floor ≤ reading }
@@ -91,5 +94,14 @@ impl Estimate {
         ensures errors { (accepted : Answers) → StandsFor self.now accepted → result ≡ error_count accepted }
     {
         self.kept.len()
+    }
+    /// The greatest max_freq_error that an accepted answer declares, in 1/256 ppm. It is 0 where none was accepted.
+    pub fn greatest_error(&self) -> u32
+        ensures value { result ≡ frontiers.greatest_error self.now.kept }
+        ensures accepted { (accepted : Answers) → StandsFor self.now accepted
+            → result ≡ frontiers.greatest_error accepted }
+        ensures range { result ≤ max_error }
+    {
+        greatest_error(&self.kept)
     }
 }

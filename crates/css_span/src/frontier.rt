@@ -1,6 +1,7 @@
 ghost use Rattle.std.specs.Prelude.{◌≡◌, ◌≢◌, ◌<◌, ◌≤ℤ◌, pos, length, reverse, slice_get, All, IfSome, IfNone, OnOk};
 ghost use Rattle.std.specs.Prelude.{OnErr};
 ghost use Rattle.css_model.specs.WallClock as wall_clock;
+ghost use Rattle.css_span.specs.Frontiers as frontiers;
 ghost use Rattle.css_span.specs.Frontiers.{KeepsFrontier};
 
 use crate::answer::{Answer, Local};
@@ -28,8 +29,8 @@ pub(crate) fn narrowest(answers: &[Answer], local: &Local, reading: u64) -> Opti
     best
 }
 
-/// Takes an answer in: of those of its declared error the narrowest is kept, of equals the first. Widths of answers
-/// of one error grow alike, so none that is dropped would be the narrowest later.
+/// Takes an answer in: the narrowest of its declared error is kept, of equals the first. Widths of answers of one error
+/// grow alike, so none that is dropped could be the narrowest later.
 pub(crate) fn keep(
     kept: &mut Vec<Answer>,
     local: &Local,
@@ -53,6 +54,17 @@ pub(crate) fn keep(
         }
     }
     Ok(())
+}
+
+/// The greatest error that the answers declare, 0 where there are none.
+pub(crate) fn greatest_error(answers: &[Answer]) -> u32
+    ensures { result ≡ frontiers.greatest_error (reverse answers.now) }
+{
+    let mut greatest = 0;
+    for answer in answers {
+        greatest = greatest.max(answer.error);
+    }
+    greatest
 }
 
 fn place_of(answers: &[Answer], error: u32) -> Option<usize>

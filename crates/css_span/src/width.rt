@@ -9,8 +9,8 @@ use css_num::{Span, ceil_div, floor_div};
 /// One whole, in the unit of the errors, 1/256 ppm.
 const WHOLE: u32 = 256_000_000;
 
-/// The width of an answer's span at a reading before its ends are rounded, times `(F + e) * (F - e)`, where `e` is the
-/// companion's error and `F` is one whole in the unit of the errors, 256,000,000. It is below zero where the times
+/// The width of an answer's span at a reading before its ends are rounded, as a whole number: it is multiplied by `(F +
+/// e) * (F - e)`, where `e` is the companion's error and `F` is 256,000,000. It is below zero where the times
 /// contradict the declared precision and errors.
 #[tactic(auto, unfolding(css_model::specs::WallClock::scaled_width))]
 pub fn scaled_width(answer: &Answer, local: &Local, reading: u64) -> i128
@@ -22,9 +22,12 @@ pub fn scaled_width(answer: &Answer, local: &Local, reading: u64) -> i128
     upper - lower
 }
 
-/// The values of the television's wall clock, in nanoseconds, that an answer leaves possible when the companion's
-/// clock reads this: from the transmit time and up to the receive time, each widened by the precisions and by what
-/// both oscillators may have drifted since, and rounded outward.
+/// The span of the television's wall clock, in nanoseconds, that an answer leaves possible at this reading of the
+/// companion's clock.
+///
+/// The lower end is the transmit time and what the wall clock has gone since, at its slowest. The upper end is the
+/// receive time and what it has gone since, at its fastest. Both are widened by the precisions and rounded outward. The
+/// scaled width at the reading isn't below zero.
 pub fn span(answer: &Answer, local: &Local, reading: u64) -> Span
     requires range { reading < LIMIT }
     requires possible { pos 0 ≤ℤ wall_clock.scaled_width local.now answer.now reading }

@@ -14,15 +14,6 @@ mod reading;
 mod whole_text;
 mod writing;
 
-pub use faults::TextFault;
-pub use fields::{Field, field_of, list, member, object};
-pub use reading::{Map, Read, read_object};
-pub use whole_text::{Whole, rewrite_numerals};
-pub use writing::write_value;
-
-#[cfg(test)]
-mod tests;
-
 ghost use Rattle.std.specs.Prelude.{◌≡◌, ◌≤◌, Ok};
 ghost use Rattle.serde_json.specs.Data.{Data, depth};
 ghost use Rattle.serde_json.specs.Read.{max_depth};
@@ -30,6 +21,12 @@ ghost use Rattle.serde_json.specs.Written.{compact_text};
 ghost use Rattle.css_text.specs.CompactTexts.{IsPlain};
 ghost use Rattle.css_text.specs.Ordered.{HasUtf8, IsOrdered};
 ghost use Rattle.css_text.specs.Readings.{object_of, members_or_fault};
+
+pub use faults::TextFault;
+pub use fields::{Field, field_of, list, member, object};
+pub use reading::{Map, Read, read_object};
+pub use whole_text::{Whole, rewrite_numerals};
+pub use writing::write_value;
 
 /// The compact text of a plain value is read back as that value.
 pub fn compact_texts_are_read_back()

@@ -62,12 +62,10 @@ pub struct Read {
     pub odd: u32,
 }
 
-/// Reads the whole text of these bytes as a JSON object. Of a repeated name the
-/// last value counts.
+/// Reads the whole text of these bytes as a JSON object. Of a repeated name the last value counts.
 ///
-/// `NotJson` comes exactly where the whole text has no reading, which includes
-/// wrong UTF-8 and more than 127 levels of arrays and objects, and `NotObject`
-/// exactly where it reads as another value.
+/// `NotJson` comes exactly where the whole text has no reading. Wrong UTF-8 and more than 127 levels of arrays and
+/// objects have none. `NotObject` comes exactly where it reads as another value.
 #[tactic(auto, unfolding(crate::specs::Readings::object_of))]
 pub fn read_object(alloc: Global, bytes: &[u8]) -> Result<Read, TextFault>
     ensures object { GivesBy (λ read. members_view read.map.entries) faults.Memory result (object_of bytes.now) }

@@ -74,13 +74,12 @@ fn push_run(text: &mut Text, before: &[u8], run: &[u8]) -> Result<u32, Memory>
     Ok(u32::from(is_odd))
 }
 
-/// The whole text of these bytes: the numerals that stand outside strings are
-/// rewritten, and everything else stays as it is.
+/// The whole text of these bytes: the numerals that stand outside strings are rewritten, and everything else stays as
+/// it is.
 ///
-/// A numeral is a maximal run of digits, `-`, `+`, `.`, `e` and `E` that is a
-/// number of JSON. Where it has no exponent, no fraction or one of zeros, and at
-/// most 18 digits before the point, its part before the point stands for it, and
-/// `0` for `-0`. Any other numeral becomes `null` and counts as odd.
+/// A numeral is a maximal run of digits, `-`, `+`, `.`, `e` and `E` that is a number of JSON. It becomes its part
+/// before the point, and `-0` becomes `0`, where it has no exponent, no fraction but zeros, and at most 18 digits
+/// before the point. Any other numeral becomes `null` and counts as odd.
 pub fn rewrite_numerals(alloc: Global, bytes: &[u8]) -> Result<Whole, Memory>
     ensures text { IfOk result (λ whole. whole.text ≡ whole_text bytes.now) }
     ensures odd { IfOk result (λ whole. whole.odd ≡ min (odd_count bytes.now) (2 ^ 32 - 1)) }

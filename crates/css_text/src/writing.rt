@@ -11,12 +11,10 @@ use css_num::{Memory, Text};
 use serde_json::Value;
 use std::alloc::Global;
 
-/// The compact text of a value: no spaces, and the names of each object in
-/// alphabetical order.
+/// The compact text of a value: no spaces, and the names of each object in alphabetical order.
 ///
-/// The value's numbers are whole and have at most 18 digits, it has no truth
-/// value, and it nests at most 127 levels deep. Such a text is its own whole
-/// text, so it is read back as the same value.
+/// The value's numbers are whole and have at most 18 digits, it has no truth value, and it nests at most 127 levels
+/// deep. Such a text is its own whole text. So it is read back as the same value.
 pub fn write_value(alloc: Global, value: &Value) -> Result<Text, Memory>
     requires plain { IsPlain (view value.now) }
     requires shallow { depth (view value.now) ≤ max_depth }

@@ -4,14 +4,13 @@
 pub enum Bound {
     /// Tick `content` at wall clock value `wall`, in nanoseconds.
     At { content: i64, wall: u64 },
-    /// However early.
+    /// Tick `content`, however early.
     MinusInfinity { content: i64 },
-    /// However late.
+    /// Tick `content`, however late.
     PlusInfinity { content: i64 },
 }
 
-/// What a companion tells of when it can present (ETSI TS 103 286-2, CSS-TS,
-/// AptEptLpt).
+/// When a companion can present, as it tells a television (ETSI TS 103 286-2, CSS-TS, AptEptLpt).
 #[derive(Clone, Copy, Debug, PartialEq, Eq)]
 pub struct Presentation {
     /// The earliest time, which is never `PlusInfinity`.

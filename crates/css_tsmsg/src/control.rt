@@ -119,16 +119,18 @@ fn control_in(alloc: Global, map: &Map, odd: bool) -> Result<Control, TsFault>
     control_from(&content, &speed, &wall, odd)
 }
 
-/// Reads a control timestamp of CSS-TS (ETSI TS 103 286-2): an object with the
-/// members `contentTime`, `timelineSpeedMultiplier` and `wallClockTime`.
+/// Reads a control timestamp of CSS-TS (ETSI TS 103 286-2): an object with the members `contentTime`,
+/// `timelineSpeedMultiplier` and `wallClockTime`.
 ///
-/// Where `contentTime` is null the timeline is unavailable, whatever the other
-/// members are. Otherwise `contentTime` is a text of digits with or without a
-/// `-` before them, at most 18 of them; `timelineSpeedMultiplier` is a whole
-/// number of -64 to 64; `wallClockTime` is a text of at most 19 digits whose
-/// number is below 2^63. A speed that is null in the whole text of a text with a
-/// numeral that isn't whole is `Fractional`; a member that is missing or of
-/// another form is `Field`, and a number out of range is `Range`.
+/// Where `contentTime` is null the timeline is unavailable, whatever the other members are. Otherwise the members have
+/// these forms:
+///
+/// - `contentTime` is a text of at most 18 digits, with or without a `-` before them
+/// - `timelineSpeedMultiplier` is a whole number of -64 to 64
+/// - `wallClockTime` is a text of at most 19 digits whose number is below 2^63
+///
+/// The faults are tested in this order. `Fractional` is a speed that is null in the whole text, where some numeral of
+/// the text isn't whole. `Field` is a member that is missing or of another form, and `Range` a number out of range.
 #[tactic(auto, unfolding(crate::specs::Controls::control_of))]
 pub fn read_control(alloc: Global, bytes: &[u8]) -> Result<Control, TsFault>
     ensures value { GivesBy (λ control. control) faults.Memory result (controls.control_of bytes.now) }

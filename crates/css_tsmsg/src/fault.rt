@@ -4,20 +4,19 @@ use css_text::TextFault;
 use std::error::Error;
 use std::fmt;
 
-/// Why a text is refused: of what is wrong with it, what comes first here.
+/// Why a text is refused. Of several faults the first of these is told.
 #[derive(Clone, Copy, Debug, PartialEq, Eq)]
 pub enum TsFault {
     /// Its whole text has no reading as JSON.
     NotJson,
     /// It reads as another value than an object.
     NotObject,
-    /// The speed of a control timestamp is null in the whole text, and some
-    /// numeral of it isn't whole: speeds here are whole.
+    /// The speed of a control timestamp is null in the whole text, and some numeral of the text isn't whole. Speeds are
+    /// whole here.
     Fractional,
-    /// A member is missing or has another form than its own: of those the first.
+    /// A member is missing or has another form than it should. Of several the first is told.
     Field(TsName),
-    /// The number of a member is out of range: of those the first, where no
-    /// member has another form.
+    /// The number of a member is out of range, where all members have their forms. Of several the first is told.
     Range(TsName),
     /// Want of memory.
     Memory,

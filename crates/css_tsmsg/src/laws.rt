@@ -9,7 +9,7 @@ ghost use Rattle.css_tsmsg.specs.Setups.{IsUtf8Setup, setup_text, setup_of};
 ghost use Rattle.css_tsmsg.specs.declared.bound.Presentation.{Presentation as presentation};
 ghost use Rattle.css_tsmsg.specs.declared.setup.Setup.{Setup as setup};
 
-/// Want of memory is never what a control timestamp's text is to be read as.
+/// What a control timestamp's text is to be read as is never want of memory.
 pub fn controls_are_total()
     ensures { (bytes : List ℕ) → NotMemory (control_of bytes) }
 {}

@@ -203,13 +203,11 @@ fn presentation_in(alloc: Global, map: &Map) -> Result<Presentation, TsFault>
     })
 }
 
-/// Reads a presentation of CSS-TS (ETSI TS 103 286-2, AptEptLpt): an object with
-/// the members `earliest`, `latest` and `actual`, of which the last may be absent
-/// or null.
+/// Reads a presentation of CSS-TS (ETSI TS 103 286-2, AptEptLpt): an object with the members `earliest`, `latest` and
+/// `actual`. The last may be absent or null.
 ///
-/// Each is an object with a `contentTime` and a `wallClockTime` as in a control
-/// timestamp; the wall time of `earliest` may be `minusinfinity`, and that of
-/// `latest` `plusinfinity`. `Field` and `Range` name the member of the three that
+/// Each is an object with a `contentTime` and a `wallClockTime` as in a control timestamp. The wall time of `earliest`
+/// may be `minusinfinity`, and that of `latest` `plusinfinity`. `Field` and `Range` name the member of the three that
 /// has the fault.
 #[tactic(auto, unfolding(crate::specs::Presentations::presentation_of))]
 pub fn read_presentation(alloc: Global, bytes: &[u8]) -> Result<Presentation, TsFault>

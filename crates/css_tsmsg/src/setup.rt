@@ -14,8 +14,7 @@ use std::alloc::Global;
 /// What a companion asks for (ETSI TS 103 286-2, CSS-TS, setup data).
 #[derive(Clone, Debug, Drop, PartialEq, Eq)]
 pub struct Setup {
-    /// The beginning of the content ids that it wants; the empty one is that of
-    /// all.
+    /// How the content id has to begin; empty for any content.
     pub stem: Text,
     /// The timeline that it wants.
     pub selector: Text,

@@ -162,11 +162,11 @@ fn presentation_value(alloc: Global, presentation: &Presentation) -> Result<Valu
     }
 }
 
-/// Writes a presentation of CSS-TS (ETSI TS 103 286-2, AptEptLpt) as a compact
-/// JSON object with its names in alphabetical order; an absent actual bound is
-/// left out. `read_presentation` reads the same presentation back. The earliest
-/// bound isn't `PlusInfinity`, the latest isn't `MinusInfinity`, the actual one
-/// is `At`, content times have at most 18 digits, and wall times are below 2^63.
+/// Writes a presentation of CSS-TS (ETSI TS 103 286-2, AptEptLpt) as a compact JSON object with its names in
+/// alphabetical order. An absent actual bound is left out. `read_presentation` reads the same presentation back.
+///
+/// The earliest bound isn't `PlusInfinity`, the latest isn't `MinusInfinity`, and the actual one is `At`. Content times
+/// have at most 18 digits, and wall times are below 2^63.
 pub fn write_presentation(alloc: Global, presentation: &Presentation) -> Result<Text, Memory>
     requires { presentations.IsPresentation presentation.now }
     ensures text { IfOk result (λ text. text ≡ presentations.presentation_text presentation.now) }

@@ -1,5 +1,5 @@
--- What an event of a television does: what is shown after it, what it adds to the player's calls and to the sessions'
--- calls, whose session is hung up, and so what is told.
+-- What an event of a television does: what is shown after it, the calls that it adds for the player and for the
+-- sessions, and whose session is hung up. What is told follows from these.
 use Rattle.std.specs.Prelude.{ℕ, ◌==◌, nat_lt, pos, Bool, true, false, List, [], ◌∷◌, ◌++◌, map, length, Option, Some}
 use Rattle.std.specs.Prelude.{None, Result, Ok, Err, if◌then◌else◌}
 use Rattle.std.specs.Ordering.{int_eq}

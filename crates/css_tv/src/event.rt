@@ -5,16 +5,16 @@ use css_sessions::Kind;
 /// What happens at a television.
 #[derive(Debug, Drop)]
 pub enum TvEvent {
-    /// A programme with this content id, which is UTF-8, is there.
+    /// A programme is added with this content id, which is UTF-8.
     Programme(Text),
-    /// A programme, counted from 1, has a timeline. Its selector is UTF-8; `base` is the tick at the media position 0.
+    /// A programme, counted from 1, gets a timeline. Its selector is UTF-8; `base` is the tick at the media position 0.
     AddTimeline {
         programme: u32,
         selector: Text,
         rate: Rate,
         base: i64,
     },
-    /// A viewer's command, when the wall clock reads so, in nanoseconds.
+    /// A viewer gives a command at this reading of the wall clock, in nanoseconds.
     Viewer {
         command: Command,
         reading: u64,

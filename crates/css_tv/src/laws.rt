@@ -10,14 +10,14 @@ ghost use Rattle.css_tv.specs.Standing.{calls_of, texts_after};
 ghost use Rattle.css_tv.specs.declared.state.Addresses.{Addresses};
 ghost use Rattle.css_tv.specs.declared.event.TvEvent.{TvEvent};
 
-/// What a session is told depends on what is published, its opening, its own setup and its end alone: two televisions
+/// What a session is told depends on what is published, its opening, its own setup and its end alone. Two televisions
 /// whose events agree in these tell it equal texts, whatever happens at other sessions.
 pub fn isolation()
     ensures { (a b : Addresses) (peer : ℕ) (h k : List TvEvent) → own peer (calls_of a h).sessions ≡ own peer
         (calls_of b k).sessions → texts_after a peer h ≡ texts_after b peer k }
 {}
 
-/// A programme more changes nothing that is published, so nobody is told of it.
+/// Another programme changes nothing that is published, so nobody is told of it.
 pub fn programmes_are_not_told()
     ensures state { (a : Addresses) (id : List ℕ) (p q : Player) → IsShown p → with_programme id p ≡ Ok q
         → published_state a q ≡ published_state a p }

@@ -74,10 +74,11 @@ impl Tv {
 
     /// Takes in what happened, and appends what is done at the sessions.
     ///
-    /// The one fault besides want of memory is the player's. After a fault the television and `out` are as before. A
-    /// text that is refused, a text of a CII session or of a peer that has no session, and an opening where 256
-    /// sessions are open end in `HangUp`. Each command that the player accepts drops the windows in force. A
+    /// These end in `HangUp`: a text that is refused, a text of a CII session or of a peer that has no session, and an
+    /// opening where 256 sessions are open. Each command that the player accepts drops the windows in force. A
     /// presentation at speed 1 chooses the least delay that fits all windows in force, where there is one.
+    ///
+    /// The one fault besides want of memory is the player's. After a fault the television and `out` are as before.
     pub fn step(&mut self, event: TvEvent, out: &mut Vec<TvOut>) -> Result<(), TvFault>
         requires { IsEvent event self.old.stage }
         ensures outcome { Steps result self.old.stage self.new.stage out.old.items out.new.items

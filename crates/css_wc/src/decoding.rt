@@ -15,14 +15,17 @@ const MAX_ERROR: u32 = 25_600_000;
 
 const SECOND: u32 = 1_000_000_000;
 
-/// Reads a datagram of CSS-WC, which has exactly 32 bytes.
+/// Reads a datagram of CSS-WC. One that isn't valid is refused with the first of these faults:
 ///
-/// A datagram that isn't valid is refused with the first of these faults, in this order: `Length`; `Version`, where
-/// the first byte isn't 0; `MessageType`, above 3; `Precision`, an exponent above 30; `Error`, a max_freq_error above
-/// 25,600,000 units of 1/256 ppm; `Nanoseconds`, where those of the receive or of the transmit time are a second or
-/// more. The last three are tested for the answers alone, which are the types 1 to 3. The reserved byte and the
-/// originate time may hold anything. A message that was read is valid, and `encode` writes it as the same bytes with a
-/// reserved byte of 0.
+/// 1. `Length`: there aren't exactly 32 bytes.
+/// 2. `Version`: the first byte isn't 0.
+/// 3. `MessageType`: it is above 3.
+/// 4. `Precision`: the exponent is above 30.
+/// 5. `Error`: max_freq_error is above 25,600,000 units of 1/256 ppm.
+/// 6. `Nanoseconds`: those of the receive or of the transmit time are a second or more.
+///
+/// The last three are tested of answers alone, which are the types 1 to 3. The reserved byte and the originate time may
+/// hold anything. `encode` writes a message that was read as the same bytes, with a reserved byte of 0.
 #[tactic(auto, unfolding(css_model::specs::Wire::fault, css_model::specs::Wire::fields))]
 pub fn decode(bytes: &[u8]) -> Result<Message, WcFault>
     ensures value { result ≡ decoded bytes.now }

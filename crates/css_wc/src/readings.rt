@@ -7,7 +7,7 @@ use css_model::{LIMIT, Stamp};
 
 const SECOND: u64 = 1_000_000_000;
 
-/// A clock's reading in nanoseconds, as a time of a datagram has it.
+/// The time of a datagram that stands for a reading, in nanoseconds below 2^32 seconds.
 pub fn stamp_of(reading: u64) -> Stamp
     requires { reading < LIMIT }
     ensures value { result ≡ wire.stamp_of reading }
@@ -20,7 +20,7 @@ pub fn stamp_of(reading: u64) -> Stamp
     }
 }
 
-/// The reading, in nanoseconds, that a time of a datagram stands for.
+/// The reading in nanoseconds that a time of a datagram stands for. Its nanoseconds are below 10^9.
 pub fn reading(stamp: Stamp) -> u64
     requires { stamp.nanoseconds < wire.second }
     ensures value { result ≡ wire.reading_of stamp }
@@ -30,7 +30,8 @@ pub fn reading(stamp: Stamp) -> u64
     u64::from(stamp.seconds) * SECOND + u64::from(stamp.nanoseconds)
 }
 
-/// The precision in nanoseconds whose exponent a datagram has: `10^9 * 2^exponent`, rounded up.
+/// The precision in nanoseconds that a datagram's exponent stands for: `10^9 * 2^exponent`, rounded up. The exponent is
+/// at most 30.
 pub fn precision_ns(exponent: i8) -> u64
     requires { exponent ≤ℤ pos 30 }
     ensures value { result ≡ numbers.precision_ns exponent }

@@ -18,6 +18,3 @@ pub use css_num::{Memory, Text};
 pub use css_tsmsg::Bound;
 pub use fault::WordsFault;
 pub use words::{CompanionOptions, CompanionWords, GeneratorWords, PairWords, TvWords};
-
-#[cfg(test)]
-mod tests;

@@ -11,3 +11,4 @@ pub mod Lanes
 pub mod Standing
 pub mod Truth
 pub mod FaultWords
+pub mod Asked

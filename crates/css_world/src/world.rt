@@ -10,6 +10,7 @@ ghost use Rattle.css_sessions.specs.declared.session.Kind.TheVariants as kinds;
 ghost use Rattle.css_tsmsg.specs.Presentations.{IsPresentation};
 ghost use Rattle.css_tv.specs.Standing.{IsEvent};
 ghost use Rattle.css_world.specs.Happened.{Numbered};
+ghost use Rattle.css_world.specs.Asked.{MayBeAsked};
 ghost use Rattle.css_world.specs.Verdicts.{own_reading, span_at, report_at, assigned_at};
 ghost use Rattle.css_world.specs.Printed.{wall_text};
 ghost use Rattle.css_world.specs.Truth.{TellsTruth};
@@ -105,9 +106,10 @@ impl World {
         self.carry_out(number, line, out)
     }
 
-    /// The companion with this number, counted from 1.
+    /// The companion with this number, counted from 1. It may be asked for a report at the last reading of its clock.
     pub fn companion(&self, number: u32) -> Option<&Companion>
         ensures one { IfSome result (λ companion. (number ≡ 1) × (companion.now ≡ self.now.lane.companion)) }
+        ensures asked { IfSome result (λ companion. MayBeAsked self.now companion.now) }
         ensures none { IfNone result (number ≢ 1) }
     {
         (number == 1).then_some(&self.lane.companion)

@@ -1,19 +1,19 @@
 -- What a run promises of its words and its devices, from what its command does.
 use Rattle.std.proofs.Common.{◌∙◌, ap, sym, map}
 use Rattle.std.specs.Prelude.{Ok, Err, string_bytes}
-use Rattle.css_words.specs.Commands.{Replay, Agree, Companion, Tv, Pair, asked_of}
+use Rattle.css_words.specs.Commands.{Replay, Agree, Companion, Tv, Pair, Generate, Survey, asked_of}
 use Rattle.css_words.specs.declared.fault.WordsFault.TheVariants as words
-use Rattle.css_app.specs.Commands.{uses_followers, uses_outside, uses_sink, uses_source, uses_spawner, offered}
+use Rattle.css_app.specs.Commands.{uses_followers, uses_outside, uses_sink, uses_source, uses_spawner}
 use Rattle.css_app.specs.Pairs.{children}
-use Rattle.css_app.proofs.Commands.{asked_so, does_so, usage_of, usage_only}
+use Rattle.css_app.proofs.Commands.{does_so, usage_of, usage_only}
 use Rattle.css_app.proofs.Lacking.{lacks}
 use Rattle.css_app.proofs.program.run.Goals as goal
 
 -- ---- a command was run
 pub returns-in-Ok-clause-usage : goal.returns-in-Ok-clause-usage
 returns-in-Ok-clause-usage g c is =
-    asked_so (map string_bytes c.args.words.now) (asked_of c.in-Ok.command) c.in-Ok.ensures.value
-    ∙ usage_only (offered (asked_of c.in-Ok.command)) _ _ _ _ _ _ c.run_command.ensures.does is
+    c.in-Ok.ensures.value
+    ∙ usage_only (Ok (asked_of c.in-Ok.command)) _ _ _ _ _ _ c.run_command.ensures.does is
 
 pub returns-in-Ok-clause-refused : goal.returns-in-Ok-clause-refused
 returns-in-Ok-clause-refused g c is =
@@ -22,28 +22,23 @@ returns-in-Ok-clause-refused g c is =
 
 pub returns-in-Ok-clause-same_source : goal.returns-in-Ok-clause-same_source
 returns-in-Ok-clause-same_source g c unused =
-    c.run_command.ensures.same_source (ap uses_source (sym (asked_so (map string_bytes c.args.words.now)
-    (asked_of c.in-Ok.command) c.in-Ok.ensures.value)) ∙ unused)
+    c.run_command.ensures.same_source (ap uses_source (sym c.in-Ok.ensures.value) ∙ unused)
 
 pub returns-in-Ok-clause-same_sink : goal.returns-in-Ok-clause-same_sink
 returns-in-Ok-clause-same_sink g c unused =
-    c.run_command.ensures.same_sink (ap uses_sink (sym (asked_so (map string_bytes c.args.words.now)
-    (asked_of c.in-Ok.command) c.in-Ok.ensures.value)) ∙ unused)
+    c.run_command.ensures.same_sink (ap uses_sink (sym c.in-Ok.ensures.value) ∙ unused)
 
 pub returns-in-Ok-clause-same_outside : goal.returns-in-Ok-clause-same_outside
 returns-in-Ok-clause-same_outside g c unused =
-    c.run_command.ensures.same_outside (ap uses_outside (sym (asked_so (map string_bytes c.args.words.now)
-    (asked_of c.in-Ok.command) c.in-Ok.ensures.value)) ∙ unused)
+    c.run_command.ensures.same_outside (ap uses_outside (sym c.in-Ok.ensures.value) ∙ unused)
 
 pub returns-in-Ok-clause-same_spawner : goal.returns-in-Ok-clause-same_spawner
 returns-in-Ok-clause-same_spawner g c unused =
-    c.run_command.ensures.same_spawner (ap uses_spawner (sym (asked_so (map string_bytes c.args.words.now)
-    (asked_of c.in-Ok.command) c.in-Ok.ensures.value)) ∙ unused)
+    c.run_command.ensures.same_spawner (ap uses_spawner (sym c.in-Ok.ensures.value) ∙ unused)
 
 pub returns-in-Ok-clause-same_followers : goal.returns-in-Ok-clause-same_followers
 returns-in-Ok-clause-same_followers g c unused =
-    c.run_command.ensures.same_followers (ap uses_followers (sym (asked_so (map string_bytes c.args.words.now)
-    (asked_of c.in-Ok.command) c.in-Ok.ensures.value)) ∙ unused)
+    c.run_command.ensures.same_followers (ap uses_followers (sym c.in-Ok.ensures.value) ∙ unused)
 
 pub returns-in-Ok-clause-replay : goal.returns-in-Ok-clause-replay
 returns-in-Ok-clause-replay g c is =
@@ -68,6 +63,16 @@ returns-in-Ok-clause-tv g c asked is =
 pub returns-in-Ok-clause-pair : goal.returns-in-Ok-clause-pair
 returns-in-Ok-clause-pair g c asked is =
     does_so (map string_bytes c.args.words.now) (asked_of c.in-Ok.command) (Ok (Pair asked)) _ _ _ _ _ _
+    c.in-Ok.ensures.value c.run_command.ensures.does is
+
+pub returns-in-Ok-clause-generate : goal.returns-in-Ok-clause-generate
+returns-in-Ok-clause-generate g c asked is =
+    does_so (map string_bytes c.args.words.now) (asked_of c.in-Ok.command) (Ok (Generate asked)) _ _ _ _ _ _
+    c.in-Ok.ensures.value c.run_command.ensures.does is
+
+pub returns-in-Ok-clause-survey : goal.returns-in-Ok-clause-survey
+returns-in-Ok-clause-survey g c asked is =
+    does_so (map string_bytes c.args.words.now) (asked_of c.in-Ok.command) (Ok (Survey asked)) _ _ _ _ _ _
     c.in-Ok.ensures.value c.run_command.ensures.does is
 
 -- ---- the words are those of no command
@@ -100,6 +105,16 @@ returns-in-Err-Usage-clause-pair g c asked is =
     absurd (let none = usage_of (map string_bytes c.args.words.now) _ c.in-Err-Usage.field-0-is
     c.in-Err-Usage.ensures.value in cc)
 
+pub returns-in-Err-Usage-clause-generate : goal.returns-in-Err-Usage-clause-generate
+returns-in-Err-Usage-clause-generate g c asked is =
+    absurd (let none = usage_of (map string_bytes c.args.words.now) _ c.in-Err-Usage.field-0-is
+    c.in-Err-Usage.ensures.value in cc)
+
+pub returns-in-Err-Usage-clause-survey : goal.returns-in-Err-Usage-clause-survey
+returns-in-Err-Usage-clause-survey g c asked is =
+    absurd (let none = usage_of (map string_bytes c.args.words.now) _ c.in-Err-Usage.field-0-is
+    c.in-Err-Usage.ensures.value in cc)
+
 -- ---- memory ran out before the command was known
 
 pub returns-in-Err-Memory-clause-replay : goal.returns-in-Err-Memory-clause-replay
@@ -107,42 +122,60 @@ returns-in-Err-Memory-clause-replay g c is =
     lacks (Ok Replay) (g.S.Source.left c.args.source.now) (g.K.Sink.holds c.args.sink.now)
     (g.O.Outside.told c.args.outside.now)
     (children (g.P.Spawner.told c.args.spawner.now) (g.P.Spawner.running c.args.spawner.now))
-    (g.F.Listens.takes c.args.followers.now) (g.F.Listens.heard c.args.followers.now) (g.S.Source.faults c.args.source.now)
-    (g.K.Sink.faults c.args.sink.now) (g.O.Outside.counts c.args.outside.now).faults
-    (g.P.Spawner.faults c.args.spawner.now)
+    (g.F.Listens.takes c.args.followers.now) (g.F.Listens.heard c.args.followers.now)
+    (g.S.Source.faults c.args.source.now) (g.K.Sink.faults c.args.sink.now)
+    (g.O.Outside.counts c.args.outside.now).faults (g.P.Spawner.faults c.args.spawner.now)
 
 pub returns-in-Err-Memory-clause-agree : goal.returns-in-Err-Memory-clause-agree
 returns-in-Err-Memory-clause-agree g c is =
     lacks (Ok Agree) (g.S.Source.left c.args.source.now) (g.K.Sink.holds c.args.sink.now)
     (g.O.Outside.told c.args.outside.now)
     (children (g.P.Spawner.told c.args.spawner.now) (g.P.Spawner.running c.args.spawner.now))
-    (g.F.Listens.takes c.args.followers.now) (g.F.Listens.heard c.args.followers.now) (g.S.Source.faults c.args.source.now)
-    (g.K.Sink.faults c.args.sink.now) (g.O.Outside.counts c.args.outside.now).faults
-    (g.P.Spawner.faults c.args.spawner.now)
+    (g.F.Listens.takes c.args.followers.now) (g.F.Listens.heard c.args.followers.now)
+    (g.S.Source.faults c.args.source.now) (g.K.Sink.faults c.args.sink.now)
+    (g.O.Outside.counts c.args.outside.now).faults (g.P.Spawner.faults c.args.spawner.now)
 
 pub returns-in-Err-Memory-clause-companion : goal.returns-in-Err-Memory-clause-companion
 returns-in-Err-Memory-clause-companion g c asked is =
     lacks (Ok (Companion asked)) (g.S.Source.left c.args.source.now) (g.K.Sink.holds c.args.sink.now)
     (g.O.Outside.told c.args.outside.now)
     (children (g.P.Spawner.told c.args.spawner.now) (g.P.Spawner.running c.args.spawner.now))
-    (g.F.Listens.takes c.args.followers.now) (g.F.Listens.heard c.args.followers.now) (g.S.Source.faults c.args.source.now)
-    (g.K.Sink.faults c.args.sink.now) (g.O.Outside.counts c.args.outside.now).faults
-    (g.P.Spawner.faults c.args.spawner.now)
+    (g.F.Listens.takes c.args.followers.now) (g.F.Listens.heard c.args.followers.now)
+    (g.S.Source.faults c.args.source.now) (g.K.Sink.faults c.args.sink.now)
+    (g.O.Outside.counts c.args.outside.now).faults (g.P.Spawner.faults c.args.spawner.now)
 
 pub returns-in-Err-Memory-clause-tv : goal.returns-in-Err-Memory-clause-tv
 returns-in-Err-Memory-clause-tv g c asked is =
     lacks (Ok (Tv asked)) (g.S.Source.left c.args.source.now) (g.K.Sink.holds c.args.sink.now)
     (g.O.Outside.told c.args.outside.now)
     (children (g.P.Spawner.told c.args.spawner.now) (g.P.Spawner.running c.args.spawner.now))
-    (g.F.Listens.takes c.args.followers.now) (g.F.Listens.heard c.args.followers.now) (g.S.Source.faults c.args.source.now)
-    (g.K.Sink.faults c.args.sink.now) (g.O.Outside.counts c.args.outside.now).faults
-    (g.P.Spawner.faults c.args.spawner.now)
+    (g.F.Listens.takes c.args.followers.now) (g.F.Listens.heard c.args.followers.now)
+    (g.S.Source.faults c.args.source.now) (g.K.Sink.faults c.args.sink.now)
+    (g.O.Outside.counts c.args.outside.now).faults (g.P.Spawner.faults c.args.spawner.now)
 
 pub returns-in-Err-Memory-clause-pair : goal.returns-in-Err-Memory-clause-pair
 returns-in-Err-Memory-clause-pair g c asked is =
     lacks (Ok (Pair asked)) (g.S.Source.left c.args.source.now) (g.K.Sink.holds c.args.sink.now)
     (g.O.Outside.told c.args.outside.now)
     (children (g.P.Spawner.told c.args.spawner.now) (g.P.Spawner.running c.args.spawner.now))
-    (g.F.Listens.takes c.args.followers.now) (g.F.Listens.heard c.args.followers.now) (g.S.Source.faults c.args.source.now)
-    (g.K.Sink.faults c.args.sink.now) (g.O.Outside.counts c.args.outside.now).faults
-    (g.P.Spawner.faults c.args.spawner.now)
+    (g.F.Listens.takes c.args.followers.now) (g.F.Listens.heard c.args.followers.now)
+    (g.S.Source.faults c.args.source.now) (g.K.Sink.faults c.args.sink.now)
+    (g.O.Outside.counts c.args.outside.now).faults (g.P.Spawner.faults c.args.spawner.now)
+
+pub returns-in-Err-Memory-clause-generate : goal.returns-in-Err-Memory-clause-generate
+returns-in-Err-Memory-clause-generate g c asked is =
+    lacks (Ok (Generate asked)) (g.S.Source.left c.args.source.now) (g.K.Sink.holds c.args.sink.now)
+    (g.O.Outside.told c.args.outside.now)
+    (children (g.P.Spawner.told c.args.spawner.now) (g.P.Spawner.running c.args.spawner.now))
+    (g.F.Listens.takes c.args.followers.now) (g.F.Listens.heard c.args.followers.now)
+    (g.S.Source.faults c.args.source.now) (g.K.Sink.faults c.args.sink.now)
+    (g.O.Outside.counts c.args.outside.now).faults (g.P.Spawner.faults c.args.spawner.now)
+
+pub returns-in-Err-Memory-clause-survey : goal.returns-in-Err-Memory-clause-survey
+returns-in-Err-Memory-clause-survey g c asked is =
+    lacks (Ok (Survey asked)) (g.S.Source.left c.args.source.now) (g.K.Sink.holds c.args.sink.now)
+    (g.O.Outside.told c.args.outside.now)
+    (children (g.P.Spawner.told c.args.spawner.now) (g.P.Spawner.running c.args.spawner.now))
+    (g.F.Listens.takes c.args.followers.now) (g.F.Listens.heard c.args.followers.now)
+    (g.S.Source.faults c.args.source.now) (g.K.Sink.faults c.args.sink.now)
+    (g.O.Outside.counts c.args.outside.now).faults (g.P.Spawner.faults c.args.spawner.now)

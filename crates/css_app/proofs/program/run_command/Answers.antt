@@ -33,3 +33,40 @@ returns-in-Tv-clause-counted_writes g c = c.tv_by.ensures.writes (g.K.Sink.fault
 
 pub returns-in-Tv-clause-counted_spawns : goal.returns-in-Tv-clause-counted_spawns
 returns-in-Tv-clause-counted_spawns g c = c.tv_by.ensures.spawns (g.P.Spawner.faults c.args.spawner.now)
+
+-- what is generated or surveyed is written alone
+pub returns-in-Generate-clause-does : goal.returns-in-Generate-clause-does
+returns-in-Generate-clause-does g c = rw c.in-Generate.is c.generate_by.ensures.does
+
+pub returns-in-Generate-clause-counted_reads : goal.returns-in-Generate-clause-counted_reads
+returns-in-Generate-clause-counted_reads g c = c.generate_by.ensures.reads (g.S.Source.faults c.args.source.now)
+
+pub returns-in-Generate-clause-counted_calls : goal.returns-in-Generate-clause-counted_calls
+returns-in-Generate-clause-counted_calls g c =
+    c.generate_by.ensures.quiet.calls (g.O.Outside.counts c.args.outside.now).faults
+
+pub returns-in-Generate-clause-counted_dials : goal.returns-in-Generate-clause-counted_dials
+returns-in-Generate-clause-counted_dials g c =
+    c.generate_by.ensures.quiet.dials (g.O.Outside.counts c.args.outside.now).dial_faults
+
+pub returns-in-Generate-clause-counted_spawns : goal.returns-in-Generate-clause-counted_spawns
+returns-in-Generate-clause-counted_spawns g c =
+    c.generate_by.ensures.quiet.spawns (g.P.Spawner.faults c.args.spawner.now)
+
+pub returns-in-Survey-clause-does : goal.returns-in-Survey-clause-does
+returns-in-Survey-clause-does g c = rw c.in-Survey.is c.survey_by.ensures.does
+
+pub returns-in-Survey-clause-counted_reads : goal.returns-in-Survey-clause-counted_reads
+returns-in-Survey-clause-counted_reads g c = c.survey_by.ensures.reads (g.S.Source.faults c.args.source.now)
+
+pub returns-in-Survey-clause-counted_calls : goal.returns-in-Survey-clause-counted_calls
+returns-in-Survey-clause-counted_calls g c =
+    c.survey_by.ensures.quiet.calls (g.O.Outside.counts c.args.outside.now).faults
+
+pub returns-in-Survey-clause-counted_dials : goal.returns-in-Survey-clause-counted_dials
+returns-in-Survey-clause-counted_dials g c =
+    c.survey_by.ensures.quiet.dials (g.O.Outside.counts c.args.outside.now).dial_faults
+
+pub returns-in-Survey-clause-counted_spawns : goal.returns-in-Survey-clause-counted_spawns
+returns-in-Survey-clause-counted_spawns g c =
+    c.survey_by.ensures.quiet.spawns (g.P.Spawner.faults c.args.spawner.now)

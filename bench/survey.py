@@ -1,0 +1,68 @@
+#!/usr/bin/env python3
+"""Times `css survey` and `css generate` of the longest schedule, of seed 1 and 200,000 lines.
+
+    bench/survey.py [PROGRAM]       crates/css/out/proved/css, which ./css builds, where none is given
+
+Printed are the line of the survey, and of both commands the processor time and the peak of resident memory. The survey
+must be the line below, which another program found, and the same twice. It must take less than a second of processor
+time and less than 16 MB. What is generated must be the same twice, and a replay of it must print what was counted.
+"""
+
+import os
+import subprocess
+import sys
+import tempfile
+
+HERE = os.path.dirname(os.path.dirname(os.path.abspath(__file__)))
+PROGRAM = sys.argv[1] if len(sys.argv) > 1 else os.path.join(HERE, "crates", "css", "out", "proved", "css")
+WORDS = ["--seed", "1", "--lines", "200000"]
+SURVEY = b"lines 200000 prints 50114 intervals 50110 widest 8178\n"
+SECONDS = 1.0
+MEGABYTES = 16.0
+
+
+def run(words, given=None):
+    """What the program writes, its processor seconds, and its peak in megabytes."""
+    with tempfile.TemporaryFile() as written:
+        child = subprocess.Popen([PROGRAM, *words], stdin=given or subprocess.DEVNULL, stdout=written)
+        _, status, used = os.wait4(child.pid, 0)
+        child.returncode = os.waitstatus_to_exitcode(status)
+        if child.returncode != 0:
+            sys.exit(f"{' '.join(words)} ended with {child.returncode}")
+        written.seek(0)
+        return written.read(), used.ru_utime + used.ru_stime, used.ru_maxrss / 1024
+
+
+def counted(printed):
+    """What a survey tells of lines for which this was printed."""
+    reports = [line.split() for line in printed.splitlines()]
+    widths = [int(words[3]) - int(words[2]) for words in reports if words[1] == b"ticks"]
+    return b"lines 200000 prints %d intervals %d widest %d\n" % (len(reports), len(widths), max(widths, default=0))
+
+
+def replayed(schedule):
+    """What a replay of a schedule prints."""
+    with tempfile.TemporaryFile() as given:
+        given.write(schedule)
+        given.seek(0)
+        return run(["replay"], given)[0]
+
+
+def main():
+    told, seconds, megabytes = run(["survey", *WORDS])
+    print(told.decode(), end="")
+    print(f"survey: {seconds:.2f} s, {megabytes:.1f} MB")
+    if told != SURVEY or run(["survey", *WORDS])[0] != SURVEY:
+        sys.exit("this isn't the survey")
+    if seconds >= SECONDS or megabytes >= MEGABYTES:
+        sys.exit("this is too much")
+    schedule, seconds, megabytes = run(["generate", *WORDS])
+    print(f"generate: {seconds:.2f} s, {megabytes:.1f} MB, {len(schedule)} bytes")
+    if run(["generate", *WORDS])[0] != schedule:
+        sys.exit("what is generated differs")
+    if counted(replayed(schedule)) != SURVEY:
+        sys.exit("a replay prints other reports than were counted")
+
+
+if __name__ == "__main__":
+    main()

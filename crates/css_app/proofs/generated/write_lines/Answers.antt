@@ -1,0 +1,60 @@
+-- What was written is a front part of the schedule, line after line.
+use Rattle.std.proofs.Common.{◌≡◌, ◌+◌, ◌<◌, ◌++◌, ◌∷◌, [], arith, ap, sym, subst, ◌∙◌, List, ℕ}
+use Rattle.std.specs.Io.KnownBytes.{Appends}
+use Rattle.css_outside.specs.Bytes.{AppendsPrefix}
+use Rattle.css_outside.proofs.Known.{on_err_from}
+use Rattle.css_gen.specs.Generated.{Generator, text_numbered}
+use Rattle.css_app.specs.Generated.{schedule_text}
+use Rattle.css_app.proofs.Generating.{gave, one_more, stops_before, stops_within}
+use Rattle.css_app.proofs.generated.write_lines.Goals as goal
+
+pub returns-in_err-text-clause-err : goal.returns-in_err-text-clause-err
+returns-in_err-text-clause-err g c = on_err_from _
+    (stops_before c.args.seed c.lines.generator.given c.args.lines (g.K.Sink.holds c.args.sink.now)
+    (g.K.Sink.holds c.lines.sink) c.lines.invariant.within c.lines.invariant.grew)
+
+pub returns-in_err-push-clause-err : goal.returns-in_err-push-clause-err
+returns-in_err-push-clause-err g c = on_err_from _
+    (stops_before c.args.seed c.lines.generator.given c.args.lines (g.K.Sink.holds c.args.sink.now)
+    (g.K.Sink.holds c.lines.sink) c.lines.invariant.within c.lines.invariant.grew)
+
+pub returns-in_err-write_all-clause-err : goal.returns-in_err-write_all-clause-err
+returns-in_err-write_all-clause-err g c =
+    let given = c.lines.generator.given in
+    let step = gave c.lines.generator c.next_line.new.self c.in-Some.text
+    (sym c.in-Some.is ∙ c.in_ok-text.ensures.text) c.in_ok-text.ensures.given in
+    let line : c.bytes.result.now ≡ text_numbered c.args.seed (given + 1) ++ 10 ∷ [] =
+    c.bytes.ensures ∙ c.in_ok-push.ensures.ok
+    ∙ ap (λ (t : List ℕ). t ++ 10 ∷ []) (step.text ∙ ap (λ (s : ℕ). text_numbered s (given + 1)) c.lines.invariant.seed)
+    in
+    let more : given < c.args.lines = omega (arith, step.more, c.lines.invariant.lines) in
+    on_err_from _
+    (stops_within c.args.seed given c.args.lines (g.K.Sink.holds c.args.sink.now) (g.K.Sink.holds c.lines.sink)
+    (g.K.Sink.holds c.write_all.new.sink) more c.lines.invariant.grew
+    (subst (λ (l : List ℕ). AppendsPrefix (g.K.Sink.holds c.lines.sink) (g.K.Sink.holds c.write_all.new.sink) l) line
+    c.in_err-write_all.ensures.err))
+
+pub lines-preserved : goal.lines-preserved
+lines-preserved g c =
+    let given = c.lines.generator.given in
+    let was = c.lines.invariant in
+    let step = gave c.lines.generator c.next_line.new.self c.in-Some.text
+    (sym c.in-Some.is ∙ c.in_ok-text.ensures.text) c.in_ok-text.ensures.given in
+    let line : c.bytes.result.now ≡ text_numbered c.args.seed (given + 1) ++ 10 ∷ [] =
+    c.bytes.ensures ∙ c.in_ok-push.ensures.ok
+    ∙ ap (λ (t : List ℕ). t ++ 10 ∷ []) (step.text ∙ ap (λ (s : ℕ). text_numbered s (given + 1)) was.seed) in
+    let next : c.next_line.new.self.given ≡ given + 1 = ap (λ (x : Generator). x.given) step.gone in
+    let wrote : Appends (g.K.Sink.holds c.lines.sink) (g.K.Sink.holds c.write_all.new.sink)
+    (text_numbered c.args.seed (given + 1) ++ 10 ∷ []) =
+    subst (λ (l : List ℕ). Appends (g.K.Sink.holds c.lines.sink) (g.K.Sink.holds c.write_all.new.sink) l) line
+    c.in_ok-write_all.ensures.ok in
+    record {
+      seed = ap (λ (x : Generator). x.seed) step.gone ∙ was.seed;
+      lines = ap (λ (x : Generator). x.lines) step.gone ∙ was.lines;
+      within = omega (arith, next, step.more, was.lines);
+      grew = subst (λ (n : ℕ). Appends (g.K.Sink.holds c.args.sink.now) (g.K.Sink.holds c.write_all.new.sink)
+          (schedule_text c.args.seed n)) (sym next)
+          (one_more c.args.seed given (g.K.Sink.holds c.args.sink.now) (g.K.Sink.holds c.lines.sink)
+          (g.K.Sink.holds c.write_all.new.sink) was.grew wrote);
+      counted = c.in_ok-write_all.ensures.counted ∙ was.counted;
+    }

@@ -1,0 +1,15 @@
+use Rattle.std.proofs.Common.{◌≡◌, ◌+◌, ◌-◌}
+use Rattle.css_app.specs.Surveys.{HasTaken}
+use Rattle.css_app.proofs.surveyed.take_all.Given as goal
+
+-- the lines that were given were taken
+abbrev pub invariant-lines : goal.invariant-lines
+invariant-lines l = record {
+  seed : l.generator.seed ≡ l.fn.generator.seed;
+  lines : l.generator.lines ≡ l.fn.generator.lines;
+  number : l.number ≡ l.generator.given + 1;
+  taken : HasTaken l.survey l.generator;
+}
+
+abbrev pub decreases-lines : goal.decreases-lines
+decreases-lines l = l.fn.generator.lines - l.generator.given

@@ -1,0 +1,42 @@
+ghost use Rattle.std.specs.Prelude.{◌≤◌, OnOk, OnErr};
+ghost use Rattle.std.specs.Io.KnownBytes.{Appends};
+ghost use Rattle.css_outside.specs.Bytes.{AppendsPrefix};
+ghost use Rattle.css_outside.specs.Faults.{CountsCall};
+ghost use Rattle.css_app.specs.Ended.{Writes, CountsWrites, HasNotFailed, IsDoneUnlessMemory};
+ghost use Rattle.css_app.specs.Generated.{schedule_text};
+
+use crate::status::Status;
+use css_gen::Generator;
+use css_outside::{OutFault, Sink, write_all};
+use std::alloc::Global;
+
+// Writes the generated lines one by one, each with its line feed.
+fn write_lines<K: Sink>(alloc: Global, seed: u64, lines: u64, sink: &mut K) -> Result<(), OutFault>
+    requires least { 9 ≤ lines }
+    requires most { lines ≤ 200000 }
+    ensures ok { OnOk result (Appends (K.holds sink.old) (K.holds sink.new) (schedule_text seed lines)) }
+    ensures err { OnErr result (AppendsPrefix (K.holds sink.old) (K.holds sink.new) (schedule_text seed lines)) }
+    ensures counted { CountsCall (K.faults sink.old) (K.faults sink.new) result }
+{
+    let mut generator = Generator::new(seed, lines, 1);
+    'lines: while let Some(mut text) = generator.next_line(alloc)? {
+        text.push(b"\n")?;
+        write_all(sink, text.bytes())?;
+    }
+    Ok(())
+}
+
+/// Writes the schedule of so many lines, 9 to 200,000, that is generated of the seed.
+pub fn generate<K: Sink>(alloc: Global, seed: u64, lines: u64, sink: &mut K) -> Status
+    requires least { 9 ≤ lines }
+    requires most { lines ≤ 200000 }
+    ensures writes { Writes (schedule_text seed lines) (K.holds sink.old) (K.holds sink.new) result }
+    ensures complete { HasNotFailed (K.faults sink.old) (K.faults sink.new) → IsDoneUnlessMemory result }
+    ensures counted_writes { CountsWrites (K.faults sink.old) (K.faults sink.new) result }
+{
+    match write_lines(alloc, seed, lines, sink) {
+        Ok(()) => Status::Done,
+        Err(OutFault::Failed) => Status::WriteFault,
+        Err(OutFault::Memory) => Status::Memory,
+    }
+}

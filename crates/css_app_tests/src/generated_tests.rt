@@ -1,0 +1,230 @@
+ghost use Rattle.std.specs.Prelude.{◌≤◌};
+
+use crate::running::{Devices, Ran, run_over};
+use crate::tests::replay;
+use css_app::{Status, generate, survey};
+use css_num::signed_number;
+use css_outside::MemorySink;
+use std::alloc::{AllocError, Global};
+use std::test::Fail;
+
+/// What each generated schedule begins with.
+const OPENING: &[u8] = b"css-schedule 1 follow 12800 -20 12800 1000 urn:dvb:css:timeline:pts dvb://
+0 1000000000 1000000000 programme dvb://1.2.3
+0 1000000000 1000000000 timeline 1 urn:dvb:css:timeline:pts 1 90000 0
+0 1000000000 1000000000 change 1000000000 1
+0 1000000000 1000000000 open cii
+0 1000000000 1000000000 text cii
+0 1000000000 1000000000 open ts
+0 1000000000 1000000000 up ts
+0 1000000000 1000000000 text ts
+";
+
+/// Where its lines end.
+const ENDS: [usize; 10] = [0, 75, 121, 191, 235, 268, 301, 333, 363, 395];
+
+/// Devices that never fail.
+const DEVICES: Devices<'static> = Devices {
+    piece: 4096,
+    reads: &[],
+    writes: &[],
+};
+
+/// Numbers of lines, and the survey of so many lines of seed 1. The surveys come from another program.
+const SURVEYS: [(u64, &str); 2] = [
+    (9, "lines 9 prints 0 intervals 0 widest 0\n"),
+    (2000, "lines 2000 prints 512 intervals 508 widest 2295\n"),
+];
+
+/// Seeds and numbers of lines.
+const SCHEDULES: [(u64, u64); 5] = [
+    (0, 300),
+    (1, 9),
+    (1, 2000),
+    (2, 1000),
+    (9_223_372_036_854_775_807, 500),
+];
+
+/// Generates lines of a seed. The writes of these numbers fail.
+fn generated(alloc: Global, seed: u64, lines: u64, fails: &[u64]) -> Result<Ran, Fail>
+    requires least { 9 ≤ lines }
+    requires most { lines ≤ 200000 }
+{
+    let mut sink = MemorySink::new(alloc, 4096, fails)?;
+    let status = generate(alloc, seed, lines, &mut sink);
+    Ok(Ran { status, sink })
+}
+
+/// Surveys lines of a seed.
+fn surveyed(alloc: Global, seed: u64, lines: u64) -> Result<Ran, Fail>
+    requires least { 9 ≤ lines }
+    requires most { lines ≤ 200000 }
+{
+    let mut sink = MemorySink::new(alloc, 4096, &[])?;
+    let status = survey(alloc, seed, lines, &mut sink);
+    Ok(Ran { status, sink })
+}
+
+#[test]
+fn the_shortest_schedule_is_generated(rt: HostRuntime) -> Result<(), Fail> {
+    let ran = generated(rt.alloc(), 1, 9, &[])?;
+    assert_eq!(rt; ran.status, Status::Done);
+    assert_eq!(rt; ran.sink.bytes(), OPENING);
+    Ok(())
+}
+
+#[test]
+fn each_line_is_written_at_once(rt: HostRuntime) -> Result<(), Fail> {
+    let mut write = 1;
+    for end in ENDS.iter().take(9) {
+        let ran = generated(rt.alloc(), 1, 9, &[write])?;
+        assert_eq!(rt; ran.status, Status::WriteFault);
+        assert_eq!(rt; ran.sink.bytes(), &OPENING[..*end]);
+        write += 1;
+    }
+    Ok(())
+}
+
+#[test]
+fn generated_lines_are_surveyed(rt: HostRuntime) -> Result<(), Fail> {
+    for (lines, expected) in SURVEYS {
+        let ran = surveyed(rt.alloc(), 1, lines)?;
+        assert_eq!(rt; ran.status, Status::Done);
+        assert_eq!(rt; ran.sink.bytes(), expected.as_bytes());
+    }
+    Ok(())
+}
+
+/// A write of a survey that fails: the bytes that a write takes, its number, and what was written before it.
+const FAILS: [(usize, u64, &str); 2] = [(4096, 1, ""), (5, 3, "lines 9 pr")];
+
+#[test]
+fn a_survey_that_is_not_written_is_a_write_fault(rt: HostRuntime) -> Result<(), Fail> {
+    for (piece, write, expected) in FAILS {
+        if piece > 0 {
+            let mut sink = MemorySink::new(rt.alloc(), piece, &[write])?;
+            let status = survey(rt.alloc(), 1, 9, &mut sink);
+            assert_eq!(rt; status, Status::WriteFault);
+            assert_eq!(rt; sink.bytes(), expected.as_bytes());
+        }
+    }
+    Ok(())
+}
+
+#[test]
+fn the_same_seed_gives_the_same_lines(rt: HostRuntime) -> Result<(), Fail> {
+    for (seed, lines) in SCHEDULES {
+        if 9 <= lines && lines <= 200_000 {
+            let first = generated(rt.alloc(), seed, lines, &[])?;
+            let again = generated(rt.alloc(), seed, lines, &[])?;
+            assert_eq!(rt; first.sink.bytes(), again.sink.bytes());
+            let told = surveyed(rt.alloc(), seed, lines)?;
+            let told_again = surveyed(rt.alloc(), seed, lines)?;
+            assert_eq!(rt; told.sink.bytes(), told_again.sink.bytes());
+        }
+    }
+    Ok(())
+}
+
+/// The ends of the interval that a line tells, if it does.
+fn interval(line: &[u8]) -> Option<(i64, i64)> {
+    let mut words = line.split(|byte| *byte == b' ').skip(1);
+    if words.next()? != b"ticks".as_slice() {
+        return None;
+    }
+    Some((
+        signed_number(words.next()?, 18)?,
+        signed_number(words.next()?, 18)?,
+    ))
+}
+
+/// The survey of so many lines, by what a replay printed for them.
+fn counted(alloc: Global, lines: u64, printed: &[u8]) -> Result<String, AllocError> {
+    let (mut prints, mut intervals, mut widest) = (0u64, 0u64, 0u64);
+    for line in printed.split(|byte| *byte == b'\n') {
+        if !line.is_empty() {
+            prints = prints.saturating_add(1);
+        }
+        if let Some((low, high)) = interval(line) {
+            intervals = intervals.saturating_add(1);
+            widest = widest.max(low.abs_diff(high));
+        }
+    }
+    format!(in alloc; "lines {lines} prints {prints} intervals {intervals} widest {widest}\n")
+}
+
+#[test]
+fn a_replay_of_generated_lines_prints_what_is_counted(rt: HostRuntime) -> Result<(), Fail> {
+    for (seed, lines) in SCHEDULES {
+        if 9 <= lines && lines <= 200_000 {
+            let schedule = generated(rt.alloc(), seed, lines, &[])?;
+            let ran = replay(rt.alloc(), schedule.sink.bytes(), &DEVICES)?;
+            assert_eq!(rt; ran.status, Status::Done);
+            let told = surveyed(rt.alloc(), seed, lines)?;
+            let expected = counted(rt.alloc(), lines, ran.sink.bytes())?;
+            assert_eq!(rt; told.status, Status::Done);
+            assert_eq!(rt; told.sink.bytes(), expected.as_bytes());
+        }
+    }
+    Ok(())
+}
+
+/// Command lines, and what each of them writes. The surveys come from another program.
+const COMMANDS: [(&str, &[u8]); 4] = [
+    ("generate --seed 1 --lines 9", OPENING),
+    ("generate --lines=9 --seed=7", OPENING),
+    (
+        "survey --seed 1 --lines 9",
+        b"lines 9 prints 0 intervals 0 widest 0\n",
+    ),
+    (
+        "survey --lines=2000 --seed=1",
+        b"lines 2000 prints 512 intervals 508 widest 2295\n",
+    ),
+];
+
+#[test]
+fn both_are_commands_of_the_program(rt: HostRuntime) -> Result<(), Fail> {
+    for (line, expected) in COMMANDS {
+        let ran = run_over(rt.alloc(), line, b"", &DEVICES)?;
+        assert_eq!(rt; ran.status, Status::Done, "{line}");
+        assert_eq!(rt; ran.sink.bytes(), expected, "{line}");
+    }
+    Ok(())
+}
+
+/// Command lines of which the third write fails, after 5 bytes each, and what was written before.
+const CUT: [(&str, &[u8]); 2] = [
+    ("generate --seed 1 --lines 9", b"css-schedu"),
+    ("survey --seed 1 --lines 9", b"lines 9 pr"),
+];
+
+#[test]
+fn a_failed_write_ends_both_commands(rt: HostRuntime) -> Result<(), Fail> {
+    let devices = Devices {
+        piece: 5,
+        reads: &[],
+        writes: &[3],
+    };
+    for (line, expected) in CUT {
+        let ran = run_over(rt.alloc(), line, b"", &devices)?;
+        assert_eq!(rt; ran.status, Status::WriteFault, "{line}");
+        assert_eq!(rt; ran.sink.bytes(), expected, "{line}");
+    }
+    Ok(())
+}
+
+#[test]
+fn neither_command_reads(rt: HostRuntime) -> Result<(), Fail> {
+    let devices = Devices {
+        piece: 4096,
+        reads: &[1],
+        writes: &[],
+    };
+    for (line, expected) in COMMANDS {
+        let ran = run_over(rt.alloc(), line, b"", &devices)?;
+        assert_eq!(rt; ran.status, Status::Done, "{line}");
+        assert_eq!(rt; ran.sink.bytes(), expected, "{line}");
+    }
+    Ok(())
+}

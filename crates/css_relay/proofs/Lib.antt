@@ -1,0 +1,6 @@
+pub mod Originates
+pub mod HostTexts
+pub mod Exponents
+pub mod Readings
+pub mod Responses
+pub mod TwoHops

@@ -1,0 +1,6 @@
+pub mod Precisions
+pub mod Middles
+pub mod Answers
+pub mod Relays
+pub mod TwoHops
+pub mod FaultWords

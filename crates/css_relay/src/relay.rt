@@ -1,0 +1,282 @@
+ghost use Rattle.std.specs.Prelude.{◌≡◌, ◌≤◌, ◌<◌, ◌+◌, ℕ, [], ◌∷◌, Ok, max, take, drop, IfOk, IfErr, IfSome, OnOk, OnErr};
+ghost use Rattle.std.specs.Str.{IsUtf8};
+ghost use Rattle.css_num.specs.Gives.{GivesBy};
+ghost use Rattle.css_model.specs.declared.Why.TheVariants as why;
+ghost use Rattle.css_model.specs.Numbers.{max_error};
+ghost use Rattle.css_model.specs.Wire.{encoded, decoded, request_at, stamp_bytes};
+ghost use Rattle.css_model.specs.History.{Entry, History, Clock, Sent, Took, Slept, accepted_answers};
+ghost use Rattle.css_span.specs.WallSpans.{wall_span, IsNear};
+ghost use Rattle.css_wc.specs.Datagrams.{HasNoFault};
+ghost use Rattle.css_client.specs.Landings.{landing_of, IsRefusal};
+ghost use Rattle.css_client.specs.Standing.{AcceptsTheTruth, ContainsTheWall};
+ghost use Rattle.css_cii.specs.Texts.{IsUtf8State};
+ghost use Rattle.css_companion.specs.Contents.{CarriesNoMemory};
+ghost use Rattle.css_companion.specs.Meanings.{state_of};
+ghost use Rattle.css_companion.specs.Standing.{StandsFor, own_of, asleep, wanted_by};
+ghost use Rattle.css_companion.specs.Steps as steps;
+ghost use Rattle.css_companion.specs.declared.fault.CompanionFault.TheVariants as faults;
+ghost use Rattle.css_relay.specs.Answers.{requested_by, ticket_at, received_after, answered, answered_after};
+ghost use Rattle.css_relay.specs.Answers.{unless_wide, datagram_of, Responds};
+ghost use Rattle.css_relay.specs.Middles.{middle_known};
+ghost use Rattle.css_relay.specs.Relays.{wc_url_of, relayed_state};
+ghost use Rattle.css_relay.specs.TwoHops.{TicketIsTrue, AnswerIsTrue};
+
+use crate::address::wc_url;
+use crate::exponent::{exponent_for, greatest_half};
+use crate::fault::RelayFault;
+use crate::middle::{Middle, read_middle};
+use crate::ticket::RelayTicket;
+use css_cii::State;
+use css_client::Landing;
+use css_companion::{Companion, CompanionConfig, CompanionEvent, CompanionFault};
+use css_model::{LIMIT, Message, Stamp};
+use css_num::{Memory, Span, Text};
+use css_wc::{decode, encode, stamp_of};
+use std::alloc::Global;
+use std::marker::Model;
+
+/// A companion that serves the television's wall clock on.
+///
+/// It answers a request with the middle of its span of the wall clock, and declares a precision that covers the span
+/// and the greatest error that a television declared to it. So its answers are true of the television's wall clock, and
+/// a companion that asks it needs to know nothing of the relay's own clock.
+///
+/// All readings are those of the relay's own clock, in nanoseconds, and are handed to it as to a [`Companion`].
+#[derive(Drop)]
+pub struct Relay {
+    companion: Companion,
+    wc_url: Text,
+}
+
+impl Model for Relay {
+    ghost use Rattle.std.specs.Str.{IsUtf8};
+    ghost use Rattle.css_relay.specs.Relays.{Relay as Known};
+
+    ghost Value = { Known };
+
+    ghost view = { λ r. record { companion = r.companion; wc_url = r.wc_url } };
+
+    ghost invariant = { λ r. IsUtf8 r.wc_url };
+}
+
+impl Relay {
+    /// A relay that was told nothing yet, and serves the wall clock at this host and port.
+    pub fn new(
+        alloc: Global,
+        config: CompanionConfig,
+        host: &Text,
+        port: u16,
+    ) -> Result<Relay, Memory>
+        requires selector { IsUtf8 config.selector }
+        requires stem { IsUtf8 config.stem }
+        requires host { IsUtf8 host.now }
+        ensures wc_url { IfOk result (λ relay. relay.wc_url ≡ wc_url_of host.now port) }
+        ensures setup { IfOk result (λ relay. relay.companion.setup ≡ wanted_by config) }
+        ensures own { IfOk result (λ relay. own_of relay.companion ≡ config.local) }
+        ensures floor { IfOk result (λ relay. relay.companion.client.floor ≡ 0) }
+        ensures stands { IfOk result (λ relay. StandsFor relay.companion []) }
+    {
+        let wc_url = wc_url(alloc, host, port)?;
+        Ok(Relay {
+            companion: Companion::new(alloc, config)?,
+            wc_url,
+        })
+    }
+
+    /// The request to send to the television, where the clock reads so now: [`Companion::ask`].
+    pub fn ask(&mut self, reading: u64) -> [u8; 32]
+        requires range { reading < LIMIT }
+        requires floor { self.old.companion.client.floor ≤ reading }
+        ensures request { result ≡ encoded (request_at reading) }
+        ensures stands { (history : History) (peer : ℕ) → StandsFor self.old.companion history
+            → StandsFor self.new.companion (Sent peer result ∷ Clock why.Ask reading ∷ history) }
+        ensures wc_url { self.new.wc_url ≡ self.old.wc_url }
+        ensures keeps { self.new.companion ≡ record self.old.companion { client = self.new.companion.client } }
+        ensures own { own_of self.new.companion ≡ own_of self.old.companion }
+        ensures floor { self.new.companion.client.floor ≡ reading }
+        ensures after_sleep { self.new.companion.client.after_sleep ≡ reading + 1 }
+    {
+        self.companion.ask(reading)
+    }
+
+    /// Takes in a datagram of the television that landed when the clock read so: [`Companion::land`].
+    pub fn land(&mut self, bytes: &[u8], reading: u64) -> Result<Landing, Memory>
+        requires range { reading < LIMIT }
+        requires floor { self.old.companion.client.floor ≤ reading }
+        ensures landing { (history : History) → StandsFor self.old.companion history
+            → IfOk result (λ landing. landing ≡ landing_of (own_of self.old.companion) history reading bytes.now) }
+        ensures stands { (history : History) (peer : ℕ) → StandsFor self.old.companion history
+            → OnOk result (StandsFor self.new.companion (Clock why.Land reading ∷ Took peer bytes.now ∷ history)) }
+        ensures truth { AcceptsTheTruth self.old.companion.client reading bytes.now result }
+        ensures wc_url { self.new.wc_url ≡ self.old.wc_url }
+        ensures keeps { self.new.companion ≡ record self.old.companion { client = self.new.companion.client } }
+        ensures own { own_of self.new.companion ≡ own_of self.old.companion }
+        ensures refused { IfOk result (λ landing. IsRefusal landing → self.new ≡ self.old) }
+        ensures floor { self.new.companion.client.floor ≤ reading }
+        ensures after_sleep { self.new.companion.client.after_sleep ≡ self.old.companion.client.after_sleep }
+        ensures err { OnErr result (self.new ≡ self.old) }
+    {
+        self.companion.land(bytes, reading)
+    }
+
+    /// The relay slept: [`Companion::slept`]. It knows the wall clock again once the television answered it.
+    pub fn slept(&mut self)
+        ensures stands { (history : History) → StandsFor self.old.companion history
+            → StandsFor self.new.companion (Slept ∷ history) }
+        ensures value { self.new ≡ record self.old {
+          companion = record self.old.companion { client = asleep self.old.companion.client };
+        } }
+        ensures own { own_of self.new.companion ≡ own_of self.old.companion }
+        ensures floor { self.new.companion.client.floor
+            ≡ max self.old.companion.client.floor self.old.companion.client.after_sleep }
+        ensures next_floor { self.new.companion.client.floor ≤ self.old.companion.client.floor + 1 }
+    {
+        self.companion.slept();
+    }
+
+    /// The span of the television's wall clock, in nanoseconds: [`Companion::wall`].
+    pub fn wall(&self, reading: u64) -> Option<Span>
+        requires range { reading < LIMIT }
+        requires floor { self.now.companion.client.floor ≤ reading }
+        ensures span { (history : History) → StandsFor self.now.companion history → result
+            ≡ wall_span (own_of self.now.companion) reading (accepted_answers (own_of self.now.companion) history) }
+        ensures holds { ContainsTheWall self.now.companion.client reading result }
+        ensures near { IfSome result IsNear }
+    {
+        self.companion.wall(reading)
+    }
+
+    /// Takes in what happened at the sessions with the television: [`Companion::step`].
+    pub fn step(&mut self, event: CompanionEvent) -> Result<Option<Text>, CompanionFault>
+        requires { steps.IsEvent event }
+        ensures answer { GivesBy (λ owed. owed) faults.Memory result (steps.owed self.old.companion event) }
+        ensures goes_on { steps.GoesOn result self.old.companion self.new.companion
+            (steps.stepped self.old.companion event) }
+        ensures fault { IfErr result CarriesNoMemory }
+        ensures wc_url { self.new.wc_url ≡ self.old.wc_url }
+        ensures client { self.new.companion.client ≡ self.old.companion.client }
+        ensures setup { self.new.companion.setup ≡ self.old.companion.setup }
+        ensures stands { (history : History) (entry : Entry) → StandsFor self.old.companion history
+            → steps.IsEntryOf event entry history
+            → steps.UnlessMemory result (StandsFor self.new.companion (entry ∷ history)) }
+    {
+        self.companion.step(event)
+    }
+
+    /// The state that the television told, with the television's own addresses: [`Companion::state`].
+    pub fn state(&self) -> &State
+        ensures value { result.now ≡ self.now.companion.state }
+        ensures utf8 { IsUtf8State result.now }
+        ensures meaning { (history : History) → StandsFor self.now.companion history → result.now ≡ state_of history }
+    {
+        self.companion.state()
+    }
+
+    /// The state that the relay tells: that of the television, with `udp://HOST:PORT` of the relay as `wcUrl` where the
+    /// television told one.
+    pub fn relayed(&self) -> Result<State, Memory>
+        ensures value { IfOk result (λ state. state ≡ relayed_state self.now.wc_url self.now.companion.state) }
+        ensures utf8 { IfOk result IsUtf8State }
+        ensures meaning { (history : History) → StandsFor self.now.companion history
+            → IfOk result (λ state. state ≡ relayed_state self.now.wc_url (state_of history)) }
+    {
+        let mut state = self.companion.state().clone()?;
+        if state.wc_url.is_some() {
+            state.wc_url = Some(self.wc_url.clone()?);
+        }
+        Ok(state)
+    }
+
+    /// Takes a request that was received when the clock read so.
+    ///
+    /// The ticket has the middle of the wall clock's span, cut to the readings that a clock can have, and half its
+    /// width. The faults are `Undecodable`, `NotARequest`, `NoAnswer` and `Beyond`, in this order.
+    pub fn receive(&self, bytes: &[u8], reading: u64) -> Result<RelayTicket, RelayFault>
+        requires range { reading < LIMIT }
+        requires floor { self.now.companion.client.floor ≤ reading }
+        ensures value { (history : History) → StandsFor self.now.companion history
+            → result ≡ received_after (own_of self.now.companion) history reading bytes.now }
+        ensures originate { IfOk result (λ ticket. stamp_bytes ticket.originate ≡ take 8 (drop 8 bytes.now)) }
+        ensures reads { TicketIsTrue self.now.companion reading result }
+    {
+        let originate = requested(bytes)?;
+        ticket(originate, self.companion.wall(reading))
+    }
+
+    /// The datagram that answers the request of a ticket that this relay gave out, when the clock reads so.
+    ///
+    /// It is a response of type 1. Its receive value is that of the ticket, its transmit value the middle of the wall
+    /// clock's span now; its precision is the least from 2^-30 s to 2^30 s that is no less than half the width of
+    /// either span; and it declares the greatest error that an accepted answer does. The faults are `NoAnswer`,
+    /// `Beyond` and `Wide`, in this order.
+    pub fn answer(&self, ticket: RelayTicket, reading: u64) -> Result<[u8; 32], RelayFault>
+        requires range { reading < LIMIT }
+        requires floor { self.now.companion.client.floor ≤ reading }
+        ensures value { (history : History) → StandsFor self.now.companion history → result
+            ≡ datagram_of (answered_after (own_of self.now.companion) history reading ticket) }
+        ensures is_true { AnswerIsTrue self.now.companion ticket reading result }
+    {
+        respond(
+            &ticket,
+            self.companion.greatest_error(),
+            self.companion.wall(reading),
+        )
+    }
+}
+
+/// The originate value of a request.
+fn requested(bytes: &[u8]) -> Result<Stamp, RelayFault>
+    ensures value { result ≡ requested_by (decoded bytes.now) }
+    ensures originate { IfOk result (λ originate. stamp_bytes originate ≡ take 8 (drop 8 bytes.now)) }
+{
+    let message = decode(bytes)?;
+    if message.message_type != 0 {
+        return Err(RelayFault::NotARequest);
+    }
+    Ok(message.originate)
+}
+
+/// The ticket of a request, where this is known of the wall clock.
+fn ticket(originate: Stamp, wall: Option<Span>) -> Result<RelayTicket, RelayFault>
+    ensures value { result ≡ ticket_at originate (middle_known wall) }
+    ensures originate { IfOk result (λ ticket. ticket.originate ≡ originate) }
+{
+    let middle = read_middle(wall)?;
+    Ok(RelayTicket {
+        originate,
+        value: middle.value,
+        half: middle.half,
+    })
+}
+
+/// The datagram that answers a ticket's request and declares this error, where this is known of the wall clock.
+fn respond(ticket: &RelayTicket, error: u32, wall: Option<Span>) -> Result<[u8; 32], RelayFault>
+    requires error { error ≤ max_error }
+    ensures value { result ≡ datagram_of (answered wall error ticket.now) }
+    ensures read_back { IfOk result (λ bytes. Responds bytes (answered wall error ticket.now)) }
+{
+    let middle = read_middle(wall)?;
+    let response = response(ticket, error, middle)?;
+    Ok(encode(&response))
+}
+
+/// The response to a ticket's request at a middle.
+fn response(ticket: &RelayTicket, error: u32, middle: Middle) -> Result<Message, RelayFault>
+    requires error { error ≤ max_error }
+    requires range { middle.value < LIMIT }
+    ensures value { result ≡ unless_wide ticket.now error middle }
+    ensures valid { IfOk result HasNoFault }
+{
+    let half = ticket.half.max(middle.half);
+    if half > greatest_half() {
+        return Err(RelayFault::Wide(half));
+    }
+    Ok(Message {
+        message_type: 1,
+        precision: exponent_for(half),
+        error,
+        originate: ticket.originate,
+        receive: stamp_of(ticket.value),
+        transmit: stamp_of(middle.value),
+    })
+}

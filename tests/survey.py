@@ -1,0 +1,75 @@
+#!/usr/bin/env python3
+"""Surveys and generates schedules with the built program, up to the longest one of 200,000 lines.
+
+    tests/survey.py [PROGRAM ..]       the program's words before the command; ./css where there are none
+
+The surveys below come from another program. What is generated must be the same twice, and a replay of it must print what
+its survey counts. Each check prints a line. The exit status is 1 where one failed.
+"""
+import os
+import subprocess
+import sys
+
+HERE = os.path.dirname(os.path.abspath(__file__))
+PROGRAM = sys.argv[1:] or [os.path.join(HERE, "..", "css")]
+SURVEYS = {
+    9: b"lines 9 prints 0 intervals 0 widest 0\n",
+    2000: b"lines 2000 prints 512 intervals 508 widest 2295\n",
+    200000: b"lines 200000 prints 50114 intervals 50110 widest 8178\n",
+}
+OPENING = b"""css-schedule 1 follow 12800 -20 12800 1000 urn:dvb:css:timeline:pts dvb://
+0 1000000000 1000000000 programme dvb://1.2.3
+0 1000000000 1000000000 timeline 1 urn:dvb:css:timeline:pts 1 90000 0
+0 1000000000 1000000000 change 1000000000 1
+0 1000000000 1000000000 open cii
+0 1000000000 1000000000 text cii
+0 1000000000 1000000000 open ts
+0 1000000000 1000000000 up ts
+0 1000000000 1000000000 text ts
+"""
+failed = []
+
+
+def check(name, holds, told=""):
+    print(("ok      " if holds else "FAILED  ") + name + (f": {told}" if told else ""), flush=True)
+    if not holds:
+        failed.append(name)
+
+
+def run(words, given=b"", sink=subprocess.PIPE):
+    """How the program ends, what it writes, and what it tells on standard error."""
+    done = subprocess.run([*PROGRAM, *words], input=given, stdout=sink, stderr=subprocess.PIPE, check=False)
+    return done.returncode, done.stdout, done.stderr
+
+
+def words(command, lines):
+    return [command, "--seed", "1", "--lines", str(lines)]
+
+
+def counted(lines, printed):
+    """What a survey tells of a schedule for which this was printed."""
+    reports = [line.split() for line in printed.splitlines()]
+    widths = [int(report[3]) - int(report[2]) for report in reports if report[1] == b"ticks"]
+    return b"lines %d prints %d intervals %d widest %d\n" % (lines, len(reports), len(widths), max(widths, default=0))
+
+
+def main():
+    for lines, survey in SURVEYS.items():
+        ended = run(words("survey", lines))
+        check(f"survey of {lines} lines", ended == (0, survey, b""), ended[1].decode().strip())
+        ended, schedule, told = run(words("generate", lines))
+        check(f"{lines} lines are generated", (ended, told) == (0, b"") and schedule.count(b"\n") == lines)
+        check("with the opening", schedule.startswith(OPENING))
+        check("and again", run(words("generate", lines)) == (0, schedule, b""))
+        ended, printed, told = run(["replay"], schedule)
+        check("a replay prints what is counted", (ended, counted(lines, printed), told) == (0, survey, b""))
+    for command in ("generate", "survey"):
+        check(f"{command} of too few lines", run(words(command, 8)) == (1, b"", b"css: usage\n"))
+        with open("/dev/full", "wb") as full:
+            ended, _, told = run(words(command, 9), sink=full)
+        check(f"{command} on a full disk", (ended, told) == (5, b"css: write fault\n"))
+    return 1 if failed else 0
+
+
+if __name__ == "__main__":
+    sys.exit(main())
