@@ -20,8 +20,18 @@ const OPENING: &[u8] = b"css-schedule 1 follow 12800 -20 12800 1000 urn:dvb:css:
 0 1000000000 1000000000 text ts
 ";
 
-/// Where its lines end.
-const ENDS: [usize; 10] = [0, 75, 121, 191, 235, 268, 301, 333, 363, 395];
+/// A write by its number, and how many bytes were written before it: there is one write for each line.
+const WRITES: [(u64, usize); 9] = [
+    (1, 0),
+    (2, 75),
+    (3, 121),
+    (4, 191),
+    (5, 235),
+    (6, 268),
+    (7, 301),
+    (8, 333),
+    (9, 363),
+];
 
 /// Devices that never fail.
 const DEVICES: Devices<'static> = Devices {
@@ -75,12 +85,11 @@ fn the_shortest_schedule_is_generated(rt: HostRuntime) -> Result<(), Fail> {
 
 #[test]
 fn each_line_is_written_at_once(rt: HostRuntime) -> Result<(), Fail> {
-    let mut write = 1;
-    for end in ENDS.iter().take(9) {
+    for (write, end) in WRITES {
+        assert!(rt; end <= OPENING.len());
         let ran = generated(rt.alloc(), 1, 9, &[write])?;
         assert_eq!(rt; ran.status, Status::WriteFault);
-        assert_eq!(rt; ran.sink.bytes(), &OPENING[..*end]);
-        write += 1;
+        assert_eq!(rt; ran.sink.bytes(), &OPENING[..end]);
     }
     Ok(())
 }
