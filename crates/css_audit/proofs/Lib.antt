@@ -1,0 +1,5 @@
+pub mod Inputs
+pub mod Fresh
+pub mod Telling
+pub mod Reading
+pub mod Keeping

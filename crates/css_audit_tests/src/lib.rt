@@ -1,0 +1,9 @@
+//! Tests of the public calls of `css_audit`.
+#![tactic(auto)]
+
+#[cfg(test)]
+mod changes;
+#[cfg(test)]
+mod plain;
+#[cfg(test)]
+mod tests;
