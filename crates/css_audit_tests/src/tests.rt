@@ -1,7 +1,7 @@
 use css_audit::{
     Audit, AuditFault, Auditing, LineFault, print_header, print_line, read_header, read_line,
 };
-use css_lines::{Refusal, Stop, drive};
+use css_lines::{Lines, Refusal, Stop, drive};
 use css_num::Memory;
 use css_outside::{MemorySink, MemorySource};
 use std::alloc::{AllocError, Global};
@@ -429,22 +429,11 @@ fn a_record_may_be_cut_in_its_last_line(rt: HostRuntime) -> Result<(), Fail> {
     Ok(())
 }
 
-/// A header, and a report of so many bytes of line, which stands after no turn.
-fn long_report(alloc: Global, length: usize) -> Result<Vec<u8>, AllocError> {
-    let mut bytes = joined(alloc, &[HEADER])?;
-    bytes.extend_from_slice(b"report ")?;
-    bytes.extend_from_slice(&vec![in alloc; b' '; length.saturating_sub(7)]?)?;
-    bytes.push(b'\n')?;
-    Ok(bytes)
-}
-
 #[test]
 fn a_line_has_a_longest_length(rt: HostRuntime) -> Result<(), Fail> {
-    let alloc = rt.alloc();
-    let longest = words(alloc, &long_report(alloc, 16_777_216)?)?;
-    assert_eq!(rt; longest.as_slice(), b"line 2: absent".as_slice());
-    let longer = words(alloc, &long_report(alloc, 16_777_217)?)?;
-    assert_eq!(rt; longer.as_slice(), b"line 2: long".as_slice());
+    let auditing = Auditing::new(rt.alloc());
+    assert_eq!(rt; auditing.longest_line(), 16_777_216);
+    assert_eq!(rt; auditing.longest_input(), 268_435_456);
     Ok(())
 }
 
