@@ -25,7 +25,9 @@ pub struct ChildSpawner<'a, R: Processes> {
 
 impl<'a, R: Processes> ChildSpawner<'a, R> {
     /// No child was started.
-    pub fn new(alloc: Global, rt: &'a R) -> ChildSpawner<'a, R> {
+    pub fn new(alloc: Global, rt: &'a R) -> ChildSpawner<'a, R>
+        ensures faults { result.faults ≡ 0 }
+    {
         ChildSpawner {
             alloc,
             rt,
@@ -36,7 +38,9 @@ impl<'a, R: Processes> ChildSpawner<'a, R> {
     }
 
     /// Starts the program of this file in place of its own.
-    pub fn of_program(alloc: Global, rt: &'a R, program: &'a str) -> ChildSpawner<'a, R> {
+    pub fn of_program(alloc: Global, rt: &'a R, program: &'a str) -> ChildSpawner<'a, R>
+        ensures faults { result.faults ≡ 0 }
+    {
         ChildSpawner {
             alloc,
             rt,

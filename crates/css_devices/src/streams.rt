@@ -1,6 +1,6 @@
 //! The standard streams as devices. They count each failure, and tell nothing of what they hold.
 
-ghost use Rattle.std.specs.Prelude.{None};
+ghost use Rattle.std.specs.Prelude.{◌≡◌, None};
 ghost use Rattle.std.specs.Io.{ReadsAtMost, WritesAtMost};
 
 use css_outside::{Failed, OutFault, Sink, Source};
@@ -32,7 +32,9 @@ fn read_through<R: Read>(inner: &mut R, into: &mut [u8]) -> io::Result<usize>
 
 impl<R: Read> StdSource<R> {
     /// No read has failed yet.
-    pub fn new(inner: R) -> StdSource<R> {
+    pub fn new(inner: R) -> StdSource<R>
+        ensures faults { result.faults ≡ 0 }
+    {
         StdSource { inner, faults: 0 }
     }
 }
@@ -75,7 +77,9 @@ fn write_through<W: Write>(inner: &mut W, bytes: &[u8]) -> io::Result<usize>
 
 impl<W: Write> StdSink<W> {
     /// No write has failed yet.
-    pub fn new(inner: W) -> StdSink<W> {
+    pub fn new(inner: W) -> StdSink<W>
+        ensures faults { result.faults ≡ 0 }
+    {
         StdSink { inner, faults: 0 }
     }
 }

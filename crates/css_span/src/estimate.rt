@@ -95,6 +95,7 @@ impl Estimate {
     {
         self.kept.len()
     }
+
     /// The greatest max_freq_error that an accepted answer declares, in 1/256 ppm. It is 0 where none was accepted.
     pub fn greatest_error(&self) -> u32
         ensures value { result ≡ frontiers.greatest_error self.now.kept }
