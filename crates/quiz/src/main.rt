@@ -20,7 +20,6 @@ const READINGS: [u64; 3] = [1_000_000, 5_555_000, 6_000_000];
 const TIMELINES: &str = r#"{"timelines":[{
     "timelineSelector":"urn:dvb:css:timeline:pts",
     "timelineProperties":{"unitsPerSecond":90000,"unitsPerTick":1}}]}"#;
-    r#"{"timelines":[{"timelineProperties":{"unitsPerSecond":90000,"unitsPerTick":1},"timelineSelector":"urn:dvb:css:timeline:pts"}]}"#;
 
 /// What it tells on the TS session: at 10 s of its wall clock the programme is at the tick 900,000, and it plays.
 const CONTROL: &str =
