@@ -8,10 +8,6 @@ mod both_ends_tests;
 #[cfg(test)]
 mod generated_tests;
 #[cfg(test)]
-mod live_tables;
-#[cfg(test)]
-mod live_tests;
-#[cfg(test)]
 mod running;
 #[cfg(test)]
 mod tests;

@@ -9,7 +9,7 @@ use css_outside::{MemoryOutside, MemorySink, MemorySource, MemorySpawner, Outsid
 use std::alloc::Global;
 
 /// The words of a line, which are separated by spaces. A line without bytes has none.
-pub fn words_of(alloc: Global, line: &str) -> Result<Vec<String>, Memory> {
+fn words_of(alloc: Global, line: &str) -> Result<Vec<String>, Memory> {
     let mut words = Vec::new(alloc);
     if line.is_empty() {
         return Ok(words);
