@@ -2,4 +2,8 @@
 #![tactic(auto)]
 
 #[cfg(test)]
-mod tests;
+mod headers;
+#[cfg(test)]
+mod lines;
+#[cfg(test)]
+mod refused;
