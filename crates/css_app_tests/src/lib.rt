@@ -8,8 +8,12 @@ mod both_ends_tests;
 #[cfg(test)]
 mod generated_tests;
 #[cfg(test)]
+mod refused_tests;
+#[cfg(test)]
+mod replay_tests;
+#[cfg(test)]
 mod running;
 #[cfg(test)]
-mod tests;
+mod status_tests;
 #[cfg(test)]
 mod usage_tests;

@@ -1,7 +1,8 @@
 //! A follower that lacks memory, in a run of the command `companion`.
+use crate::running::ended;
 use crate::tables::K;
-use crate::tests::{script_of, words_of};
-use css_app::{Status, run};
+use crate::tests::script_of;
+use css_app::Status;
 use css_companion::Report;
 use css_drive::{Before, Nobody};
 use css_follow::{Follower, Meter, Sheet};
@@ -55,16 +56,15 @@ fn a_follower_that_lacks_memory_ends_the_run(rt: HostRuntime) -> Result<(), Fail
             rest: Nobody,
         },
     };
-    let words = words_of(alloc, &K)?;
-    let status = run(
+    let status = ended(
         alloc,
-        &words,
+        &K,
         &mut source,
         &mut sink,
         &mut outside,
         &mut spawner,
         &mut followers,
-    );
+    )?;
     assert_eq!(rt; status == Status::Memory, true);
     assert_eq!(rt; sink.bytes(), "1 ticks 900000 900000\nwidth 0\n".as_bytes());
     Ok(())

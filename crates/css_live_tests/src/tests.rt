@@ -3,10 +3,11 @@ ghost use Rattle.std.specs.Prelude.{◌≡◌, [], IfOk, IsTrue, false, true};
 ghost use Rattle.css_outside.specs.Scripts.{are_readings};
 
 use crate::changed_tables::{CHANGED, SLEPT};
+use crate::running::ended;
 use crate::tables::{
     COMPANIONS, Case, FAILING, NEVER_FAILING, PAIRS, Said, TELEVISIONS, TWO_BESIDE, Times,
 };
-use css_app::{Status, run, tell};
+use css_app::{Status, tell};
 use css_drive::{Before, Nobody};
 use css_follow::{Cues, Meter};
 use css_num::Text;
@@ -21,15 +22,6 @@ use std::test::Fail;
 
 /// Those who follow a run.
 type Followers = Before<Cues, Before<Meter, Nobody>>;
-
-/// The words of a row.
-pub fn words_of(alloc: Global, case: &Case) -> Result<Vec<String>, Fail> {
-    let mut words = Vec::new(alloc);
-    for word in case.words.split(' ') {
-        words.push(word.to_string(alloc)?)?;
-    }
-    Ok(words)
-}
 
 fn followers_of(alloc: Global) -> Followers {
     Before {
@@ -174,22 +166,21 @@ fn assert_run(
     told: &str,
     written: &str,
 ) -> Result<(), Fail> {
-    let words = words_of(alloc, case)?;
     let mut source = MemorySource::new(alloc, case.input.as_bytes(), 4096, case.source_fails)?;
     let mut sink = MemorySink::new(alloc, 4096, case.sink_fails)?;
     let script = script_of(alloc, case, fails.to_vec(alloc)?)?;
     let mut outside = MemoryOutside::new(alloc, script)?;
     let mut spawner = MemorySpawner::new(alloc, case.children, case.spawner_fails)?;
     let mut followers = followers_of(alloc);
-    let status = run(
+    let status = ended(
         alloc,
-        &words,
+        case,
         &mut source,
         &mut sink,
         &mut outside,
         &mut spawner,
         &mut followers,
-    );
+    )?;
     assert_eq!(rt; sink.bytes(), written.as_bytes(), "{}", case.name);
     assert_told(rt, alloc, case, &status, told)
 }
@@ -236,22 +227,21 @@ fn each_call_of_a_pair_fails_once(rt: HostRuntime) -> Result<(), Fail> {
 
 /// Makes a run over the devices that never fail.
 fn assert_never_fails(rt: &impl Abort, alloc: Global, case: &Case) -> Result<(), Fail> {
-    let words = words_of(alloc, case)?;
     let mut source = NeverFailsSource::new(alloc, case.input.as_bytes(), 4096)?;
     let mut sink = NeverFailsSink::new(alloc, 4096)?;
     let script = script_of(alloc, case, Vec::new(alloc))?;
     let mut outside = NeverFailsOutside::new(alloc, script)?;
     let mut spawner = NeverFailsSpawner::new(alloc, case.children)?;
     let mut followers = followers_of(alloc);
-    let status = run(
+    let status = ended(
         alloc,
-        &words,
+        case,
         &mut source,
         &mut sink,
         &mut outside,
         &mut spawner,
         &mut followers,
-    );
+    )?;
     assert_eq!(rt; sink.bytes(), case.written.as_bytes(), "{}", case.name);
     assert_told(rt, alloc, case, &status, case.told)
 }
