@@ -93,84 +93,82 @@ fn refuses_headers(rt: &impl Abort, alloc: Global, refused: &[&[u8]]) {
     }
 }
 
+/// Missing and extra words, spaces, and the first words.
+const NO_HEADERS: &[&[u8]] = &[
+    // missing and extra words
+    b"",
+    b" ",
+    b"css-schedule",
+    b"css-schedule 1",
+    b"css-schedule 1 follow",
+    b"css-schedule 1 plain 0 -30 0 0",
+    b"css-schedule 1 plain 0 -30 0 0 urn:x",
+    b"css-schedule 1 plain 0 -30 0 0 urn:x - -",
+    b"css-schedule 1 0 -30 0 0 urn:x -",
+    // spaces, and what isn't one
+    b" css-schedule 1 plain 0 -30 0 0 urn:x -",
+    b"css-schedule  1 plain 0 -30 0 0 urn:x -",
+    b"css-schedule 1  plain 0 -30 0 0 urn:x -",
+    b"css-schedule 1 plain 0 -30 0 0 urn:x  -",
+    b"css-schedule 1 plain 0 -30 0 0 urn:x - ",
+    b"css-schedule 1 plain 0 -30 0 0 urn:x ",
+    b"css-schedule 1 plain 0 -30 0 0  -",
+    b"css-schedule 1\tplain 0 -30 0 0 urn:x -",
+    b"css-schedule 1 plain 0 -30 0 0 urn:x\t-",
+    b"css-schedule 1 plain 0 -30 0 0 urn:x -\r",
+    b"css-schedule 1 plain 0 -30 0 0 urn:x -\n",
+    b"\xef\xbb\xbfcss-schedule 1 plain 0 -30 0 0 urn:x -",
+    // the first words
+    b"css-schedules 1 plain 0 -30 0 0 urn:x -",
+    b"CSS-schedule 1 plain 0 -30 0 0 urn:x -",
+    b"css-schedule 0 plain 0 -30 0 0 urn:x -",
+    b"css-schedule 01 plain 0 -30 0 0 urn:x -",
+    b"css-schedule 2 plain 0 -30 0 0 urn:x -",
+    b"css-schedule 2 plain 0 -30 1",
+    b"css-schedule 1 Plain 0 -30 0 0 urn:x -",
+    b"css-schedule 1 follows 0 -30 0 0 urn:x -",
+    b"css-schedule 1 follo 0 -30 0 0 urn:x -",
+    b"css-schedule 1 plainfollow 0 -30 0 0 urn:x -",
+    b"css-schedule 1 - 0 -30 0 0 urn:x -",
+];
+
 #[test]
 fn what_is_no_header_is_refused(rt: HostRuntime) {
-    refuses_headers(
-        &rt,
-        rt.alloc(),
-        &[
-            // missing and extra words
-            b"",
-            b" ",
-            b"css-schedule",
-            b"css-schedule 1",
-            b"css-schedule 1 follow",
-            b"css-schedule 1 plain 0 -30 0 0",
-            b"css-schedule 1 plain 0 -30 0 0 urn:x",
-            b"css-schedule 1 plain 0 -30 0 0 urn:x - -",
-            b"css-schedule 1 0 -30 0 0 urn:x -",
-            // spaces, and what isn't one
-            b" css-schedule 1 plain 0 -30 0 0 urn:x -",
-            b"css-schedule  1 plain 0 -30 0 0 urn:x -",
-            b"css-schedule 1  plain 0 -30 0 0 urn:x -",
-            b"css-schedule 1 plain 0 -30 0 0 urn:x  -",
-            b"css-schedule 1 plain 0 -30 0 0 urn:x - ",
-            b"css-schedule 1 plain 0 -30 0 0 urn:x ",
-            b"css-schedule 1 plain 0 -30 0 0  -",
-            b"css-schedule 1\tplain 0 -30 0 0 urn:x -",
-            b"css-schedule 1 plain 0 -30 0 0 urn:x\t-",
-            b"css-schedule 1 plain 0 -30 0 0 urn:x -\r",
-            b"css-schedule 1 plain 0 -30 0 0 urn:x -\n",
-            b"\xef\xbb\xbfcss-schedule 1 plain 0 -30 0 0 urn:x -",
-            // the first words
-            b"css-schedules 1 plain 0 -30 0 0 urn:x -",
-            b"CSS-schedule 1 plain 0 -30 0 0 urn:x -",
-            b"css-schedule 0 plain 0 -30 0 0 urn:x -",
-            b"css-schedule 01 plain 0 -30 0 0 urn:x -",
-            b"css-schedule 2 plain 0 -30 0 0 urn:x -",
-            b"css-schedule 2 plain 0 -30 1",
-            b"css-schedule 1 Plain 0 -30 0 0 urn:x -",
-            b"css-schedule 1 follows 0 -30 0 0 urn:x -",
-            b"css-schedule 1 follo 0 -30 0 0 urn:x -",
-            b"css-schedule 1 plainfollow 0 -30 0 0 urn:x -",
-            b"css-schedule 1 - 0 -30 0 0 urn:x -",
-        ],
-    );
+    refuses_headers(&rt, rt.alloc(), NO_HEADERS);
 }
+
+/// Numbers of both clocks, and the words behind them.
+const BAD_HEADERS: &[&[u8]] = &[
+    // the television's error and precision
+    b"css-schedule 1 plain 25600001 -30 0 0 urn:x -",
+    b"css-schedule 1 plain 00 -30 0 0 urn:x -",
+    b"css-schedule 1 plain +0 -30 0 0 urn:x -",
+    b"css-schedule 1 plain -0 -30 0 0 urn:x -",
+    b"css-schedule 1 plain 0 -129 0 0 urn:x -",
+    b"css-schedule 1 plain 0 31 0 0 urn:x -",
+    b"css-schedule 1 follow 0 31 0 0 urn:x -",
+    b"css-schedule 1 plain 0 -030 0 0 urn:x -",
+    b"css-schedule 1 plain 0 +30 0 0 urn:x -",
+    b"css-schedule 1 plain 0 -0 0 0 urn:x -",
+    b"css-schedule 1 plain 0 - 0 0 urn:x -",
+    b"css-schedule 1 plain 0 -1000 0 0 urn:x -",
+    // the companion's
+    b"css-schedule 1 plain 0 -30 2560001 0 urn:x -",
+    b"css-schedule 1 plain 0 -30 01 0 urn:x -",
+    b"css-schedule 1 plain 0 -30 -1 0 urn:x -",
+    b"css-schedule 1 plain 0 -30 -0 0 urn:x -",
+    b"css-schedule 1 plain 0 -30 0 1000000001 urn:x -",
+    b"css-schedule 1 plain 0 -30 0 +1 urn:x -",
+    b"css-schedule 1 plain 0 -30 0 00 urn:x -",
+    // the selector and the stem
+    b"css-schedule 1 plain 0 -30 0 0 urn:\x7f -",
+    b"css-schedule 1 plain 0 -30 0 0 urn:\x00 -",
+    b"css-schedule 1 plain 0 -30 0 0 urn:\x1f -",
+    b"css-schedule 1 plain 0 -30 0 0 urn:x \xc3\xa9",
+    b"css-schedule 1 plain 0 -30 0 0 urn:x \x80",
+];
 
 #[test]
 fn bad_numbers_and_words_of_a_header_are_refused(rt: HostRuntime) {
-    refuses_headers(
-        &rt,
-        rt.alloc(),
-        &[
-            // the television's error and precision
-            b"css-schedule 1 plain 25600001 -30 0 0 urn:x -",
-            b"css-schedule 1 plain 00 -30 0 0 urn:x -",
-            b"css-schedule 1 plain +0 -30 0 0 urn:x -",
-            b"css-schedule 1 plain -0 -30 0 0 urn:x -",
-            b"css-schedule 1 plain 0 -129 0 0 urn:x -",
-            b"css-schedule 1 plain 0 31 0 0 urn:x -",
-            b"css-schedule 1 follow 0 31 0 0 urn:x -",
-            b"css-schedule 1 plain 0 -030 0 0 urn:x -",
-            b"css-schedule 1 plain 0 +30 0 0 urn:x -",
-            b"css-schedule 1 plain 0 -0 0 0 urn:x -",
-            b"css-schedule 1 plain 0 - 0 0 urn:x -",
-            b"css-schedule 1 plain 0 -1000 0 0 urn:x -",
-            // the companion's
-            b"css-schedule 1 plain 0 -30 2560001 0 urn:x -",
-            b"css-schedule 1 plain 0 -30 01 0 urn:x -",
-            b"css-schedule 1 plain 0 -30 -1 0 urn:x -",
-            b"css-schedule 1 plain 0 -30 -0 0 urn:x -",
-            b"css-schedule 1 plain 0 -30 0 1000000001 urn:x -",
-            b"css-schedule 1 plain 0 -30 0 +1 urn:x -",
-            b"css-schedule 1 plain 0 -30 0 00 urn:x -",
-            // the selector and the stem
-            b"css-schedule 1 plain 0 -30 0 0 urn:\x7f -",
-            b"css-schedule 1 plain 0 -30 0 0 urn:\x00 -",
-            b"css-schedule 1 plain 0 -30 0 0 urn:\x1f -",
-            b"css-schedule 1 plain 0 -30 0 0 urn:x \xc3\xa9",
-            b"css-schedule 1 plain 0 -30 0 0 urn:x \x80",
-        ],
-    );
+    refuses_headers(&rt, rt.alloc(), BAD_HEADERS);
 }

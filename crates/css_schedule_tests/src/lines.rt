@@ -166,45 +166,47 @@ fn commands_of_viewers_are_read(rt: HostRuntime) {
     }
 }
 
+/// Presentations, and both bounds of each.
+const PRESENTATIONS: [(&str, Bound, Bound); 4] = [
+    (
+        "1000 4800 7 present 1 2 -3 4",
+        Bound::At {
+            content: 1,
+            wall: 2,
+        },
+        Bound::At {
+            content: -3,
+            wall: 4,
+        },
+    ),
+    (
+        "1000 4800 7 present -1 minusinfinity 3 plusinfinity",
+        Bound::MinusInfinity { content: -1 },
+        Bound::PlusInfinity { content: 3 },
+    ),
+    (
+        "1000 4800 7 present 0 9223372036854775807 0 plusinfinity",
+        Bound::At {
+            content: 0,
+            wall: 9_223_372_036_854_775_807,
+        },
+        Bound::PlusInfinity { content: 0 },
+    ),
+    (
+        "1000 4800 7 present -999999999999999999 minusinfinity 999999999999999999 9223372036854775807",
+        Bound::MinusInfinity {
+            content: -999_999_999_999_999_999,
+        },
+        Bound::At {
+            content: 999_999_999_999_999_999,
+            wall: 9_223_372_036_854_775_807,
+        },
+    ),
+];
+
 #[test]
 fn presentations_are_read(rt: HostRuntime) {
-    let rows: [(&str, Bound, Bound); 4] = [
-        (
-            "1000 4800 7 present 1 2 -3 4",
-            Bound::At {
-                content: 1,
-                wall: 2,
-            },
-            Bound::At {
-                content: -3,
-                wall: 4,
-            },
-        ),
-        (
-            "1000 4800 7 present -1 minusinfinity 3 plusinfinity",
-            Bound::MinusInfinity { content: -1 },
-            Bound::PlusInfinity { content: 3 },
-        ),
-        (
-            "1000 4800 7 present 0 9223372036854775807 0 plusinfinity",
-            Bound::At {
-                content: 0,
-                wall: 9_223_372_036_854_775_807,
-            },
-            Bound::PlusInfinity { content: 0 },
-        ),
-        (
-            "1000 4800 7 present -999999999999999999 minusinfinity 999999999999999999 9223372036854775807",
-            Bound::MinusInfinity {
-                content: -999_999_999_999_999_999,
-            },
-            Bound::At {
-                content: 999_999_999_999_999_999,
-                wall: 9_223_372_036_854_775_807,
-            },
-        ),
-    ];
-    for (bytes, earliest, latest) in rows {
+    for (bytes, earliest, latest) in PRESENTATIONS {
         let present = Verb::Present { earliest, latest };
         assert_eq!(rt;
             read_line(rt.alloc(), bytes.as_bytes(), 1, 1),
