@@ -95,8 +95,11 @@ fn tell(rt: &impl Print, companion: &Companion) -> io::Result<()>
 }
 
 fn main(rt: HostRuntime) -> ExitCode {
-    match evening(rt.alloc()) {
-        Ok(companion) if tell(&rt, &companion).is_ok() => ExitCode::from(0),
-        _ => ExitCode::from(1),
+    let Ok(companion) = evening(rt.alloc()) else {
+        return ExitCode::from(1);
+    };
+    match tell(&rt, &companion) {
+        Ok(()) => ExitCode::from(0),
+        Err(_) => ExitCode::from(1),
     }
 }
