@@ -1,6 +1,6 @@
 //! Replays of schedules with sessions.
 
-use crate::running::{BYTES, Case, Devices, WHOLE, assert_each, replay_each};
+use crate::running::{Case, Devices, assert_each, replay_each};
 use std::test::Fail;
 
 /// An ordinary evening: the first response is lost, the others land, and viewers pause, seek and resume.
@@ -56,13 +56,15 @@ fn an_evening_is_replayed(rt: HostRuntime) -> Result<(), Fail> {
 
 /// Devices of which a call fails after the evening's line 10, which ends with byte 377.
 const READ_FAULT: Devices<'static> = Devices {
+    piece: 1,
     reads: &[378],
-    ..BYTES
+    writes: &[],
 };
 
 const WRITE_FAULT: Devices<'static> = Devices {
+    piece: 4096,
+    reads: &[],
     writes: &[2],
-    ..WHOLE
 };
 
 /// What is left of the evening then.
