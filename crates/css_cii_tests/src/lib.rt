@@ -2,4 +2,6 @@
 #![tactic(auto)]
 
 #[cfg(test)]
+mod states;
+#[cfg(test)]
 mod tests;

@@ -1,11 +1,6 @@
-ghost use Rattle.std.specs.Prelude.{IfOk};
-ghost use Rattle.css_cii.specs.Texts.{IsUtf8State};
-
-use css_cii::{
-    Change, CiiFault, CiiName, State, Told, apply, diff, full, merge, read_message, write_message,
-};
-use css_num::{Rate, Text, Timeline, Timelines};
-use std::alloc::Global;
+use css_cii::{CiiFault, CiiName, read_message, write_message};
+use css_num::{Memory, Text};
+use std::alloc::{AllocError, Global};
 use std::process::Abort;
 use std::test::Fail;
 
@@ -155,19 +150,25 @@ timelines <- 0"#;
 const GIVEN: &str =
     r#"{"timelineSelector":"urn:x:1","timelineProperties":{"unitsPerTick":1,"unitsPerSecond":50}}"#;
 
-const WRITTEN: &str =
+pub(crate) const WRITTEN: &str =
     r#"{"timelineProperties":{"unitsPerSecond":50,"unitsPerTick":1},"timelineSelector":"urn:x:1"}"#;
 
-/// What comes of a text, as the table has it.
-fn outcome(alloc: Global, text: &[u8]) -> Result<Text, Fail> {
-    let told = match read_message(alloc, text) {
-        Ok(change) => write_message(alloc, &change)?,
-        Err(CiiFault::NotJson) => Text::of(alloc, b"json")?,
-        Err(CiiFault::NotObject) => Text::of(alloc, b"object")?,
-        Err(CiiFault::Field(name)) => Text::of(alloc, name.as_str().as_bytes())?,
-        Err(CiiFault::Memory) => Text::of(alloc, b"memory")?,
-    };
-    Ok(told)
+/// A fault, as the tables have it.
+fn fault_words(fault: CiiFault) -> &'static str {
+    match fault {
+        CiiFault::NotJson => "json",
+        CiiFault::NotObject => "object",
+        CiiFault::Field(name) => name.as_str(),
+        CiiFault::Memory => "memory",
+    }
+}
+
+/// What comes of a text, as the tables have it.
+fn outcome(alloc: Global, text: &[u8]) -> Result<Text, Memory> {
+    match read_message(alloc, text) {
+        Ok(change) => write_message(alloc, &change),
+        Err(fault) => Text::of(alloc, fault_words(fault).as_bytes()),
+    }
 }
 
 fn assert_outcome(rt: &impl Abort, alloc: Global, text: &str, expected: &str) -> Result<(), Fail> {
@@ -199,7 +200,7 @@ fn properties_of_words_have_the_same_forms(rt: HostRuntime) -> Result<(), Fail> 
 }
 
 /// The text with this list of timelines.
-fn text_with(alloc: Global, list: &str, timeline: &str) -> Result<String, Fail> {
+pub(crate) fn text_with(alloc: Global, list: &str, timeline: &str) -> Result<String, Fail> {
     let list = list.replace(alloc, "*", timeline)?;
     Ok(format!(in alloc; "{{\"timelines\":{list}}}")?)
 }
@@ -233,167 +234,33 @@ fn the_greatest_rate_is_read(rt: HostRuntime) -> Result<(), Fail> {
 }
 
 #[test]
-fn long_and_deep_texts_are_read_or_refused(rt: HostRuntime) -> Result<(), Fail> {
-    let alloc = rt.alloc();
-    let words = "1.5 ".repeat(alloc, 1 << 18)?;
-    let text = format!(in alloc; "{{\"mrsUrl\":\"{words}\"}}")?;
-    assert_eq!(rt; outcome(alloc, text.as_bytes())?.bytes(), text.as_bytes());
-    let numeral = "7".repeat(alloc, 400)?;
-    let text = format!(in alloc; "{{\"mrsUrl\":{numeral}}}")?;
-    assert_eq!(rt;
-        outcome(alloc, text.as_bytes())?.bytes(),
-        b"{\"mrsUrl\":null}".as_slice()
-    );
-    let rows: [(usize, &[u8]); 2] = [(126, b"{}"), (127, b"json")];
-    for (arrays, expected) in rows {
-        let open = "[".repeat(alloc, arrays)?;
-        let close = "]".repeat(alloc, arrays)?;
-        let text = format!(in alloc; "{{\"private\":{open}{close}}}")?;
-        assert_eq!(rt;
-            outcome(alloc, text.as_bytes())?.bytes(),
-            expected,
-            "{arrays}"
-        );
+fn long_words_are_read(rt: HostRuntime) -> Result<(), Fail> {
+    let words = "1.5 ".repeat(rt.alloc(), 1 << 18)?;
+    let text = format!(in rt.alloc(); "{{\"mrsUrl\":\"{words}\"}}")?;
+    assert_outcome(&rt, rt.alloc(), text.as_str(), text.as_str())
+}
+
+#[test]
+fn a_long_numeral_is_none(rt: HostRuntime) -> Result<(), Fail> {
+    let numeral = "7".repeat(rt.alloc(), 400)?;
+    let text = format!(in rt.alloc(); "{{\"mrsUrl\":{numeral}}}")?;
+    assert_outcome(&rt, rt.alloc(), text.as_str(), "{\"mrsUrl\":null}")
+}
+
+/// A text with so many arrays in one another.
+fn nested(alloc: Global, arrays: usize) -> Result<String, AllocError> {
+    let open = "[".repeat(alloc, arrays)?;
+    let close = "]".repeat(alloc, arrays)?;
+    format!(in alloc; "{{\"private\":{open}{close}}}")
+}
+
+#[test]
+fn deep_texts_are_read_or_refused(rt: HostRuntime) -> Result<(), Fail> {
+    for (arrays, expected) in [(126, "{}"), (127, "json")] {
+        let text = nested(rt.alloc(), arrays)?;
+        assert_outcome(&rt, rt.alloc(), text.as_str(), expected)?;
     }
     Ok(())
-}
-
-fn some(alloc: Global, words: &str) -> Result<Option<Text>, Fail> {
-    let text = Text::of(alloc, words.as_bytes())?;
-    Ok(Some(text))
-}
-
-fn timelines(
-    alloc: Global,
-    selector: &str,
-    units_per_second: u32,
-) -> Result<Option<Timelines>, Fail> {
-    let rate = Rate::of(1, units_per_second).ok_or("no rate")?;
-    let mut list = Vec::new(alloc);
-    list.push(Timeline {
-        selector: Text::of(alloc, selector.as_bytes())?,
-        rate,
-    })?;
-    Ok(Some(Timelines::of(list)))
-}
-
-/// The state of a television that presents `dvb://1.2.3`.
-fn evening(alloc: Global) -> Result<State, Fail> {
-    Ok(State {
-        protocol_version: some(alloc, "1.1")?,
-        mrs_url: None,
-        content_id: some(alloc, "dvb://1.2.3")?,
-        content_id_status: some(alloc, "final")?,
-        presentation_status: some(alloc, "okay")?,
-        wc_url: some(alloc, "udp://127.0.0.1:6677")?,
-        ts_url: some(alloc, "ws://127.0.0.1:6678/ts")?,
-        te_url: None,
-        timelines: timelines(alloc, "urn:dvb:css:timeline:pts", 90_000)?,
-    })
-}
-
-/// The full text of that state, in lines.
-const FULL: &str =
-    r#"{"contentId":"dvb://1.2.3","contentIdStatus":"final","mrsUrl":null,"presentationStatus":"okay",
-"protocolVersion":"1.1","teUrl":null,"timelines":[{"timelineProperties":{"unitsPerSecond":90000,"unitsPerTick":1},
-"timelineSelector":"urn:dvb:css:timeline:pts"}],"tsUrl":"ws://127.0.0.1:6678/ts","wcUrl":"udp://127.0.0.1:6677"}"#;
-
-/// A text with a rate that tells its accuracy too.
-const ACCURATE: &str = r#"{"timelines":[{"timelineSelector":"urn:x:1",
-"timelineProperties":{"unitsPerTick":1,"unitsPerSecond":50,"accuracy":0.2}}]}"#;
-
-/// The text without its line feeds.
-fn joined(alloc: Global, text: &str) -> Result<String, Fail> {
-    Ok(text.replace(alloc, "\n", "")?)
-}
-
-/// The state after a text.
-fn after(alloc: Global, state: &State, text: &str) -> Result<State, Fail>
-    requires { IsUtf8State state.now }
-    ensures { IfOk result IsUtf8State }
-{
-    match read_message(alloc, text.as_bytes()) {
-        Ok(change) => Ok(apply(state, &change)?),
-        Err(_) => Err("refused".into()),
-    }
-}
-
-#[test]
-fn a_full_state_is_read(rt: HostRuntime) -> Result<(), Fail> {
-    let alloc = rt.alloc();
-    let state = evening(alloc)?;
-    let text = joined(alloc, FULL)?;
-    let told = after(alloc, &State::empty(), text.as_str())?;
-    assert!(rt; told == state);
-    let written = write_message(alloc, &full(&told)?)?;
-    assert_eq!(rt; written.bytes(), text.as_bytes());
-    Ok(())
-}
-
-#[test]
-fn texts_change_what_they_say(rt: HostRuntime) -> Result<(), Fail> {
-    let alloc = rt.alloc();
-    let mut expected = evening(alloc)?;
-    let first = after(alloc, &State::empty(), FULL)?;
-    let second = after(alloc, &first, r#"{"contentId":"dvb://1.2.4"}"#)?;
-    expected.content_id = some(alloc, "dvb://1.2.4")?;
-    assert!(rt; second == expected);
-    let third = after(alloc, &second, r#"{"timelines":null,"private":0.2}"#)?;
-    expected.timelines = None;
-    assert!(rt; third == expected);
-    let fourth = after(alloc, &third, ACCURATE)?;
-    expected.timelines = timelines(alloc, "urn:x:1", 50)?;
-    assert!(rt; fourth == expected);
-    let written = write_message(alloc, &diff(&third, &fourth)?)?;
-    let text = text_with(alloc, "[*]", WRITTEN)?;
-    assert_eq!(rt; written.bytes(), text.as_bytes());
-    Ok(())
-}
-
-#[test]
-fn differences_say_what_differs(rt: HostRuntime) -> Result<(), Fail> {
-    let alloc = rt.alloc();
-    let state = evening(alloc)?;
-    assert!(rt; diff(&state, &state)?.is_empty());
-    assert!(rt; !full(&State::empty())?.is_empty());
-    let mut other = evening(alloc)?;
-    other.ts_url = None;
-    other.mrs_url = some(alloc, "")?;
-    assert!(rt; state.is_same(&state));
-    assert!(rt; !state.is_same(&other));
-    let change = diff(&state, &other)?;
-    assert!(rt; change.is_same(&change));
-    assert!(rt; !change.is_same(&diff(&other, &state)?));
-    assert!(rt; !change.is_same(&full(&other)?));
-    assert_eq!(rt; change.ts_url, Told::Said(None));
-    assert_eq!(rt; change.mrs_url, Told::Said(some(alloc, "")?));
-    assert_eq!(rt; change.wc_url, Told::Unsaid);
-    assert!(rt; apply(&state, &change)? == other);
-    assert!(rt; apply(&other, &full(&state)?)? == state);
-    Ok(())
-}
-
-/// What a session tells that begins with the first state and goes on to the second.
-fn session_of(alloc: Global, first: &State, second: &State) -> Result<Vec<Change>, Fail> {
-    let begun = full(first)?;
-    let changed = diff(first, second)?;
-    Ok(vec![in alloc; begun, changed]?)
-}
-
-fn assert_merged(rt: &impl Abort, changes: &[Change], state: &State) -> Result<(), Fail> {
-    let merged = merge(changes)?;
-    assert!(rt; merged == *state);
-    Ok(())
-}
-
-#[test]
-fn a_session_gives_its_last_state(rt: HostRuntime) -> Result<(), Fail> {
-    let state = evening(rt.alloc())?;
-    let mut later = evening(rt.alloc())?;
-    later.content_id = None;
-    let changes = session_of(rt.alloc(), &state, &later)?;
-    assert_merged(&rt, changes.as_slice(), &later)?;
-    assert_merged(&rt, &[], &State::empty())
 }
 
 #[test]
