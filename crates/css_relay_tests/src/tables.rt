@@ -1,5 +1,6 @@
 use css_client::Local;
 use css_model::WcFault;
+use css_num::Span;
 use css_relay::RelayFault;
 
 pub(crate) const EXACT: Local = Local {
@@ -9,7 +10,7 @@ pub(crate) const EXACT: Local = Local {
 
 /// An answer of the television: when it was asked for and when it landed, in nanoseconds of the relay's clock, and what
 /// it tells, with its times in nanoseconds too.
-#[derive(Clone, Copy, Debug)]
+#[derive(Clone, Copy)]
 pub(crate) struct Told {
     pub(crate) asked: u64,
     pub(crate) landed: u64,
@@ -20,7 +21,7 @@ pub(crate) struct Told {
 }
 
 /// What a response of the relay tells.
-#[derive(Clone, Copy, Debug)]
+#[derive(Clone, Copy)]
 pub(crate) struct Response {
     pub(crate) precision: i8,
     pub(crate) error: u32,
@@ -29,7 +30,7 @@ pub(crate) struct Response {
 }
 
 /// What a relay was told, the readings at which it takes a request and answers it, and the response or the fault.
-#[derive(Clone, Copy, Debug)]
+#[derive(Clone, Copy)]
 pub(crate) struct Row {
     pub(crate) name: &'static str,
     pub(crate) told: &'static [Told],
@@ -65,7 +66,7 @@ const SURE: Told = Told {
 };
 
 /// The television's clock is at the last nanosecond that it can show.
-pub(crate) const LAST: Told = Told {
+const LAST: Told = Told {
     asked: 0,
     landed: 0,
     receive: 4_294_967_295_999_999_999,
@@ -100,7 +101,7 @@ const TOO_WIDE: Told = Told {
     ..WIDEST
 };
 
-pub(crate) const ROWS: [Row; 10] = [
+pub(crate) const ROWS: [Row; 12] = [
     Row {
         name: "both middles",
         told: &[FIRST],
@@ -210,6 +211,26 @@ pub(crate) const ROWS: [Row; 10] = [
             receive: 7800,
             transmit: 7800,
         }),
+    },
+    Row {
+        name: "beyond all readings, so there is no ticket",
+        told: &[LAST],
+        taken: 1000,
+        given: 1000,
+        answer: Err(RelayFault::Beyond(Span {
+            lo: 4_294_967_296_000_000_996,
+            hi: 4_294_967_296_000_001_002,
+        })),
+    },
+    Row {
+        name: "a ticket of before is refused too",
+        told: &[LAST],
+        taken: 3,
+        given: 4,
+        answer: Err(RelayFault::Beyond(Span {
+            lo: 4_294_967_296_000_000_000,
+            hi: 4_294_967_296_000_000_006,
+        })),
     },
 ];
 

@@ -1,27 +1,79 @@
 ghost use Rattle.std.specs.Prelude.{◌≡◌, ◌≤◌, ◌<◌, ◌+◌};
+ghost use Rattle.std.specs.Str.{IsUtf8};
 
-use crate::tables::{EXACT, FIRST, LAST, REFUSED, ROWS, Response, Row, Told};
-use css_cii::write_message;
+use crate::tables::{EXACT, FIRST, REFUSED, ROWS, Response, Row, Told};
+use css_cii::{full, write_message};
 use css_client::{Landing, Local};
 use css_model::{LIMIT, Message, Stamp};
-use css_num::{Span, Text};
-use css_relay::{CompanionConfig, CompanionEvent, Relay, RelayFault};
+use css_num::Text;
+use css_relay::{CompanionConfig, CompanionEvent, Relay, RelayFault, RelayTicket};
 use css_wc::{decode, stamp_of};
 use std::alloc::Global;
 use std::process::Abort;
-use std::test::Fail;
+
+fn text(rt: &impl Abort, alloc: Global, words: &str) -> Text
+    ensures { IsUtf8 result }
+{
+    Text::of(alloc, words.as_bytes()).expect(rt, "no memory")
+}
 
 /// A relay of a timeline's television, at port 6690 of a host.
 pub(crate) fn new_relay(rt: &impl Abort, alloc: Global, local: Local) -> Relay
     ensures { result.companion.client.floor ≡ 0 }
 {
     let config = CompanionConfig {
-        selector: Text::of(alloc, b"urn:dvb:css:timeline:pts").expect(rt, "no memory"),
-        stem: Text::of(alloc, b"").expect(rt, "no memory"),
+        selector: text(rt, alloc, "urn:dvb:css:timeline:pts"),
+        stem: text(rt, alloc, ""),
         local,
     };
-    let host = Text::of(alloc, b"10.0.0.2").expect(rt, "no memory");
+    let host = text(rt, alloc, "10.0.0.2");
     Relay::new(alloc, config, &host, 6690).expect(rt, "no memory")
+}
+
+/// The request of a relay at this reading.
+pub(crate) fn ask(relay: &mut Relay, reading: u64) -> [u8; 32]
+    requires range { reading < LIMIT }
+    requires floor { relay.old.companion.client.floor ≤ reading }
+    ensures floor { relay.new.companion.client.floor ≤ reading }
+{
+    relay.ask(reading)
+}
+
+/// An answer lands at this reading.
+pub(crate) fn land(
+    rt: &impl Abort,
+    relay: &mut Relay,
+    bytes: &[u8; 32],
+    reading: u64,
+    wanted: Landing,
+)
+    requires range { reading < LIMIT }
+    requires floor { relay.old.companion.client.floor ≤ reading }
+    ensures floor { relay.new.companion.client.floor ≤ reading }
+{
+    let landing = relay.land(bytes, reading).expect(rt, "no memory");
+    assert_eq!(rt; landing, wanted);
+}
+
+/// The relay takes a request.
+pub(crate) fn take(rt: &impl Abort, relay: &Relay, bytes: &[u8; 32], reading: u64) -> RelayTicket
+    requires range { reading < LIMIT }
+    requires floor { relay.now.companion.client.floor ≤ reading }
+{
+    relay.receive(bytes, reading).expect(rt, "a ticket")
+}
+
+/// The relay answers it.
+pub(crate) fn give(rt: &impl Abort, relay: &Relay, ticket: RelayTicket, reading: u64) -> [u8; 32]
+    requires range { reading < LIMIT }
+    requires floor { relay.now.companion.client.floor ≤ reading }
+{
+    relay.answer(ticket, reading).expect(rt, "an answer")
+}
+
+/// What a datagram says.
+pub(crate) fn read(rt: &impl Abort, bytes: &[u8; 32]) -> Message {
+    decode(bytes).expect(rt, "a message")
 }
 
 fn write_stamp(bytes: &mut [u8; 32], at: usize, stamp: Stamp)
@@ -63,24 +115,28 @@ pub(crate) fn request(originate: Stamp) -> [u8; 32] {
     })
 }
 
+/// The television's answer to a request.
+fn answer_to(rt: &impl Abort, request: &[u8; 32], told: &Told) -> [u8; 32] {
+    assert!(rt; told.receive < LIMIT && told.transmit < LIMIT);
+    datagram(&Message {
+        message_type: 1,
+        precision: told.precision,
+        error: told.error,
+        originate: read(rt, request).originate,
+        receive: stamp_of(told.receive),
+        transmit: stamp_of(told.transmit),
+    })
+}
+
 /// The relay asks, and the answer lands.
 fn hear(rt: &impl Abort, relay: &mut Relay, told: &Told)
     requires asked { relay.old.companion.client.floor ≤ told.now.asked }
     ensures landed { relay.new.companion.client.floor ≤ told.now.landed }
 {
     assert!(rt; told.asked <= told.landed && told.landed < LIMIT);
-    assert!(rt; told.receive < LIMIT && told.transmit < LIMIT);
-    let asked = decode(&relay.ask(told.asked)).expect(rt, "a request");
-    let answer = datagram(&Message {
-        message_type: 1,
-        precision: told.precision,
-        error: told.error,
-        originate: asked.originate,
-        receive: stamp_of(told.receive),
-        transmit: stamp_of(told.transmit),
-    });
-    let landing = relay.land(&answer, told.landed).expect(rt, "no memory");
-    assert_eq!(rt; landing, Landing::Accepted);
+    let request = ask(relay, told.asked);
+    let answer = answer_to(rt, &request, told);
+    land(rt, relay, &answer, told.landed, Landing::Accepted);
 }
 
 /// A relay that was told these answers, before this reading.
@@ -145,6 +201,14 @@ fn each_row_is_answered(rt: HostRuntime) {
     }
 }
 
+/// The response to a request with the originate value 42, taken at 1600 and answered at 1700.
+const RESPONSE: [u8; 32] = [
+    0, 1, 0xea, 0, 0, 0, 0, 0, //
+    0, 0, 0, 0, 0, 0, 0, 0x2a, //
+    0, 0, 0, 0, 0, 0, 0x15, 0x18, //
+    0, 0, 0, 0, 0, 0, 0x15, 0x7c,
+];
+
 #[test]
 fn a_response_has_these_bytes(rt: HostRuntime) {
     let relay = told(&rt, rt.alloc(), &[FIRST], 1600);
@@ -152,35 +216,8 @@ fn a_response_has_these_bytes(rt: HostRuntime) {
         seconds: 0,
         nanoseconds: 42,
     };
-    assert_eq!(rt;
-        serve(&relay, &request(originate), 1600, 1700),
-        Ok([
-            0, 1, 0xea, 0, 0, 0, 0, 0, //
-            0, 0, 0, 0, 0, 0, 0, 0x2a, //
-            0, 0, 0, 0, 0, 0, 0x15, 0x18, //
-            0, 0, 0, 0, 0, 0, 0x15, 0x7c,
-        ])
-    );
-}
-
-/// The fault of a span.
-fn beyond(lo: i128, hi: i128) -> Option<RelayFault> {
-    if lo <= hi {
-        Some(RelayFault::Beyond(Span { lo, hi }))
-    } else {
-        None
-    }
-}
-
-#[test]
-fn a_span_beyond_all_readings_gives_no_ticket(rt: HostRuntime) {
-    let relay = told(&rt, rt.alloc(), &[LAST], 0);
-    let fault = beyond(4_294_967_296_000_000_996, 4_294_967_296_000_001_002);
-    let bytes = request(ORIGINATE);
-    assert_eq!(rt; serve(&relay, &bytes, 1000, 1000).err(), fault);
-    // A ticket of before is refused too.
-    let fault = beyond(4_294_967_296_000_000_000, 4_294_967_296_000_000_006);
-    assert_eq!(rt; serve(&relay, &bytes, 3, 4).err(), fault);
+    let served = serve(&relay, &request(originate), 1600, 1700);
+    assert_eq!(rt; served, Ok(RESPONSE));
 }
 
 /// So many zeros, with these first two bytes.
@@ -208,6 +245,15 @@ fn what_is_no_request_is_refused(rt: HostRuntime) {
     assert_refuses(&rt, &told(&rt, rt.alloc(), &[], 1600));
 }
 
+/// A response tells this precision, and this time of its sending.
+fn assert_tells(rt: &impl Abort, bytes: &[u8; 32], precision: i8, transmit: u64)
+    requires { transmit < LIMIT }
+{
+    let message = read(rt, bytes);
+    assert_eq!(rt; message.precision, precision);
+    assert_eq!(rt; message.transmit, stamp_of(transmit));
+}
+
 #[test]
 fn the_wider_of_both_spans_is_declared(rt: HostRuntime) {
     // The request is taken by the answer that is wider, and answered by the narrower one.
@@ -217,9 +263,7 @@ fn the_wider_of_both_spans_is_declared(rt: HostRuntime) {
         ..FIRST
     };
     let mut relay = told(&rt, rt.alloc(), &[wide], 900_000);
-    let ticket = relay
-        .receive(&request(ORIGINATE), 900_000)
-        .expect(&rt, "a ticket");
+    let ticket = take(&rt, &relay, &request(ORIGINATE), 900_000);
     let narrow = Told {
         asked: 900_000,
         landed: 900_000,
@@ -227,39 +271,43 @@ fn the_wider_of_both_spans_is_declared(rt: HostRuntime) {
         ..FIRST
     };
     hear(&rt, &mut relay, &narrow);
-    let bytes = relay.answer(ticket, 900_000).expect(&rt, "an answer");
-    let message = decode(&bytes).expect(&rt, "a response");
-    assert_eq!(rt; message.precision, -11);
-    assert_eq!(rt; message.transmit, stamp_of(5200));
-    let again = serve(&relay, &request(ORIGINATE), 900_000, 900_000).expect(&rt, "an answer");
-    assert_eq!(rt; decode(&again).expect(&rt, "a response").precision, -28);
+    assert_tells(&rt, &give(&rt, &relay, ticket, 900_000), -11, 5200);
+    let ticket = take(&rt, &relay, &request(ORIGINATE), 900_000);
+    assert_tells(&rt, &give(&rt, &relay, ticket, 900_000), -28, 5200);
+}
+
+/// A relay without an answer gives none.
+fn assert_unanswered(rt: &impl Abort, relay: &Relay, reading: u64)
+    requires range { reading < LIMIT }
+    requires floor { relay.now.companion.client.floor ≤ reading }
+{
+    let served = serve(relay, &request(ORIGINATE), reading, reading);
+    assert_eq!(rt; served, Err(RelayFault::NoAnswer));
+}
+
+/// The relay's machine sleeps.
+fn sleep(relay: &mut Relay)
+    ensures { relay.new.companion.client.floor ≤ relay.old.companion.client.floor + 1 }
+{
+    relay.slept();
 }
 
 #[test]
 fn a_relay_that_slept_knows_nothing(rt: HostRuntime) {
     let mut relay = told(&rt, rt.alloc(), &[FIRST], 1600);
-    relay.slept();
-    let bytes = request(ORIGINATE);
-    assert_eq!(rt;
-        serve(&relay, &bytes, 1700, 1700),
-        Err(RelayFault::NoAnswer)
-    );
+    sleep(&mut relay);
+    assert_unanswered(&rt, &relay, 1700);
     assert_eq!(rt; relay.wall(1700), None);
 }
 
 #[test]
 fn an_answer_of_a_stranger_tells_nothing(rt: HostRuntime) {
     let mut relay = told(&rt, rt.alloc(), &[], 0);
-    let _ = relay.ask(1000);
+    let _ = ask(&mut relay, 1000);
     let mut answer = request(ORIGINATE);
     answer[1] = 1;
-    let landing = relay.land(&answer, 1600).expect(&rt, "no memory");
-    assert_eq!(rt; landing, Landing::Unasked);
-    let bytes = request(ORIGINATE);
-    assert_eq!(rt;
-        serve(&relay, &bytes, 1600, 1600),
-        Err(RelayFault::NoAnswer)
-    );
+    land(&rt, &mut relay, &answer, 1600, Landing::Unasked);
+    assert_unanswered(&rt, &relay, 1600);
 }
 
 /// The text of the state that a relay tells after these CII texts, and the television's own address.
@@ -292,20 +340,39 @@ const STATES: [(&[&str], &str, Option<&str>); 4] = [
     ),
 ];
 
-#[test]
-fn the_relay_tells_its_own_address(rt: HostRuntime) -> Result<(), Fail> {
-    let alloc = rt.alloc();
-    for (texts, told, address) in STATES {
-        let mut relay = new_relay(&rt, alloc, EXACT);
-        for text in texts {
-            let text = Text::of(alloc, text.as_bytes())?;
-            let owed = relay.step(CompanionEvent::CiiText(text))?;
-            assert_eq!(rt; owed.is_none(), true);
-        }
-        let written = write_message(alloc, &css_cii::full(&relay.relayed()?)?)?;
-        assert_eq!(rt; written.bytes(), told.as_bytes());
-        let own = relay.state().wc_url.as_ref().map(|url| url.bytes());
-        assert_eq!(rt; own, address.map(|url| url.as_bytes()));
+/// The relay is told a CII text.
+fn tell(rt: &impl Abort, alloc: Global, relay: &mut Relay, words: &str) {
+    let owed = relay
+        .step(CompanionEvent::CiiText(text(rt, alloc, words)))
+        .expect(rt, "no fault");
+    assert!(rt; owed.is_none());
+}
+
+/// The text of the state that it tells its companions.
+fn relayed_text(rt: &impl Abort, alloc: Global, relay: &Relay) -> Text {
+    let state = relay.relayed().expect(rt, "no memory");
+    let change = full(&state).expect(rt, "no memory");
+    write_message(alloc, &change).expect(rt, "no memory")
+}
+
+/// The address of the television's wall clock that it knows.
+fn television_of(relay: &Relay) -> Option<&[u8]> {
+    relay.state().wc_url.as_ref().map(|url| url.bytes())
+}
+
+fn assert_state(rt: &impl Abort, alloc: Global, texts: &[&str], told: &str, address: Option<&str>) {
+    let mut relay = new_relay(rt, alloc, EXACT);
+    for text in texts {
+        tell(rt, alloc, &mut relay, text);
     }
-    Ok(())
+    let written = relayed_text(rt, alloc, &relay);
+    assert_eq!(rt; written.bytes(), told.as_bytes());
+    assert_eq!(rt; television_of(&relay), address.map(|url| url.as_bytes()));
+}
+
+#[test]
+fn the_relay_tells_its_own_address(rt: HostRuntime) {
+    for (texts, told, address) in STATES {
+        assert_state(&rt, rt.alloc(), texts, told, address);
+    }
 }

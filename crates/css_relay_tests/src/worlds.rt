@@ -1,11 +1,11 @@
 //! Worlds with three clocks, those of a television, of its relay, and of a companion that asks the relay.
 ghost use Rattle.std.specs.Prelude.{◌≤◌, ◌<◌};
 
-use crate::tests::{datagram, new_relay};
+use crate::tests::{ask, datagram, give, land, new_relay, read, take};
 use css_client::{Client, Landing, Local};
 use css_model::{F, LIMIT, Message};
 use css_relay::Relay;
-use css_wc::{decode, precision_ns, reading, stamp_of};
+use css_wc::{precision_ns, reading, stamp_of};
 use rand_core::SeedableRng;
 use rand_core::utils::NextWord;
 use rand_pcg::Lcg64Xsh32;
@@ -122,36 +122,40 @@ fn is_within(distance: u64, one: u64, other: u64) -> bool {
     one.abs_diff(other) <= distance
 }
 
+/// The television's answer to a request. Some time passes before each of its steps, and behind the last.
+fn answer_of(rt: &impl Abort, house: &mut House, request: &[u8; 32]) -> [u8; 32] {
+    house.pass();
+    let receive = stamp_of(house.told_wall(rt));
+    house.pass();
+    let transmit = stamp_of(house.told_wall(rt));
+    house.pass();
+    datagram(&Message {
+        message_type: 1,
+        precision: -30,
+        error: house.television.error,
+        originate: read(rt, request).originate,
+        receive,
+        transmit,
+    })
+}
+
 /// The relay asks the television, which answers. The reading at the landing.
 fn ask_television(rt: &impl Abort, house: &mut House, relay: &mut Relay, floor: u64) -> u64
     requires { relay.old.companion.client.floor ≤ floor }
     ensures floor { relay.new.companion.client.floor ≤ result }
 {
     let asked = next(rt, floor, house.relay.at(rt, house.time));
-    let request = decode(&relay.ask(asked)).expect(rt, "a request");
-    house.pass();
-    let receive = stamp_of(house.told_wall(rt));
-    house.pass();
-    let transmit = stamp_of(house.told_wall(rt));
-    house.pass();
-    let answer = datagram(&Message {
-        message_type: 1,
-        precision: -30,
-        error: house.television.error,
-        originate: request.originate,
-        receive,
-        transmit,
-    });
+    let request = ask(relay, asked);
+    let answer = answer_of(rt, house, &request);
     let landed = next(rt, asked, house.relay.at(rt, house.time));
-    let landing = relay.land(&answer, landed).expect(rt, "no memory");
-    assert_eq!(rt; landing, Landing::Accepted);
+    land(rt, relay, &answer, landed, Landing::Accepted);
     landed
 }
 
 /// The values read the wall clock at these two moments within the precision, and the error is no less than the
 /// television's.
 fn assert_true(rt: &impl Abort, house: &House, answer: &[u8; 32], walls: (u64, u64)) {
-    let message = decode(answer).expect(rt, "a response");
+    let message = read(rt, answer);
     assert!(rt; message.precision <= 30);
     assert!(rt; message.receive.nanoseconds < 1_000_000_000);
     assert!(rt; message.transmit.nanoseconds < 1_000_000_000);
@@ -159,6 +163,46 @@ fn assert_true(rt: &impl Abort, house: &House, answer: &[u8; 32], walls: (u64, u
     assert!(rt; is_within(precision, reading(message.receive), walls.0));
     assert!(rt; is_within(precision, reading(message.transmit), walls.1));
     assert!(rt; message.error >= house.television.error);
+}
+
+/// The relay takes a request and answers it, and what it says is true. The answer, and the reading at it.
+fn serve_truly(
+    rt: &impl Abort,
+    house: &mut House,
+    relay: &Relay,
+    request: &[u8; 32],
+    floor: u64,
+) -> ([u8; 32], u64)
+    requires { relay.now.companion.client.floor ≤ floor }
+    ensures { relay.now.companion.client.floor ≤ result.1 }
+{
+    let taken = next(rt, floor, house.relay.at(rt, house.time));
+    let taken_wall = house.wall(rt);
+    let ticket = take(rt, relay, request, taken);
+    house.pass();
+    let given = next(rt, taken, house.relay.at(rt, house.time));
+    let answer = give(rt, relay, ticket, given);
+    assert_true(rt, house, &answer, (taken_wall, house.wall(rt)));
+    (answer, given)
+}
+
+/// The request of the second companion at this reading.
+fn ask_as_second(second: &mut Client, reading: u64) -> [u8; 32]
+    requires range { reading < LIMIT }
+    requires floor { second.old.floor ≤ reading }
+    ensures floor { second.new.floor ≤ reading }
+{
+    second.ask(reading)
+}
+
+/// The relay's answer lands at the second companion.
+fn land_at_second(rt: &impl Abort, second: &mut Client, answer: &[u8; 32], reading: u64)
+    requires range { reading < LIMIT }
+    requires floor { second.old.floor ≤ reading }
+    ensures floor { second.new.floor ≤ reading }
+{
+    let landing = second.land(answer, reading).expect(rt, "no memory");
+    assert_eq!(rt; landing, Landing::Accepted);
 }
 
 /// The second companion asks the relay, which answers. The readings of both at the end.
@@ -175,19 +219,12 @@ fn ask_relay(
     ensures second { second.new.floor ≤ result.1 }
 {
     let asked = next(rt, floors.1, house.second.at(rt, house.time));
-    let request = second.ask(asked);
+    let request = ask_as_second(second, asked);
     house.pass();
-    let taken = next(rt, floors.0, house.relay.at(rt, house.time));
-    let taken_wall = house.wall(rt);
-    let ticket = relay.receive(&request, taken).expect(rt, "a ticket");
-    house.pass();
-    let given = next(rt, taken, house.relay.at(rt, house.time));
-    let answer = relay.answer(ticket, given).expect(rt, "an answer");
-    assert_true(rt, house, &answer, (taken_wall, house.wall(rt)));
+    let (answer, given) = serve_truly(rt, house, relay, &request, floors.0);
     house.pass();
     let landed = next(rt, asked, house.second.at(rt, house.time));
-    let landing = second.land(&answer, landed).expect(rt, "no memory");
-    assert_eq!(rt; landing, Landing::Accepted);
+    land_at_second(rt, second, &answer, landed);
     (given, landed)
 }
 
