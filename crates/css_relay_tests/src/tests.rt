@@ -202,12 +202,8 @@ fn each_row_is_answered(rt: HostRuntime) {
 }
 
 /// The response to a request with the originate value 42, taken at 1600 and answered at 1700.
-const RESPONSE: [u8; 32] = [
-    0, 1, 0xea, 0, 0, 0, 0, 0, //
-    0, 0, 0, 0, 0, 0, 0, 0x2a, //
-    0, 0, 0, 0, 0, 0, 0x15, 0x18, //
-    0, 0, 0, 0, 0, 0, 0x15, 0x7c,
-];
+const RESPONSE: &[u8] =
+    b"\0\x01\xea\0\0\0\0\0\0\0\0\0\0\0\0\x2a\0\0\0\0\0\0\x15\x18\0\0\0\0\0\0\x15\x7c";
 
 #[test]
 fn a_response_has_these_bytes(rt: HostRuntime) {
@@ -216,8 +212,8 @@ fn a_response_has_these_bytes(rt: HostRuntime) {
         seconds: 0,
         nanoseconds: 42,
     };
-    let served = serve(&relay, &request(originate), 1600, 1700);
-    assert_eq!(rt; served, Ok(RESPONSE));
+    let served = serve(&relay, &request(originate), 1600, 1700).expect(&rt, "a response");
+    assert_eq!(rt; served.as_slice(), RESPONSE);
 }
 
 /// So many zeros, with these first two bytes.
