@@ -10,7 +10,7 @@ use crate::tables::{
 use css_app::{Status, tell};
 use css_drive::{Before, Nobody};
 use css_follow::{Cues, Meter};
-use css_num::Text;
+use css_num::{Memory, Text};
 use css_outside::{
     Clocked, Datagram, Heard, MemoryOutside, MemorySink, MemorySource, MemorySpawner,
     NeverFailsOutside, NeverFailsSink, NeverFailsSource, NeverFailsSpawner, OutsideScript,
@@ -18,7 +18,6 @@ use css_outside::{
 };
 use std::alloc::Global;
 use std::process::Abort;
-use std::test::Fail;
 
 /// Those who follow a run.
 type Followers = Before<Cues, Before<Meter, Nobody>>;
@@ -53,7 +52,7 @@ fn asleep(reading: u64) -> Clocked
 }
 
 /// What the clock reads.
-fn readings_of(alloc: Global, times: Times) -> Result<Vec<Clocked>, Fail>
+fn readings_of(alloc: Global, times: Times) -> Result<Vec<Clocked>, Memory>
     ensures { IfOk result (λ readings. IsTrue (are_readings 0 readings.items)) }
 {
     match times {
@@ -98,14 +97,14 @@ fn readings_of(alloc: Global, times: Times) -> Result<Vec<Clocked>, Fail>
     }
 }
 
-fn heard_of(alloc: Global, said: &Said) -> Result<Heard, Fail> {
+fn heard_of(alloc: Global, said: &Said) -> Result<Heard, Memory> {
     match said {
         Said::Text(words) => Ok(Heard::Text(Text::of(alloc, words.as_bytes())?)),
         Said::Closed => Ok(Heard::Closed),
     }
 }
 
-fn texts_of(alloc: Global, rows: &[(u32, Said)]) -> Result<Vec<SessionHeard>, Fail> {
+fn texts_of(alloc: Global, rows: &[(u32, Said)]) -> Result<Vec<SessionHeard>, Memory> {
     let mut texts = Vec::new(alloc);
     for (session, said) in rows {
         texts.push(SessionHeard {
@@ -116,7 +115,7 @@ fn texts_of(alloc: Global, rows: &[(u32, Said)]) -> Result<Vec<SessionHeard>, Fa
     Ok(texts)
 }
 
-fn datagrams_of(alloc: Global, rows: &[&[u8]]) -> Result<Vec<Option<Datagram>>, Fail> {
+fn datagrams_of(alloc: Global, rows: &[&[u8]]) -> Result<Vec<Option<Datagram>>, Memory> {
     let mut datagrams = Vec::new(alloc);
     for bytes in rows {
         datagrams.push(Some(Datagram {
@@ -127,7 +126,7 @@ fn datagrams_of(alloc: Global, rows: &[&[u8]]) -> Result<Vec<Option<Datagram>>, 
     Ok(datagrams)
 }
 
-pub fn script_of(alloc: Global, case: &Case, fails: Vec<u64>) -> Result<OutsideScript, Fail>
+pub fn script_of(alloc: Global, case: &Case, fails: Vec<u64>) -> Result<OutsideScript, Memory>
     ensures readings { IfOk result (λ script. IsTrue (are_readings 0 script.readings.items)) }
     ensures openings { IfOk result (λ script. script.openings.items ≡ []) }
     ensures fails { IfOk result (λ script. script.fails ≡ fails) }
@@ -142,19 +141,30 @@ pub fn script_of(alloc: Global, case: &Case, fails: Vec<u64>) -> Result<OutsideS
     })
 }
 
+fn source_of(rt: &impl Abort, alloc: Global, case: &Case) -> MemorySource {
+    MemorySource::new(alloc, case.input.as_bytes(), 4096, case.source_fails).expect(rt, "no memory")
+}
+
+fn sink_of(rt: &impl Abort, alloc: Global, fails: &[u64]) -> MemorySink {
+    MemorySink::new(alloc, 4096, fails).expect(rt, "no memory")
+}
+
+fn outside_of(rt: &impl Abort, alloc: Global, case: &Case, fails: &[u64]) -> MemoryOutside {
+    let fails = fails.to_vec(alloc).expect(rt, "no memory");
+    let script = script_of(alloc, case, fails).expect(rt, "no memory");
+    MemoryOutside::new(alloc, script).expect(rt, "no memory")
+}
+
+fn spawner_of(rt: &impl Abort, alloc: Global, case: &Case) -> MemorySpawner {
+    MemorySpawner::new(alloc, case.children, case.spawner_fails).expect(rt, "no memory")
+}
+
 /// A status is told by this line.
-fn assert_told(
-    rt: &impl Abort,
-    alloc: Global,
-    case: &Case,
-    status: &Status,
-    told: &str,
-) -> Result<(), Fail> {
-    let mut errors = MemorySink::new(alloc, 4096, &[])?;
+fn assert_told(rt: &impl Abort, alloc: Global, case: &Case, status: &Status, told: &str) {
+    let mut errors = sink_of(rt, alloc, &[]);
     let ending = tell(alloc, status, &mut errors);
     assert_eq!(rt; ending.number == 0, told.is_empty(), "{}", case.name);
     assert_eq!(rt; errors.bytes(), told.as_bytes(), "{}", case.name);
-    Ok(())
 }
 
 /// Makes a run in which these calls of the outside fail.
@@ -165,12 +175,11 @@ fn assert_run(
     fails: &[u64],
     told: &str,
     written: &str,
-) -> Result<(), Fail> {
-    let mut source = MemorySource::new(alloc, case.input.as_bytes(), 4096, case.source_fails)?;
-    let mut sink = MemorySink::new(alloc, 4096, case.sink_fails)?;
-    let script = script_of(alloc, case, fails.to_vec(alloc)?)?;
-    let mut outside = MemoryOutside::new(alloc, script)?;
-    let mut spawner = MemorySpawner::new(alloc, case.children, case.spawner_fails)?;
+) {
+    let mut source = source_of(rt, alloc, case);
+    let mut sink = sink_of(rt, alloc, case.sink_fails);
+    let mut outside = outside_of(rt, alloc, case, fails);
+    let mut spawner = spawner_of(rt, alloc, case);
     let mut followers = followers_of(alloc);
     let status = ended(
         alloc,
@@ -180,58 +189,64 @@ fn assert_run(
         &mut outside,
         &mut spawner,
         &mut followers,
-    )?;
+    )
+    .expect(rt, "no memory");
     assert_eq!(rt; sink.bytes(), written.as_bytes(), "{}", case.name);
-    assert_told(rt, alloc, case, &status, told)
+    assert_told(rt, alloc, case, &status, told);
 }
 
-fn assert_each(rt: &impl Abort, alloc: Global, cases: &[Case]) -> Result<(), Fail> {
+fn assert_each(rt: &impl Abort, alloc: Global, cases: &[Case]) {
     for case in cases {
-        assert_run(rt, alloc, case, case.fails, case.told, case.written)?;
+        assert_run(rt, alloc, case, case.fails, case.told, case.written);
     }
-    Ok(())
 }
 
 #[test]
-fn each_companion_ends_as_it_should(rt: HostRuntime) -> Result<(), Fail> {
-    assert_each(&rt, rt.alloc(), COMPANIONS)
+fn each_companion_ends_as_it_should(rt: HostRuntime) {
+    assert_each(&rt, rt.alloc(), COMPANIONS);
 }
 
 #[test]
-fn each_changed_input_is_told(rt: HostRuntime) -> Result<(), Fail> {
-    assert_each(&rt, rt.alloc(), CHANGED)
+fn each_changed_input_is_told(rt: HostRuntime) {
+    assert_each(&rt, rt.alloc(), CHANGED);
 }
 
 #[test]
-fn no_answer_outlasts_a_sleep(rt: HostRuntime) -> Result<(), Fail> {
-    assert_each(&rt, rt.alloc(), SLEPT)
+fn no_answer_outlasts_a_sleep(rt: HostRuntime) {
+    assert_each(&rt, rt.alloc(), SLEPT);
 }
 
 #[test]
-fn each_television_ends_as_it_should(rt: HostRuntime) -> Result<(), Fail> {
-    assert_each(&rt, rt.alloc(), TELEVISIONS)
+fn each_television_ends_as_it_should(rt: HostRuntime) {
+    assert_each(&rt, rt.alloc(), TELEVISIONS);
 }
 
 #[test]
-fn each_pair_ends_as_it_should(rt: HostRuntime) -> Result<(), Fail> {
-    assert_each(&rt, rt.alloc(), PAIRS)
+fn each_pair_ends_as_it_should(rt: HostRuntime) {
+    assert_each(&rt, rt.alloc(), PAIRS);
 }
 
 #[test]
-fn each_call_of_a_pair_fails_once(rt: HostRuntime) -> Result<(), Fail> {
+fn each_call_of_a_pair_fails_once(rt: HostRuntime) {
     for (call, told, written) in FAILING {
-        assert_run(&rt, rt.alloc(), &TWO_BESIDE, &[*call], told, written)?;
+        assert_run(&rt, rt.alloc(), &TWO_BESIDE, &[*call], told, written);
     }
-    Ok(())
+}
+
+fn steady_outside(rt: &impl Abort, alloc: Global, case: &Case) -> NeverFailsOutside {
+    let script = script_of(alloc, case, Vec::new(alloc)).expect(rt, "no memory");
+    NeverFailsOutside::new(alloc, script).expect(rt, "no memory")
 }
 
 /// Makes a run over the devices that never fail.
-fn assert_never_fails(rt: &impl Abort, alloc: Global, case: &Case) -> Result<(), Fail> {
-    let mut source = NeverFailsSource::new(alloc, case.input.as_bytes(), 4096)?;
-    let mut sink = NeverFailsSink::new(alloc, 4096)?;
-    let script = script_of(alloc, case, Vec::new(alloc))?;
-    let mut outside = NeverFailsOutside::new(alloc, script)?;
-    let mut spawner = NeverFailsSpawner::new(alloc, case.children)?;
+fn assert_never_fails(rt: &impl Abort, alloc: Global, case: &Case) {
+    let mut source = NeverFailsSource::new(alloc, case.input.as_bytes(), 4096).expect(
+        rt,
+        "no memory",
+    );
+    let mut sink = NeverFailsSink::new(alloc, 4096).expect(rt, "no memory");
+    let mut outside = steady_outside(rt, alloc, case);
+    let mut spawner = NeverFailsSpawner::new(alloc, case.children).expect(rt, "no memory");
     let mut followers = followers_of(alloc);
     let status = ended(
         alloc,
@@ -241,15 +256,15 @@ fn assert_never_fails(rt: &impl Abort, alloc: Global, case: &Case) -> Result<(),
         &mut outside,
         &mut spawner,
         &mut followers,
-    )?;
+    )
+    .expect(rt, "no memory");
     assert_eq!(rt; sink.bytes(), case.written.as_bytes(), "{}", case.name);
-    assert_told(rt, alloc, case, &status, case.told)
+    assert_told(rt, alloc, case, &status, case.told);
 }
 
 #[test]
-fn devices_that_never_fail_give_the_same(rt: HostRuntime) -> Result<(), Fail> {
+fn devices_that_never_fail_give_the_same(rt: HostRuntime) {
     for case in NEVER_FAILING {
-        assert_never_fails(&rt, rt.alloc(), case)?;
+        assert_never_fails(&rt, rt.alloc(), case);
     }
-    Ok(())
 }
