@@ -5,7 +5,7 @@ use Rattle.css_model.specs.History.{Address, History}
 use Rattle.css_follow.specs.Following.{Plan}
 use Rattle.css_follow.specs.declared.sheet.Sheet.{Sheet}
 use Rattle.css_drive.specs.declared.config.DriveConfig.{DriveConfig}
-use Rattle.css_words.specs.Commands.{Asked, Replay, Agree, Companion, Tv, Pair, Generate, Survey, command_in}
+use Rattle.css_words.specs.Commands.{Asked, Replay, Agree, Companion, Tv, Pair, Relay, Generate, Survey, command_in}
 use Rattle.css_words.specs.Companion.{CompanionAsked, OptionsAsked}
 use Rattle.css_words.specs.Pair.{PairAsked}
 use Rattle.css_words.specs.declared.fault.WordsFault.{WordsFault}
@@ -21,6 +21,7 @@ use Rattle.css_app.specs.Live.{Companions, EndsAsDue, Stage}
 use Rattle.css_app.specs.Pairs.{Children, Pairs, PairsAsDue, PairsByScript, address_at}
 use Rattle.css_app.specs.Generated.{schedule_text}
 use Rattle.css_app.specs.Surveyed.{survey_text}
+use Rattle.css_app.proofs.Relays.{relays_no_usage}
 use Rattle.css_app.proofs.Quiet.{companions_no_child, pairs_no_usage, script_no_dial, serves_no_dial, sheet_no_child}
 use Rattle.css_app.proofs.Quiet.{writes_no_usage}
 
@@ -98,6 +99,8 @@ usage_only (Ok (Tv asked)) source sink outside spawner followers result did is =
 usage_only (Ok (Pair asked)) source sink outside spawner followers result did is =
     absurd (subst IsNoUsage is (pairs_by_no_usage asked followers.takes source (stage_before sink outside followers)
     (stage_after sink outside followers) spawner.children_old spawner.children_new result did.ran))
+usage_only (Ok (Relay asked)) source sink outside spawner followers result did is =
+    absurd (subst IsNoUsage is (relays_no_usage asked outside.told_old outside.told_new result did.ran))
 usage_only (Ok (Generate asked)) source sink outside spawner followers result did is =
     absurd (subst IsNoUsage is (writes_no_usage (schedule_text asked.seed asked.lines) sink.holds_old sink.holds_new
     result did.writes))

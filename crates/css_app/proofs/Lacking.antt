@@ -11,7 +11,7 @@ use Rattle.css_follow.specs.Following.{Plan}
 use Rattle.css_follow.specs.declared.sheet.Sheet.{Sheet}
 use Rattle.css_drive.specs.Listening.{Listener}
 use Rattle.css_agree.specs.Agreeing.{agreeing}
-use Rattle.css_words.specs.Commands.{Asked, Replay, Agree, Companion, Tv, Pair, Generate, Survey}
+use Rattle.css_words.specs.Commands.{Asked, Replay, Agree, Companion, Tv, Pair, Relay, Generate, Survey}
 use Rattle.css_words.specs.declared.fault.WordsFault.{WordsFault}
 use Rattle.css_words.specs.declared.fault.WordsFault.TheVariants as words
 use Rattle.css_app.specs.declared.status.Status.TheVariants as status
@@ -115,6 +115,10 @@ lacks (Ok (Tv asked)) left holds told kids takes heard r w c s = record {
 lacks (Ok (Pair asked)) left holds told kids takes heard r w c s = record {
   ran = inl (record { untouched = refl; children = refl; cause = tt });
   complete = λ bytes script is ok read written called spawned. inl refl;
+}
+lacks (Ok (Relay asked)) left holds told kids takes heard r w c s = record {
+  ran = inl (record { untouched = refl; lacks = refl });
+  complete = λ called. inl refl;
 }
 lacks (Ok (Generate asked)) left holds told kids takes heard r w c s =
     writing_lacks (schedule_text asked.seed asked.lines) holds w

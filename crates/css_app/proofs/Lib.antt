@@ -22,4 +22,5 @@ pub mod Pairs
 pub mod TvEnds
 pub mod Quiet
 pub mod Lacking
+pub mod Relays
 pub mod Commands

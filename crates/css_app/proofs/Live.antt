@@ -90,7 +90,7 @@ driven-dials driven.Memory before now counted = counted
 
 -- ---- ends that are due
 -- an end at which no device failed is due, or memory ran out
-due_or_memory : (due : Due) (ended : Driven) (writes writes_new calls calls_new : ℕ) → MayEnd due ended
+pub due_or_memory : (due : Due) (ended : Driven) (writes writes_new calls calls_new : ℕ) → MayEnd due ended
     → CountsWrites writes writes_new (driven_status ended) → CountsCalls calls calls_new (driven_status ended)
     → HasNotFailed writes writes_new → HasNotFailed calls calls_new
     → (ended ≡ driven.Memory) ⊎ (due ≡ Ends ended)

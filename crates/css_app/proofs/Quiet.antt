@@ -135,7 +135,7 @@ writes_no_read text old new (status.BadUrl property) none n = absurd none
 abbrev pub HasNoChild : Status → Type 0
 HasNoChild result = IsNoUsage result × ((n : ℕ) → CountsSpawns n n result)
 
-driven_no_child : (ended : Driven) → HasNoChild (driven_status ended)
+pub driven_no_child : (ended : Driven) → HasNoChild (driven_status ended)
 driven_no_child driven.Done = (tt, λ n. refl)
 driven_no_child (driven.BadLine line why) = (tt, λ n. omega arith)
 driven_no_child driven.WriteFault = (tt, λ n. omega arith)

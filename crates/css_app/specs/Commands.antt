@@ -8,10 +8,11 @@ use Rattle.css_follow.specs.Sheets.{sheet_in}
 use Rattle.css_follow.specs.declared.sheet.Sheet.{Sheet}
 use Rattle.css_schedule.specs.declared.line.ScriptLine.{ScriptLine}
 use Rattle.css_tv.specs.declared.config.TvConfig.{TvConfig}
-use Rattle.css_words.specs.Commands.{Asked, Replay, Agree, Companion, Tv, Pair, Generate, Survey}
+use Rattle.css_words.specs.Commands.{Asked, Replay, Agree, Companion, Tv, Pair, Relay, Generate, Survey}
 use Rattle.css_words.specs.Companion.{CompanionAsked, OptionsAsked}
 use Rattle.css_words.specs.Generator.{GeneratorAsked}
 use Rattle.css_words.specs.Pair.{PairAsked}
+use Rattle.css_words.specs.Relay.{RelayAsked}
 use Rattle.css_words.specs.Tv.{TvAsked}
 use Rattle.css_words.specs.declared.fault.WordsFault.{WordsFault}
 use Rattle.css_words.specs.declared.fault.WordsFault.TheVariants as words
@@ -25,6 +26,7 @@ use Rattle.css_app.specs.Generated.{schedule_text}
 use Rattle.css_app.specs.Headline.{Promised}
 use Rattle.css_app.specs.Live.{IsAsDue, MakesNoRun, RunsBySheet, Serves, ServesAsDue, Stage}
 use Rattle.css_app.specs.Pairs.{ArePairedAsDue, Children, PairsByScript, PairsNone, address_at}
+use Rattle.css_app.specs.Relays.{RelaysBy, RelaysNone, RelaysAsDue}
 use Rattle.css_app.specs.Scripts.{script_in}
 use Rattle.css_app.specs.Surveyed.{survey_text}
 
@@ -57,6 +59,7 @@ abbrev pub uses_outside : Result Asked WordsFault → Bool
 uses_outside (Ok (Companion asked)) = true
 uses_outside (Ok (Tv asked)) = true
 uses_outside (Ok (Pair asked)) = true
+uses_outside (Ok (Relay asked)) = true
 uses_outside _ = false
 
 abbrev pub uses_spawner : Result Asked WordsFault → Bool
@@ -189,6 +192,15 @@ pub record ByPair (asked : PairAsked) (source : SourceUse) (sink : SinkUse) (out
       → HasNotFailed outside.faults_old outside.faults_new → HasNotFailed spawner.faults_old spawner.faults_new
       → PairsAsAsked asked.companion (address_at asked.tv.port) outside.told_old outside.told_new result
 
+-- ---- `relay`
+-- Each call of the outside is the one that is due by what came.
+pub record ByRelay (asked : RelayAsked) (outside : OutsideUse) (result : Status) : Type 0 where
+  pub ran : RelaysNone outside.told_old outside.told_new result
+      ⊎ RelaysBy asked outside.told_old outside.told_new result
+  -- over an outside that doesn't fail, dials aside, a run ends as its calls say
+  pub complete : HasNotFailed outside.faults_old outside.faults_new
+      → RelaysAsDue asked outside.told_old outside.told_new result
+
 -- ---- `generate` and `survey`
 -- The sink gained this text, or a front part of it where a write failed or memory ran out.
 pub record ByWriting (text : List ℕ) (sink : SinkUse) (result : Status) : Type 0 where
@@ -215,6 +227,7 @@ Does (Ok (Companion asked)) source sink outside spawner followers result =
 Does (Ok (Tv asked)) source sink outside spawner followers result = ByTv asked source outside result
 Does (Ok (Pair asked)) source sink outside spawner followers result =
     ByPair asked source sink outside spawner followers result
+Does (Ok (Relay asked)) source sink outside spawner followers result = ByRelay asked outside result
 Does (Ok (Generate asked)) source sink outside spawner followers result = ByGenerate asked sink result
 Does (Ok (Survey asked)) source sink outside spawner followers result = BySurvey asked sink result
 Does (Err words.Usage) source sink outside spawner followers result = IsUsageUnlessMemory result

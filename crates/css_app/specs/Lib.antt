@@ -9,4 +9,5 @@ pub mod Scripts
 pub mod Live
 pub mod Pairs
 pub mod Devices
+pub mod Relays
 pub mod Commands

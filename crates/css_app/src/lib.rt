@@ -9,6 +9,7 @@ mod generated;
 pub mod laws;
 mod live_companion;
 mod live_pair;
+mod live_relay;
 mod live_tv;
 mod program;
 mod replay;

@@ -4,10 +4,12 @@ ghost use Rattle.css_words.specs.Commands as commands;
 ghost use Rattle.css_words.specs.Companion.{CompanionAsked};
 ghost use Rattle.css_words.specs.Generator.{GeneratorAsked};
 ghost use Rattle.css_words.specs.Pair.{PairAsked};
+ghost use Rattle.css_words.specs.Relay.{RelayAsked};
 ghost use Rattle.css_words.specs.Tv.{TvAsked};
 ghost use Rattle.css_words.specs.Written.{IsWritable};
 ghost use Rattle.css_words.specs.declared.fault.WordsFault.TheVariants as words_fault;
-ghost use Rattle.css_app.specs.Commands.{ByAgree, ByCompanion, ByGenerate, ByPair, ByReplay, BySurvey, ByTv, Does};
+ghost use Rattle.css_app.specs.Commands.{ByAgree, ByCompanion, ByGenerate, ByPair, ByRelay, ByReplay, BySurvey, ByTv};
+ghost use Rattle.css_app.specs.Commands.{Does};
 ghost use Rattle.css_app.specs.Commands.{IsUsageUnlessMemory, uses_followers, uses_outside, uses_sink, uses_source};
 ghost use Rattle.css_app.specs.Commands.{uses_spawner};
 ghost use Rattle.css_app.specs.Devices.{followers_use, outside_use, sink_use, source_use, spawner_use};
@@ -19,6 +21,7 @@ ghost use Rattle.css_lines.specs.declared.ending.Stop.TheVariants as stops;
 
 use crate::agreement::agree;
 use crate::by_words::{companion_by, generate_by, pair_by, survey_by, tv_by};
+use crate::live_relay::relay_by;
 use crate::replay::{Cause, Replay};
 use crate::status::Status;
 use css_drive::Listens;
@@ -115,6 +118,7 @@ fn run_command<S: Source, K: Sink, O: Outside, P: Spawner, F: Listens>(
         Command::Companion(words) => companion_by(alloc, words, source, sink, outside, followers),
         Command::Tv(words) => tv_by(alloc, words, source, outside),
         Command::Pair(words) => pair_by(alloc, words, source, sink, outside, spawner, followers),
+        Command::Relay(words) => relay_by(alloc, words, outside),
         Command::Generate(words) => generate_by(alloc, words, sink),
         Command::Survey(words) => survey_by(alloc, words, sink),
     }
@@ -128,6 +132,7 @@ fn run_command<S: Source, K: Sink, O: Outside, P: Spawner, F: Listens>(
 ///   it writes its reports to the sink, and the followers are told them.
 /// - `tv` reads a script from the source, to its end, and then is a television.
 /// - `pair` reads a script, starts `tv` with it as a child, and is a companion of it.
+/// - `relay` is a companion that serves the television's wall clock on to further companions.
 /// - `generate` writes the schedule of so many lines that is generated of a seed.
 /// - `survey` replays this schedule as it is generated, and writes one line, which counts the reports.
 ///
@@ -194,6 +199,11 @@ pub fn run<S: Source, K: Sink, O: Outside, P: Spawner, F: Listens>(
         (spawner_use (children (P.told spawner.old) (P.running spawner.old))
         (children (P.told spawner.new) (P.running spawner.new)) (P.faults spawner.old) (P.faults spawner.new))
         (followers_use (F.takes followers.old) (F.heard followers.old) (F.heard followers.new)) result }
+
+    // A relay: each call is the one that is due.
+    ensures relay { (asked : RelayAsked) → command_in (map string_bytes words.now) ≡ Ok (commands.Relay asked)
+        → ByRelay asked
+        (outside_use (O.told outside.old) (O.told outside.new) (O.counts outside.old) (O.counts outside.new)) result }
 
     // The schedule of a seed, which a replay accepts.
     ensures generate { (asked : GeneratorAsked)

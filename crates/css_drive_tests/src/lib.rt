@@ -12,6 +12,10 @@ mod joined_outside;
 #[cfg(test)]
 mod joined_tests;
 #[cfg(test)]
+mod relay_tables;
+#[cfg(test)]
+mod relay_tests;
+#[cfg(test)]
 mod scripted;
 #[cfg(test)]
 mod tv_noted;

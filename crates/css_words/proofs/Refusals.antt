@@ -10,13 +10,14 @@ use Rattle.clap.specs.Lexer.{long_of}
 use Rattle.clap.specs.Simple.{built}
 use Rattle.clap.specs.Walk.{nothing_held, walk_from}
 use Rattle.clap.specs.Words.{App, Row, Text, matches_of}
-use Rattle.css_words.specs.Commands.{Agree, Companion, Generate, Pair, Replay, Survey, Tv, command_in}
+use Rattle.css_words.specs.Commands.{Agree, Companion, Generate, Pair, Relay, Replay, Survey, Tv, command_in}
 use Rattle.css_words.specs.Commands.{is_bare_dashes, named, no_options}
 use Rattle.css_words.specs.Companion.{companion_app, companion_in, companion_options, companion_rows}
 use Rattle.css_words.specs.Generator.{generator_app, generator_in, generator_options, generator_rows}
 use Rattle.css_words.specs.Laws.{UnknownOptionsAreUsage, options_of_command}
 use Rattle.css_words.specs.Options.{◌>>=◌, rows_in, unless_refused}
 use Rattle.css_words.specs.Pair.{pair_app, pair_in, pair_options, pair_rows}
+use Rattle.css_words.specs.Relay.{relay_app, relay_in, relay_options, relay_rows}
 use Rattle.css_words.specs.Tv.{tv_app, tv_in, tv_options, tv_rows}
 use Rattle.css_words.specs.declared.fault.WordsFault.TheVariants.{Usage}
 use Rattle.css_words.proofs.Walks.{IsRefusal, at_once, neither}
@@ -80,6 +81,22 @@ module _ (name : Text) (before after : List Text) (word option : Text) (value : 
       (record { within = refl; whole = refl })) in
       rw (refused_rows companion_app (name ∷ (before ++ word ∷ after)) refusal) refl
 
+  relay_usage : list_any (λ known. bytes_eq known option) relay_options ≡ false
+      → relay_in (name ∷ (before ++ word ∷ after)) ≡ Err Usage
+  unfolding relay_in relay_rows
+  relay_usage unknown_name =
+      let refusal : IsRefusal (fault_of relay_app (name ∷ (before ++ word ∷ after))) =
+      at_once _ _
+      (walk_refused (built relay_app).top (λ i. refl) (walk_from nothing_held) before after word clean
+      (record {
+        name = option;
+        given = value;
+        spelled = long;
+        unknown = unknown_option relay_options option unknown_name;
+      })
+      (record { within = refl; whole = refl })) in
+      rw (refused_rows relay_app (name ∷ (before ++ word ∷ after)) refusal) refl
+
   tv_usage : list_any (λ known. bytes_eq known option) (tv_options ++ codes "follow" ∷ []) ≡ false
       → tv_in (name ∷ (before ++ word ∷ after)) ≡ Err Usage
   unfolding tv_in tv_rows
@@ -118,10 +135,11 @@ module _ (name : Text) (before after : List Text) (word option : Text) (value : 
   abbrev words : List Text
   words = name ∷ rest
 
-  by_tests : (replay agree companion tv pair generate survey : Bool)
+  by_tests : (replay agree companion tv pair relay generate survey : Bool)
       → list_any (λ known. bytes_eq known option) (if companion then companion_options
       else if tv then tv_options ++ codes "follow" ∷ []
       else if pair then pair_options ++ codes "follow" ∷ []
+      else if relay then relay_options
       else if generate then generator_options
       else if survey then generator_options
       else []) ≡ false
@@ -130,25 +148,27 @@ module _ (name : Text) (before after : List Text) (word option : Text) (value : 
       else if companion then (companion_in words >>= λ asked. Ok (Companion asked))
       else if tv then (tv_in words >>= λ asked. Ok (Tv asked))
       else if pair then (pair_in words >>= λ asked. Ok (Pair asked))
+      else if relay then (relay_in words >>= λ asked. Ok (Relay asked))
       else if generate then (generator_in words >>= λ asked. Ok (Generate asked))
       else if survey then (generator_in words >>= λ asked. Ok (Survey asked))
       else Err Usage) ≡ Err Usage
-  by_tests true agree companion tv pair generate survey unknown_name = rw (some_options before after word) refl
-  by_tests false true companion tv pair generate survey unknown_name = rw (some_options before after word) refl
-  by_tests false false true tv pair generate survey unknown_name = rw (companion_usage unknown_name) refl
-  by_tests false false false true pair generate survey unknown_name = rw (tv_usage unknown_name) refl
-  by_tests false false false false true generate survey unknown_name = rw (pair_usage unknown_name) refl
-  by_tests false false false false false true survey unknown_name = rw (generator_usage unknown_name) refl
-  by_tests false false false false false false true unknown_name = rw (generator_usage unknown_name) refl
-  by_tests false false false false false false false unknown_name = refl
+  by_tests true agree companion tv pair relay generate survey unknown_name = rw (some_options before after word) refl
+  by_tests false true companion tv pair relay generate survey unknown_name = rw (some_options before after word) refl
+  by_tests false false true tv pair relay generate survey unknown_name = rw (companion_usage unknown_name) refl
+  by_tests false false false true pair relay generate survey unknown_name = rw (tv_usage unknown_name) refl
+  by_tests false false false false true relay generate survey unknown_name = rw (pair_usage unknown_name) refl
+  by_tests false false false false false true generate survey unknown_name = rw (relay_usage unknown_name) refl
+  by_tests false false false false false false true survey unknown_name = rw (generator_usage unknown_name) refl
+  by_tests false false false false false false false true unknown_name = rw (generator_usage unknown_name) refl
+  by_tests false false false false false false false false unknown_name = refl
 
   named_usage : list_any (λ known. bytes_eq known option) (options_of_command name) ≡ false
       → named name rest words ≡ Err Usage
   unfolding named
   named_usage unknown_name =
       by_tests (bytes_eq name (codes "replay")) (bytes_eq name (codes "agree")) (bytes_eq name (codes "companion"))
-      (bytes_eq name (codes "tv")) (bytes_eq name (codes "pair")) (bytes_eq name (codes "generate"))
-      (bytes_eq name (codes "survey")) unknown_name
+      (bytes_eq name (codes "tv")) (bytes_eq name (codes "pair")) (bytes_eq name (codes "relay"))
+      (bytes_eq name (codes "generate")) (bytes_eq name (codes "survey")) unknown_name
 
 pub unknown_usage : UnknownOptionsAreUsage
 unfolding command_in

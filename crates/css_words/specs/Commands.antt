@@ -6,6 +6,7 @@ use Rattle.css_words.specs.Companion.{CompanionAsked, companion_in, companion_of
 use Rattle.css_words.specs.Generator.{GeneratorAsked, generator_in, generator_of}
 use Rattle.css_words.specs.Options.{◌>>=◌}
 use Rattle.css_words.specs.Pair.{PairAsked, pair_in, pair_of}
+use Rattle.css_words.specs.Relay.{RelayAsked, relay_in, relay_of}
 use Rattle.css_words.specs.Tv.{TvAsked, tv_in, tv_of}
 use Rattle.css_words.specs.declared.command.Command.{Command}
 use Rattle.css_words.specs.declared.command.Command.TheVariants as command
@@ -19,6 +20,7 @@ pub data Asked : Type 0 where
   Companion : CompanionAsked → Asked
   Tv : TvAsked → Asked
   Pair : PairAsked → Asked
+  Relay : RelayAsked → Asked
   Generate : GeneratorAsked → Asked
   Survey : GeneratorAsked → Asked
 
@@ -28,6 +30,7 @@ asked_of command.Agree = Agree
 asked_of (command.Companion words) = Companion (companion_of words)
 asked_of (command.Tv words) = Tv (tv_of words)
 asked_of (command.Pair words) = Pair (pair_of words)
+asked_of (command.Relay words) = Relay (relay_of words)
 asked_of (command.Generate words) = Generate (generator_of words)
 asked_of (command.Survey words) = Survey (generator_of words)
 
@@ -48,6 +51,7 @@ named name rest words =
     else if bytes_eq name (codes "companion") then (companion_in words >>= λ asked. Ok (Companion asked))
     else if bytes_eq name (codes "tv") then (tv_in words >>= λ asked. Ok (Tv asked))
     else if bytes_eq name (codes "pair") then (pair_in words >>= λ asked. Ok (Pair asked))
+    else if bytes_eq name (codes "relay") then (relay_in words >>= λ asked. Ok (Relay asked))
     else if bytes_eq name (codes "generate") then (generator_in words >>= λ asked. Ok (Generate asked))
     else if bytes_eq name (codes "survey") then (generator_in words >>= λ asked. Ok (Survey asked))
     else Err Usage

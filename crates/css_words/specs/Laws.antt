@@ -8,6 +8,7 @@ use Rattle.css_words.specs.Commands.{Generate, command_in}
 use Rattle.css_words.specs.Companion.{companion_options}
 use Rattle.css_words.specs.Generator.{generator_options}
 use Rattle.css_words.specs.Pair.{pair_options}
+use Rattle.css_words.specs.Relay.{relay_options}
 use Rattle.css_words.specs.Tv.{tv_options}
 use Rattle.css_words.specs.declared.fault.WordsFault.TheVariants.{Usage}
 
@@ -17,6 +18,7 @@ options_of_command name =
     if bytes_eq name (codes "companion") then companion_options
     else if bytes_eq name (codes "tv") then tv_options ++ codes "follow" ∷ []
     else if bytes_eq name (codes "pair") then pair_options ++ codes "follow" ∷ []
+    else if bytes_eq name (codes "relay") then relay_options
     else if bytes_eq name (codes "generate") then generator_options
     else if bytes_eq name (codes "survey") then generator_options
     else []

@@ -6,5 +6,6 @@ pub mod Tv
 pub mod Companion
 pub mod Written
 pub mod Pair
+pub mod Relay
 pub mod Commands
 pub mod Laws

@@ -4,7 +4,7 @@ use Rattle.std.specs.Str.{IsUtf8}
 use Rattle.css_tsmsg.specs.Presentations.{IsPresentation}
 use Rattle.css_tsmsg.specs.declared.bound.Bound.{Bound}
 use Rattle.css_words.specs.declared.command.Command.{Command}
-use Rattle.css_words.specs.declared.command.Command.TheVariants.{Companion, Tv, Pair}
+use Rattle.css_words.specs.declared.command.Command.TheVariants.{Companion, Tv, Pair, Relay}
 use Rattle.css_words.specs.declared.words.CompanionOptions.{CompanionOptions}
 
 -- the times of a presentation are in range, and each is infinite on its own side alone
@@ -22,4 +22,5 @@ abbrev pub IsWritable : Command → Type 0
 IsWritable (Companion words) = AreWritable words.options
 IsWritable (Tv words) = IsUtf8 words.host
 IsWritable (Pair words) = AreWritable words.companion × IsUtf8 words.tv.host
+IsWritable (Relay words) = IsUtf8 words.host
 IsWritable _ = Unit {0}

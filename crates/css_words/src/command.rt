@@ -9,8 +9,9 @@ use crate::companion::companion_words;
 use crate::fault::WordsFault;
 use crate::generator::generator_words;
 use crate::pair::pair_words;
+use crate::relay::relay_words;
 use crate::tv::tv_words;
-use crate::words::{CompanionWords, GeneratorWords, PairWords, TvWords};
+use crate::words::{CompanionWords, GeneratorWords, PairWords, RelayWords, TvWords};
 use std::alloc::Global;
 
 /// A command of the program.
@@ -26,6 +27,8 @@ pub enum Command {
     Tv(TvWords),
     /// Starts a television, and is a companion of it.
     Pair(PairWords),
+    /// Is a companion that serves the television's wall clock on.
+    Relay(RelayWords),
     /// Writes a schedule.
     Generate(GeneratorWords),
     /// Replays a generated schedule, and writes one line on its intervals.
@@ -80,6 +83,7 @@ fn command_named(
         "companion" => Ok(Command::Companion(companion_words(alloc, words)?)),
         "tv" => Ok(Command::Tv(tv_words(alloc, words)?)),
         "pair" => Ok(Command::Pair(pair_words(alloc, words)?)),
+        "relay" => Ok(Command::Relay(relay_words(alloc, words)?)),
         "generate" => Ok(Command::Generate(generator_words(alloc, words)?)),
         "survey" => Ok(Command::Survey(generator_words(alloc, words)?)),
         _ => Err(WordsFault::Usage),
@@ -97,6 +101,8 @@ fn command_named(
 ///   `--report-every`, `--ask-every`, `--local-error`, `--local-precision`, and both `--earliest` and `--latest`.
 /// - `tv` takes `--port`, `--turns`, `--precision`, `--error`, `--follow` and `--host`.
 /// - `pair` takes what both take, without an address and a host.
+/// - `relay` needs `--cii`. It takes `--port`, `--turns`, `--ask-every`, `--local-error`, `--local-precision` and
+///   `--host`.
 /// - `generate` and `survey` need `--seed`, 0 to 2^63 - 1, and `--lines`, 9 to 200,000.
 ///
 /// `Usage` comes exactly where the words are those of no command: another name or none, an option that the command

@@ -42,8 +42,8 @@ fn reports(matches: &ArgMatches<'_>) -> Result<u64, WordsFault>
     number_or(matches, "reports", 10, 1, 1_000_000)
 }
 
-// A time between two events in nanoseconds.
-fn period(matches: &ArgMatches<'_>, name: &str) -> Result<u64, WordsFault>
+/// A time between two events in nanoseconds.
+pub fn period(matches: &ArgMatches<'_>, name: &str) -> Result<u64, WordsFault>
     ensures value { result ≡ companion.period name.now (rows_of (found_of matches.now)) }
     ensures least { IfOk result (λ period. 1 ≤ period) }
     ensures most { IfOk result (λ period. period ≤ 1000000000000) }
@@ -51,8 +51,8 @@ fn period(matches: &ArgMatches<'_>, name: &str) -> Result<u64, WordsFault>
     number_or(matches, name, 1_000_000_000, 1, 1_000_000_000_000)
 }
 
-// The greatest frequency error of its own clock.
-fn local_error(matches: &ArgMatches<'_>) -> Result<u32, WordsFault>
+/// The greatest frequency error of its own clock.
+pub fn local_error(matches: &ArgMatches<'_>) -> Result<u32, WordsFault>
     ensures value { result ≡ companion.local_error (rows_of (found_of matches.now)) }
     ensures most { IfOk result (λ error. error ≤ 2560000) }
 {
@@ -60,8 +60,8 @@ fn local_error(matches: &ArgMatches<'_>) -> Result<u32, WordsFault>
     Ok(error as u32)
 }
 
-// The precision of a reading of its own clock.
-fn local_precision(matches: &ArgMatches<'_>) -> Result<u64, WordsFault>
+/// The precision of a reading of its own clock.
+pub fn local_precision(matches: &ArgMatches<'_>) -> Result<u64, WordsFault>
     ensures value { result ≡ companion.local_precision (rows_of (found_of matches.now)) }
     ensures most { IfOk result (λ precision. precision ≤ 1000000000) }
 {
@@ -125,8 +125,8 @@ pub fn options_in(alloc: Global, matches: &ArgMatches<'_>) -> Result<CompanionOp
     })
 }
 
-// Where the television's session of CSS-CII is dialled.
-fn cii(alloc: Global, matches: &ArgMatches<'_>) -> Result<Address, WordsFault>
+/// Where the television's session of CSS-CII is dialled.
+pub fn cii(alloc: Global, matches: &ArgMatches<'_>) -> Result<Address, WordsFault>
     ensures { GivesBy (λ address. address) faults.Memory result (companion.cii (rows_of (found_of matches.now))) }
 {
     match text_given(matches, "cii") {

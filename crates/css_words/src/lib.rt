@@ -9,6 +9,7 @@ mod generator;
 pub mod laws;
 mod options;
 mod pair;
+mod relay;
 mod tv;
 mod words;
 
@@ -17,4 +18,4 @@ pub use css_address::Address;
 pub use css_num::{Memory, Text};
 pub use css_tsmsg::Bound;
 pub use fault::WordsFault;
-pub use words::{CompanionOptions, CompanionWords, GeneratorWords, PairWords, TvWords};
+pub use words::{CompanionOptions, CompanionWords, GeneratorWords, PairWords, RelayWords, TvWords};

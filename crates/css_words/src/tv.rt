@@ -93,8 +93,8 @@ fn cii_url(alloc: Global, host: &Text, port: u16) -> Result<Text, WordsFault>
     Ok(url)
 }
 
-// That companions can dial this host.
-fn check_host(alloc: Global, host: &Text, port: u16) -> Result<(), WordsFault>
+/// That companions can dial this host.
+pub fn check_host(alloc: Global, host: &Text, port: u16) -> Result<(), WordsFault>
     ensures { GivesBy (λ checked. checked) faults.Memory result (tv.dialled (tv.cii_url host.now port)) }
 {
     let url = cii_url(alloc, host, port)?;

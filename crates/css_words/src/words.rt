@@ -87,3 +87,30 @@ pub struct PairWords {
     pub companion: CompanionOptions,
     pub tv: TvWords,
 }
+
+/// A relay of the television at an address.
+#[derive(Debug, Drop)]
+pub struct RelayWords {
+    /// Where the television's session of CSS-CII is dialled.
+    pub cii: Address,
+    /// The port of its own wall clock and sessions: 1,024 to 65,534.
+    pub port: u16,
+    /// How many turns are made: 1 to 1,000,000.
+    pub turns: u64,
+    /// The time between two requests of the television's wall clock in nanoseconds: 1 to 10^12.
+    pub ask_every: u64,
+    /// The greatest frequency error of its own clock in 1/256 ppm, at most 2,560,000.
+    pub local_error: u32,
+    /// How far a reading of its own clock may be off, in nanoseconds: at most 10^9.
+    pub local_precision: u64,
+    /// The host that companions are told, which is UTF-8.
+    pub host: Text,
+    pub ghost least_port: { 1024 ≤ port },
+    pub ghost most_port: { port ≤ 65534 },
+    pub ghost some_turns: { 1 ≤ turns },
+    pub ghost few_turns: { turns ≤ 1000000 },
+    pub ghost requests_apart: { 1 ≤ ask_every },
+    pub ghost requests_come: { ask_every ≤ 1000000000000 },
+    pub ghost small_error: { local_error ≤ 2560000 },
+    pub ghost small_precision: { local_precision ≤ 1000000000 },
+}

@@ -1,7 +1,7 @@
 -- What a run promises of its words and its devices, from what its command does.
 use Rattle.std.proofs.Common.{◌∙◌, ap, sym, map}
 use Rattle.std.specs.Prelude.{Ok, Err, string_bytes}
-use Rattle.css_words.specs.Commands.{Replay, Agree, Companion, Tv, Pair, Generate, Survey, asked_of}
+use Rattle.css_words.specs.Commands.{Replay, Agree, Companion, Tv, Pair, Relay, Generate, Survey, asked_of}
 use Rattle.css_words.specs.declared.fault.WordsFault.TheVariants as words
 use Rattle.css_app.specs.Commands.{uses_followers, uses_outside, uses_sink, uses_source, uses_spawner}
 use Rattle.css_app.specs.Pairs.{children}
@@ -65,6 +65,11 @@ returns-in-Ok-clause-pair g c asked is =
     does_so (map string_bytes c.args.words.now) (asked_of c.in-Ok.command) (Ok (Pair asked)) _ _ _ _ _ _
     c.in-Ok.ensures.value c.run_command.ensures.does is
 
+pub returns-in-Ok-clause-relay : goal.returns-in-Ok-clause-relay
+returns-in-Ok-clause-relay g c asked is =
+    does_so (map string_bytes c.args.words.now) (asked_of c.in-Ok.command) (Ok (Relay asked)) _ _ _ _ _ _
+    c.in-Ok.ensures.value c.run_command.ensures.does is
+
 pub returns-in-Ok-clause-generate : goal.returns-in-Ok-clause-generate
 returns-in-Ok-clause-generate g c asked is =
     does_so (map string_bytes c.args.words.now) (asked_of c.in-Ok.command) (Ok (Generate asked)) _ _ _ _ _ _
@@ -102,6 +107,11 @@ returns-in-Err-Usage-clause-tv g c asked is =
 
 pub returns-in-Err-Usage-clause-pair : goal.returns-in-Err-Usage-clause-pair
 returns-in-Err-Usage-clause-pair g c asked is =
+    absurd (let none = usage_of (map string_bytes c.args.words.now) _ c.in-Err-Usage.field-0-is
+    c.in-Err-Usage.ensures.value in cc)
+
+pub returns-in-Err-Usage-clause-relay : goal.returns-in-Err-Usage-clause-relay
+returns-in-Err-Usage-clause-relay g c asked is =
     absurd (let none = usage_of (map string_bytes c.args.words.now) _ c.in-Err-Usage.field-0-is
     c.in-Err-Usage.ensures.value in cc)
 
@@ -156,6 +166,15 @@ returns-in-Err-Memory-clause-tv g c asked is =
 pub returns-in-Err-Memory-clause-pair : goal.returns-in-Err-Memory-clause-pair
 returns-in-Err-Memory-clause-pair g c asked is =
     lacks (Ok (Pair asked)) (g.S.Source.left c.args.source.now) (g.K.Sink.holds c.args.sink.now)
+    (g.O.Outside.told c.args.outside.now)
+    (children (g.P.Spawner.told c.args.spawner.now) (g.P.Spawner.running c.args.spawner.now))
+    (g.F.Listens.takes c.args.followers.now) (g.F.Listens.heard c.args.followers.now)
+    (g.S.Source.faults c.args.source.now) (g.K.Sink.faults c.args.sink.now)
+    (g.O.Outside.counts c.args.outside.now).faults (g.P.Spawner.faults c.args.spawner.now)
+
+pub returns-in-Err-Memory-clause-relay : goal.returns-in-Err-Memory-clause-relay
+returns-in-Err-Memory-clause-relay g c asked is =
+    lacks (Ok (Relay asked)) (g.S.Source.left c.args.source.now) (g.K.Sink.holds c.args.sink.now)
     (g.O.Outside.told c.args.outside.now)
     (children (g.P.Spawner.told c.args.spawner.now) (g.P.Spawner.running c.args.spawner.now))
     (g.F.Listens.takes c.args.followers.now) (g.F.Listens.heard c.args.followers.now)

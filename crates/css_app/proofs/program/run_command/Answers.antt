@@ -34,6 +34,19 @@ returns-in-Tv-clause-counted_writes g c = c.tv_by.ensures.writes (g.K.Sink.fault
 pub returns-in-Tv-clause-counted_spawns : goal.returns-in-Tv-clause-counted_spawns
 returns-in-Tv-clause-counted_spawns g c = c.tv_by.ensures.spawns (g.P.Spawner.faults c.args.spawner.now)
 
+-- a relay reads and writes nothing, and starts no child
+pub returns-in-Relay-clause-does : goal.returns-in-Relay-clause-does
+returns-in-Relay-clause-does g c = rw c.in-Relay.is c.relay_by.ensures.does
+
+pub returns-in-Relay-clause-counted_reads : goal.returns-in-Relay-clause-counted_reads
+returns-in-Relay-clause-counted_reads g c = c.relay_by.ensures.reads (g.S.Source.faults c.args.source.now)
+
+pub returns-in-Relay-clause-counted_writes : goal.returns-in-Relay-clause-counted_writes
+returns-in-Relay-clause-counted_writes g c = c.relay_by.ensures.writes (g.K.Sink.faults c.args.sink.now)
+
+pub returns-in-Relay-clause-counted_spawns : goal.returns-in-Relay-clause-counted_spawns
+returns-in-Relay-clause-counted_spawns g c = c.relay_by.ensures.spawns (g.P.Spawner.faults c.args.spawner.now)
+
 -- what is generated or surveyed is written alone
 pub returns-in-Generate-clause-does : goal.returns-in-Generate-clause-does
 returns-in-Generate-clause-does g c = rw c.in-Generate.is c.generate_by.ensures.does

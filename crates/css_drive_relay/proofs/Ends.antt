@@ -1,0 +1,303 @@
+-- How a relay's run ends: all open sessions are hung up.
+use Rattle.css_cii.specs.States.{empty}
+use Rattle.css_cii.specs.declared.state.State.{State}
+use Rattle.std.proofs.Common.{◌≡◌, ap₂, ℕ, ◌≤◌, ◌<◌, arith, ap, sym, ◌∙◌, subst, refl, Bool, true, false, cond, inl, inr}
+use Rattle.std.proofs.Common.{List, [], ◌∷◌, ◌++◌, drop, Option, Some, None}
+use Rattle.std.specs.Prelude.{◌⊎◌, ◌||◌, ◌+◌, is_some, nat_lt}
+use Rattle.std.proofs.lemmas.List.Elements.{All-nil}
+use Rattle.css_model.specs.History.{HungUp, History}
+use Rattle.css_outside.specs.Faults.{HasRisen}
+use Rattle.css_relay.specs.Relays.{Relay}
+use Rattle.css_drive.specs.CompanionStanding.{Shown, Adds, IsFault, IsCut}
+use Rattle.css_drive.specs.Ends.{MayEnd, CountsDialFaults}
+use Rattle.css_drive.specs.Proper.{Due, Now, HangUp, Ends}
+use Rattle.css_model.specs.declared.Why.TheVariants as why
+use Rattle.css_drive.specs.declared.driven.Driven.{Driven}
+use Rattle.css_drive.specs.declared.driven.Driven.TheVariants as driven
+use Rattle.css_drive_relay.specs.Places.{Facts, Place, Progress, Asked, Over, after, all_open, without_first}
+use Rattle.css_drive_relay.specs.Due.{due_at, final, from_hang_ups}
+use Rattle.css_drive_relay.specs.Standing.{IsAccepted, Runs, Stands, IsAt, Stops, IsHanging, HangsUp, KeepsDials}
+use Rattle.css_drive_relay.specs.Standing.{facts_in, stood}
+use Rattle.css_outside.specs.Outsides.{Counts}
+use Rattle.css_drive_relay.specs.declared.config.RelayRun.{RelayRun}
+use Rattle.css_drive_relay.specs.declared.live.Live.{Live}
+use Rattle.css_drive_relay.proofs.Peers.{accepted, television, unused}
+use Rattle.css_drive_relay.proofs.Serves.{same_faults, same_peers}
+use Rattle.css_drive_relay.proofs.Peers.{peers_quiet}
+use Rattle.css_drive_relay.proofs.Steps.{knows_plain, knows_clock, lawful, runs_more, runs_on, runs_read, kinds_read}
+use Rattle.css_drive_relay.proofs.Steps.{stops_here}
+use Rattle.css_drive_relay.specs.Ran.{RelayRan}
+use Rattle.css_drive_relay.specs.Places.{Begun, beginning}
+use Rattle.css_drive_relay.specs.Standing.{Knows, HasRead, listening}
+use Rattle.css_drive.specs.Proper.{Listen, Empty}
+use Rattle.css_model.specs.History.{Listening}
+use Rattle.css_outside.specs.Outsides.{with_entries, clock_entries}
+use Rattle.css_outside.specs.declared.calls.Clocked.{Clocked}
+use Rattle.std.proofs.lemmas.Bool.Decides.{nat_tests}
+
+made_all : (made turns : ℕ) → turns ≤ made → (x y : Due) → cond (nat_lt made turns) x y ≡ y
+made_all made turns le x y = by (nat_lt made turns) refl
+  where
+    by : (b : Bool) → nat_lt made turns ≡ b → cond b x y ≡ y
+    by true e = absurd (grind (arith, nat_tests, le, e))
+    by false e = refl
+
+module _ (run : RelayRun) (live : Live) (history : History) where
+  -- what is due as so many of them were hung up
+  pub due_hanging : run.turns ≤ live.made → (index : ℕ) (place : Place)
+      → IsHanging (all_open (facts_in live)) index place
+      → due_at run (facts_in live) history place
+      ≡ from_hang_ups (final run (facts_in live)) (drop index (all_open (facts_in live)))
+  due_hanging enough index place (inl e) =
+      ap (due_at run (facts_in live) history) e.1
+      ∙ made_all live.made run.turns enough (Now why.Turn)
+      (from_hang_ups (final run (facts_in live)) (all_open (facts_in live)))
+      ∙ ap (λ n. from_hang_ups (final run (facts_in live)) (drop n (all_open (facts_in live)))) (sym e.0)
+  due_hanging enough index place (inr e) = ap (due_at run (facts_in live) history) e
+
+-- one more was
+after_hanging : (run : RelayRun) (live : Live) (history : History) (peer index : ℕ) (rest : List ℕ) (place : Place)
+    → IsHanging (all_open (facts_in live)) index place → drop index (all_open (facts_in live)) ≡ peer ∷ rest
+    → after run (HungUp peer) history (stood live place) ≡ stood live (Over rest)
+after_hanging run live history peer index rest place (inl e) is =
+    let from : all_open (facts_in live) ≡ peer ∷ rest =
+    ap (λ n. drop n (all_open (facts_in live))) (sym e.0) ∙ is in
+    ap (λ (x : Place). after run (HungUp peer) history (stood live x)) e.1
+    ∙ ap (λ xs. stood live (Over (without_first xs))) from
+after_hanging run live history peer index rest place (inr e) is =
+    ap (λ (x : Place). after run (HungUp peer) history (stood live x)) e
+    ∙ ap (λ xs. stood live (Over (without_first xs))) is
+
+module _ {run : RelayRun} {start now : Shown} {live : Live} {relay : Relay} where
+  pub hung : {index : ℕ} (next : Shown) → HangsUp run start now relay live (all_open (facts_in live)) index
+      → run.turns ≤ live.made → (peer later : ℕ)
+      → drop index (all_open (facts_in live)) ≡ peer ∷ drop later (all_open (facts_in live))
+      → Adds now next (HungUp peer ∷ [])
+      → HangsUp run start next relay live (all_open (facts_in live)) later
+  hung {index} next x enough peer later is a =
+      let le = same_peers a.same in
+      let rest : List ℕ = drop later (all_open (facts_in live)) in
+      record {
+        history = HungUp peer ∷ x.history;
+        place = Over rest;
+        hanging = inr refl;
+        stands = record {
+          runs = runs_more x.stands.runs (HangUp peer)
+              (due_hanging run live x.history enough index x.place x.hanging
+              ∙ ap (from_hang_ups (final run (facts_in live))) is) (HungUp peer ∷ []) refl next a.told
+              (same_faults a.same) (stood live (Over rest))
+              (ap (λ (p : Progress). after run (HungUp peer) x.history p) x.stands.runs.progress
+              ∙ after_hanging run live x.history peer index rest x.place x.hanging is)
+              (record {
+                accepted = accepted x.stands.runs.peers le (λ q. refl);
+                waiting = All-nil (IsAccepted next.counts.peers (HungUp peer ∷ x.history));
+                television = television x.stands.runs.peers le (λ q. refl);
+                unused = unused x.stands.runs.peers le (λ q. refl);
+              });
+          knows = knows_plain x.stands.knows (HungUp peer) refl refl refl refl refl refl refl;
+        };
+      }
+
+  -- all of them were
+  pub all_hung : {index : ℕ} → HangsUp run start now relay live (all_open (facts_in live)) index
+      → run.turns ≤ live.made → drop index (all_open (facts_in live)) ≡ []
+      → Stops run start now (final run (facts_in live))
+  all_hung {index} x enough none =
+      stops_here x.stands.runs (lawful x.stands.knows) (final run (facts_in live))
+      (never (is_some live.cii || is_some live.wc))
+      (ends (is_some live.cii || is_some live.wc) (due_at run (facts_in live) x.history x.place)
+      (due_hanging run live x.history enough index x.place x.hanging ∙ ap (from_hang_ups (final run (facts_in live))) none))
+    where
+      never : (b : Bool) → cond b driven.Done (driven.Unreachable run.turns) ≡ driven.NetFault → ⊥
+      never true e = cc
+      never false e = cc
+
+      ends : (b : Bool) (d : Due) → d ≡ Ends (cond b driven.Done (driven.Unreachable run.turns))
+          → MayEnd d (cond b driven.Done (driven.Unreachable run.turns))
+      ends true d e = e
+      ends false d e = e
+
+-- ---- loops
+-- a place in another form
+pub at_left : (live : Live) {run : RelayRun} {start now : Shown} {relay : Relay} {history : History}
+    {place other : Place} → Stands run start now relay (stood live place) history → place ≡ other
+    → Stands run start now relay (stood live other) history
+at_left live {run} {start} {now} {relay} {history} s e =
+    subst (λ (x : Place). Stands run start now relay (stood live x) history) e s
+
+pub is_at_as : {run : RelayRun} {start now : Shown} {relay : Relay} (live : Live) {place other : Place}
+    → IsAt run start now relay live place → place ≡ other → IsAt run start now relay live other
+is_at_as live x e = record { history = x.history; stands = at_left live x.stands e }
+
+pub keeps_on : {old mid new : Counts} {before between now : Live} → KeepsDials old mid before between
+    → KeepsDials mid new between now → KeepsDials old new before now
+keeps_on a b = record { made = b.made ∙ a.made; dials = b.dials ∙ a.dials; cii = b.cii ∙ a.cii }
+
+-- ---- what is counted
+-- where a dial succeeded, or one failed
+pub ending_counts : (run : RelayRun) (f : Facts) (before now : ℕ) → before ≤ now
+    → (f.cii ≡ None → HasRisen before now) → (ended : Driven) → (ended ≡ final run f) ⊎ IsFault ended
+    → CountsDialFaults before now ended
+ending_counts run f before now le tried ended (inl e) =
+    let P : Driven → Type 0 = λ x. CountsDialFaults before now x in
+    subst P (sym e) (by f.cii (is_some f.wc) tried)
+  where
+    by : (o : Option ℕ) (b : Bool) → (o ≡ None → HasRisen before now)
+        → CountsDialFaults before now (cond (is_some o || b) driven.Done (driven.Unreachable run.turns))
+    by None true tried = le
+    by None false tried = tried refl
+    by (Some p) b tried = le
+ending_counts run f before now le tried driven.NetFault (inr c) = le
+ending_counts run f before now le tried driven.Memory (inr c) = le
+ending_counts run f before now le tried driven.WriteFault (inr c) = absurd c
+ending_counts run f before now le tried driven.Done (inr c) = absurd c
+ending_counts run f before now le tried (driven.BadLine line why) (inr c) = absurd c
+ending_counts run f before now le tried (driven.BadCii text fault) (inr c) = absurd c
+ending_counts run f before now le tried (driven.Moved property old new) (inr c) = absurd c
+ending_counts run f before now le tried (driven.Spent n) (inr c) = absurd c
+ending_counts run f before now le tried (driven.Unreachable n) (inr c) = absurd c
+ending_counts run f before now le tried (driven.BadUrl property) (inr c) = absurd c
+
+-- a run that is cut counts no failed dial
+pub cut_counts : (before now : ℕ) → before ≤ now → (ended : Driven) → IsCut ended → CountsDialFaults before now ended
+cut_counts before now le driven.NetFault c = le
+cut_counts before now le driven.Memory c = le
+cut_counts before now le (driven.BadCii text fault) c = le
+cut_counts before now le (driven.Moved property old new) c = le
+cut_counts before now le (driven.BadUrl property) c = le
+cut_counts before now le driven.WriteFault c = absurd c
+cut_counts before now le driven.Done c = absurd c
+cut_counts before now le (driven.BadLine line why) c = absurd c
+cut_counts before now le (driven.Spent n) c = absurd c
+cut_counts before now le (driven.Unreachable n) c = absurd c
+
+-- nothing is written
+pub cut_writes : (ended : Driven) → IsCut ended → ended ≡ driven.WriteFault → ⊥
+cut_writes ended c e = let P : Driven → Type 0 = λ x. IsCut x in absurd (subst P e c)
+
+pub ending_writes : (run : RelayRun) (f : Facts) (ended : Driven) → (ended ≡ final run f) ⊎ IsFault ended
+    → ended ≡ driven.WriteFault → ⊥
+ending_writes run f ended (inl e) is = by (is_some f.cii || is_some f.wc) (sym e ∙ is)
+  where
+    by : (b : Bool) → cond b driven.Done (driven.Unreachable run.turns) ≡ driven.WriteFault → ⊥
+    by true e = cc
+    by false e = cc
+ending_writes run f ended (inr c) is = let P : Driven → Type 0 = λ x. IsFault x in absurd (subst P is c)
+
+pub dials_same : (before mid now : ℕ) (ended : Driven) → now ≡ mid → CountsDialFaults before mid ended
+    → CountsDialFaults before now ended
+dials_same before mid now ended e c = subst (λ (n : ℕ). CountsDialFaults before n ended) (sym e) c
+
+pub dials_from : (old new : Counts) (now : ℕ) (ended : Driven) → new ≡ record old { faults = new.faults }
+    → CountsDialFaults new.dial_faults now ended → CountsDialFaults old.dial_faults now ended
+dials_from old new now ended e c =
+    subst (λ (n : ℕ). CountsDialFaults n now ended) (ap {A = Counts} (λ x. x.dial_faults) e) c
+
+-- ---- the beginning
+no_entries : (told : Option History) → told ≡ with_entries [] told
+no_entries None = refl
+no_entries (Some h) = refl
+
+pub at_first : (run : RelayRun) (now : Shown) → Runs run now now beginning []
+at_first run now = record {
+  told = no_entries now.told;
+  faults = refl;
+  proper = Empty;
+  progress = refl;
+  peers = record {
+    accepted = All-nil (IsAccepted now.counts.peers []);
+    waiting = All-nil (IsAccepted now.counts.peers []);
+    television = record { is = tt };
+    unused = record { none = λ peer lt. refl };
+  };
+}
+
+-- the relay listens
+pub listens : (run : RelayRun) (now next : Shown) (relay : Relay) → Knows run relay []
+    → next.told ≡ with_entries (Listening run.host run.port ∷ []) now.told
+    → next.counts.faults ≡ now.counts.faults → next.counts ≡ record now.counts { faults = next.counts.faults }
+    → Stands run now next relay listening (Listening run.host run.port ∷ [])
+listens run now next relay k told faults same = record {
+  runs = runs_on (at_first run now) (Listen run.host run.port) refl (Listening run.host run.port) refl next told
+      faults
+      (record {
+        accepted = All-nil (IsAccepted next.counts.peers (Listening run.host run.port ∷ []));
+        waiting = All-nil (IsAccepted next.counts.peers (Listening run.host run.port ∷ []));
+        television = record { is = tt };
+        unused = record { none = λ peer lt. refl };
+      });
+  knows = knows_plain k (Listening run.host run.port) refl refl refl refl refl refl refl;
+}
+
+pub ran_by : {run : RelayRun} {start now : Shown} {ended : Driven} → Stops run start now ended
+    → RelayRan run start.told now.told ended
+ran_by s = record { history = s.history; grew = s.told; proper = s.proper; lawful = s.lawful; ends = s.ends }
+
+-- nothing was done, for want of memory
+pub ran_none : (run : RelayRun) (told : Option History) → RelayRan run told told driven.Memory
+ran_none run told = record {
+  history = [];
+  grew = no_entries told;
+  proper = Empty;
+  lawful = record { rises = tt; asks = tt };
+  ends = tt;
+}
+
+-- the variables as they begin
+pub first_facts : (state : State) (peers : List ℕ) → state ≡ empty → peers ≡ []
+    → ◌≡◌ {A = Facts} (record {
+      turns = 0;
+      turn = None;
+      asked = None;
+      cii = None;
+      wc = None;
+      television = None;
+      state = state;
+      peers = peers;
+    }) beginning.facts
+first_facts state peers e f = ap₂ (λ (s : State) (p : List ℕ). record {
+  turns = 0;
+  turn = None;
+  asked = None;
+  cii = None;
+  wc = None;
+  television = None;
+  state = s;
+  peers = p;
+}) e f
+
+pub begins : (f : Facts) {run : RelayRun} {start now : Shown} {relay : Relay} {history : History}
+    → f ≡ beginning.facts → Stands run start now relay listening history
+    → Stands run start now relay (record { facts = f; place = Asked [] }) history
+begins f {run} {start} {now} {relay} {history} e s =
+    subst (λ (x : Facts). Stands run start now relay (record { facts = x; place = Asked [] }) history) (sym e) s
+
+-- ---- turns
+pub turn_due : (run : RelayRun) (live : Live) (history : History) → live.made < run.turns
+    → due_at run (facts_in live) history (Asked []) ≡ Now why.Turn
+turn_due run live history few = by (nat_lt live.made run.turns) refl
+  where
+    by : (b : Bool) → nat_lt live.made run.turns ≡ b
+        → cond b (Now why.Turn) (from_hang_ups (final run (facts_in live)) (all_open (facts_in live))) ≡ Now why.Turn
+    by true e = refl
+    by false e = absurd (grind (arith, nat_tests, few, e))
+
+pub begun : {run : RelayRun} {start now next : Shown} {was is : Relay} {live later last : Live} {history : History}
+    → Stands run start now was (stood live (Asked [])) history
+    → due_at run (facts_in live) history (Asked []) ≡ Now why.Turn → (clocked : Clocked)
+    → HasRead now next live later was is why.Turn clocked
+    → facts_in last ≡ record (facts_in later) { turns = later.made + 1; turn = Some clocked.reading }
+    → IsAt run start next is last Begun
+begun {run} {next = next} {is = relay} {live} {later} {last} {history} s d clocked r e =
+    let n = r.peers in
+    record {
+      history = clock_entries why.Turn clocked ++ history;
+      stands = record {
+        runs = runs_read s.runs why.Turn d clocked next r (stood last Begun)
+            (ap (λ (f : Facts). record { facts = f; place = Begun }) (sym e))
+            (peers_quiet s.runs.peers (omega (arith, n)) (kinds_read why.Turn clocked history)
+            (ap {A = Facts} (λ x. x.peers) e ∙ ap {A = Facts} (λ x. x.peers) r.only)
+            (ap {A = Facts} (λ x. x.television) e ∙ ap {A = Facts} (λ x. x.television) r.only) refl);
+        knows = knows_clock clocked history why.Turn refl (λ older. refl) (r.known run history s.knows);
+      };
+    }

@@ -1,0 +1,227 @@
+-- What a relay's requests, landings and answers make of its run.
+use Rattle.std.proofs.Common.{◌≡◌, ℕ, ◌≤◌, arith, ap, sym, ◌∙◌, subst, refl, Bool, true, false, cond}
+use Rattle.std.proofs.Common.{List, [], ◌∷◌, ◌++◌, take, Option, Some, None, Result, Ok, Err}
+use Rattle.std.specs.Prelude.{is_some, ◌&&◌, MatchResult}
+use Rattle.std.specs.Option.{option_map}
+use Rattle.css_model.specs.declared.Stamp.{Stamp}
+use Rattle.css_model.specs.declared.Message.{Message}
+use Rattle.css_model.specs.declared.Why.{Why}
+use Rattle.css_model.specs.declared.Why.TheVariants as why
+use Rattle.css_model.specs.Explains.{IsLawful}
+use Rattle.css_model.specs.History.{Slept, Clock, Sent, Took, TookNone, History, request_in, request_by}
+use Rattle.css_model.specs.Wire.{encoded, request_at}
+use Rattle.css_model.specs.WallClock.{Local}
+use Rattle.css_outside.specs.Outsides.{Counts, with_entries, clock_entries, sleep_entries}
+use Rattle.css_outside.specs.declared.calls.Clocked.{Clocked}
+use Rattle.css_companion.specs.Standing.{StandsFor, own_of}
+use Rattle.css_relay.specs.Answers.{Ticket, received_after, answered_after, datagram_of}
+use Rattle.css_relay.specs.Relays.{Relay}
+use Rattle.css_relay.specs.declared.fault.RelayFault.{RelayFault}
+use Rattle.css_drive.specs.CompanionDue.{send_to}
+use Rattle.css_drive.specs.CompanionStanding.{Shown, Adds, Failed}
+use Rattle.css_drive.specs.CompanionTurns.{is_asking}
+use Rattle.css_drive.specs.Proper.{Due, Now, SendDatagram, TakeDatagram}
+use Rattle.css_drive.specs.declared.driven.Driven.{Driven}
+use Rattle.css_drive.proofs.CompanionCalls.{lawful_plain}
+use Rattle.css_drive_relay.specs.Places.{Facts, Place, Progress, Asking, Requested, Taken, Received, Answers, Served}
+use Rattle.css_drive_relay.specs.Places.{after, received, answering, at}
+use Rattle.css_drive_relay.specs.Due.{due_at, from_ask, from_take, from_taken}
+use Rattle.css_drive_relay.specs.Standing.{Knows, KnowsPeers, Runs, Stands, IsAt, Comes, Arrives, HasRead, facts_in, stood, named}
+use Rattle.css_drive_relay.specs.declared.config.RelayRun.{RelayRun}
+use Rattle.css_drive_relay.specs.declared.live.Live.{Live}
+use Rattle.css_drive_relay.proofs.Responses.{answer_is_no_request}
+use Rattle.css_drive_relay.proofs.Dialling.{comes}
+use Rattle.css_drive_relay.proofs.Peers.{peers_quiet}
+use Rattle.css_drive_relay.proofs.Steps.{knows_plain, lawful, runs_more, runs_on, runs_read, kinds_read, stops_by_fault}
+
+pub same_faults : {old new : Counts} → new ≡ old → new.faults ≡ old.faults
+same_faults e = ap {A = Counts} (λ x. x.faults) e
+
+pub same_peers : {old new : Counts} → new ≡ old → old.peers ≤ new.peers
+same_peers {old} {new} e = let f : new.peers ≡ old.peers = ap {A = Counts} (λ x. x.peers) e in omega (arith, f)
+
+-- ---- what is due
+ask_due : (o : Option ℕ) (b : Bool) (x y : Due) (peer : ℕ) → o ≡ Some peer → b ≡ true → cond (is_some o && b) x y ≡ x
+ask_due None b x y peer e f = absurd (cc)
+ask_due (Some q) true x y peer e f = refl
+ask_due (Some q) false x y peer e f = absurd (cc)
+
+pub ask_undialled : (o : Option ℕ) (b : Bool) (x y : Due) → o ≡ None → cond (is_some o && b) x y ≡ y
+ask_undialled None b x y e = refl
+ask_undialled (Some q) b x y e = absurd (cc)
+
+pub ask_later : (o : Option ℕ) (b : Bool) (x y : Due) → b ≡ false → cond (is_some o && b) x y ≡ y
+ask_later None b x y e = refl
+ask_later (Some q) true x y e = absurd (cc)
+ask_later (Some q) false x y e = refl
+
+-- the peers that are known stay known as the clock is read, at a place that names none
+peers_read : {now mid : Shown} {live later : Live} {history : History} {was is : Relay} {clocked : Clocked} {w : Why}
+    (place next : Place) → KnowsPeers now.counts.peers (stood live place) history
+    → HasRead now mid live later was is w clocked → named next ≡ []
+    → KnowsPeers mid.counts.peers (stood later next) (clock_entries w clocked ++ history)
+peers_read {history = history} {clocked = clocked} {w} place next k r none =
+    let same = r.peers in
+    peers_quiet k (omega (arith, same)) (kinds_read w clocked history) (ap {A = Facts} (λ x. x.peers) r.only)
+    (ap {A = Facts} (λ x. x.television) r.only) none
+
+module _ {run : RelayRun} {start now : Shown} {live later : Live} {history : History} {was is : Relay}
+    {clocked : Clocked} {mid : Shown} where
+  -- ---- the relay's own request
+  pub asks : {place : Place} → Runs run start now (stood live place) history
+      → due_at run (facts_in live) history place ≡ from_ask run (facts_in live) history
+      → (peer : ℕ) → live.wc ≡ Some peer → is_asking run.ask_every live.turn live.asked ≡ true
+      → HasRead now mid live later was is why.Ask clocked
+      → Runs run start mid (stood later (Asking clocked.reading)) (clock_entries why.Ask clocked ++ history)
+  asks s is-due peer some time r =
+      runs_read s why.Ask (is-due ∙ ask_due live.wc _ _ _ peer some time) clocked mid r
+      (stood later (Asking clocked.reading)) refl (peers_read _ _ s.peers r refl)
+
+  -- ---- landings
+  pub lands : {peer : ℕ} {taken : List ℕ} → Runs run start now (stood live (Taken peer taken)) history
+      → is_some (request_in taken) ≡ false → HasRead now mid live later was is why.Land clocked
+      → Runs run start mid (stood later Served) (clock_entries why.Land clocked ++ history)
+  lands s none r =
+      runs_read s why.Land (ap from_taken none) clocked mid r (stood later Served) refl (peers_read _ _ s.peers r refl)
+
+  -- ---- requests of others
+  pub receives : {peer : ℕ} {taken : List ℕ} → Runs run start now (stood live (Taken peer taken)) history
+      → is_some (request_in taken) ≡ true → HasRead now mid live later was is why.Take clocked
+      → Knows run is (sleep_entries clocked.slept ++ history) → (bytes : List ℕ) → taken ≡ bytes
+      → (result : Result Ticket RelayFault)
+      → ((history : History) → StandsFor is.companion history
+      → result ≡ received_after (own_of is.companion) history clocked.reading bytes)
+      → Runs run start mid (stood later (received peer result)) (clock_entries why.Take clocked ++ history)
+  receives {peer} {taken} s some r k bytes same result value =
+      runs_read s why.Take (ap from_taken some) clocked mid r (stood later (received peer result))
+      (ap (λ (x : Result Ticket RelayFault). stood later (received peer x))
+      (ap (λ (own : Local). received_after own (sleep_entries clocked.slept ++ history) clocked.reading taken)
+      (sym k.own)
+      ∙ ap (λ (x : List ℕ). received_after (own_of is.companion) (sleep_entries clocked.slept ++ history)
+      clocked.reading x) same
+      ∙ sym (value (sleep_entries clocked.slept ++ history) k.stands)))
+      (peers_read _ _ s.peers r (by result))
+    where
+      by : (x : Result Ticket RelayFault) → named (received peer x) ≡ []
+      by (Err fault) = refl
+      by (Ok ticket) = refl
+
+  pub answers : {peer : ℕ} {ticket : Ticket} → Runs run start now (stood live (Received peer ticket)) history
+      → HasRead now mid live later was is why.Give clocked
+      → Knows run is (sleep_entries clocked.slept ++ history) → (spent : Ticket) → ticket ≡ spent
+      → (result : Result (List ℕ) RelayFault)
+      → ((history : History) → StandsFor is.companion history
+      → result ≡ datagram_of (answered_after (own_of is.companion) history clocked.reading spent))
+      → Runs run start mid (stood later (answering peer result)) (clock_entries why.Give clocked ++ history)
+  answers {peer} {ticket} s r k spent same result value =
+      runs_read s why.Give refl clocked mid r (stood later (answering peer result))
+      (ap (λ (x : Result (List ℕ) RelayFault). stood later (answering peer x))
+      (ap (λ (own : Local). datagram_of (answered_after own (sleep_entries clocked.slept ++ history) clocked.reading
+      ticket)) (sym k.own)
+      ∙ ap (λ (x : Ticket). datagram_of (answered_after (own_of is.companion) (sleep_entries clocked.slept ++ history)
+      clocked.reading x)) same
+      ∙ sym (value (sleep_entries clocked.slept ++ history) k.stands)))
+      (peers_read _ _ s.peers r (by result))
+    where
+      by : (x : Result (List ℕ) RelayFault) → named (answering peer x) ≡ []
+      by (Err fault) = refl
+      by (Ok bytes) = refl
+
+-- the request was sent
+pub requested : {run : RelayRun} {start now next : Shown} {later : Live} {relay : Relay} {history : History}
+    (live : Live) (reading peer : ℕ) (bytes : List ℕ) → Runs run start now (stood live (Asking reading)) history
+    → live.wc ≡ Some peer → bytes ≡ encoded (request_at reading) → Adds now next (Sent peer bytes ∷ [])
+    → Knows run relay (Sent peer bytes ∷ history)
+    → facts_in later ≡ record (facts_in live) { asked = live.turn }
+    → Comes run start next relay later from_take
+requested {run} {start} {now} {next} {later} {history = history} live reading peer bytes s some request a k e =
+    comes {place = Requested} (record {
+      runs = runs_more s (SendDatagram peer bytes)
+          (ap (λ o. send_to o (encoded (request_at reading))) some ∙ ap (λ b. SendDatagram peer b) (sym request))
+          (Sent peer bytes ∷ []) refl next a.told (same_faults a.same) (stood later Requested)
+          (ap (after run (Sent peer bytes) history) s.progress
+          ∙ ap (λ (f : Facts). record { facts = f; place = Requested }) (sym e))
+          (peers_quiet s.peers (same_peers a.same) (λ q. refl) (ap {A = Facts} (λ x. x.peers) e)
+          (ap {A = Facts} (λ x. x.television) e) refl);
+      knows = k;
+    }) from_take refl
+
+-- an answer was sent, or the outside failed
+pub answer_sent : {run : RelayRun} {start now : Shown} {relay : Relay} {history : History} (live : Live) (next : Shown)
+    (peer : ℕ) (bytes : List ℕ) → Runs run start now (stood live (Answers peer bytes)) history
+    → Knows run relay history → request_in bytes ≡ None → (result : Result (Unit {0}) Driven)
+    → MatchResult result (λ _. Adds now next (Sent peer bytes ∷ [])) (Failed now next)
+    → Arrives run start next relay live Served result
+answer_sent {run} {history = history} live next peer bytes s k none (Ok done) a = record {
+  history = Sent peer bytes ∷ history;
+  stands = record {
+    runs = runs_on s (SendDatagram peer bytes) refl (Sent peer bytes) refl next a.told (same_faults a.same)
+        (peers_quiet s.peers (same_peers a.same) (λ q. refl) refl refl refl);
+    knows = knows_plain k (Sent peer bytes) refl refl
+        (ap (λ (o : Option Message). option_map (λ message. message.originate) o) none) refl refl refl refl;
+  };
+}
+answer_sent live next peer bytes s k none (Err ended) a = stops_by_fault s (lawful k) next ended a
+
+-- ---- datagrams that come
+pub after_call : (old new : Counts) → new ≡ record old { faults = new.faults } → old.peers ≤ new.peers
+after_call old new e = let f : new.peers ≡ old.peers = ap {A = Counts} (λ x. x.peers) e in omega (arith, f)
+
+module _ (live : Live) {run : RelayRun} {start now next : Shown} {history : History} {relay : Relay} {place : Place}
+  where
+    pub took_none : Stands run start now relay (stood live place) history
+        → due_at run (facts_in live) history place ≡ from_take (facts_in live) history
+        → next.told ≡ with_entries (TookNone ∷ []) now.told → next.counts.faults ≡ now.counts.faults
+        → next.counts ≡ record now.counts { faults = next.counts.faults } → IsAt run start next relay live Served
+    took_none s d told faults same = record {
+      history = TookNone ∷ history;
+      stands = record {
+        runs = runs_on s.runs TakeDatagram d TookNone ([], None, refl) next told faults
+            (peers_quiet s.runs.peers (after_call now.counts next.counts same) (λ q. refl) refl refl refl);
+        knows = knows_plain s.knows TookNone refl refl refl refl refl refl refl;
+      };
+    }
+
+    pub took : Stands run start now relay (stood live place) history
+        → due_at run (facts_in live) history place ≡ from_take (facts_in live) history
+        → (peer count : ℕ) (room : List ℕ)
+        → next.told ≡ with_entries (Took peer (take count room) ∷ []) now.told
+        → next.counts.faults ≡ now.counts.faults → next.counts ≡ record now.counts { faults = next.counts.faults }
+        → Stands run start next relay (stood live (Taken peer (take count room)))
+        (Took peer (take count room) ∷ history)
+    took s d peer count room told faults same = record {
+      runs = runs_on s.runs TakeDatagram d (Took peer (take count room)) (room, Some (peer, count), refl) next told
+          faults (peers_quiet s.runs.peers (after_call now.counts next.counts same) (λ q. refl) refl refl refl);
+      knows = knows_plain s.knows (Took peer (take count room)) refl refl refl refl refl refl refl;
+    }
+
+-- ---- the clock of a landing
+-- after a sleep nothing lands
+pub slept_landing : {run : RelayRun} {relay : Relay} (clocked : Clocked) (history : History) → clocked.slept ≡ true
+    → Knows run relay (sleep_entries clocked.slept ++ history)
+    → Knows run relay (clock_entries why.Land clocked ++ history)
+slept_landing {run} {relay} clocked history e k = by clocked.slept e k
+  where
+    by : (b : Bool) → b ≡ true → Knows run relay (sleep_entries b ++ history)
+        → Knows run relay (clock_entries why.Land (record { reading = clocked.reading; slept = b }) ++ history)
+    by true e k = knows_plain k (Clock why.Land clocked.reading) refl refl refl refl refl refl refl
+    by false e k = absurd (cc)
+
+-- without one the datagram does that was taken just before
+pub awake_landing : {run : RelayRun} {was is : Relay} (clocked : Clocked) (peer : ℕ) (taken : List ℕ)
+    (history : History) → clocked.slept ≡ false → Knows run was (sleep_entries clocked.slept ++ history)
+    → (Knows run was history → Knows run is (Clock why.Land clocked.reading ∷ Took peer taken ∷ history))
+    → Knows run is (clock_entries why.Land clocked ++ (Took peer taken ∷ history))
+awake_landing {run} {was} {is} clocked peer taken history e k land = by clocked.slept e k
+  where
+    by : (b : Bool) → b ≡ false → Knows run was (sleep_entries b ++ history)
+        → Knows run is (clock_entries why.Land (record { reading = clocked.reading; slept = b })
+        ++ (Took peer taken ∷ history))
+    by true e k = absurd (cc)
+    by false e k = land k
+
+-- want of memory leaves the history lawful
+pub lawful_landing : {run : RelayRun} {relay : Relay} (clocked : Clocked) (history : History)
+    → Knows run relay (sleep_entries clocked.slept ++ history) → IsLawful (clock_entries why.Land clocked ++ history)
+lawful_landing clocked history k =
+    lawful_plain (Clock why.Land clocked.reading) (sleep_entries clocked.slept ++ history) (lawful k) refl refl

@@ -1,0 +1,40 @@
+use Rattle.std.proofs.Common.{◌≡◌, refl, sym, ◌∙◌, ap, subst, inl, inr, arith, true, false, Option, Some, None}
+use Rattle.std.proofs.Common.{Result, Ok, Err, ℕ, List, ◌∷◌, [], ◌++◌, take}
+use Rattle.std.proofs.lemmas.Grind.{common_steps}
+use Rattle.css_model.specs.declared.Kind.TheVariants as kind
+use Rattle.css_model.specs.declared.Why.TheVariants as why
+use Rattle.css_model.specs.History.{Clock, Slept, Sent, Took, TookNone, Quiet, Heard, Closed, History}
+use Rattle.css_outside.specs.Outsides.{clock_entries, sleep_entries}
+use Rattle.css_outside.specs.declared.calls.Clocked.{Clocked}
+use Rattle.css_drive_relay.specs.Places.{Facts, Place, Progress}
+use Rattle.css_drive_relay.proofs.Dialling as dials
+use Rattle.css_drive_relay.proofs.Serves as serves
+use Rattle.css_drive_relay.proofs.Openings as openings
+use Rattle.css_drive_relay.proofs.Hears as hears
+use Rattle.css_drive_relay.proofs.Ends as ends
+use Rattle.css_drive_relay.proofs.Steps as steps
+use Rattle.css_drive_relay.proofs.Responses as datagrams
+use Rattle.css_drive_relay.proofs.datagrams.request.Goals as goal
+
+pub returns-in-Ok-clause-goes : goal.returns-in-Ok-clause-goes
+returns-in-Ok-clause-goes g c start h at s d some time =
+    let read = c.in_ok-clocked.ensures.told in
+    let clocked : Clocked = c.in_ok-clocked.clocked in
+    let s1 = serves.asks {clocked = clocked} s.runs d c.args.peer some time read in
+    let k1 = read.known c.args.run.now h s.knows in
+    serves.requested c.read.new.live clocked.reading c.args.peer c.ask-bytes.result s1
+    (ap {A = Facts} (λ x. x.wc) read.only ∙ some) c.ask-bytes.ensures.request c.in-Ok.ensures.told
+    (record {
+      stands = c.ask-bytes.ensures.stands _ c.args.peer k1.stands;
+      own = c.ask-bytes.ensures.own ∙ k1.own;
+      wc_url = c.ask-bytes.ensures.wc_url ∙ k1.wc_url;
+    }) refl
+
+pub returns-in-Err-clause-goes : goal.returns-in-Err-clause-goes
+returns-in-Err-clause-goes g c start h at s d some time =
+    let read = c.in_ok-clocked.ensures.told in
+    let clocked : Clocked = c.in_ok-clocked.clocked in
+    let s1 = serves.asks {clocked = clocked} s.runs d c.args.peer some time read in
+    let k1 = read.known c.args.run.now h s.knows in
+    let l = (c.ask-bytes.ensures.stands _ c.args.peer k1.stands).client.lawful in
+    steps.stops_by_fault s1 (record { rises = l.rises.1; asks = l.asks.1 }) _ _ c.in-Err.ensures.told

@@ -1,0 +1,31 @@
+use Rattle.std.proofs.Common.{◌≡◌, refl, sym, ◌∙◌, ap, subst, inl, inr, arith, true, false, Option, Some, None}
+use Rattle.std.proofs.Common.{Result, Ok, Err, ℕ, List, ◌∷◌, [], ◌++◌, take}
+use Rattle.std.proofs.lemmas.Grind.{common_steps}
+use Rattle.css_model.specs.declared.Kind.TheVariants as kind
+use Rattle.css_model.specs.declared.Why.TheVariants as why
+use Rattle.css_model.specs.History.{Clock, Slept, Sent, Took, TookNone, Quiet, Heard, Closed, History}
+use Rattle.css_outside.specs.Outsides.{clock_entries, sleep_entries}
+use Rattle.css_outside.specs.declared.calls.Clocked.{Clocked}
+use Rattle.css_drive_relay.specs.Places.{Facts, Place, Progress}
+use Rattle.css_drive_relay.proofs.Dialling as dials
+use Rattle.css_drive_relay.proofs.Serves as serves
+use Rattle.css_drive_relay.proofs.Openings as openings
+use Rattle.css_drive_relay.proofs.Hears as hears
+use Rattle.css_drive_relay.proofs.Ends as ends
+use Rattle.css_drive_relay.proofs.Steps as steps
+use Rattle.css_drive_relay.proofs.Responses as datagrams
+use Rattle.css_drive_relay.proofs.dials.dial_cii.Goals as goal
+
+pub returns-then-is_some-clause-goes : goal.returns-then-is_some-clause-goes
+returns-then-is_some-clause-goes g c start relay h s =
+    dials.comes s _ (dials.first_skipped _ _ _ (sym c.is_some.ensures ∙ c.if-is_some.true))
+
+pub returns-clause-goes : goal.returns-clause-goes
+returns-clause-goes g c start relay h s =
+    dials.cii_dialled c.args.live.now s (sym c.is_some.ensures ∙ c.if-is_some.false) _ c.in-Some.peer
+    (rw c.in-Some.is at c.in_ok-peer.ensures.told) _ refl
+
+pub returns-in_default-clause-goes : goal.returns-in_default-clause-goes
+returns-in_default-clause-goes g c start relay h s =
+    dials.cii_not_dialled c.args.live.now s (sym c.is_some.ensures ∙ c.if-is_some.false) _
+    (rw c.in_default.is at c.in_ok-peer.ensures.told)

@@ -1,0 +1,56 @@
+use Rattle.std.proofs.Common.{◌≡◌, refl, sym, ◌∙◌, ap, subst, inl, inr, arith, true, false, Option, Some, None}
+use Rattle.std.proofs.Common.{Result, Ok, Err, ℕ, List, ◌∷◌, [], ◌++◌, take}
+use Rattle.std.proofs.lemmas.Grind.{common_steps}
+use Rattle.css_model.specs.declared.Kind.TheVariants as kind
+use Rattle.css_model.specs.declared.Why.TheVariants as why
+use Rattle.css_model.specs.History.{Clock, Slept, Sent, Took, TookNone, Quiet, Heard, Closed, History}
+use Rattle.css_outside.specs.Outsides.{clock_entries, sleep_entries}
+use Rattle.css_outside.specs.declared.calls.Clocked.{Clocked}
+use Rattle.css_drive_relay.specs.Places.{Facts, Place, Progress}
+use Rattle.css_drive_relay.proofs.Dialling as dials
+use Rattle.css_drive_relay.proofs.Serves as serves
+use Rattle.css_drive_relay.proofs.Openings as openings
+use Rattle.css_drive_relay.proofs.Hears as hears
+use Rattle.css_drive_relay.proofs.Ends as ends
+use Rattle.css_drive_relay.proofs.Steps as steps
+use Rattle.css_drive_relay.proofs.Responses as datagrams
+use Rattle.std.specs.Prelude.{drop, get_or, ◌+◌}
+use Rattle.css_drive.proofs.TvLines.{peers_all}
+use Rattle.css_drive.proofs.TvOpens.{peer_from}
+use Rattle.css_drive_relay.specs.Places.{Asked, all_open}
+use Rattle.css_drive_relay.specs.Standing.{facts_in}
+use Rattle.css_drive_relay.proofs.hang_ups.hang_up_each.Goals as goal
+
+pub loop-peer-init : goal.loop-peer-init
+loop-peer-init g c = record {
+  goes = λ start relay h s enough.
+      record { history = h; place = Asked []; hanging = inl (refl, refl); stands = s };
+  dials = refl;
+}
+
+pub loop-peer-preserved : goal.loop-peer-preserved
+loop-peer-preserved g c =
+    let i : ℕ = c.loop-peer.peer-index in
+    let peer : ℕ = get_or c.deref-peer-items.result.now i 0 in
+    let all : List ℕ = all_open (facts_in c.args.live.now) in
+    let e : drop i all ≡ peer ∷ drop (i + 1) all =
+    subst (λ (xs : List ℕ). drop i xs ≡ peer ∷ drop (i + 1) xs) (c.deref-peer-items.ensures.value ∙ c.requires)
+    (peer_from c.deref-peer-items.result.now i c.loop-peer-test.true) in
+    record {
+      goes = λ start relay h s enough.
+          ends.hung _ (c.loop-peer.invariant.goes start relay h s enough) enough peer (i + 1) e c.in-Ok.ensures.told;
+      dials = c.hang_up.ensures.dials ∙ c.loop-peer.invariant.dials;
+    }
+
+pub returns-in-Err-clause-ends : goal.returns-in-Err-clause-ends
+returns-in-Err-clause-ends g c start relay h s enough =
+    let x = c.loop-peer.invariant.goes start relay h s enough in
+    steps.stops_by_fault x.stands.runs (steps.lawful x.stands.knows) _ _ c.in-Err.ensures.told
+
+pub returns-clause-ends : goal.returns-clause-ends
+returns-clause-ends g c start relay h s enough =
+    let x = c.loop-peer.invariant.goes start relay h s enough in
+    let over = c.loop-peer-test.false in
+    ends.all_hung x enough
+    (subst (λ (xs : List ℕ). drop c.loop-peer.peer-index xs ≡ []) c.requires
+    (peers_all c.args.peers.now.items c.loop-peer.peer-index (omega (arith, over))))

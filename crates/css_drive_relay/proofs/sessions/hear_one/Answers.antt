@@ -1,0 +1,44 @@
+use Rattle.std.proofs.Common.{◌≡◌, refl, sym, ◌∙◌, ap, subst, inl, inr, arith, true, false, Option, Some, None}
+use Rattle.std.proofs.Common.{Result, Ok, Err, ℕ, List, ◌∷◌, [], ◌++◌, take}
+use Rattle.std.proofs.lemmas.Grind.{common_steps}
+use Rattle.css_model.specs.declared.Kind.TheVariants as kind
+use Rattle.css_model.specs.declared.Why.TheVariants as why
+use Rattle.css_model.specs.History.{Clock, Slept, Sent, Took, TookNone, Quiet, Heard, Closed, History}
+use Rattle.css_outside.specs.Outsides.{clock_entries, sleep_entries}
+use Rattle.css_outside.specs.declared.calls.Clocked.{Clocked}
+use Rattle.css_drive_relay.specs.Places.{Facts, Place, Progress}
+use Rattle.css_drive_relay.proofs.Dialling as dials
+use Rattle.css_drive_relay.proofs.Serves as serves
+use Rattle.css_drive_relay.proofs.Openings as openings
+use Rattle.css_drive_relay.proofs.Hears as hears
+use Rattle.css_drive_relay.proofs.Ends as ends
+use Rattle.css_drive_relay.proofs.Steps as steps
+use Rattle.css_drive_relay.proofs.Responses as datagrams
+use Rattle.css_drive_relay.proofs.sessions.hear_one.Goals as goal
+
+pub returns-in-Err-clause-goes : goal.returns-in-Err-clause-goes
+returns-in-Err-clause-goes g c start relay h left s =
+    steps.stops_by_fault s.runs (steps.lawful s.knows) _ _ (record {
+      told = c.in-Err.ensures.told;
+      counted = c.end_of.ensures.counted _ _ c.in-Err.ensures.counted.faults;
+      fault = c.end_of.ensures.fault;
+    })
+
+pub returns-in-Ok-Quiet-clause-goes : goal.returns-in-Ok-Quiet-clause-goes
+returns-in-Ok-Quiet-clause-goes g c start relay h left s =
+    hears.one_quiet c.args.live.now c.args.peer left s (rw c.in-Ok-Quiet.field-0-is at c.in-Ok-Quiet.ensures.told)
+    c.in-Ok-Quiet.ensures.counted.faults (serves.after_call (g.O.Outside.counts c.args.outside.now) _ c.in-Ok-Quiet.ensures.counted.same)
+
+pub returns-in-Ok-Closed-clause-goes : goal.returns-in-Ok-Closed-clause-goes
+returns-in-Ok-Closed-clause-goes g c start relay h left s =
+    hears.one_over c.args.live.now c.args.peer left s (rw c.in-Ok-Closed.field-0-is at c.in-Ok-Closed.ensures.told)
+    c.in-Ok-Closed.ensures.counted.faults (serves.after_call (g.O.Outside.counts c.args.outside.now) _ c.in-Ok-Closed.ensures.counted.same) _
+    c.forget.ensures
+
+pub returns-clause-goes : goal.returns-clause-goes
+returns-clause-goes g c start relay h left s =
+    hears.drops c.forget-in-Ok-Text.new.live _ c.args.peer left
+    (hears.one_heard c.args.live.now c.args.peer c.in-Ok-Text.field-0-0 left s
+    (rw c.in-Ok-Text.field-0-is at c.in-Ok-Text.ensures.told)
+    c.in-Ok-Text.ensures.counted.faults (serves.after_call (g.O.Outside.counts c.args.outside.now) _ c.in-Ok-Text.ensures.counted.same) c.forget-in-Ok-Text.new.live
+    c.forget-in-Ok-Text.ensures) c.hang_up.result c.hang_up.ensures.told

@@ -1,0 +1,55 @@
+use Rattle.std.proofs.Common.{◌≡◌, refl, sym, ◌∙◌, ap, subst, inl, inr, arith, true, false, Option, Some, None}
+use Rattle.std.proofs.Common.{Result, Ok, Err, ℕ, List, ◌∷◌, [], ◌++◌, take}
+use Rattle.std.proofs.lemmas.Grind.{common_steps}
+use Rattle.css_model.specs.declared.Kind.TheVariants as kind
+use Rattle.css_model.specs.declared.Why.TheVariants as why
+use Rattle.css_model.specs.History.{Clock, Slept, Sent, Took, TookNone, Quiet, Heard, Closed, History}
+use Rattle.css_outside.specs.Outsides.{clock_entries, sleep_entries}
+use Rattle.css_outside.specs.declared.calls.Clocked.{Clocked}
+use Rattle.css_drive_relay.specs.Places.{Facts, Place, Progress}
+use Rattle.css_drive_relay.proofs.Dialling as dials
+use Rattle.css_drive_relay.proofs.Serves as serves
+use Rattle.css_drive_relay.proofs.Openings as openings
+use Rattle.css_drive_relay.proofs.Hears as hears
+use Rattle.css_drive_relay.proofs.Ends as ends
+use Rattle.css_drive_relay.proofs.Steps as steps
+use Rattle.css_drive_relay.proofs.Responses as datagrams
+use Rattle.css_drive.specs.CompanionStanding.{shown}
+use Rattle.css_drive_relay.proofs.turns.drive_relay.Goals as goal
+
+pub returns-in-Err-clause-ran : goal.returns-in-Err-clause-ran
+returns-in-Err-clause-ran g c = ends.ran_none c.args.config _
+
+pub returns-clause-ran : goal.returns-clause-ran
+returns-clause-ran g c =
+    ends.ran_by (steps.stops_by_fault (ends.at_first c.args.config
+    (shown (g.O.Outside.told c.args.outside.now) (g.O.Outside.counts c.args.outside.now)))
+    (steps.lawful c.in-Ok.ensures.known) (shown (g.O.Outside.told c.listen.new.self) (g.O.Outside.counts c.listen.new.self))
+    c.end_of.result (record {
+      told = c.in-Err-listen.ensures.told;
+      counted = c.end_of.ensures.counted _ _ c.in-Err-listen.ensures.counted.faults;
+      fault = c.end_of.ensures.fault;
+    }))
+
+pub returns-in-Ok-listen-clause-ran : goal.returns-in-Ok-listen-clause-ran
+returns-in-Ok-listen-clause-ran g c =
+    ends.ran_by (c.make_turns.ensures.ends _ _
+    (ends.listens c.args.config _ _ _ c.in-Ok.ensures.known c.in-Ok-listen.ensures.told
+    c.in-Ok-listen.ensures.counted.faults c.in-Ok-listen.ensures.counted.same))
+
+pub returns-clause-counted : goal.returns-clause-counted
+returns-clause-counted g c = record {
+  faults = c.end_of.ensures.counted _ _ c.in-Err-listen.ensures.counted.faults;
+  dials = ends.dials_from (g.O.Outside.counts c.args.outside.now) (g.O.Outside.counts c.listen.new.self) _ _
+      c.in-Err-listen.ensures.counted.same (ends.cut_counts _ _ (omega arith) _ c.end_of.ensures.cut);
+  no_writes = ends.cut_writes _ c.end_of.ensures.cut;
+}
+
+pub returns-in-Ok-listen-clause-counted : goal.returns-in-Ok-listen-clause-counted
+returns-in-Ok-listen-clause-counted g c = record {
+  faults = (c.make_turns.ensures.ends _ _
+      (ends.listens c.args.config _ _ _ c.in-Ok.ensures.known c.in-Ok-listen.ensures.told
+      c.in-Ok-listen.ensures.counted.faults c.in-Ok-listen.ensures.counted.same)).counted;
+  dials = ends.dials_from (g.O.Outside.counts c.args.outside.now) (g.O.Outside.counts c.listen.new.self) _ _ c.in-Ok-listen.ensures.counted.same c.make_turns.ensures.dials;
+  no_writes = c.make_turns.ensures.no_writes;
+}

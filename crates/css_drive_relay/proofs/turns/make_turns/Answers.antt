@@ -1,0 +1,73 @@
+use Rattle.std.proofs.Common.{◌≡◌, refl, sym, ◌∙◌, ap, subst, inl, inr, arith, true, false, Option, Some, None}
+use Rattle.std.proofs.Common.{Result, Ok, Err, ℕ, List, ◌∷◌, [], ◌++◌, take}
+use Rattle.std.proofs.lemmas.Grind.{common_steps}
+use Rattle.css_model.specs.declared.Kind.TheVariants as kind
+use Rattle.css_model.specs.declared.Why.TheVariants as why
+use Rattle.css_model.specs.History.{Clock, Slept, Sent, Took, TookNone, Quiet, Heard, Closed, History}
+use Rattle.css_outside.specs.Outsides.{clock_entries, sleep_entries}
+use Rattle.css_outside.specs.declared.calls.Clocked.{Clocked}
+use Rattle.css_drive_relay.specs.Places.{Facts, Place, Progress}
+use Rattle.css_drive_relay.proofs.Dialling as dials
+use Rattle.css_drive_relay.proofs.Serves as serves
+use Rattle.css_drive_relay.proofs.Openings as openings
+use Rattle.css_drive_relay.proofs.Hears as hears
+use Rattle.css_drive_relay.proofs.Ends as ends
+use Rattle.css_drive_relay.proofs.Steps as steps
+use Rattle.css_drive_relay.proofs.Responses as datagrams
+use Rattle.std.proofs.Common.{◌≤◌}
+use Rattle.css_drive.proofs.CompanionRuns.{risen_from}
+use Rattle.css_drive_relay.specs.Standing.{facts_in}
+use Rattle.css_drive_relay.proofs.turns.make_turns.Goals as goal
+
+pub turns-init : goal.turns-init
+turns-init g c = record {
+  goes = λ start h s. record {
+    history = h;
+    stands = ends.begins _ (ends.first_facts _ _ (c.new.ensures ∙ c.empty.ensures.value) c.new-2.ensures.items) s;
+  };
+  floor = c.requires.floor;
+  dials = omega arith;
+  tried = λ some. absurd (omega (arith, some));
+}
+
+pub turns-preserved : goal.turns-preserved
+turns-preserved g c =
+    let i = c.turns.invariant in
+    record {
+      goes = λ start h s.
+          let x = i.goes start h s in c.in-Ok.ensures.goes start x.history x.stands c.turns-test.true;
+      floor = c.in-Ok.ensures.floor;
+      dials = omega (arith, c.turn.ensures.dials, i.dials);
+      tried = λ some none. risen_from _ _ _ i.dials (c.in-Ok.ensures.tried none);
+    }
+
+pub turn-requires-clause-floor : goal.turn-requires-clause-floor
+turn-requires-clause-floor g c = c.turns.invariant.floor
+
+pub returns-in-Err-clause-ends : goal.returns-in-Err-clause-ends
+returns-in-Err-clause-ends g c start h s =
+    let x = c.turns.invariant.goes start h s in
+    c.in-Err.ensures.goes start x.history x.stands c.turns-test.true
+
+pub returns-in-Err-clause-dials : goal.returns-in-Err-clause-dials
+returns-in-Err-clause-dials g c =
+    ends.cut_counts _ _ (omega (arith, c.turns.invariant.dials, c.turn.ensures.dials)) _ c.in-Err.ensures.cut
+
+pub returns-in-Err-clause-no_writes : goal.returns-in-Err-clause-no_writes
+returns-in-Err-clause-no_writes g c = ends.cut_writes _ c.in-Err.ensures.cut
+
+pub returns-clause-ends : goal.returns-clause-ends
+returns-clause-ends g c start h s =
+    let x = c.turns.invariant.goes start h s in
+    let over = c.turns-test.false in
+    c.finish.ensures.ends start _ x.history x.stands (omega (arith, over))
+
+pub returns-clause-dials : goal.returns-clause-dials
+returns-clause-dials g c =
+    let i = c.turns.invariant in
+    let some : 1 ≤ c.turns.live.made = grind (arith, common_steps, c.args.run.now.some_turns) in
+    ends.dials_same _ _ _ _ c.finish.ensures.dials
+    (ends.ending_counts c.args.run.now (facts_in c.turns.live) _ _ i.dials (i.tried some) _ c.finish.ensures.kind)
+
+pub returns-clause-no_writes : goal.returns-clause-no_writes
+returns-clause-no_writes g c = ends.ending_writes c.args.run.now (facts_in c.turns.live) _ c.finish.ensures.kind

@@ -1,0 +1,31 @@
+use Rattle.std.proofs.Common.{◌≡◌, refl, sym, ◌∙◌, ap, subst, inl, inr, arith, true, false, Option, Some, None}
+use Rattle.std.proofs.Common.{Result, Ok, Err, ℕ, List, ◌∷◌, [], ◌++◌, take}
+use Rattle.std.proofs.lemmas.Grind.{common_steps}
+use Rattle.css_model.specs.declared.Kind.TheVariants as kind
+use Rattle.css_model.specs.declared.Why.TheVariants as why
+use Rattle.css_model.specs.History.{Clock, Slept, Sent, Took, TookNone, Quiet, Heard, Closed, History}
+use Rattle.css_outside.specs.Outsides.{clock_entries, sleep_entries}
+use Rattle.css_outside.specs.declared.calls.Clocked.{Clocked}
+use Rattle.css_drive_relay.specs.Places.{Facts, Place, Progress}
+use Rattle.css_drive_relay.proofs.Dialling as dials
+use Rattle.css_drive_relay.proofs.Serves as serves
+use Rattle.css_drive_relay.proofs.Openings as openings
+use Rattle.css_drive_relay.proofs.Hears as hears
+use Rattle.css_drive_relay.proofs.Ends as ends
+use Rattle.css_drive_relay.proofs.Steps as steps
+use Rattle.css_drive_relay.proofs.Responses as datagrams
+use Rattle.css_drive_relay.proofs.turns.turn.Goals as goal
+
+pub returns-in-Err-clause-goes : goal.returns-in-Err-clause-goes
+returns-in-Err-clause-goes g c start h s few = c.in-Err.ensures.goes start h s few
+
+pub returns-in-Err-call-clause-goes : goal.returns-in-Err-call-clause-goes
+returns-in-Err-call-clause-goes g c start h s few =
+    let a = c.in-Ok.ensures.goes start h s few in
+    c.in-Err-call.ensures.goes start a.history a.stands
+
+pub returns-clause-goes : goal.returns-clause-goes
+returns-clause-goes g c start h s few =
+    let a = c.in-Ok.ensures.goes start h s few in
+    let b = c.in-Ok-call.ensures.goes start a.history a.stands in
+    c.attend.ensures.goes start b.history b.place b.stands b.next

@@ -1,0 +1,39 @@
+-- What holds of every relay's run, by its calls alone.
+use Rattle.std.specs.Prelude.{ℕ, ◌≡◌, List, ◌∷◌, length, Ok}
+use Rattle.css_model.specs.declared.Message.{Message}
+use Rattle.css_model.specs.declared.Why.TheVariants as why
+use Rattle.css_model.specs.Explains.{IsLawful, Explains}
+use Rattle.css_model.specs.History.{Clock, History, Once}
+use Rattle.css_model.specs.WallClock.{Local}
+use Rattle.css_model.specs.Wire.{encoded}
+use Rattle.css_model.specs.World.{World, Errors, IsWorldFor, IsInRange}
+use Rattle.css_relay.specs.Answers.{Ticket, received_after}
+use Rattle.css_relay.specs.TwoHops.{IsAnswerOf, IsTrueResponse, IsTruthfulToAll}
+use Rattle.css_drive_relay.specs.Places.{Place, Received, Answers, progress_of}
+use Rattle.css_drive_relay.specs.declared.config.RelayRun.{RelayRun}
+
+-- The bytes are the datagram of the answer to a request that was taken in the history.
+pub record IsAnswerTo (own : Local) (history : History) (bytes : List ℕ) : Type 0 where
+  pub message : Message
+  pub wire : bytes ≡ encoded message
+  pub answer : IsAnswerOf own history message
+
+-- In each world that keeps the errors and explains the history, the answer is true, and so it is truthful to all who
+-- asked for it before the request was taken, and where it lands after it was given.
+pub record IsTrueTo (run : RelayRun) (history : History) (bytes : List ℕ) : Type 0 where
+  pub answers : IsAnswerTo run.companion.local history bytes
+  pub is_true : (errors : Errors) (world : World) (who : ℕ) (moment_of : ℕ → ℕ)
+      → IsWorldFor errors world who run.companion.local → IsInRange world → IsLawful history
+      → Explains world who errors.tv run.companion.local history moment_of
+      → IsTrueResponse world errors.tv (moment_of (length answers.answer.before_take))
+      (moment_of (length answers.answer.before_give)) answers.message
+  pub truthful : (errors : Errors) (world : World) (who : ℕ) (moment_of : ℕ → ℕ)
+      → IsWorldFor errors world who run.companion.local → IsInRange world → IsLawful history
+      → Explains world who errors.tv run.companion.local history moment_of
+      → IsTruthfulToAll world errors.tv (moment_of (length answers.answer.before_take))
+      (moment_of (length answers.answer.before_give)) answers.message
+
+-- Whatever a run is to send in answer is the true answer to a request that it took.
+abbrev pub AnswersAreTrueTo : Type 0
+AnswersAreTrueTo = (run : RelayRun) (history : History) (peer : ℕ) (bytes : List ℕ)
+    → (progress_of run history).place ≡ Answers peer bytes → IsTrueTo run history bytes

@@ -1,0 +1,5 @@
+pub mod Places
+pub mod Due
+pub mod Ran
+pub mod Standing
+pub mod Laws

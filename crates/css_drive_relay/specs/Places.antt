@@ -1,0 +1,274 @@
+-- How far a relay's run has come: a function of what its calls did so far.
+use Rattle.std.specs.Prelude.{ℕ, ◌+◌, ◌==◌, Bool, true, false, nat_lt, not, filter, List, [], ◌∷◌, ◌++◌, length, if◌then◌else◌}
+use Rattle.std.specs.Prelude.{Option, Some, None, Result, Ok, Err}
+use Rattle.css_model.specs.declared.Why.{Why}
+use Rattle.css_model.specs.declared.Why.TheVariants as why
+use Rattle.css_model.specs.declared.Kind.{Kind}
+use Rattle.css_model.specs.declared.Kind.TheVariants as kind
+use Rattle.css_model.specs.History.{Entry, History, Listening, Slept, Clock, Dialled, NotDialled, Accepted, NoneCame}
+use Rattle.css_model.specs.History.{Sent, Took, TookNone, Quiet, Heard, Closed, Wrote, Gone, HungUp}
+use Rattle.css_cii.specs.States.{empty}
+use Rattle.css_cii.specs.declared.state.State.{State}
+use Rattle.css_sessions.specs.Kept.{difference_text}
+use Rattle.css_companion.specs.Meanings.{state_of}
+use Rattle.css_companion.specs.declared.fault.CompanionFault.{CompanionFault}
+use Rattle.css_relay.specs.Answers.{Ticket, received_after, answered_after, datagram_of}
+use Rattle.css_relay.specs.Relays.{wc_url_of, relayed_state}
+use Rattle.css_relay.specs.declared.fault.RelayFault.{RelayFault}
+use Rattle.css_drive.specs.CompanionDue.{refusal_of}
+use Rattle.css_drive_relay.specs.declared.config.RelayRun.{RelayRun}
+
+-- Where a run stands: by its last entry that is no sleep.
+pub data Place : Type 0 where
+  -- nothing was done
+  Begins : Place
+  -- a turn's reading was told
+  Begun : Place
+  -- a dial of this kind was made
+  Called : (kind : Kind) → Place
+  -- the clock was read for a request of the relay's own
+  Asking : (reading : ℕ) → Place
+  Requested : Place
+  -- a datagram was taken, and its reading isn't told yet
+  Taken : (peer : ℕ) → (bytes : List ℕ) → Place
+  -- it was a request, and the reading of its answer isn't told yet
+  Received : (peer : ℕ) → (ticket : Ticket) → Place
+  -- this answer is still to be sent
+  Answers : (peer : ℕ) → (datagram : List ℕ) → Place
+  -- the turn has no more to do with datagrams
+  Served : Place
+  -- a session of CSS-CII was accepted, and is to be told the state
+  Greeting : (peer : ℕ) → Place
+  -- a session was accepted that the relay doesn't keep
+  Rejecting : (peer : ℕ) → Place
+  -- the television's session is open, and is to be asked for a text
+  Welcomed : (peer : ℕ) → Place
+  -- the television's text is refused
+  Refused : (fault : CompanionFault) → Place
+  -- this text is still to be told to these sessions
+  Telling : (text : List ℕ) → (left : List ℕ) → Place
+  -- These accepted sessions are still to be asked for their texts. So a turn ends where there is none; and as a relay
+  -- begins to listen, there is none.
+  Asked : (left : List ℕ) → Place
+  -- a session told a text, which ends it; after it these are to be asked
+  Dropping : (peer : ℕ) → (left : List ℕ) → Place
+  -- the turns are over, and these sessions are still to be hung up
+  Over : (left : List ℕ) → Place
+
+-- How many turns were begun, and the reading of the last one; the reading of the turn of the last request since the last
+-- sleep; the peers that were dialled, and the television's session of CSS-CII where it is open; the state that the
+-- accepted sessions were told last; and these sessions, in the order in which they came.
+pub record Facts : Type 0 where
+  pub turns : ℕ
+  pub turn : Option ℕ
+  pub asked : Option ℕ
+  pub cii : Option ℕ
+  pub wc : Option ℕ
+  pub television : Option ℕ
+  pub state : State
+  pub peers : List ℕ
+
+pub record Progress : Type 0 where
+  pub facts : Facts
+  pub place : Place
+
+-- the same facts at another place
+abbrev pub at : Place → Progress → Progress
+at place p = record { facts = p.facts; place = place }
+
+-- ---- open sessions
+-- the peers without this one
+abbrev pub without : ℕ → List ℕ → List ℕ
+without peer peers = filter (λ other. not (other == peer)) peers
+
+-- an accepted session is over
+abbrev pub lost : ℕ → Facts → Facts
+lost peer f = record f { peers = without peer f.peers }
+
+-- one peer more, before the first greater one
+abbrev pub with_peer : ℕ → List ℕ → List ℕ
+with_peer new [] = new ∷ []
+with_peer new (peer ∷ peers) = if nat_lt peer new then peer ∷ with_peer new peers else new ∷ peer ∷ peers
+
+-- how many peers come before one
+abbrev pub place : ℕ → List ℕ → ℕ
+place peer [] = 0
+place peer (other ∷ peers) = if nat_lt other peer then place peer peers + 1 else 0
+
+abbrev pub with_television : Option ℕ → List ℕ → List ℕ
+with_television None peers = peers
+with_television (Some peer) peers = with_peer peer peers
+
+-- all open sessions in order of peer, the television's among them
+abbrev pub all_open : Facts → List ℕ
+all_open f = with_television f.television f.peers
+
+abbrev pub without_first : List ℕ → List ℕ
+without_first [] = []
+without_first (peer ∷ peers) = peers
+
+-- ---- places that follow one another
+-- once a session was accepted, or none came: the television is asked first, where its session is open
+abbrev pub next_asked : Option ℕ → List ℕ → Place
+next_asked None peers = Asked peers
+next_asked (Some peer) peers = Welcomed peer
+
+abbrev pub welcomed : Facts → Place
+welcomed f = next_asked f.television f.peers
+
+-- a text is told to these sessions, and then all are asked
+abbrev pub telling : List ℕ → List ℕ → Facts → Place
+telling text [] f = Asked f.peers
+telling text (peer ∷ left) f = Telling text (peer ∷ left)
+
+-- a text, where the state changed
+abbrev pub telling_if : Option (List ℕ) → Facts → Place
+telling_if None f = Asked f.peers
+telling_if (Some text) f = telling text f.peers f
+
+-- ---- datagrams
+abbrev pub received : ℕ → Result Ticket RelayFault → Place
+received peer (Err fault) = Served
+received peer (Ok ticket) = Received peer ticket
+
+abbrev pub answering : ℕ → Result (List ℕ) RelayFault → Place
+answering peer (Err fault) = Served
+answering peer (Ok datagram) = Answers peer datagram
+
+-- a request is received at a reading: it is dropped where it has a fault
+abbrev pub received_at : RelayRun → ℕ → History → Place → Place
+received_at run reading older (Taken peer bytes) =
+    received peer (received_after run.companion.local older reading bytes)
+received_at run reading older place = place
+
+-- so it is where its answer has one
+abbrev pub answered_at : RelayRun → ℕ → History → Place → Place
+answered_at run reading older (Received peer ticket) =
+    answering peer (datagram_of (answered_after run.companion.local older reading ticket))
+answered_at run reading older place = place
+
+-- A datagram was sent: a request of the relay's own, or an answer. Only a request counts for the time of the next one.
+abbrev pub sent : Place → Facts → Progress
+sent (Asking reading) f = record { facts = record f { asked = f.turn }; place = Requested }
+sent place f = record { facts = f; place = Served }
+
+-- ---- clock and dials
+abbrev pub after_clock : RelayRun → Why → ℕ → History → Progress → Progress
+after_clock run why.Turn reading older p = record {
+  facts = record p.facts { turns = p.facts.turns + 1; turn = Some reading };
+  place = Begun;
+}
+after_clock run why.Ask reading older p = at (Asking reading) p
+after_clock run why.Land reading older p = at Served p
+after_clock run why.Take reading older p = at (received_at run reading older p.place) p
+after_clock run why.Give reading older p = at (answered_at run reading older p.place) p
+
+abbrev pub after_dial : Kind → ℕ → Facts → Facts
+after_dial kind.Cii peer f = record f { cii = Some peer; television = Some peer }
+after_dial kind.Wc peer f = record f { wc = Some peer }
+after_dial kind.Ts peer f = f
+
+-- ---- sessions
+-- whether a session is kept that was opened, where so many are open: one of CSS-CII, unless 256 are
+abbrev pub is_kept : Kind → ℕ → Bool
+is_kept kind.Cii count = nat_lt count 256
+is_kept _ count = false
+
+-- a session that is kept is told the state, and any other is hung up
+abbrev pub opened_if : Bool → ℕ → Facts → Progress
+opened_if true peer f = record { facts = record f { peers = f.peers ++ peer ∷ [] }; place = Greeting peer }
+opened_if false peer f = record { facts = f; place = Rejecting peer }
+
+abbrev pub opened : ℕ → Kind → Facts → Progress
+opened peer k f = opened_if (is_kept k (length f.peers)) peer f
+
+-- the relay publishes a state
+abbrev pub published : State → Facts → Progress
+published state f = let now : Facts = record f { state = state } in
+    record { facts = now; place = telling_if (difference_text f.state state) now }
+
+-- A text of the television is refused, or the relay publishes what it tells after it.
+abbrev pub television_told : Option CompanionFault → State → Facts → Progress
+television_told (Some fault) state f = record { facts = f; place = Refused fault }
+television_told None state f = published state f
+
+-- nothing came from the session that was asked
+abbrev pub passed : Place → Facts → Place
+passed (Welcomed peer) f = Asked f.peers
+passed (Asked left) f = Asked (without_first left)
+passed place f = place
+
+-- the text of an accepted session ends it
+abbrev pub heard : RelayRun → ℕ → List ℕ → History → Place → Facts → Progress
+heard run peer bytes older (Welcomed television) f = television_told (refusal_of (Some bytes) older)
+    (relayed_state (wc_url_of run.host run.port) (state_of (Heard peer bytes ∷ older))) f
+heard run peer bytes older (Asked left) f =
+    record { facts = lost peer f; place = Dropping peer (without_first left) }
+heard run peer bytes older place f = record { facts = f; place = place }
+
+-- the session that was asked is over
+abbrev pub closed : ℕ → Place → Facts → Progress
+closed peer (Welcomed television) f = record { facts = record f { television = None }; place = Asked f.peers }
+closed peer (Asked left) f = record { facts = lost peer f; place = Asked (without_first left) }
+closed peer place f = record { facts = f; place = place }
+
+-- a text was sent
+abbrev pub told : Place → Facts → Place
+told (Greeting peer) f = welcomed f
+told (Telling text left) f = telling text (without_first left) f
+told place f = place
+
+-- the session closed to which it was to be sent
+abbrev pub gone : ℕ → Place → Facts → Progress
+gone peer (Greeting other) f = record { facts = lost peer f; place = welcomed (lost peer f) }
+gone peer (Telling text left) f =
+    record { facts = lost peer f; place = telling text (without_first left) (lost peer f) }
+gone peer place f = record { facts = f; place = place }
+
+-- a session was hung up: one that the relay doesn't keep, or since the turns are over
+abbrev pub hung_up : Place → Facts → Place
+hung_up (Rejecting peer) f = welcomed f
+hung_up (Dropping peer left) f = Asked left
+hung_up (Over left) f = Over (without_first left)
+hung_up place f = Over (without_first (all_open f))
+
+-- ---- entries
+abbrev pub after : RelayRun → Entry → History → Progress → Progress
+after run (Listening host port) older p = at (Asked []) p
+after run Slept older p = record { facts = record p.facts { asked = None }; place = p.place }
+after run (Clock w reading) older p = after_clock run w reading older p
+after run (Dialled k peer) older p = record { facts = after_dial k peer p.facts; place = Called k }
+after run (NotDialled k) older p = at (Called k) p
+after run (Accepted peer k) older p = opened peer k p.facts
+after run NoneCame older p = at (welcomed p.facts) p
+after run (Sent peer bytes) older p = sent p.place p.facts
+after run (Took peer bytes) older p = at (Taken peer bytes) p
+after run TookNone older p = at Served p
+after run (Quiet peer) older p = at (passed p.place p.facts) p
+after run (Heard peer bytes) older p = heard run peer bytes older p.place p.facts
+after run (Closed peer) older p = closed peer p.place p.facts
+after run (Wrote peer bytes) older p = at (told p.place p.facts) p
+after run (Gone peer) older p = gone peer p.place p.facts
+after run (HungUp peer) older p = at (hung_up p.place p.facts) p
+after run _ older p = p
+
+-- nothing was done yet
+abbrev pub beginning : Progress
+beginning = record {
+  facts = record {
+    turns = 0;
+    turn = None;
+    asked = None;
+    cii = None;
+    wc = None;
+    television = None;
+    state = empty;
+    peers = [];
+  };
+  place = Begins;
+}
+
+-- how far the run of a relay has come
+abbrev pub progress_of : RelayRun → History → Progress
+progress_of run [] = beginning
+progress_of run (entry ∷ older) = after run entry older (progress_of run older)

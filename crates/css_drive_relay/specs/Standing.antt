@@ -1,0 +1,178 @@
+-- How the variables of a relay's run stand for its history.
+use Rattle.std.specs.Prelude.{◌≡◌, ◌≤◌, ◌<◌, ◌⊎◌, ℕ, List, [], ◌∷◌, ◌++◌, drop, All, Option, Some, None, IfSome}
+use Rattle.std.specs.Prelude.{Result, MatchResult}
+use Rattle.css_model.specs.declared.TheConstants.{LIMIT}
+use Rattle.css_model.specs.declared.Kind.TheVariants as kind
+use Rattle.css_model.specs.declared.Why.{Why}
+use Rattle.css_model.specs.Explains.{IsLawful}
+use Rattle.css_model.specs.History.{History}
+use Rattle.css_outside.specs.Faults.{HasRisen}
+use Rattle.css_outside.specs.Outsides.{Counts, with_entries, clock_entries, sleep_entries}
+use Rattle.css_outside.specs.declared.calls.Clocked.{Clocked}
+use Rattle.css_companion.specs.Meanings.{kind_of}
+use Rattle.css_companion.specs.Standing.{StandsFor, own_of}
+use Rattle.css_relay.specs.Relays.{Relay, wc_url_of}
+use Rattle.css_drive.specs.CompanionStanding.{Shown, asked_after}
+use Rattle.css_drive.specs.Ends.{MayEnd, CountsNetFault}
+use Rattle.css_drive.specs.Proper.{Due}
+use Rattle.css_drive.specs.declared.driven.Driven.{Driven}
+use Rattle.css_drive_relay.specs.Places.{Place, Greeting, Telling, Asked, Dropping, Over, Facts, Progress}
+use Rattle.css_drive_relay.specs.Places.{beginning, progress_of}
+use Rattle.css_drive_relay.specs.Due.{due, due_at, IsProperRelay}
+use Rattle.css_drive_relay.specs.declared.config.RelayRun.{RelayRun}
+use Rattle.css_drive_relay.specs.declared.live.Live.{Live}
+
+-- ---- what the variables say of the history
+abbrev pub facts_in : Live → Facts
+facts_in live = record {
+  turns = live.made;
+  turn = live.turn;
+  asked = live.asked;
+  cii = live.cii;
+  wc = live.wc;
+  television = live.television;
+  state = live.state;
+  peers = live.peers.items;
+}
+
+-- the relay is the configuration's, and stands for the history
+pub record Knows (run : RelayRun) (relay : Relay) (history : History) : Type 0 where
+  pub stands : StandsFor relay.companion history
+  pub own : own_of relay.companion ≡ run.companion.local
+  pub wc_url : relay.wc_url ≡ wc_url_of run.host run.port
+
+-- a peer has a number up to this one, and was not dialled
+pub record IsAccepted (greatest : ℕ) (history : History) (peer : ℕ) : Type 0 where
+  pub used : peer ≤ greatest
+  pub undialled : kind_of peer history ≡ None
+
+-- it was dialled as the television's session
+pub record IsTelevision (greatest : ℕ) (history : History) (peer : ℕ) : Type 0 where
+  pub used : peer ≤ greatest
+  pub dialled : kind_of peer history ≡ Some kind.Cii
+
+-- so it was, where it is open
+pub record IsOpen (greatest : ℕ) (history : History) (television : Option ℕ) : Type 0 where
+  pub is : IfSome television (IsTelevision greatest history)
+
+-- no peer with a greater number was dialled
+pub record AreUndialled (greatest : ℕ) (history : History) : Type 0 where
+  pub none : (peer : ℕ) → greatest < peer → kind_of peer history ≡ None
+
+-- the accepted sessions that a place names
+abbrev pub named : Place → List ℕ
+named (Greeting peer) = peer ∷ []
+named (Telling text left) = left
+named (Asked left) = left
+named (Dropping peer left) = left
+named _ = []
+
+-- which of the sessions were accepted, and which was dialled
+pub record KnowsPeers (greatest : ℕ) (p : Progress) (history : History) : Type 0 where
+  pub accepted : All (IsAccepted greatest history) p.facts.peers
+  pub waiting : All (IsAccepted greatest history) (named p.place)
+  pub television : IsOpen greatest history p.facts.television
+  pub unused : AreUndialled greatest history
+
+-- the facts that the variables say, at a place
+abbrev pub stood : Live → Place → Progress
+stood live place = record { facts = facts_in live; place = place }
+
+-- the relay just listens
+abbrev pub listening : Progress
+listening = record { facts = beginning.facts; place = Asked [] }
+
+-- The run has this history since `start`, it is proper, and it has come so far. No call other than a dial has failed.
+pub record Runs (run : RelayRun) (start now : Shown) (p : Progress) (history : History) : Type 0 where
+  pub told : now.told ≡ with_entries history start.told
+  pub faults : now.counts.faults ≡ start.counts.faults
+  pub proper : IsProperRelay run history
+  pub progress : progress_of run history ≡ p
+  pub peers : KnowsPeers now.counts.peers p history
+
+-- and the relay knows of it
+pub record Stands (run : RelayRun) (start now : Shown) (relay : Relay) (p : Progress) (history : History)
+    : Type 0 where
+  pub runs : Runs run start now p history
+  pub knows : Knows run relay history
+
+-- ---- after a part of the loop
+-- The run came to this place.
+pub record IsAt (run : RelayRun) (start now : Shown) (relay : Relay) (live : Live) (place : Place) : Type 0 where
+  pub history : History
+  pub stands : Stands run start now relay (stood live place) history
+
+-- The run came to where `to` says what is due.
+pub record Comes (run : RelayRun) (start now : Shown) (relay : Relay) (live : Live) (to : Facts → History → Due)
+    : Type 0 where
+  pub history : History
+  pub place : Place
+  pub stands : Stands run start now relay (stood live place) history
+  pub next : due_at run (facts_in live) history place ≡ to (facts_in live) history
+
+-- the run ended as it may
+pub record Stops (run : RelayRun) (start now : Shown) (ended : Driven) : Type 0 where
+  pub history : History
+  pub told : now.told ≡ with_entries history start.told
+  pub counted : CountsNetFault start.counts.faults now.counts.faults ended
+  pub proper : IsProperRelay run history
+  pub lawful : IsLawful history
+  pub ends : MayEnd (due run history) ended
+
+-- the run came to a place, or it ended
+abbrev pub Arrives : {T : Type 0} → RelayRun → Shown → Shown → Relay → Live → Place → Result T Driven → Type 0
+Arrives run start now relay live place result =
+    MatchResult result (λ _. IsAt run start now relay live place) (Stops run start now)
+
+-- the run came to where this is due, or it ended
+abbrev pub Goes : {T : Type 0} → RelayRun → Shown → Shown → Relay → Live → (Facts → History → Due) → Result T Driven
+    → Type 0
+Goes run start now relay live to result =
+    MatchResult result (λ _. Comes run start now relay live to) (Stops run start now)
+
+-- ---- single calls
+-- The clock was read, and where the machine slept the relay knows.
+pub record HasRead (old new : Shown) (before now : Live) (was is : Relay) (why : Why) (clocked : Clocked)
+    : Type 0 where
+  pub told : new.told ≡ with_entries (clock_entries why clocked) old.told
+  pub faults : new.counts.faults ≡ old.counts.faults
+  pub peers : new.counts.peers ≡ old.counts.peers
+  pub last : new.counts.last ≡ clocked.reading
+  pub below : clocked.reading < LIMIT
+  pub floor : is.companion.client.floor ≤ clocked.reading
+  pub known : (run : RelayRun) (history : History) → Knows run was history
+      → Knows run is (sleep_entries clocked.slept ++ history)
+  pub only : facts_in now ≡ record (facts_in before) { asked = asked_after clocked.slept before.asked }
+
+-- what the stages of a turn leave as it is, and that failed dials are counted
+pub record Keeps (old new : Counts) (before now : Live) : Type 0 where
+  pub made : now.made ≡ before.made
+  pub dials : old.dial_faults ≤ new.dial_faults
+  pub dialled : now.cii ≡ None → before.cii ≡ None
+
+-- the same, where no dial is made
+pub record KeepsDials (old new : Counts) (before now : Live) : Type 0 where
+  pub made : now.made ≡ before.made
+  pub dials : new.dial_faults ≡ old.dial_faults
+  pub cii : now.cii ≡ before.cii
+
+-- ---- the end
+-- so many of these sessions were hung up
+abbrev pub IsHanging : List ℕ → ℕ → Place → Type 0
+IsHanging peers index place = ((index ≡ 0) × (place ≡ Asked [])) ⊎ (place ≡ Over (drop index peers))
+
+-- The run has come so far as it hangs up these sessions.
+pub record HangsUp (run : RelayRun) (start now : Shown) (relay : Relay) (live : Live) (peers : List ℕ) (index : ℕ)
+    : Type 0 where
+  pub history : History
+  pub place : Place
+  pub hanging : IsHanging peers index place
+  pub stands : Stands run start now relay (stood live place) history
+
+-- the run ended, in one way where the result is Ok
+abbrev pub Finishes : {T : Type 0} → RelayRun → Shown → Shown → Driven → Result T Driven → Type 0
+Finishes run start now end result = MatchResult result (λ _. Stops run start now end) (Stops run start now)
+
+-- Where no dial of CSS-CII succeeded in a turn, one failed.
+abbrev pub HasTried : Counts → Counts → Live → Type 0
+HasTried before now live = 1 ≤ live.made → live.cii ≡ None → HasRisen before.dial_faults now.dial_faults

@@ -1,0 +1,129 @@
+//! Single calls of a relay's run.
+ghost use Rattle.std.specs.Prelude.{◌≡◌, ◌≤◌, ◌∷◌, [], ℕ, MatchResult, IfOk, IfErr, None};
+ghost use Rattle.css_model.specs.History as entries;
+ghost use Rattle.css_outside.specs.Faults.{CountsOutFault, HasRisen};
+ghost use Rattle.css_outside.specs.Outsides.{wrote_entries};
+ghost use Rattle.css_drive.specs.CompanionStanding.{shown, IsCut, IsFault, Failed, Adds, HasDialled};
+ghost use Rattle.css_drive.specs.Ends.{CountsNetFault};
+ghost use Rattle.css_drive_relay.specs.Standing.{HasRead, KeepsDials};
+
+use crate::live::Live;
+use css_drive::Driven;
+use css_outside::{Address, Clocked, Kind, OutFault, Outside, Why, Wrote};
+use css_relay::Relay;
+
+/// How a run ends with a fault of the outside.
+pub(crate) fn end_of(fault: OutFault) -> Driven
+    ensures fault { IsFault result }
+    ensures cut { IsCut result }
+    ensures counted { (before : ℕ) → (now : ℕ) → CountsOutFault before now fault → CountsNetFault before now result }
+{
+    match fault {
+        OutFault::Failed => Driven::NetFault,
+        OutFault::Memory => Driven::Memory,
+    }
+}
+
+/// Tries a dial. One that fails ends nothing.
+pub(crate) fn try_dial<O: Outside>(
+    outside: &mut O,
+    kind: Kind,
+    to: &Address,
+) -> Result<Option<u32>, Driven>
+    ensures told { MatchResult result
+        (HasDialled (shown (O.told outside.old) (O.counts outside.old))
+        (shown (O.told outside.new) (O.counts outside.new)) kind to.now)
+        (Failed (shown (O.told outside.old) (O.counts outside.old))
+        (shown (O.told outside.new) (O.counts outside.new))) }
+    ensures last { (O.counts outside.new).last ≡ (O.counts outside.old).last }
+    ensures dials { (O.counts outside.old).dial_faults ≤ (O.counts outside.new).dial_faults }
+    ensures cut { IfErr result IsCut }
+    ensures tried { IfOk result (λ tried. tried ≡ None
+        → HasRisen (O.counts outside.old).dial_faults (O.counts outside.new).dial_faults) }
+{
+    match outside.dial(kind, to) {
+        Ok(peer) => Ok(Some(peer)),
+        Err(OutFault::Failed) => Ok(None),
+        Err(OutFault::Memory) => Err(Driven::Memory),
+    }
+}
+
+/// Reads the clock. Where the machine slept, the relay forgets what it asked before the reading is used.
+pub(crate) fn read<O: Outside>(
+    outside: &mut O,
+    relay: &mut Relay,
+    live: &mut Live,
+    why: Why,
+) -> Result<Clocked, Driven>
+    requires { relay.old.companion.client.floor ≤ (O.counts outside.old).last }
+    ensures told { MatchResult result
+        (HasRead (shown (O.told outside.old) (O.counts outside.old)) (shown (O.told outside.new) (O.counts outside.new))
+        live.old live.new relay.old relay.new why)
+        (Failed (shown (O.told outside.old) (O.counts outside.old))
+        (shown (O.told outside.new) (O.counts outside.new))) }
+    ensures keeps { KeepsDials (O.counts outside.old) (O.counts outside.new) live.old live.new }
+    ensures cut { IfErr result IsCut }
+{
+    match outside.now(why) {
+        Ok(clocked) => {
+            if clocked.slept {
+                relay.slept();
+                live.asked = None;
+            }
+            Ok(clocked)
+        }
+        Err(fault) => Err(end_of(fault)),
+    }
+}
+
+/// Sends a datagram.
+pub(crate) fn send<O: Outside>(outside: &mut O, peer: u32, bytes: &[u8; 32]) -> Result<(), Driven>
+    ensures told { MatchResult result
+        (λ _. Adds (shown (O.told outside.old) (O.counts outside.old))
+        (shown (O.told outside.new) (O.counts outside.new)) (entries.Sent peer bytes.now ∷ []))
+        (Failed (shown (O.told outside.old) (O.counts outside.old))
+        (shown (O.told outside.new) (O.counts outside.new))) }
+    ensures last { (O.counts outside.new).last ≡ (O.counts outside.old).last }
+    ensures dials { (O.counts outside.new).dial_faults ≡ (O.counts outside.old).dial_faults }
+    ensures cut { IfErr result IsCut }
+{
+    match outside.send_datagram(peer, bytes) {
+        Ok(()) => Ok(()),
+        Err(fault) => Err(end_of(fault)),
+    }
+}
+
+/// Sends a text on a session.
+pub(crate) fn tell<O: Outside>(outside: &mut O, peer: u32, text: &[u8]) -> Result<Wrote, Driven>
+    ensures told { MatchResult result
+        (λ sent. Adds (shown (O.told outside.old) (O.counts outside.old))
+        (shown (O.told outside.new) (O.counts outside.new)) (wrote_entries peer text.now sent))
+        (Failed (shown (O.told outside.old) (O.counts outside.old))
+        (shown (O.told outside.new) (O.counts outside.new))) }
+    ensures last { (O.counts outside.new).last ≡ (O.counts outside.old).last }
+    ensures dials { (O.counts outside.new).dial_faults ≡ (O.counts outside.old).dial_faults }
+    ensures cut { IfErr result IsCut }
+{
+    match outside.send_text(peer, text) {
+        Ok(sent) => Ok(sent),
+        Err(fault) => Err(end_of(fault)),
+    }
+}
+
+/// Hangs up a session.
+pub(crate) fn hang_up<O: Outside>(outside: &mut O, peer: u32) -> Result<(), Driven>
+    ensures told { MatchResult result
+        (λ _. Adds (shown (O.told outside.old) (O.counts outside.old))
+        (shown (O.told outside.new) (O.counts outside.new)) (entries.HungUp peer ∷ []))
+        (Failed (shown (O.told outside.old) (O.counts outside.old))
+        (shown (O.told outside.new) (O.counts outside.new))) }
+    ensures last { (O.counts outside.new).last ≡ (O.counts outside.old).last }
+    ensures dials { (O.counts outside.new).dial_faults ≡ (O.counts outside.old).dial_faults }
+    ensures cut { IfErr result IsCut }
+    ensures fault { IfErr result IsFault }
+{
+    match outside.hang_up(peer) {
+        Ok(()) => Ok(()),
+        Err(fault) => Err(end_of(fault)),
+    }
+}

@@ -1,0 +1,26 @@
+ghost use Rattle.std.specs.Prelude.{◌≤◌};
+
+use css_companion::CompanionConfig;
+use css_num::Text;
+use css_outside::Address;
+
+/// What a relay's run is to do.
+#[derive(Debug, Drop)]
+pub struct RelayRun {
+    /// What the relay is told of itself as a companion: its own clock. Both of its texts are UTF-8.
+    pub companion: CompanionConfig,
+    /// Where the television's session of CSS-CII is dialled.
+    pub cii: Address,
+    /// The host under which further companions reach the relay, in UTF-8.
+    pub host: Text,
+    /// The port on which it listens.
+    pub port: u16,
+    /// How many turns are made: 1 to 1,000,000.
+    pub turns: u64,
+    /// The time between two requests of the television's wall clock in nanoseconds: 1 to 10^12.
+    pub ask_every: u64,
+    pub ghost some_turns: { 1 ≤ turns },
+    pub ghost few_turns: { turns ≤ 1000000 },
+    pub ghost requests_apart: { 1 ≤ ask_every },
+    pub ghost requests_come: { ask_every ≤ 1000000000000 },
+}

@@ -1,0 +1,219 @@
+//! What a turn of a relay does with datagrams: its own request, what lands, and the requests that it answers.
+ghost use Rattle.std.specs.Prelude.{◌≡◌, ◌≤◌, ◌<◌, ◌∷◌, ℕ, List, OnOk, IfErr, Some, is_some, true, false};
+ghost use Rattle.std.specs.Option.{ForSome};
+ghost use Rattle.css_model.specs.History as entries;
+ghost use Rattle.css_model.specs.History.{History, request_in};
+ghost use Rattle.css_relay.specs.Answers.{Ticket};
+ghost use Rattle.css_drive.specs.CompanionStanding.{Shown, shown, IsCut};
+ghost use Rattle.css_drive.specs.CompanionTurns.{is_asking};
+ghost use Rattle.css_drive_relay.specs.Places.{Place, Taken, Received, Served};
+ghost use Rattle.css_drive_relay.specs.Due.{due_at, from_ask, from_take};
+ghost use Rattle.css_drive_relay.specs.Standing.{facts_in, stood, Stands, Knows, Goes, Arrives, KeepsDials};
+
+use crate::calls::{end_of, read, send};
+use crate::config::RelayRun;
+use crate::live::Live;
+use css_drive::Driven;
+use css_outside::{Outside, Why};
+use css_relay::{Relay, RelayTicket};
+use css_wc::decode;
+
+fn is_time(every: u64, turn: Option<u64>, asked: Option<u64>) -> bool
+    requires few { every ≤ 1000000000000 }
+    requires below { ForSome asked (λ reading. reading < 4294967296000000000) }
+    ensures { result ≡ is_asking every turn asked }
+{
+    match asked {
+        None => true,
+        Some(asked) => asked + every <= turn.unwrap_or(0),
+    }
+}
+
+/// Reads the clock for a request, and sends the request of that reading.
+fn request<O: Outside>(
+    run: &RelayRun,
+    live: &mut Live,
+    relay: &mut Relay,
+    outside: &mut O,
+    peer: u32,
+) -> Result<(), Driven>
+    requires { relay.old.companion.client.floor ≤ (O.counts outside.old).last }
+    ensures goes { (start : Shown) (history : History) (at : Place)
+        → Stands run.now start (shown (O.told outside.old) (O.counts outside.old)) relay.old (stood live.old at) history
+        → due_at run.now (facts_in live.old) history at ≡ from_ask run.now (facts_in live.old) history
+        → live.old.wc ≡ Some peer → is_asking run.now.ask_every live.old.turn live.old.asked ≡ true
+        → Goes run.now start (shown (O.told outside.new) (O.counts outside.new)) relay.new live.new from_take result }
+    ensures floor { OnOk result (relay.new.companion.client.floor ≤ (O.counts outside.new).last) }
+    ensures keeps { KeepsDials (O.counts outside.old) (O.counts outside.new) live.old live.new }
+    ensures cut { IfErr result IsCut }
+{
+    let clocked = read(outside, relay, live, Why::Ask)?;
+    let bytes = relay.ask(clocked.reading);
+    match send(outside, peer, &bytes) {
+        Ok(()) => {
+            live.asked = live.turn;
+            Ok(())
+        }
+        Err(ended) => Err(ended),
+    }
+}
+
+/// Asks the television's wall clock, where it was dialled and it is time.
+pub(crate) fn ask<O: Outside>(
+    run: &RelayRun,
+    live: &mut Live,
+    relay: &mut Relay,
+    outside: &mut O,
+) -> Result<(), Driven>
+    requires { relay.old.companion.client.floor ≤ (O.counts outside.old).last }
+    ensures goes { (start : Shown) (history : History) (at : Place)
+        → Stands run.now start (shown (O.told outside.old) (O.counts outside.old)) relay.old (stood live.old at) history
+        → due_at run.now (facts_in live.old) history at ≡ from_ask run.now (facts_in live.old) history
+        → Goes run.now start (shown (O.told outside.new) (O.counts outside.new)) relay.new live.new from_take result }
+    ensures floor { OnOk result (relay.new.companion.client.floor ≤ (O.counts outside.new).last) }
+    ensures keeps { KeepsDials (O.counts outside.old) (O.counts outside.new) live.old live.new }
+    ensures cut { IfErr result IsCut }
+{
+    let Some(peer) = live.wc else {
+        return Ok(());
+    };
+    if !is_time(run.ask_every, live.turn, live.asked) {
+        return Ok(());
+    }
+    request(run, live, relay, outside, peer)
+}
+
+/// Reads the clock for a datagram that was just taken, and takes it in.
+fn land<O: Outside>(
+    run: &RelayRun,
+    live: &mut Live,
+    relay: &mut Relay,
+    outside: &mut O,
+    bytes: &[u8],
+) -> Result<(), Driven>
+    requires { relay.old.companion.client.floor ≤ (O.counts outside.old).last }
+    ensures goes { (start : Shown) (history : History) (peer : ℕ) (taken : List ℕ)
+        → Stands run.now start (shown (O.told outside.old) (O.counts outside.old)) relay.old (stood live.old (Taken peer taken)) (entries.Took peer taken ∷ history)
+        → Knows run.now relay.old history → taken ≡ bytes.now → is_some (request_in taken) ≡ false
+        → Arrives run.now start (shown (O.told outside.new) (O.counts outside.new)) relay.new live.new Served result }
+    ensures floor { OnOk result (relay.new.companion.client.floor ≤ (O.counts outside.new).last) }
+    ensures keeps { KeepsDials (O.counts outside.old) (O.counts outside.new) live.old live.new }
+    ensures cut { IfErr result IsCut }
+{
+    let clocked = read(outside, relay, live, Why::Land)?;
+    if clocked.slept {
+        // No request from before the sleep is asked any more, so nothing lands.
+        return Ok(());
+    }
+    match relay.land(bytes, clocked.reading) {
+        Ok(_) => Ok(()),
+        Err(_) => Err(Driven::Memory),
+    }
+}
+
+/// Answers a request that was received, unless its answer has a fault.
+fn answer<O: Outside>(
+    run: &RelayRun,
+    live: &mut Live,
+    relay: &mut Relay,
+    outside: &mut O,
+    peer: u32,
+    ticket: RelayTicket,
+) -> Result<(), Driven>
+    requires { relay.old.companion.client.floor ≤ (O.counts outside.old).last }
+    ensures goes { (start : Shown) (history : History) (received : Ticket)
+        → Stands run.now start (shown (O.told outside.old) (O.counts outside.old)) relay.old (stood live.old (Received peer received)) history → received ≡ ticket
+        → Arrives run.now start (shown (O.told outside.new) (O.counts outside.new)) relay.new live.new Served result }
+    ensures floor { OnOk result (relay.new.companion.client.floor ≤ (O.counts outside.new).last) }
+    ensures keeps { KeepsDials (O.counts outside.old) (O.counts outside.new) live.old live.new }
+    ensures cut { IfErr result IsCut }
+{
+    let clocked = read(outside, relay, live, Why::Give)?;
+    match relay.answer(ticket, clocked.reading) {
+        // A request whose answer has a fault is dropped.
+        Err(_) => Ok(()),
+        Ok(bytes) => send(outside, peer, &bytes),
+    }
+}
+
+/// Receives a request, and answers it unless it has a fault.
+fn receive<O: Outside>(
+    run: &RelayRun,
+    live: &mut Live,
+    relay: &mut Relay,
+    outside: &mut O,
+    peer: u32,
+    bytes: &[u8],
+) -> Result<(), Driven>
+    requires { relay.old.companion.client.floor ≤ (O.counts outside.old).last }
+    ensures goes { (start : Shown) (history : History) (taken : List ℕ)
+        → Stands run.now start (shown (O.told outside.old) (O.counts outside.old)) relay.old (stood live.old (Taken peer taken)) history → taken ≡ bytes.now → is_some (request_in taken) ≡ true
+        → Arrives run.now start (shown (O.told outside.new) (O.counts outside.new)) relay.new live.new Served result }
+    ensures floor { OnOk result (relay.new.companion.client.floor ≤ (O.counts outside.new).last) }
+    ensures keeps { KeepsDials (O.counts outside.old) (O.counts outside.new) live.old live.new }
+    ensures cut { IfErr result IsCut }
+{
+    let clocked = read(outside, relay, live, Why::Take)?;
+    match relay.receive(bytes, clocked.reading) {
+        Err(_) => Ok(()),
+        Ok(ticket) => answer(run, live, relay, outside, peer, ticket),
+    }
+}
+
+/// Whether a datagram is a request of the wall clock.
+fn is_request(bytes: &[u8]) -> bool
+    ensures { result ≡ is_some (request_in bytes.now) }
+{
+    match decode(bytes) {
+        Err(_) => false,
+        Ok(message) => message.message_type == 0,
+    }
+}
+
+/// Takes a datagram, if there is one: a request is answered, and anything else lands.
+pub(crate) fn serve<O: Outside>(
+    run: &RelayRun,
+    live: &mut Live,
+    relay: &mut Relay,
+    outside: &mut O,
+) -> Result<(), Driven>
+    requires { relay.old.companion.client.floor ≤ (O.counts outside.old).last }
+    ensures goes { (start : Shown) (history : History) (at : Place)
+        → Stands run.now start (shown (O.told outside.old) (O.counts outside.old)) relay.old (stood live.old at) history
+        → due_at run.now (facts_in live.old) history at ≡ from_take (facts_in live.old) history
+        → Arrives run.now start (shown (O.told outside.new) (O.counts outside.new)) relay.new live.new Served result }
+    ensures floor { OnOk result (relay.new.companion.client.floor ≤ (O.counts outside.new).last) }
+    ensures keeps { KeepsDials (O.counts outside.old) (O.counts outside.new) live.old live.new }
+    ensures cut { IfErr result IsCut }
+{
+    let mut into = [0u8; 64];
+    match outside.take_datagram(&mut into) {
+        Err(fault) => Err(end_of(fault)),
+        Ok(None) => Ok(()),
+        Ok(Some((peer, count))) => take(run, live, relay, outside, peer, &into[..count]),
+    }
+}
+
+/// A datagram that was taken: a request is received, and anything else lands.
+fn take<O: Outside>(
+    run: &RelayRun,
+    live: &mut Live,
+    relay: &mut Relay,
+    outside: &mut O,
+    peer: u32,
+    bytes: &[u8],
+) -> Result<(), Driven>
+    requires { relay.old.companion.client.floor ≤ (O.counts outside.old).last }
+    ensures goes { (start : Shown) (history : History) (taken : List ℕ)
+        → Stands run.now start (shown (O.told outside.old) (O.counts outside.old)) relay.old (stood live.old (Taken peer taken)) (entries.Took peer taken ∷ history)
+        → Knows run.now relay.old history → taken ≡ bytes.now
+        → Arrives run.now start (shown (O.told outside.new) (O.counts outside.new)) relay.new live.new Served result }
+    ensures floor { OnOk result (relay.new.companion.client.floor ≤ (O.counts outside.new).last) }
+    ensures keeps { KeepsDials (O.counts outside.old) (O.counts outside.new) live.old live.new }
+    ensures cut { IfErr result IsCut }
+{
+    if is_request(bytes) {
+        return receive(run, live, relay, outside, peer, bytes);
+    }
+    land(run, live, relay, outside, bytes)
+}

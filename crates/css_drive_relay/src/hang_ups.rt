@@ -1,0 +1,115 @@
+//! The end of a relay's run: all open sessions are hung up in order of peer.
+ghost use Rattle.std.specs.Prelude.{◌≡◌, ◌≤◌, ◌⊎◌, [], length, IfOk, IfErr, OnOk};
+ghost use Rattle.css_model.specs.History.{History};
+ghost use Rattle.css_relay.specs.Relays.{Relay as KnownRelay};
+ghost use Rattle.css_drive.specs.CompanionStanding.{Shown, shown, IsFault};
+ghost use Rattle.css_drive_relay.specs.Places as places;
+ghost use Rattle.css_drive_relay.specs.Places.{Asked};
+ghost use Rattle.css_drive_relay.specs.Due.{final};
+ghost use Rattle.css_drive_relay.specs.Standing.{facts_in, stood, Stands, Stops, Finishes};
+
+use crate::calls::hang_up;
+use crate::config::RelayRun;
+use crate::live::Live;
+use css_drive::Driven;
+use css_num::Memory;
+use css_outside::Outside;
+
+/// How many peers come before one.
+fn place(peers: &[u32], peer: u32) -> usize
+    ensures value { result ≡ places.place peer peers.now }
+    ensures within { result ≤ length peers.now }
+{
+    for (i, other) in peers.iter().enumerate() {
+        if *other >= peer {
+            return i;
+        }
+    }
+    peers.len()
+}
+
+/// Adds a peer before the first greater one.
+fn insert(peers: &mut Vec<u32>, peer: u32) -> Result<(), Memory>
+    ensures { OnOk result (peers.new.items ≡ places.with_peer peer peers.old.items) }
+{
+    let at = place(peers.as_slice(), peer);
+    peers.insert(at, peer)?;
+    Ok(())
+}
+
+/// The accepted sessions that are open.
+fn accepted(live: &Live) -> Result<Vec<u32>, Memory>
+    ensures { IfOk result (λ peers. peers.items ≡ live.now.peers.items) }
+{
+    Ok(live.peers.clone()?)
+}
+
+/// All open sessions in order of peer, the television's among them.
+fn all_open(live: &Live) -> Result<Vec<u32>, Memory>
+    ensures { IfOk result (λ peers. peers.items ≡ places.all_open (facts_in live.now)) }
+{
+    let mut peers = accepted(live)?;
+    match live.television {
+        None => Ok(peers),
+        Some(television) => {
+            insert(&mut peers, television)?;
+            Ok(peers)
+        }
+    }
+}
+
+/// Hangs up these sessions.
+fn hang_up_each<O: Outside>(
+    run: &RelayRun,
+    live: &Live,
+    outside: &mut O,
+    peers: &Vec<u32>,
+) -> Result<(), Driven>
+    requires { peers.now.items ≡ places.all_open (facts_in live.now) }
+    ensures ends { (start : Shown) (relay : KnownRelay) (history : History)
+        → Stands run.now start (shown (O.told outside.old) (O.counts outside.old)) relay (stood live.now (Asked []))
+        history → run.now.turns ≤ live.now.made
+        → Finishes run.now start (shown (O.told outside.new) (O.counts outside.new))
+        (final run.now (facts_in live.now)) result }
+    ensures dials { (O.counts outside.new).dial_faults ≡ (O.counts outside.old).dial_faults }
+    ensures fault { IfErr result IsFault }
+{
+    for peer in peers {
+        match hang_up(outside, *peer) {
+            Ok(()) => {}
+            Err(ended) => return Err(ended),
+        }
+    }
+    Ok(())
+}
+
+/// How a run ends whose turns are made.
+fn ending(run: &RelayRun, live: &Live) -> Driven
+    ensures { result ≡ final run.now (facts_in live.now) }
+{
+    if live.cii.is_some() || live.wc.is_some() {
+        Driven::Done
+    } else {
+        Driven::Unreachable { turns: run.turns }
+    }
+}
+
+/// Hangs up all open sessions, and ends the run.
+pub(crate) fn finish<O: Outside>(run: &RelayRun, live: &Live, outside: &mut O) -> Driven
+    ensures ends { (start : Shown) (relay : KnownRelay) (history : History)
+        → Stands run.now start (shown (O.told outside.old) (O.counts outside.old)) relay (stood live.now (Asked []))
+        history → run.now.turns ≤ live.now.made
+        → Stops run.now start (shown (O.told outside.new) (O.counts outside.new)) result }
+    ensures dials { (O.counts outside.new).dial_faults ≡ (O.counts outside.old).dial_faults }
+    ensures kind { (result ≡ final run.now (facts_in live.now)) ⊎ IsFault result }
+{
+    let peers = match all_open(live) {
+        Ok(peers) => peers,
+        Err(Memory) => return Driven::Memory,
+    };
+    match hang_up_each(run, live, outside, &peers) {
+        Ok(()) => {}
+        Err(ended) => return ended,
+    }
+    ending(run, live)
+}

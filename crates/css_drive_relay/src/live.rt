@@ -1,0 +1,26 @@
+ghost use Rattle.std.specs.Prelude.{◌<◌};
+ghost use Rattle.std.specs.Option.{ForSome};
+
+use crate::published::Published;
+
+/// What a relay's run keeps from call to call.
+#[derive(Drop)]
+pub struct Live {
+    /// How many turns were begun.
+    pub made: u64,
+    /// The reading of the present turn.
+    pub turn: Option<u64>,
+    /// The reading of the turn in which the last request was sent, if one was sent since the last sleep.
+    pub asked: Option<u64>,
+    /// The peers that were dialled.
+    pub cii: Option<u32>,
+    pub wc: Option<u32>,
+    /// The television's session of CSS-CII, where it is open.
+    pub television: Option<u32>,
+    /// The state that the accepted sessions were told last.
+    pub state: Published,
+    /// The accepted sessions that are open, in the order in which they came.
+    pub peers: Vec<u32>,
+    pub ghost asked_below: { ForSome asked (λ reading. reading < 4294967296000000000) },
+    pub ghost turn_below: { ForSome turn (λ reading. reading < 4294967296000000000) },
+}

@@ -1,0 +1,355 @@
+//! What a turn of a relay does with sessions: those that were opened, the television's text, and texts of the others.
+ghost use Rattle.std.specs.Prelude.{◌≡◌, ◌≤◌, ◌∷◌, ℕ, List, OnOk, IfOk, length, filter, not, ◌==◌, [], IfErr, Some, None};
+ghost use Rattle.std.specs.Prelude.{MatchResult, true};
+ghost use Rattle.css_model.specs.History as entries;
+ghost use Rattle.css_model.specs.History.{History};
+ghost use Rattle.css_model.specs.declared.Kind.TheVariants as kinds;
+ghost use Rattle.css_companion.specs.Meanings.{kind_of};
+ghost use Rattle.css_relay.specs.Relays.{Relay as KnownRelay, relayed_state};
+ghost use Rattle.css_drive.specs.CompanionDue.{refusal_of, end_by};
+ghost use Rattle.css_drive.specs.CompanionStanding.{Shown, shown, IsCut, IsRefusal};
+ghost use Rattle.css_drive_relay.specs.Places as places;
+ghost use Rattle.css_drive_relay.specs.Places.{Served, Asked, welcomed, telling, published};
+ghost use Rattle.css_drive_relay.specs.Standing.{facts_in, stood, Stands, Knows, Arrives, KeepsDials};
+
+use crate::calls::{end_of, hang_up, tell};
+use crate::config::RelayRun;
+use crate::live::Live;
+use crate::published::Published;
+use crate::texts::{difference_text, full_text};
+use css_drive::Driven;
+use css_num::Text;
+use css_outside::{Heard, Kind, Outside, Wrote};
+use css_relay::{CompanionEvent, CompanionFault, Relay};
+use std::alloc::Global;
+
+/// Removes a peer.
+fn remove(peers: &mut Vec<u32>, peer: u32)
+    ensures { peers.new.items ≡ filter (λ other. not (other == peer)) peers.old.items }
+{
+    peers.retain(|other| *other != peer);
+}
+
+/// An accepted session is over.
+fn forget(live: &mut Live, peer: u32)
+    ensures { facts_in live.new ≡ places.lost peer (facts_in live.old) }
+{
+    remove(&mut live.peers, peer);
+}
+
+/// Whether a session is kept that was opened, where so many are.
+fn is_kept(kind: Kind, count: usize) -> bool
+    ensures { result ≡ places.is_kept kind count }
+{
+    match kind {
+        Kind::Cii => count < 256,
+        Kind::Wc | Kind::Ts => false,
+    }
+}
+
+/// Tells a session the state that was opened.
+fn greet<O: Outside>(
+    alloc: Global,
+    run: &RelayRun,
+    live: &mut Live,
+    outside: &mut O,
+    peer: u32,
+) -> Result<(), Driven>
+    ensures goes { (start : Shown) (relay : KnownRelay) (history : History)
+        → Stands run.now start (shown (O.told outside.old) (O.counts outside.old)) relay
+        (places.opened_if true peer (facts_in live.old)) history
+        → Arrives run.now start (shown (O.told outside.new) (O.counts outside.new)) relay live.new
+        (welcomed (facts_in live.new)) result }
+    ensures last { (O.counts outside.new).last ≡ (O.counts outside.old).last }
+    ensures keeps { KeepsDials (O.counts outside.old) (O.counts outside.new) live.old live.new }
+    ensures cut { IfErr result IsCut }
+{
+    let text = match full_text(alloc, live.state.state()) {
+        Ok(text) => text,
+        Err(_) => return Err(Driven::Memory),
+    };
+    match live.peers.push(peer) {
+        Ok(()) => {}
+        Err(_) => return Err(Driven::Memory),
+    }
+    match tell(outside, peer, text.bytes()) {
+        Err(ended) => Err(ended),
+        Ok(Wrote::Sent) => Ok(()),
+        Ok(Wrote::Gone) => {
+            forget(live, peer);
+            Ok(())
+        }
+    }
+}
+
+/// How many accepted sessions are open.
+fn count(live: &Live) -> usize
+    ensures { result ≡ length live.now.peers.items }
+{
+    live.peers.len()
+}
+
+/// Greets a session that was opened, or hangs it up.
+fn admit<O: Outside>(
+    alloc: Global,
+    run: &RelayRun,
+    live: &mut Live,
+    outside: &mut O,
+    peer: u32,
+    kind: Kind,
+) -> Result<(), Driven>
+    ensures goes { (start : Shown) (relay : KnownRelay) (history : History)
+        → Stands run.now start (shown (O.told outside.old) (O.counts outside.old)) relay
+        (places.opened peer kind (facts_in live.old)) history
+        → Arrives run.now start (shown (O.told outside.new) (O.counts outside.new)) relay live.new
+        (welcomed (facts_in live.new)) result }
+    ensures last { (O.counts outside.new).last ≡ (O.counts outside.old).last }
+    ensures keeps { KeepsDials (O.counts outside.old) (O.counts outside.new) live.old live.new }
+    ensures cut { IfErr result IsCut }
+{
+    if is_kept(kind, count(live)) {
+        return greet(alloc, run, live, outside, peer);
+    }
+    hang_up(outside, peer)
+}
+
+/// Takes the session that a peer opened, if one did.
+pub(crate) fn welcome<O: Outside>(
+    alloc: Global,
+    run: &RelayRun,
+    live: &mut Live,
+    outside: &mut O,
+) -> Result<(), Driven>
+    ensures goes { (start : Shown) (relay : KnownRelay) (history : History)
+        → Stands run.now start (shown (O.told outside.old) (O.counts outside.old)) relay (stood live.old Served) history
+        → Arrives run.now start (shown (O.told outside.new) (O.counts outside.new)) relay live.new
+        (welcomed (facts_in live.new)) result }
+    ensures last { (O.counts outside.new).last ≡ (O.counts outside.old).last }
+    ensures keeps { KeepsDials (O.counts outside.old) (O.counts outside.new) live.old live.new }
+    ensures cut { IfErr result IsCut }
+{
+    match outside.accept() {
+        Err(fault) => Err(end_of(fault)),
+        Ok(None) => Ok(()),
+        Ok(Some((peer, kind))) => admit(alloc, run, live, outside, peer, kind),
+    }
+}
+
+/// The accepted sessions that are open.
+fn peers_of(live: &Live) -> Result<Vec<u32>, Driven>
+    ensures ok { IfOk result (λ peers. peers.items ≡ live.now.peers.items) }
+    ensures err { IfErr result (λ ended. ended ≡ Driven.Memory) }
+{
+    match live.peers.clone() {
+        Ok(peers) => Ok(peers),
+        Err(_) => Err(Driven::Memory),
+    }
+}
+
+/// Tells one session a text.
+fn tell_one<O: Outside>(
+    run: &RelayRun,
+    live: &mut Live,
+    outside: &mut O,
+    peer: u32,
+    text: &Text,
+) -> Result<(), Driven>
+    ensures goes { (start : Shown) (relay : KnownRelay) (history : History) (left : List ℕ)
+        → Stands run.now start (shown (O.told outside.old) (O.counts outside.old)) relay
+        (stood live.old (telling text.now (peer ∷ left) (facts_in live.old))) history
+        → Arrives run.now start (shown (O.told outside.new) (O.counts outside.new)) relay live.new
+        (telling text.now left (facts_in live.new)) result }
+    ensures last { (O.counts outside.new).last ≡ (O.counts outside.old).last }
+    ensures keeps { KeepsDials (O.counts outside.old) (O.counts outside.new) live.old live.new }
+    ensures cut { IfErr result IsCut }
+{
+    match tell(outside, peer, text.bytes()) {
+        Err(ended) => Err(ended),
+        Ok(Wrote::Sent) => Ok(()),
+        Ok(Wrote::Gone) => {
+            forget(live, peer);
+            Ok(())
+        }
+    }
+}
+
+/// Tells each accepted session a text.
+fn tell_all<O: Outside>(
+    run: &RelayRun,
+    live: &mut Live,
+    outside: &mut O,
+    text: &Text,
+) -> Result<(), Driven>
+    ensures goes { (start : Shown) (relay : KnownRelay) (history : History)
+        → Stands run.now start (shown (O.told outside.old) (O.counts outside.old)) relay
+        (stood live.old (telling text.now live.old.peers.items (facts_in live.old))) history
+        → Arrives run.now start (shown (O.told outside.new) (O.counts outside.new)) relay live.new
+        (Asked live.new.peers.items) result }
+    ensures last { (O.counts outside.new).last ≡ (O.counts outside.old).last }
+    ensures keeps { KeepsDials (O.counts outside.old) (O.counts outside.new) live.old live.new }
+    ensures cut { IfErr result IsCut }
+{
+    let left = match peers_of(live) {
+        Ok(left) => left,
+        Err(ended) => return Err(ended),
+    };
+    for peer in &left {
+        match tell_one(run, live, outside, *peer, text) {
+            Ok(()) => {}
+            Err(ended) => return Err(ended),
+        }
+    }
+    Ok(())
+}
+
+/// Publishes what the relay tells, and tells each accepted session what is new of it.
+fn publish<O: Outside>(
+    alloc: Global,
+    run: &RelayRun,
+    live: &mut Live,
+    relay: &Relay,
+    outside: &mut O,
+) -> Result<(), Driven>
+    ensures goes { (start : Shown) (history : History)
+        → Stands run.now start (shown (O.told outside.old) (O.counts outside.old)) relay.now
+        (published (relayed_state relay.now.wc_url relay.now.companion.state) (facts_in live.old)) history
+        → Arrives run.now start (shown (O.told outside.new) (O.counts outside.new)) relay.now live.new
+        (Asked live.new.peers.items) result }
+    ensures last { (O.counts outside.new).last ≡ (O.counts outside.old).last }
+    ensures keeps { KeepsDials (O.counts outside.old) (O.counts outside.new) live.old live.new }
+    ensures cut { IfErr result IsCut }
+{
+    let state = match relay.relayed() {
+        Ok(state) => state,
+        Err(_) => return Err(Driven::Memory),
+    };
+    let change = match difference_text(alloc, live.state.state(), &state) {
+        Ok(change) => change,
+        Err(_) => return Err(Driven::Memory),
+    };
+    live.state = Published::new(state);
+    match change {
+        None => Ok(()),
+        Some(text) => tell_all(run, live, outside, &text),
+    }
+}
+
+/// How a run ends with a text that is refused.
+fn refused(fault: CompanionFault) -> Driven
+    ensures end { result ≡ end_by fault }
+    ensures cut { IsCut result }
+{
+    match fault {
+        CompanionFault::BadCii { text, fault } => Driven::BadCii { text, fault },
+        CompanionFault::Moved { property, old, new } => Driven::Moved { property, old, new },
+        CompanionFault::Memory => Driven::Memory,
+    }
+}
+
+/// Takes a text of the television in.
+fn take_in(relay: &mut Relay, text: Text) -> Result<(), Driven>
+    ensures told { (run : RelayRun) (peer : ℕ) (history : History)
+        → kind_of peer history ≡ Some kinds.Cii → Knows run relay.old history
+        → MatchResult result
+        (λ _. (refusal_of (Some text) history ≡ None) × Knows run relay.new (entries.Heard peer text ∷ history))
+        (IsRefusal (refusal_of (Some text) history)) }
+    ensures cut { IfErr result IsCut }
+    ensures same { relay.new.companion.client ≡ relay.old.companion.client }
+{
+    match relay.step(CompanionEvent::CiiText(text)) {
+        Ok(_) => Ok(()),
+        Err(fault) => Err(refused(fault)),
+    }
+}
+
+/// Hears the television's session, where it is open. What is new is told to each accepted session.
+pub(crate) fn hear_television<O: Outside>(
+    alloc: Global,
+    run: &RelayRun,
+    live: &mut Live,
+    relay: &mut Relay,
+    outside: &mut O,
+) -> Result<(), Driven>
+    requires { relay.old.companion.client.floor ≤ (O.counts outside.old).last }
+    ensures goes { (start : Shown) (history : History)
+        → Stands run.now start (shown (O.told outside.old) (O.counts outside.old)) relay.old
+        (stood live.old (welcomed (facts_in live.old))) history
+        → Arrives run.now start (shown (O.told outside.new) (O.counts outside.new)) relay.new live.new
+        (Asked live.new.peers.items) result }
+    ensures floor { OnOk result (relay.new.companion.client.floor ≤ (O.counts outside.new).last) }
+    ensures keeps { KeepsDials (O.counts outside.old) (O.counts outside.new) live.old live.new }
+    ensures cut { IfErr result IsCut }
+{
+    let Some(peer) = live.television else {
+        return Ok(());
+    };
+    match outside.take_text(peer) {
+        Err(fault) => Err(end_of(fault)),
+        Ok(Heard::Quiet) => Ok(()),
+        Ok(Heard::Closed) => {
+            live.television = None;
+            Ok(())
+        }
+        Ok(Heard::Text(text)) => match take_in(relay, text) {
+            Ok(()) => publish(alloc, run, live, relay, outside),
+            Err(ended) => Err(ended),
+        },
+    }
+}
+
+/// Asks an accepted session for a text, which ends it.
+fn hear_one<O: Outside>(
+    run: &RelayRun,
+    live: &mut Live,
+    outside: &mut O,
+    peer: u32,
+) -> Result<(), Driven>
+    ensures goes { (start : Shown) (relay : KnownRelay) (history : History) (left : List ℕ)
+        → Stands run.now start (shown (O.told outside.old) (O.counts outside.old)) relay
+        (stood live.old (Asked (peer ∷ left))) history
+        → Arrives run.now start (shown (O.told outside.new) (O.counts outside.new)) relay live.new
+        (Asked left) result }
+    ensures last { (O.counts outside.new).last ≡ (O.counts outside.old).last }
+    ensures keeps { KeepsDials (O.counts outside.old) (O.counts outside.new) live.old live.new }
+    ensures cut { IfErr result IsCut }
+{
+    match outside.take_text(peer) {
+        Err(fault) => Err(end_of(fault)),
+        Ok(Heard::Quiet) => Ok(()),
+        Ok(Heard::Closed) => {
+            forget(live, peer);
+            Ok(())
+        }
+        Ok(Heard::Text(_)) => {
+            forget(live, peer);
+            hang_up(outside, peer)
+        }
+    }
+}
+
+/// Asks each accepted session for a text.
+pub(crate) fn hear_all<O: Outside>(
+    run: &RelayRun,
+    live: &mut Live,
+    outside: &mut O,
+) -> Result<(), Driven>
+    ensures goes { (start : Shown) (relay : KnownRelay) (history : History)
+        → Stands run.now start (shown (O.told outside.old) (O.counts outside.old)) relay
+        (stood live.old (Asked live.old.peers.items)) history
+        → Arrives run.now start (shown (O.told outside.new) (O.counts outside.new)) relay live.new (Asked []) result }
+    ensures last { (O.counts outside.new).last ≡ (O.counts outside.old).last }
+    ensures keeps { KeepsDials (O.counts outside.old) (O.counts outside.new) live.old live.new }
+    ensures cut { IfErr result IsCut }
+{
+    let left = match peers_of(live) {
+        Ok(left) => left,
+        Err(ended) => return Err(ended),
+    };
+    for peer in &left {
+        match hear_one(run, live, outside, *peer) {
+            Ok(()) => {}
+            Err(ended) => return Err(ended),
+        }
+    }
+    Ok(())
+}

@@ -1,0 +1,220 @@
+//! A relay's run over any devices.
+ghost use Rattle.std.specs.Prelude.{◌≡◌, ◌≢◌, ◌≤◌, ◌<◌, ◌+◌, [], OnOk, IfOk, IfErr, None};
+ghost use Rattle.css_model.specs.History.{History};
+ghost use Rattle.css_outside.specs.Faults.{HasRisen};
+ghost use Rattle.css_drive.specs.CompanionStanding.{Shown, shown, IsCut};
+ghost use Rattle.css_drive_relay.specs.Places.{Place, Asked, Begun};
+ghost use Rattle.css_drive_relay.specs.Due.{due_at, from_take};
+ghost use Rattle.css_drive.specs.Ends.{CountsDialFaults};
+ghost use Rattle.css_drive_relay.specs.Ran.{IsWritable, RelayRan, CountsRelayRun};
+ghost use Rattle.css_drive_relay.specs.Standing.{facts_in, stood, listening, Stands, Stops, Knows, Goes, Arrives, Keeps, KeepsDials};
+
+use crate::calls::{end_of, read};
+use crate::config::RelayRun;
+use crate::datagrams::{ask, serve};
+use crate::dials::{dial_cii, dial_wc};
+use crate::hang_ups::finish;
+use crate::live::Live;
+use crate::published::Published;
+use crate::sessions::{hear_all, hear_television, welcome};
+use css_cii::State;
+use css_companion::CompanionConfig;
+use css_drive::Driven;
+use css_num::Memory;
+use css_outside::{Outside, Why};
+use css_relay::Relay;
+use std::alloc::Global;
+
+/// Begins a turn.
+fn begin<O: Outside>(
+    run: &RelayRun,
+    live: &mut Live,
+    relay: &mut Relay,
+    outside: &mut O,
+) -> Result<(), Driven>
+    requires floor { relay.old.companion.client.floor ≤ (O.counts outside.old).last }
+    requires few { live.old.made < 1000000 }
+    ensures goes { (start : Shown) (history : History)
+        → Stands run.now start (shown (O.told outside.old) (O.counts outside.old)) relay.old (stood live.old (Asked []))
+        history → live.old.made < run.now.turns
+        → Arrives run.now start (shown (O.told outside.new) (O.counts outside.new)) relay.new live.new Begun result }
+    ensures floor { OnOk result (relay.new.companion.client.floor ≤ (O.counts outside.new).last) }
+    ensures made { OnOk result (live.new.made ≡ live.old.made + 1) }
+    ensures cii { OnOk result (live.new.cii ≡ live.old.cii) }
+    ensures dials { (O.counts outside.new).dial_faults ≡ (O.counts outside.old).dial_faults }
+    ensures cut { IfErr result IsCut }
+{
+    let reading = read(outside, relay, live, Why::Turn)?.reading;
+    live.turn = Some(reading);
+    live.made += 1;
+    Ok(())
+}
+
+/// Makes the calls of a turn to the television.
+fn call<O: Outside>(
+    alloc: Global,
+    run: &RelayRun,
+    live: &mut Live,
+    relay: &mut Relay,
+    outside: &mut O,
+) -> Result<(), Driven>
+    requires floor { relay.old.companion.client.floor ≤ (O.counts outside.old).last }
+    ensures goes { (start : Shown) (history : History)
+        → Stands run.now start (shown (O.told outside.old) (O.counts outside.old)) relay.old (stood live.old Begun)
+        history
+        → Goes run.now start (shown (O.told outside.new) (O.counts outside.new)) relay.new live.new from_take result }
+    ensures floor { OnOk result (relay.new.companion.client.floor ≤ (O.counts outside.new).last) }
+    ensures keeps { Keeps (O.counts outside.old) (O.counts outside.new) live.old live.new }
+    ensures tried { OnOk result (live.new.cii ≡ None
+        → HasRisen (O.counts outside.old).dial_faults (O.counts outside.new).dial_faults) }
+    ensures cut { IfErr result IsCut }
+{
+    match dial_cii(run, live, outside) {
+        Ok(()) => {}
+        Err(ended) => return Err(ended),
+    }
+    match dial_wc(alloc, run, live, relay, outside) {
+        Ok(()) => {}
+        Err(ended) => return Err(ended),
+    }
+    ask(run, live, relay, outside)
+}
+
+/// Makes the calls of a turn to further companions, and hears the television.
+fn attend<O: Outside>(
+    alloc: Global,
+    run: &RelayRun,
+    live: &mut Live,
+    relay: &mut Relay,
+    outside: &mut O,
+) -> Result<(), Driven>
+    requires floor { relay.old.companion.client.floor ≤ (O.counts outside.old).last }
+    ensures goes { (start : Shown) (history : History) (at : Place)
+        → Stands run.now start (shown (O.told outside.old) (O.counts outside.old)) relay.old (stood live.old at)
+        history → due_at run.now (facts_in live.old) history at ≡ from_take (facts_in live.old) history
+        → Arrives run.now start (shown (O.told outside.new) (O.counts outside.new)) relay.new live.new
+        (Asked []) result }
+    ensures floor { OnOk result (relay.new.companion.client.floor ≤ (O.counts outside.new).last) }
+    ensures keeps { KeepsDials (O.counts outside.old) (O.counts outside.new) live.old live.new }
+    ensures cut { IfErr result IsCut }
+{
+    match serve(run, live, relay, outside) {
+        Ok(()) => {}
+        Err(ended) => return Err(ended),
+    }
+    match welcome(alloc, run, live, outside) {
+        Ok(()) => {}
+        Err(ended) => return Err(ended),
+    }
+    match hear_television(alloc, run, live, relay, outside) {
+        Ok(()) => {}
+        Err(ended) => return Err(ended),
+    }
+    hear_all(run, live, outside)
+}
+
+/// Makes a turn.
+fn turn<O: Outside>(
+    alloc: Global,
+    run: &RelayRun,
+    live: &mut Live,
+    relay: &mut Relay,
+    outside: &mut O,
+) -> Result<(), Driven>
+    requires floor { relay.old.companion.client.floor ≤ (O.counts outside.old).last }
+    requires few { live.old.made < 1000000 }
+    ensures goes { (start : Shown) (history : History)
+        → Stands run.now start (shown (O.told outside.old) (O.counts outside.old)) relay.old (stood live.old (Asked []))
+        history → live.old.made < run.now.turns
+        → Arrives run.now start (shown (O.told outside.new) (O.counts outside.new)) relay.new live.new
+        (Asked []) result }
+    ensures floor { OnOk result (relay.new.companion.client.floor ≤ (O.counts outside.new).last) }
+    ensures made { OnOk result (live.new.made ≡ live.old.made + 1) }
+    ensures dials { (O.counts outside.old).dial_faults ≤ (O.counts outside.new).dial_faults }
+    ensures tried { OnOk result (live.new.cii ≡ None
+        → HasRisen (O.counts outside.old).dial_faults (O.counts outside.new).dial_faults) }
+    ensures cut { IfErr result IsCut }
+{
+    match begin(run, live, relay, outside) {
+        Ok(()) => {}
+        Err(ended) => return Err(ended),
+    }
+    match call(alloc, run, live, relay, outside) {
+        Ok(()) => {}
+        Err(ended) => return Err(ended),
+    }
+    attend(alloc, run, live, relay, outside)
+}
+
+/// The relay of a configuration.
+fn relay_of(alloc: Global, run: &RelayRun) -> Result<Relay, Memory>
+    requires { IsWritable run.now }
+    ensures known { IfOk result (λ relay. Knows run.now relay []) }
+    ensures floor { IfOk result (λ relay. relay.companion.client.floor ≡ 0) }
+{
+    let wanted = CompanionConfig {
+        selector: run.companion.selector.clone()?,
+        stem: run.companion.stem.clone()?,
+        local: run.companion.local,
+    };
+    Relay::new(alloc, wanted, &run.host, run.port)
+}
+
+/// Makes the turns of a run, once the relay listens.
+fn make_turns<O: Outside>(
+    alloc: Global,
+    run: &RelayRun,
+    relay: &mut Relay,
+    outside: &mut O,
+) -> Driven
+    requires floor { relay.old.companion.client.floor ≤ (O.counts outside.old).last }
+    ensures ends { (start : Shown) (history : History)
+        → Stands run.now start (shown (O.told outside.old) (O.counts outside.old)) relay.old listening history
+        → Stops run.now start (shown (O.told outside.new) (O.counts outside.new)) result }
+    ensures dials { CountsDialFaults (O.counts outside.old).dial_faults (O.counts outside.new).dial_faults result }
+    ensures no_writes { result ≢ Driven.WriteFault }
+{
+    let mut live = Live {
+        made: 0,
+        turn: None,
+        asked: None,
+        cii: None,
+        wc: None,
+        television: None,
+        state: Published::new(State::empty()),
+        peers: Vec::new(alloc),
+    };
+    'turns: while live.made < run.turns {
+        match turn(alloc, run, &mut live, relay, outside) {
+            Ok(()) => {}
+            Err(ended) => return ended,
+        }
+    }
+    finish(run, &live, outside)
+}
+
+/// Makes a relay's run: it listens, makes 1 to 1,000,000 turns, and hangs up the sessions that are open then.
+///
+/// In each turn it dials and asks the television as a companion does. It takes one datagram: a request is answered from
+/// its own estimate of the television's wall clock, or dropped where that has a fault, and anything else lands. It
+/// accepts one session: one of CSS-CII is told the state that the relay tells, unless 256 are open, and any other is
+/// hung up. It hears the television, and tells what is new. A text of any other session ends that session.
+///
+/// The texts of the configuration are UTF-8. The run ends as `Done` with the last turn, or as `Unreachable` where no
+/// dial succeeded. A text of the television that is refused ends it as `BadCii` or `Moved`, and an address of its wall
+/// clock that is none as `BadUrl`, at once. So does a fault of the outside, or want of memory; of the faults of a dial
+/// only want of memory does.
+pub fn drive_relay<O: Outside>(alloc: Global, config: RelayRun, outside: &mut O) -> Driven
+    requires { IsWritable config }
+    ensures ran { RelayRan config (O.told outside.old) (O.told outside.new) result }
+    ensures counted { CountsRelayRun (O.counts outside.old) (O.counts outside.new) result }
+{
+    let mut relay = match relay_of(alloc, &config) {
+        Err(Memory) => return Driven::Memory,
+        Ok(relay) => relay,
+    };
+    match outside.listen(&config.host, config.port) {
+        Ok(()) => make_turns(alloc, &config, &mut relay, outside),
+        Err(fault) => end_of(fault),
+    }
+}

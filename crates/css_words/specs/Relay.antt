@@ -1,0 +1,66 @@
+-- Which relay the words of `relay` ask for.
+use Rattle.std.specs.Prelude.{ℕ, List, [], ◌∷◌, codes, Result, Ok}
+use Rattle.clap.specs.Words.{App, Row, Text}
+use Rattle.css_model.specs.History.{Address}
+use Rattle.css_words.specs.Companion.{cii, period, local_error, local_precision}
+use Rattle.css_words.specs.Options.{◌>>=◌, app_with, rows_in, number_in, optional, text_or}
+use Rattle.css_words.specs.Tv.{turns, cii_url, dialled}
+use Rattle.css_words.specs.declared.fault.WordsFault.{WordsFault}
+use Rattle.css_words.specs.declared.words.RelayWords.{RelayWords}
+
+-- what a relay is started with
+pub record RelayAsked : Type 0 where
+  pub cii : Address
+  pub port : ℕ
+  pub turns : ℕ
+  pub ask_every : ℕ
+  pub local_error : ℕ
+  pub local_precision : ℕ
+  pub host : Text
+
+abbrev pub relay_of : RelayWords → RelayAsked
+relay_of words = record {
+  cii = words.cii;
+  port = words.port;
+  turns = words.turns;
+  ask_every = words.ask_every;
+  local_error = words.local_error;
+  local_precision = words.local_precision;
+  host = words.host;
+}
+
+-- ---- its options
+abbrev pub port : List Row → Result ℕ WordsFault
+port = optional 6690 (number_in 1024 65534) (codes "port")
+
+abbrev pub relay_options : List Text
+relay_options =
+    codes "cii" ∷ codes "port" ∷ codes "turns" ∷ codes "ask-every" ∷ codes "local-error" ∷ codes "local-precision"
+    ∷ codes "host" ∷ []
+
+abbrev pub relay_app : App
+relay_app = app_with relay_options
+
+unfoldable pub relay_rows : List Text → Result (List Row) WordsFault
+relay_rows words = rows_in relay_app words
+
+-- the address has to be given, and companions have to be able to dial the host
+unfoldable pub relay_in : List Text → Result RelayAsked WordsFault
+relay_in words = do
+  rows ← relay_rows words
+  cii ← cii rows
+  port ← port rows
+  turns ← turns rows
+  ask_every ← period (codes "ask-every") rows
+  local_error ← local_error rows
+  local_precision ← local_precision rows
+  checked ← dialled (cii_url (text_or (codes "127.0.0.1") (codes "host") rows) port)
+  Ok (record {
+    cii = cii;
+    port = port;
+    turns = turns;
+    ask_every = ask_every;
+    local_error = local_error;
+    local_precision = local_precision;
+    host = text_or (codes "127.0.0.1") (codes "host") rows;
+  })

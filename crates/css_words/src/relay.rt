@@ -1,0 +1,72 @@
+ghost use Rattle.std.specs.Prelude.{◌≡◌, ◌≤◌, IfOk, map, string_bytes};
+ghost use Rattle.std.specs.Str.{IsUtf8};
+ghost use Rattle.clap.specs.Words.{found_of, rows_of};
+ghost use Rattle.css_num.specs.Gives.{GivesBy};
+ghost use Rattle.css_words.specs.Relay as relay;
+ghost use Rattle.css_words.specs.declared.fault.WordsFault.TheVariants as faults;
+
+use crate::companion::{cii, local_error, local_precision, period};
+use crate::fault::WordsFault;
+use crate::options::{command_with, matches_in, number_or, text_given_or};
+use crate::tv::{LOCAL_HOST, check_host, turns};
+use crate::words::RelayWords;
+use clap::ArgMatches;
+use css_num::Text;
+use std::alloc::Global;
+
+static OPTIONS: [&str; 7] = [
+    "cii",
+    "port",
+    "turns",
+    "ask-every",
+    "local-error",
+    "local-precision",
+    "host",
+];
+
+// The port of the relay.
+fn port(matches: &ArgMatches<'_>) -> Result<u16, WordsFault>
+    ensures value { result ≡ relay.port (rows_of (found_of matches.now)) }
+    ensures least { IfOk result (λ port. 1024 ≤ port) }
+    ensures most { IfOk result (λ port. port ≤ 65534) }
+{
+    let port = number_or(matches, "port", 6690, 1024, 65_534)?;
+    Ok(port as u16)
+}
+
+fn relay_matches<'a>(alloc: Global, words: &'a [String]) -> Result<ArgMatches<'a>, WordsFault>
+    ensures { GivesBy (λ matches. rows_of (found_of matches)) faults.Memory result
+        (relay.relay_rows (map string_bytes words.entry.now)) }
+{
+    let command = command_with(alloc, OPTIONS.as_slice())?;
+    matches_in(command, words)
+}
+
+/// The relay that the words of `relay` ask for.
+#[tactic(auto, unfolding(crate::specs::Relay::relay_in))]
+pub fn relay_words(alloc: Global, words: &[String]) -> Result<RelayWords, WordsFault>
+    ensures value { GivesBy relay.relay_of faults.Memory result (relay.relay_in (map string_bytes words.now)) }
+    ensures utf8 { IfOk result (λ words. IsUtf8 words.host) }
+{
+    let matches = relay_matches(alloc, words)?;
+    let cii = cii(alloc, &matches)?;
+    let port = port(&matches)?;
+    let turns = turns(&matches)?;
+    let ask_every = period(&matches, "ask-every")?;
+    let local_error = local_error(&matches)?;
+    let local_precision = local_precision(&matches)?;
+    let host = Text::of(
+        alloc,
+        text_given_or(&matches, "host", LOCAL_HOST).as_bytes(),
+    )?;
+    check_host(alloc, &host, port)?;
+    Ok(RelayWords {
+        cii,
+        port,
+        turns,
+        ask_every,
+        local_error,
+        local_precision,
+        host,
+    })
+}
