@@ -1,0 +1,13 @@
+use Rattle.std.proofs.Common.{subst, List, ◌∷◌}
+use Rattle.std.specs.Prelude.{ℕ}
+use Rattle.css_model.specs.declared.Why.TheVariants as why
+use Rattle.css_model.specs.History.{Clock, Took}
+use Rattle.css_companion.specs.Standing as companions
+use Rattle.css_audit.specs.Entries.{history_in, wall_peer}
+use Rattle.css_audit.proofs.taking.take_datagram.Goals as goal
+
+pub returns-clause-tells : goal.returns-clause-tells
+returns-clause-tells c = λ older keeps.
+    subst (λ (bytes : List ℕ). companions.StandsFor c.land.new.self
+    (Clock why.Land c.args.reading ∷ Took wall_peer bytes ∷ history_in older)) c.bytes.ensures
+    (c.in_ok-land.ensures.stands (history_in older) wall_peer keeps.told)

@@ -1,0 +1,11 @@
+pub mod Faults
+pub mod FaultWords
+pub mod HexWords
+pub mod Inputs
+pub mod Printed
+pub mod Entries
+pub mod Verdicts
+pub mod Standing
+pub mod Auditing
+pub mod Reading
+pub mod Promise
