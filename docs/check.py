@@ -118,6 +118,9 @@ def quote_faults(page):
 
 
 def main(words):
+    if words not in ([], ["--try"]):
+        print(__doc__)
+        return 2
     bad = claims.main() + trusted.main(["--check"])
     if "--try" not in words:
         build()
