@@ -341,6 +341,23 @@ def pair(port):
     check("a pair makes its reports", told[0] == 0 and len(lines) == 5 and lines[-1].startswith("5 ticks "), told)
 
 
+def relay(port):
+    """A companion that knows a relay alone has its wall clock and state from it, and its timeline from the television."""
+    child = television(PROGRAM, port, SCRIPT, [])
+    relay = start(PROGRAM, ["relay", "--cii", f"ws://127.0.0.1:{port}/cii", "--port", str(port + 1), "--turns", "400",
+                            "--ask-every", "50000000"])
+    companion = start(PROGRAM, ["companion", "--cii", f"ws://127.0.0.1:{port + 1}/cii", "--reports", "4",
+                                "--report-every", "200000000", "--ask-every", "50000000"])
+    lines = companion.stdout.read().decode().splitlines()
+    told = companion.wait(60), lines[-1:]
+    check("a companion of a relay", told[0] == 0 and len(lines) == 4 and lines[-1].startswith("4 ticks "), told)
+    check("a relay makes its turns", relay.wait(60) == 0, relay.stderr.read().decode().strip())
+    child.kill()
+    child.wait()
+    told = status_of(["relay", "--cii", f"ws://127.0.0.1:{port}/cii", "--port", str(port + 1), "--turns", "20"])
+    check("a relay of no television", told == (10, "css: unreachable after 20 turns"), told)
+
+
 # ---- all of it
 
 if __name__ == "__main__":
@@ -350,5 +367,6 @@ if __name__ == "__main__":
     addresses(PORT + 4)
     pair(PORT + 6)
     against_companion(PORT + 8, PROGRAM, check)
+    relay(PORT + 28)
     print(f"{len(failed)} failed")
     sys.exit(1 if failed else 0)
