@@ -38,6 +38,11 @@ line_text-back line h first =
     (reading-solid line.t h.t) (reading-solid line.w h.w, (reading-solid line.l h.l, verb-solid line.verb h.verb)))
     ∙ words-back line h first
 
+-- and what a call writes, where it writes the text
+pub line_back : (line : Line) (text : List ℕ) → IsLine line → IsFirst line → text ≡ line_text line
+    → line_of text ≡ Ok line
+line_back line text h first e = ap line_of e ∙ line_text-back line h first
+
 -- ---- lines of version 2
 -- a verb other than a sleep is read as in version 1
 second_verb-same : (verb : Verb) → is_sleep verb ≡ false → second_verb_at (verb_words verb) ≡ verb_at (verb_words verb)
