@@ -295,13 +295,13 @@ record IsSecondLine (companions : ℕ) (line : Line) : Type 0 where
 named_own : (who l : ℕ) (verb : Verb) → is_named who l verb ≡ true → is_own verb ≡ true → 1 ≤ who
 named_own who l verb named own = by (who == 0) refl named
   where
+    positive : (n : ℕ) → (n ≡ 0 → ⊥) → 1 ≤ n
+    positive n apart = omega arith
     by : (b : Bool) → (who == 0) ≡ b → (not b || (l == 0 && not (is_own verb))) ≡ true → 1 ≤ who
     by true e h =
         let none : not (is_own verb) ≡ true = (both (l == 0) (not (is_own verb)) h).1 in
         absurd (let no : false ≡ true = ap not (sym own) ∙ none in cc)
     by false e h = positive who (eqb-false who 0 e)
-    positive : (n : ℕ) → (n ≡ 0 → ⊥) → 1 ≤ n
-    positive n apart = omega arith
 
 named_none : (who l : ℕ) (verb : Verb) → is_named who l verb ≡ true → who ≡ 0 → l ≡ 0
 named_none who l verb named none =
