@@ -83,8 +83,7 @@ declared-back header rest h =
 declared-solid : (header : Header) (rest : List (List ℕ)) → IsPrintable header → AllSolid rest
     → AllSolid (declared_words header rest)
 declared-solid header rest h solid =
-    let small = precision-small header.tv_precision h.least h.greatest in
-    (
+    let small = precision-small header.tv_precision h.least h.greatest in (
       mode-solid header.follow,
       (
         decimal-solid header.tv_error (omega (arith, h.tv_error)),
@@ -132,9 +131,10 @@ first-back header companion h own =
 -- the words of a header with one companion are solid
 first-solid : (header : Header) (companion : CompanionLine) → IsPrintable header → IsPrintableCompanion companion
     → AllSolid (codes "1" ∷ declared_words header (companion_words companion))
-first-solid header companion h own =
-    (graphic-solid (codes "1") refl,
-    declared-solid header (companion_words companion) h (companion-solid companion own))
+first-solid header companion h own = (
+  graphic-solid (codes "1") refl,
+  declared-solid header (companion_words companion) h (companion-solid companion own),
+)
 
 -- its text is read back
 one-back : (header : Header) (companion : CompanionLine) → IsPrintable header → IsPrintableCompanion companion
@@ -220,12 +220,11 @@ companion_lines-free : (number : ℕ) (companions : List CompanionLine) → numb
     → All IsPrintableCompanion companions → AllFree is_feed (companion_lines number companions)
 companion_lines-free number [] few all = tt
 companion_lines-free number (companion ∷ companions) few all =
-    let words = decimal number ∷ companion_words companion in
-    (
+    let words = decimal number ∷ companion_words companion in (
       line-free (codes "companion") words (graphic-solid (codes "companion") refl) (numbered-solid number companion
-      (omega (arith, few)) (All-head IsPrintableCompanion companion companions all)),
+          (omega (arith, few)) (All-head IsPrintableCompanion companion companions all)),
       companion_lines-free (suc number) companions (omega (arith, few))
-      (All-tail IsPrintableCompanion companion companions all),
+          (All-tail IsPrintableCompanion companion companions all),
     )
 
 numbered-back : (number : ℕ) (companion : CompanionLine) → number ≤ max_companions → IsPrintableCompanion companion
@@ -293,10 +292,11 @@ second-back header h count =
 
 second-solid : (header : Header) → IsPrintable header → IsCount (length header.companions)
     → AllSolid (second_words header)
-second-solid header h count =
-    (graphic-solid (codes "2") refl,
-    declared-solid header (decimal (length header.companions) ∷ []) h
-    (number-solid (length header.companions) count.high, tt))
+second-solid header h count = (
+  graphic-solid (codes "2") refl,
+  declared-solid header (decimal (length header.companions) ∷ []) h
+      (number-solid (length header.companions) count.high, tt),
+)
 
 -- as many lines as companions
 companion_lines-length : (number : ℕ) (companions : List CompanionLine)

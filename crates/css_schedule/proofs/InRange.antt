@@ -297,6 +297,7 @@ named_own who l verb named own = by (who == 0) refl named
   where
     positive : (n : ℕ) → (n ≡ 0 → ⊥) → 1 ≤ n
     positive n apart = omega arith
+
     by : (b : Bool) → (who == 0) ≡ b → (not b || (l == 0 && not (is_own verb))) ≡ true → 1 ≤ who
     by true e h =
         let none : not (is_own verb) ≡ true = (both (l == 0) (not (is_own verb)) h).1 in

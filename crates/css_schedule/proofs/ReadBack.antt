@@ -130,8 +130,13 @@ second_line-back : (most companions : ℕ) (line : Line) → IsLine line → IsS
 second_line-back most companions line h second top within few =
     let who = second.who in
     ap (lines.second_of_words companions) (words_of-with_words (decimal line.t) (second_line_words line)
-    (reading-solid line.t h.t) (reading-solid line.w h.w, (decimal-solid line.who (omega (arith, who, top)),
-    (reading-solid line.l h.l, verb-solid line.verb h.verb))))
+    (reading-solid line.t h.t) (
+      reading-solid line.w h.w,
+      (
+        decimal-solid line.who (omega (arith, who, top)),
+        (reading-solid line.l h.l, verb-solid line.verb h.verb),
+      ),
+    ))
     ∙ second_words-back most companions line h second within few
 
 -- ---- lines of both versions

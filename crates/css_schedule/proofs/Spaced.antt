@@ -118,6 +118,7 @@ graphic_in_word byte h = by (both (nat_le 33 byte) (nat_le byte 126) h).0
     apart other small low =
         ne_eqb byte other (λ e. absurd (let both_ways : false ≡ true =
         sym small ∙ subst (λ b. nat_le 33 b ≡ true) e low in cc))
+
     by : nat_le 33 byte ≡ true → IsInWord byte
     by low = record { no_space = apart 32 refl low; no_feed = apart 10 refl low }
 

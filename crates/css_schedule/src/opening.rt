@@ -256,11 +256,7 @@ fn numbered(alloc: Global, words: Words<'_>, number: u32) -> Result<CompanionLin
 /// The words are `companion K EL PL SELECTOR STEM`, with exactly one space between two of them. K is the number; the
 /// others are as in `read_header`. Anything else is `Form`, the line of another companion too.
 #[tactic(auto, using(crate::proofs::HeadersInRange::companion_in_range))]
-pub fn read_companion(
-    alloc: Global,
-    bytes: &[u8],
-    number: u32,
-) -> Result<CompanionLine, LineFault>
+pub fn read_companion(alloc: Global, bytes: &[u8], number: u32) -> Result<CompanionLine, LineFault>
     requires { IsCount number }
     ensures value { GivesBy (λ x. x) faults.Memory result (companion_of number bytes.now) }
     ensures range { IfOk result IsGoodCompanion }
