@@ -56,7 +56,8 @@ fn a_schedule_becomes_one_of_version_2(rt: HostRuntime) -> Result<(), Fail> {
 #[test]
 fn a_header_alone_becomes_two_lines(rt: HostRuntime) -> Result<(), Fail> {
     let header = "css-schedule 1 follow 12800 -20 12800 1000 urn:dvb:css:timeline:pts dvb://\n";
-    let lines = "css-schedule 2 follow 12800 -20 1\ncompanion 1 12800 1000 urn:dvb:css:timeline:pts dvb://\n";
+    let lines =
+        "css-schedule 2 follow 12800 -20 1\ncompanion 1 12800 1000 urn:dvb:css:timeline:pts dvb://\n";
     assert_becomes(&rt, rt.alloc(), header, Ok(()), lines)?;
     Ok(())
 }
@@ -91,7 +92,9 @@ const NO_LINE: [&str; 6] = [
 #[test]
 fn the_first_line_outside_the_grammar_is_refused(rt: HostRuntime) -> Result<(), Fail> {
     for line in NO_LINE {
-        let bytes = format!(in rt.alloc(); "css-schedule 1 plain 0 -30 0 0 urn:x -\n0 0 0 up ts\n{line}\n0 0 0 up ts\n")?;
+        let bytes = format!(in rt.alloc();
+            "css-schedule 1 plain 0 -30 0 0 urn:x -\n0 0 0 up ts\n{line}\n0 0 0 up ts\n"
+        )?;
         let before = "css-schedule 2 plain 0 -30 1\ncompanion 1 0 0 urn:x -\n0 0 1 0 up ts\n";
         assert_becomes(&rt, rt.alloc(), &bytes, refused(3), before)?;
     }

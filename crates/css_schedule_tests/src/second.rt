@@ -36,11 +36,7 @@ fn a_header_says_how_many_companions_follow(rt: HostRuntime) {
     assert!(rt; !plain.follow);
     assert_eq!(rt; (plain.tv_error, plain.tv_precision, one), (0, -30, 1));
     assert!(rt; plain.companions.list().is_empty());
-    let (follow, most) = opened(
-        &rt,
-        rt.alloc(),
-        b"css-schedule 2 follow 25600000 -128 16",
-    );
+    let (follow, most) = opened(&rt, rt.alloc(), b"css-schedule 2 follow 25600000 -128 16");
     assert!(rt; follow.follow);
     assert_eq!(rt;
         (follow.tv_error, follow.tv_precision, most),
@@ -101,7 +97,7 @@ fn a_companion_is_read(rt: HostRuntime) {
     assert_eq!(rt; empty.stem.bytes(), b"".as_slice());
 }
 
-/// What isn't the line of companion 2: another number, a word too few or too many, a bad number, a line of another kind.
+/// What isn't the line of companion 2: another number, a word too few or too many, a bad number, another line.
 const NO_COMPANION: [&str; 21] = [
     "companion 1 0 0 urn:x -",
     "companion 3 0 0 urn:x -",
@@ -161,8 +157,7 @@ fn a_header_is_printed_as_it_was_read(rt: HostRuntime) -> Result<(), Fail> {
     let two = print_header(alloc, &header, 2)?;
     assert_eq!(rt;
         two.bytes(),
-        b"css-schedule 2 follow 12800 -20 2\ncompanion 1 0 0 urn:x -\ncompanion 2 12800 1000 ~ dvb://"
-            .as_slice()
+        b"css-schedule 2 follow 12800 -20 2\ncompanion 1 0 0 urn:x -\ncompanion 2 12800 1000 ~ dvb://".as_slice()
     );
     Ok(())
 }
