@@ -138,7 +138,8 @@ first-range : (words : List (List ℕ)) → IfOk (first_of_words words) IsReadSt
 unfolding first_of_words
 first-range words =
     after AreInRange IsReadStart _ _ (declared-range words) (λ declared rest known.
-    after_whole IsGoodCompanion IsReadStart (companion_of_words rest) _ (companion-range rest) (λ companion good. record {
+    after_whole IsGoodCompanion IsReadStart (companion_of_words rest) _ (companion-range rest) (λ companion good.
+    record {
       tv = record {
         tv_error = known.of_tv;
         tv_precision = known.greatest;

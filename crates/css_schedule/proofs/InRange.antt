@@ -351,7 +351,8 @@ pub second_line_range : (companions : ℕ) (words : List (List ℕ)) (answer : R
     → GivesBy (λ line. line) Memory answer (lines.second_of_words companions words) → IfOk answer IsLine
 second_line_range companions words answer e =
     by answer
-    (answer-range (IsSecondLine companions) answer (lines.second_of_words companions words) (second-range companions words) e)
+    (answer-range (IsSecondLine companions) answer (lines.second_of_words companions words)
+    (second-range companions words) e)
   where
     by : (answer : Result Line LineFault) → IfOk answer (IsSecondLine companions) → IfOk answer IsLine
     by (Ok line) h = h.range
@@ -361,7 +362,8 @@ pub second_is_second : (companions : ℕ) (words : List (List ℕ)) (answer : Re
     → GivesBy (λ line. line) Memory answer (lines.second_of_words companions words) → IfOk answer (IsSecond companions)
 second_is_second companions words answer e =
     by answer
-    (answer-range (IsSecondLine companions) answer (lines.second_of_words companions words) (second-range companions words) e)
+    (answer-range (IsSecondLine companions) answer (lines.second_of_words companions words)
+    (second-range companions words) e)
   where
     by : (answer : Result Line LineFault) → IfOk answer (IsSecondLine companions) → IfOk answer (IsSecond companions)
     by (Ok line) h = h.of

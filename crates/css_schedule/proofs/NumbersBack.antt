@@ -28,7 +28,8 @@ number-back below number rest fits small =
     let spelling = whole_number_of-spelling (decimal number) below fits number in
     ap (λ (o : Option ℕ). or_form o >>= read rest) (spelling.1 (record { spelling = refl; small = small }))
 
-pub time-back : (number : ℕ) (rest : List (List ℕ)) → number < LIMIT → time_at (decimal number ∷ rest) ≡ Ok (number, rest)
+pub time-back : (number : ℕ) (rest : List (List ℕ)) → number < LIMIT
+    → time_at (decimal number ∷ rest) ≡ Ok (number, rest)
 time-back number rest small = number-back LIMIT number rest (omega arith) small
 
 -- the number of something

@@ -55,7 +55,8 @@ after_some In Out None next in_range go = tt
 after_some In Out (Some a) next in_range go = go a in_range
 
 -- one of two, by a test
-pub either : {B : Type 0} (Out : B → Type 0) (test : Bool) (one other : Result B LineFault) → IfOk one Out → IfOk other Out
+pub either : {B : Type 0} (Out : B → Type 0) (test : Bool) (one other : Result B LineFault)
+    → IfOk one Out → IfOk other Out
     → IfOk (if test then one else other) Out
 either Out true one other h k = h
 either Out false one other h k = k

@@ -19,7 +19,8 @@ use Rattle.css_tsmsg.specs.Presentations.{content_text, wall_text, IsEarliest, I
 use Rattle.css_tsmsg.specs.Times.{IsContent}
 use Rattle.css_tsmsg.specs.declared.bound.Bound.{Bound}
 use Rattle.css_tsmsg.specs.declared.bound.Bound.TheVariants.{At, MinusInfinity, PlusInfinity}
-use Rattle.css_schedule.proofs.NumbersBack.{number-back, time-back, ordinal-back, integer-back, position-back, text-back}
+use Rattle.css_schedule.proofs.NumbersBack.{number-back, time-back, ordinal-back, integer-back, position-back}
+use Rattle.css_schedule.proofs.NumbersBack.{text-back}
 use Rattle.css_schedule.proofs.Spaced.{Solid, AllSolid, graphic-solid, word-solid, decimal-solid, signed-solid}
 use Rattle.css_schedule.specs.declared.line.Verb.{Verb}
 use Rattle.css_schedule.specs.declared.line.Verb.TheVariants as verbs

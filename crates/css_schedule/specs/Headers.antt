@@ -1,6 +1,6 @@
 -- The header of a schedule, as words.
-use Rattle.std.specs.Prelude.{ℕ, suc, ◌+◌, ◌==◌, pos, negsuc, if◌then◌else◌, Bool, true, false, List, [], ◌∷◌, ◌++◌, length}
-use Rattle.std.specs.Prelude.{Result, Ok, Err, codes, bytes_eq}
+use Rattle.std.specs.Prelude.{ℕ, suc, ◌+◌, ◌==◌, pos, negsuc, if◌then◌else◌, Bool, true, false, List, [], ◌∷◌, ◌++◌}
+use Rattle.std.specs.Prelude.{length, Result, Ok, Err, codes, bytes_eq}
 use Rattle.css_model.specs.Numbers.{max_error, max_local_error, max_local_precision}
 use Rattle.css_model.specs.WallClock.{Local}
 use Rattle.css_schedule.specs.declared.fault.LineFault.{LineFault}

@@ -1,5 +1,6 @@
 -- The lines of a schedule after its header, and those of a script, as words.
-use Rattle.std.specs.Prelude.{ℕ, ℤ, ◌+◌, ◌^◌, ◌==◌, if◌then◌else◌, List, Option, Some, None, Result, Ok, Err, codes, bytes_eq}
+use Rattle.std.specs.Prelude.{ℕ, ℤ, ◌+◌, ◌^◌, ◌==◌, if◌then◌else◌, List, Option, Some, None}
+use Rattle.std.specs.Prelude.{Result, Ok, Err, codes, bytes_eq}
 use Rattle.css_model.specs.declared.TheConstants.{LIMIT}
 use Rattle.css_num.specs.Rates.{rate_of}
 use Rattle.css_player.specs.declared.command.Command.{Command}

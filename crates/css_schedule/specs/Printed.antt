@@ -1,5 +1,6 @@
 -- Headers and lines as texts: the words of each, with one space between two of them.
-use Rattle.std.specs.Prelude.{ℕ, suc, ℤ, ◌==◌, ◌++◌, Bool, true, false, if◌then◌else◌, List, [], ◌∷◌, length, codes, decimal}
+use Rattle.std.specs.Prelude.{ℕ, suc, ℤ, ◌==◌, ◌++◌, Bool, true, false, if◌then◌else◌, List, [], ◌∷◌}
+use Rattle.std.specs.Prelude.{length, codes, decimal}
 use Rattle.std.specs.Fmt.{signed_decimal}
 use Rattle.css_num.specs.Rates.{TickRate}
 use Rattle.css_player.specs.declared.command.Command.{Command}

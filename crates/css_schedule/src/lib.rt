@@ -1,8 +1,8 @@
 //! Schedules: what happens at a television and its companions, line by line, as a text that a person can write.
 //!
 //! Line 1 is the header, which names the declared errors and precisions of the clocks. In version 2 a line for each
-//! companion follows it. Each other line gives the true time, the two clocks, and what happens then. A television's script has lines of its own: when each is due, and what
-//! the television does then.
+//! companion follows it. Each other line gives the true time, the two clocks, and what happens then. A television's
+//! script has lines of its own: when each is due, and what the television does then.
 #![tactic(auto)]
 
 mod fault;

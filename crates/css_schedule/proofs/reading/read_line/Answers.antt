@@ -1,6 +1,7 @@
 -- The ranges of a line are those of its version.
 use Rattle.std.proofs.lemmas.Bool.{eq-eqb, ne_eqb}
-use Rattle.css_schedule.proofs.InRange.{first_range, first_is_first, second_line_range, second_is_second, of_first, of_second}
+use Rattle.css_schedule.proofs.InRange.{first_range, first_is_first, second_line_range, second_is_second}
+use Rattle.css_schedule.proofs.InRange.{of_first, of_second}
 use Rattle.css_schedule.specs.Words.{words_left}
 use Rattle.css_schedule.proofs.reading.read_line.Goals as goal
 
