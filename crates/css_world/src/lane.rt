@@ -11,7 +11,7 @@ ghost use Rattle.css_world.specs.Flights as flights;
 ghost use Rattle.css_world.specs.Lanes as lanes;
 ghost use Rattle.css_world.specs.Sessions as sessions;
 
-use crate::session::{Session, peer_of};
+use crate::session::Session;
 use crate::watch::Watch;
 use css_companion::{Companion, CompanionConfig, CompanionEvent, CompanionFault};
 use css_model::LIMIT;
@@ -74,36 +74,12 @@ impl Lane {
         Ok(())
     }
 
-    /// Puts a text of the television into flight, if it is for this companion, the one with this number.
-    fn tell_one(&mut self, who: u32, out: TvOut) -> Result<(), Memory>
-        requires first { 1 ≤ who }
-        requires few { who < 2147483648 }
-        ensures told { OnOk result (lanes.TakesUp who (out ∷ []) self.old self.new) }
-        ensures rest { (self.new.clock ≡ self.old.clock) × (self.new.companion ≡ self.old.companion) }
-    {
-        let TvOut::Say { peer, text } = out else {
-            return Ok(());
-        };
-        if peer == peer_of(who, Kind::Cii) {
-            self.cii.tell(text)
-        } else if peer == peer_of(who, Kind::Ts) {
-            self.ts.tell(text)
-        } else {
-            Ok(())
+    /// Its session of a kind.
+    pub(crate) fn session(&mut self, kind: Kind) -> &mut Session {
+        match kind {
+            Kind::Cii => &mut self.cii,
+            Kind::Ts => &mut self.ts,
         }
-    }
-
-    /// Puts into flight what the television told this companion, the one with this number.
-    pub(crate) fn tell(&mut self, who: u32, told: Vec<TvOut>) -> Result<(), Memory>
-        requires first { 1 ≤ who }
-        requires few { who < 2147483648 }
-        ensures told { OnOk result (lanes.TakesUp who told.items self.old self.new) }
-        ensures rest { (self.new.clock ≡ self.old.clock) × (self.new.companion ≡ self.old.companion) }
-    {
-        for out in told {
-            self.tell_one(who, out)?;
-        }
-        Ok(())
     }
 
     /// Lets something happen at the companion that it doesn't refuse, and puts into flight what it then owes.
@@ -140,4 +116,31 @@ fn owed(companion: &mut Companion, event: CompanionEvent) -> Result<Option<Text>
             CompanionFault::Moved { .. } => unreachable!(),
         },
     }
+}
+
+/// Puts a text of the television into flight to the companion whose peer it is for. Peers are 2K - 1 and 2K.
+fn tell_one(lanes: &mut [Lane], out: TvOut) -> Result<(), Memory> {
+    let TvOut::Say { peer, text } = out else {
+        return Ok(());
+    };
+    if peer == 0 {
+        return Ok(());
+    }
+    let place = (peer as usize - 1) / 2;
+    if place >= lanes.len() {
+        return Ok(());
+    }
+    if peer % 2 == 1 {
+        lanes[place].cii.tell(text)
+    } else {
+        lanes[place].ts.tell(text)
+    }
+}
+
+/// Puts into flight what the television told the companions.
+pub(crate) fn tell_all(lanes: &mut [Lane], told: Vec<TvOut>) -> Result<(), Memory> {
+    for out in told {
+        tell_one(lanes, out)?;
+    }
+    Ok(())
 }

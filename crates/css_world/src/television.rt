@@ -14,15 +14,13 @@ ghost use Rattle.css_world.specs.Happened.{server_of};
 ghost use Rattle.css_world.specs.Standing.{stored, spent, Answers, DeclaresTheSame};
 ghost use Rattle.std.specs.Option.{option_flatten};
 
-use crate::fault::WorldFault;
-use crate::lane::Lane;
 use crate::place::place;
 use crate::watch::Watch;
 use css_model::LIMIT;
 use css_num::{Memory, Text};
 use css_schedule::Header;
 use css_server::{Answered, Ticket};
-use css_tv::{Tv, TvConfig, TvEvent};
+use css_tv::{Tv, TvConfig};
 use css_wc::precision_ns;
 use std::alloc::Global;
 
@@ -110,30 +108,4 @@ impl Television {
     {
         self.takes.get_mut(place(take)?)?.take()
     }
-}
-
-/// Lets something happen at the television, and puts into flight what it tells the companion with this number.
-pub(crate) fn play(
-    alloc: Global,
-    who: u32,
-    tv: &mut Tv,
-    lane: &mut Lane,
-    event: TvEvent,
-) -> Result<(), WorldFault>
-    requires first { 1 ≤ who }
-    requires few { who < 2147483648 }
-    requires event { tvs.IsEvent event tv.old.stage }
-    requires addresses { tv.old.stage.addresses ≡ addresses }
-    ensures answer { (events : List Event) → PlaysBy events event tv.old result }
-    ensures played { (events : List Event) → tvs.StandsFor tv.old.stage events
-        → tvs.IsFresh event (tvs.calls_of addresses events).sessions
-        → OnOk result (IsPlayed who events event tv.new lane.old lane.new) }
-    ensures tv { (tv.new.server ≡ tv.old.server) × (tv.new.stage.addresses ≡ tv.old.stage.addresses) }
-    ensures lane { (lane.new.clock ≡ lane.old.clock) × (lane.new.companion ≡ lane.old.companion) }
-    ensures refused { IfErr result (λ fault. KeepsTv tv.old tv.new fault) }
-{
-    let mut told = Vec::new(alloc);
-    tv.step(event, &mut told)?;
-    lane.tell(who, told)?;
-    Ok(())
 }
