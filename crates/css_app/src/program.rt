@@ -15,6 +15,7 @@ ghost use Rattle.css_app.specs.Ended.{CountsReads, CountsWrites};
 ghost use Rattle.css_app.specs.Ended as ended;
 ghost use Rattle.css_app.specs.Live.{CountsCalls, CountsDials, CountsSpawns, TellsNoLive};
 ghost use Rattle.css_app.specs.Pairs.{children};
+ghost use Rattle.css_lines.specs.declared.ending.Stop.TheVariants as stops;
 
 use crate::agreement::agree;
 use crate::by_words::{companion_by, generate_by, pair_by, survey_by, tv_by};
@@ -27,47 +28,32 @@ use css_schedule::LineWhy;
 use css_words::{Command, WordsFault, command_of};
 use std::alloc::Global;
 
+// The status of a replay that refused a line.
+fn refused(line: u64, why: Refusal<Cause>) -> Status
+    ensures { result ≡ ended.status_of (stops.BadLine line why) }
+{
+    let why = match why {
+        Refusal::Long => LineWhy::Long,
+        Refusal::Refused(Cause::Form) => LineWhy::Form,
+        Refusal::Refused(Cause::Absent) => LineWhy::Absent,
+        Refusal::Refused(Cause::Player(fault)) => LineWhy::Player(fault),
+        Refusal::Refused(Cause::Broken { earlier, excess }) => {
+            return Status::Broken {
+                line,
+                earlier,
+                excess,
+            };
+        }
+    };
+    Status::BadLine { line, why }
+}
+
 // The status of a replay that stopped.
 fn status_of(stop: Stop<Cause>) -> Status
     ensures { result ≡ ended.status_of stop }
 {
     match stop {
-        Stop::BadLine {
-            line,
-            why: Refusal::Long,
-        } => Status::BadLine {
-            line,
-            why: LineWhy::Long,
-        },
-        Stop::BadLine {
-            line,
-            why: Refusal::Refused(Cause::Form),
-        } => Status::BadLine {
-            line,
-            why: LineWhy::Form,
-        },
-        Stop::BadLine {
-            line,
-            why: Refusal::Refused(Cause::Absent),
-        } => Status::BadLine {
-            line,
-            why: LineWhy::Absent,
-        },
-        Stop::BadLine {
-            line,
-            why: Refusal::Refused(Cause::Player(fault)),
-        } => Status::BadLine {
-            line,
-            why: LineWhy::Player(fault),
-        },
-        Stop::BadLine {
-            line,
-            why: Refusal::Refused(Cause::Broken { earlier, excess }),
-        } => Status::Broken {
-            line,
-            earlier,
-            excess,
-        },
+        Stop::BadLine { line, why } => refused(line, why),
         Stop::ReadFault => Status::ReadFault,
         Stop::WriteFault => Status::WriteFault,
         Stop::Memory => Status::Memory,

@@ -1,7 +1,6 @@
-use crate::running::Devices;
-use crate::tests::{Case, replay, replay_each};
-use css_app::{LineWhy, Status};
-use css_schedule::PlayerFault;
+//! Replays of schedules with sessions.
+
+use crate::running::{BYTES, Case, Devices, WHOLE, assert_each, replay_each};
 use std::test::Fail;
 
 /// An ordinary evening: the first response is lost, the others land, and viewers pause, seek and resume.
@@ -40,7 +39,7 @@ const EVENING: Case = Case {
 32000000 5032000000 32000000 close ts
 32000000 5032000000 32000000 print 32000000
 ",
-    status: Status::Done,
+    ended: "done",
     printed: b"10 none NoAnswer
 18 ticks 901187 901350 at 901260
 20 ticks 901817 901980 at 901890
@@ -55,28 +54,34 @@ fn an_evening_is_replayed(rt: HostRuntime) -> Result<(), Fail> {
     replay_each(&rt, rt.alloc(), &[EVENING])
 }
 
-/// The bytes of the evening up to the line feed of its line 10.
-const TEN_LINES: u64 = 377;
+/// Devices of which a call fails after the evening's line 10, which ends with byte 377.
+const READ_FAULT: Devices<'static> = Devices {
+    reads: &[378],
+    ..BYTES
+};
+
+const WRITE_FAULT: Devices<'static> = Devices {
+    writes: &[2],
+    ..WHOLE
+};
+
+/// What is left of the evening then.
+const READ_IN_PART: Case = Case {
+    ended: "read fault",
+    printed: b"10 none NoAnswer\n",
+    ..EVENING
+};
+
+const WRITTEN_IN_PART: Case = Case {
+    ended: "write fault",
+    ..READ_IN_PART
+};
 
 #[test]
 fn an_evening_ends_where_a_device_fails(rt: HostRuntime) -> Result<(), Fail> {
-    let reads = Devices {
-        piece: 1,
-        reads: &[TEN_LINES + 1],
-        writes: &[],
-    };
-    let ran = replay(rt.alloc(), EVENING.bytes, &reads)?;
-    assert_eq!(rt; ran.status, Status::ReadFault);
-    assert_eq!(rt; ran.sink.bytes(), b"10 none NoAnswer\n".as_slice());
-    let writes = Devices {
-        piece: 4096,
-        reads: &[],
-        writes: &[2],
-    };
-    let ran = replay(rt.alloc(), EVENING.bytes, &writes)?;
-    assert_eq!(rt; ran.status, Status::WriteFault);
-    assert_eq!(rt; ran.sink.bytes(), b"10 none NoAnswer\n".as_slice());
-    Ok(())
+    let alloc = rt.alloc();
+    assert_each(&rt, alloc, "replay", &READ_FAULT, &[READ_IN_PART])?;
+    assert_each(&rt, alloc, "replay", &WRITE_FAULT, &[WRITTEN_IN_PART])
 }
 
 const PRESENTATIONS: [Case; 2] = [
@@ -100,7 +105,7 @@ const PRESENTATIONS: [Case; 2] = [
 400 10000000400 400 land 1 400
 400 10000000400 400 print 400
 ",
-        status: Status::Done,
+        ended: "done",
         printed: b"17 ticks 896400 896400 at 896400\n",
     },
     // The new control is still in flight.
@@ -122,7 +127,7 @@ const PRESENTATIONS: [Case; 2] = [
 400 10000000400 400 land 1 400
 400 10000000400 400 print 400
 ",
-        status: Status::Done,
+        ended: "done",
         printed: b"16 ticks 900000 900000 at 900000\n",
     },
 ];
@@ -150,7 +155,7 @@ const SPEEDS: [Case; 3] = [
 500011111 10500011111 500011111 land 1 500011111
 500011111 10500011111 500011111 print 500011111
 ",
-        status: Status::Done,
+        ended: "done",
         printed: b"14 ticks 945000 945001 at 945000\n",
     },
     // Backward: the lesser tick comes first.
@@ -171,7 +176,7 @@ const SPEEDS: [Case; 3] = [
 500011111 10500011111 500011111 land 1 500011111
 500011111 10500011111 500011111 print 500011111
 ",
-        status: Status::Done,
+        ended: "done",
         printed: b"15 ticks 809996 810000 at 809998\n",
     },
     // Paused.
@@ -192,7 +197,7 @@ const SPEEDS: [Case; 3] = [
 500011111 10500011111 500011111 land 1 500011111
 500011111 10500011111 500011111 print 500011111
 ",
-        status: Status::Done,
+        ended: "done",
         printed: b"15 ticks 900000 900000 at 900000\n",
     },
 ];
@@ -209,7 +214,7 @@ const CAUSES: [Case; 6] = [
 0 10000000000 0 open ts
 0 10000000000 0 print 0
 ",
-        status: Status::Done,
+        ended: "done",
         printed: b"3 none NoAnswer\n",
     },
     // No control timestamp came.
@@ -222,7 +227,7 @@ const CAUSES: [Case; 6] = [
 0 10000000000 0 open ts
 0 10000000000 0 print 0
 ",
-        status: Status::Done,
+        ended: "done",
         printed: b"7 none NoTimestamp\n",
     },
     // The television shows nothing.
@@ -237,7 +242,7 @@ const CAUSES: [Case; 6] = [
 0 10000000000 0 text ts
 0 10000000000 0 print 0
 ",
-        status: Status::Done,
+        ended: "done",
         printed: b"9 none Unavailable\n",
     },
     // The rate of another timeline is known once the state of the content came.
@@ -258,7 +263,7 @@ const CAUSES: [Case; 6] = [
 0 10000000000 0 text cii
 0 10000000000 0 print 0
 ",
-        status: Status::Done,
+        ended: "done",
         printed: b"13 none NoRate\n15 ticks -1 0 at 0\n",
     },
     // The content is another.
@@ -278,7 +283,7 @@ const CAUSES: [Case; 6] = [
 0 10000000000 0 text ts
 0 10000000000 0 print 0
 ",
-        status: Status::Done,
+        ended: "done",
         printed: b"14 none Unavailable\n",
     },
     // The session closed.
@@ -297,7 +302,7 @@ const CAUSES: [Case; 6] = [
 0 10000000000 0 close ts
 0 10000000000 0 print 0
 ",
-        status: Status::Done,
+        ended: "done",
         printed: b"13 none SessionClosed\n",
     },
 ];
@@ -305,292 +310,4 @@ const CAUSES: [Case; 6] = [
 #[test]
 fn the_cause_is_told(rt: HostRuntime) -> Result<(), Fail> {
     replay_each(&rt, rt.alloc(), &CAUSES)
-}
-
-const ABSENT: [Case; 13] = [
-    // A session opens once.
-    Case {
-        bytes: b"css-schedule 1 plain 0 -30 0 0 urn:dvb:css:timeline:pts -
-0 10000000000 0 open cii
-0 10000000000 0 open cii
-",
-        status: Status::BadLine {
-            line: 3,
-            why: LineWhy::Absent,
-        },
-        printed: b"",
-    },
-    // Also after it closed.
-    Case {
-        bytes: b"css-schedule 1 plain 0 -30 0 0 urn:dvb:css:timeline:pts -
-0 10000000000 0 open ts
-0 10000000000 0 close ts
-0 10000000000 0 open ts
-",
-        status: Status::BadLine {
-            line: 4,
-            why: LineWhy::Absent,
-        },
-        printed: b"",
-    },
-    // No session is open.
-    Case {
-        bytes: b"css-schedule 1 plain 0 -30 0 0 urn:dvb:css:timeline:pts -
-0 10000000000 0 text cii
-",
-        status: Status::BadLine {
-            line: 2,
-            why: LineWhy::Absent,
-        },
-        printed: b"",
-    },
-    // No text is in flight.
-    Case {
-        bytes: b"css-schedule 1 plain 0 -30 0 0 urn:dvb:css:timeline:pts -
-0 10000000000 0 open cii
-0 10000000000 0 text cii
-0 10000000000 0 text cii
-",
-        status: Status::BadLine {
-            line: 4,
-            why: LineWhy::Absent,
-        },
-        printed: b"",
-    },
-    // The setup hasn't come to the television.
-    Case {
-        bytes: b"css-schedule 1 plain 0 -30 0 0 urn:dvb:css:timeline:pts -
-0 10000000000 0 open ts
-0 10000000000 0 text ts
-",
-        status: Status::BadLine {
-            line: 3,
-            why: LineWhy::Absent,
-        },
-        printed: b"",
-    },
-    // No session is open for the companion's text.
-    Case {
-        bytes: b"css-schedule 1 plain 0 -30 0 0 urn:dvb:css:timeline:pts -
-0 10000000000 0 up ts
-",
-        status: Status::BadLine {
-            line: 2,
-            why: LineWhy::Absent,
-        },
-        printed: b"",
-    },
-    // The companion owes one text.
-    Case {
-        bytes: b"css-schedule 1 plain 0 -30 0 0 urn:dvb:css:timeline:pts -
-0 10000000000 0 open ts
-0 10000000000 0 up ts
-0 10000000000 0 up ts
-",
-        status: Status::BadLine {
-            line: 4,
-            why: LineWhy::Absent,
-        },
-        printed: b"",
-    },
-    // A presentation needs the session.
-    Case {
-        bytes: b"css-schedule 1 plain 0 -30 0 0 urn:dvb:css:timeline:pts -
-0 10000000000 0 present 0 0 0 plusinfinity
-",
-        status: Status::BadLine {
-            line: 2,
-            why: LineWhy::Absent,
-        },
-        printed: b"",
-    },
-    // And that it is still open.
-    Case {
-        bytes: b"css-schedule 1 plain 0 -30 0 0 urn:dvb:css:timeline:pts -
-0 10000000000 0 open ts
-0 10000000000 0 close ts
-0 10000000000 0 present 0 minusinfinity 0 0
-",
-        status: Status::BadLine {
-            line: 4,
-            why: LineWhy::Absent,
-        },
-        printed: b"",
-    },
-    // What isn't open can't be closed.
-    Case {
-        bytes: b"css-schedule 1 plain 0 -30 0 0 urn:dvb:css:timeline:pts -
-0 10000000000 0 close cii
-",
-        status: Status::BadLine {
-            line: 2,
-            why: LineWhy::Absent,
-        },
-        printed: b"",
-    },
-    // It is closed once.
-    Case {
-        bytes: b"css-schedule 1 plain 0 -30 0 0 urn:dvb:css:timeline:pts -
-0 10000000000 0 open cii
-0 10000000000 0 close cii
-0 10000000000 0 close cii
-",
-        status: Status::BadLine {
-            line: 4,
-            why: LineWhy::Absent,
-        },
-        printed: b"",
-    },
-    // What was in flight is lost when the session closes.
-    Case {
-        bytes: b"css-schedule 1 plain 0 -30 0 0 urn:dvb:css:timeline:pts -
-0 10000000000 0 open cii
-0 10000000000 0 close cii
-0 10000000000 0 text cii
-",
-        status: Status::BadLine {
-            line: 4,
-            why: LineWhy::Absent,
-        },
-        printed: b"",
-    },
-    // So is what the companion owed.
-    Case {
-        bytes: b"css-schedule 1 plain 0 -30 0 0 urn:dvb:css:timeline:pts -
-0 10000000000 0 open ts
-0 10000000000 0 close ts
-0 10000000000 0 up ts
-",
-        status: Status::BadLine {
-            line: 4,
-            why: LineWhy::Absent,
-        },
-        printed: b"",
-    },
-];
-
-#[test]
-fn what_is_not_there_is_absent(rt: HostRuntime) -> Result<(), Fail> {
-    replay_each(&rt, rt.alloc(), &ABSENT)
-}
-
-const REFUSED: [Case; 8] = [
-    // Nothing is shown.
-    Case {
-        bytes: b"css-schedule 1 plain 0 -30 0 0 urn:dvb:css:timeline:pts -
-0 10000000000 0 speed 10000000000 1
-",
-        status: Status::BadLine {
-            line: 2,
-            why: LineWhy::Player(PlayerFault::NoProgramme),
-        },
-        printed: b"",
-    },
-    // There is no programme with this number.
-    Case {
-        bytes: b"css-schedule 1 plain 0 -30 0 0 urn:dvb:css:timeline:pts -
-0 10000000000 0 programme dvb://1
-0 10000000000 0 change 10000000000 2
-",
-        status: Status::BadLine {
-            line: 3,
-            why: LineWhy::Player(PlayerFault::NoProgramme),
-        },
-        printed: b"",
-    },
-    // Nor one that could get a timeline.
-    Case {
-        bytes: b"css-schedule 1 plain 0 -30 0 0 urn:dvb:css:timeline:pts -
-0 10000000000 0 timeline 1 - 1 1 0
-",
-        status: Status::BadLine {
-            line: 2,
-            why: LineWhy::Player(PlayerFault::NoProgramme),
-        },
-        printed: b"",
-    },
-    // A speed is at most 64.
-    Case {
-        bytes: b"css-schedule 1 plain 0 -30 0 0 urn:dvb:css:timeline:pts -
-0 10000000000 0 programme dvb://1
-0 10000000000 0 change 10000000000 1
-0 10000000000 0 speed 10000000000 65
-",
-        status: Status::BadLine {
-            line: 4,
-            why: LineWhy::Player(PlayerFault::Speed),
-        },
-        printed: b"",
-    },
-    // Either way.
-    Case {
-        bytes: b"css-schedule 1 plain 0 -30 0 0 urn:dvb:css:timeline:pts -
-0 10000000000 0 programme dvb://1
-0 10000000000 0 change 10000000000 1
-0 10000000000 0 speed 10000000000 -65
-",
-        status: Status::BadLine {
-            line: 4,
-            why: LineWhy::Player(PlayerFault::Speed),
-        },
-        printed: b"",
-    },
-    // A media position is at most 10^17.
-    Case {
-        bytes: b"css-schedule 1 plain 0 -30 0 0 urn:dvb:css:timeline:pts -
-0 10000000000 0 programme dvb://1
-0 10000000000 0 change 10000000000 1
-0 10000000000 0 seek 10000000000 100000000000000001
-",
-        status: Status::BadLine {
-            line: 4,
-            why: LineWhy::Player(PlayerFault::Range),
-        },
-        printed: b"",
-    },
-    // A base too.
-    Case {
-        bytes: b"css-schedule 1 plain 0 -30 0 0 urn:dvb:css:timeline:pts -
-0 10000000000 0 programme dvb://1
-0 10000000000 0 timeline 1 urn:x 1 1 -100000000000000001
-",
-        status: Status::BadLine {
-            line: 3,
-            why: LineWhy::Player(PlayerFault::Range),
-        },
-        printed: b"",
-    },
-    // A programme has at most 16 timelines.
-    Case {
-        bytes: b"css-schedule 1 plain 0 -30 0 0 urn:dvb:css:timeline:pts -
-0 10000000000 0 programme dvb://1
-0 10000000000 0 timeline 1 - 1 1 0
-0 10000000000 0 timeline 1 - 1 1 0
-0 10000000000 0 timeline 1 - 1 1 0
-0 10000000000 0 timeline 1 - 1 1 0
-0 10000000000 0 timeline 1 - 1 1 0
-0 10000000000 0 timeline 1 - 1 1 0
-0 10000000000 0 timeline 1 - 1 1 0
-0 10000000000 0 timeline 1 - 1 1 0
-0 10000000000 0 timeline 1 - 1 1 0
-0 10000000000 0 timeline 1 - 1 1 0
-0 10000000000 0 timeline 1 - 1 1 0
-0 10000000000 0 timeline 1 - 1 1 0
-0 10000000000 0 timeline 1 - 1 1 0
-0 10000000000 0 timeline 1 - 1 1 0
-0 10000000000 0 timeline 1 - 1 1 0
-0 10000000000 0 timeline 1 - 1 1 0
-0 10000000000 0 timeline 1 - 1 1 0
-",
-        status: Status::BadLine {
-            line: 19,
-            why: LineWhy::Player(PlayerFault::Full),
-        },
-        printed: b"",
-    },
-];
-
-#[test]
-fn what_the_player_refuses_is_told(rt: HostRuntime) -> Result<(), Fail> {
-    replay_each(&rt, rt.alloc(), &REFUSED)
 }

@@ -1,7 +1,7 @@
+//! What `generate` and `survey` write.
 ghost use Rattle.std.specs.Prelude.{◌≤◌};
 
-use crate::running::{Devices, Ran, run_over};
-use crate::tests::replay;
+use crate::running::{Devices, Ran, WHOLE, assert_ran, run_over};
 use css_app::{Status, generate, survey};
 use css_num::signed_number;
 use css_outside::MemorySink;
@@ -32,13 +32,6 @@ const WRITES: [(u64, usize); 9] = [
     (8, 333),
     (9, 363),
 ];
-
-/// Devices that never fail.
-const DEVICES: Devices<'static> = Devices {
-    piece: 4096,
-    reads: &[],
-    writes: &[],
-};
 
 /// Numbers of lines, and the survey of so many lines of seed 1. The surveys come from another program.
 const SURVEYS: [(u64, &str); 2] = [
@@ -78,8 +71,7 @@ fn surveyed(alloc: Global, seed: u64, lines: u64) -> Result<Ran, Fail>
 #[test]
 fn the_shortest_schedule_is_generated(rt: HostRuntime) -> Result<(), Fail> {
     let ran = generated(rt.alloc(), 1, 9, &[])?;
-    assert_eq!(rt; ran.status, Status::Done);
-    assert_eq!(rt; ran.sink.bytes(), OPENING);
+    assert_ran(&rt, rt.alloc(), &ran, "done", OPENING)?;
     Ok(())
 }
 
@@ -88,8 +80,7 @@ fn each_line_is_written_at_once(rt: HostRuntime) -> Result<(), Fail> {
     for (write, end) in WRITES {
         assert!(rt; end <= OPENING.len());
         let ran = generated(rt.alloc(), 1, 9, &[write])?;
-        assert_eq!(rt; ran.status, Status::WriteFault);
-        assert_eq!(rt; ran.sink.bytes(), &OPENING[..end]);
+        assert_ran(&rt, rt.alloc(), &ran, "write fault", &OPENING[..end])?;
     }
     Ok(())
 }
@@ -98,8 +89,7 @@ fn each_line_is_written_at_once(rt: HostRuntime) -> Result<(), Fail> {
 fn generated_lines_are_surveyed(rt: HostRuntime) -> Result<(), Fail> {
     for (lines, expected) in SURVEYS {
         let ran = surveyed(rt.alloc(), 1, lines)?;
-        assert_eq!(rt; ran.status, Status::Done);
-        assert_eq!(rt; ran.sink.bytes(), expected.as_bytes());
+        assert_ran(&rt, rt.alloc(), &ran, "done", expected.as_bytes())?;
     }
     Ok(())
 }
@@ -167,7 +157,7 @@ fn a_replay_of_generated_lines_prints_what_is_counted(rt: HostRuntime) -> Result
     for (seed, lines) in SCHEDULES {
         if 9 <= lines && lines <= 200_000 {
             let schedule = generated(rt.alloc(), seed, lines, &[])?;
-            let ran = replay(rt.alloc(), schedule.sink.bytes(), &DEVICES)?;
+            let ran = run_over(rt.alloc(), "replay", schedule.sink.bytes(), &WHOLE)?;
             assert_eq!(rt; ran.status, Status::Done);
             let told = surveyed(rt.alloc(), seed, lines)?;
             let expected = counted(rt.alloc(), lines, ran.sink.bytes())?;
@@ -195,9 +185,8 @@ const COMMANDS: [(&str, &[u8]); 4] = [
 #[test]
 fn both_are_commands_of_the_program(rt: HostRuntime) -> Result<(), Fail> {
     for (line, expected) in COMMANDS {
-        let ran = run_over(rt.alloc(), line, b"", &DEVICES)?;
-        assert_eq!(rt; ran.status, Status::Done, "{line}");
-        assert_eq!(rt; ran.sink.bytes(), expected, "{line}");
+        let ran = run_over(rt.alloc(), line, b"", &WHOLE)?;
+        assert_ran(&rt, rt.alloc(), &ran, "done", expected)?;
     }
     Ok(())
 }
@@ -217,8 +206,7 @@ fn a_failed_write_ends_both_commands(rt: HostRuntime) -> Result<(), Fail> {
     };
     for (line, expected) in CUT {
         let ran = run_over(rt.alloc(), line, b"", &devices)?;
-        assert_eq!(rt; ran.status, Status::WriteFault, "{line}");
-        assert_eq!(rt; ran.sink.bytes(), expected, "{line}");
+        assert_ran(&rt, rt.alloc(), &ran, "write fault", expected)?;
     }
     Ok(())
 }
@@ -232,8 +220,7 @@ fn neither_command_reads(rt: HostRuntime) -> Result<(), Fail> {
     };
     for (line, expected) in COMMANDS {
         let ran = run_over(rt.alloc(), line, b"", &devices)?;
-        assert_eq!(rt; ran.status, Status::Done, "{line}");
-        assert_eq!(rt; ran.sink.bytes(), expected, "{line}");
+        assert_ran(&rt, rt.alloc(), &ran, "done", expected)?;
     }
     Ok(())
 }

@@ -8,12 +8,12 @@ mod both_ends_tests;
 #[cfg(test)]
 mod generated_tests;
 #[cfg(test)]
-mod live_tables;
+mod refused_tests;
 #[cfg(test)]
-mod live_tests;
+mod replay_tests;
 #[cfg(test)]
 mod running;
 #[cfg(test)]
-mod tests;
+mod status_tests;
 #[cfg(test)]
 mod usage_tests;

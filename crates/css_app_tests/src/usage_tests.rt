@@ -1,28 +1,16 @@
 //! Lines of words that are those of no command.
 
-use crate::running::{Devices, run_over};
-use css_app::Status;
+use crate::running::{WHOLE, assert_ran, run_over};
 use std::alloc::Global;
 use std::process::Abort;
 use std::test::Fail;
 
-/// Devices that never fail.
-const DEVICES: Devices<'static> = Devices {
-    piece: 4096,
-    reads: &[],
-    writes: &[],
-};
+const HEADER: &[u8] = b"css-schedule 1 plain 0 -30 0 0 s -\n";
 
 fn assert_usage(rt: &impl Abort, alloc: Global, lines: &str) -> Result<(), Fail> {
     for line in lines.lines() {
-        let ran = run_over(
-            alloc,
-            line,
-            b"css-schedule 1 plain 0 -30 0 0 s -\n",
-            &DEVICES,
-        )?;
-        assert_eq!(rt; ran.status, Status::Usage, "{line}");
-        assert_eq!(rt; ran.sink.bytes(), b"".as_slice(), "{line}");
+        let ran = run_over(alloc, line, HEADER, &WHOLE)?;
+        assert_ran(rt, alloc, &ran, "usage", b"")?;
     }
     Ok(())
 }

@@ -2,8 +2,12 @@
 #![tactic(auto)]
 
 #[cfg(test)]
+mod limits;
+#[cfg(test)]
 mod plain_tests;
 #[cfg(test)]
-mod tables;
+mod rows;
+#[cfg(test)]
+mod runs;
 #[cfg(test)]
 mod tests;

@@ -3,7 +3,7 @@
 ghost use Rattle.std.specs.Prelude.{◌≡◌, ◌≤◌, ◌<◌, ◌+◌, ◌^◌, OnOk};
 ghost use Rattle.css_companion.specs.Steps.{IsEvent};
 
-use crate::tables::EXACT;
+use crate::runs::EXACT;
 use crate::tests::{datagram, new_companion};
 use css_companion::{Cause, Companion, CompanionEvent, Report};
 use css_num::Text;

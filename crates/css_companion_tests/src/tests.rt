@@ -2,7 +2,8 @@ ghost use Rattle.std.specs.Prelude.{◌≡◌, ◌≤◌, ◌<◌, OnOk};
 ghost use Rattle.std.specs.Str.{IsUtf8};
 ghost use Rattle.css_companion.specs.Steps.{IsEvent};
 
-use crate::tables::{Answer, EARLY, EXACT, Happened, PRESENTS, RUNS, Row, Run, STAMPS};
+use crate::rows::{Happened, PRESENTS, Row};
+use crate::runs::{Answer, EARLY, EXACT, RUNS, Run, STAMPS};
 use css_cii::{full, write_message};
 use css_client::{Landing, Local};
 use css_companion::{

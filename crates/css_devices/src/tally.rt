@@ -45,7 +45,7 @@ impl Model for Tally {
 impl Tally {
     /// Nothing has failed, was read or was opened.
     pub fn new() -> Tally
-        ensures nothing { result.now ≡ record { dial_faults = 0; faults = 0; last = 0; peers = 0 } }
+        ensures nothing { result ≡ record { dial_faults = 0; faults = 0; last = 0; peers = 0 } }
     {
         Tally {
             dial_faults: 0,

@@ -14,6 +14,22 @@ use std::alloc::Global;
 use std::process::Abort;
 use std::test::Fail;
 
+/// The machine sleeps, and the companion asks again.
+fn slept_and_asked(alloc: Global) -> Result<Vec<Clocked>, Fail>
+    ensures { IfOk result (λ readings. IsTrue (are_readings 0 readings.items)) }
+{
+    Ok(vec![in alloc;
+        awake(0),
+        awake(5),
+        awake(6),
+        awake(8),
+        asleep(10),
+        awake(12),
+        awake(14),
+        awake(20),
+    ]?)
+}
+
 /// What the clock reads.
 fn readings_of(alloc: Global, times: Times) -> Result<Vec<Clocked>, Fail>
     ensures { IfOk result (λ readings. IsTrue (are_readings 0 readings.items)) }
@@ -43,16 +59,7 @@ fn readings_of(alloc: Global, times: Times) -> Result<Vec<Clocked>, Fail>
             awake(10),
             awake(20),
         ]?),
-        Times::SleptAndAsked => Ok(vec![in alloc;
-            awake(0),
-            awake(5),
-            awake(6),
-            awake(8),
-            asleep(10),
-            awake(12),
-            awake(14),
-            awake(20),
-        ]?),
+        Times::SleptAndAsked => slept_and_asked(alloc),
         Times::Soon => Ok(vec![in alloc; awake(0), awake(1), awake(2)]?),
         Times::Seconds => {
             Ok(vec![in alloc; awake(0), awake(1_000_000_000), awake(2_000_000_000)]?)

@@ -41,39 +41,41 @@ fn pts_of(player: &Player, stem: &str) -> Control {
     player.control(stem.as_bytes(), PTS.as_bytes())
 }
 
+/// Commands, the reading of each, and the control timestamp after it.
+const SEGMENTS: [(Command, u64, (i64, u64, i32)); 5] = [
+    (
+        Command::Change(1),
+        5_000_000_000,
+        (900_000, 5_000_000_000, 1),
+    ),
+    (
+        Command::Speed(0),
+        5_020_000_000,
+        (901_800, 5_020_000_000, 0),
+    ),
+    (
+        Command::Seek(-1),
+        6_000_000_000,
+        (899_999, 6_000_000_000, 0),
+    ),
+    (
+        Command::Speed(-64),
+        7_000_000_000,
+        (899_999, 7_000_000_000, -64),
+    ),
+    (
+        Command::Speed(1),
+        8_000_000_000,
+        (-4_860_001, 8_000_000_000, 1),
+    ),
+];
+
 #[test]
 fn a_command_begins_a_segment(rt: HostRuntime) {
     let mut player = loaded(&rt, rt.alloc(), "dvb://1");
     assert_eq!(rt; player.segment(), None);
     assert_eq!(rt; pts_of(&player, ""), Control::Unavailable);
-    let rows: [(Command, u64, (i64, u64, i32)); 5] = [
-        (
-            Command::Change(1),
-            5_000_000_000,
-            (900_000, 5_000_000_000, 1),
-        ),
-        (
-            Command::Speed(0),
-            5_020_000_000,
-            (901_800, 5_020_000_000, 0),
-        ),
-        (
-            Command::Seek(-1),
-            6_000_000_000,
-            (899_999, 6_000_000_000, 0),
-        ),
-        (
-            Command::Speed(-64),
-            7_000_000_000,
-            (899_999, 7_000_000_000, -64),
-        ),
-        (
-            Command::Speed(1),
-            8_000_000_000,
-            (-4_860_001, 8_000_000_000, 1),
-        ),
-    ];
-    for (command, reading, (content, wall, speed)) in rows {
+    for (command, reading, (content, wall, speed)) in SEGMENTS {
         assert_eq!(rt; player.command(command, reading), Ok(()));
         let expected = Control::Available {
             content,

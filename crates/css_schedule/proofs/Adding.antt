@@ -1,5 +1,6 @@
 -- A header with one companion more.
-use Rattle.std.proofs.Common.{List, [], ◌∷◌, ◌++◌}
+use Rattle.std.proofs.Common.{◌≡◌, List, [], ◌∷◌, ◌++◌, subst, sym}
+use Rattle.std.specs.Prelude.{Result, Ok, Err, OnOk}
 use Rattle.std.specs.List.{All}
 use Rattle.std.proofs.lemmas.List.Elements.{All-nil, All-cons, All-append}
 use Rattle.css_schedule.specs.declared.header.CompanionLine.{CompanionLine}
@@ -29,3 +30,22 @@ more_companions header companion h c = (
     companions = one_more IsPrintableCompanion header.companions companion h.1.companions c.1;
   },
 )
+
+-- a header with these companions in place of its own
+abbrev pub with_list : Header → List CompanionLine → Header
+with_list header companions = record {
+  follow = header.follow;
+  tv_error = header.tv_error;
+  tv_precision = header.tv_precision;
+  companions = companions;
+}
+
+-- so it is where a call added one
+pub added_companion : {T E : Type 0} (result : Result T E) (header : Header) (companion : CompanionLine)
+    (new : List CompanionLine)
+    → OnOk result (new ≡ header.companions ++ companion ∷ [])
+    → OnOk result (IsGoodHeader header → IsGoodCompanion companion → IsGoodHeader (with_list header new))
+added_companion (Ok x) header companion new e = λ h good.
+    subst (λ (list : List CompanionLine). IsGoodHeader (with_list header list)) (sym e)
+    (more_companions header companion h good)
+added_companion (Err x) header companion new e = tt

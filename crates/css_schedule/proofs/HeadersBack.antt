@@ -160,7 +160,7 @@ only_one header one h = by header.companions refl one
     by [] e none = absurd (omega arith)
     by (companion ∷ []) e one =
         let all : All IsPrintableCompanion (companion ∷ []) = subst (All IsPrintableCompanion) e h.companions in
-        (companion, (e, All-head IsPrintableCompanion companion [] all))
+        (companion, e, All-head IsPrintableCompanion companion [] all)
     by (companion ∷ other ∷ more) e many = absurd (omega arith)
 
 pub header_text-back : (header : Header) → length header.companions ≡ 1 → IsPrintable header

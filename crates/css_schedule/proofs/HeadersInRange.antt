@@ -175,7 +175,8 @@ second_start-range words =
           companions = All-nil IsPrintableCompanion;
         },
       ),
-      (refl, few),
+      refl,
+      few,
     ))))
 
 start-range : (version : List ℕ) (words : List (List ℕ)) → IfOk (start_of version words) IsReadStart

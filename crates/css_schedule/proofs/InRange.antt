@@ -1,5 +1,5 @@
 -- The lines that are read are in their ranges.
-use Rattle.std.proofs.Common.{◌≡◌, ℕ, ◌+◌, ◌^◌, ◌<◌, ◌≤◌, arith, ap, refl, sym, ◌∙◌, Bool, true, false, List}
+use Rattle.std.proofs.Common.{◌≡◌, ℕ, ◌+◌, ◌^◌, ◌<◌, ◌≤◌, arith, ap, refl, sym, subst, ◌∙◌, Bool, true, false, List}
 use Rattle.std.specs.Prelude.{if◌then◌else◌, ◌==◌, ◌||◌, ◌&&◌, not, ℤ, pos, negsuc, nat_le, unsigned_abs}
 use Rattle.std.specs.Prelude.{Option, Some, None, IfSome, Result, Ok, Err, IfOk, bytes_eq, codes, ⊤}
 use Rattle.std.proofs.lemmas.Bool.{leb-true, eqb-true, eqb-false, eq-eqb}
@@ -25,7 +25,7 @@ use Rattle.css_schedule.specs.Lines.{earliest_at, latest_at, change_at, speed_at
 use Rattle.css_schedule.specs.Lines.{ask_at, take_at, give_at, land_at, wall_at, print_at, programme_at, timeline_at}
 use Rattle.css_schedule.specs.Lines.{viewer_at, opening_at, bring_at, up_at, present_at, close_at, session_at}
 use Rattle.css_schedule.specs.Lines.{timelines_at, operands_at, verb_at, line_of_words, line_of}
-use Rattle.css_schedule.specs.Lines.{second_verb_at, line_in}
+use Rattle.css_schedule.specs.Lines.{second_verb_at}
 use Rattle.css_schedule.specs.Lines.{due_command_at, script_operands_at, script_verb_at, script_of_words, script_of}
 use Rattle.css_schedule.specs.Owners.{is_own, is_named}
 use Rattle.css_schedule.specs.Ranges.{IsOrdinal, IsText, IsCommand}
@@ -295,13 +295,13 @@ record IsSecondLine (companions : ℕ) (line : Line) : Type 0 where
 named_own : (who l : ℕ) (verb : Verb) → is_named who l verb ≡ true → is_own verb ≡ true → 1 ≤ who
 named_own who l verb named own = by (who == 0) refl named
   where
+    positive : (n : ℕ) → (n ≡ 0 → ⊥) → 1 ≤ n
+    positive n apart = omega arith
     by : (b : Bool) → (who == 0) ≡ b → (not b || (l == 0 && not (is_own verb))) ≡ true → 1 ≤ who
     by true e h =
         let none : not (is_own verb) ≡ true = (both (l == 0) (not (is_own verb)) h).1 in
         absurd (let no : false ≡ true = ap not (sym own) ∙ none in cc)
     by false e h = positive who (eqb-false who 0 e)
-    positive : (n : ℕ) → (n ≡ 0 → ⊥) → 1 ≤ n
-    positive n apart = omega arith
 
 named_none : (who l : ℕ) (verb : Verb) → is_named who l verb ≡ true → who ≡ 0 → l ≡ 0
 named_none who l verb named none =
@@ -327,53 +327,53 @@ second-range companions words =
       of = record { who = omega (arith, hk); own = named_own who l verb named; none = named_none who l verb named };
     })))))))
 
--- what is read in a version is in range and of that version
-record IsLineOf (first : Bool) (companions : ℕ) (line : Line) : Type 0 where
-  range : IsLine line
-  of : IsOf first companions line
-
-version-range : (version companions : ℕ) (bytes : List ℕ)
-    → IfOk (line_in version companions bytes) (IsLineOf (version == 1) companions)
-version-range version companions bytes = by (version == 1)
-  where
-    first : (read : Result Line LineFault) → IfOk read IsFirstLine → IfOk read (IsLineOf true companions)
-    first (Ok line) h = record { range = h.range; of = h.of }
-    first (Err fault) h = tt
-    second : (read : Result Line LineFault) → IfOk read (IsSecondLine companions)
-        → IfOk read (IsLineOf false companions)
-    second (Ok line) h = record { range = h.range; of = h.of }
-    second (Err fault) h = tt
-    by : (b : Bool)
-        → IfOk (if b then line_of bytes else lines.second_of_words companions (words_of bytes)) (IsLineOf b companions)
-    by true = first (line_of bytes) (words-range (words_of bytes))
-    by false =
-        second (lines.second_of_words companions (words_of bytes)) (second-range companions (words_of bytes))
-
 -- so is that of a call that answers it
-answered-range : (version companions : ℕ) (bytes : List ℕ) (answer : Result Line LineFault)
-    → GivesBy (λ line. line) Memory answer (line_in version companions bytes)
-    → IfOk answer (IsLineOf (version == 1) companions)
-answered-range version companions bytes answer e =
-    answer-range (IsLineOf (version == 1) companions) answer (line_in version companions bytes)
-    (version-range version companions bytes) e
-
-pub line_in_range : (version companions : ℕ) (bytes : List ℕ) (answer : Result Line LineFault)
-    → GivesBy (λ line. line) Memory answer (line_in version companions bytes) → IfOk answer IsLine
-line_in_range version companions bytes answer e = by answer (answered-range version companions bytes answer e)
+pub first_range : (words : List (List ℕ)) (answer : Result Line LineFault)
+    → GivesBy (λ line. line) Memory answer (line_of_words words) → IfOk answer IsLine
+first_range words answer e = by answer (answer-range IsFirstLine answer (line_of_words words) (words-range words) e)
   where
-    by : (answer : Result Line LineFault) → IfOk answer (IsLineOf (version == 1) companions) → IfOk answer IsLine
+    by : (answer : Result Line LineFault) → IfOk answer IsFirstLine → IfOk answer IsLine
     by (Ok line) h = h.range
     by (Err fault) h = tt
 
-pub line_of_version : (version companions : ℕ) (bytes : List ℕ) (answer : Result Line LineFault)
-    → GivesBy (λ line. line) Memory answer (line_in version companions bytes)
-    → IfOk answer (IsOf (version == 1) companions)
-line_of_version version companions bytes answer e = by answer (answered-range version companions bytes answer e)
+-- and it is of version 1
+pub first_is_first : (words : List (List ℕ)) (answer : Result Line LineFault)
+    → GivesBy (λ line. line) Memory answer (line_of_words words) → IfOk answer IsFirst
+first_is_first words answer e = by answer (answer-range IsFirstLine answer (line_of_words words) (words-range words) e)
   where
-    by : (answer : Result Line LineFault) → IfOk answer (IsLineOf (version == 1) companions)
-        → IfOk answer (IsOf (version == 1) companions)
+    by : (answer : Result Line LineFault) → IfOk answer IsFirstLine → IfOk answer IsFirst
     by (Ok line) h = h.of
     by (Err fault) h = tt
+
+-- the same of version 2
+pub second_line_range : (companions : ℕ) (words : List (List ℕ)) (answer : Result Line LineFault)
+    → GivesBy (λ line. line) Memory answer (lines.second_of_words companions words) → IfOk answer IsLine
+second_line_range companions words answer e =
+    by answer
+    (answer-range (IsSecondLine companions) answer (lines.second_of_words companions words) (second-range companions words) e)
+  where
+    by : (answer : Result Line LineFault) → IfOk answer (IsSecondLine companions) → IfOk answer IsLine
+    by (Ok line) h = h.range
+    by (Err fault) h = tt
+
+pub second_is_second : (companions : ℕ) (words : List (List ℕ)) (answer : Result Line LineFault)
+    → GivesBy (λ line. line) Memory answer (lines.second_of_words companions words) → IfOk answer (IsSecond companions)
+second_is_second companions words answer e =
+    by answer
+    (answer-range (IsSecondLine companions) answer (lines.second_of_words companions words) (second-range companions words) e)
+  where
+    by : (answer : Result Line LineFault) → IfOk answer (IsSecondLine companions) → IfOk answer (IsSecond companions)
+    by (Ok line) h = h.of
+    by (Err fault) h = tt
+
+-- ---- by the version
+pub of_first : (version companions : ℕ) (answer : Result Line LineFault) → (version == 1) ≡ true
+    → IfOk answer IsFirst → IfOk answer (IsOf (version == 1) companions)
+of_first version companions answer is h = subst (λ b. IfOk answer (IsOf b companions)) (sym is) h
+
+pub of_second : (version companions : ℕ) (answer : Result Line LineFault) → (version == 1) ≡ false
+    → IfOk answer (IsSecond companions) → IfOk answer (IsOf (version == 1) companions)
+of_second version companions answer is h = subst (λ b. IfOk answer (IsOf b companions)) (sym is) h
 
 -- ---- lines of a script
 -- a viewer's command has no reading yet

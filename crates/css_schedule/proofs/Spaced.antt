@@ -133,11 +133,14 @@ pub word-solid : (word : List ℕ) → is_word word ≡ true → Solid word
 word-solid word h = graphic-solid word (both (not (length word == 0)) (list_all is_graphic word) h).1
 
 -- a digit stands in a word
+digit_no_space : (byte : ℕ) → is_ascii_digit byte ≡ true → is_space byte ≡ false
+digit_no_space byte digit = grind (arith, nat_tests)
+
+digit_no_feed : (byte : ℕ) → is_ascii_digit byte ≡ true → is_feed byte ≡ false
+digit_no_feed byte digit = grind (arith, nat_tests)
+
 digit_in_word : (byte : ℕ) → is_ascii_digit byte ≡ true → IsInWord byte
-digit_in_word byte digit =
-    let space : (byte == 32) ≡ false = grind (arith, nat_tests) in
-    let feed : (byte == 10) ≡ false = grind (arith, nat_tests) in
-    record { no_space = space; no_feed = feed }
+digit_in_word byte digit = record { no_space = digit_no_space byte digit; no_feed = digit_no_feed byte digit }
 
 digits-solid : (number n : ℕ) (bytes : List ℕ) → digits_after number bytes ≡ Some n → Solid bytes
 digits-solid number n [] is = All-nil IsInWord

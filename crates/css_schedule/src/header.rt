@@ -74,7 +74,6 @@ impl Header {
     ghost use Rattle.css_schedule.specs.Ranges.{IsGoodHeader, IsGoodCompanion};
 
     /// Adds the next companion. For want of memory it isn't added, and the header is as it was.
-    #[tactic(auto, using(crate::proofs::Adding::more_companions))]
     pub fn add(&mut self, companion: CompanionLine) -> Result<(), Memory>
         ensures added { OnOk result (self.new ≡ with_companion self.old companion) }
         ensures range { OnOk result (IsGoodHeader self.old → IsGoodCompanion companion → IsGoodHeader self.new) }

@@ -330,7 +330,6 @@ fn second_line(alloc: Global, words: Words<'_>, companions: u32) -> Result<Line,
 ///
 /// A line of version 1 is that of companion 1. With K 0 the line is the television's alone: L is `0`, and the verb is
 /// `take`, `give`, `programme`, `timeline`, `change`, `speed` or `seek`. Anything else is `Form`.
-#[tactic(auto, using(crate::proofs::InRange::line_in_range, crate::proofs::InRange::line_of_version))]
 pub fn read_line(
     alloc: Global,
     bytes: &[u8],

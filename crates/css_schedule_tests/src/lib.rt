@@ -2,6 +2,10 @@
 #![tactic(auto)]
 
 #[cfg(test)]
-mod second_tests;
+mod headers;
 #[cfg(test)]
-mod tests;
+mod lines;
+#[cfg(test)]
+mod refused;
+#[cfg(test)]
+mod second;

@@ -2,6 +2,10 @@
 #![tactic(auto)]
 
 #[cfg(test)]
-mod tables;
+mod controls;
+#[cfg(test)]
+mod presentations;
+#[cfg(test)]
+mod setups;
 #[cfg(test)]
 mod tests;

@@ -1,4 +1,6 @@
-use crate::tables::{CONTROLS, PRESENTATIONS, SETUPS};
+use crate::controls::CONTROLS;
+use crate::presentations::PRESENTATIONS;
+use crate::setups::SETUPS;
 use css_num::Text;
 use css_tsmsg::{
     Bound, Control, Presentation, Setup, TsFault, TsName, is_same, read_control, read_presentation,

@@ -3,9 +3,10 @@ ghost use Rattle.std.specs.Prelude.{◌≤◌};
 
 use crate::model::{
     Limit, PEERS, Published, Shown, Step, choice, closing, commanded, delayed, is_fast,
-    is_programme, opening, programmes, published_before, setting_up, setup_text, texts, timelines,
+    is_programme, opening, programmes, published_before, setting_up, setup_text, timelines,
     wanted_by,
 };
+use crate::model_texts::texts;
 use crate::tests::{open, television};
 use css_num::{Rate, Text};
 use css_player::Command;

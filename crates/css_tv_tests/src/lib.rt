@@ -6,6 +6,8 @@ mod drawn_tests;
 #[cfg(test)]
 mod model;
 #[cfg(test)]
+mod model_texts;
+#[cfg(test)]
 mod tables;
 #[cfg(test)]
 mod tests;

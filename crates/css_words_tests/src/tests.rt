@@ -149,14 +149,14 @@ help";
     Ok(())
 }
 
-#[test]
-fn schedules_to_generate(rt: HostRuntime) -> Result<(), Fail> {
-    let told = "\
+/// Command lines of `generate` and `survey`, and what each of them asks for.
+const SCHEDULES: &str = "\
 generate --seed 7 --lines 9 => generate 7 9
 survey --lines=200000 --seed=9223372036854775807 => survey 9223372036854775807 200000
 generate --seed 0 --lines=10 => generate 0 10";
-    check_told(&rt, rt.alloc(), told)?;
-    let usage = "\
+
+/// Command lines of `generate` and `survey` that are refused.
+const NO_SCHEDULES: &str = "\
 generate --seed 7
 generate --lines 9
 generate --seed 7 --lines 8
@@ -191,7 +191,11 @@ generate --Seed 7 --lines 9
 generate --=7 --seed 7 --lines 9
 survey --seed 7
 survey --seed 7 --lines 8";
-    check_usage(&rt, rt.alloc(), usage)
+
+#[test]
+fn schedules_to_generate(rt: HostRuntime) -> Result<(), Fail> {
+    check_told(&rt, rt.alloc(), SCHEDULES)?;
+    check_usage(&rt, rt.alloc(), NO_SCHEDULES)
 }
 
 #[test]
@@ -235,9 +239,8 @@ tv --port 6677 --port 6678";
     check_usage(&rt, rt.alloc(), usage)
 }
 
-#[test]
-fn companions(rt: HostRuntime) -> Result<(), Fail> {
-    let told = "\
+/// Command lines of `companion`, and what each of them asks for.
+const COMPANIONS: &str = "\
 companion --cii ws://tv.local => companion tv.local 80 / \
 urn:dvb:css:timeline:pts '' 10 10000 1000000000 1000000000 128000 1000 always
 companion --cii=ws://127.0.0.1:6677/cii?a=b --reports 2 --turns 4 --report-every 10 --ask-every 1000 \
@@ -251,8 +254,9 @@ urn:dvb:css:timeline:pts '' 10 10000 1000000000 1000000000 128000 1000 5,0 -6,92
 companion --latest 999999999999999999,plusinfinity --earliest=-999999999999999999,minusinfinity --cii ws://h \
 --selector= --stem= => companion h 80 /  '' 10 10000 1000000000 1000000000 128000 1000 \
 -999999999999999999,- 999999999999999999,+";
-    check_told(&rt, rt.alloc(), told)?;
-    let usage = "\
+
+/// Command lines of `companion` that are refused.
+const NO_COMPANIONS: &str = "\
 companion --reports 2
 companion --cii
 companion --cii=
@@ -286,7 +290,11 @@ companion --cii ws://h --stem -x
 companion --cii ws://h --port 6677
 companion --cii ws://h --follow
 companion --cii ws://h cue.sheet";
-    check_usage(&rt, rt.alloc(), usage)
+
+#[test]
+fn companions(rt: HostRuntime) -> Result<(), Fail> {
+    check_told(&rt, rt.alloc(), COMPANIONS)?;
+    check_usage(&rt, rt.alloc(), NO_COMPANIONS)
 }
 
 #[test]

@@ -2,4 +2,8 @@
 #![tactic(auto)]
 
 #[cfg(test)]
+mod printed;
+#[cfg(test)]
+mod refused;
+#[cfg(test)]
 mod tests;

@@ -2,11 +2,12 @@
 ghost use Rattle.std.specs.Prelude.{◌≡◌, [], IfOk, IsTrue, false, true};
 ghost use Rattle.css_outside.specs.Scripts.{are_readings};
 
-use crate::live_tables::{
-    COMPANIONS, Case, FAILING, NEVER_FAILING, PAIRS, TELEVISIONS, TWO_BESIDE, Times,
+use crate::changed_tables::{CHANGED, SLEPT};
+use crate::running::ended;
+use crate::tables::{
+    COMPANIONS, Case, FAILING, NEVER_FAILING, PAIRS, Said, TELEVISIONS, TWO_BESIDE, Times,
 };
-use crate::running::words_of;
-use css_app::{Status, run, tell};
+use css_app::{Status, tell};
 use css_drive::{Before, Nobody};
 use css_follow::{Cues, Meter};
 use css_num::Text;
@@ -41,6 +42,16 @@ fn awake(reading: u64) -> Clocked
     }
 }
 
+/// A reading after a sleep.
+fn asleep(reading: u64) -> Clocked
+    ensures { result ≡ record { reading = reading; slept = true } }
+{
+    Clocked {
+        reading,
+        slept: true,
+    }
+}
+
 /// What the clock reads.
 fn readings_of(alloc: Global, times: Times) -> Result<Vec<Clocked>, Fail>
     ensures { IfOk result (λ readings. IsTrue (are_readings 0 readings.items)) }
@@ -54,6 +65,32 @@ fn readings_of(alloc: Global, times: Times) -> Result<Vec<Clocked>, Fail>
             awake(10),
             awake(20),
         ]?),
+        Times::SleptAtTurn => Ok(vec![in alloc;
+            awake(0),
+            awake(5),
+            awake(6),
+            awake(8),
+            asleep(10),
+            awake(20),
+        ]?),
+        Times::SleptAtLanding => Ok(vec![in alloc;
+            awake(0),
+            awake(5),
+            awake(6),
+            asleep(8),
+            awake(10),
+            awake(20),
+        ]?),
+        Times::SleptAndAsked => Ok(vec![in alloc;
+            awake(0),
+            awake(5),
+            awake(6),
+            awake(8),
+            asleep(10),
+            awake(12),
+            awake(14),
+            awake(20),
+        ]?),
         Times::Soon => Ok(vec![in alloc; awake(0), awake(1), awake(2)]?),
         Times::Seconds => {
             Ok(vec![in alloc; awake(0), awake(1_000_000_000), awake(2_000_000_000)]?)
@@ -61,12 +98,19 @@ fn readings_of(alloc: Global, times: Times) -> Result<Vec<Clocked>, Fail>
     }
 }
 
-fn texts_of(alloc: Global, rows: &[(u32, &str)]) -> Result<Vec<SessionHeard>, Fail> {
+fn heard_of(alloc: Global, said: &Said) -> Result<Heard, Fail> {
+    match said {
+        Said::Text(words) => Ok(Heard::Text(Text::of(alloc, words.as_bytes())?)),
+        Said::Closed => Ok(Heard::Closed),
+    }
+}
+
+fn texts_of(alloc: Global, rows: &[(u32, Said)]) -> Result<Vec<SessionHeard>, Fail> {
     let mut texts = Vec::new(alloc);
-    for (session, words) in rows {
+    for (session, said) in rows {
         texts.push(SessionHeard {
             session: *session,
-            heard: Heard::Text(Text::of(alloc, words.as_bytes())?),
+            heard: heard_of(alloc, said)?,
         })?;
     }
     Ok(texts)
@@ -83,7 +127,7 @@ fn datagrams_of(alloc: Global, rows: &[&[u8]]) -> Result<Vec<Option<Datagram>>, 
     Ok(datagrams)
 }
 
-fn script_of(alloc: Global, case: &Case, fails: Vec<u64>) -> Result<OutsideScript, Fail>
+pub fn script_of(alloc: Global, case: &Case, fails: Vec<u64>) -> Result<OutsideScript, Fail>
     ensures readings { IfOk result (λ script. IsTrue (are_readings 0 script.readings.items)) }
     ensures openings { IfOk result (λ script. script.openings.items ≡ []) }
     ensures fails { IfOk result (λ script. script.fails ≡ fails) }
@@ -122,22 +166,21 @@ fn assert_run(
     told: &str,
     written: &str,
 ) -> Result<(), Fail> {
-    let words = words_of(alloc, case.words)?;
     let mut source = MemorySource::new(alloc, case.input.as_bytes(), 4096, case.source_fails)?;
     let mut sink = MemorySink::new(alloc, 4096, case.sink_fails)?;
     let script = script_of(alloc, case, fails.to_vec(alloc)?)?;
     let mut outside = MemoryOutside::new(alloc, script)?;
     let mut spawner = MemorySpawner::new(alloc, case.children, case.spawner_fails)?;
     let mut followers = followers_of(alloc);
-    let status = run(
+    let status = ended(
         alloc,
-        &words,
+        case,
         &mut source,
         &mut sink,
         &mut outside,
         &mut spawner,
         &mut followers,
-    );
+    )?;
     assert_eq!(rt; sink.bytes(), written.as_bytes(), "{}", case.name);
     assert_told(rt, alloc, case, &status, told)
 }
@@ -152,6 +195,16 @@ fn assert_each(rt: &impl Abort, alloc: Global, cases: &[Case]) -> Result<(), Fai
 #[test]
 fn each_companion_ends_as_it_should(rt: HostRuntime) -> Result<(), Fail> {
     assert_each(&rt, rt.alloc(), COMPANIONS)
+}
+
+#[test]
+fn each_changed_input_is_told(rt: HostRuntime) -> Result<(), Fail> {
+    assert_each(&rt, rt.alloc(), CHANGED)
+}
+
+#[test]
+fn no_answer_outlasts_a_sleep(rt: HostRuntime) -> Result<(), Fail> {
+    assert_each(&rt, rt.alloc(), SLEPT)
 }
 
 #[test]
@@ -174,22 +227,21 @@ fn each_call_of_a_pair_fails_once(rt: HostRuntime) -> Result<(), Fail> {
 
 /// Makes a run over the devices that never fail.
 fn assert_never_fails(rt: &impl Abort, alloc: Global, case: &Case) -> Result<(), Fail> {
-    let words = words_of(alloc, case.words)?;
     let mut source = NeverFailsSource::new(alloc, case.input.as_bytes(), 4096)?;
     let mut sink = NeverFailsSink::new(alloc, 4096)?;
     let script = script_of(alloc, case, Vec::new(alloc))?;
     let mut outside = NeverFailsOutside::new(alloc, script)?;
     let mut spawner = NeverFailsSpawner::new(alloc, case.children)?;
     let mut followers = followers_of(alloc);
-    let status = run(
+    let status = ended(
         alloc,
-        &words,
+        case,
         &mut source,
         &mut sink,
         &mut outside,
         &mut spawner,
         &mut followers,
-    );
+    )?;
     assert_eq!(rt; sink.bytes(), case.written.as_bytes(), "{}", case.name);
     assert_told(rt, alloc, case, &status, case.told)
 }

@@ -1,9 +1,5 @@
 //! What happens at a companion, what it answers, and its report then.
 
-ghost use Rattle.std.specs.Prelude.{◌≤◌, ◌<◌};
-
-use css_client::Local;
-
 /// What happens at a companion's sessions, or a question.
 #[derive(Clone, Copy, Debug)]
 pub enum Happened {
@@ -108,7 +104,7 @@ const UNAVAILABLE: &str =
     r#"{"contentTime":null,"timelineSpeedMultiplier":null,"wallClockTime":"0"}"#;
 
 /// A companion of presentation time stamps, where the wall clock is from 10,500,000,000 to 10,500,022,222 ns.
-const CONTROLS: &[Row] = &[
+pub const CONTROLS: &[Row] = &[
     (CiiClosed, "-", "none NoTimestamp"),
     (Ts(PLAYS), "-", "ticks 945000 945001"),
     (TsOpened, SETUP, "ticks 945000 945001"),
@@ -182,7 +178,7 @@ pub const PRESENTS: &[Row] = &[
 ];
 
 /// Whatever happens, a companion without an answer knows no ticks.
-const UNANSWERED: &[Row] = &[
+pub const UNANSWERED: &[Row] = &[
     (TsClosed, "-", "none NoAnswer"),
     (Ts(PLAYS), "-", "none NoAnswer"),
     (Ts(UNAVAILABLE), "-", "none NoAnswer"),
@@ -190,7 +186,7 @@ const UNANSWERED: &[Row] = &[
 ];
 
 /// A session that closed before its first text told none.
-const CLOSED_FIRST: &[Row] = &[
+pub const CLOSED_FIRST: &[Row] = &[
     (TsClosed, "-", "none NoTimestamp"),
     (CiiClosed, "-", "none NoTimestamp"),
     (CiiClosed, "-", "none NoTimestamp"),
@@ -215,7 +211,7 @@ const RATE_OF_STAMPS: &str = concat!(
 );
 
 /// A companion of the timeline `urn:x:1`, where the wall clock is from 10,500,000,000 to 10,500,022,222 ns.
-const RATES: &[Row] = &[
+pub const RATES: &[Row] = &[
     (Rate, "None", "none NoTimestamp"),
     (Ts(PLAYS), "-", "none NoRate"),
     (Cii(FULL), "-", "none NoRate"),
@@ -227,7 +223,7 @@ const RATES: &[Row] = &[
 ];
 
 /// The timeline of presentation time stamps has its own rate where it isn't listed.
-const RATES_OF_STAMPS: &[Row] = &[
+pub const RATES_OF_STAMPS: &[Row] = &[
     (Assigned(10_500_000_000), "None", "none NoTimestamp"),
     (Ts(PLAYS), "-", "ticks 945000 945001"),
     (Cii(RATE_OF_STAMPS), "-", "ticks 900500 900500"),
@@ -257,7 +253,7 @@ const RATES_OF_STAMPS: &[Row] = &[
 
 /// The refusals of CII texts, and the addresses that aren't moved: they may go to null, and from null to others. A text
 /// that is refused is counted and changes nothing else.
-const REFUSALS: &[Row] = &[
+pub const REFUSALS: &[Row] = &[
     (Cii(FULL), "-", "none NoAnswer"),
     (Cii(""), "cii text 2: not json", "none NoAnswer"),
     (Cii("[]"), "cii text 3: not object", "none NoAnswer"),
@@ -307,7 +303,7 @@ const REFUSALS: &[Row] = &[
 ];
 
 /// A text changes what it names.
-const CONTENTS: &[Row] = &[
+pub const CONTENTS: &[Row] = &[
     (State, NULLS, "none NoAnswer"),
     (Cii(FULL), "-", "none NoAnswer"),
     (State, FULL, "none NoAnswer"),
@@ -324,7 +320,7 @@ const CONTENTS: &[Row] = &[
 ];
 
 /// A companion without a stem, where the wall clock is from 10,000,000,297 to 10,000,000,503 ns.
-const WITHOUT_A_STEM: &[Row] = &[
+pub const WITHOUT_A_STEM: &[Row] = &[
     (TsOpened, SETUP_OF_ALL, "none NoTimestamp"),
     (
         Ts(r#"{"contentTime":"900000","timelineSpeedMultiplier":1,"wallClockTime":"10000000000"}"#),
@@ -342,265 +338,4 @@ const WITHOUT_A_STEM: &[Row] = &[
         "Some(896400)",
         "ticks 896400 896400",
     ),
-];
-
-const SLOWEST: &str = concat!(
-    r#"{"timelines":[{"timelineSelector":"urn:x:1","#,
-    r#""timelineProperties":{"unitsPerTick":1000000000,"unitsPerSecond":1}}]}"#
-);
-
-const FASTEST: &str = concat!(
-    r#"{"timelines":[{"timelineSelector":"urn:x:1","#,
-    r#""timelineProperties":{"unitsPerTick":1,"unitsPerSecond":1000000000}}]}"#
-);
-
-const UP_FROM_0: &str =
-    r#"{"contentTime":"999999999999999999","timelineSpeedMultiplier":64,"wallClockTime":"0"}"#;
-
-const DOWN_FROM_0: &str =
-    r#"{"contentTime":"-999999999999999999","timelineSpeedMultiplier":-64,"wallClockTime":"0"}"#;
-
-const UP_TO_2_63: &str =
-    r#"{"contentTime":"-999999999999999999","timelineSpeedMultiplier":64,"wallClockTime":"9223372036854775807"}"#;
-
-const DOWN_TO_2_63: &str =
-    r#"{"contentTime":"999999999999999999","timelineSpeedMultiplier":-64,"wallClockTime":"9223372036854775807"}"#;
-
-/// At a wall clock from -1,073,741,825,782,178,220 to 1,073,741,826,222,222,225 ns.
-const NEAR_ZERO: &[Row] = &[
-    (Cii(SLOWEST), "-", "none NoTimestamp"),
-    (
-        Ts(UP_FROM_0),
-        "-",
-        "ticks 999999999999999930 1000000000000000067",
-    ),
-    (
-        Ts(DOWN_FROM_0),
-        "-",
-        "ticks -1000000000000000068 -999999999999999931",
-    ),
-    (
-        Ts(UP_TO_2_63),
-        "-",
-        "ticks -1000000000000000659 -1000000000000000521",
-    ),
-    (
-        Ts(DOWN_TO_2_63),
-        "-",
-        "ticks 1000000000000000520 1000000000000000658",
-    ),
-    (
-        Cii(FASTEST),
-        "-",
-        "ticks 522576333480483429247 660015287208765057727",
-    ),
-    (
-        Ts(UP_FROM_0),
-        "-",
-        "ticks -67719476850059406081 69719476878222222399",
-    ),
-    (
-        Ts(DOWN_FROM_0),
-        "-",
-        "ticks -69719476878222222399 67719476850059406081",
-    ),
-    (
-        Ts(UP_TO_2_63),
-        "-",
-        "ticks -660015287208765057727 -522576333480483429247",
-    ),
-    (
-        Ts(DOWN_TO_2_63),
-        "-",
-        "ticks 522576333480483429247 660015287208765057727",
-    ),
-];
-
-/// At a wall clock from 3,221,225,470,217,821,779 to 10,140,895,006,666,666,667 ns.
-const NEAR_LIMIT: &[Row] = &[
-    (Cii(SLOWEST), "-", "none NoTimestamp"),
-    (
-        Ts(UP_FROM_0),
-        "-",
-        "ticks 1000000000000000205 1000000000000000648",
-    ),
-    (
-        Ts(DOWN_FROM_0),
-        "-",
-        "ticks -1000000000000000649 -1000000000000000206",
-    ),
-    (
-        Ts(UP_TO_2_63),
-        "-",
-        "ticks -1000000000000000384 -999999999999999941",
-    ),
-    (
-        Ts(DOWN_TO_2_63),
-        "-",
-        "ticks 999999999999999940 1000000000000000383",
-    ),
-    (
-        Cii(FASTEST),
-        "-",
-        "ticks -57721470067961015041 385137380264765057791",
-    ),
-    (
-        Ts(UP_FROM_0),
-        "-",
-        "ticks 207158430093940593855 650017280426666666687",
-    ),
-    (
-        Ts(DOWN_FROM_0),
-        "-",
-        "ticks -650017280426666666687 -207158430093940593855",
-    ),
-    (
-        Ts(UP_TO_2_63),
-        "-",
-        "ticks -385137380264765057791 57721470067961015041",
-    ),
-    (
-        Ts(DOWN_TO_2_63),
-        "-",
-        "ticks -57721470067961015041 385137380264765057791",
-    ),
-];
-
-/// The companion asks at one reading, and an answer that tells one time of the television's in seconds and nanoseconds
-/// lands at another one.
-#[derive(Clone, Copy)]
-pub struct Answer {
-    pub asked: u32,
-    pub told: (u32, u32),
-    pub precision: u8,
-    pub error: u32,
-    pub landed: u64,
-    ghost rising: { asked ≤ landed },
-    ghost early: { landed < 4294967296000000000 },
-}
-
-/// What a companion of this configuration meets after its answer, if there is one.
-#[derive(Clone, Copy)]
-pub struct Run {
-    pub selector: &'static str,
-    pub stem: &'static str,
-    pub local: Local,
-    pub answer: Option<Answer>,
-    pub rows: &'static [Row],
-}
-
-pub const STAMPS: &str = "urn:dvb:css:timeline:pts";
-
-pub const EXACT: Local = Local {
-    error: 0,
-    precision: 0,
-};
-
-/// The greatest errors that a companion may have.
-const WIDEST: Local = Local {
-    error: 2_560_000,
-    precision: 1_000_000_000,
-};
-
-/// The wall clock is from 10,500,000,000 to 10,500,022,222 ns when it lands.
-const LATE: Answer = Answer {
-    asked: 1000,
-    told: (10, 500_000_003),
-    precision: 226,
-    error: 0,
-    landed: 23_216,
-};
-
-/// The wall clock is from 10,000,000,297 to 10,000,000,503 ns when it lands.
-pub const EARLY: Answer = Answer {
-    asked: 100,
-    told: (10, 300),
-    precision: 226,
-    error: 0,
-    landed: 400,
-};
-
-/// The least reading of the wall clock, with the greatest errors.
-const LEAST: Answer = Answer {
-    asked: 0,
-    told: (0, 0),
-    precision: 30,
-    error: 25_600_000,
-    landed: 0,
-};
-
-/// The greatest reading of the wall clock, with the greatest errors.
-const GREATEST: Answer = Answer {
-    asked: 0,
-    told: (4_294_967_295, 999_999_999),
-    precision: 30,
-    error: 25_600_000,
-    landed: 4_294_967_295_999_999_999,
-};
-
-/// A companion of presentation time stamps with an exact clock.
-const USUAL: Run = Run {
-    selector: STAMPS,
-    stem: "dvb://",
-    local: EXACT,
-    answer: Some(LATE),
-    rows: &[],
-};
-
-/// The same of another timeline, with a clock that has the greatest errors.
-const WIDE: Run = Run {
-    selector: "urn:x:1",
-    local: WIDEST,
-    ..USUAL
-};
-
-pub const RUNS: [Run; 10] = [
-    Run {
-        rows: CONTROLS,
-        ..USUAL
-    },
-    Run {
-        rows: CLOSED_FIRST,
-        ..USUAL
-    },
-    Run {
-        answer: None,
-        rows: UNANSWERED,
-        ..USUAL
-    },
-    Run {
-        selector: "urn:x:1",
-        rows: RATES,
-        ..USUAL
-    },
-    Run {
-        rows: RATES_OF_STAMPS,
-        ..USUAL
-    },
-    Run {
-        answer: None,
-        rows: REFUSALS,
-        ..USUAL
-    },
-    Run {
-        answer: None,
-        rows: CONTENTS,
-        ..USUAL
-    },
-    Run {
-        stem: "",
-        answer: Some(EARLY),
-        rows: WITHOUT_A_STEM,
-        ..USUAL
-    },
-    Run {
-        answer: Some(LEAST),
-        rows: NEAR_ZERO,
-        ..WIDE
-    },
-    Run {
-        answer: Some(GREATEST),
-        rows: NEAR_LIMIT,
-        ..WIDE
-    },
 ];

@@ -5,10 +5,23 @@
 pub enum Times {
     /// 0, 5, 6, 8, 10 and 20.
     K,
+    /// The same, with a sleep before the reading 10.
+    SleptAtTurn,
+    /// The same, with a sleep before the reading 8.
+    SleptAtLanding,
+    /// 0, 5, 6, 8, a sleep, 10, 12, 14 and 20.
+    SleptAndAsked,
     /// 0, 1 and 2.
     Soon,
     /// 0, 1 and 2 seconds.
     Seconds,
+}
+
+/// What a session gives.
+#[derive(Clone, Copy)]
+pub enum Said {
+    Text(&'static str),
+    Closed,
 }
 
 /// A run: its words, its input, what its devices give, which calls fail, how it is told, and what it writes.
@@ -21,7 +34,7 @@ pub struct Case {
     pub times: Times,
     pub datagrams: &'static [&'static [u8]],
     /// By the number of the session.
-    pub texts: &'static [(u32, &'static str)],
+    pub texts: &'static [(u32, Said)],
     pub source_fails: &'static [u64],
     pub sink_fails: &'static [u64],
     pub fails: &'static [u64],
@@ -33,15 +46,15 @@ pub struct Case {
 }
 
 /// A response with the originate value 6, the receive value 5000 and the transmit value 5001.
-const RESPONSE: [u8; 32] = [
+pub const RESPONSE: [u8; 32] = [
     0, 1, 226, 0, 0, 0, 0, 0, 0, 0, 0, 0, 0, 0, 0, 6, 0, 0, 0, 0, 0, 0, 19, 136, 0, 0, 0, 0, 0, 0,
     19, 137,
 ];
 
-const CII: &str =
+pub const CII: &str =
     "{\"timelines\":null,\"tsUrl\":\"ws://127.0.0.1:6678/ts\",\"wcUrl\":\"udp://127.0.0.1:6677\"}";
 
-const TS: &str =
+pub const TS: &str =
     "{\"contentTime\":\"900000\",\"timelineSpeedMultiplier\":1,\"wallClockTime\":\"0\"}";
 
 /// Two reports in four turns, 10 ns apart.
@@ -70,7 +83,7 @@ pub const K: Case = Case {
     input: "",
     times: Times::K,
     datagrams: &[&RESPONSE],
-    texts: &[(1, CII), (2, TS)],
+    texts: &[(1, Said::Text(CII)), (2, Said::Text(TS))],
     source_fails: &[],
     sink_fails: &[],
     fails: &[],
@@ -117,14 +130,14 @@ pub const COMPANIONS: &[Case] = &[
     },
     Case {
         name: "a text is no object",
-        texts: &[(1, "[]")],
+        texts: &[(1, Said::Text("[]"))],
         fails: &[],
         told: "css: cii text 1: not object\n",
         ..UNREACHED
     },
     Case {
         name: "an address is none",
-        texts: &[(1, "{\"wcUrl\":\"http://h/\"}")],
+        texts: &[(1, Said::Text("{\"wcUrl\":\"http://h/\"}"))],
         fails: &[],
         told: "css: bad url wcUrl\n",
         ..UNREACHED
@@ -132,8 +145,8 @@ pub const COMPANIONS: &[Case] = &[
     Case {
         name: "an address is moved",
         texts: &[
-            (1, "{\"wcUrl\":\"udp://127.0.0.1:6677\"}"),
-            (1, "{\"wcUrl\":\"udp://127.0.0.1:7000\"}"),
+            (1, Said::Text("{\"wcUrl\":\"udp://127.0.0.1:6677\"}")),
+            (1, Said::Text("{\"wcUrl\":\"udp://127.0.0.1:7000\"}")),
         ],
         fails: &[],
         told: "css: moved wcUrl\n",
