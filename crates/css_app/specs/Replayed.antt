@@ -1,13 +1,14 @@
 -- What a replay makes of the lines of a schedule.
-use Rattle.std.specs.Prelude.{ℕ, suc, ◌+◌, List, [], ◌∷◌, length, Option, Some, None, Result, Ok, Err}
+use Rattle.std.specs.Prelude.{ℕ, suc, ◌+◌, nat_lt, if◌then◌else◌, List, [], ◌∷◌, length, take, drop, Option, Some}
+use Rattle.std.specs.Prelude.{None, Result, Ok, Err}
 use Rattle.css_lines.specs.Meaning.{Meaning}
 use Rattle.css_schedule.specs.declared.fault.LineFault.{LineFault}
 use Rattle.css_schedule.specs.declared.header.Header.{Header}
 use Rattle.css_schedule.specs.declared.header.Start.{Start}
 use Rattle.css_schedule.specs.declared.header.Start.TheVariants.{One, Two}
 use Rattle.css_schedule.specs.declared.line.Line.{Line}
-use Rattle.css_schedule.specs.Headers.{header_of}
-use Rattle.css_schedule.specs.Lines.{line_of}
+use Rattle.css_schedule.specs.Headers.{header_of, companion_of, with_lines}
+use Rattle.css_schedule.specs.Lines.{line_in}
 use Rattle.css_world.specs.declared.fault.WorldFault.{WorldFault}
 use Rattle.css_world.specs.declared.fault.WorldFault.TheVariants as world
 use Rattle.css_world.specs.Happened.{Numbered}
