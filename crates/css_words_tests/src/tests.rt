@@ -74,6 +74,7 @@ fn shown(alloc: Global, command: &Command) -> Result<String, Fail> {
     Ok(match command {
         Command::Replay => String::from_str(alloc, "replay")?,
         Command::Agree => String::from_str(alloc, "agree")?,
+        Command::Audit => String::from_str(alloc, "audit")?,
         Command::Companion(words) => {
             let host = shown_text(&words.cii.host);
             let path = shown_text(&words.cii.path);
@@ -122,7 +123,8 @@ fn check_usage(rt: &impl Abort, alloc: Global, lines: &str) -> Result<(), Fail> 
 fn names_and_words_without_options(rt: HostRuntime) -> Result<(), Fail> {
     let told = "\
 replay => replay
-agree => agree";
+agree => agree
+audit => audit";
     check_told(&rt, rt.alloc(), told)?;
     let usage = "\
 reply
@@ -137,6 +139,8 @@ replay -
 replay 
 agree --seed 7
 agree -x
+audit --record
+audit audit
 --help
 -
 --
