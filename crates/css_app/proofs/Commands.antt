@@ -5,7 +5,8 @@ use Rattle.css_model.specs.History.{Address, History}
 use Rattle.css_follow.specs.Following.{Plan}
 use Rattle.css_follow.specs.declared.sheet.Sheet.{Sheet}
 use Rattle.css_drive.specs.declared.config.DriveConfig.{DriveConfig}
-use Rattle.css_words.specs.Commands.{Asked, Replay, Agree, Companion, Tv, Pair, Relay, Generate, Survey, command_in}
+use Rattle.css_words.specs.Commands.{Asked, Replay, Agree, Audit, Companion, Tv, Pair, Relay, Generate, Survey}
+use Rattle.css_words.specs.Commands.{command_in}
 use Rattle.css_words.specs.Companion.{CompanionAsked, OptionsAsked}
 use Rattle.css_words.specs.Pair.{PairAsked}
 use Rattle.css_words.specs.declared.fault.WordsFault.{WordsFault}
@@ -89,6 +90,8 @@ pub usage_only : (asked : Result Asked WordsFault) (source : SourceUse) (sink : 
 usage_only (Ok Replay) source sink outside spawner followers result did is =
     absurd (subst IsNoUsage is did.no_usage)
 usage_only (Ok Agree) source sink outside spawner followers result did is =
+    absurd (subst IsNoUsage is did.no_usage)
+usage_only (Ok Audit) source sink outside spawner followers result did is =
     absurd (subst IsNoUsage is did.no_usage)
 usage_only (Ok (Companion asked)) source sink outside spawner followers result did is =
     absurd (subst IsNoUsage is (companions_no_usage asked followers.takes source (stage_before sink outside followers)

@@ -11,11 +11,12 @@ use Rattle.css_follow.specs.Following.{Plan}
 use Rattle.css_follow.specs.declared.sheet.Sheet.{Sheet}
 use Rattle.css_drive.specs.Listening.{Listener}
 use Rattle.css_agree.specs.Agreeing.{agreeing}
-use Rattle.css_words.specs.Commands.{Asked, Replay, Agree, Companion, Tv, Pair, Relay, Generate, Survey}
+use Rattle.css_audit.specs.Auditing.{auditing}
+use Rattle.css_words.specs.Commands.{Asked, Replay, Agree, Audit, Companion, Tv, Pair, Relay, Generate, Survey}
 use Rattle.css_words.specs.declared.fault.WordsFault.{WordsFault}
 use Rattle.css_words.specs.declared.fault.WordsFault.TheVariants as words
 use Rattle.css_app.specs.declared.status.Status.TheVariants as status
-use Rattle.css_app.specs.Commands.{ByAgree, ByReplay, ByWriting, Does}
+use Rattle.css_app.specs.Commands.{ByAgree, ByAudit, ByReplay, ByWriting, Does}
 use Rattle.css_app.specs.Devices.{followers_use, sink_use, source_use}
 use Rattle.css_app.specs.Generated.{schedule_text}
 use Rattle.css_app.specs.Pairs.{Children}
@@ -88,6 +89,15 @@ agree_lacks left holds r w = record {
   complete = λ bytes is accepted read written. tt;
 }
 
+audit_lacks : (left holds : Option (List ℕ)) (r w : ℕ)
+    → ByAudit (source_use left left r r) (sink_use holds holds w w) status.Memory
+audit_lacks left holds r w = record {
+  no_usage = tt;
+  audits = λ bytes is. inr (record { stop = stops.Memory; ran = ran_none_of auditing left holds bytes is; told = refl });
+  right = λ done. absurd (cc);
+  complete = λ bytes is right read written. tt;
+}
+
 writing_lacks : (text : List ℕ) (holds : Option (List ℕ)) (w : ℕ)
     → ByWriting text (sink_use holds holds w w) status.Memory
 writing_lacks text holds w = record {
@@ -104,6 +114,7 @@ pub lacks : (asked : Result Asked WordsFault) (left holds : Option (List ℕ)) (
     (followers_use takes heard heard) status.Memory
 lacks (Ok Replay) left holds told kids takes heard r w c s = replay_lacks left holds r w
 lacks (Ok Agree) left holds told kids takes heard r w c s = agree_lacks left holds r w
+lacks (Ok Audit) left holds told kids takes heard r w c s = audit_lacks left holds r w
 lacks (Ok (Companion asked)) left holds told kids takes heard r w c s = record {
   ran = inl (record { untouched = refl; cause = tt });
   complete = λ bytes sheet is ok read written called. inl refl;

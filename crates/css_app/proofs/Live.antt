@@ -168,6 +168,7 @@ sheet_lacks left (status.Spent turns) bytes sheet r r' none is ok counted n = ab
 sheet_lacks left (status.Unreachable turns) bytes sheet r r' none is ok counted n = absurd none
 sheet_lacks left (status.ChildFault ended) bytes sheet r r' none is ok counted n = absurd none
 sheet_lacks left (status.BadUrl property) bytes sheet r r' none is ok counted n = absurd none
+sheet_lacks left (status.WrongReport line right) bytes sheet r r' none is ok counted n = absurd none
 
 -- so is a script
 pub script_lacks : (left : Option (List ℕ)) (result : Status) (bytes : List ℕ) (script : List ScriptLine) (r r' : ℕ)
@@ -190,3 +191,4 @@ script_lacks left (status.Unreachable turns) bytes script r r' none is ok counte
 script_lacks left (status.ChildFault ended) bytes script r r' none is ok counted n = absurd none
 script_lacks left (status.BadSheet line) bytes script r r' none is ok counted n = absurd none
 script_lacks left (status.BadUrl property) bytes script r r' none is ok counted n = absurd none
+script_lacks left (status.WrongReport line right) bytes script r r' none is ok counted n = absurd none

@@ -1,5 +1,5 @@
 -- Which faults a command's status never tells.
-use Rattle.std.proofs.Common.{ℕ, List, refl, sym, subst, arith, inl, inr}
+use Rattle.std.proofs.Common.{◌≡◌, ℕ, List, refl, sym, subst, arith, inl, inr}
 use Rattle.std.specs.Prelude.{Option, Some, None}
 use Rattle.css_model.specs.History.{History}
 use Rattle.css_lines.specs.declared.ending.Stop.{Stop}
@@ -7,6 +7,8 @@ use Rattle.css_lines.specs.declared.ending.Stop.TheVariants as stops
 use Rattle.css_lines.specs.declared.reader.Refusal.TheVariants as refusals
 use Rattle.css_agree.specs.declared.reader.Cause as agree
 use Rattle.css_agree.specs.declared.reader.Cause.TheVariants as agrees
+use Rattle.css_audit.specs.declared.fault.AuditFault.{AuditFault}
+use Rattle.css_audit.specs.declared.fault.AuditFault.TheVariants as audits
 use Rattle.css_follow.specs.Following.{Plan}
 use Rattle.css_follow.specs.declared.sheet.Sheet.{Sheet}
 use Rattle.css_drive.specs.declared.config.DriveConfig.{DriveConfig}
@@ -20,7 +22,7 @@ use Rattle.css_app.specs.declared.replay.Cause.{Cause}
 use Rattle.css_app.specs.declared.replay.Cause.TheVariants as causes
 use Rattle.css_app.specs.declared.status.Status.{Status}
 use Rattle.css_app.specs.declared.status.Status.TheVariants as status
-use Rattle.css_app.specs.Ended.{CountsReads, IsNoUsage, Writes, agree_status_of, status_of}
+use Rattle.css_app.specs.Ended.{CountsReads, IsNoUsage, Writes, agree_status_of, audit_status_of, status_of}
 use Rattle.css_app.specs.Live.{Companions, CountsDials, CountsSpawns, HasNoScript, HasNoSheet, Serves, Stage}
 use Rattle.css_app.specs.Live.{TellsNoLive, driven_status}
 use Rattle.css_app.specs.Pairs.{Beside, Children, IsNoStart, Pairs, empty_sheet}
@@ -54,6 +56,30 @@ agree_quiet stops.ReadFault = record { calls = λ n. refl; dials = λ n. omega a
 agree_quiet stops.WriteFault = record { calls = λ n. refl; dials = λ n. omega arith; spawns = λ n. omega arith }
 agree_quiet stops.Memory = record { calls = λ n. refl; dials = λ n. omega arith; spawns = λ n. omega arith }
 
+pub audit_quiet : (stop : Stop AuditFault) → TellsNoLive (audit_status_of stop)
+audit_quiet (stops.BadLine line refusals.Long) =
+    record { calls = λ n. refl; dials = λ n. omega arith; spawns = λ n. omega arith }
+audit_quiet (stops.BadLine line (refusals.Refused audits.Form)) =
+    record { calls = λ n. refl; dials = λ n. omega arith; spawns = λ n. omega arith }
+audit_quiet (stops.BadLine line (refusals.Refused (audits.Broken earlier excess))) =
+    record { calls = λ n. refl; dials = λ n. omega arith; spawns = λ n. omega arith }
+audit_quiet (stops.BadLine line (refusals.Refused audits.Absent)) =
+    record { calls = λ n. refl; dials = λ n. omega arith; spawns = λ n. omega arith }
+audit_quiet (stops.BadLine line (refusals.Refused (audits.BadCii text fault))) =
+    record { calls = λ n. refl; dials = λ n. omega arith; spawns = λ n. omega arith }
+audit_quiet (stops.BadLine line (refusals.Refused (audits.Moved property old new))) =
+    record { calls = λ n. refl; dials = λ n. omega arith; spawns = λ n. omega arith }
+audit_quiet (stops.BadLine line (refusals.Refused (audits.WrongReport right))) =
+    record { calls = λ n. refl; dials = λ n. omega arith; spawns = λ n. omega arith }
+audit_quiet (stops.BadLine line (refusals.Refused audits.Memory)) =
+    record { calls = λ n. refl; dials = λ n. omega arith; spawns = λ n. omega arith }
+audit_quiet stops.ReadFault =
+    record { calls = λ n. refl; dials = λ n. omega arith; spawns = λ n. omega arith }
+audit_quiet stops.WriteFault =
+    record { calls = λ n. refl; dials = λ n. omega arith; spawns = λ n. omega arith }
+audit_quiet stops.Memory =
+    record { calls = λ n. refl; dials = λ n. omega arith; spawns = λ n. omega arith }
+
 pub replay_no_usage : (stop : Stop Cause) → IsNoUsage (status_of stop)
 replay_no_usage (stops.BadLine line refusals.Long) = tt
 replay_no_usage (stops.BadLine line (refusals.Refused causes.Form)) = tt
@@ -71,6 +97,33 @@ agree_no_usage (stops.BadLine line (refusals.Refused (agrees.Broken earlier exce
 agree_no_usage stops.ReadFault = tt
 agree_no_usage stops.WriteFault = tt
 agree_no_usage stops.Memory = tt
+
+pub audit_no_usage : (stop : Stop AuditFault) → IsNoUsage (audit_status_of stop)
+audit_no_usage (stops.BadLine line refusals.Long) = tt
+audit_no_usage (stops.BadLine line (refusals.Refused audits.Form)) = tt
+audit_no_usage (stops.BadLine line (refusals.Refused (audits.Broken earlier excess))) = tt
+audit_no_usage (stops.BadLine line (refusals.Refused audits.Absent)) = tt
+audit_no_usage (stops.BadLine line (refusals.Refused (audits.BadCii text fault))) = tt
+audit_no_usage (stops.BadLine line (refusals.Refused (audits.Moved property old new))) = tt
+audit_no_usage (stops.BadLine line (refusals.Refused (audits.WrongReport right))) = tt
+audit_no_usage (stops.BadLine line (refusals.Refused audits.Memory)) = tt
+audit_no_usage stops.ReadFault = tt
+audit_no_usage stops.WriteFault = tt
+audit_no_usage stops.Memory = tt
+
+-- an audit that stopped isn't told as done
+pub never_done : (stop : Stop AuditFault) (result : Status) → result ≡ audit_status_of stop → result ≡ status.Done → ⊥
+never_done (stops.BadLine line refusals.Long) result is done = absurd (cc)
+never_done (stops.BadLine line (refusals.Refused audits.Form)) result is done = absurd (cc)
+never_done (stops.BadLine line (refusals.Refused (audits.Broken earlier excess))) result is done = absurd (cc)
+never_done (stops.BadLine line (refusals.Refused audits.Absent)) result is done = absurd (cc)
+never_done (stops.BadLine line (refusals.Refused (audits.BadCii text fault))) result is done = absurd (cc)
+never_done (stops.BadLine line (refusals.Refused (audits.Moved property old new))) result is done = absurd (cc)
+never_done (stops.BadLine line (refusals.Refused (audits.WrongReport right))) result is done = absurd (cc)
+never_done (stops.BadLine line (refusals.Refused audits.Memory)) result is done = absurd (cc)
+never_done stops.ReadFault result is done = absurd (cc)
+never_done stops.WriteFault result is done = absurd (cc)
+never_done stops.Memory result is done = absurd (cc)
 
 -- ---- texts that are written
 pub writes_no_usage : (text : List ℕ) (old new : Option (List ℕ)) (result : Status) → Writes text old new result
@@ -90,6 +143,7 @@ writes_no_usage text old new (status.Unreachable turns) none = absurd none
 writes_no_usage text old new (status.ChildFault ended) none = absurd none
 writes_no_usage text old new (status.BadSheet line) none = absurd none
 writes_no_usage text old new (status.BadUrl property) none = absurd none
+writes_no_usage text old new (status.WrongReport line right) none = absurd none
 
 pub writes_quiet : (text : List ℕ) (old new : Option (List ℕ)) (result : Status) → Writes text old new result
     → TellsNoLive result
@@ -111,6 +165,7 @@ writes_quiet text old new (status.Unreachable turns) none = absurd none
 writes_quiet text old new (status.ChildFault ended) none = absurd none
 writes_quiet text old new (status.BadSheet line) none = absurd none
 writes_quiet text old new (status.BadUrl property) none = absurd none
+writes_quiet text old new (status.WrongReport line right) none = absurd none
 
 pub writes_no_read : (text : List ℕ) (old new : Option (List ℕ)) (result : Status) → Writes text old new result
     → (n : ℕ) → CountsReads n n result
@@ -129,6 +184,7 @@ writes_no_read text old new (status.Unreachable turns) none n = absurd none
 writes_no_read text old new (status.ChildFault ended) none n = absurd none
 writes_no_read text old new (status.BadSheet line) none n = absurd none
 writes_no_read text old new (status.BadUrl property) none n = absurd none
+writes_no_read text old new (status.WrongReport line right) none n = absurd none
 
 -- ---- live commands
 -- Neither Usage nor a child's fault: what the statuses are of a run that was made, and of an input that wasn't read.
@@ -163,6 +219,7 @@ sheet_no_child left (status.Spent turns) none = absurd none
 sheet_no_child left (status.Unreachable turns) none = absurd none
 sheet_no_child left (status.ChildFault ended) none = absurd none
 sheet_no_child left (status.BadUrl property) none = absurd none
+sheet_no_child left (status.WrongReport line right) none = absurd none
 
 -- the same of a script, and no dial failed
 abbrev pub HasNoDial : Status → Type 0
@@ -184,6 +241,7 @@ script_no_dial left (status.Unreachable turns) none = absurd none
 script_no_dial left (status.ChildFault ended) none = absurd none
 script_no_dial left (status.BadSheet line) none = absurd none
 script_no_dial left (status.BadUrl property) none = absurd none
+script_no_dial left (status.WrongReport line right) none = absurd none
 
 pub companions_no_child : (config : DriveConfig) (takes : Sheet → List Plan) (left_old left_new : Option (List ℕ))
     (before now : Stage) (result : Status) → Companions config takes left_old left_new before now result
@@ -235,6 +293,7 @@ start_no_usage (status.Spent turns) none = absurd none
 start_no_usage (status.Unreachable turns) none = absurd none
 start_no_usage (status.BadSheet line) none = absurd none
 start_no_usage (status.BadUrl property) none = absurd none
+start_no_usage (status.WrongReport line right) none = absurd none
 
 beside_no_usage : (config : DriveConfig) (plans : List Plan) (words : List (List ℕ)) (script : List ℕ)
     (before now : Stage) (kids_old kids_new : Children) (result : Status)

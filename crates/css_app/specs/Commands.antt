@@ -2,13 +2,14 @@
 use Rattle.std.specs.Prelude.{◌≡◌, ◌⊎◌, ℕ, Bool, true, false, List, Option, Some, Result, Ok, Err}
 use Rattle.css_model.specs.History.{Address, History}
 use Rattle.css_agree.specs.Promise as agree
+use Rattle.css_audit.specs.Promise.{SaysRight}
 use Rattle.css_drive.specs.declared.config.DriveConfig.{DriveConfig}
 use Rattle.css_follow.specs.Following.{Plan}
 use Rattle.css_follow.specs.Sheets.{sheet_in}
 use Rattle.css_follow.specs.declared.sheet.Sheet.{Sheet}
 use Rattle.css_schedule.specs.declared.line.ScriptLine.{ScriptLine}
 use Rattle.css_tv.specs.declared.config.TvConfig.{TvConfig}
-use Rattle.css_words.specs.Commands.{Asked, Replay, Agree, Companion, Tv, Pair, Relay, Generate, Survey}
+use Rattle.css_words.specs.Commands.{Asked, Replay, Agree, Audit, Companion, Tv, Pair, Relay, Generate, Survey}
 use Rattle.css_words.specs.Companion.{CompanionAsked, OptionsAsked}
 use Rattle.css_words.specs.Generator.{GeneratorAsked}
 use Rattle.css_words.specs.Pair.{PairAsked}
@@ -20,8 +21,8 @@ use Rattle.css_app.specs.declared.child.Child.{Child}
 use Rattle.css_app.specs.declared.status.Status.{Status}
 use Rattle.css_app.specs.declared.status.Status.TheVariants as status
 use Rattle.css_app.specs.Devices.{SourceUse, SinkUse, OutsideUse, SpawnerUse, FollowersUse, stage_before, stage_after}
-use Rattle.css_app.specs.Ended.{Agrees, AreAllRead, HasNotFailed, IsAccepted, IsDoneUnlessMemory, IsNoUsage, Replays}
-use Rattle.css_app.specs.Ended.{Writes}
+use Rattle.css_app.specs.Ended.{Agrees, AreAllRead, AreAllRight, Audits, HasNotFailed, IsAccepted, IsDoneUnlessMemory}
+use Rattle.css_app.specs.Ended.{IsNoUsage, Replays, Writes}
 use Rattle.css_app.specs.Generated.{schedule_text}
 use Rattle.css_app.specs.Headline.{Promised}
 use Rattle.css_app.specs.Live.{IsAsDue, MakesNoRun, RunsBySheet, Serves, ServesAsDue, Stage}
@@ -41,6 +42,7 @@ IsUsageUnlessMemory _ = ⊥
 abbrev pub uses_source : Result Asked WordsFault → Bool
 uses_source (Ok Replay) = true
 uses_source (Ok Agree) = true
+uses_source (Ok Audit) = true
 uses_source (Ok (Companion asked)) = true
 uses_source (Ok (Tv asked)) = true
 uses_source (Ok (Pair asked)) = true
@@ -49,6 +51,7 @@ uses_source _ = false
 abbrev pub uses_sink : Result Asked WordsFault → Bool
 uses_sink (Ok Replay) = true
 uses_sink (Ok Agree) = true
+uses_sink (Ok Audit) = true
 uses_sink (Ok (Companion asked)) = true
 uses_sink (Ok (Pair asked)) = true
 uses_sink (Ok (Generate asked)) = true
@@ -125,6 +128,20 @@ pub record ByAgree (source : SourceUse) (sink : SinkUse) (result : Status) : Typ
       → Agrees bytes source.left_new sink.holds_old sink.holds_new result
   pub promise : agree.Promised source.left_old source.left_new sink.holds_old sink.holds_new
   pub complete : (bytes : List ℕ) → source.left_old ≡ Some bytes → AreAllRead bytes
+      → HasNotFailed source.faults_old source.faults_new → HasNotFailed sink.faults_old sink.faults_new
+      → IsDoneUnlessMemory result
+
+-- ---- `audit`
+-- The same of the record of a companion. Where the audit says yes, each report in the record is the one that its
+-- companion was to make there, by the lines before it. It is refused at the first line that has a cause, by the first
+-- cause of that line.
+pub record ByAudit (source : SourceUse) (sink : SinkUse) (result : Status) : Type 0 where
+  pub no_usage : IsNoUsage result
+  pub audits : (bytes : List ℕ) → source.left_old ≡ Some bytes
+      → Audits bytes source.left_new sink.holds_old sink.holds_new result
+  pub right : result ≡ status.Done → SaysRight source.left_old source.left_new
+  -- a record that is right is read to its end, over devices that don't fail
+  pub complete : (bytes : List ℕ) → source.left_old ≡ Some bytes → AreAllRight bytes
       → HasNotFailed source.faults_old source.faults_new → HasNotFailed sink.faults_old sink.faults_new
       → IsDoneUnlessMemory result
 
@@ -222,6 +239,7 @@ abbrev pub Does :
     Result Asked WordsFault → SourceUse → SinkUse → OutsideUse → SpawnerUse → FollowersUse → Status → Type 0
 Does (Ok Replay) source sink outside spawner followers result = ByReplay source sink result
 Does (Ok Agree) source sink outside spawner followers result = ByAgree source sink result
+Does (Ok Audit) source sink outside spawner followers result = ByAudit source sink result
 Does (Ok (Companion asked)) source sink outside spawner followers result =
     ByCompanion asked source sink outside followers result
 Does (Ok (Tv asked)) source sink outside spawner followers result = ByTv asked source outside result

@@ -14,6 +14,9 @@ use Rattle.css_lines.specs.Ending.{RanUntil}
 use Rattle.css_agree.specs.declared.reader.Cause as agree
 use Rattle.css_agree.specs.declared.reader.Cause.TheVariants as agrees
 use Rattle.css_agree.specs.Agreeing.{agreeing}
+use Rattle.css_audit.specs.Auditing.{auditing}
+use Rattle.css_audit.specs.declared.fault.AuditFault.{AuditFault}
+use Rattle.css_audit.specs.declared.fault.AuditFault.TheVariants as audits
 use Rattle.css_app.specs.declared.replay.Cause.{Cause}
 use Rattle.css_app.specs.declared.replay.Cause.TheVariants as causes
 use Rattle.css_cii.specs.FaultWords.{fault_words}
@@ -24,7 +27,7 @@ use Rattle.css_schedule.specs.declared.fault.LineWhy.TheVariants.{Long, Form, Ab
 use Rattle.css_app.specs.declared.status.Status.{Status}
 use Rattle.css_app.specs.declared.status.Status.TheVariants.{Done, Usage, BadLine, Broken, ReadFault, WriteFault}
 use Rattle.css_app.specs.declared.status.Status.TheVariants.{NetFault, BadCii, Moved, Spent, Unreachable, ChildFault}
-use Rattle.css_app.specs.declared.status.Status.TheVariants.{BadSheet, BadUrl, Memory}
+use Rattle.css_app.specs.declared.status.Status.TheVariants.{BadSheet, BadUrl, WrongReport, Memory}
 use Rattle.css_app.specs.Replayed.{replayed}
 
 -- the exit status of the program
@@ -44,6 +47,7 @@ status_number (ChildFault status) = 11
 status_number (BadSheet line) = 12
 status_number (BadUrl property) = 13
 status_number Memory = 14
+status_number (WrongReport line right) = 15
 
 -- the words of a status, which stand behind the program's name on standard error
 abbrev pub status_words : Status → List ℕ
@@ -64,6 +68,7 @@ status_words (ChildFault None) = codes "child fault"
 status_words (ChildFault (Some status)) = codes "child status " ++ signed_decimal status
 status_words (BadSheet line) = codes "sheet line " ++ decimal line
 status_words (BadUrl property) = codes "bad url " ++ json_name property
+status_words (WrongReport line right) = codes "line " ++ decimal line ++ codes ": wrong report"
 status_words Memory = codes "memory"
 
 -- the program's name, the words of a status, and a line feed
@@ -169,6 +174,43 @@ Agrees bytes left holds_old holds_new status =
 -- no line of the answers is refused
 abbrev pub AreAllRead : List ℕ → Type 0
 AreAllRead bytes = (outcome agreeing bytes).verdict ≡ None
+
+-- ---- records
+-- the status of an audit that stopped
+abbrev pub audit_status_of : Stop AuditFault → Status
+audit_status_of (stops.BadLine line refusals.Long) = BadLine line Long
+audit_status_of (stops.BadLine line (refusals.Refused audits.Form)) = BadLine line Form
+audit_status_of (stops.BadLine line (refusals.Refused (audits.Broken earlier excess))) = Broken line earlier excess
+audit_status_of (stops.BadLine line (refusals.Refused audits.Absent)) = BadLine line Absent
+audit_status_of (stops.BadLine line (refusals.Refused (audits.BadCii text fault))) = BadCii text fault
+audit_status_of (stops.BadLine line (refusals.Refused (audits.Moved property old new))) = Moved property old new
+audit_status_of (stops.BadLine line (refusals.Refused (audits.WrongReport right))) = WrongReport line right
+audit_status_of (stops.BadLine line (refusals.Refused audits.Memory)) = Memory
+audit_status_of stops.ReadFault = ReadFault
+audit_status_of stops.WriteFault = WriteFault
+audit_status_of stops.Memory = Memory
+
+-- The input was read to its end, no line of it is refused, and the sink grew by the number of reports.
+pub record AuditsAll (bytes : List ℕ) (left holds_old holds_new : Option (List ℕ)) (status : Status) : Type 0 where
+  pub done : status ≡ Done
+  pub at_end : left ≡ Some []
+  pub accepted : (outcome auditing bytes).verdict ≡ None
+  pub grew : Appends holds_old holds_new (outcome auditing bytes).printed
+
+-- The audit stopped, and the status says how.
+pub record AuditsUntil (bytes : List ℕ) (left holds_old holds_new : Option (List ℕ)) (status : Status) : Type 0 where
+  pub stop : Stop AuditFault
+  pub ran : RanUntil auditing bytes left holds_old holds_new stop
+  pub told : status ≡ audit_status_of stop
+
+-- what an audit of a record with these bytes may leave
+abbrev pub Audits : List ℕ → Option (List ℕ) → Option (List ℕ) → Option (List ℕ) → Status → Type 0
+Audits bytes left holds_old holds_new status =
+    AuditsAll bytes left holds_old holds_new status ⊎ AuditsUntil bytes left holds_old holds_new status
+
+-- no line of the record is refused, and each report of it is right
+abbrev pub AreAllRight : List ℕ → Type 0
+AreAllRight bytes = (outcome auditing bytes).verdict ≡ None
 
 -- the words were those of a command
 abbrev pub IsNoUsage : Status → Type 0

@@ -2,6 +2,7 @@
 #![tactic(auto)]
 
 mod agreement;
+mod audited;
 mod by_words;
 mod child;
 mod driven;

@@ -8,8 +8,8 @@ ghost use Rattle.css_words.specs.Relay.{RelayAsked};
 ghost use Rattle.css_words.specs.Tv.{TvAsked};
 ghost use Rattle.css_words.specs.Written.{IsWritable};
 ghost use Rattle.css_words.specs.declared.fault.WordsFault.TheVariants as words_fault;
-ghost use Rattle.css_app.specs.Commands.{ByAgree, ByCompanion, ByGenerate, ByPair, ByRelay, ByReplay, BySurvey, ByTv};
-ghost use Rattle.css_app.specs.Commands.{Does};
+ghost use Rattle.css_app.specs.Commands.{ByAgree, ByAudit, ByCompanion, ByGenerate, ByPair, ByRelay, ByReplay};
+ghost use Rattle.css_app.specs.Commands.{BySurvey, ByTv, Does};
 ghost use Rattle.css_app.specs.Commands.{IsUsageUnlessMemory, uses_followers, uses_outside, uses_sink, uses_source};
 ghost use Rattle.css_app.specs.Commands.{uses_spawner};
 ghost use Rattle.css_app.specs.Devices.{followers_use, outside_use, sink_use, source_use, spawner_use};
@@ -20,6 +20,7 @@ ghost use Rattle.css_app.specs.Pairs.{children};
 ghost use Rattle.css_lines.specs.declared.ending.Stop.TheVariants as stops;
 
 use crate::agreement::agree;
+use crate::audited::audit;
 use crate::by_words::{companion_by, generate_by, pair_by, survey_by, tv_by};
 use crate::live_relay::relay_by;
 use crate::replay::{Cause, Replay};
@@ -115,6 +116,7 @@ fn run_command<S: Source, K: Sink, O: Outside, P: Spawner, F: Listens>(
     match command {
         Command::Replay => replay(alloc, source, sink),
         Command::Agree => agree(alloc, source, sink),
+        Command::Audit => audit(alloc, source, sink),
         Command::Companion(words) => companion_by(alloc, words, source, sink, outside, followers),
         Command::Tv(words) => tv_by(alloc, words, source, outside),
         Command::Pair(words) => pair_by(alloc, words, source, sink, outside, spawner, followers),
@@ -128,6 +130,7 @@ fn run_command<S: Source, K: Sink, O: Outside, P: Spawner, F: Listens>(
 ///
 /// - `replay` reads a schedule from the source, and writes what each line gives to the sink before it reads on.
 /// - `agree` reads the answers of a wall clock in the same way, and tells what they say together.
+/// - `audit` reads the record of a companion in the same way, and checks each report of it.
 /// - `companion` reads a cue sheet from the source, to its end. Then it is a companion of the television at an address:
 ///   it writes its reports to the sink, and the followers are told them.
 /// - `tv` reads a script from the source, to its end, and then is a television.
@@ -172,6 +175,12 @@ pub fn run<S: Source, K: Sink, O: Outside, P: Spawner, F: Listens>(
     // Answers: what is printed of them is what they say together, true in every world that makes them truthful.
     ensures agree { command_in (map string_bytes words.now) ≡ Ok commands.Agree
         → ByAgree (source_use (S.left source.old) (S.left source.new) (S.faults source.old) (S.faults source.new))
+        (sink_use (K.holds sink.old) (K.holds sink.new) (K.faults sink.old) (K.faults sink.new)) result }
+
+    // A record: a yes says that each report of it is the one that its companion was to make there, by the lines before
+    // it, and else the status tells the first line that has a cause, and its first cause.
+    ensures audit { command_in (map string_bytes words.now) ≡ Ok commands.Audit
+        → ByAudit (source_use (S.left source.old) (S.left source.new) (S.faults source.old) (S.faults source.new))
         (sink_use (K.holds sink.old) (K.holds sink.new) (K.faults sink.old) (K.faults sink.new)) result }
 
     // A companion by its sheet: each report is that of the calls before it, and each interval contains the position

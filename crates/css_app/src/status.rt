@@ -1,4 +1,5 @@
 use css_cii::{CiiFault, CiiName};
+use css_companion::Report;
 use css_num::Text;
 use css_schedule::LineWhy;
 use std::fmt;
@@ -63,6 +64,12 @@ pub enum Status {
     BadUrl {
         property: CiiName,
     },
+    /// The report in this line of a record, counted from 1, is the first one that isn't the report of what was told
+    /// before it, which this is.
+    WrongReport {
+        line: u64,
+        right: Report,
+    },
     /// Memory ran out. A part of the output of the lines that were read, or of the reports that were due, was written.
     Memory,
 }
@@ -91,6 +98,7 @@ impl Status {
             Status::BadSheet { .. } => 12,
             Status::BadUrl { .. } => 13,
             Status::Memory => 14,
+            Status::WrongReport { .. } => 15,
         }
     }
 }
@@ -124,6 +132,7 @@ impl fmt::Display for Status {
             } => write!(f, "child status {status}"),
             Status::BadSheet { line } => write!(f, "sheet line {line}"),
             Status::BadUrl { property } => write!(f, "bad url {property}"),
+            Status::WrongReport { line, .. } => write!(f, "line {line}: wrong report"),
             Status::Memory => f.write_str("memory"),
         }
     }

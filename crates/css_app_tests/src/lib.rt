@@ -4,6 +4,8 @@
 #[cfg(test)]
 mod agree_tests;
 #[cfg(test)]
+mod audit_tests;
+#[cfg(test)]
 mod both_ends_tests;
 #[cfg(test)]
 mod generated_tests;

@@ -2,6 +2,7 @@
 
 use css_app::{LineWhy, Status, tell};
 use css_cii::{CiiFault, CiiName};
+use css_companion::{Cause, Report};
 use css_outside::{MemorySink, OutFault};
 use css_schedule::PlayerFault;
 use std::alloc::Global;
@@ -99,6 +100,13 @@ fn a_live_run_is_told(rt: HostRuntime) {
         13,
         "css: bad url tsUrl\n",
     );
+}
+
+#[test]
+fn a_wrong_report_is_told(rt: HostRuntime) {
+    let right = Report::None(Cause::NoAnswer);
+    let status = Status::WrongReport { line: 7, right };
+    assert_told(&rt, rt.alloc(), &status, 15, "css: line 7: wrong report\n");
 }
 
 /// How a child ended, if it did, and how that is told.

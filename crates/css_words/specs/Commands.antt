@@ -17,6 +17,7 @@ use Rattle.css_words.specs.declared.fault.WordsFault.TheVariants.{Usage}
 pub data Asked : Type 0 where
   Replay : Asked
   Agree : Asked
+  Audit : Asked
   Companion : CompanionAsked → Asked
   Tv : TvAsked → Asked
   Pair : PairAsked → Asked
@@ -27,6 +28,7 @@ pub data Asked : Type 0 where
 abbrev pub asked_of : Command → Asked
 asked_of command.Replay = Replay
 asked_of command.Agree = Agree
+asked_of command.Audit = Audit
 asked_of (command.Companion words) = Companion (companion_of words)
 asked_of (command.Tv words) = Tv (tv_of words)
 asked_of (command.Pair words) = Pair (pair_of words)
@@ -48,6 +50,7 @@ unfoldable pub named : Text → List Text → List Text → Result Asked WordsFa
 named name rest words =
     if bytes_eq name (codes "replay") then (no_options rest >>= λ _. Ok Replay)
     else if bytes_eq name (codes "agree") then (no_options rest >>= λ _. Ok Agree)
+    else if bytes_eq name (codes "audit") then (no_options rest >>= λ _. Ok Audit)
     else if bytes_eq name (codes "companion") then (companion_in words >>= λ asked. Ok (Companion asked))
     else if bytes_eq name (codes "tv") then (tv_in words >>= λ asked. Ok (Tv asked))
     else if bytes_eq name (codes "pair") then (pair_in words >>= λ asked. Ok (Pair asked))

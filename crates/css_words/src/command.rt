@@ -21,6 +21,8 @@ pub enum Command {
     Replay,
     /// Tells what answers say together.
     Agree,
+    /// Checks each report of a companion's record.
+    Audit,
     /// Is a companion of the television at an address.
     Companion(CompanionWords),
     /// Is a television.
@@ -80,6 +82,10 @@ fn command_named(
             no_options(rest)?;
             Ok(Command::Agree)
         }
+        "audit" => {
+            no_options(rest)?;
+            Ok(Command::Audit)
+        }
         "companion" => Ok(Command::Companion(companion_words(alloc, words)?)),
         "tv" => Ok(Command::Tv(tv_words(alloc, words)?)),
         "pair" => Ok(Command::Pair(pair_words(alloc, words)?)),
@@ -96,7 +102,7 @@ fn command_named(
 /// value that begins with `-` needs the second form. A number is in decimal, without zeros before its digits and
 /// without `+`.
 ///
-/// - `replay` and `agree` take no options.
+/// - `replay`, `agree` and `audit` take no options.
 /// - `companion` needs `--cii`, a `ws:` address. It takes `--selector`, `--stem`, `--reports`, `--turns`,
 ///   `--report-every`, `--ask-every`, `--local-error`, `--local-precision`, and both `--earliest` and `--latest`.
 /// - `tv` takes `--port`, `--turns`, `--precision`, `--error`, `--follow` and `--host`.
