@@ -342,11 +342,16 @@ def pair(port):
 
 
 def relay(port):
-    """A relay makes its turns. It answers nobody yet: its one socket for datagrams is that of the television."""
+    """A companion that knows a relay alone has its wall clock and state from it, and its timeline from the television."""
     child = television(PROGRAM, port, SCRIPT, [])
     words = ["relay", "--cii", f"ws://127.0.0.1:{port}/cii", "--port", str(port + 2)]
-    told = status_of([*words, "--turns", "400"])
-    check("a relay makes its turns", told == (0, ""), told)
+    relay = start(PROGRAM, [*words, "--turns", "400", "--ask-every", "50000000"])
+    companion = start(PROGRAM, ["companion", "--cii", f"ws://127.0.0.1:{port + 2}/cii", "--reports", "4",
+                                "--report-every", "200000000", "--ask-every", "50000000"])
+    lines = companion.stdout.read().decode().splitlines()
+    told = companion.wait(60), lines[-1:]
+    check("a companion of a relay", told[0] == 0 and len(lines) == 4 and lines[-1].startswith("4 ticks "), told)
+    check("a relay makes its turns", relay.wait(60) == 0, relay.stderr.read().decode().strip())
     child.kill()
     child.wait()
     told = status_of([*words, "--turns", "20"])

@@ -13,8 +13,10 @@ use std::io::ErrorKind;
 use std::net::{Net, SocketAddr};
 use std::time::{Clock, Duration};
 
-/// The name under which the socket is watched.
-const DATAGRAMS: usize = 0;
+/// The name under which the listener's socket is watched.
+const LISTENER: usize = 0;
+/// The name under which the link's socket is watched.
+const LINK: usize = 1;
 /// How many senders are remembered. The answer to a request goes out before the next is taken.
 const MOST_SENDERS: usize = 64;
 
@@ -65,132 +67,180 @@ impl Senders {
     }
 }
 
-/// Whom the socket hears.
-#[derive(Drop)]
-enum Heard {
-    /// Anyone, as a television does.
-    Anyone(Senders),
-    /// One peer, as a companion does.
-    One(u32),
+/// Sends a datagram. What the system refuses to send is lost; an error that an earlier datagram left is told first, so
+/// it is tried twice.
+fn send_through(
+    socket: &UdpSocket,
+    to: Option<SocketAddr>,
+    bytes: &[u8; 32],
+) -> Result<(), OutFault> {
+    for _ in 0..2 {
+        let sent = match to {
+            None => socket.send(bytes),
+            Some(address) => socket.send_to(bytes, address),
+        };
+        match sent {
+            Ok(_) => return Ok(()),
+            Err(error) if error.kind() == ErrorKind::OutOfMemory => return Err(OutFault::Memory),
+            Err(_) => {}
+        }
+    }
+    Ok(())
 }
 
-/// The socket of datagrams. What the network does to one, or says of one, is no fault: datagrams may be lost.
+/// A socket that hears anyone, as a television does.
+#[derive(Drop)]
+pub(crate) struct Listener {
+    socket: UdpSocket,
+    senders: Senders,
+}
+
+impl Listener {
+    /// The next datagram, where one has come. One from port 0 can't be answered, and isn't told.
+    fn take(&mut self, into: &mut [u8; 64]) -> Result<Option<(u32, usize)>, OutFault>
+        ensures room { IfOk result FitsRoom }
+    {
+        match self.socket.recv_from(into.as_mut_slice()) {
+            Ok((count, address)) => {
+                if address.port() == 0 {
+                    return Ok(None);
+                }
+                Ok(Some((self.senders.peer_of(address)?, count)))
+            }
+            Err(error) => nothing_came(&error),
+        }
+    }
+
+    fn send(&self, peer: u32, bytes: &[u8; 32]) -> Result<(), OutFault> {
+        match self.senders.address_of(peer) {
+            Some(address) => send_through(&self.socket, Some(address), bytes),
+            None => Err(OutFault::Failed),
+        }
+    }
+}
+
+/// A socket for the datagrams of one peer, as a companion has.
+#[derive(Drop)]
+struct Link {
+    socket: UdpSocket,
+    peer: u32,
+}
+
+impl Link {
+    /// The next datagram, where one has come.
+    fn take(&mut self, into: &mut [u8; 64]) -> Result<Option<(u32, usize)>, OutFault>
+        ensures room { IfOk result FitsRoom }
+    {
+        match self.socket.recv_from(into.as_mut_slice()) {
+            Ok((count, _)) => Ok(Some((self.peer, count))),
+            Err(error) => nothing_came(&error),
+        }
+    }
+
+    fn send(&self, peer: u32, bytes: &[u8; 32]) -> Result<(), OutFault> {
+        if peer != self.peer {
+            return Err(OutFault::Failed);
+        }
+        send_through(&self.socket, None, bytes)
+    }
+}
+
+/// The sockets of datagrams: a television has a listener, a companion a link, a relay both. What the network does to a
+/// datagram, or says of one, is no fault: datagrams may be lost.
 #[derive(Drop)]
 pub(crate) struct Datagrams {
-    socket: UdpSocket,
-    /// Waits for this socket alone, so that nothing on a session ends a pause.
+    alloc: Global,
+    /// Waits for these sockets alone, so that nothing on a session ends a pause.
     watch: Watch,
-    named: bool,
-    hears: Heard,
+    listener: Option<Listener>,
+    link: Option<Link>,
 }
 
 impl Datagrams {
-    /// A socket that listens at an address.
-    pub(crate) fn listening<R: Net>(
-        alloc: Global,
-        rt: &R,
-        address: SocketAddr,
-    ) -> io::Result<Datagrams> {
-        let socket = UdpSocket::bind(rt, address)?;
-        Datagrams::watched(alloc, rt, socket, Heard::Anyone(Senders::new(alloc)))
+    /// None is open.
+    pub(crate) fn new(alloc: Global) -> Datagrams {
+        Datagrams {
+            alloc,
+            watch: Watch::new(alloc),
+            listener: None,
+            link: None,
+        }
     }
 
-    /// A socket for the datagrams of one peer.
-    pub(crate) fn linked<R: Net>(
-        alloc: Global,
+    /// Whether no socket is open.
+    pub(crate) fn is_none(&self) -> bool {
+        self.listener.is_none() && self.link.is_none()
+    }
+
+    /// A socket that listens at an address. It is heard once it is handed to `listen`.
+    pub(crate) fn listener<R: Net>(&mut self, rt: &R, address: SocketAddr) -> io::Result<Listener> {
+        let mut socket = UdpSocket::bind(rt, address)?;
+        self.watch.add(rt, &mut socket, LISTENER)?;
+        Ok(Listener {
+            socket,
+            senders: Senders::new(self.alloc),
+        })
+    }
+
+    /// Hears a listener from now on.
+    pub(crate) fn listen(&mut self, listener: Listener) {
+        self.listener = Some(listener);
+    }
+
+    /// Opens a socket for the datagrams of one peer, in the place of the last such one.
+    pub(crate) fn link<R: Net>(
+        &mut self,
         rt: &R,
         address: SocketAddr,
         peer: u32,
-    ) -> io::Result<Datagrams> {
-        let socket = UdpSocket::bind(rt, any_port(address))?;
+    ) -> io::Result<()> {
+        let mut socket = UdpSocket::bind(rt, any_port(address))?;
         socket.connect(address)?;
-        Datagrams::watched(alloc, rt, socket, Heard::One(peer))
-    }
-
-    fn watched<R: Net>(
-        alloc: Global,
-        rt: &R,
-        mut socket: UdpSocket,
-        hears: Heard,
-    ) -> io::Result<Datagrams> {
-        let mut watch = Watch::new(alloc);
-        watch.add(rt, &mut socket, DATAGRAMS)?;
-        Ok(Datagrams {
-            socket,
-            watch,
-            named: false,
-            hears,
-        })
+        self.watch.add(rt, &mut socket, LINK)?;
+        self.link = Some(Link { socket, peer });
+        Ok(())
     }
 
     /// Waits until a datagram comes, or the pause is over.
     pub(crate) fn wait<R: Clock>(&mut self, rt: &R, pause: Duration) -> Result<(), OutFault> {
-        if !self.named {
-            let named = self.watch.wait(rt, pause).map_err(fault_of)?;
-            self.named = named.iter().any(|name| *name == DATAGRAMS);
-        }
+        self.watch.wait(rt, pause).map_err(fault_of)?;
         Ok(())
     }
 
-    /// The next datagram, where one has come: its sender and its length, at most 64.
+    fn take_linked(&mut self, into: &mut [u8; 64]) -> Result<Option<(u32, usize)>, OutFault>
+        ensures room { IfOk result FitsRoom }
+    {
+        match &mut self.link {
+            Some(link) => link.take(into),
+            None => Ok(None),
+        }
+    }
+
+    /// The next datagram, where one has come: its sender and its length, at most 64. The link's come first.
     pub(crate) fn take(&mut self, into: &mut [u8; 64]) -> Result<Option<(u32, usize)>, OutFault>
         ensures room { IfOk result FitsRoom }
     {
-        if !self.named {
-            return Ok(None);
+        if let Some(taken) = self.take_linked(into)? {
+            return Ok(Some(taken));
         }
-        match self.socket.recv_from(into.as_mut_slice()) {
-            Ok((count, address)) => match self.sender_at(address)? {
-                Some(peer) => Ok(Some((peer, count))),
-                None => Ok(None),
-            },
-            Err(error) => {
-                if error.kind() == ErrorKind::WouldBlock {
-                    self.named = false;
-                }
-                nothing_came(&error)
-            }
+        match &mut self.listener {
+            Some(listener) => listener.take(into),
+            None => Ok(None),
         }
     }
 
-    /// The number of the sender at an address. A datagram from port 0 can't be answered.
-    fn sender_at(&mut self, address: SocketAddr) -> Result<Option<u32>, OutFault> {
-        match &mut self.hears {
-            Heard::One(peer) => Ok(Some(*peer)),
-            Heard::Anyone(senders) => {
-                if address.port() == 0 {
-                    return Ok(None);
-                }
-                Ok(Some(senders.peer_of(address)?))
-            }
-        }
-    }
-
-    /// Sends a datagram to a peer that was linked, or that sent one not long ago. What the system refuses to send is
-    /// lost; an error that an earlier datagram left is told first, so it is tried twice.
+    /// Sends a datagram to the peer that was linked, or to one that sent a datagram not long ago.
     pub(crate) fn send(&self, peer: u32, bytes: &[u8; 32]) -> Result<(), OutFault> {
-        let to = match &self.hears {
-            Heard::One(one) if *one == peer => None,
-            Heard::One(_) => return Err(OutFault::Failed),
-            Heard::Anyone(senders) => match senders.address_of(peer) {
-                Some(address) => Some(address),
-                None => return Err(OutFault::Failed),
-            },
-        };
-        for _ in 0..2 {
-            let sent = match to {
-                None => self.socket.send(bytes),
-                Some(address) => self.socket.send_to(bytes, address),
+        if peer < FIRST_SENDER {
+            return match &self.link {
+                Some(link) => link.send(peer, bytes),
+                None => Err(OutFault::Failed),
             };
-            match sent {
-                Ok(_) => return Ok(()),
-                Err(error) if error.kind() == ErrorKind::OutOfMemory => return Err(
-                    OutFault::Memory,
-                ),
-                Err(_) => {}
-            }
         }
-        Ok(())
+        match &self.listener {
+            Some(listener) => listener.send(peer, bytes),
+            None => Err(OutFault::Failed),
+        }
     }
 }
 

@@ -39,7 +39,7 @@ pub(crate) struct Sockets<R: NetRuntime> {
     watch: Watch,
     /// Whether the watch was not asked since the last look for a datagram.
     stale: bool,
-    datagrams: Option<Datagrams>,
+    datagrams: Datagrams,
     upgrades: Upgrades,
     dials: Dials<R>,
     sessions: Sessions<R>,
@@ -59,7 +59,7 @@ impl<R: NetRuntime> Sockets<R> {
             rt,
             watch: Watch::new(alloc),
             stale: true,
-            datagrams: None,
+            datagrams: Datagrams::new(alloc),
             upgrades: Upgrades::new(alloc),
             dials: Dials::new(alloc),
             sessions: Sessions::new(alloc),
@@ -111,10 +111,10 @@ impl<R: NetRuntime> Sockets<R> {
     /// A pause in which nothing is to be done, until a datagram comes. Where none can, a session's text ends it too.
     fn rest(&mut self) -> Result<(), OutFault> {
         let pause = Duration::from_millis(PAUSE_MILLIS);
-        if let Some(datagrams) = &mut self.datagrams {
-            return datagrams.wait(&self.rt, pause);
+        if self.datagrams.is_none() {
+            return self.gather(pause);
         }
-        self.gather(pause)
+        self.datagrams.wait(&self.rt, pause)
     }
 
     // ---- a television's sockets
@@ -126,13 +126,13 @@ impl<R: NetRuntime> Sockets<R> {
     fn listen_at(&mut self, address: SocketAddr, next_port: u16) -> Result<(), OutFault> {
         let mut next = address;
         next.set_port(next_port);
-        let datagrams = Datagrams::listening(self.alloc, &self.rt, address);
+        let datagrams = self.datagrams.listener(&self.rt, address);
         let datagrams = datagrams.map_err(fault_of)?;
         let cii = self.listener(Service::Cii, address)?;
         let ts = self.listener(Service::Ts, next)?;
         self.upgrades.listen(cii)?;
         self.upgrades.listen(ts)?;
-        self.datagrams = Some(datagrams);
+        self.datagrams.listen(datagrams);
         Ok(())
     }
 
@@ -179,11 +179,8 @@ impl<R: NetRuntime> Sockets<R> {
         let addresses = addresses_of(self.alloc, &self.rt, &to.host, to.port).map_err(fault_of)?;
         let mut last = OutFault::Failed;
         for address in &addresses {
-            match Datagrams::linked(self.alloc, &self.rt, *address, peer) {
-                Ok(datagrams) => {
-                    self.datagrams = Some(datagrams);
-                    return Ok(());
-                }
+            match self.datagrams.link(&self.rt, *address, peer) {
+                Ok(()) => return Ok(()),
                 Err(error) => last = fault_of(error),
             }
         }
@@ -216,15 +213,6 @@ impl<R: NetRuntime> Sockets<R> {
 
     // ---- datagrams
 
-    fn take_named(&mut self, into: &mut [u8; 64]) -> Result<Option<(u32, usize)>, OutFault>
-        ensures room { IfOk result FitsRoom }
-    {
-        match &mut self.datagrams {
-            Some(datagrams) => datagrams.take(into),
-            None => Ok(None),
-        }
-    }
-
     /// The next datagram. Where none has come it is waited for.
     pub(crate) fn take_datagram(
         &mut self,
@@ -233,18 +221,15 @@ impl<R: NetRuntime> Sockets<R> {
         ensures room { IfOk result FitsRoom }
     {
         self.stale = true;
-        if let Some(taken) = self.take_named(into)? {
+        if let Some(taken) = self.datagrams.take(into)? {
             return Ok(Some(taken));
         }
         self.rest()?;
-        self.take_named(into)
+        self.datagrams.take(into)
     }
 
     pub(crate) fn send_datagram(&self, peer: u32, bytes: &[u8; 32]) -> Result<(), OutFault> {
-        match &self.datagrams {
-            Some(datagrams) => datagrams.send(peer, bytes),
-            None => Err(OutFault::Failed),
-        }
+        self.datagrams.send(peer, bytes)
     }
 
     // ---- sessions
