@@ -1,7 +1,7 @@
 //! Lines of words, and what is told of each: `LINE => TOLD`.
 use css_num::Text;
 use css_words::{
-    Bound, Command, CompanionOptions, GeneratorWords, TvWords, WordsFault, command_of,
+    Bound, Command, CompanionOptions, GeneratorWords, RelayWords, TvWords, WordsFault, command_of,
 };
 use std::alloc::Global;
 use std::process::Abort;
@@ -70,6 +70,21 @@ fn shown_options(alloc: Global, options: &CompanionOptions) -> Result<String, Fa
     )?)
 }
 
+fn shown_relay(alloc: Global, words: &RelayWords) -> Result<String, Fail> {
+    Ok(format!(in alloc;
+        "relay {} {} {} {} {} {} {} {} {}",
+        shown_text(&words.cii.host),
+        words.cii.port,
+        shown_text(&words.cii.path),
+        words.port,
+        words.turns,
+        words.ask_every,
+        words.local_error,
+        words.local_precision,
+        shown_text(&words.host)
+    )?)
+}
+
 fn shown(alloc: Global, command: &Command) -> Result<String, Fail> {
     Ok(match command {
         Command::Replay => String::from_str(alloc, "replay")?,
@@ -91,6 +106,7 @@ fn shown(alloc: Global, command: &Command) -> Result<String, Fail> {
             shown_generator(alloc, words)?
         )?,
         Command::Survey(words) => format!(in alloc; "survey {}", shown_generator(alloc, words)?)?,
+        Command::Relay(words) => shown_relay(alloc, words)?,
     })
 }
 
@@ -299,6 +315,44 @@ companion --cii ws://h cue.sheet";
 fn companions(rt: HostRuntime) -> Result<(), Fail> {
     check_told(&rt, rt.alloc(), COMPANIONS)?;
     check_usage(&rt, rt.alloc(), NO_COMPANIONS)
+}
+
+/// Command lines of `relay`, and what each of them asks for.
+const RELAYS: &str = "\
+relay --cii ws://tv:6677/cii => relay tv 6677 /cii 6690 10000 1000000000 128000 1000 127.0.0.1
+relay --cii ws://tv:6677/cii --port 1024 --turns 1 --ask-every 1 --local-error 0 --local-precision 0 => \
+relay tv 6677 /cii 1024 1 1 0 0 127.0.0.1
+relay --port=65534 --turns=1000000 --ask-every=1000000000000 --local-error=2560000 --local-precision=1000000000 \
+--host=[::1] --cii=ws://tv:6677/cii => relay tv 6677 /cii 65534 1000000 1000000000000 2560000 1000000000 [::1]";
+
+/// Command lines of `relay` that are refused.
+const NO_RELAYS: &str = "\
+relay
+relay --cii
+relay --cii http://tv:6677/cii
+relay --cii ws://tv:6677/cii --cii ws://tv:6677/cii
+relay --cii ws://tv:6677/cii --port 1023
+relay --cii ws://tv:6677/cii --port 65535
+relay --cii ws://tv:6677/cii --port +6690
+relay --cii ws://tv:6677/cii --port
+relay --cii ws://tv:6677/cii --turns 0
+relay --cii ws://tv:6677/cii --turns 1000001
+relay --cii ws://tv:6677/cii --ask-every 0
+relay --cii ws://tv:6677/cii --ask-every 1000000000001
+relay --cii ws://tv:6677/cii --local-error 2560001
+relay --cii ws://tv:6677/cii --local-precision 1000000001
+relay --cii ws://tv:6677/cii --host
+relay --cii ws://tv:6677/cii --reports 1
+relay --cii ws://tv:6677/cii --selector x
+relay --cii ws://tv:6677/cii --follow
+relay --cii ws://tv:6677/cii more
+relay --cii ws://tv:6677/cii --help
+relay --cii ws://tv:6677/cii --";
+
+#[test]
+fn relays(rt: HostRuntime) -> Result<(), Fail> {
+    check_told(&rt, rt.alloc(), RELAYS)?;
+    check_usage(&rt, rt.alloc(), NO_RELAYS)
 }
 
 #[test]
