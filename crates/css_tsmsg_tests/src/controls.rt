@@ -1,47 +1,8 @@
 //! A table of texts: each line has a text, behind what comes of it: `json` and `object` for the faults of these names,
 //! another fault as it is told, or the text of the value that is read.
 
-pub(crate) const CONTROLS: &str = r#"json <- 
-json <- {
-json <- [
-json <- {"contentTime"}
-json <- {"contentTime":}
-json <- {"contentTime":"1"
-json <- {"contentTime":"1",}
-json <- {contentTime:"1"}
-json <- {'contentTime':'1'}
-json <- {"contentTime":"1"}}
-json <- {"a":1} x
-json <- {"a":01}
-json <- {"a":1.}
-json <- {"a":.5}
-json <- {"a":+1}
-json <- {"a":1e}
-json <- {"a":-}
-json <- {"a":--1}
-json <- {"a":0x1}
-json <- {"a":"\ud800"}
-json <- {"a":"\udc00"}
-json <- {"a":"\x"}
-json <- {"a":nul}
-json <- {"a":NaN}
-json <- {"a":Infinity}
-json <- {"a":[1,]}
-json <- {"a":1 "b":2}
-json <- //{}
-json <- {}{}
-json <- {"a":1,,"b":2}
-object <- []
-object <- null
-object <- 5
-object <- 1.5
-object <- "a"
-object <- true
-object <- false
-object <- [{}]
-object <- -0
-object <- [1,2]
-{"contentTime":null,"timelineSpeedMultiplier":null,"wallClockTime":"0"} <- {"contentTime":null,"timelineSpeedMultiplier":1,"wallClockTime":"0"}
+pub(crate) const CONTROLS: &str =
+    r#"{"contentTime":null,"timelineSpeedMultiplier":null,"wallClockTime":"0"} <- {"contentTime":null,"timelineSpeedMultiplier":1,"wallClockTime":"0"}
 {"contentTime":null,"timelineSpeedMultiplier":null,"wallClockTime":"0"} <- {"contentTime":null,"timelineSpeedMultiplier":1,"wallClockTime":1}
 {"contentTime":null,"timelineSpeedMultiplier":null,"wallClockTime":"0"} <- {"contentTime":null,"timelineSpeedMultiplier":null,"wallClockTime":"0"}
 {"contentTime":null,"timelineSpeedMultiplier":null,"wallClockTime":"0"} <- {"contentTime":null,"timelineSpeedMultiplier":1,"wallClockTime":null}

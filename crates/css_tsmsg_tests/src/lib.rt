@@ -4,6 +4,8 @@
 #[cfg(test)]
 mod controls;
 #[cfg(test)]
+mod documents;
+#[cfg(test)]
 mod presentations;
 #[cfg(test)]
 mod setups;

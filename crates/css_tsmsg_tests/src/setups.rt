@@ -1,47 +1,8 @@
 //! A table of texts: each line has a text, behind what comes of it: `json` and `object` for the faults of these names,
 //! another fault as it is told, or the text of the value that is read.
 
-pub(crate) const SETUPS: &str = r#"json <- 
-json <- {
-json <- [
-json <- {"contentTime"}
-json <- {"contentTime":}
-json <- {"contentTime":"1"
-json <- {"contentTime":"1",}
-json <- {contentTime:"1"}
-json <- {'contentTime':'1'}
-json <- {"contentTime":"1"}}
-json <- {"a":1} x
-json <- {"a":01}
-json <- {"a":1.}
-json <- {"a":.5}
-json <- {"a":+1}
-json <- {"a":1e}
-json <- {"a":-}
-json <- {"a":--1}
-json <- {"a":0x1}
-json <- {"a":"\ud800"}
-json <- {"a":"\udc00"}
-json <- {"a":"\x"}
-json <- {"a":nul}
-json <- {"a":NaN}
-json <- {"a":Infinity}
-json <- {"a":[1,]}
-json <- {"a":1 "b":2}
-json <- //{}
-json <- {}{}
-json <- {"a":1,,"b":2}
-object <- []
-object <- null
-object <- 5
-object <- 1.5
-object <- "a"
-object <- true
-object <- false
-object <- [{}]
-object <- -0
-object <- [1,2]
-{"contentIdStem":"","timelineSelector":"urn:dvb:css:timeline:pts"} <- {"contentIdStem":"","timelineSelector":"urn:dvb:css:timeline:pts"}
+pub(crate) const SETUPS: &str =
+    r#"{"contentIdStem":"","timelineSelector":"urn:dvb:css:timeline:pts"} <- {"contentIdStem":"","timelineSelector":"urn:dvb:css:timeline:pts"}
 {"contentIdStem":"dvb://","timelineSelector":""} <- {"timelineSelector":"","contentIdStem":"dvb://"}
 {"contentIdStem":"","timelineSelector":""} <-  { "private" : 1.5 , "contentIdStem" : "" , "timelineSelector" : "" } 
 {"contentIdStem":"dvb://","timelineSelector":"urn:dvb:css:timeline:pts"} <- {"contentIdStem":"dvb://","timelineSelector":"urn:dvb:css:timeline:pts"}

@@ -1,4 +1,5 @@
 use crate::controls::CONTROLS;
+use crate::documents::DOCUMENTS;
 use crate::presentations::PRESENTATIONS;
 use crate::setups::SETUPS;
 use css_num::Text;
@@ -7,6 +8,7 @@ use css_tsmsg::{
     read_setup, write_control, write_presentation, write_setup,
 };
 use std::alloc::Global;
+use std::process::Abort;
 use std::test::Fail;
 
 /// A fault, as the tables have it.
@@ -19,46 +21,58 @@ fn told(alloc: Global, fault: TsFault) -> Result<Text, Fail> {
     Ok(Text::of(alloc, words.as_bytes())?)
 }
 
-#[test]
-fn each_setup_is_read_or_refused(rt: HostRuntime) -> Result<(), Fail> {
-    let alloc = rt.alloc();
-    for line in SETUPS.lines() {
+fn check_setups(rt: &impl Abort, alloc: Global, table: &str) -> Result<(), Fail> {
+    for line in table.lines() {
         let (expected, text) = line.split_once(" <- ").ok_or("a line without its outcome")?;
         let outcome = match read_setup(alloc, text.as_bytes()) {
             Ok(setup) => write_setup(alloc, &setup)?,
             Err(fault) => told(alloc, fault)?,
         };
-        assert_eq!(rt; outcome.bytes(), expected.as_bytes(), "{text}");
+        assert_eq!(*rt; outcome.bytes(), expected.as_bytes(), "{text}");
+    }
+    Ok(())
+}
+
+#[test]
+fn each_setup_is_read_or_refused(rt: HostRuntime) -> Result<(), Fail> {
+    check_setups(&rt, rt.alloc(), DOCUMENTS)?;
+    check_setups(&rt, rt.alloc(), SETUPS)
+}
+
+fn check_controls(rt: &impl Abort, alloc: Global, table: &str) -> Result<(), Fail> {
+    for line in table.lines() {
+        let (expected, text) = line.split_once(" <- ").ok_or("a line without its outcome")?;
+        let outcome = match read_control(alloc, text.as_bytes()) {
+            Ok(control) => write_control(alloc, &control)?,
+            Err(fault) => told(alloc, fault)?,
+        };
+        assert_eq!(*rt; outcome.bytes(), expected.as_bytes(), "{text}");
     }
     Ok(())
 }
 
 #[test]
 fn each_control_timestamp_is_read_or_refused(rt: HostRuntime) -> Result<(), Fail> {
-    let alloc = rt.alloc();
-    for line in CONTROLS.lines() {
+    check_controls(&rt, rt.alloc(), DOCUMENTS)?;
+    check_controls(&rt, rt.alloc(), CONTROLS)
+}
+
+fn check_presentations(rt: &impl Abort, alloc: Global, table: &str) -> Result<(), Fail> {
+    for line in table.lines() {
         let (expected, text) = line.split_once(" <- ").ok_or("a line without its outcome")?;
-        let outcome = match read_control(alloc, text.as_bytes()) {
-            Ok(control) => write_control(alloc, &control)?,
+        let outcome = match read_presentation(alloc, text.as_bytes()) {
+            Ok(presentation) => write_presentation(alloc, &presentation)?,
             Err(fault) => told(alloc, fault)?,
         };
-        assert_eq!(rt; outcome.bytes(), expected.as_bytes(), "{text}");
+        assert_eq!(*rt; outcome.bytes(), expected.as_bytes(), "{text}");
     }
     Ok(())
 }
 
 #[test]
 fn each_presentation_is_read_or_refused(rt: HostRuntime) -> Result<(), Fail> {
-    let alloc = rt.alloc();
-    for line in PRESENTATIONS.lines() {
-        let (expected, text) = line.split_once(" <- ").ok_or("a line without its outcome")?;
-        let outcome = match read_presentation(alloc, text.as_bytes()) {
-            Ok(presentation) => write_presentation(alloc, &presentation)?,
-            Err(fault) => told(alloc, fault)?,
-        };
-        assert_eq!(rt; outcome.bytes(), expected.as_bytes(), "{text}");
-    }
-    Ok(())
+    check_presentations(&rt, rt.alloc(), DOCUMENTS)?;
+    check_presentations(&rt, rt.alloc(), PRESENTATIONS)
 }
 
 #[test]
