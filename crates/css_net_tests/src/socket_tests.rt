@@ -74,17 +74,58 @@ fn crossed<R: NetRuntime>(alloc: Global, rt: R, port: u16) -> Result<(Text, u8),
         .ok()
         .ok_or("no text")?;
     let back = text_of(&mut tv, guest)?;
-    let clock = companion.dial(Kind::Wc, &to).ok().ok_or("no clock")?;
-    companion
-        .send_datagram(clock, &[7; 32])
-        .ok()
-        .ok_or("not sent")?;
+    let clock = clock_at(alloc, &mut companion, port)?;
+    send(&mut companion, clock, 7)?;
     let (sender, first) = datagram_of(&mut tv)?;
-    tv.send_datagram(sender, &[first; 32])
-        .ok()
-        .ok_or("not sent")?;
+    send(&mut tv, sender, first)?;
     let (_, first) = datagram_of(&mut companion)?;
     Ok((back, first))
+}
+
+/// The socket of the clock that listens at a port of this machine.
+fn clock_at<O: Outside>(alloc: Global, outside: &mut O, port: u16) -> Result<u32, Fail> {
+    let to = Address {
+        host: Text::of(alloc, b"127.0.0.1")?,
+        port,
+        path: Text::of(alloc, b"/cii")?,
+    };
+    Ok(outside.dial(Kind::Wc, &to).ok().ok_or("no clock")?)
+}
+
+/// Sends 32 bytes, each of them `first`.
+fn send<O: Outside>(outside: &mut O, peer: u32, first: u8) -> Result<(), Fail> {
+    outside
+        .send_datagram(peer, &[first; 32])
+        .ok()
+        .ok_or("not sent")?;
+    Ok(())
+}
+
+/// A relay listens and dials: a companion's datagram goes over it to a television, and one comes back.
+fn relayed<R: NetRuntime>(alloc: Global, rt: R, port: u16) -> Result<u8, Fail> {
+    let mut tv = NetOutside::new(alloc, rt);
+    let mut relay = NetOutside::new(alloc, rt);
+    let mut companion = NetOutside::new(alloc, rt);
+    let host = Text::of(alloc, b"127.0.0.1")?;
+    tv.listen(&host, port).ok().ok_or("no port")?;
+    relay
+        .listen(&host, port.wrapping_add(2))
+        .ok()
+        .ok_or("no port")?;
+    let above = clock_at(alloc, &mut relay, port)?;
+    let clock = clock_at(alloc, &mut companion, port.wrapping_add(2))?;
+    send(&mut companion, clock, 7)?;
+    let (below, first) = datagram_of(&mut relay)?;
+    send(&mut relay, above, first.wrapping_add(1))?;
+    let (sender, first) = datagram_of(&mut tv)?;
+    send(&mut tv, sender, first.wrapping_add(1))?;
+    let (peer, first) = datagram_of(&mut relay)?;
+    if peer != above {
+        return Err("another peer".into());
+    }
+    send(&mut relay, below, first.wrapping_add(1))?;
+    let (_, first) = datagram_of(&mut companion)?;
+    Ok(first)
 }
 
 #[test]
@@ -93,5 +134,12 @@ fn texts_and_datagrams_go_there_and_back(rt: HostRuntime) -> Result<(), Fail> {
     let (text, first) = crossed(rt.alloc(), &rt, port)?;
     assert_eq!(rt; text.bytes(), b"there and back".as_slice());
     assert_eq!(rt; first, 7);
+    Ok(())
+}
+
+#[test]
+fn one_who_listens_dials_too(rt: HostRuntime) -> Result<(), Fail> {
+    let port = 30000 + (process::id(rt.process()) % 5000 * 4) as u16;
+    assert_eq!(rt; relayed(rt.alloc(), &rt, port)?, 10);
     Ok(())
 }

@@ -14,7 +14,7 @@ use std::{env, io, process, str};
 
 /// The words of the run. The port comes from the number of the process, so that two runs don't meet.
 fn pair_words(alloc: Global, number: u32) -> io::Result<Vec<String>> {
-    let port = format!(in alloc; "{}", 30000 + number % 5000 * 2)?;
+    let port = format!(in alloc; "{}", 50000 + number % 5000 * 2)?;
     let mut words = Vec::new(alloc);
     for word in [
         "pair",
