@@ -28,6 +28,10 @@ fn open(
     sessions.opened(alloc, peer, kind, out)
 }
 
+fn bound(alloc: Global, content: &str, wall: &str) -> Result<String, Memory> {
+    Ok(format!(in alloc; "{{\"contentTime\":\"{content}\",\"wallClockTime\":\"{wall}\"}}")?)
+}
+
 /// A presentation of these bounds, or else the words as they are.
 fn presentation(alloc: Global, words: &str) -> Result<Text, Memory> {
     let mut parts = words.splitn(5, ' ');
@@ -36,9 +40,9 @@ fn presentation(alloc: Global, words: &str) -> Result<Text, Memory> {
     let text = match (earliest, latest) {
         ((Some(early), Some(from)), (Some(late), Some(to))) => {
             let rest = parts.next().unwrap_or("");
-            format!(in alloc;
-                "{{\"earliest\":{{\"contentTime\":\"{early}\",\"wallClockTime\":\"{from}\"}},\"latest\":{{\"contentTime\":\"{late}\",\"wallClockTime\":\"{to}\"}}{rest}}}"
-            )?
+            let early = bound(alloc, early, from)?;
+            let late = bound(alloc, late, to)?;
+            format!(in alloc; "{{\"earliest\":{early},\"latest\":{late}{rest}}}")?
         }
         _ => format!(in alloc; "{words}")?,
     };

@@ -1,31 +1,44 @@
 //! A table of texts: each line has a text, behind what comes of it: `json` and `object` for the faults of these names,
-//! another fault as it is told, or the text of the value that is read.
+//! another fault as it is told, or the text of the value that is read. A line that begins with two spaces goes on with
+//! the one before.
 
 pub(crate) const SETUPS: &str =
-    r#"{"contentIdStem":"","timelineSelector":"urn:dvb:css:timeline:pts"} <- {"contentIdStem":"","timelineSelector":"urn:dvb:css:timeline:pts"}
+    r#"{"contentIdStem":"","timelineSelector":"urn:dvb:css:timeline:pts"} <- {"contentIdStem":"",
+  "timelineSelector":"urn:dvb:css:timeline:pts"}
 {"contentIdStem":"dvb://","timelineSelector":""} <- {"timelineSelector":"","contentIdStem":"dvb://"}
 {"contentIdStem":"","timelineSelector":""} <-  { "private" : 1.5 , "contentIdStem" : "" , "timelineSelector" : "" } 
-{"contentIdStem":"dvb://","timelineSelector":"urn:dvb:css:timeline:pts"} <- {"contentIdStem":"dvb://","timelineSelector":"urn:dvb:css:timeline:pts"}
+{"contentIdStem":"dvb://","timelineSelector":"urn:dvb:css:timeline:pts"} <- {"contentIdStem":"dvb://",
+  "timelineSelector":"urn:dvb:css:timeline:pts"}
 {"contentIdStem":"dvb://","timelineSelector":"dvb://"} <- {"timelineSelector":"dvb://","contentIdStem":"dvb://"}
-{"contentIdStem":"dvb://","timelineSelector":"dvb://"} <-  { "private" : 1.5 , "contentIdStem" : "dvb://" , "timelineSelector" : "dvb://" } 
-{"contentIdStem":"5","timelineSelector":"urn:dvb:css:timeline:pts"} <- {"contentIdStem":"5","timelineSelector":"urn:dvb:css:timeline:pts"}
+{"contentIdStem":"dvb://","timelineSelector":"dvb://"} <-  { "private" : 1.5 , "contentIdStem" : "dvb://" ,
+   "timelineSelector" : "dvb://" } 
+{"contentIdStem":"5","timelineSelector":"urn:dvb:css:timeline:pts"} <- {"contentIdStem":"5",
+  "timelineSelector":"urn:dvb:css:timeline:pts"}
 {"contentIdStem":"dvb://","timelineSelector":"5"} <- {"timelineSelector":"5","contentIdStem":"dvb://"}
 {"contentIdStem":"5","timelineSelector":"5"} <-  { "private" : 1.5 , "contentIdStem" : "5" , "timelineSelector" : "5" } 
-{"contentIdStem":"\u0000","timelineSelector":"urn:dvb:css:timeline:pts"} <- {"contentIdStem":"\u0000","timelineSelector":"urn:dvb:css:timeline:pts"}
+{"contentIdStem":"\u0000","timelineSelector":"urn:dvb:css:timeline:pts"} <- {"contentIdStem":"\u0000",
+  "timelineSelector":"urn:dvb:css:timeline:pts"}
 {"contentIdStem":"dvb://","timelineSelector":"\u0000"} <- {"timelineSelector":"\u0000","contentIdStem":"dvb://"}
-{"contentIdStem":"\u0000","timelineSelector":"\u0000"} <-  { "private" : 1.5 , "contentIdStem" : "\u0000" , "timelineSelector" : "\u0000" } 
-{"contentIdStem":"é","timelineSelector":"urn:dvb:css:timeline:pts"} <- {"contentIdStem":"é","timelineSelector":"urn:dvb:css:timeline:pts"}
+{"contentIdStem":"\u0000","timelineSelector":"\u0000"} <-  { "private" : 1.5 , "contentIdStem" : "\u0000" ,
+   "timelineSelector" : "\u0000" } 
+{"contentIdStem":"é","timelineSelector":"urn:dvb:css:timeline:pts"} <- {"contentIdStem":"é",
+  "timelineSelector":"urn:dvb:css:timeline:pts"}
 {"contentIdStem":"dvb://","timelineSelector":"é"} <- {"timelineSelector":"é","contentIdStem":"dvb://"}
 {"contentIdStem":"é","timelineSelector":"é"} <-  { "private" : 1.5 , "contentIdStem" : "é" , "timelineSelector" : "é" } 
-{"contentIdStem":"a\"b","timelineSelector":"urn:dvb:css:timeline:pts"} <- {"contentIdStem":"a\"b","timelineSelector":"urn:dvb:css:timeline:pts"}
+{"contentIdStem":"a\"b","timelineSelector":"urn:dvb:css:timeline:pts"} <- {"contentIdStem":"a\"b",
+  "timelineSelector":"urn:dvb:css:timeline:pts"}
 {"contentIdStem":"dvb://","timelineSelector":"a\"b"} <- {"timelineSelector":"a\"b","contentIdStem":"dvb://"}
-{"contentIdStem":"a\"b","timelineSelector":"a\"b"} <-  { "private" : 1.5 , "contentIdStem" : "a\"b" , "timelineSelector" : "a\"b" } 
-{"contentIdStem":" ","timelineSelector":"urn:dvb:css:timeline:pts"} <- {"contentIdStem":" ","timelineSelector":"urn:dvb:css:timeline:pts"}
+{"contentIdStem":"a\"b","timelineSelector":"a\"b"} <-  { "private" : 1.5 , "contentIdStem" : "a\"b" ,
+   "timelineSelector" : "a\"b" } 
+{"contentIdStem":" ","timelineSelector":"urn:dvb:css:timeline:pts"} <- {"contentIdStem":" ",
+  "timelineSelector":"urn:dvb:css:timeline:pts"}
 {"contentIdStem":"dvb://","timelineSelector":" "} <- {"timelineSelector":" ","contentIdStem":"dvb://"}
 {"contentIdStem":" ","timelineSelector":" "} <-  { "private" : 1.5 , "contentIdStem" : " " , "timelineSelector" : " " } 
-{"contentIdStem":"null","timelineSelector":"urn:dvb:css:timeline:pts"} <- {"contentIdStem":"null","timelineSelector":"urn:dvb:css:timeline:pts"}
+{"contentIdStem":"null","timelineSelector":"urn:dvb:css:timeline:pts"} <- {"contentIdStem":"null",
+  "timelineSelector":"urn:dvb:css:timeline:pts"}
 {"contentIdStem":"dvb://","timelineSelector":"null"} <- {"timelineSelector":"null","contentIdStem":"dvb://"}
-{"contentIdStem":"null","timelineSelector":"null"} <-  { "private" : 1.5 , "contentIdStem" : "null" , "timelineSelector" : "null" } 
+{"contentIdStem":"null","timelineSelector":"null"} <-  { "private" : 1.5 , "contentIdStem" : "null" ,
+   "timelineSelector" : "null" } 
 field contentIdStem <- {"contentIdStem":null,"timelineSelector":"a"}
 field contentIdStem <- {"contentIdStem":null,"timelineSelector":5}
 field contentIdStem <- {"timelineSelector":"a","contentIdStem":null}
@@ -95,7 +108,8 @@ field contentIdStem <- {"contentIdStem":{"contentIdStem":"a"},"private":null}
 {"contentIdStem":"a","timelineSelector":"b"} <- {"private":[1.5],"contentIdStem":"a","timelineSelector":"b"}
 field timelineSelector <- {"private":[1.5],"contentIdStem":"a"}
 field contentIdStem <- {"contentIdStem":{"contentIdStem":"a"},"private":[1.5]}
-{"contentIdStem":"a","timelineSelector":"b"} <- {"private":{"contentIdStem":5},"contentIdStem":"a","timelineSelector":"b"}
+{"contentIdStem":"a","timelineSelector":"b"} <- {"private":{"contentIdStem":5},"contentIdStem":"a",
+  "timelineSelector":"b"}
 field timelineSelector <- {"private":{"contentIdStem":5},"contentIdStem":"a"}
 field contentIdStem <- {"contentIdStem":{"contentIdStem":"a"},"private":{"contentIdStem":5}}
 {"contentIdStem":"a","timelineSelector":"b"} <- {"private":true,"contentIdStem":"a","timelineSelector":"b"}
@@ -153,8 +167,10 @@ field contentIdStem <- {"timelineSelector":null,"contentIdStem":0.0,"x":[]}
 field contentIdStem <- {"timelineSelector":5,"contentIdStem":0.0,"x":[]}
 field contentIdStem <- {"timelineSelector":[],"contentIdStem":0.0,"x":[]}
 field contentIdStem <- {"contentIdStem":0.0,"other":{},"timelineSelector":"a"}
-{"contentIdStem":"","timelineSelector":"urn:x:1"} <- {"x":{"contentIdStem":5},"contentIdStem":"","timelineSelector":"urn:x:1"}
-{"contentIdStem":"","timelineSelector":"urn:dvb:css:timeline:ct"} <- {"x":{"contentIdStem":5},"contentIdStem":"","timelineSelector":"urn:dvb:css:timeline:ct"}
+{"contentIdStem":"","timelineSelector":"urn:x:1"} <- {"x":{"contentIdStem":5},"contentIdStem":"",
+  "timelineSelector":"urn:x:1"}
+{"contentIdStem":"","timelineSelector":"urn:dvb:css:timeline:ct"} <- {"x":{"contentIdStem":5},"contentIdStem":"",
+  "timelineSelector":"urn:dvb:css:timeline:ct"}
 {"contentIdStem":"","timelineSelector":"a"} <- {"x":{"contentIdStem":5},"contentIdStem":"","timelineSelector":"\u0061"}
 {"contentIdStem":"","timelineSelector":"/"} <- {"x":{"contentIdStem":5},"contentIdStem":"","timelineSelector":"/"}
 {"contentIdStem":"","timelineSelector":"{}"} <- {"x":{"contentIdStem":5},"contentIdStem":"","timelineSelector":"{}"}
@@ -162,4 +178,5 @@ field contentIdStem <- {"contentIdStem":0.0,"other":{},"timelineSelector":"a"}
 {"contentIdStem":"","timelineSelector":"\n"} <- {"x":{"contentIdStem":5},"contentIdStem":"","timelineSelector":"\n"}
 {"contentIdStem":"","timelineSelector":"日本"} <- {"x":{"contentIdStem":5},"contentIdStem":"","timelineSelector":"日本"}
 {"contentIdStem":"","timelineSelector":"a b"} <- {"x":{"contentIdStem":5},"contentIdStem":"","timelineSelector":"a b"}
-{"contentIdStem":"","timelineSelector":"=\""} <- {"x":{"contentIdStem":5},"contentIdStem":"","timelineSelector":"=\""}"#;
+{"contentIdStem":"","timelineSelector":"=\""} <- {"x":{"contentIdStem":5},
+  "contentIdStem":"","timelineSelector":"=\""}"#;

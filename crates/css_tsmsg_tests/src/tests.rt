@@ -22,7 +22,8 @@ fn told(alloc: Global, fault: TsFault) -> Result<Text, Fail> {
 }
 
 fn check_setups(rt: &impl Abort, alloc: Global, table: &str) -> Result<(), Fail> {
-    for line in table.lines() {
+    let rows = table.replace(alloc, "\n  ", "")?;
+    for line in rows.lines() {
         let (expected, text) = line.split_once(" <- ").ok_or("a line without its outcome")?;
         let outcome = match read_setup(alloc, text.as_bytes()) {
             Ok(setup) => write_setup(alloc, &setup)?,
@@ -40,7 +41,8 @@ fn each_setup_is_read_or_refused(rt: HostRuntime) -> Result<(), Fail> {
 }
 
 fn check_controls(rt: &impl Abort, alloc: Global, table: &str) -> Result<(), Fail> {
-    for line in table.lines() {
+    let rows = table.replace(alloc, "\n  ", "")?;
+    for line in rows.lines() {
         let (expected, text) = line.split_once(" <- ").ok_or("a line without its outcome")?;
         let outcome = match read_control(alloc, text.as_bytes()) {
             Ok(control) => write_control(alloc, &control)?,
@@ -58,7 +60,8 @@ fn each_control_timestamp_is_read_or_refused(rt: HostRuntime) -> Result<(), Fail
 }
 
 fn check_presentations(rt: &impl Abort, alloc: Global, table: &str) -> Result<(), Fail> {
-    for line in table.lines() {
+    let rows = table.replace(alloc, "\n  ", "")?;
+    for line in rows.lines() {
         let (expected, text) = line.split_once(" <- ").ok_or("a line without its outcome")?;
         let outcome = match read_presentation(alloc, text.as_bytes()) {
             Ok(presentation) => write_presentation(alloc, &presentation)?,
@@ -129,8 +132,9 @@ fn control_timestamps_are_compared(rt: HostRuntime) {
 #[test]
 fn a_presentation_is_read(rt: HostRuntime) -> Result<(), Fail> {
     let alloc = rt.alloc();
-    let text =
-        br#"{"earliest":{"contentTime":"900000","wallClockTime":"10040000000"},"latest":{"contentTime":"900000","wallClockTime":"plusinfinity"}}"#;
+    let text = r#"{"earliest":{"contentTime":"900000","wallClockTime":"10040000000"},
+  "latest":{"contentTime":"900000","wallClockTime":"plusinfinity"}}"#
+        .replace(alloc, "\n  ", "")?;
     let presentation = Presentation {
         earliest: Bound::At {
             content: 900_000,
@@ -139,10 +143,10 @@ fn a_presentation_is_read(rt: HostRuntime) -> Result<(), Fail> {
         latest: Bound::PlusInfinity { content: 900_000 },
         actual: None,
     };
-    assert_eq!(rt; read_presentation(alloc, text), Ok(presentation));
+    assert_eq!(rt; read_presentation(alloc, text.as_bytes()), Ok(presentation));
     assert_eq!(rt;
         write_presentation(alloc, &presentation)?.bytes(),
-        text.as_slice()
+        text.as_bytes()
     );
     Ok(())
 }
