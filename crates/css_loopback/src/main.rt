@@ -3,6 +3,8 @@
 //! Their televisions and the relay are children: this program again, with the words of a command.
 #![tactic(auto)]
 
+ghost use Rattle.std.specs.Prelude.{◌≡◌, ◌+◌, OnOk};
+
 use css_app::{run, tell};
 use css_drive::Nobody;
 use css_net::{ChildSpawner, NetOutside, StdSink, StdSource};
