@@ -7,3 +7,5 @@ pub mod Openings
 pub mod Hears
 pub mod Ends
 pub mod Answering
+pub mod Telling
+pub mod Sessions

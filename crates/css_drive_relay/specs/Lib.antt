@@ -3,3 +3,4 @@ pub mod Due
 pub mod Ran
 pub mod Standing
 pub mod Laws
+pub mod Told

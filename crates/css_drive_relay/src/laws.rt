@@ -1,8 +1,19 @@
 //! What is proved of every relay's run. Each law is the contract of a function that does nothing.
 ghost use Rattle.css_drive_relay.specs.Laws.{AnswersAreTrueTo};
+ghost use Rattle.css_drive_relay.specs.Told.{SessionsAreTold};
 
 /// What a run sends in answer is the relay's answer to a request that it took. It is true in every world that explains
 /// what the run's calls told, and so it is truthful to each companion that asked for it.
 pub fn answers_are_true_to()
     ensures { AnswersAreTrueTo }
+{}
+
+/// The texts that a run sent to a session are the first ones of those that the session was to be told. These are the
+/// state that the relay had published last as it accepted the session, in full, and what is new in each state that it
+/// published while the session was open. At most one of them is unsent, and where the run's end is due only one that was
+/// told as gone.
+///
+/// The calls are those of a run, and each peer that was accepted has a greater number than those before it.
+pub fn sessions_are_told()
+    ensures { SessionsAreTold }
 {}
