@@ -8,4 +8,4 @@ pub mod Hears
 pub mod Ends
 pub mod Answering
 pub mod Telling
-pub mod Sessions
+pub mod ToldSessions

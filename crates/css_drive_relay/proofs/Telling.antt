@@ -267,7 +267,7 @@ module _ {peer : ℕ} {states : Option SessionStates} {last : State} {sent : Lis
   opens t none other false false is new = stays t none (opened_if false other p.facts) refl refl refl
 
 -- ---- publishing
-owed_by : Option (List ℕ) → Bool → List (List ℕ)
+abbrev pub owed_by : Option (List ℕ) → Bool → List (List ℕ)
 owed_by None b = []
 owed_by (Some text) b = owed_if b text
 
@@ -352,29 +352,29 @@ module _ {peer : ℕ} {states : Option SessionStates} {last : State} {sent : Lis
           }
 
 -- ---- sending
+-- what is owed, where this text is to be sent to these
+owes_first : (peer : ℕ) (p : Progress) (other : ℕ) (left text : List ℕ) (b : Bool) → waiting p.place ≡ other ∷ left
+    → text_at p.place p.facts ≡ text → eqb other peer ≡ b → owed peer p ≡ owed_if (b || has peer left) text
+owes_first peer p other left text b waits is same =
+    ap (λ xs. owed_if (has peer xs) (text_at p.place p.facts)) waits
+    ∙ ap (λ x. owed_if (has peer (other ∷ left)) x) is ∙ ap (λ c. owed_if (c || has peer left) text) same
+
 module _ {peer : ℕ} {states : Option SessionStates} {last : State} {sent : List (List ℕ)} {gone came : Bool}
     {p : Progress} where
-  -- what is owed, where this text is to be sent to these
-  owes_first : (other : ℕ) (left text : List ℕ) (b : Bool) → waiting p.place ≡ other ∷ left
-      → text_at p.place p.facts ≡ text → eqb other peer ≡ b → owed peer p ≡ owed_if (b || has peer left) text
-  owes_first other left text b waits is same =
-      ap (λ xs. owed_if (has peer xs) (text_at p.place p.facts)) waits
-      ∙ ap (λ x. owed_if (has peer (other ∷ left)) x) is ∙ ap (λ c. owed_if (c || has peer left) text) same
-
   -- the session that is told first is open, and lacks nothing
   pub record IsFirst (t : Tells peer states last sent gone came p) : Type 0 where
-    pub open : has peer p.facts.peers ≡ true
+    pub is_open : has peer p.facts.peers ≡ true
     pub alive : gone ≡ false
     pub none_missing : t.missing ≡ []
 
   first : (t : Tells peer states last sent gone came p) → (other : ℕ) (left : List ℕ)
       → waiting p.place ≡ other ∷ left → eqb other peer ≡ true → IsFirst t
   first t other left waits same =
-      let open : has peer p.facts.peers ≡ true =
+      let is_open : has peer p.facts.peers ≡ true =
       t.waits (ap (has peer) waits ∙ ap (λ c. c || has peer left) same) in
-      let o = t.live open in
+      let o = t.live is_open in
       record {
-        open = open;
+        is_open = is_open;
         alive = o.1;
         none_missing = none_there t.missing (subst (λ (g : Bool). length t.missing ≤ lost g) o.1 t.few);
       }
@@ -412,13 +412,13 @@ module _ {peer : ℕ} {states : Option SessionStates} {last : State} {sent : Lis
           → texts_told states ≡ owed peer q ++ (t.missing ++ with_text (cond c (Some text) None) sent)
       by true same =
           let x = first t other left waits same in
-          t.front ∙ ap (λ os. os ++ (t.missing ++ sent)) (owes_first other left text true waits is same)
+          t.front ∙ ap (λ os. os ++ (t.missing ++ sent)) (owes_first peer p other left text true waits is same)
           ∙ ap (λ ms. (text ∷ []) ++ (ms ++ sent)) x.none_missing
           ∙ sym (ap (λ os. os ++ (t.missing ++ (text ∷ sent))) (owes ∙ ap (λ c. owed_if c text) (all.0 same))
           ∙ ap (λ ms. [] ++ (ms ++ (text ∷ sent))) x.none_missing)
       by false same =
           t.front
-          ∙ ap (λ os. os ++ (t.missing ++ sent)) (owes_first other left text false waits is same ∙ sym owes)
+          ∙ ap (λ os. os ++ (t.missing ++ sent)) (owes_first peer p other left text false waits is same ∙ sym owes)
 
   -- or its session is gone
   pub went : Tells peer states last sent gone came p → (other : ℕ) (left text : List ℕ)
@@ -435,7 +435,7 @@ module _ {peer : ℕ} {states : Option SessionStates} {last : State} {sent : Lis
       ∙ not_without peer p.facts.peers in
       record {
         missing = text ∷ [];
-        front = t.front ∙ ap (λ os. os ++ (t.missing ++ sent)) (owes_first other left text true waits is same)
+        front = t.front ∙ ap (λ os. os ++ (t.missing ++ sent)) (owes_first peer p other left text true waits is same)
             ∙ ap (λ ms. (text ∷ []) ++ (ms ++ sent)) x.none_missing
             ∙ sym (ap (λ os. os ++ (text ∷ sent)) (owes ∙ ap (λ c. owed_if c text) (all.0 same)));
         few = omega arith;
@@ -444,7 +444,7 @@ module _ {peer : ℕ} {states : Option SessionStates} {last : State} {sent : Lis
         waits = λ e. absurd (both_ways (has peer left) (sym (ap (has peer) now) ∙ e) (all.0 same));
         once = subst (λ (xs : List ℕ). IsOnce peer xs) (sym peers) (once_without peer other p.facts.peers t.once);
         once_left = subst (λ (xs : List ℕ). IsOnce peer xs) (sym now) all.1;
-        fresh = λ e. absurd (both_ways (has peer p.facts.peers) x.open (t.fresh e).0);
+        fresh = λ e. absurd (both_ways (has peer p.facts.peers) x.is_open (t.fresh e).0);
       }
     where
       number : (n m : ℕ) → eqb n m ≡ true → n ≡ m
@@ -456,7 +456,7 @@ module _ {peer : ℕ} {states : Option SessionStates} {last : State} {sent : Lis
       record {
         missing = t.missing;
         front = t.front
-            ∙ ap (λ os. os ++ (t.missing ++ sent)) (owes_first other left text false waits is same ∙ sym owes);
+            ∙ ap (λ os. os ++ (t.missing ++ sent)) (owes_first peer p other left text false waits is same ∙ sym owes);
         few = t.few;
         published = state ∙ t.published;
         live =

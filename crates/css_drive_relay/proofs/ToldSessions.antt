@@ -46,7 +46,7 @@ use Rattle.css_drive_relay.proofs.Telling.{publishes, wrote, went, waiting_telli
 
 -- ---- peers that came
 -- whether a session of this peer was accepted
-came : ℕ → History → Bool
+abbrev pub came : ℕ → History → Bool
 came peer [] = false
 came peer (Accepted other k ∷ older) = eqb other peer || came peer older
 came peer (_ ∷ older) = came peer older
