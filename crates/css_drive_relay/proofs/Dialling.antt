@@ -22,7 +22,7 @@ use Rattle.css_drive_relay.specs.Due.{due_at, from_wc, from_ask, from_cii}
 use Rattle.css_drive_relay.specs.Standing.{KnowsPeers, Stands, Comes, Stops, facts_in, stood}
 use Rattle.css_drive_relay.specs.declared.config.RelayRun.{RelayRun}
 use Rattle.css_drive_relay.specs.declared.live.Live.{Live}
-use Rattle.css_drive_relay.proofs.Peers.{peers_quiet, peers_cii, peers_wc}
+use Rattle.css_drive_relay.proofs.Peers.{peers_quiet, still, peers_cii, peers_wc}
 use Rattle.css_drive_relay.proofs.Steps.{knows_plain, lawful, runs_more, stops_here}
 
 -- ---- what is due where a dial is skipped
@@ -85,7 +85,7 @@ module _ (live : Live) {run : RelayRun} {start now : Shown} {relay : Relay} {his
             d.faults (stood live (Called kind.Cii))
             (ap (λ (p : Progress). after run (NotDialled kind.Cii) (Dialling kind.Cii run.cii ∷ history) p)
             s.runs.progress)
-            (peers_quiet s.runs.peers d.later (λ q. refl) refl refl refl);
+            (peers_quiet s.runs.peers d.later (λ q. refl) (still s.runs.peers d.later) refl refl refl);
         knows = knows_plain (knows_plain s.knows (Dialling kind.Cii run.cii) refl refl refl refl refl refl refl)
             (NotDialled kind.Cii) refl refl refl refl refl refl refl;
       }) (from_wc run) refl
@@ -124,7 +124,7 @@ module _ (live : Live) {run : RelayRun} {start now : Shown} {relay : Relay} {his
               d.told d.faults (stood live (Called kind.Wc))
               (ap (λ (p : Progress). after run (NotDialled kind.Wc) (Dialling kind.Wc to ∷ history) p)
               s.runs.progress)
-              (peers_quiet s.runs.peers d.later (λ q. refl) refl refl refl);
+              (peers_quiet s.runs.peers d.later (λ q. refl) (still s.runs.peers d.later) refl refl refl);
           knows = knows_plain (knows_plain s.knows (Dialling kind.Wc to) refl refl refl refl refl refl refl)
               (NotDialled kind.Wc) refl refl refl refl refl refl refl;
         }) (from_ask run) refl
