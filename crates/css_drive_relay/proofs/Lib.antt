@@ -9,3 +9,4 @@ pub mod Ends
 pub mod Answering
 pub mod Telling
 pub mod ToldSessions
+pub mod Made

@@ -4,3 +4,4 @@ pub mod Ran
 pub mod Standing
 pub mod Laws
 pub mod Told
+pub mod Made

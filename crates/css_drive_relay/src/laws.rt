@@ -1,5 +1,6 @@
 //! What is proved of every relay's run. Each law is the contract of a function that does nothing.
 ghost use Rattle.css_drive_relay.specs.Laws.{AnswersAreTrueTo};
+ghost use Rattle.css_drive_relay.specs.Made.{TurnsAreMade};
 ghost use Rattle.css_drive_relay.specs.Told.{SessionsAreTold};
 
 /// What a run sends in answer is the relay's answer to a request that it took. It is true in every world that explains
@@ -16,4 +17,10 @@ pub fn answers_are_true_to()
 /// The calls are those of a run, and each peer that was accepted has a greater number than those before it.
 pub fn sessions_are_told()
     ensures { SessionsAreTold }
+{}
+
+/// A run that is done made all its turns, and a dial of it succeeded. One for which every dial failed made all its turns
+/// too. The calls are those of a run, which ended where it may.
+pub fn turns_are_made()
+    ensures { TurnsAreMade }
 {}
