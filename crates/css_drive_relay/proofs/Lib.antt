@@ -10,3 +10,4 @@ pub mod Answering
 pub mod Telling
 pub mod ToldSessions
 pub mod Made
+pub mod SecondHop

@@ -5,3 +5,4 @@ pub mod Standing
 pub mod Laws
 pub mod Told
 pub mod Made
+pub mod SecondHop

@@ -1,6 +1,7 @@
 //! What is proved of every relay's run. Each law is the contract of a function that does nothing.
 ghost use Rattle.css_drive_relay.specs.Laws.{AnswersAreTrueTo};
 ghost use Rattle.css_drive_relay.specs.Made.{TurnsAreMade};
+ghost use Rattle.css_drive_relay.specs.SecondHop.{GivenIsTrue, SecondHopsAreTrue};
 ghost use Rattle.css_drive_relay.specs.Told.{SessionsAreTold};
 
 /// What a run sends in answer is the relay's answer to a request that it took. It is true in every world that explains
@@ -23,4 +24,21 @@ pub fn sessions_are_told()
 /// too. The calls are those of a run, which ended where it may.
 pub fn turns_are_made()
     ensures { TurnsAreMade }
+{}
+
+/// Each response that a whole run gave reads the television's wall clock, at the moment where its request was taken and
+/// at the one where it was given, within the precision that it declares. So it is truthful to each companion that sent
+/// its request no later than it was taken, and where it lands no sooner than it was given.
+///
+/// The world keeps its errors and ranges and explains the run's calls, which are lawful.
+pub fn given_is_true()
+    ensures { GivenIsTrue }
+{}
+
+/// So the spans of a second companion that accepts nothing but a run's responses contain the television's wall clock.
+///
+/// The world keeps the errors of the three clocks and its ranges, explains the run's calls, and has the second
+/// companion's readings. Both companions' calls are lawful.
+pub fn second_hops_are_true()
+    ensures { SecondHopsAreTrue }
 {}

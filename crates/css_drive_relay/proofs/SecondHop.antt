@@ -1,0 +1,483 @@
+-- Why each response of a relay's whole run answers the request that was taken last before it.
+use Rattle.std.proofs.Common.{◌≡◌, ℕ, ◌≤◌, Bool, true, false, List, [], ◌∷◌, ◌++◌, Option, Some, None, length}
+use Rattle.std.proofs.Common.{refl, sym, ap, subst, ◌∙◌, inl, inr, take}
+use Rattle.std.specs.Prelude.{is_some, IfSome, IsTrue, ⊤, Result, Ok, Err}
+use Rattle.std.specs.Result.{result_ok}
+use Rattle.css_cii.specs.declared.state.State.{State}
+use Rattle.css_companion.specs.declared.fault.CompanionFault.{CompanionFault}
+use Rattle.css_drive.specs.CompanionDue.{refusal_of}
+use Rattle.css_drive.specs.Proper.{Due, Listen, Now, Dial, Accept, SendDatagram, TakeDatagram, TakeText, SendText}
+use Rattle.css_drive.specs.Proper.{HangUp, Ends, MayAdd, Empty, More}
+use Rattle.css_model.specs.declared.Message.{Message}
+use Rattle.css_model.specs.declared.Kind.{Kind}
+use Rattle.css_model.specs.declared.Why.{Why}
+use Rattle.css_model.specs.declared.Why.TheVariants as why
+use Rattle.css_model.specs.WallClock.{Local}
+use Rattle.css_model.specs.World.{World, Errors, IsWorldFor, IsInRange}
+use Rattle.css_model.specs.Explains.{IsLawful, Explains}
+use Rattle.css_model.specs.History.{Entry, History, Each, Once, LandedAnswer, landed_answer, landed_answers, is_possible}
+use Rattle.css_model.specs.History.{Listening, Slept, Clock, Dialling, Dialled, NotDialled, Accepted, NoneCame, Sent}
+use Rattle.css_model.specs.History.{Took, TookNone, Quiet, Heard, Closed, Wrote, Gone, HungUp, request_in}
+use Rattle.css_outside.specs.Outsides.{opening_entries, datagram_entries, heard_entries, wrote_entries, sleep_entries}
+use Rattle.css_outside.specs.declared.calls.Heard.{Heard as SessionHeard}
+use Rattle.css_outside.specs.declared.calls.Heard.TheVariants as heard
+use Rattle.css_outside.specs.declared.calls.Wrote.{Wrote as Outcome}
+use Rattle.css_outside.specs.declared.calls.Wrote.TheVariants as outcome
+use Rattle.css_relay.specs.Answers.{Ticket, received_after, answered_after, datagram_of}
+use Rattle.css_relay.specs.TwoHops.{IsAnswerOf, IsTrueResponse, IsRelayed, RelayedAt}
+use Rattle.css_relay.specs.declared.fault.RelayFault.{RelayFault}
+use Rattle.css_relay.proofs.TwoHops as two
+use Rattle.css_drive_relay.specs.Places as places
+use Rattle.css_drive_relay.specs.Places.{Place, Taken, Received, Asking, Welcomed, Greeting, Telling, Asked, Rejecting}
+use Rattle.css_drive_relay.specs.Places.{Dropping, Over, Facts, progress_of, is_kept, next_asked, telling, telling_if}
+use Rattle.css_drive_relay.specs.Due.{due_at, from_taken, IsProperRelay}
+use Rattle.css_drive_relay.specs.SecondHop.{given_at, given_by, IsGiven, last_take, IsTrueAnswer, GivenIsTrue}
+use Rattle.css_drive_relay.specs.SecondHop.{IsFromRun, FromRunAt, SecondHopsAreTrue}
+use Rattle.css_drive_relay.specs.Told.{relayed}
+use Rattle.css_drive_relay.specs.declared.config.RelayRun.{RelayRun}
+
+-- ---- places where no request was received
+abbrev pub IsFree : Place → Type 0
+IsFree (Received peer ticket) = ⊥
+IsFree _ = ⊤
+
+-- nor was a datagram taken just now
+abbrev pub IsIdle : Place → Type 0
+IsIdle (Received peer ticket) = ⊥
+IsIdle (Taken peer bytes) = ⊥
+IsIdle _ = ⊤
+
+free_next : (o : Option ℕ) (peers : List ℕ) → IsFree (next_asked o peers)
+free_next None peers = tt
+free_next (Some p) peers = tt
+
+free_telling : (text left : List ℕ) (f : Facts) → IsFree (telling text left f)
+free_telling text [] f = tt
+free_telling text (p ∷ ps) f = tt
+
+free_telling_if : (text : Option (List ℕ)) (f : Facts) → IsFree (telling_if text f)
+free_telling_if None f = tt
+free_telling_if (Some text) f = free_telling text f.peers f
+
+free_answering : (peer : ℕ) (x : Result (List ℕ) RelayFault) → IsFree (places.answering peer x)
+free_answering peer (Ok bytes) = tt
+free_answering peer (Err fault) = tt
+
+free_received : (run : RelayRun) (reading : ℕ) (older : History) (place : Place) → IsIdle place
+    → IsFree (places.received_at run reading older place)
+free_received run reading older (Taken peer bytes) idle = absurd idle
+free_received run reading older (Received peer ticket) idle = absurd idle
+free_received run reading older place idle = tt
+
+free_answered : (run : RelayRun) (reading : ℕ) (older : History) (place : Place)
+    → IsFree (places.answered_at run reading older place)
+free_answered run reading older (Received peer ticket) =
+    free_answering peer (datagram_of (answered_after run.companion.local older reading ticket))
+free_answered run reading older place = tt
+
+free_passed : (f : Facts) (place : Place) → IsIdle place → IsFree (places.passed place f)
+free_passed f (Welcomed peer) idle = tt
+free_passed f (Asked left) idle = tt
+free_passed f (Received peer ticket) idle = absurd idle
+free_passed f place idle = tt
+
+free_told : (f : Facts) (place : Place) → IsIdle place → IsFree (places.told place f)
+free_told f (Greeting peer) idle = free_next f.television f.peers
+free_told f (Telling text left) idle = free_telling text (places.without_first left) f
+free_told f (Received peer ticket) idle = absurd idle
+free_told f place idle = tt
+
+free_gone : (peer : ℕ) (f : Facts) (place : Place) → IsIdle place → IsFree (places.gone peer place f).place
+free_gone peer f (Greeting p) idle = free_next f.television (places.lost peer f).peers
+free_gone peer f (Telling text left) idle = free_telling text (places.without_first left) (places.lost peer f)
+free_gone peer f (Received p ticket) idle = absurd idle
+free_gone peer f place idle = tt
+
+free_closed : (peer : ℕ) (f : Facts) (place : Place) → IsIdle place → IsFree (places.closed peer place f).place
+free_closed peer f (Welcomed p) idle = tt
+free_closed peer f (Asked left) idle = tt
+free_closed peer f (Received p ticket) idle = absurd idle
+free_closed peer f place idle = tt
+
+free_heard : (run : RelayRun) (peer : ℕ) (bytes : List ℕ) (older : History) (f : Facts) (place : Place)
+    → IsIdle place → IsFree (places.heard run peer bytes older place f).place
+free_heard run peer bytes older f (Welcomed p) idle = told (refusal_of (Some bytes) older)
+  where
+    state : State
+    state = relayed run (Heard peer bytes ∷ older)
+
+    told : (refusal : Option CompanionFault) → IsFree (places.television_told refusal state f).place
+    told None = free_telling_if _ (record f { state = state })
+    told (Some fault) = tt
+free_heard run peer bytes older f (Asked left) idle = tt
+free_heard run peer bytes older f (Received p ticket) idle = absurd idle
+free_heard run peer bytes older f place idle = tt
+
+free_sent : (f : Facts) (place : Place) → IsFree (places.sent place f).place
+free_sent f (Asking reading) = tt
+free_sent f place = tt
+
+free_hung_up : (f : Facts) (place : Place) → IsFree (places.hung_up place f)
+free_hung_up f (Rejecting peer) = free_next f.television f.peers
+free_hung_up f (Dropping peer left) = tt
+free_hung_up f (Over left) = tt
+free_hung_up f place = tt
+
+free_opened : (kept : Bool) (peer : ℕ) (f : Facts) → IsFree (places.opened_if kept peer f).place
+free_opened true peer f = tt
+free_opened false peer f = tt
+
+-- ---- a call at such a place
+abbrev IsFreeAfter : RelayRun → History → Type 0
+IsFreeAfter run h = IsFree (progress_of run h).place
+
+free_clock : (run : RelayRun) (h : History) → IsIdle (progress_of run h).place → (w : Why) (reading : ℕ)
+    → IsFreeAfter run (Clock w reading ∷ h)
+free_clock run h idle why.Turn reading = tt
+free_clock run h idle why.Ask reading = tt
+free_clock run h idle why.Land reading = tt
+free_clock run h idle why.Take reading = free_received run reading h (progress_of run h).place idle
+free_clock run h idle why.Give reading = free_answered run reading h (progress_of run h).place
+
+module _ (run : RelayRun) (older : History) (idle : IsIdle (progress_of run older).place) where
+  free_reading : (w : Why) (reading : ℕ) (slept : Bool)
+      → IsFreeAfter run (Clock w reading ∷ (sleep_entries slept ++ older))
+  free_reading w reading false = free_clock run older idle w reading
+  free_reading w reading true = free_clock run (Slept ∷ older) idle w reading
+
+  free_opening : (o : Option (ℕ × Kind)) → IsFreeAfter run (opening_entries o ++ older)
+  free_opening None = let f : Facts = (progress_of run older).facts in free_next f.television f.peers
+  free_opening (Some (peer, k)) =
+      let f : Facts = (progress_of run older).facts in free_opened (is_kept k (length f.peers)) peer f
+
+  free_datagram : (room : List ℕ) (o : Option (ℕ × ℕ)) → IsFreeAfter run (datagram_entries room o ++ older)
+  free_datagram room None = tt
+  free_datagram room (Some (peer, count)) = tt
+
+  free_text : (peer : ℕ) (x : SessionHeard) → IsFreeAfter run (heard_entries peer x ++ older)
+  free_text peer heard.Quiet = free_passed (progress_of run older).facts (progress_of run older).place idle
+  free_text peer (heard.Text text) =
+      free_heard run peer text older (progress_of run older).facts (progress_of run older).place idle
+  free_text peer heard.Closed = free_closed peer (progress_of run older).facts (progress_of run older).place idle
+
+  free_writing : (peer : ℕ) (text : List ℕ) (x : Outcome) → IsFreeAfter run (wrote_entries peer text x ++ older)
+  free_writing peer text outcome.Sent = free_told (progress_of run older).facts (progress_of run older).place idle
+  free_writing peer text outcome.Gone = free_gone peer (progress_of run older).facts (progress_of run older).place idle
+
+  free_call : (d : Due) (call : History) → MayAdd d call → IsFreeAfter run (call ++ older)
+  free_call (Listen host port) call may = subst (λ (x : History). IsFreeAfter run (x ++ older)) (sym may) tt
+  free_call (Now w) call may =
+      subst (λ (x : History). IsFreeAfter run (x ++ older)) (sym may.1) (free_reading w may.0.reading may.0.slept)
+  free_call (Dial k to) call (inl may) = subst (λ (x : History). IsFreeAfter run (x ++ older)) (sym may.1) tt
+  free_call (Dial k to) call (inr may) = subst (λ (x : History). IsFreeAfter run (x ++ older)) (sym may) tt
+  free_call Accept call may =
+      subst (λ (x : History). IsFreeAfter run (x ++ older)) (sym may.1) (free_opening may.0)
+  free_call (SendDatagram peer bytes) call may =
+      subst (λ (x : History). IsFreeAfter run (x ++ older)) (sym may)
+      (free_sent (progress_of run older).facts (progress_of run older).place)
+  free_call TakeDatagram call may =
+      subst (λ (x : History). IsFreeAfter run (x ++ older)) (sym may.2) (free_datagram may.0 may.1)
+  free_call (TakeText peer) call may =
+      subst (λ (x : History). IsFreeAfter run (x ++ older)) (sym may.1) (free_text peer may.0)
+  free_call (SendText peer text) call may =
+      subst (λ (x : History). IsFreeAfter run (x ++ older)) (sym may.1) (free_writing peer text may.0)
+  free_call (HangUp peer) call may =
+      subst (λ (x : History). IsFreeAfter run (x ++ older)) (sym may)
+      (free_hung_up (progress_of run older).facts (progress_of run older).place)
+  free_call (Ends ended) call may = absurd may
+
+-- ---- where a request was received
+-- the clock was read for it just now
+record IsReceived (own : Local) (h : History) (ticket : Ticket) : Type 0 where
+  request : List ℕ
+  take : ℕ
+  before : History
+  just : h ≡ Clock why.Take take ∷ before
+  received : received_after own before take request ≡ Ok ticket
+
+abbrev Shows : Local → History → Place → Type 0
+Shows own h (Received peer ticket) = IsReceived own h ticket
+Shows own h _ = ⊤
+
+shows_free : (own : Local) (h : History) (place : Place) → IsFree place → Shows own h place
+shows_free own h (Received peer ticket) free = absurd free
+shows_free own h place free = tt
+
+abbrev Shape : RelayRun → History → Type 0
+Shape run h = Shows run.companion.local h (progress_of run h).place
+
+shape_of_ticket : (own : Local) (h : History) (reading peer : ℕ) (bytes : List ℕ) (x : Result Ticket RelayFault)
+    → received_after own h reading bytes ≡ x → Shows own (Clock why.Take reading ∷ h) (places.received peer x)
+shape_of_ticket own h reading peer bytes (Err fault) e = tt
+shape_of_ticket own h reading peer bytes (Ok ticket) e =
+    record { request = bytes; take = reading; before = h; just = refl; received = e }
+
+-- a datagram was taken, and the clock is read for it
+taken_reading : (run : RelayRun) (h : History) (peer : ℕ) (bytes : List ℕ)
+    → (progress_of run h).place ≡ Taken peer bytes → (w : Why) (reading : ℕ) → Shape run (Clock w reading ∷ h)
+taken_reading run h peer bytes e why.Turn reading = tt
+taken_reading run h peer bytes e why.Ask reading = tt
+taken_reading run h peer bytes e why.Land reading = tt
+taken_reading run h peer bytes e why.Take reading =
+    subst (λ (place : Place). Shows run.companion.local (Clock why.Take reading ∷ h)
+    (places.received_at run reading h place)) (sym e)
+    (shape_of_ticket run.companion.local h reading peer bytes
+    (received_after run.companion.local h reading bytes) refl)
+taken_reading run h peer bytes e why.Give reading =
+    shows_free run.companion.local (Clock why.Give reading ∷ h) (progress_of run (Clock why.Give reading ∷ h)).place
+    (free_answered run reading h (progress_of run h).place)
+
+taken_sleeping : (run : RelayRun) (h : History) (peer : ℕ) (bytes : List ℕ)
+    → (progress_of run h).place ≡ Taken peer bytes → (w : Why) (reading : ℕ) (slept : Bool)
+    → Shape run (Clock w reading ∷ (sleep_entries slept ++ h))
+taken_sleeping run h peer bytes e w reading false = taken_reading run h peer bytes e w reading
+taken_sleeping run h peer bytes e w reading true = taken_reading run (Slept ∷ h) peer bytes e w reading
+
+given_sleeping : (run : RelayRun) (h : History) (reading : ℕ) (slept : Bool)
+    → Shape run (Clock why.Give reading ∷ (sleep_entries slept ++ h))
+given_sleeping run h reading false =
+    shows_free run.companion.local (Clock why.Give reading ∷ h) (progress_of run (Clock why.Give reading ∷ h)).place
+    (free_answered run reading h (progress_of run h).place)
+given_sleeping run h reading true =
+    shows_free run.companion.local (Clock why.Give reading ∷ Slept ∷ h)
+    (progress_of run (Clock why.Give reading ∷ Slept ∷ h)).place
+    (free_answered run reading (Slept ∷ h) (progress_of run h).place)
+
+shape_more : (run : RelayRun) (older : History) (call : History) (place : Place)
+    → (progress_of run older).place ≡ place → MayAdd (due_at run (progress_of run older).facts older place) call
+    → Shape run (call ++ older)
+shape_more run older call (Taken peer bytes) e may = by (is_some (request_in bytes)) may
+  where
+    by : (b : Bool) → MayAdd (from_taken b) call → Shape run (call ++ older)
+    by true may =
+        subst (λ (x : History). Shape run (x ++ older)) (sym may.1)
+        (taken_sleeping run older peer bytes e why.Take may.0.reading may.0.slept)
+    by false may =
+        subst (λ (x : History). Shape run (x ++ older)) (sym may.1)
+        (taken_sleeping run older peer bytes e why.Land may.0.reading may.0.slept)
+shape_more run older call (Received peer ticket) e may =
+    subst (λ (x : History). Shape run (x ++ older)) (sym may.1)
+    (given_sleeping run older may.0.reading may.0.slept)
+shape_more run older call place e may =
+    shows_free run.companion.local (call ++ older) (progress_of run (call ++ older)).place
+    (free_call run older (subst (λ (x : Place). IsIdle x) (sym e) tt)
+    (due_at run (progress_of run older).facts older place) call may)
+
+shape_of : (run : RelayRun) (h : History) → IsProperRelay run h → Shape run h
+shape_of run [] Empty = tt
+shape_of run h (More {older} call may proper) = shape_more run older call (progress_of run older).place refl may
+
+-- ---- responses that were given
+-- the response answers the request that was taken last
+record IsFound (own : Local) (h : History) (message : Message) (before : History) : Type 0 where
+  answer : IsAnswerOf own h message
+  at_take : length answer.before_take ≡ last_take before
+  at_give : answer.before_give ≡ before
+
+found_later : {own : Local} {h : History} {message : Message} {before : History} (entry : Entry)
+    → IsFound own h message before → IsFound own (entry ∷ h) message before
+found_later entry x = record {
+  answer = record {
+    request = x.answer.request;
+    ticket = x.answer.ticket;
+    take = x.answer.take;
+    give = x.answer.give;
+    before_take = x.answer.before_take;
+    before_give = x.answer.before_give;
+    taken = x.answer.taken;
+    given = inr x.answer.given;
+    received = x.answer.received;
+    answered = x.answer.answered;
+  };
+  at_take = x.at_take;
+  at_give = x.at_give;
+}
+
+abbrev Finds : RelayRun → History → Type 0
+Finds run h = (message : Message) (before : History) → IsGiven run h message before
+    → IsFound run.companion.local h message before
+
+-- an entry that gives none
+skip : (run : RelayRun) (older : History) (entry : Entry) → given_by run entry older ≡ None → Finds run older
+    → Finds run (entry ∷ older)
+skip run older entry none finds message before (inl here) =
+    absurd (let e : None ≡ Some message = sym none ∙ here.0 in cc)
+skip run older entry none finds message before (inr later) = found_later entry (finds message before later)
+
+ok_some : (x : Result Message RelayFault) (message : Message) → result_ok x ≡ Some message → x ≡ Ok message
+ok_some (Ok m) message e = cc
+ok_some (Err fault) message e = absurd (cc)
+
+-- the request was taken just before the sleeps, if there were any
+taken_before : (take : ℕ) (b h : History) (slept : Bool) → h ≡ Clock why.Take take ∷ b
+    → Once (λ entry older. (entry ≡ Clock why.Take take) × (older ≡ b)) (sleep_entries slept ++ h)
+taken_before take b h false e =
+    subst (λ (x : History). Once (λ entry older. (entry ≡ Clock why.Take take) × (older ≡ b)) x) (sym e)
+    (inl (refl, refl))
+taken_before take b h true e =
+    inr (subst (λ (x : History). Once (λ entry older. (entry ≡ Clock why.Take take) × (older ≡ b)) x) (sym e)
+    (inl (refl, refl)))
+
+last_before : (take : ℕ) (b h : History) (slept : Bool) → h ≡ Clock why.Take take ∷ b
+    → length b ≡ last_take (sleep_entries slept ++ h)
+last_before take b h false e = sym (ap last_take e)
+last_before take b h true e = sym (ap last_take e)
+
+-- it is given with a reading
+gives : (run : RelayRun) (h : History) (reading : ℕ) (slept : Bool) (message : Message) (place : Place)
+    → Shows run.companion.local h place
+    → given_at run reading (sleep_entries slept ++ h) place ≡ Some message
+    → IsFound run.companion.local (Clock why.Give reading ∷ (sleep_entries slept ++ h)) message
+    (sleep_entries slept ++ h)
+gives run h reading slept message (Received peer ticket) shape is = record {
+  answer = record {
+    request = shape.request;
+    ticket = ticket;
+    take = shape.take;
+    give = reading;
+    before_take = shape.before;
+    before_give = sleep_entries slept ++ h;
+    taken = taken_before shape.take shape.before h slept shape.just;
+    given = inl (refl, refl);
+    received = shape.received;
+    answered =
+        ok_some (answered_after run.companion.local (sleep_entries slept ++ h) reading ticket) message is;
+  };
+  at_take = last_before shape.take shape.before h slept shape.just;
+  at_give = refl;
+}
+gives run h reading slept message place shape is = absurd (cc)
+
+module _ (run : RelayRun) (older : History) (shape : Shape run older) (finds : Finds run older) where
+  slept_finds : (slept : Bool) → Finds run (sleep_entries slept ++ older)
+  slept_finds false = finds
+  slept_finds true = skip run older Slept refl finds
+
+  slept_place : (slept : Bool) → (progress_of run (sleep_entries slept ++ older)).place ≡ (progress_of run older).place
+  slept_place false = refl
+  slept_place true = refl
+
+  give_finds : (reading : ℕ) (slept : Bool) → Finds run (Clock why.Give reading ∷ (sleep_entries slept ++ older))
+  give_finds reading slept message before (inl here) =
+      subst (λ (x : History). IsFound run.companion.local (Clock why.Give reading ∷ (sleep_entries slept ++ older))
+      message x) here.1
+      (gives run older reading slept message (progress_of run older).place shape
+      (sym (ap (λ (place : Place). given_at run reading (sleep_entries slept ++ older) place) (slept_place slept))
+      ∙ here.0))
+  give_finds reading slept message before (inr later) =
+      found_later (Clock why.Give reading) (slept_finds slept message before later)
+
+  clock_finds : (w : Why) (reading : ℕ) (slept : Bool) → Finds run (Clock w reading ∷ (sleep_entries slept ++ older))
+  clock_finds why.Turn reading slept = skip run _ (Clock why.Turn reading) refl (slept_finds slept)
+  clock_finds why.Ask reading slept = skip run _ (Clock why.Ask reading) refl (slept_finds slept)
+  clock_finds why.Land reading slept = skip run _ (Clock why.Land reading) refl (slept_finds slept)
+  clock_finds why.Take reading slept = skip run _ (Clock why.Take reading) refl (slept_finds slept)
+  clock_finds why.Give reading slept = give_finds reading slept
+
+  opening_finds : (o : Option (ℕ × Kind)) → Finds run (opening_entries o ++ older)
+  opening_finds None = skip run older NoneCame refl finds
+  opening_finds (Some (peer, k)) = skip run older (Accepted peer k) refl finds
+
+  datagram_finds : (room : List ℕ) (o : Option (ℕ × ℕ)) → Finds run (datagram_entries room o ++ older)
+  datagram_finds room None = skip run older TookNone refl finds
+  datagram_finds room (Some (peer, count)) = skip run older (Took peer (take count room)) refl finds
+
+  text_finds : (peer : ℕ) (x : SessionHeard) → Finds run (heard_entries peer x ++ older)
+  text_finds peer heard.Quiet = skip run older (Quiet peer) refl finds
+  text_finds peer (heard.Text text) = skip run older (Heard peer text) refl finds
+  text_finds peer heard.Closed = skip run older (Closed peer) refl finds
+
+  writing_finds : (peer : ℕ) (text : List ℕ) (x : Outcome) → Finds run (wrote_entries peer text x ++ older)
+  writing_finds peer text outcome.Sent = skip run older (Wrote peer text) refl finds
+  writing_finds peer text outcome.Gone = skip run older (Gone peer) refl finds
+
+  call_finds : (d : Due) (call : History) → MayAdd d call → Finds run (call ++ older)
+  call_finds (Listen host port) call may =
+      subst (λ (x : History). Finds run (x ++ older)) (sym may) (skip run older (Listening host port) refl finds)
+  call_finds (Now w) call may =
+      subst (λ (x : History). Finds run (x ++ older)) (sym may.1) (clock_finds w may.0.reading may.0.slept)
+  call_finds (Dial k to) call (inl may) =
+      subst (λ (x : History). Finds run (x ++ older)) (sym may.1)
+      (skip run (Dialling k to ∷ older) (Dialled k may.0) refl (skip run older (Dialling k to) refl finds))
+  call_finds (Dial k to) call (inr may) =
+      subst (λ (x : History). Finds run (x ++ older)) (sym may)
+      (skip run (Dialling k to ∷ older) (NotDialled k) refl (skip run older (Dialling k to) refl finds))
+  call_finds Accept call may =
+      subst (λ (x : History). Finds run (x ++ older)) (sym may.1) (opening_finds may.0)
+  call_finds (SendDatagram peer bytes) call may =
+      subst (λ (x : History). Finds run (x ++ older)) (sym may) (skip run older (Sent peer bytes) refl finds)
+  call_finds TakeDatagram call may =
+      subst (λ (x : History). Finds run (x ++ older)) (sym may.2) (datagram_finds may.0 may.1)
+  call_finds (TakeText peer) call may =
+      subst (λ (x : History). Finds run (x ++ older)) (sym may.1) (text_finds peer may.0)
+  call_finds (SendText peer text) call may =
+      subst (λ (x : History). Finds run (x ++ older)) (sym may.1) (writing_finds peer text may.0)
+  call_finds (HangUp peer) call may =
+      subst (λ (x : History). Finds run (x ++ older)) (sym may) (skip run older (HungUp peer) refl finds)
+  call_finds (Ends ended) call may = absurd may
+
+finds_all : (run : RelayRun) (h : History) → IsProperRelay run h → Finds run h
+finds_all run [] Empty = λ message before once. absurd once
+finds_all run h (More {older} call may proper) =
+    call_finds run older (shape_of run older proper) (finds_all run older proper)
+    (due_at run (progress_of run older).facts older (progress_of run older).place) call may
+
+-- ---- the laws
+true_at : (world : World) (tv_error : ℕ) (moment_of : ℕ → ℕ) (message : Message) (before : History) (take give : ℕ)
+    → take ≡ last_take before → give ≡ length before
+    → IsTrueResponse world tv_error (moment_of take) (moment_of give) message
+    → IsTrueResponse world tv_error (moment_of (last_take before)) (moment_of (length before)) message
+true_at world tv_error moment_of message before take give is_take is_give x =
+    subst (λ (n : ℕ). IsTrueResponse world tv_error (moment_of (last_take before)) (moment_of n) message) is_give
+    (subst (λ (n : ℕ). IsTrueResponse world tv_error (moment_of n) (moment_of give) message) is_take x)
+
+pub given_is_true : GivenIsTrue
+given_is_true errors world who run history moment_of message before proper for range lawful explains given =
+    let x : IsFound run.companion.local history message before = finds_all run history proper message before given in
+    let is : IsTrueResponse world errors.tv (moment_of (last_take before)) (moment_of (length before)) message =
+    true_at world errors.tv moment_of message before (length x.answer.before_take) (length x.answer.before_give)
+    x.at_take (ap length x.at_give)
+    (two.answers_are_true errors world who run.companion.local history moment_of message for range lawful explains
+    x.answer) in
+    record { response = is; truthful = two.true_is_truthful world errors.tv _ _ message is }
+
+from_run : (run : RelayRun) (history : History) (moment_of second_moment_of : ℕ → ℕ) (landed : LandedAnswer)
+    (older : History) → Finds run history → IsFromRun run history moment_of second_moment_of landed older
+    → IsRelayed run.companion.local history moment_of second_moment_of landed older
+from_run run history moment_of second_moment_of landed older finds x =
+    let y : IsFound run.companion.local history landed.message x.before = finds landed.message x.before x.given in
+    record {
+      answer = y.answer;
+      ask = x.ask;
+      asked = x.asked;
+      sent_before = subst (λ (n : ℕ). second_moment_of x.ask ≤ moment_of n) (sym y.at_take) x.sent_before;
+      landed_after =
+          subst (λ (h : History). moment_of (length h) ≤ second_moment_of (length older)) (sym y.at_give)
+          x.landed_after;
+    }
+
+each_relayed : (run : RelayRun) (history : History) (moment_of second_moment_of : ℕ → ℕ) (second_own : Local)
+    (second_history : History) → Finds run history
+    → Each (FromRunAt run history moment_of second_own second_moment_of) second_history
+    → Each (RelayedAt run.companion.local history moment_of second_own second_moment_of) second_history
+each_relayed run history moment_of second_moment_of second_own [] finds each = tt
+each_relayed run history moment_of second_moment_of second_own (entry ∷ older) finds each = (
+  by (landed_answer entry older) each.0,
+  each_relayed run history moment_of second_moment_of second_own older finds each.1,
+)
+  where
+    by : (o : Option LandedAnswer)
+        → IfSome o (λ landed. IsTrue (is_possible second_own landed (landed_answers older))
+        → IsFromRun run history moment_of second_moment_of landed older)
+        → IfSome o (λ landed. IsTrue (is_possible second_own landed (landed_answers older))
+        → IsRelayed run.companion.local history moment_of second_moment_of landed older)
+    by None x = tt
+    by (Some landed) x =
+        λ possible. from_run run history moment_of second_moment_of landed older finds (x possible)
+
+pub second_hops_are_true : SecondHopsAreTrue
+second_hops_are_true errors world who run history moment_of second second_own second_history second_moment_of proper for
+    second_for range lawful explains second_lawful happens each =
+    two.two_hops_are_true errors world who run.companion.local history moment_of second second_own second_history
+    second_moment_of for second_for range lawful explains second_lawful happens
+    (each_relayed run history moment_of second_moment_of second_own second_history (finds_all run history proper) each)
