@@ -1,8 +1,7 @@
 -- What the dials of a turn make of a relay's run.
-use Rattle.std.proofs.Common.{◌≡◌, ℕ, ◌≤◌, ◌<◌, arith, ap, sym, ◌∙◌, subst, refl, Bool, true, false, inl, inr}
-use Rattle.std.proofs.Common.{List, [], ◌∷◌, ◌++◌, Option, Some, None, Result, Ok, Err}
-use Rattle.std.specs.Prelude.{is_some, IfSome}
-use Rattle.css_model.specs.declared.Kind.{Kind}
+use Rattle.std.proofs.Common.{◌≡◌, ℕ, ap, sym, ◌∙◌, subst, refl, true, false, inl, inr}
+use Rattle.std.proofs.Common.{[], ◌∷◌, ◌++◌, Option, Some, None, Result, Ok, Err}
+use Rattle.std.specs.Prelude.{is_some}
 use Rattle.css_model.specs.declared.Kind.TheVariants as kind
 use Rattle.css_model.specs.History.{Address, Dialling, Dialled, NotDialled, History}
 use Rattle.css_cii.specs.declared.name.CiiName.TheVariants.{WcUrl}
@@ -15,10 +14,9 @@ use Rattle.css_drive.specs.CompanionStanding.{Shown, HasDialled, GivesPlace}
 use Rattle.css_drive.specs.Ends.{MayEnd}
 use Rattle.css_drive.specs.Proper.{Due, Dial}
 use Rattle.css_drive.specs.declared.driven.Driven.{Driven}
-use Rattle.css_drive.specs.declared.driven.Driven.TheVariants as driven
 use Rattle.css_drive.proofs.CompanionCalls.{bad_place, bad_quiet}
 use Rattle.css_drive_relay.specs.Places.{Facts, Place, Begun, Called, Progress, after}
-use Rattle.css_drive_relay.specs.Due.{due_at, from_wc, from_ask, from_cii}
+use Rattle.css_drive_relay.specs.Due.{due_at, from_wc, from_ask}
 use Rattle.css_drive_relay.specs.Standing.{KnowsPeers, Stands, Comes, Stops, facts_in, stood}
 use Rattle.css_drive_relay.specs.declared.config.RelayRun.{RelayRun}
 use Rattle.css_drive_relay.specs.declared.live.Live.{Live}

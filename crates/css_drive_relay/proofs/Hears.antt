@@ -1,9 +1,8 @@
 -- What the texts of sessions make of a relay's run.
-use Rattle.std.proofs.Common.{◌≡◌, ℕ, ◌≤◌, arith, ap, sym, ◌∙◌, subst, refl, Bool, true, false, cond}
-use Rattle.std.proofs.Common.{List, [], ◌∷◌, ◌++◌, Option, Some, None, Result, Ok, Err}
+use Rattle.std.proofs.Common.{◌≡◌, ℕ, ◌≤◌, ap, sym, ◌∙◌, subst, refl, cond}
+use Rattle.std.proofs.Common.{List, [], ◌∷◌, Option, Some, None, Result, Ok, Err}
 use Rattle.std.specs.Prelude.{All, IfSome, MatchResult}
-use Rattle.std.proofs.lemmas.List.Elements.{All-head, All-tail, All-nil, All-cons}
-use Rattle.css_model.specs.declared.Kind.{Kind}
+use Rattle.std.proofs.lemmas.List.Elements.{All-head, All-tail, All-nil}
 use Rattle.css_model.specs.declared.Kind.TheVariants as kind
 use Rattle.css_model.specs.History.{Quiet, Heard, Closed, Wrote, Gone, HungUp, History}
 use Rattle.css_outside.specs.Outsides.{with_entries}
@@ -17,13 +16,12 @@ use Rattle.css_relay.specs.Relays.{Relay, wc_url_of, relayed_state}
 use Rattle.css_drive.specs.CompanionDue.{refusal_of, end_by}
 use Rattle.css_drive.specs.CompanionStanding.{Shown, Adds, Failed, IsRefusal}
 use Rattle.css_drive.specs.Ends.{MayEnd}
-use Rattle.css_drive.specs.Proper.{Due, TakeText, SendText, HangUp, Ends}
+use Rattle.css_drive.specs.Proper.{TakeText, SendText, HangUp, Ends}
 use Rattle.css_drive.specs.declared.driven.Driven.{Driven}
-use Rattle.css_drive.specs.declared.driven.Driven.TheVariants as driven
 use Rattle.css_drive.proofs.CompanionCalls.{refusal_ends, refusal_quiet, lawful_plain}
-use Rattle.css_drive_relay.specs.Places.{Facts, Place, Progress, Asked, Welcomed, Telling, Dropping, Refused, after}
+use Rattle.css_drive_relay.specs.Places.{Facts, Progress, Asked, Welcomed, Dropping, after}
 use Rattle.css_drive_relay.specs.Places.{lost, next_asked, welcomed, telling, telling_if, published, television_told}
-use Rattle.css_drive_relay.specs.Due.{due_at, due_for}
+use Rattle.css_drive_relay.specs.Due.{due_for}
 use Rattle.css_drive_relay.specs.Standing.{Knows, KnowsPeers, IsAccepted, IsTelevision, Runs, Stands, IsAt, Stops, Arrives}
 use Rattle.css_drive_relay.specs.Standing.{facts_in, stood, named}
 use Rattle.css_drive_relay.specs.declared.config.RelayRun.{RelayRun}

@@ -19,8 +19,8 @@ use Rattle.css_model.specs.declared.Kind.{Kind}
 use Rattle.css_model.specs.declared.Kind.TheVariants as kind
 use Rattle.css_model.specs.declared.Why.{Why}
 use Rattle.css_model.specs.declared.Why.TheVariants as why
-use Rattle.css_model.specs.History.{Entry, History, Address, Listening, Slept, Clock, Dialling, Dialled, NotDialled}
-use Rattle.css_model.specs.History.{Accepted, NoneCame, Sent, Took, TookNone, Quiet, Heard, Closed, Wrote, Gone, HungUp}
+use Rattle.css_model.specs.History.{History, Address, Listening, Slept, Clock, Dialling, Dialled, NotDialled}
+use Rattle.css_model.specs.History.{NoneCame, Sent, Took, TookNone, Quiet, Heard, Closed, Wrote, Gone, HungUp}
 use Rattle.css_model.specs.History.{request_in}
 use Rattle.css_model.specs.Wire.{encoded, request_at}
 use Rattle.css_outside.specs.Outsides.{opening_entries, datagram_entries, heard_entries, wrote_entries, sleep_entries}

@@ -1,7 +1,7 @@
 -- What the sessions that others open make of a relay's run.
-use Rattle.std.proofs.Common.{◌≡◌, ℕ, ◌+◌, ◌≤◌, ◌<◌, arith, ap, sym, ◌∙◌, subst, refl, Bool, true, false, cond}
+use Rattle.std.proofs.Common.{◌≡◌, ℕ, ◌+◌, ◌≤◌, ◌<◌, arith, ap, sym, ◌∙◌, subst, refl, Bool, true, false}
 use Rattle.std.proofs.Common.{List, [], ◌∷◌, ◌++◌, Option, Some, None, Result, Ok, Err}
-use Rattle.std.specs.Prelude.{All, length, IfSome, MatchResult}
+use Rattle.std.specs.Prelude.{All, length, MatchResult}
 use Rattle.std.proofs.lemmas.List.Elements.{All-head, All-tail, All-nil, All-cons}
 use Rattle.css_model.specs.declared.Kind.{Kind}
 use Rattle.css_model.specs.History.{Accepted, NoneCame, Wrote, Gone, HungUp, History}
@@ -14,12 +14,12 @@ use Rattle.css_drive.specs.declared.driven.Driven.{Driven}
 use Rattle.css_drive.proofs.TvSteps.{below_later}
 use Rattle.css_drive.specs.Proper.{Accept, SendText, HangUp}
 use Rattle.css_outside.specs.declared.calls.Wrote.TheVariants as outcome
-use Rattle.css_drive_relay.specs.Places.{Facts, Place, Progress, Asked, Welcomed, Greeting, Rejecting, Served, after}
-use Rattle.css_drive_relay.specs.Places.{lost, next_asked, welcomed, is_kept, opened_if, at}
+use Rattle.css_drive_relay.specs.Places.{Facts, Progress, Served, after}
+use Rattle.css_drive_relay.specs.Places.{lost, next_asked, welcomed, is_kept, opened_if}
 use Rattle.css_drive_relay.specs.Standing.{KnowsPeers, IsAccepted, IsOpen, IsNumbered, Runs, Stands, IsAt, Arrives, facts_in, stood, named}
 use Rattle.css_drive_relay.specs.declared.config.RelayRun.{RelayRun}
 use Rattle.css_drive_relay.specs.declared.live.Live.{Live}
-use Rattle.css_drive_relay.proofs.Peers.{peers_quiet, peers_named, accepted, television, unused, still, all_in, all_without}
+use Rattle.css_drive_relay.proofs.Peers.{accepted, television, unused, still, all_without}
 use Rattle.css_drive_relay.proofs.Serves.{same_faults, same_peers}
 use Rattle.css_drive_relay.proofs.Steps.{knows_plain, lawful, runs_more, runs_on, stops_by_fault}
 
@@ -88,8 +88,7 @@ module _ (live : Live) {run : RelayRun} {start now next : Shown} {history : Hist
 
       numbered : IsNumbered next.counts.peers (Accepted peer k ∷ history)
       numbered =
-          let before = s.runs.peers.unused.numbered in
-          (
+          let before = s.runs.peers.unused.numbered in (
             (omega (arith, is), (still s.runs.peers le).0),
             (below_later (now.counts.peers + 1) peer history (omega (arith, lt)) before.0, before.1),
           )

@@ -1,5 +1,5 @@
 -- Which sessions were accepted, and which was dialled, as a history goes on.
-use Rattle.std.proofs.Common.{◌≡◌, ℕ, ◌≤◌, ◌<◌, arith, ap, sym, ◌∙◌, refl, subst, Bool, true, false, cond, List, [], ◌∷◌, ◌++◌}
+use Rattle.std.proofs.Common.{◌≡◌, ℕ, ◌≤◌, ◌<◌, arith, ap, sym, ◌∙◌, refl, subst, Bool, true, false, cond, List, [], ◌∷◌}
 use Rattle.std.proofs.Common.{Option, Some, None, eq-eqb, add-one}
 use Rattle.std.specs.Prelude.{All, IfSome, ◌==◌, ◌+◌, not, nat_lt}
 use Rattle.std.specs.List.{insert}
@@ -10,7 +10,7 @@ use Rattle.css_model.specs.declared.Kind.{Kind}
 use Rattle.css_model.specs.declared.Kind.TheVariants as kind
 use Rattle.css_model.specs.History.{Address, Dialled, Dialling, History}
 use Rattle.css_companion.specs.Meanings.{kind_of}
-use Rattle.css_drive_relay.specs.Places.{Facts, Place, Called, Progress, place, with_peer, without}
+use Rattle.css_drive_relay.specs.Places.{Facts, Called, Progress, place, with_peer, without}
 use Rattle.css_drive.proofs.TvSteps.{below_later}
 use Rattle.css_drive_relay.specs.Standing.{IsAccepted, IsTelevision, IsOpen, IsNumbered, AreUnused, KnowsPeers, named}
 

@@ -13,8 +13,7 @@ use Rattle.css_model.specs.declared.Kind.{Kind}
 use Rattle.css_model.specs.declared.Why.{Why}
 use Rattle.css_model.specs.declared.Why.TheVariants as why
 use Rattle.css_model.specs.WallClock.{Local}
-use Rattle.css_model.specs.World.{World, Errors, IsWorldFor, IsInRange}
-use Rattle.css_model.specs.Explains.{IsLawful, Explains}
+use Rattle.css_model.specs.World.{World}
 use Rattle.css_model.specs.History.{Entry, History, Each, Once, LandedAnswer, landed_answer, landed_answers, is_possible}
 use Rattle.css_model.specs.History.{Listening, Slept, Clock, Dialling, Dialled, NotDialled, Accepted, NoneCame, Sent}
 use Rattle.css_model.specs.History.{Took, TookNone, Quiet, Heard, Closed, Wrote, Gone, HungUp, request_in}
@@ -31,7 +30,7 @@ use Rattle.css_drive_relay.specs.Places as places
 use Rattle.css_drive_relay.specs.Places.{Place, Taken, Received, Asking, Welcomed, Greeting, Telling, Asked, Rejecting}
 use Rattle.css_drive_relay.specs.Places.{Dropping, Over, Facts, progress_of, is_kept, next_asked, telling, telling_if}
 use Rattle.css_drive_relay.specs.Due.{due_at, from_taken, IsProperRelay}
-use Rattle.css_drive_relay.specs.SecondHop.{given_at, given_by, IsGiven, last_take, IsTrueAnswer, GivenIsTrue}
+use Rattle.css_drive_relay.specs.SecondHop.{given_at, given_by, IsGiven, last_take, GivenIsTrue}
 use Rattle.css_drive_relay.specs.SecondHop.{IsFromRun, FromRunAt, SecondHopsAreTrue}
 use Rattle.css_drive_relay.specs.Told.{relayed}
 use Rattle.css_drive_relay.specs.declared.config.RelayRun.{RelayRun}

@@ -1,14 +1,13 @@
 -- What a relay's requests, landings and answers make of its run.
-use Rattle.std.proofs.Common.{◌≡◌, ℕ, ◌≤◌, arith, ap, sym, ◌∙◌, subst, refl, Bool, true, false, cond}
+use Rattle.std.proofs.Common.{◌≡◌, ℕ, ◌≤◌, arith, ap, sym, ◌∙◌, refl, Bool, true, false, cond}
 use Rattle.std.proofs.Common.{List, [], ◌∷◌, ◌++◌, take, Option, Some, None, Result, Ok, Err}
 use Rattle.std.specs.Prelude.{is_some, ◌&&◌, MatchResult}
 use Rattle.std.specs.Option.{option_map}
-use Rattle.css_model.specs.declared.Stamp.{Stamp}
 use Rattle.css_model.specs.declared.Message.{Message}
 use Rattle.css_model.specs.declared.Why.{Why}
 use Rattle.css_model.specs.declared.Why.TheVariants as why
 use Rattle.css_model.specs.Explains.{IsLawful}
-use Rattle.css_model.specs.History.{Slept, Clock, Sent, Took, TookNone, History, request_in, request_by}
+use Rattle.css_model.specs.History.{Clock, Sent, Took, TookNone, History, request_in}
 use Rattle.css_model.specs.Wire.{encoded, request_at}
 use Rattle.css_model.specs.WallClock.{Local}
 use Rattle.css_outside.specs.Outsides.{Counts, with_entries, clock_entries, sleep_entries}
@@ -20,16 +19,15 @@ use Rattle.css_relay.specs.declared.fault.RelayFault.{RelayFault}
 use Rattle.css_drive.specs.CompanionDue.{send_to}
 use Rattle.css_drive.specs.CompanionStanding.{Shown, Adds, Failed}
 use Rattle.css_drive.specs.CompanionTurns.{is_asking}
-use Rattle.css_drive.specs.Proper.{Due, Now, SendDatagram, TakeDatagram}
+use Rattle.css_drive.specs.Proper.{Due, SendDatagram, TakeDatagram}
 use Rattle.css_drive.specs.declared.driven.Driven.{Driven}
 use Rattle.css_drive.proofs.CompanionCalls.{lawful_plain}
-use Rattle.css_drive_relay.specs.Places.{Facts, Place, Progress, Asking, Requested, Taken, Received, Answers, Served}
-use Rattle.css_drive_relay.specs.Places.{after, received, answering, at}
+use Rattle.css_drive_relay.specs.Places.{Facts, Place, Asking, Requested, Taken, Received, Answers, Served}
+use Rattle.css_drive_relay.specs.Places.{after, received, answering}
 use Rattle.css_drive_relay.specs.Due.{due_at, from_ask, from_take, from_taken}
 use Rattle.css_drive_relay.specs.Standing.{Knows, KnowsPeers, Runs, Stands, IsAt, Comes, Arrives, HasRead, facts_in, stood, named}
 use Rattle.css_drive_relay.specs.declared.config.RelayRun.{RelayRun}
 use Rattle.css_drive_relay.specs.declared.live.Live.{Live}
-use Rattle.css_drive_relay.proofs.Responses.{answer_is_no_request}
 use Rattle.css_drive_relay.proofs.Dialling.{comes}
 use Rattle.css_drive_relay.proofs.Peers.{peers_quiet, still}
 use Rattle.css_drive_relay.proofs.Steps.{knows_plain, lawful, runs_more, runs_on, runs_read, kinds_read, numbers_read, stops_by_fault}

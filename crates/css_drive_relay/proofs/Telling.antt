@@ -1,5 +1,5 @@
 -- What a session of a relay was told, and what it is still to be told, as the run goes on.
-use Rattle.std.proofs.Common.{◌≡◌, ℕ, ◌+◌, ◌≤◌, Bool, true, false, cond, eqb, List, [], ◌∷◌, ◌++◌, length, Option}
+use Rattle.std.proofs.Common.{◌≡◌, ℕ, ◌≤◌, Bool, true, false, cond, eqb, List, [], ◌∷◌, ◌++◌, length, Option}
 use Rattle.std.proofs.Common.{Some, None, refl, sym, ap, subst, ◌∙◌, arith, not}
 use Rattle.std.specs.Prelude.{◌||◌, ◌&&◌, ⊤}
 use Rattle.std.proofs.lemmas.Bool.Decides.{nat_tests}
@@ -340,11 +340,14 @@ module _ {peer : ℕ} {states : Option SessionStates} {last : State} {sent : Lis
             few = t.few;
             published = refl;
             live =
-                λ e. ((
-                  record { opening = s.opening; later = state ∷ s.later },
-                  ap (λ (x : Option SessionStates). with_state (Some state) x) o.0.1,
-                  refl,
-                ), o.1);
+                λ e. (
+                  (
+                    record { opening = s.opening; later = state ∷ s.later },
+                    ap (λ (x : Option SessionStates). with_state (Some state) x) o.0.1,
+                    refl,
+                  ),
+                  o.1,
+                );
             waits = λ e. waits_published peer f text e;
             once = t.once;
             once_left = once_published peer f text t.once;

@@ -10,17 +10,16 @@ use Rattle.css_companion.specs.declared.fault.CompanionFault.{CompanionFault}
 use Rattle.css_drive.specs.CompanionDue.{dial_to, dial_first, send_to, refusal_of}
 use Rattle.css_drive.specs.CompanionTurns.{is_asking}
 use Rattle.css_drive.specs.Proper.{Due, Listen, Now, Dial, Accept, SendDatagram, TakeDatagram, TakeText, SendText}
-use Rattle.css_drive.specs.Proper.{HangUp, Ends, MayAdd, IsProper, Empty, More}
+use Rattle.css_drive.specs.Proper.{HangUp, Ends, MayAdd, Empty, More}
 use Rattle.css_drive.specs.TvPeers.{has}
 use Rattle.css_drive.specs.TvRan.{AreBelow, AreNumbered}
 use Rattle.css_drive.specs.TvTold.{sent_to, is_gone, lost}
 use Rattle.css_drive.specs.declared.driven.Driven.{Driven}
-use Rattle.css_drive.specs.declared.driven.Driven.TheVariants as driven
 use Rattle.css_model.specs.declared.Kind.{Kind}
 use Rattle.css_model.specs.declared.Kind.TheVariants as kind
 use Rattle.css_model.specs.declared.Why.{Why}
 use Rattle.css_model.specs.declared.Why.TheVariants as why
-use Rattle.css_model.specs.History.{Entry, History, Address, Listening, Slept, Clock, Dialling, Dialled, NotDialled}
+use Rattle.css_model.specs.History.{History, Address, Listening, Slept, Clock, Dialling, Dialled, NotDialled}
 use Rattle.css_model.specs.History.{Accepted, NoneCame, Sent, Took, TookNone, Quiet, Heard, Closed, HungUp, request_in}
 use Rattle.css_model.specs.Wire.{encoded, request_at}
 use Rattle.css_outside.specs.Outsides.{opening_entries, datagram_entries, heard_entries, wrote_entries, sleep_entries}
@@ -36,7 +35,7 @@ use Rattle.css_drive_relay.specs.Places as places
 use Rattle.css_drive_relay.specs.Places.{Place, Begins, Begun, Called, Asking, Requested, Taken, Received, Answers}
 use Rattle.css_drive_relay.specs.Places.{Served, Greeting, Rejecting, Welcomed, Refused, Telling, Asked, Dropping, Over}
 use Rattle.css_drive_relay.specs.Places.{Facts, Progress, progress_of, all_open, is_kept, next_asked, telling, without}
-use Rattle.css_drive_relay.specs.Due.{due, due_at, final, from_hang_ups, from_end, from_texts, from_ask, from_wc, from_dial}
+use Rattle.css_drive_relay.specs.Due.{due_at, final, from_hang_ups, from_end, from_texts, from_ask, from_wc, from_dial}
 use Rattle.css_drive_relay.specs.Due.{from_taken, IsProperRelay}
 use Rattle.css_drive_relay.specs.Told.{relayed, published_at, unless_refused, last_published, while_open, with_state}
 use Rattle.css_drive_relay.specs.Told.{states_of, SessionsAreTold}

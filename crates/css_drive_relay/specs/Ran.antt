@@ -1,5 +1,5 @@
 -- What a relay's run comes to.
-use Rattle.std.specs.Prelude.{◌≡◌, ◌≢◌, ℕ, Option}
+use Rattle.std.specs.Prelude.{◌≡◌, ◌≢◌, Option}
 use Rattle.std.specs.Str.{IsUtf8}
 use Rattle.css_model.specs.Explains.{IsLawful}
 use Rattle.css_model.specs.History.{History}
