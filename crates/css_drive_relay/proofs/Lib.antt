@@ -8,6 +8,7 @@ pub mod Hears
 pub mod Ends
 pub mod Answering
 pub mod Telling
+pub mod PlainDues
 pub mod ToldSessions
 pub mod Made
 pub mod SecondHop

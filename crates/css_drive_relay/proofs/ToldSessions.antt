@@ -40,6 +40,7 @@ use Rattle.css_drive_relay.specs.Due.{from_taken, IsProperRelay}
 use Rattle.css_drive_relay.specs.Told.{relayed, published_at, unless_refused, last_published, while_open, with_state}
 use Rattle.css_drive_relay.specs.Told.{states_of, SessionsAreTold}
 use Rattle.css_drive_relay.specs.declared.config.RelayRun.{RelayRun}
+use Rattle.css_drive_relay.proofs.PlainDues.{IsPlain, plain_due}
 use Rattle.css_drive_relay.proofs.Telling.{Tells, waiting, owed, owed_if, text_at, none_owed, stays, loses, opens}
 use Rattle.css_drive_relay.proofs.Telling.{publishes, wrote, went, waiting_telling, owed_telling}
 
@@ -229,76 +230,23 @@ abbrev IsNoText : Due → Type 0
 IsNoText (SendText peer text) = ⊥
 IsNoText _ = ⊤
 
-no_text_hanging : (ended : Driven) (peers : List ℕ) → IsNoText (from_hang_ups ended peers)
-no_text_hanging ended [] = tt
-no_text_hanging ended (peer ∷ peers) = tt
-
-no_text_ending : (run : RelayRun) (f : Facts) (history : History) → IsNoText (from_end run f history)
-no_text_ending run f history = by (nat_lt f.turns run.turns)
-  where
-    by : (b : Bool) → IsNoText (cond b (Now why.Turn) (from_hang_ups (final run f) (all_open f)))
-    by true = tt
-    by false = no_text_hanging (final run f) (all_open f)
-
-no_text_asking : (run : RelayRun) (left : List ℕ) (f : Facts) (history : History)
-    → IsNoText (from_texts run left f history)
-no_text_asking run [] f history = no_text_ending run f history
-no_text_asking run (peer ∷ left) f history = tt
-
-no_text_request : (run : RelayRun) (f : Facts) (history : History) → IsNoText (from_ask run f history)
-no_text_request run f history = by (is_some f.wc && is_asking run.ask_every f.turn f.asked)
-  where
-    by : (b : Bool) → IsNoText (cond b (Now why.Ask) TakeDatagram)
-    by true = tt
-    by false = tt
-
-no_text_dialling : (o : Option ℕ) (k : Kind) (property : CiiName) (url : Option (Result Address AddressFault))
-    (rest : Due) → IsNoText rest → IsNoText (dial_to o k property url rest)
-no_text_dialling (Some peer) k property url rest quiet = quiet
-no_text_dialling None k property None rest quiet = quiet
-no_text_dialling None k property (Some (Err bad)) rest quiet = tt
-no_text_dialling None k property (Some (Ok to)) rest quiet = tt
-
-no_text_wc : (run : RelayRun) (f : Facts) (history : History) → IsNoText (from_wc run f history)
-no_text_wc run f history = no_text_dialling f.wc kind.Wc _ _ (from_ask run f history) (no_text_request run f history)
-
-no_text_first : (o : Option ℕ) (to : Address) (rest : Due) → IsNoText rest → IsNoText (dial_first o to rest)
-no_text_first (Some peer) to rest quiet = quiet
-no_text_first None to rest quiet = tt
-
-no_text_dialled : (run : RelayRun) (k : Kind) (f : Facts) (history : History) → IsNoText (from_dial run k f history)
-no_text_dialled run kind.Cii f history = no_text_wc run f history
-no_text_dialled run kind.Wc f history = no_text_request run f history
-no_text_dialled run kind.Ts f history = no_text_request run f history
+no_text_plain : (d : Due) → IsPlain d → IsNoText d
+no_text_plain (SendText peer text) plain = plain
+no_text_plain d plain = tt
 
 no_text_sending : (o : Option ℕ) (bytes : List ℕ) → IsNoText (send_to o bytes)
 no_text_sending None bytes = tt
 no_text_sending (Some peer) bytes = tt
 
-no_text_taken : (b : Bool) → IsNoText (from_taken b)
-no_text_taken true = tt
-no_text_taken false = tt
-
 no_text : (run : RelayRun) (f : Facts) (history : History) (place : Place) → waiting place ≡ []
     → IsNoText (due_at run f history place)
-no_text run f history Begins e = tt
-no_text run f history Begun e = no_text_first f.cii run.cii (from_wc run f history) (no_text_wc run f history)
-no_text run f history (Called k) e = no_text_dialled run k f history
 no_text run f history (Asking reading) e = no_text_sending f.wc (encoded (request_at reading))
-no_text run f history Requested e = tt
-no_text run f history (Taken peer bytes) e = no_text_taken (is_some (request_in bytes))
-no_text run f history (Received peer ticket) e = tt
 no_text run f history (Answers peer datagram) e = tt
-no_text run f history Served e = tt
 no_text run f history (Greeting peer) e = absurd (let g : peer ∷ [] ≡ [] = e in cc)
-no_text run f history (Rejecting peer) e = tt
-no_text run f history (Welcomed peer) e = tt
-no_text run f history (Refused fault) e = tt
-no_text run f history (Telling text []) e = no_text_asking run f.peers f history
+no_text run f history (Telling text []) e =
+    no_text_plain (due_at run f history (Telling text [])) (plain_due run f history (Telling text []) tt)
 no_text run f history (Telling text (peer ∷ left)) e = absurd (let g : peer ∷ left ≡ [] = e in cc)
-no_text run f history (Asked left) e = no_text_asking run left f history
-no_text run f history (Dropping peer left) e = tt
-no_text run f history (Over left) e = no_text_hanging (final run f) left
+no_text run f history place e = no_text_plain (due_at run f history place) (plain_due run f history place tt)
 
 -- ---- a call
 abbrev Step : RelayRun → ℕ → History → History → Type 0
