@@ -11,4 +11,6 @@ pub mod Telling
 pub mod PlainDues
 pub mod ToldSessions
 pub mod Made
+pub mod DatagramPlaces
 pub mod SecondHop
+pub mod Sending

@@ -1,11 +1,12 @@
 -- The responses of a relay's whole run, and what they make true of a companion that accepts nothing else.
-use Rattle.std.specs.Prelude.{ℕ, ◌≡◌, ◌≤◌, [], ◌∷◌, length, Option, Some, None, IfSome, IsTrue}
+use Rattle.std.specs.Prelude.{ℕ, ◌≡◌, ◌≤◌, ◌⊎◌, List, [], ◌∷◌, length, Option, Some, None, IfSome, IsTrue, ⊤}
 use Rattle.std.specs.Result.{result_ok}
 use Rattle.css_model.specs.declared.Message.{Message}
 use Rattle.css_model.specs.declared.Why.TheVariants as why
 use Rattle.css_model.specs.WallClock.{Local}
+use Rattle.css_model.specs.Wire.{encoded, request_at}
 use Rattle.css_model.specs.World.{World, Errors, IsWorldFor, IsInRange}
-use Rattle.css_model.specs.History.{Entry, Clock, History, Each, Once, LandedAnswer, landed_answer, landed_answers}
+use Rattle.css_model.specs.History.{Entry, Clock, Sent, History, Each, Once, LandedAnswer, landed_answer, landed_answers}
 use Rattle.css_model.specs.History.{is_possible}
 use Rattle.css_model.specs.Explains.{IsLawful, WasAsked, HappensIn, Explains}
 use Rattle.css_relay.specs.Answers.{answered_after}
@@ -25,6 +26,31 @@ given_at run reading older _ = None
 abbrev pub given_by : RelayRun → Entry → History → Option Message
 given_by run (Clock why.Give reading) older = given_at run reading older (progress_of run older).place
 given_by run _ older = None
+
+-- The bytes are the datagram of the response that the run gave with the newest entry of a history.
+pub record IsResponse (run : RelayRun) (bytes : List ℕ) (history : History) : Type 0 where
+  pub reading : ℕ
+  pub before : History
+  pub message : Message
+  pub just : history ≡ Clock why.Give reading ∷ before
+  pub given : given_by run (Clock why.Give reading) before ≡ Some message
+  pub wire : bytes ≡ encoded message
+
+-- they are a request of the relay's own, at the reading of the newest entry
+pub record IsRequest (bytes : List ℕ) (history : History) : Type 0 where
+  pub reading : ℕ
+  pub before : History
+  pub just : history ≡ Clock why.Ask reading ∷ before
+  pub wire : bytes ≡ encoded (request_at reading)
+
+-- a datagram that is sent is either
+abbrev pub IsSentAt : RelayRun → Entry → History → Type 0
+IsSentAt run (Sent peer bytes) older = IsRequest bytes older ⊎ IsResponse run bytes older
+IsSentAt run _ older = ⊤
+
+-- Each datagram that a run sends is so.
+abbrev pub SentIsKnown : Type 0
+SentIsKnown = (run : RelayRun) (history : History) → IsProperRelay run history → Each (IsSentAt run) history
 
 -- the run gave this response after `before`
 abbrev pub IsGiven : RelayRun → History → Message → History → Type 0

@@ -1,7 +1,7 @@
 //! What is proved of every relay's run. Each law is the contract of a function that does nothing.
 ghost use Rattle.css_drive_relay.specs.Laws.{AnswersAreTrueTo};
 ghost use Rattle.css_drive_relay.specs.Made.{TurnsAreMade};
-ghost use Rattle.css_drive_relay.specs.SecondHop.{GivenIsTrue, SecondHopsAreTrue};
+ghost use Rattle.css_drive_relay.specs.SecondHop.{SentIsKnown, GivenIsTrue, SecondHopsAreTrue};
 ghost use Rattle.css_drive_relay.specs.Told.{SessionsAreTold};
 
 /// What a run sends in answer is the relay's answer to a request that it took. It is true in every world that explains
@@ -24,6 +24,12 @@ pub fn sessions_are_told()
 /// too. The calls are those of a run, which ended where it may.
 pub fn turns_are_made()
     ensures { TurnsAreMade }
+{}
+
+/// Each datagram that a whole run sent is a request of its own, at the reading just before, or the datagram of the
+/// response that it gave at the reading just before. The calls are those of a run.
+pub fn sent_is_known()
+    ensures { SentIsKnown }
 {}
 
 /// Each response that a whole run gave reads the television's wall clock, at the moment where its request was taken and
