@@ -1,11 +1,8 @@
 -- Why each response of a relay's whole run answers the request that was taken last before it.
 use Rattle.std.proofs.Common.{◌≡◌, ℕ, ◌≤◌, Bool, true, false, List, [], ◌∷◌, ◌++◌, Option, Some, None, length}
 use Rattle.std.proofs.Common.{refl, sym, ap, subst, ◌∙◌, inl, inr, take}
-use Rattle.std.specs.Prelude.{is_some, IfSome, IsTrue, ⊤, Result, Ok, Err}
+use Rattle.std.specs.Prelude.{IfSome, IsTrue, Result, Ok, Err}
 use Rattle.std.specs.Result.{result_ok}
-use Rattle.css_cii.specs.declared.state.State.{State}
-use Rattle.css_companion.specs.declared.fault.CompanionFault.{CompanionFault}
-use Rattle.css_drive.specs.CompanionDue.{refusal_of}
 use Rattle.css_drive.specs.Proper.{Due, Listen, Now, Dial, Accept, SendDatagram, TakeDatagram, TakeText, SendText}
 use Rattle.css_drive.specs.Proper.{HangUp, Ends, MayAdd, Empty, More}
 use Rattle.css_model.specs.declared.Message.{Message}
@@ -17,21 +14,20 @@ use Rattle.css_model.specs.WallClock.{Local}
 use Rattle.css_model.specs.World.{World}
 use Rattle.css_model.specs.History.{Entry, History, Each, Once, LandedAnswer, landed_answer, landed_answers, is_possible}
 use Rattle.css_model.specs.History.{Listening, Slept, Clock, Dialling, Dialled, NotDialled, Accepted, NoneCame, Sent}
-use Rattle.css_model.specs.History.{Took, TookNone, Quiet, Heard, Closed, Wrote, Gone, HungUp, request_in}
+use Rattle.css_model.specs.History.{Took, TookNone, Quiet, Heard, Closed, Wrote, Gone, HungUp}
 use Rattle.css_outside.specs.Outsides.{opening_entries, datagram_entries, heard_entries, wrote_entries, sleep_entries}
 use Rattle.css_outside.specs.declared.calls.Heard.{Heard as SessionHeard}
 use Rattle.css_outside.specs.declared.calls.Heard.TheVariants as heard
 use Rattle.css_outside.specs.declared.calls.Wrote.{Wrote as Outcome}
 use Rattle.css_outside.specs.declared.calls.Wrote.TheVariants as outcome
-use Rattle.css_relay.specs.Answers.{Ticket, received_after, answered_after, datagram_of}
+use Rattle.css_relay.specs.Answers.{answered_after}
 use Rattle.css_relay.specs.TwoHops.{IsAnswerOf, IsTrueResponse, IsRelayed, RelayedAt}
 use Rattle.css_relay.specs.declared.fault.RelayFault.{RelayFault}
 use Rattle.css_relay.proofs.TwoHops as two
-use Rattle.css_drive_relay.specs.Places as places
-use Rattle.css_drive_relay.specs.Places.{Place, Taken, Received, Asking, Welcomed, Greeting, Telling, Asked, Rejecting}
-use Rattle.css_drive_relay.specs.Places.{Dropping, Over, Facts, progress_of, is_kept, next_asked, telling, telling_if}
-use Rattle.css_drive_relay.specs.Due.{due_at, from_taken, IsProperRelay}
-use Rattle.css_drive_relay.specs.SecondHop.{given_at, given_by, IsGiven, last_take, IsTrueAnswer, GivenIsTrue}
+use Rattle.css_drive_relay.specs.Places.{Place, Received}
+use Rattle.css_drive_relay.specs.Places.{progress_of}
+use Rattle.css_drive_relay.specs.Due.{due_at, IsProperRelay}
+use Rattle.css_drive_relay.specs.SecondHop.{given_at, given_by, IsGiven, last_take, GivenIsTrue}
 use Rattle.css_drive_relay.specs.SecondHop.{IsFromRun, FromRunAt, SecondHopsAreTrue}
 use Rattle.css_drive_relay.proofs.DatagramPlaces.{Shows, Shape, shape_of}
 use Rattle.css_drive_relay.specs.declared.config.RelayRun.{RelayRun}

@@ -1,12 +1,12 @@
 -- Each datagram that a relay's run sends is its own request, or a response that it gave just before.
-use Rattle.std.proofs.Common.{◌≡◌, ℕ, Bool, true, false, List, [], ◌∷◌, ◌++◌, Option, Some, None, refl, sym, subst, inl, inr}
+use Rattle.std.proofs.Common.{ℕ, Bool, true, false, List, [], ◌∷◌, ◌++◌, Option, Some, None, refl, sym, subst, inl, inr}
 use Rattle.std.specs.Prelude.{⊤}
 use Rattle.css_drive.specs.CompanionDue.{send_to}
 use Rattle.css_drive.specs.Proper.{Due, Listen, Now, Dial, Accept, SendDatagram, TakeDatagram, TakeText, SendText}
 use Rattle.css_drive.specs.Proper.{HangUp, Ends, MayAdd, Empty, More}
 use Rattle.css_model.specs.declared.Kind.{Kind}
 use Rattle.css_model.specs.declared.Why.{Why}
-use Rattle.css_model.specs.History.{Entry, History, Each, Slept, Clock, Sent}
+use Rattle.css_model.specs.History.{History, Each, Clock}
 use Rattle.css_model.specs.Wire.{encoded, request_at}
 use Rattle.css_outside.specs.Outsides.{opening_entries, datagram_entries, heard_entries, wrote_entries, sleep_entries}
 use Rattle.css_outside.specs.declared.calls.Heard.{Heard as SessionHeard}
@@ -14,10 +14,10 @@ use Rattle.css_outside.specs.declared.calls.Heard.TheVariants as heard
 use Rattle.css_outside.specs.declared.calls.Wrote.{Wrote as Outcome}
 use Rattle.css_outside.specs.declared.calls.Wrote.TheVariants as outcome
 use Rattle.css_drive_relay.specs.Places.{Place, Asking, Answers, Greeting, Telling, progress_of}
-use Rattle.css_drive_relay.specs.Due.{due_at, IsProperRelay}
-use Rattle.css_drive_relay.specs.SecondHop.{IsRequest, IsResponse, IsSentAt, SentIsKnown}
+use Rattle.css_drive_relay.specs.Due.{due_at}
+use Rattle.css_drive_relay.specs.SecondHop.{IsSentAt, SentIsKnown}
 use Rattle.css_drive_relay.specs.declared.config.RelayRun.{RelayRun}
-use Rattle.css_drive_relay.proofs.DatagramPlaces.{Shows, Shape, shape_of}
+use Rattle.css_drive_relay.proofs.DatagramPlaces.{Shows, shape_of}
 use Rattle.css_drive_relay.proofs.PlainDues.{IsPlain, plain_due}
 
 -- ---- what is due where no datagram is to be sent

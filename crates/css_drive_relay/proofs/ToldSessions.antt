@@ -1,14 +1,11 @@
 -- Each session is told the first of what it is to be told, over the calls of a proper run.
 use Rattle.std.proofs.Common.{◌≡◌, ℕ, ◌≤◌, ◌<◌, Bool, true, false, cond, eqb, List, [], ◌∷◌, ◌++◌, length, Option, Some}
 use Rattle.std.proofs.Common.{None, refl, sym, ap, subst, ◌∙◌, arith, inl, inr, append_assoc, take}
-use Rattle.std.specs.Prelude.{◌||◌, ◌&&◌, nat_lt, is_some, unwrap_or, ⊤, Result, Ok, Err}
+use Rattle.std.specs.Prelude.{◌||◌, unwrap_or, ⊤, Result, Ok, Err}
 use Rattle.std.proofs.lemmas.Bool.Decides.{nat_tests}
-use Rattle.css_address.specs.declared.fault.AddressFault.{AddressFault}
-use Rattle.css_cii.specs.declared.name.CiiName.{CiiName}
 use Rattle.css_cii.specs.declared.state.State.{State}
 use Rattle.css_companion.specs.declared.fault.CompanionFault.{CompanionFault}
-use Rattle.css_drive.specs.CompanionDue.{dial_to, dial_first, send_to, refusal_of}
-use Rattle.css_drive.specs.CompanionTurns.{is_asking}
+use Rattle.css_drive.specs.CompanionDue.{send_to, refusal_of}
 use Rattle.css_drive.specs.Proper.{Due, Listen, Now, Dial, Accept, SendDatagram, TakeDatagram, TakeText, SendText}
 use Rattle.css_drive.specs.Proper.{HangUp, Ends, MayAdd, Empty, More}
 use Rattle.css_drive.specs.TvPeers.{has}
@@ -20,7 +17,7 @@ use Rattle.css_model.specs.declared.Kind.TheVariants as kind
 use Rattle.css_model.specs.declared.Why.{Why}
 use Rattle.css_model.specs.declared.Why.TheVariants as why
 use Rattle.css_model.specs.History.{History, Address, Listening, Slept, Clock, Dialling, Dialled, NotDialled}
-use Rattle.css_model.specs.History.{Accepted, NoneCame, Sent, Took, TookNone, Quiet, Heard, Closed, HungUp, request_in}
+use Rattle.css_model.specs.History.{Accepted, NoneCame, Sent, Took, TookNone, Quiet, Heard, Closed, HungUp}
 use Rattle.css_model.specs.Wire.{encoded, request_at}
 use Rattle.css_outside.specs.Outsides.{opening_entries, datagram_entries, heard_entries, wrote_entries, sleep_entries}
 use Rattle.css_outside.specs.declared.calls.Heard.{Heard as SessionHeard}
@@ -35,8 +32,8 @@ use Rattle.css_drive_relay.specs.Places as places
 use Rattle.css_drive_relay.specs.Places.{Place, Begins, Begun, Called, Asking, Requested, Taken, Received, Answers}
 use Rattle.css_drive_relay.specs.Places.{Served, Greeting, Rejecting, Welcomed, Refused, Telling, Asked, Dropping, Over}
 use Rattle.css_drive_relay.specs.Places.{Facts, Progress, progress_of, all_open, is_kept, next_asked, telling, without}
-use Rattle.css_drive_relay.specs.Due.{due_at, final, from_hang_ups, from_end, from_texts, from_ask, from_wc, from_dial}
-use Rattle.css_drive_relay.specs.Due.{from_taken, IsProperRelay}
+use Rattle.css_drive_relay.specs.Due.{due_at}
+use Rattle.css_drive_relay.specs.Due.{IsProperRelay}
 use Rattle.css_drive_relay.specs.Told.{relayed, published_at, unless_refused, last_published, while_open, with_state}
 use Rattle.css_drive_relay.specs.Told.{states_of, SessionsAreTold}
 use Rattle.css_drive_relay.specs.declared.config.RelayRun.{RelayRun}
