@@ -26,7 +26,8 @@ use Rattle.css_outside.specs.declared.calls.Wrote.TheVariants as outcome
 use Rattle.css_relay.specs.Answers.{Ticket, received_after, answered_after, datagram_of}
 use Rattle.css_relay.specs.declared.fault.RelayFault.{RelayFault}
 use Rattle.css_drive_relay.specs.Places as places
-use Rattle.css_drive_relay.specs.Places.{Place, Taken, Received, Asking, Answers, Welcomed, Greeting, Telling, Asked, Rejecting}
+use Rattle.css_drive_relay.specs.Places.{Place, Taken, Received, Asking, Answers, Welcomed, Greeting, Telling}
+use Rattle.css_drive_relay.specs.Places.{Asked, Rejecting}
 use Rattle.css_drive_relay.specs.Places.{Dropping, Over, Facts, progress_of, is_kept, next_asked, telling, telling_if}
 use Rattle.css_drive_relay.specs.Due.{due_at, from_taken, IsProperRelay}
 use Rattle.css_drive_relay.specs.SecondHop.{given_at, given_by, IsResponse}

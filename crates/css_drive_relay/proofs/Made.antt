@@ -33,7 +33,8 @@ use Rattle.css_relay.specs.declared.fault.RelayFault.{RelayFault}
 use Rattle.css_drive_relay.specs.Places as places
 use Rattle.css_drive_relay.specs.Places.{Place, Begins, Begun, Called, Asking, Requested, Taken, Received, Answers}
 use Rattle.css_drive_relay.specs.Places.{Served, Greeting, Rejecting, Welcomed, Refused, Telling, Asked, Dropping, Over}
-use Rattle.css_drive_relay.specs.Places.{Facts, Progress, progress_of, all_open, is_kept, next_asked, telling, telling_if}
+use Rattle.css_drive_relay.specs.Places.{Facts, Progress, progress_of, all_open, is_kept, next_asked, telling}
+use Rattle.css_drive_relay.specs.Places.{telling_if}
 use Rattle.css_drive_relay.specs.Due.{due, due_at, final, from_hang_ups, from_end, from_texts, from_tellings, from_ask}
 use Rattle.css_drive_relay.specs.Due.{from_wc, from_dial, from_taken, IsProperRelay}
 use Rattle.css_drive_relay.specs.Made.{MadeTurns, TurnsAreMade}

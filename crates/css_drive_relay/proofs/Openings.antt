@@ -16,7 +16,8 @@ use Rattle.css_drive.specs.Proper.{Accept, SendText, HangUp}
 use Rattle.css_outside.specs.declared.calls.Wrote.TheVariants as outcome
 use Rattle.css_drive_relay.specs.Places.{Facts, Progress, Served, after}
 use Rattle.css_drive_relay.specs.Places.{lost, next_asked, welcomed, is_kept, opened_if}
-use Rattle.css_drive_relay.specs.Standing.{KnowsPeers, IsAccepted, IsOpen, IsNumbered, Runs, Stands, IsAt, Arrives, facts_in, stood, named}
+use Rattle.css_drive_relay.specs.Standing.{KnowsPeers, IsAccepted, IsOpen, IsNumbered, Runs, Stands, IsAt, Arrives}
+use Rattle.css_drive_relay.specs.Standing.{facts_in, stood, named}
 use Rattle.css_drive_relay.specs.declared.config.RelayRun.{RelayRun}
 use Rattle.css_drive_relay.specs.declared.live.Live.{Live}
 use Rattle.css_drive_relay.proofs.Peers.{accepted, television, unused, still, all_without}

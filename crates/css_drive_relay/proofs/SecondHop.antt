@@ -12,7 +12,8 @@ use Rattle.css_model.specs.declared.Why.TheVariants as why
 use Rattle.css_model.specs.WallClock.{Local}
 use Rattle.css_model.specs.WallClock.{Local}
 use Rattle.css_model.specs.World.{World}
-use Rattle.css_model.specs.History.{Entry, History, Each, Once, LandedAnswer, landed_answer, landed_answers, is_possible}
+use Rattle.css_model.specs.History.{Entry, History, Each, Once, LandedAnswer, landed_answer, landed_answers}
+use Rattle.css_model.specs.History.{is_possible}
 use Rattle.css_model.specs.History.{Listening, Slept, Clock, Dialling, Dialled, NotDialled, Accepted, NoneCame, Sent}
 use Rattle.css_model.specs.History.{Took, TookNone, Quiet, Heard, Closed, Wrote, Gone, HungUp}
 use Rattle.css_outside.specs.Outsides.{opening_entries, datagram_entries, heard_entries, wrote_entries, sleep_entries}

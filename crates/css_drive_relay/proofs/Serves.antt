@@ -30,7 +30,8 @@ use Rattle.css_drive_relay.specs.declared.config.RelayRun.{RelayRun}
 use Rattle.css_drive_relay.specs.declared.live.Live.{Live}
 use Rattle.css_drive_relay.proofs.Dialling.{comes}
 use Rattle.css_drive_relay.proofs.Peers.{peers_quiet, still}
-use Rattle.css_drive_relay.proofs.Steps.{knows_plain, lawful, runs_more, runs_on, runs_read, kinds_read, numbers_read, stops_by_fault}
+use Rattle.css_drive_relay.proofs.Steps.{knows_plain, lawful, runs_more, runs_on, runs_read, kinds_read, numbers_read}
+use Rattle.css_drive_relay.proofs.Steps.{stops_by_fault}
 
 pub same_faults : {old new : Counts} → new ≡ old → new.faults ≡ old.faults
 same_faults e = ap {A = Counts} (λ x. x.faults) e
@@ -61,7 +62,8 @@ peers_read : {now mid : Shown} {live later : Live} {history : History} {was is :
 peers_read {mid = mid} {history = history} {clocked = clocked} {w} place next k r none =
     let same = r.peers in
     peers_quiet k (omega (arith, same)) (kinds_read w clocked history)
-    (numbers_read mid.counts.peers w clocked history (still k (omega (arith, same)))) (ap {A = Facts} (λ x. x.peers) r.only)
+    (numbers_read mid.counts.peers w clocked history (still k (omega (arith, same))))
+    (ap {A = Facts} (λ x. x.peers) r.only)
     (ap {A = Facts} (λ x. x.television) r.only) none
 
 module _ {run : RelayRun} {start now : Shown} {live later : Live} {history : History} {was is : Relay}
@@ -140,7 +142,8 @@ requested {run} {start} {now} {next} {later} {history = history} live reading pe
           (Sent peer bytes ∷ []) refl next a.told (same_faults a.same) (stood later Requested)
           (ap (after run (Sent peer bytes) history) s.progress
           ∙ ap (λ (f : Facts). record { facts = f; place = Requested }) (sym e))
-          (peers_quiet s.peers (same_peers a.same) (λ q. refl) (still s.peers (same_peers a.same)) (ap {A = Facts} (λ x. x.peers) e)
+          (peers_quiet s.peers (same_peers a.same) (λ q. refl) (still s.peers (same_peers a.same))
+          (ap {A = Facts} (λ x. x.peers) e)
           (ap {A = Facts} (λ x. x.television) e) refl);
       knows = k;
     }) from_take refl
@@ -176,7 +179,8 @@ module _ (live : Live) {run : RelayRun} {start now next : Shown} {history : Hist
       history = TookNone ∷ history;
       stands = record {
         runs = runs_on s.runs TakeDatagram d TookNone ([], None, refl) next told faults
-            (peers_quiet s.runs.peers (after_call now.counts next.counts same) (λ q. refl) (still s.runs.peers (after_call now.counts next.counts same)) refl refl refl);
+            (peers_quiet s.runs.peers (after_call now.counts next.counts same) (λ q. refl)
+            (still s.runs.peers (after_call now.counts next.counts same)) refl refl refl);
         knows = knows_plain s.knows TookNone refl refl refl refl refl refl refl;
       };
     }
@@ -190,7 +194,9 @@ module _ (live : Live) {run : RelayRun} {start now next : Shown} {history : Hist
         (Took peer (take count room) ∷ history)
     took s d peer count room told faults same = record {
       runs = runs_on s.runs TakeDatagram d (Took peer (take count room)) (room, Some (peer, count), refl) next told
-          faults (peers_quiet s.runs.peers (after_call now.counts next.counts same) (λ q. refl) (still s.runs.peers (after_call now.counts next.counts same)) refl refl refl);
+          faults
+          (peers_quiet s.runs.peers (after_call now.counts next.counts same) (λ q. refl)
+          (still s.runs.peers (after_call now.counts next.counts same)) refl refl refl);
       knows = knows_plain s.knows (Took peer (take count room)) refl refl refl refl refl refl refl;
     }
 

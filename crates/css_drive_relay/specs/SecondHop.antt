@@ -6,8 +6,8 @@ use Rattle.css_model.specs.declared.Why.TheVariants as why
 use Rattle.css_model.specs.WallClock.{Local}
 use Rattle.css_model.specs.Wire.{encoded, request_at}
 use Rattle.css_model.specs.World.{World, Errors, IsWorldFor, IsInRange}
-use Rattle.css_model.specs.History.{Entry, Clock, Sent, History, Each, Once, LandedAnswer, landed_answer, landed_answers}
-use Rattle.css_model.specs.History.{is_possible}
+use Rattle.css_model.specs.History.{Entry, Clock, Sent, History, Each, Once, LandedAnswer, landed_answer}
+use Rattle.css_model.specs.History.{landed_answers, is_possible}
 use Rattle.css_model.specs.Explains.{IsLawful, WasAsked, HappensIn, Explains}
 use Rattle.css_relay.specs.Answers.{answered_after}
 use Rattle.css_relay.specs.TwoHops.{IsTrueResponse, IsTruthfulToAll, IsTrueAtLast}

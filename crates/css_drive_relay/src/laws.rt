@@ -12,16 +12,16 @@ pub fn answers_are_true_to()
 
 /// The texts that a run sent to a session are the first ones of those that the session was to be told. These are the
 /// state that the relay had published last as it accepted the session, in full, and what is new in each state that it
-/// published while the session was open. At most one of them is unsent, and where the run's end is due only one that was
-/// told as gone.
+/// published while the session was open. At most one of them is unsent. Where the run's end is due, this is one that
+/// was told as gone.
 ///
 /// The calls are those of a run, and each peer that was accepted has a greater number than those before it.
 pub fn sessions_are_told()
     ensures { SessionsAreTold }
 {}
 
-/// A run that is done made all its turns, and a dial of it succeeded. One for which every dial failed made all its turns
-/// too. The calls are those of a run, which ended where it may.
+/// A run that is done made all its turns, and a dial of it succeeded. One for which every dial failed made all its
+/// turns too. The calls are those of a run, which ended where it may.
 pub fn turns_are_made()
     ensures { TurnsAreMade }
 {}
