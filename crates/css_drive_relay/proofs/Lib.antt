@@ -11,6 +11,7 @@ pub mod Telling
 pub mod PlainDues
 pub mod ToldSessions
 pub mod Made
+pub mod ReadBack
 pub mod DatagramPlaces
-pub mod SecondHop
 pub mod Sending
+pub mod SecondHop

@@ -1,7 +1,7 @@
 -- Why each response of a relay's whole run answers the request that was taken last before it.
 use Rattle.std.proofs.Common.{◌≡◌, ℕ, ◌≤◌, Bool, true, false, List, [], ◌∷◌, ◌++◌, Option, Some, None, length}
-use Rattle.std.proofs.Common.{refl, sym, ap, subst, ◌∙◌, inl, inr, take}
-use Rattle.std.specs.Prelude.{IfSome, IsTrue, Result, Ok, Err}
+use Rattle.std.proofs.Common.{refl, sym, ap, subst, ◌∙◌, arith, inl, inr, take}
+use Rattle.std.specs.Prelude.{◌⊎◌, IfSome, IsTrue, Result, Ok, Err}
 use Rattle.std.specs.Result.{result_ok}
 use Rattle.css_drive.specs.Proper.{Due, Listen, Now, Dial, Accept, SendDatagram, TakeDatagram, TakeText, SendText}
 use Rattle.css_drive.specs.Proper.{HangUp, Ends, MayAdd, Empty, More}
@@ -10,8 +10,10 @@ use Rattle.css_model.specs.declared.Kind.{Kind}
 use Rattle.css_model.specs.declared.Why.{Why}
 use Rattle.css_model.specs.declared.Why.TheVariants as why
 use Rattle.css_model.specs.WallClock.{Local}
-use Rattle.css_model.specs.WallClock.{Local}
-use Rattle.css_model.specs.World.{World}
+use Rattle.css_model.specs.Wire.{encoded, decoded}
+use Rattle.css_model.specs.World.{World, Errors, IsWorldFor, IsInRange}
+use Rattle.css_model.specs.Explains.{IsLawful, IsTruthful, TruthfulAt, Explains}
+use Rattle.css_model.proofs.Wall.{wall_is_true}
 use Rattle.css_model.specs.History.{Entry, History, Each, Once, LandedAnswer, landed_answer, landed_answers}
 use Rattle.css_model.specs.History.{is_possible}
 use Rattle.css_model.specs.History.{Listening, Slept, Clock, Dialling, Dialled, NotDialled, Accepted, NoneCame, Sent}
@@ -22,15 +24,18 @@ use Rattle.css_outside.specs.declared.calls.Heard.TheVariants as heard
 use Rattle.css_outside.specs.declared.calls.Wrote.{Wrote as Outcome}
 use Rattle.css_outside.specs.declared.calls.Wrote.TheVariants as outcome
 use Rattle.css_relay.specs.Answers.{answered_after}
-use Rattle.css_relay.specs.TwoHops.{IsAnswerOf, IsTrueResponse, IsRelayed, RelayedAt}
+use Rattle.css_relay.specs.TwoHops.{IsAnswerOf, IsTrueResponse}
 use Rattle.css_relay.specs.declared.fault.RelayFault.{RelayFault}
 use Rattle.css_relay.proofs.TwoHops as two
 use Rattle.css_drive_relay.specs.Places.{Place, Received}
 use Rattle.css_drive_relay.specs.Places.{progress_of}
 use Rattle.css_drive_relay.specs.Due.{due_at, IsProperRelay}
 use Rattle.css_drive_relay.specs.SecondHop.{given_at, given_by, IsGiven, last_take, GivenIsTrue}
-use Rattle.css_drive_relay.specs.SecondHop.{IsFromRun, FromRunAt, SecondHopsAreTrue}
+use Rattle.css_drive_relay.specs.SecondHop.{IsTrueAnswer, IsRequest, IsResponse, IsSentAt, IsFromRun, FromRunAt}
+use Rattle.css_drive_relay.specs.SecondHop.{SecondHopsAreTrue}
 use Rattle.css_drive_relay.proofs.DatagramPlaces.{Shows, Shape, shape_of}
+use Rattle.css_drive_relay.proofs.ReadBack.{TellSame, reads_back, true_as}
+use Rattle.css_drive_relay.proofs.Sending.{sent_is_known}
 use Rattle.css_drive_relay.specs.declared.config.RelayRun.{RelayRun}
 
 -- ---- responses that were given
@@ -207,43 +212,101 @@ given_is_true errors world who run history moment_of message before proper for r
     x.answer) in
     record { response = is; truthful = two.true_is_truthful world errors.tv _ _ message is }
 
-from_run : (run : RelayRun) (history : History) (moment_of second_moment_of : ℕ → ℕ) (landed : LandedAnswer)
-    (older : History) → Finds run history → IsFromRun run history moment_of second_moment_of landed older
-    → IsRelayed run.companion.local history moment_of second_moment_of landed older
-from_run run history moment_of second_moment_of landed older finds x =
-    let y : IsFound run.companion.local history landed.message x.before = finds landed.message x.before x.given in
-    record {
-      answer = y.answer;
-      ask = x.ask;
-      asked = x.asked;
-      sent_before = subst (λ (n : ℕ). second_moment_of x.ask ≤ moment_of n) (sym y.at_take) x.sent_before;
-      landed_after =
-          subst (λ (h : History). moment_of (length h) ≤ second_moment_of (length older)) (sym y.at_give)
-          x.landed_after;
-    }
+-- what was sent right after a reading for an answer is the datagram of the response given then
+sent_given : (run : RelayRun) (bytes : List ℕ) (give : ℕ) (before h : History) → h ≡ Clock why.Give give ∷ before
+    → IsRequest bytes h ⊎ IsResponse run bytes h
+    → (message : Message) × (given_by run (Clock why.Give give) before ≡ Some message) × (bytes ≡ encoded message)
+sent_given run bytes give before h is (inl asked) =
+    absurd (let e : Clock why.Give give ∷ before ≡ Clock why.Ask asked.reading ∷ asked.before =
+    sym is ∙ asked.just in cc)
+sent_given run bytes give before h is (inr r) =
+    let e : Clock why.Give r.reading ∷ r.before ≡ Clock why.Give give ∷ before = sym r.just ∙ is in
+    let reading : r.reading ≡ give = cc in
+    let older : r.before ≡ before = cc in (
+      r.message,
+      subst (λ (x : History). given_by run (Clock why.Give give) x ≡ Some r.message) older
+          (subst (λ (n : ℕ). given_by run (Clock why.Give n) r.before ≡ Some r.message) reading r.given),
+      r.wire,
+    )
 
-each_relayed : (run : RelayRun) (history : History) (moment_of second_moment_of : ℕ → ℕ) (second_own : Local)
-    (second_history : History) → Finds run history
-    → Each (FromRunAt run history moment_of second_own second_moment_of) second_history
-    → Each (RelayedAt run.companion.local history moment_of second_own second_moment_of) second_history
-each_relayed run history moment_of second_moment_of second_own [] finds each = tt
-each_relayed run history moment_of second_moment_of second_own (entry ∷ older) finds each = (
-  by (landed_answer entry older) each.0,
-  each_relayed run history moment_of second_moment_of second_own older finds each.1,
-)
-  where
-    by : (o : Option LandedAnswer)
-        → IfSome o (λ landed. IsTrue (is_possible second_own landed (landed_answers older))
-        → IsFromRun run history moment_of second_moment_of landed older)
-        → IfSome o (λ landed. IsTrue (is_possible second_own landed (landed_answers older))
-        → IsRelayed run.companion.local history moment_of second_moment_of landed older)
-    by None x = tt
-    by (Some landed) x =
-        λ possible. from_run run history moment_of second_moment_of landed older finds (x possible)
+-- so some response was given that it is the datagram of
+abbrev IsSentOf : RelayRun → History → List ℕ → History → Type 0
+IsSentOf run h bytes before = (message : Message) × IsGiven run h message before × (bytes ≡ encoded message)
+
+sent_of : (run : RelayRun) (peer : ℕ) (bytes : List ℕ) (give : ℕ) (before h : History) → Each (IsSentAt run) h
+    → Once (λ entry earlier. (entry ≡ Sent peer bytes) × (earlier ≡ Clock why.Give give ∷ before)) h
+    → IsSentOf run h bytes before
+sent_of run peer bytes give before [] all once = absurd once
+sent_of run peer bytes give before (entry ∷ older) all (inl here) =
+    let known = subst (λ (x : Entry). IsSentAt run x older) here.0 all.0 in
+    let x = sent_given run bytes give before older here.1 known in (
+      x.0,
+      subst (λ (y : History). IsGiven run (entry ∷ y) x.0 before) (sym here.1) (inr (inl (x.1, refl))),
+      x.2,
+    )
+sent_of run peer bytes give before (entry ∷ older) all (inr later) =
+    let x = sent_of run peer bytes give before older all.1 later in (x.0, inr x.1, x.2)
+
+-- the last request was taken before
+take_earlier : (h : History) → last_take h ≤ length h
+take_earlier [] = omega arith
+take_earlier (Clock why.Take reading ∷ older) = omega arith
+take_earlier (_ ∷ older) = let earlier = take_earlier older in omega (arith, earlier)
+
+module _ (errors : Errors) (world : World) (who : ℕ) (run : RelayRun) (history : History) (moment_of : ℕ → ℕ)
+    (proper : IsProperRelay run history) (keeps : IsWorldFor errors world who run.companion.local)
+    (range : IsInRange world) (lawful : IsLawful history)
+    (explains : Explains world who errors.tv run.companion.local history moment_of) where
+  from_run : (second_moment_of : ℕ → ℕ) (landed : LandedAnswer) (older : History)
+      → IsFromRun history moment_of second_moment_of landed older
+      → IsTruthful world errors.tv second_moment_of landed older
+  from_run second_moment_of landed older x =
+      let sent = sent_of run x.peer x.bytes x.give x.before history (sent_is_known run history proper) x.sent in
+      let message : Message = sent.0 in
+      let found : IsFound run.companion.local history message x.before =
+      finds_all run history proper message x.before sent.1 in
+      let is : IsTrueAnswer world errors.tv moment_of x.before message =
+      given_is_true errors world who run history moment_of message x.before proper keeps range lawful explains sent.1 in
+      let same : TellSame message landed.message =
+      reads_back run.companion.local found.answer.before_take found.answer.before_give found.answer.take
+      found.answer.give found.answer.request found.answer.ticket message landed.message found.answer.received
+      found.answer.answered (sym (ap decoded sent.2) ∙ x.read) in
+      two.true_is_truthful world errors.tv (moment_of (last_take x.before)) (moment_of (length x.before))
+      landed.message
+      (true_as world errors.tv (moment_of (last_take x.before)) (moment_of (length x.before)) message landed.message
+      same is.response)
+      second_moment_of landed x.ask older refl x.asked x.sent_before
+      (explains.happens.in_order (last_take x.before) (length x.before) (take_earlier x.before)) x.landed_after
+
+  each_truthful : (second_moment_of : ℕ → ℕ) (second_own : Local) (second_history : History)
+      → Each (FromRunAt history moment_of second_own second_moment_of) second_history
+      → Each (TruthfulAt world errors.tv second_own second_moment_of) second_history
+  each_truthful second_moment_of second_own [] each = tt
+  each_truthful second_moment_of second_own (entry ∷ older) each = (
+    by (landed_answer entry older) each.0,
+    each_truthful second_moment_of second_own older each.1,
+  )
+    where
+      by : (o : Option LandedAnswer)
+          → IfSome o (λ landed. IsTrue (is_possible second_own landed (landed_answers older))
+          → IsFromRun history moment_of second_moment_of landed older)
+          → IfSome o (λ landed. IsTrue (is_possible second_own landed (landed_answers older))
+          → IsTruthful world errors.tv second_moment_of landed older)
+      by None x = tt
+      by (Some landed) x = λ possible. from_run second_moment_of landed older (x possible)
 
 pub second_hops_are_true : SecondHopsAreTrue
-second_hops_are_true errors world who run history moment_of second second_own second_history second_moment_of proper for
-    second_for range lawful explains second_lawful happens each =
-    two.two_hops_are_true errors world who run.companion.local history moment_of second second_own second_history
-    second_moment_of for second_for range lawful explains second_lawful happens
-    (each_relayed run history moment_of second_moment_of second_own second_history (finds_all run history proper) each)
+second_hops_are_true errors world who run history moment_of second second_own second_history second_moment_of proper
+    keeps second_keeps range lawful explains second_lawful happens each =
+    let second_explains : Explains world second errors.tv second_own second_history second_moment_of = record {
+      happens = happens;
+      truthful =
+          each_truthful errors world who run history moment_of proper keeps range lawful explains second_moment_of
+          second_own second_history each;
+    } in
+    record {
+      explains = second_explains;
+      contains =
+          wall_is_true errors world second second_own second_history second_moment_of second_keeps second_lawful
+          second_explains;
+    }

@@ -1,10 +1,10 @@
 -- The responses of a relay's whole run, and what they make true of a companion that accepts nothing else.
-use Rattle.std.specs.Prelude.{ℕ, ◌≡◌, ◌≤◌, ◌⊎◌, List, [], ◌∷◌, length, Option, Some, None, IfSome, IsTrue, ⊤}
+use Rattle.std.specs.Prelude.{ℕ, ◌≡◌, ◌≤◌, ◌⊎◌, List, [], ◌∷◌, length, Option, Some, None, Ok, IfSome, IsTrue, ⊤}
 use Rattle.std.specs.Result.{result_ok}
 use Rattle.css_model.specs.declared.Message.{Message}
 use Rattle.css_model.specs.declared.Why.TheVariants as why
 use Rattle.css_model.specs.WallClock.{Local}
-use Rattle.css_model.specs.Wire.{encoded, request_at}
+use Rattle.css_model.specs.Wire.{encoded, decoded, request_at}
 use Rattle.css_model.specs.World.{World, Errors, IsWorldFor, IsInRange}
 use Rattle.css_model.specs.History.{Entry, Clock, Sent, History, Each, Once, LandedAnswer, landed_answer}
 use Rattle.css_model.specs.History.{landed_answers, is_possible}
@@ -81,26 +81,31 @@ GivenIsTrue = (errors : Errors) (world : World) (who : ℕ) (run : RelayRun) (hi
     → IsGiven run history message before → IsTrueAnswer world errors.tv moment_of before message
 
 -- ---- two hops
--- A landed answer is a response that the run gave: its request was sent no later than it was taken there, and it landed
--- no sooner than it was given there.
-pub record IsFromRun (run : RelayRun) (history : History) (moment_of : ℕ → ℕ) (second_moment_of : ℕ
-    → ℕ) (landed : LandedAnswer) (older : History) : Type 0 where
+-- A landed answer was read from a datagram that the run sent in answer, right after the reading for it. Its request was
+-- sent no later than the relay took it, and it landed no sooner than that reading.
+pub record IsFromRun (history : History) (moment_of : ℕ → ℕ) (second_moment_of : ℕ → ℕ) (landed : LandedAnswer)
+    (older : History) : Type 0 where
+  pub peer : ℕ
+  pub bytes : List ℕ
+  pub give : ℕ
   pub before : History
-  pub given : IsGiven run history landed.message before
+  pub sent : Once (λ entry earlier.
+      (entry ≡ Sent peer bytes) × (earlier ≡ Clock why.Give give ∷ before)) history
+  pub read : decoded bytes ≡ Ok landed.message
   pub ask : ℕ
   pub asked : WasAsked landed.message.originate ask older
   pub sent_before : second_moment_of ask ≤ moment_of (last_take before)
   pub landed_after : moment_of (length before) ≤ second_moment_of (length older)
 
 -- an answer that lands at a second companion is from the run, or isn't accepted there
-abbrev pub FromRunAt : RelayRun → History → (ℕ → ℕ) → Local → (ℕ → ℕ) → Entry → History → Type 0
-FromRunAt run history moment_of second_own second_moment_of entry older =
+abbrev pub FromRunAt : History → (ℕ → ℕ) → Local → (ℕ → ℕ) → Entry → History → Type 0
+FromRunAt history moment_of second_own second_moment_of entry older =
     IfSome (landed_answer entry older) (λ landed.
     IsTrue (is_possible second_own landed (landed_answers older))
-    → IsFromRun run history moment_of second_moment_of landed older)
+    → IsFromRun history moment_of second_moment_of landed older)
 
 -- In each world that keeps the errors of three clocks, explains a run's lawful calls, and has the readings of a second
--- companion that accepts nothing but the run's responses, the second companion's spans contain the wall clock.
+-- companion that accepts nothing but what the run sent in answer, the second companion's spans contain the wall clock.
 abbrev pub SecondHopsAreTrue : Type 0
 SecondHopsAreTrue = (errors : Errors) (world : World)
     (who : ℕ) (run : RelayRun) (history : History) (moment_of : ℕ → ℕ)
@@ -109,5 +114,5 @@ SecondHopsAreTrue = (errors : Errors) (world : World)
     → IsWorldFor errors world who run.companion.local → IsWorldFor errors world second second_own → IsInRange world
     → IsLawful history → Explains world who errors.tv run.companion.local history moment_of
     → IsLawful second_history → HappensIn world second second_own second_history second_moment_of
-    → Each (FromRunAt run history moment_of second_own second_moment_of) second_history
+    → Each (FromRunAt history moment_of second_own second_moment_of) second_history
     → IsTrueAtLast world second errors.tv second_own second_history second_moment_of

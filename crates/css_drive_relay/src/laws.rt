@@ -41,10 +41,12 @@ pub fn given_is_true()
     ensures { GivenIsTrue }
 {}
 
-/// So the spans of a second companion that accepts nothing but a run's responses contain the television's wall clock.
+/// So the spans of a second companion contain the television's wall clock, if it accepts nothing but answers that were
+/// read from what a run sent in answer.
 ///
 /// The world keeps the errors of the three clocks and its ranges, explains the run's calls, and has the second
-/// companion's readings. Both companions' calls are lawful.
+/// companion's readings. Both companions' calls are lawful. The second companion sent each request no later than the
+/// run took it, and no answer landed there before the reading at which the run gave it.
 pub fn second_hops_are_true()
     ensures { SecondHopsAreTrue }
 {}
