@@ -1,6 +1,6 @@
 -- What is read from the datagram of a relay's response tells the same, whatever the originate value.
-use Rattle.std.proofs.Common.{◌≡◌, ℕ, ◌^◌, ◌≤◌, ◌<◌, arith, ap, ◌∙◌, subst, refl, Bool, true, false, cond, List, [], ◌∷◌}
-use Rattle.std.proofs.Common.{◌++◌, sym, Option, Some, None, Result, Ok, Err}
+use Rattle.std.proofs.Common.{◌≡◌, ℕ, ◌^◌, ◌≤◌, ◌<◌, arith, ap, ◌∙◌, subst, refl, Bool, true, false, cond, List}
+use Rattle.std.proofs.Common.{[], ◌∷◌, ◌++◌, sym, Option, Some, None, Result, Ok, Err}
 use Rattle.std.specs.Prelude.{ℤ, pos, negsuc, neg_ℤ, ◌≤ℤ◌, FitsSigned, max, nat_lt}
 use Rattle.std.specs.Int.{w8}
 use Rattle.std.specs.Option.{option_to_list}

@@ -402,13 +402,15 @@ sessions_are_told run h proper numbered peer =
     at_most true n le = le
     at_most false n le = omega (arith, le)
 
+    text : List ℕ
+    text = text_at (progress_of run h).place (progress_of run h).facts
+
     by : (b : Bool) → has peer (waiting (progress_of run h).place) ≡ b → (t : Good run peer h)
         → length (owed peer (progress_of run h) ++ t.missing) ≤ 1
     by false e t =
-        subst (λ (c : Bool).
-        length (owed_if c (text_at (progress_of run h).place (progress_of run h).facts) ++ t.missing) ≤ 1) (sym e) (at_most (is_gone peer h) (length t.missing) t.few)
+        subst (λ (c : Bool). length (owed_if c text ++ t.missing) ≤ 1) (sym e)
+        (at_most (is_gone peer h) (length t.missing) t.few)
     by true e t =
         let o = t.live (t.waits e) in
         let few : length t.missing ≤ 0 = subst (λ (g : Bool). length t.missing ≤ lost g) o.1 t.few in
-        subst (λ (c : Bool).
-        length (owed_if c (text_at (progress_of run h).place (progress_of run h).facts) ++ t.missing) ≤ 1) (sym e) (omega (arith, few))
+        subst (λ (c : Bool). length (owed_if c text ++ t.missing) ≤ 1) (sym e) (omega (arith, few))
