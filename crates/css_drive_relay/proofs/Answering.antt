@@ -1,19 +1,14 @@
 -- Why what a relay sends in answer answers a request that it took.
-use Rattle.std.proofs.Common.{◌≡◌, ℕ, ap, sym, ◌∙◌, subst, refl, Bool, true, false, List, [], ◌∷◌, Option, Some, None, inl}
+use Rattle.std.proofs.Common.{◌≡◌, ℕ, subst, refl, Bool, true, false, List, [], ◌∷◌, Option, Some, None, inl}
 use Rattle.std.proofs.Common.{inr, Result, Ok, Err}
 use Rattle.css_model.specs.declared.Message.{Message}
-use Rattle.css_model.specs.declared.Kind.{Kind}
-use Rattle.css_model.specs.declared.Kind.TheVariants as kind
-use Rattle.css_model.specs.declared.Why.{Why}
 use Rattle.css_model.specs.declared.Why.TheVariants as why
 use Rattle.css_model.specs.History.{Entry, History, Once, Listening, Slept, Clock, Dialling, Dialled, NotDialled, Accepted}
 use Rattle.css_model.specs.History.{NoneCame, Sent, Took, TookNone, Quiet, Heard, Closed, Wrote, Gone, HungUp}
 use Rattle.css_model.specs.WallClock.{Local}
-use Rattle.css_model.specs.Wire.{encoded}
 use Rattle.css_cii.specs.declared.state.State.{State}
 use Rattle.css_companion.specs.declared.fault.CompanionFault.{CompanionFault}
 use Rattle.css_relay.specs.Answers.{Ticket, received_after, answered_after, datagram_of}
-use Rattle.css_relay.specs.TwoHops.{IsAnswerOf}
 use Rattle.css_relay.specs.declared.fault.RelayFault.{RelayFault}
 use Rattle.css_relay.proofs.TwoHops as two
 use Rattle.css_drive_relay.specs.Places.{Place, Facts, Received, Answers, Taken, Asking, Welcomed, Greeting, Telling}

@@ -1,8 +1,7 @@
 -- What the dials of a turn make of a relay's run.
-use Rattle.std.proofs.Common.{◌≡◌, ℕ, ◌≤◌, ◌<◌, arith, ap, sym, ◌∙◌, subst, refl, Bool, true, false, inl, inr}
-use Rattle.std.proofs.Common.{List, [], ◌∷◌, ◌++◌, Option, Some, None, Result, Ok, Err}
-use Rattle.std.specs.Prelude.{is_some, IfSome}
-use Rattle.css_model.specs.declared.Kind.{Kind}
+use Rattle.std.proofs.Common.{◌≡◌, ℕ, ap, sym, ◌∙◌, subst, refl, true, false, inl, inr}
+use Rattle.std.proofs.Common.{[], ◌∷◌, ◌++◌, Option, Some, None, Result, Ok, Err}
+use Rattle.std.specs.Prelude.{is_some}
 use Rattle.css_model.specs.declared.Kind.TheVariants as kind
 use Rattle.css_model.specs.History.{Address, Dialling, Dialled, NotDialled, History}
 use Rattle.css_cii.specs.declared.name.CiiName.TheVariants.{WcUrl}
@@ -15,14 +14,13 @@ use Rattle.css_drive.specs.CompanionStanding.{Shown, HasDialled, GivesPlace}
 use Rattle.css_drive.specs.Ends.{MayEnd}
 use Rattle.css_drive.specs.Proper.{Due, Dial}
 use Rattle.css_drive.specs.declared.driven.Driven.{Driven}
-use Rattle.css_drive.specs.declared.driven.Driven.TheVariants as driven
 use Rattle.css_drive.proofs.CompanionCalls.{bad_place, bad_quiet}
 use Rattle.css_drive_relay.specs.Places.{Facts, Place, Begun, Called, Progress, after}
-use Rattle.css_drive_relay.specs.Due.{due_at, from_wc, from_ask, from_cii}
+use Rattle.css_drive_relay.specs.Due.{due_at, from_wc, from_ask}
 use Rattle.css_drive_relay.specs.Standing.{KnowsPeers, Stands, Comes, Stops, facts_in, stood}
 use Rattle.css_drive_relay.specs.declared.config.RelayRun.{RelayRun}
 use Rattle.css_drive_relay.specs.declared.live.Live.{Live}
-use Rattle.css_drive_relay.proofs.Peers.{peers_quiet, peers_cii, peers_wc}
+use Rattle.css_drive_relay.proofs.Peers.{peers_quiet, still, peers_cii, peers_wc}
 use Rattle.css_drive_relay.proofs.Steps.{knows_plain, lawful, runs_more, stops_here}
 
 -- ---- what is due where a dial is skipped
@@ -85,7 +83,7 @@ module _ (live : Live) {run : RelayRun} {start now : Shown} {relay : Relay} {his
             d.faults (stood live (Called kind.Cii))
             (ap (λ (p : Progress). after run (NotDialled kind.Cii) (Dialling kind.Cii run.cii ∷ history) p)
             s.runs.progress)
-            (peers_quiet s.runs.peers d.later (λ q. refl) refl refl refl);
+            (peers_quiet s.runs.peers d.later (λ q. refl) (still s.runs.peers d.later) refl refl refl);
         knows = knows_plain (knows_plain s.knows (Dialling kind.Cii run.cii) refl refl refl refl refl refl refl)
             (NotDialled kind.Cii) refl refl refl refl refl refl refl;
       }) (from_wc run) refl
@@ -124,7 +122,7 @@ module _ (live : Live) {run : RelayRun} {start now : Shown} {relay : Relay} {his
               d.told d.faults (stood live (Called kind.Wc))
               (ap (λ (p : Progress). after run (NotDialled kind.Wc) (Dialling kind.Wc to ∷ history) p)
               s.runs.progress)
-              (peers_quiet s.runs.peers d.later (λ q. refl) refl refl refl);
+              (peers_quiet s.runs.peers d.later (λ q. refl) (still s.runs.peers d.later) refl refl refl);
           knows = knows_plain (knows_plain s.knows (Dialling kind.Wc to) refl refl refl refl refl refl refl)
               (NotDialled kind.Wc) refl refl refl refl refl refl refl;
         }) (from_ask run) refl

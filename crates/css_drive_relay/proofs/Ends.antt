@@ -23,8 +23,9 @@ use Rattle.css_drive_relay.specs.declared.config.RelayRun.{RelayRun}
 use Rattle.css_drive_relay.specs.declared.live.Live.{Live}
 use Rattle.css_drive_relay.proofs.Peers.{accepted, television, unused}
 use Rattle.css_drive_relay.proofs.Serves.{same_faults, same_peers}
-use Rattle.css_drive_relay.proofs.Peers.{peers_quiet}
+use Rattle.css_drive_relay.proofs.Peers.{peers_quiet, still}
 use Rattle.css_drive_relay.proofs.Steps.{knows_plain, knows_clock, lawful, runs_more, runs_on, runs_read, kinds_read}
+use Rattle.css_drive_relay.proofs.Steps.{numbers_read}
 use Rattle.css_drive_relay.proofs.Steps.{stops_here}
 use Rattle.css_drive_relay.specs.Ran.{RelayRan}
 use Rattle.css_drive_relay.specs.Places.{Begun, beginning}
@@ -92,7 +93,7 @@ module _ {run : RelayRun} {start now : Shown} {live : Live} {relay : Relay} wher
                 accepted = accepted x.stands.runs.peers le (λ q. refl);
                 waiting = All-nil (IsAccepted next.counts.peers (HungUp peer ∷ x.history));
                 television = television x.stands.runs.peers le (λ q. refl);
-                unused = unused x.stands.runs.peers le (λ q. refl);
+                unused = unused x.stands.runs.peers le (λ q. refl) (still x.stands.runs.peers le);
               });
           knows = knows_plain x.stands.knows (HungUp peer) refl refl refl refl refl refl refl;
         };
@@ -208,7 +209,7 @@ at_first run now = record {
     accepted = All-nil (IsAccepted now.counts.peers []);
     waiting = All-nil (IsAccepted now.counts.peers []);
     television = record { is = tt };
-    unused = record { none = λ peer lt. refl };
+    unused = record { none = λ peer lt. refl; numbered = (tt, tt) };
   };
 }
 
@@ -224,14 +225,21 @@ listens run now next relay k told faults same = record {
         accepted = All-nil (IsAccepted next.counts.peers (Listening run.host run.port ∷ []));
         waiting = All-nil (IsAccepted next.counts.peers (Listening run.host run.port ∷ []));
         television = record { is = tt };
-        unused = record { none = λ peer lt. refl };
+        unused = record { none = λ peer lt. refl; numbered = (tt, tt) };
       });
   knows = knows_plain k (Listening run.host run.port) refl refl refl refl refl refl refl;
 }
 
 pub ran_by : {run : RelayRun} {start now : Shown} {ended : Driven} → Stops run start now ended
     → RelayRan run start.told now.told ended
-ran_by s = record { history = s.history; grew = s.told; proper = s.proper; lawful = s.lawful; ends = s.ends }
+ran_by s = record {
+  history = s.history;
+  grew = s.told;
+  proper = s.proper;
+  lawful = s.lawful;
+  numbered = s.numbered;
+  ends = s.ends;
+}
 
 -- nothing was done, for want of memory
 pub ran_none : (run : RelayRun) (told : Option History) → RelayRan run told told driven.Memory
@@ -240,6 +248,7 @@ ran_none run told = record {
   grew = no_entries told;
   proper = Empty;
   lawful = record { rises = tt; asks = tt };
+  numbered = tt;
   ends = tt;
 }
 
@@ -296,6 +305,7 @@ begun {run} {next = next} {is = relay} {live} {later} {last} {history} s d clock
         runs = runs_read s.runs why.Turn d clocked next r (stood last Begun)
             (ap (λ (f : Facts). record { facts = f; place = Begun }) (sym e))
             (peers_quiet s.runs.peers (omega (arith, n)) (kinds_read why.Turn clocked history)
+            (numbers_read next.counts.peers why.Turn clocked history (still s.runs.peers (omega (arith, n))))
             (ap {A = Facts} (λ x. x.peers) e ∙ ap {A = Facts} (λ x. x.peers) r.only)
             (ap {A = Facts} (λ x. x.television) e ∙ ap {A = Facts} (λ x. x.television) r.only) refl);
         knows = knows_clock clocked history why.Turn refl (λ older. refl) (r.known run history s.knows);

@@ -1,9 +1,8 @@
 -- What the texts of sessions make of a relay's run.
-use Rattle.std.proofs.Common.{◌≡◌, ℕ, ◌≤◌, arith, ap, sym, ◌∙◌, subst, refl, Bool, true, false, cond}
-use Rattle.std.proofs.Common.{List, [], ◌∷◌, ◌++◌, Option, Some, None, Result, Ok, Err}
+use Rattle.std.proofs.Common.{◌≡◌, ℕ, ◌≤◌, ap, sym, ◌∙◌, subst, refl, cond}
+use Rattle.std.proofs.Common.{List, [], ◌∷◌, Option, Some, None, Result, Ok, Err}
 use Rattle.std.specs.Prelude.{All, IfSome, MatchResult}
-use Rattle.std.proofs.lemmas.List.Elements.{All-head, All-tail, All-nil, All-cons}
-use Rattle.css_model.specs.declared.Kind.{Kind}
+use Rattle.std.proofs.lemmas.List.Elements.{All-head, All-tail, All-nil}
 use Rattle.css_model.specs.declared.Kind.TheVariants as kind
 use Rattle.css_model.specs.History.{Quiet, Heard, Closed, Wrote, Gone, HungUp, History}
 use Rattle.css_outside.specs.Outsides.{with_entries}
@@ -17,19 +16,18 @@ use Rattle.css_relay.specs.Relays.{Relay, wc_url_of, relayed_state}
 use Rattle.css_drive.specs.CompanionDue.{refusal_of, end_by}
 use Rattle.css_drive.specs.CompanionStanding.{Shown, Adds, Failed, IsRefusal}
 use Rattle.css_drive.specs.Ends.{MayEnd}
-use Rattle.css_drive.specs.Proper.{Due, TakeText, SendText, HangUp, Ends}
+use Rattle.css_drive.specs.Proper.{TakeText, SendText, HangUp, Ends}
 use Rattle.css_drive.specs.declared.driven.Driven.{Driven}
-use Rattle.css_drive.specs.declared.driven.Driven.TheVariants as driven
 use Rattle.css_drive.proofs.CompanionCalls.{refusal_ends, refusal_quiet, lawful_plain}
-use Rattle.css_drive_relay.specs.Places.{Facts, Place, Progress, Asked, Welcomed, Telling, Dropping, Refused, after}
+use Rattle.css_drive_relay.specs.Places.{Facts, Progress, Asked, Welcomed, Dropping, after}
 use Rattle.css_drive_relay.specs.Places.{lost, next_asked, welcomed, telling, telling_if, published, television_told}
-use Rattle.css_drive_relay.specs.Due.{due_at, due_for}
+use Rattle.css_drive_relay.specs.Due.{due_for}
 use Rattle.css_drive_relay.specs.Standing.{Knows, KnowsPeers, IsAccepted, IsTelevision, Runs, Stands, IsAt, Stops, Arrives}
 use Rattle.css_drive_relay.specs.Standing.{facts_in, stood, named}
 use Rattle.css_drive_relay.specs.declared.config.RelayRun.{RelayRun}
 use Rattle.css_drive_relay.specs.declared.live.Live.{Live}
 use Rattle.css_drive_relay.proofs.Openings.{peers_lost}
-use Rattle.css_drive_relay.proofs.Peers.{accepted, television, unused, all_in, all_without}
+use Rattle.css_drive_relay.proofs.Peers.{accepted, television, unused, still, all_in, all_without}
 use Rattle.css_drive_relay.proofs.Serves.{same_faults, same_peers}
 use Rattle.css_drive_relay.proofs.Steps.{knows_plain, lawful, runs_more, runs_on, runs_as, stops_here, stops_by_fault}
 
@@ -98,7 +96,7 @@ module _ (live : Live) {run : RelayRun} {start now next : Shown} {history : Hist
                     (All-tail (IsAccepted next.counts.peers (Wrote peer text ∷ history)) peer left waits)
                     (accepted s.runs.peers le (λ q. refl));
                 television = television s.runs.peers le (λ q. refl);
-                unused = unused s.runs.peers le (λ q. refl);
+                unused = unused s.runs.peers le (λ q. refl) (still s.runs.peers le);
               });
           knows = knows_plain s.knows (Wrote peer text) refl refl refl refl refl refl refl;
         };
@@ -119,7 +117,7 @@ module _ (live : Live) {run : RelayRun} {start now next : Shown} {history : Hist
               (Gone peer ∷ history)) (sym e)
               (runs_on s.runs (SendText peer text) refl (Gone peer) (outcome.Gone, refl) next a.told
               (same_faults a.same)
-              (peers_lost s.runs.peers le (λ q. refl) peer
+              (peers_lost s.runs.peers le (λ q. refl) (still s.runs.peers le) peer
               (record { facts = lost peer (facts_in live); place = telling text left (lost peer (facts_in live)) }) refl
               (named_telling text left (lost peer (facts_in live))
               (All-tail (IsAccepted next.counts.peers (Gone peer ∷ history)) peer left waits)
@@ -140,7 +138,7 @@ module _ (live : Live) {run : RelayRun} {start now next : Shown} {history : Hist
             accepted = accepted s.peers le (λ q. refl);
             waiting = accepted s.peers le (λ q. refl);
             television = television s.peers le (λ q. refl);
-            unused = unused s.peers le (λ q. refl);
+            unused = unused s.peers le (λ q. refl) (still s.peers le);
           });
       knows = knows_plain k (Quiet peer) refl refl refl refl refl refl refl;
     };
@@ -162,7 +160,7 @@ module _ (live : Live) {run : RelayRun} {start now next : Shown} {history : Hist
             accepted = accepted s.peers le (λ q. refl);
             waiting = accepted s.peers le (λ q. refl);
             television = record { is = tt };
-            unused = unused s.peers le (λ q. refl);
+            unused = unused s.peers le (λ q. refl) (still s.peers le);
           }));
       knows = knows_plain k (Closed peer) refl refl refl refl refl refl (ap is_ts is);
     };
@@ -199,13 +197,13 @@ module _ (live : Live) {run : RelayRun} {start now next : Shown} {history : Hist
         waiting = named_telling_if (difference_text live.state state) (record (facts_in live) { state = state })
             (accepted s.peers le (λ q. refl));
         television = television s.peers le (λ q. refl);
-        unused = unused s.peers le (λ q. refl);
+        unused = unused s.peers le (λ q. refl) (still s.peers le);
       }
       peers (Some fault) = record {
         accepted = accepted s.peers le (λ q. refl);
         waiting = All-nil (IsAccepted next.counts.peers h);
         television = television s.peers le (λ q. refl);
-        unused = unused s.peers le (λ q. refl);
+        unused = unused s.peers le (λ q. refl) (still s.peers le);
       }
 
       ends : (x : Option CompanionFault) → IsRefusal x ended
@@ -227,7 +225,7 @@ module _ (live : Live) {run : RelayRun} {start now next : Shown} {history : Hist
                 accepted = accepted s.runs.peers le (λ q. refl);
                 waiting = All-tail (IsAccepted next.counts.peers (Quiet peer ∷ history)) peer left waits;
                 television = television s.runs.peers le (λ q. refl);
-                unused = unused s.runs.peers le (λ q. refl);
+                unused = unused s.runs.peers le (λ q. refl) (still s.runs.peers le);
               });
           knows = knows_plain s.knows (Quiet peer) refl refl refl refl refl refl refl;
         };
@@ -246,7 +244,7 @@ module _ (live : Live) {run : RelayRun} {start now next : Shown} {history : Hist
           runs = subst (λ (f : Facts). Runs run start next (record { facts = f; place = Asked left })
               (Closed peer ∷ history)) (sym e)
               (runs_on s.runs (TakeText peer) refl (Closed peer) (session.Closed, refl) next told faults
-              (peers_lost s.runs.peers le (λ q. refl) peer
+              (peers_lost s.runs.peers le (λ q. refl) (still s.runs.peers le) peer
               (record { facts = lost peer (facts_in live); place = Asked left }) refl
               (All-tail (IsAccepted next.counts.peers (Closed peer ∷ history)) peer left waits)));
           knows = knows_plain s.knows (Closed peer) refl refl refl refl refl refl (ap is_ts first.undialled);
@@ -266,7 +264,7 @@ module _ (live : Live) {run : RelayRun} {start now next : Shown} {history : Hist
         runs = subst (λ (f : Facts). Runs run start next (record { facts = f; place = Dropping peer left })
             (Heard peer bytes ∷ history)) (sym e)
             (runs_on s.runs (TakeText peer) refl (Heard peer bytes) (session.Text bytes, refl) next told faults
-            (peers_lost s.runs.peers le (λ q. refl) peer
+            (peers_lost s.runs.peers le (λ q. refl) (still s.runs.peers le) peer
             (record { facts = lost peer (facts_in live); place = Dropping peer left }) refl
             (All-tail (IsAccepted next.counts.peers (Heard peer bytes ∷ history)) peer left waits)));
         knows = knows_plain s.knows (Heard peer bytes) refl refl refl refl
@@ -286,7 +284,7 @@ module _ (live : Live) {run : RelayRun} {start now next : Shown} {history : Hist
                 accepted = accepted s.runs.peers le (λ q. refl);
                 waiting = all_in le (λ q. refl) left s.runs.peers.waiting;
                 television = television s.runs.peers le (λ q. refl);
-                unused = unused s.runs.peers le (λ q. refl);
+                unused = unused s.runs.peers le (λ q. refl) (still s.runs.peers le);
               });
           knows = knows_plain s.knows (HungUp peer) refl refl refl refl refl refl refl;
         };
@@ -333,7 +331,7 @@ taken_in live {run} {start} {now} {next} {history} peer bytes s told faults le a
                 (record (facts_in live) { state = relayed_state later.wc_url later.companion.state })
                 (accepted s.peers le (λ q. refl));
             television = television s.peers le (λ q. refl);
-            unused = unused s.peers le (λ q. refl);
+            unused = unused s.peers le (λ q. refl) (still s.peers le);
           });
       knows = k;
     }

@@ -7,3 +7,11 @@ pub mod Openings
 pub mod Hears
 pub mod Ends
 pub mod Answering
+pub mod Telling
+pub mod PlainDues
+pub mod ToldSessions
+pub mod Made
+pub mod ReadBack
+pub mod DatagramPlaces
+pub mod Sending
+pub mod SecondHop

@@ -1,7 +1,7 @@
 -- What the sessions that others open make of a relay's run.
-use Rattle.std.proofs.Common.{◌≡◌, ℕ, ◌≤◌, ◌<◌, arith, ap, sym, ◌∙◌, subst, refl, Bool, true, false, cond}
+use Rattle.std.proofs.Common.{◌≡◌, ℕ, ◌+◌, ◌≤◌, ◌<◌, arith, ap, sym, ◌∙◌, subst, refl, Bool, true, false}
 use Rattle.std.proofs.Common.{List, [], ◌∷◌, ◌++◌, Option, Some, None, Result, Ok, Err}
-use Rattle.std.specs.Prelude.{All, length, IfSome, MatchResult}
+use Rattle.std.specs.Prelude.{All, length, MatchResult}
 use Rattle.std.proofs.lemmas.List.Elements.{All-head, All-tail, All-nil, All-cons}
 use Rattle.css_model.specs.declared.Kind.{Kind}
 use Rattle.css_model.specs.History.{Accepted, NoneCame, Wrote, Gone, HungUp, History}
@@ -11,14 +11,16 @@ use Rattle.css_companion.specs.Meanings.{kind_of, is_ts}
 use Rattle.css_relay.specs.Relays.{Relay}
 use Rattle.css_drive.specs.CompanionStanding.{Shown, Adds, Failed}
 use Rattle.css_drive.specs.declared.driven.Driven.{Driven}
+use Rattle.css_drive.proofs.TvSteps.{below_later}
 use Rattle.css_drive.specs.Proper.{Accept, SendText, HangUp}
 use Rattle.css_outside.specs.declared.calls.Wrote.TheVariants as outcome
-use Rattle.css_drive_relay.specs.Places.{Facts, Place, Progress, Asked, Welcomed, Greeting, Rejecting, Served, after}
-use Rattle.css_drive_relay.specs.Places.{lost, next_asked, welcomed, is_kept, opened_if, at}
-use Rattle.css_drive_relay.specs.Standing.{KnowsPeers, IsAccepted, IsOpen, Runs, Stands, IsAt, Arrives, facts_in, stood, named}
+use Rattle.css_drive_relay.specs.Places.{Facts, Progress, Served, after}
+use Rattle.css_drive_relay.specs.Places.{lost, next_asked, welcomed, is_kept, opened_if}
+use Rattle.css_drive_relay.specs.Standing.{KnowsPeers, IsAccepted, IsOpen, IsNumbered, Runs, Stands, IsAt, Arrives}
+use Rattle.css_drive_relay.specs.Standing.{facts_in, stood, named}
 use Rattle.css_drive_relay.specs.declared.config.RelayRun.{RelayRun}
 use Rattle.css_drive_relay.specs.declared.live.Live.{Live}
-use Rattle.css_drive_relay.proofs.Peers.{peers_quiet, peers_named, accepted, television, unused, all_in, all_without}
+use Rattle.css_drive_relay.proofs.Peers.{accepted, television, unused, still, all_without}
 use Rattle.css_drive_relay.proofs.Serves.{same_faults, same_peers}
 use Rattle.css_drive_relay.proofs.Steps.{knows_plain, lawful, runs_more, runs_on, stops_by_fault}
 
@@ -30,14 +32,14 @@ named_next {n} {history} (Some p) peers all = All-nil (IsAccepted n history)
 
 -- so they were if one of them is over
 pub peers_lost : {n m : ℕ} {p : Progress} {history later : History} → KnowsPeers n p history → n ≤ m
-    → ((peer : ℕ) → kind_of peer later ≡ kind_of peer history) → (peer : ℕ) → (q : Progress)
+    → ((peer : ℕ) → kind_of peer later ≡ kind_of peer history) → IsNumbered m later → (peer : ℕ) → (q : Progress)
     → q.facts ≡ lost peer p.facts → All (IsAccepted m later) (named q.place) → KnowsPeers m q later
-peers_lost {m = m} {p} {later = later} k le same peer q e waits = record {
+peers_lost {m = m} {p} {later = later} k le same numbered peer q e waits = record {
   accepted = subst (λ (f : Facts). All (IsAccepted m later) f.peers) (sym e)
       (all_without peer p.facts.peers (accepted k le same));
   waiting = waits;
   television = subst (λ (f : Facts). IsOpen m later f.television) (sym e) (television k le same);
-  unused = unused k le same;
+  unused = unused k le same numbered;
 }
 
 snoc : {n : ℕ} {history : History} (peer : ℕ) (peers : List ℕ) → All (IsAccepted n history) peers
@@ -60,7 +62,7 @@ module _ (live : Live) {run : RelayRun} {start now next : Shown} {history : Hist
             accepted = accepted s.runs.peers le (λ q. refl);
             waiting = named_next live.television live.peers.items (accepted s.runs.peers le (λ q. refl));
             television = television s.runs.peers le (λ q. refl);
-            unused = unused s.runs.peers le (λ q. refl);
+            unused = unused s.runs.peers le (λ q. refl) (still s.runs.peers le);
           });
       knows = knows_plain s.knows NoneCame refl refl refl refl refl refl refl;
     };
@@ -85,19 +87,26 @@ module _ (live : Live) {run : RelayRun} {start now next : Shown} {history : Hist
       new : IsAccepted next.counts.peers (Accepted peer k ∷ history) peer
       new = record { used = omega (arith, is); undialled = s.runs.peers.unused.none peer lt }
 
+      numbered : IsNumbered next.counts.peers (Accepted peer k ∷ history)
+      numbered =
+          let before = s.runs.peers.unused.numbered in (
+            (omega (arith, is), (still s.runs.peers le).0),
+            (below_later (now.counts.peers + 1) peer history (omega (arith, lt)) before.0, before.1),
+          )
+
       peers : (b : Bool) → KnowsPeers next.counts.peers (opened_if b peer (facts_in live)) (Accepted peer k ∷ history)
       peers true = record {
         accepted = snoc peer live.peers.items (accepted s.runs.peers le (λ q. refl)) new;
         waiting = All-cons (IsAccepted next.counts.peers (Accepted peer k ∷ history)) peer [] new
             (All-nil (IsAccepted next.counts.peers (Accepted peer k ∷ history)));
         television = television s.runs.peers le (λ q. refl);
-        unused = unused s.runs.peers le (λ q. refl);
+        unused = unused s.runs.peers le (λ q. refl) numbered;
       }
       peers false = record {
         accepted = accepted s.runs.peers le (λ q. refl);
         waiting = All-nil (IsAccepted next.counts.peers (Accepted peer k ∷ history));
         television = television s.runs.peers le (λ q. refl);
-        unused = unused s.runs.peers le (λ q. refl);
+        unused = unused s.runs.peers le (λ q. refl) numbered;
       }
 
       by : (k : Kind) → kept ≡ is_kept k (length live.peers.items)
@@ -117,7 +126,7 @@ module _ (live : Live) {run : RelayRun} {start now next : Shown} {history : Hist
             waiting =
                 named_next live.television live.peers.items (accepted s.runs.peers (same_peers a.same) (λ q. refl));
             television = television s.runs.peers (same_peers a.same) (λ q. refl);
-            unused = unused s.runs.peers (same_peers a.same) (λ q. refl);
+            unused = unused s.runs.peers (same_peers a.same) (λ q. refl) (still s.runs.peers (same_peers a.same));
           });
       knows = knows_plain s.knows (HungUp peer) refl refl refl refl refl refl refl;
     };
@@ -140,7 +149,7 @@ module _ (live : Live) {run : RelayRun} {start now next : Shown} {history : Hist
             waiting = named_next live.television (live.peers.items ++ peer ∷ [])
                 (accepted s.runs.peers (same_peers a.same) (λ q. refl));
             television = television s.runs.peers (same_peers a.same) (λ q. refl);
-            unused = unused s.runs.peers (same_peers a.same) (λ q. refl);
+            unused = unused s.runs.peers (same_peers a.same) (λ q. refl) (still s.runs.peers (same_peers a.same));
           }));
       knows = knows_plain s.knows (Wrote peer text) refl refl refl refl refl refl refl;
     };
@@ -160,7 +169,7 @@ module _ (live : Live) {run : RelayRun} {start now next : Shown} {history : Hist
               (Gone peer ∷ history)) (sym e)
               (runs_on s.runs (SendText peer (full_text live.state)) refl (Gone peer) (outcome.Gone, refl) next
               a.told (same_faults a.same)
-              (peers_lost s.runs.peers (same_peers a.same) (λ q. refl) peer
+              (peers_lost s.runs.peers (same_peers a.same) (λ q. refl) (still s.runs.peers (same_peers a.same)) peer
               (after run (Gone peer) history (opened_if true peer (facts_in live))) refl
               (named_next live.television _
               (all_without peer (live.peers.items ++ peer ∷ [])

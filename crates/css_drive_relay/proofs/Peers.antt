@@ -1,5 +1,5 @@
 -- Which sessions were accepted, and which was dialled, as a history goes on.
-use Rattle.std.proofs.Common.{◌≡◌, ℕ, ◌≤◌, ◌<◌, arith, ap, sym, ◌∙◌, refl, subst, Bool, true, false, cond, List, [], ◌∷◌, ◌++◌}
+use Rattle.std.proofs.Common.{◌≡◌, ℕ, ◌≤◌, ◌<◌, arith, ap, sym, ◌∙◌, refl, subst, Bool, true, false, cond, List, [], ◌∷◌}
 use Rattle.std.proofs.Common.{Option, Some, None, eq-eqb, add-one}
 use Rattle.std.specs.Prelude.{All, IfSome, ◌==◌, ◌+◌, not, nat_lt}
 use Rattle.std.specs.List.{insert}
@@ -10,8 +10,9 @@ use Rattle.css_model.specs.declared.Kind.{Kind}
 use Rattle.css_model.specs.declared.Kind.TheVariants as kind
 use Rattle.css_model.specs.History.{Address, Dialled, Dialling, History}
 use Rattle.css_companion.specs.Meanings.{kind_of}
-use Rattle.css_drive_relay.specs.Places.{Facts, Place, Called, Progress, place, with_peer, without}
-use Rattle.css_drive_relay.specs.Standing.{IsAccepted, IsTelevision, IsOpen, AreUndialled, KnowsPeers, named}
+use Rattle.css_drive_relay.specs.Places.{Facts, Called, Progress, place, with_peer, without}
+use Rattle.css_drive.proofs.TvSteps.{below_later}
+use Rattle.css_drive_relay.specs.Standing.{IsAccepted, IsTelevision, IsOpen, IsNumbered, AreUnused, KnowsPeers, named}
 
 -- ---- the same kinds
 pub accepted_as : (n m : ℕ) (history later : History) → n ≤ m → ((q : ℕ) → kind_of q later ≡ kind_of q history)
@@ -49,30 +50,36 @@ television {n} {m} {p} {history} {later} k le same =
     record { is = television_as n m history later le same p.facts.television k.television.is }
 
 pub unused : {n m : ℕ} {p : Progress} {history later : History} → KnowsPeers n p history → n ≤ m
-    → ((q : ℕ) → kind_of q later ≡ kind_of q history) → AreUndialled m later
-unused {n} {m} k le same =
-    record { none = λ peer lt. same peer ∙ k.unused.none peer (omega (arith, le, lt)) }
+    → ((q : ℕ) → kind_of q later ≡ kind_of q history) → IsNumbered m later → AreUnused m later
+unused {n} {m} k le same numbered =
+    record { none = λ peer lt. same peer ∙ k.unused.none peer (omega (arith, le, lt)); numbered = numbered }
+
+-- the numbers of those that were accepted, where none was since
+pub still : {n m : ℕ} {p : Progress} {history : History} → KnowsPeers n p history → n ≤ m → IsNumbered m history
+still {n} {m} {history = history} k le =
+    let numbered = k.unused.numbered in
+    (below_later (n + 1) (m + 1) history (omega (arith, le)) numbered.0, numbered.1)
 
 -- the same sessions, at a place that names none of them
 pub peers_quiet : {n m : ℕ} {p q : Progress} {history later : History} → KnowsPeers n p history → n ≤ m
-    → ((peer : ℕ) → kind_of peer later ≡ kind_of peer history) → q.facts.peers ≡ p.facts.peers
+    → ((peer : ℕ) → kind_of peer later ≡ kind_of peer history) → IsNumbered m later → q.facts.peers ≡ p.facts.peers
     → q.facts.television ≡ p.facts.television → named q.place ≡ [] → KnowsPeers m q later
-peers_quiet {m = m} {later = later} k le same peers tv none = record {
+peers_quiet {m = m} {later = later} k le same numbered peers tv none = record {
   accepted = subst (λ (x : List ℕ). All (IsAccepted m later) x) (sym peers) (accepted k le same);
   waiting = subst (λ (x : List ℕ). All (IsAccepted m later) x) (sym none) (All-nil (IsAccepted m later));
   television = subst (λ (x : Option ℕ). IsOpen m later x) (sym tv) (television k le same);
-  unused = unused k le same;
+  unused = unused k le same numbered;
 }
 
 -- at a place that names some
 pub peers_named : {n m : ℕ} {p q : Progress} {history later : History} → KnowsPeers n p history → n ≤ m
-    → ((peer : ℕ) → kind_of peer later ≡ kind_of peer history) → q.facts.peers ≡ p.facts.peers
+    → ((peer : ℕ) → kind_of peer later ≡ kind_of peer history) → IsNumbered m later → q.facts.peers ≡ p.facts.peers
     → q.facts.television ≡ p.facts.television → All (IsAccepted n history) (named q.place) → KnowsPeers m q later
-peers_named {m = m} {q = q} {later = later} k le same peers tv some = record {
+peers_named {m = m} {q = q} {later = later} k le same numbered peers tv some = record {
   accepted = subst (λ (x : List ℕ). All (IsAccepted m later) x) (sym peers) (accepted k le same);
   waiting = all_in le same (named q.place) some;
   television = subst (λ (x : Option ℕ). IsOpen m later x) (sym tv) (television k le same);
-  unused = unused k le same;
+  unused = unused k le same numbered;
 }
 
 -- the accepted sessions without one
@@ -109,12 +116,14 @@ television_dialled n m q k to history lt le (Some p) is =
     record { used = omega (arith, le, lt, known); dialled = other_kind n p q k to history known lt ∙ is.dialled }
 
 unused_dialled : (n m q : ℕ) (k : Kind) (to : Address) (history : History) → n < q → q ≤ m
-    → AreUndialled n history → AreUndialled m (Dialled k q ∷ Dialling k to ∷ history)
+    → AreUnused n history → AreUnused m (Dialled k q ∷ Dialling k to ∷ history)
 unused_dialled n m q k to history lt le unused = record {
   none = λ peer more.
       ap (λ b. option_or (cond b (Some k) None) (kind_of peer history))
       (ne_eqb q peer (λ e. omega (arith, le, more, e)))
       ∙ unused.none peer (omega (arith, lt, le, more));
+  numbered =
+      (below_later (n + 1) (m + 1) history (omega (arith, lt, le)) unused.numbered.0, unused.numbered.1);
 }
 
 -- the television's session was dialled

@@ -1,5 +1,5 @@
 -- What a relay sends in answer is no request, and what is due after a datagram.
-use Rattle.std.proofs.Common.{◌≡◌, ℕ, ap, subst, ◌∙◌, refl, Bool, true, false, cond, List, [], ◌∷◌, Option, Some, None}
+use Rattle.std.proofs.Common.{◌≡◌, ℕ, ap, subst, ◌∙◌, refl, Bool, true, false, cond, List, Option, Some, None}
 use Rattle.std.proofs.Common.{Result, Ok, Err}
 use Rattle.std.specs.Prelude.{pos, max, nat_lt, ◌==◌}
 use Rattle.std.specs.Option.{option_and_then}
@@ -13,7 +13,7 @@ use Rattle.css_model.specs.WallClock.{Local}
 use Rattle.css_span.specs.Frontiers.{greatest_error}
 use Rattle.css_span.specs.WallSpans.{wall_span}
 use Rattle.css_model.specs.Wire.{encoded, fields, fault, unless_fault}
-use Rattle.css_relay.specs.Answers.{Ticket, response_to, unless_wide, answer_at, answered, answered_after, datagram_of}
+use Rattle.css_relay.specs.Answers.{Ticket, response_to, answer_at, answered, answered_after, datagram_of}
 use Rattle.css_relay.specs.Middles.{between, cut, is_beyond}
 use Rattle.css_relay.specs.declared.fault.RelayFault.{RelayFault}
 use Rattle.css_relay.specs.declared.fault.RelayFault.TheVariants as faults

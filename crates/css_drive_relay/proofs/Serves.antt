@@ -1,14 +1,13 @@
 -- What a relay's requests, landings and answers make of its run.
-use Rattle.std.proofs.Common.{◌≡◌, ℕ, ◌≤◌, arith, ap, sym, ◌∙◌, subst, refl, Bool, true, false, cond}
+use Rattle.std.proofs.Common.{◌≡◌, ℕ, ◌≤◌, arith, ap, sym, ◌∙◌, refl, Bool, true, false, cond}
 use Rattle.std.proofs.Common.{List, [], ◌∷◌, ◌++◌, take, Option, Some, None, Result, Ok, Err}
 use Rattle.std.specs.Prelude.{is_some, ◌&&◌, MatchResult}
 use Rattle.std.specs.Option.{option_map}
-use Rattle.css_model.specs.declared.Stamp.{Stamp}
 use Rattle.css_model.specs.declared.Message.{Message}
 use Rattle.css_model.specs.declared.Why.{Why}
 use Rattle.css_model.specs.declared.Why.TheVariants as why
 use Rattle.css_model.specs.Explains.{IsLawful}
-use Rattle.css_model.specs.History.{Slept, Clock, Sent, Took, TookNone, History, request_in, request_by}
+use Rattle.css_model.specs.History.{Clock, Sent, Took, TookNone, History, request_in}
 use Rattle.css_model.specs.Wire.{encoded, request_at}
 use Rattle.css_model.specs.WallClock.{Local}
 use Rattle.css_outside.specs.Outsides.{Counts, with_entries, clock_entries, sleep_entries}
@@ -20,19 +19,19 @@ use Rattle.css_relay.specs.declared.fault.RelayFault.{RelayFault}
 use Rattle.css_drive.specs.CompanionDue.{send_to}
 use Rattle.css_drive.specs.CompanionStanding.{Shown, Adds, Failed}
 use Rattle.css_drive.specs.CompanionTurns.{is_asking}
-use Rattle.css_drive.specs.Proper.{Due, Now, SendDatagram, TakeDatagram}
+use Rattle.css_drive.specs.Proper.{Due, SendDatagram, TakeDatagram}
 use Rattle.css_drive.specs.declared.driven.Driven.{Driven}
 use Rattle.css_drive.proofs.CompanionCalls.{lawful_plain}
-use Rattle.css_drive_relay.specs.Places.{Facts, Place, Progress, Asking, Requested, Taken, Received, Answers, Served}
-use Rattle.css_drive_relay.specs.Places.{after, received, answering, at}
+use Rattle.css_drive_relay.specs.Places.{Facts, Place, Asking, Requested, Taken, Received, Answers, Served}
+use Rattle.css_drive_relay.specs.Places.{after, received, answering}
 use Rattle.css_drive_relay.specs.Due.{due_at, from_ask, from_take, from_taken}
 use Rattle.css_drive_relay.specs.Standing.{Knows, KnowsPeers, Runs, Stands, IsAt, Comes, Arrives, HasRead, facts_in, stood, named}
 use Rattle.css_drive_relay.specs.declared.config.RelayRun.{RelayRun}
 use Rattle.css_drive_relay.specs.declared.live.Live.{Live}
-use Rattle.css_drive_relay.proofs.Responses.{answer_is_no_request}
 use Rattle.css_drive_relay.proofs.Dialling.{comes}
-use Rattle.css_drive_relay.proofs.Peers.{peers_quiet}
-use Rattle.css_drive_relay.proofs.Steps.{knows_plain, lawful, runs_more, runs_on, runs_read, kinds_read, stops_by_fault}
+use Rattle.css_drive_relay.proofs.Peers.{peers_quiet, still}
+use Rattle.css_drive_relay.proofs.Steps.{knows_plain, lawful, runs_more, runs_on, runs_read, kinds_read, numbers_read}
+use Rattle.css_drive_relay.proofs.Steps.{stops_by_fault}
 
 pub same_faults : {old new : Counts} → new ≡ old → new.faults ≡ old.faults
 same_faults e = ap {A = Counts} (λ x. x.faults) e
@@ -60,9 +59,11 @@ peers_read : {now mid : Shown} {live later : Live} {history : History} {was is :
     (place next : Place) → KnowsPeers now.counts.peers (stood live place) history
     → HasRead now mid live later was is w clocked → named next ≡ []
     → KnowsPeers mid.counts.peers (stood later next) (clock_entries w clocked ++ history)
-peers_read {history = history} {clocked = clocked} {w} place next k r none =
+peers_read {mid = mid} {history = history} {clocked = clocked} {w} place next k r none =
     let same = r.peers in
-    peers_quiet k (omega (arith, same)) (kinds_read w clocked history) (ap {A = Facts} (λ x. x.peers) r.only)
+    peers_quiet k (omega (arith, same)) (kinds_read w clocked history)
+    (numbers_read mid.counts.peers w clocked history (still k (omega (arith, same))))
+    (ap {A = Facts} (λ x. x.peers) r.only)
     (ap {A = Facts} (λ x. x.television) r.only) none
 
 module _ {run : RelayRun} {start now : Shown} {live later : Live} {history : History} {was is : Relay}
@@ -141,7 +142,8 @@ requested {run} {start} {now} {next} {later} {history = history} live reading pe
           (Sent peer bytes ∷ []) refl next a.told (same_faults a.same) (stood later Requested)
           (ap (after run (Sent peer bytes) history) s.progress
           ∙ ap (λ (f : Facts). record { facts = f; place = Requested }) (sym e))
-          (peers_quiet s.peers (same_peers a.same) (λ q. refl) (ap {A = Facts} (λ x. x.peers) e)
+          (peers_quiet s.peers (same_peers a.same) (λ q. refl) (still s.peers (same_peers a.same))
+          (ap {A = Facts} (λ x. x.peers) e)
           (ap {A = Facts} (λ x. x.television) e) refl);
       knows = k;
     }) from_take refl
@@ -156,7 +158,7 @@ answer_sent {run} {history = history} live next peer bytes s k none (Ok done) a 
   history = Sent peer bytes ∷ history;
   stands = record {
     runs = runs_on s (SendDatagram peer bytes) refl (Sent peer bytes) refl next a.told (same_faults a.same)
-        (peers_quiet s.peers (same_peers a.same) (λ q. refl) refl refl refl);
+        (peers_quiet s.peers (same_peers a.same) (λ q. refl) (still s.peers (same_peers a.same)) refl refl refl);
     knows = knows_plain k (Sent peer bytes) refl refl
         (ap (λ (o : Option Message). option_map (λ message. message.originate) o) none) refl refl refl refl;
   };
@@ -177,7 +179,8 @@ module _ (live : Live) {run : RelayRun} {start now next : Shown} {history : Hist
       history = TookNone ∷ history;
       stands = record {
         runs = runs_on s.runs TakeDatagram d TookNone ([], None, refl) next told faults
-            (peers_quiet s.runs.peers (after_call now.counts next.counts same) (λ q. refl) refl refl refl);
+            (peers_quiet s.runs.peers (after_call now.counts next.counts same) (λ q. refl)
+            (still s.runs.peers (after_call now.counts next.counts same)) refl refl refl);
         knows = knows_plain s.knows TookNone refl refl refl refl refl refl refl;
       };
     }
@@ -191,7 +194,9 @@ module _ (live : Live) {run : RelayRun} {start now next : Shown} {history : Hist
         (Took peer (take count room) ∷ history)
     took s d peer count room told faults same = record {
       runs = runs_on s.runs TakeDatagram d (Took peer (take count room)) (room, Some (peer, count), refl) next told
-          faults (peers_quiet s.runs.peers (after_call now.counts next.counts same) (λ q. refl) refl refl refl);
+          faults
+          (peers_quiet s.runs.peers (after_call now.counts next.counts same) (λ q. refl)
+          (still s.runs.peers (after_call now.counts next.counts same)) refl refl refl);
       knows = knows_plain s.knows (Took peer (take count room)) refl refl refl refl refl refl refl;
     }
 

@@ -1,6 +1,6 @@
 -- How a relay's run goes on by a call that is due, and how it ends.
-use Rattle.std.proofs.Common.{◌≡◌, ℕ, ◌≤◌, ◌<◌, arith, ap, sym, ◌∙◌, subst, refl, Bool, true, false}
-use Rattle.std.proofs.Common.{List, [], ◌∷◌, ◌++◌, Option, Some, None}
+use Rattle.std.proofs.Common.{◌≡◌, ℕ, ap, sym, ◌∙◌, subst, refl, Bool, true, false}
+use Rattle.std.proofs.Common.{[], ◌∷◌, ◌++◌, None}
 use Rattle.css_model.specs.declared.Why.{Why}
 use Rattle.css_model.specs.Explains.{IsLawful}
 use Rattle.css_model.specs.History.{Entry, Slept, Clock, History, is_sleep, asking_at, request_by, landed_answer}
@@ -17,7 +17,7 @@ use Rattle.css_drive.specs.declared.driven.Driven.TheVariants as driven
 use Rattle.css_drive.proofs.CompanionSteps.{told_more, counts_same, fault_ends}
 use Rattle.css_drive_relay.specs.Places.{Facts, Place, Progress, after, progress_of}
 use Rattle.css_drive_relay.specs.Due.{due, due_at, due_for}
-use Rattle.css_drive_relay.specs.Standing.{Knows, KnowsPeers, Runs, Stops, HasRead, facts_in, stood}
+use Rattle.css_drive_relay.specs.Standing.{Knows, KnowsPeers, IsNumbered, Runs, Stops, HasRead, facts_in, stood}
 use Rattle.css_drive_relay.specs.declared.live.Live.{Live}
 use Rattle.css_drive_relay.specs.declared.config.RelayRun.{RelayRun}
 
@@ -107,6 +107,14 @@ kinds_read w clocked history peer = by clocked.slept
     by true = refl
     by false = refl
 
+pub numbers_read : (m : ℕ) (w : Why) (clocked : Clocked) (history : History) → IsNumbered m history
+    → IsNumbered m (clock_entries w clocked ++ history)
+numbers_read m w clocked history numbered = by clocked.slept
+  where
+    by : (b : Bool) → IsNumbered m (clock_entries w (record { reading = clocked.reading; slept = b }) ++ history)
+    by true = numbered
+    by false = numbered
+
 -- the clock was read
 pub runs_read : {run : RelayRun} {start now : Shown} {live later : Live} {place : Place} {history : History}
     {was is : Relay} → Runs run start now (stood live place) history → (w : Why)
@@ -135,6 +143,7 @@ stops_by_fault {run} {start} {now} {history = history} s l next ended f =
       counted = subst P s.faults f.counted;
       proper = s.proper;
       lawful = l;
+      numbered = s.peers.unused.numbered.1;
       ends = fault_ends (due run history) ended f.fault;
     }
 
@@ -150,6 +159,7 @@ stops_here {run} {start} {now} {history = history} s l ended never ends =
       counted = counts_same start.counts.faults now.counts.faults ended never s.faults;
       proper = s.proper;
       lawful = l;
+      numbered = s.peers.unused.numbered.1;
       ends = subst P (sym (due_now s)) ends;
     }
 

@@ -1,5 +1,5 @@
 -- Which call a relay's run has to make next: a function of what its calls did so far.
-use Rattle.std.specs.Prelude.{ℕ, nat_lt, List, [], ◌∷◌, ◌&&◌, ◌||◌, Bool, if◌then◌else◌, Option, Some, None, is_some}
+use Rattle.std.specs.Prelude.{ℕ, nat_lt, List, [], ◌∷◌, ◌&&◌, ◌||◌, Bool, if◌then◌else◌, is_some}
 use Rattle.css_model.specs.declared.Why.TheVariants as why
 use Rattle.css_model.specs.declared.Kind.{Kind}
 use Rattle.css_model.specs.declared.Kind.TheVariants as kind

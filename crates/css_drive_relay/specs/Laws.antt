@@ -1,15 +1,13 @@
 -- What holds of every relay's run, by its calls alone.
-use Rattle.std.specs.Prelude.{ℕ, ◌≡◌, List, ◌∷◌, length, Ok}
+use Rattle.std.specs.Prelude.{ℕ, ◌≡◌, List, length}
 use Rattle.css_model.specs.declared.Message.{Message}
-use Rattle.css_model.specs.declared.Why.TheVariants as why
 use Rattle.css_model.specs.Explains.{IsLawful, Explains}
-use Rattle.css_model.specs.History.{Clock, History, Once}
+use Rattle.css_model.specs.History.{History}
 use Rattle.css_model.specs.WallClock.{Local}
 use Rattle.css_model.specs.Wire.{encoded}
 use Rattle.css_model.specs.World.{World, Errors, IsWorldFor, IsInRange}
-use Rattle.css_relay.specs.Answers.{Ticket, received_after}
 use Rattle.css_relay.specs.TwoHops.{IsAnswerOf, IsTrueResponse, IsTruthfulToAll}
-use Rattle.css_drive_relay.specs.Places.{Place, Received, Answers, progress_of}
+use Rattle.css_drive_relay.specs.Places.{Answers, progress_of}
 use Rattle.css_drive_relay.specs.declared.config.RelayRun.{RelayRun}
 
 -- The bytes are the datagram of the answer to a request that was taken in the history.

@@ -1,5 +1,5 @@
 -- How the variables of a relay's run stand for its history.
-use Rattle.std.specs.Prelude.{◌≡◌, ◌≤◌, ◌<◌, ◌⊎◌, ℕ, List, [], ◌∷◌, ◌++◌, drop, All, Option, Some, None, IfSome}
+use Rattle.std.specs.Prelude.{◌≡◌, ◌≤◌, ◌<◌, ◌+◌, ◌⊎◌, ℕ, List, [], ◌∷◌, ◌++◌, drop, All, Option, Some, None, IfSome}
 use Rattle.std.specs.Prelude.{Result, MatchResult}
 use Rattle.css_model.specs.declared.TheConstants.{LIMIT}
 use Rattle.css_model.specs.declared.Kind.TheVariants as kind
@@ -15,6 +15,7 @@ use Rattle.css_relay.specs.Relays.{Relay, wc_url_of}
 use Rattle.css_drive.specs.CompanionStanding.{Shown, asked_after}
 use Rattle.css_drive.specs.Ends.{MayEnd, CountsNetFault}
 use Rattle.css_drive.specs.Proper.{Due}
+use Rattle.css_drive.specs.TvRan.{AreBelow, AreNumbered}
 use Rattle.css_drive.specs.declared.driven.Driven.{Driven}
 use Rattle.css_drive_relay.specs.Places.{Place, Greeting, Telling, Asked, Dropping, Over, Facts, Progress}
 use Rattle.css_drive_relay.specs.Places.{beginning, progress_of}
@@ -55,9 +56,14 @@ pub record IsTelevision (greatest : ℕ) (history : History) (peer : ℕ) : Type
 pub record IsOpen (greatest : ℕ) (history : History) (television : Option ℕ) : Type 0 where
   pub is : IfSome television (IsTelevision greatest history)
 
--- no peer with a greater number was dialled
-pub record AreUndialled (greatest : ℕ) (history : History) : Type 0 where
+-- the peers that were accepted have rising numbers up to this one
+abbrev pub IsNumbered : ℕ → History → Type 0
+IsNumbered greatest history = AreBelow (greatest + 1) history × AreNumbered history
+
+-- no peer with a greater number was dialled or accepted
+pub record AreUnused (greatest : ℕ) (history : History) : Type 0 where
   pub none : (peer : ℕ) → greatest < peer → kind_of peer history ≡ None
+  pub numbered : IsNumbered greatest history
 
 -- the accepted sessions that a place names
 abbrev pub named : Place → List ℕ
@@ -72,7 +78,7 @@ pub record KnowsPeers (greatest : ℕ) (p : Progress) (history : History) : Type
   pub accepted : All (IsAccepted greatest history) p.facts.peers
   pub waiting : All (IsAccepted greatest history) (named p.place)
   pub television : IsOpen greatest history p.facts.television
-  pub unused : AreUndialled greatest history
+  pub unused : AreUnused greatest history
 
 -- the facts that the variables say, at a place
 abbrev pub stood : Live → Place → Progress
@@ -117,6 +123,7 @@ pub record Stops (run : RelayRun) (start now : Shown) (ended : Driven) : Type 0 
   pub counted : CountsNetFault start.counts.faults now.counts.faults ended
   pub proper : IsProperRelay run history
   pub lawful : IsLawful history
+  pub numbered : AreNumbered history
   pub ends : MayEnd (due run history) ended
 
 -- the run came to a place, or it ended

@@ -93,7 +93,8 @@ fn land<O: Outside>(
 ) -> Result<(), Driven>
     requires { relay.old.companion.client.floor ≤ (O.counts outside.old).last }
     ensures goes { (start : Shown) (history : History) (peer : ℕ) (taken : List ℕ)
-        → Stands run.now start (shown (O.told outside.old) (O.counts outside.old)) relay.old (stood live.old (Taken peer taken)) (entries.Took peer taken ∷ history)
+        → Stands run.now start (shown (O.told outside.old) (O.counts outside.old)) relay.old
+        (stood live.old (Taken peer taken)) (entries.Took peer taken ∷ history)
         → Knows run.now relay.old history → taken ≡ bytes.now → is_some (request_in taken) ≡ false
         → Arrives run.now start (shown (O.told outside.new) (O.counts outside.new)) relay.new live.new Served result }
     ensures floor { OnOk result (relay.new.companion.client.floor ≤ (O.counts outside.new).last) }
@@ -122,7 +123,8 @@ fn answer<O: Outside>(
 ) -> Result<(), Driven>
     requires { relay.old.companion.client.floor ≤ (O.counts outside.old).last }
     ensures goes { (start : Shown) (history : History) (received : Ticket)
-        → Stands run.now start (shown (O.told outside.old) (O.counts outside.old)) relay.old (stood live.old (Received peer received)) history → received ≡ ticket
+        → Stands run.now start (shown (O.told outside.old) (O.counts outside.old)) relay.old
+        (stood live.old (Received peer received)) history → received ≡ ticket
         → Arrives run.now start (shown (O.told outside.new) (O.counts outside.new)) relay.new live.new Served result }
     ensures floor { OnOk result (relay.new.companion.client.floor ≤ (O.counts outside.new).last) }
     ensures keeps { KeepsDials (O.counts outside.old) (O.counts outside.new) live.old live.new }
@@ -147,7 +149,8 @@ fn receive<O: Outside>(
 ) -> Result<(), Driven>
     requires { relay.old.companion.client.floor ≤ (O.counts outside.old).last }
     ensures goes { (start : Shown) (history : History) (taken : List ℕ)
-        → Stands run.now start (shown (O.told outside.old) (O.counts outside.old)) relay.old (stood live.old (Taken peer taken)) history → taken ≡ bytes.now → is_some (request_in taken) ≡ true
+        → Stands run.now start (shown (O.told outside.old) (O.counts outside.old)) relay.old
+        (stood live.old (Taken peer taken)) history → taken ≡ bytes.now → is_some (request_in taken) ≡ true
         → Arrives run.now start (shown (O.told outside.new) (O.counts outside.new)) relay.new live.new Served result }
     ensures floor { OnOk result (relay.new.companion.client.floor ≤ (O.counts outside.new).last) }
     ensures keeps { KeepsDials (O.counts outside.old) (O.counts outside.new) live.old live.new }
@@ -205,7 +208,8 @@ fn take<O: Outside>(
 ) -> Result<(), Driven>
     requires { relay.old.companion.client.floor ≤ (O.counts outside.old).last }
     ensures goes { (start : Shown) (history : History) (taken : List ℕ)
-        → Stands run.now start (shown (O.told outside.old) (O.counts outside.old)) relay.old (stood live.old (Taken peer taken)) (entries.Took peer taken ∷ history)
+        → Stands run.now start (shown (O.told outside.old) (O.counts outside.old)) relay.old
+        (stood live.old (Taken peer taken)) (entries.Took peer taken ∷ history)
         → Knows run.now relay.old history → taken ≡ bytes.now
         → Arrives run.now start (shown (O.told outside.new) (O.counts outside.new)) relay.new live.new Served result }
     ensures floor { OnOk result (relay.new.companion.client.floor ≤ (O.counts outside.new).last) }

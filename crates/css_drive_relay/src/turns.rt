@@ -7,7 +7,8 @@ ghost use Rattle.css_drive_relay.specs.Places.{Place, Asked, Begun};
 ghost use Rattle.css_drive_relay.specs.Due.{due_at, from_take};
 ghost use Rattle.css_drive.specs.Ends.{CountsDialFaults};
 ghost use Rattle.css_drive_relay.specs.Ran.{IsWritable, RelayRan, CountsRelayRun};
-ghost use Rattle.css_drive_relay.specs.Standing.{facts_in, stood, listening, Stands, Stops, Knows, Goes, Arrives, Keeps, KeepsDials};
+ghost use Rattle.css_drive_relay.specs.Standing.{facts_in, stood, listening, Stands, Stops, Knows, Goes, Arrives};
+ghost use Rattle.css_drive_relay.specs.Standing.{Keeps, KeepsDials};
 
 use crate::calls::{end_of, read};
 use crate::config::RelayRun;

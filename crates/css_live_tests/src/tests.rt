@@ -51,6 +51,22 @@ fn asleep(reading: u64) -> Clocked
     }
 }
 
+/// A sleep is told at the turn before the next request.
+fn slept_and_asked(alloc: Global) -> Result<Vec<Clocked>, Memory>
+    ensures { IfOk result (λ readings. IsTrue (are_readings 0 readings.items)) }
+{
+    Ok(vec![in alloc;
+        awake(0),
+        awake(5),
+        awake(6),
+        awake(8),
+        asleep(10),
+        awake(12),
+        awake(14),
+        awake(20),
+    ]?)
+}
+
 /// What the clock reads.
 fn readings_of(alloc: Global, times: Times) -> Result<Vec<Clocked>, Memory>
     ensures { IfOk result (λ readings. IsTrue (are_readings 0 readings.items)) }
@@ -80,16 +96,7 @@ fn readings_of(alloc: Global, times: Times) -> Result<Vec<Clocked>, Memory>
             awake(10),
             awake(20),
         ]?),
-        Times::SleptAndAsked => Ok(vec![in alloc;
-            awake(0),
-            awake(5),
-            awake(6),
-            awake(8),
-            asleep(10),
-            awake(12),
-            awake(14),
-            awake(20),
-        ]?),
+        Times::SleptAndAsked => slept_and_asked(alloc),
         Times::Soon => Ok(vec![in alloc; awake(0), awake(1), awake(2)]?),
         Times::Seconds => {
             Ok(vec![in alloc; awake(0), awake(1_000_000_000), awake(2_000_000_000)]?)

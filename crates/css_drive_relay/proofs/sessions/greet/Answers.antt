@@ -1,19 +1,8 @@
-use Rattle.std.proofs.Common.{◌≡◌, refl, sym, ◌∙◌, ap, subst, inl, inr, arith, true, false, Option, Some, None}
-use Rattle.std.proofs.Common.{Result, Ok, Err, ℕ, List, ◌∷◌, [], ◌++◌, take}
-use Rattle.std.proofs.lemmas.Grind.{common_steps}
-use Rattle.css_model.specs.declared.Kind.TheVariants as kind
-use Rattle.css_model.specs.declared.Why.TheVariants as why
-use Rattle.css_model.specs.History.{Clock, Slept, Sent, Took, TookNone, Quiet, Heard, Closed, History}
-use Rattle.css_outside.specs.Outsides.{clock_entries, sleep_entries}
-use Rattle.css_outside.specs.declared.calls.Clocked.{Clocked}
-use Rattle.css_drive_relay.specs.Places.{Facts, Place, Progress}
-use Rattle.css_drive_relay.proofs.Dialling as dials
-use Rattle.css_drive_relay.proofs.Serves as serves
+use Rattle.std.proofs.Common.{refl, ◌∙◌, ap}
+use Rattle.std.proofs.Common.{ℕ, List}
+use Rattle.css_drive_relay.specs.Places.{Facts}
 use Rattle.css_drive_relay.proofs.Openings as openings
-use Rattle.css_drive_relay.proofs.Hears as hears
-use Rattle.css_drive_relay.proofs.Ends as ends
 use Rattle.css_drive_relay.proofs.Steps as steps
-use Rattle.css_drive_relay.proofs.Responses as datagrams
 use Rattle.css_sessions.specs.Kept.{full_text}
 use Rattle.css_drive_relay.specs.Places.{lost}
 use Rattle.css_drive_relay.specs.Standing.{facts_in}

@@ -1,4 +1,4 @@
-use Rattle.std.proofs.Common.{◌≡◌, ◌≤◌, ◌-◌, []}
+use Rattle.std.proofs.Common.{◌≤◌, ◌-◌, []}
 use Rattle.css_model.specs.History.{History}
 use Rattle.css_drive.specs.CompanionStanding.{Shown, shown}
 use Rattle.css_drive_relay.specs.Places.{Asked}

@@ -1,0 +1,312 @@
+-- Why each response of a relay's whole run answers the request that was taken last before it.
+use Rattle.std.proofs.Common.{◌≡◌, ℕ, ◌≤◌, Bool, true, false, List, [], ◌∷◌, ◌++◌, Option, Some, None, length}
+use Rattle.std.proofs.Common.{refl, sym, ap, subst, ◌∙◌, arith, inl, inr, take}
+use Rattle.std.specs.Prelude.{◌⊎◌, IfSome, IsTrue, Result, Ok, Err}
+use Rattle.std.specs.Result.{result_ok}
+use Rattle.css_drive.specs.Proper.{Due, Listen, Now, Dial, Accept, SendDatagram, TakeDatagram, TakeText, SendText}
+use Rattle.css_drive.specs.Proper.{HangUp, Ends, MayAdd, Empty, More}
+use Rattle.css_model.specs.declared.Message.{Message}
+use Rattle.css_model.specs.declared.Kind.{Kind}
+use Rattle.css_model.specs.declared.Why.{Why}
+use Rattle.css_model.specs.declared.Why.TheVariants as why
+use Rattle.css_model.specs.WallClock.{Local}
+use Rattle.css_model.specs.Wire.{encoded, decoded}
+use Rattle.css_model.specs.World.{World, Errors, IsWorldFor, IsInRange}
+use Rattle.css_model.specs.Explains.{IsLawful, IsTruthful, TruthfulAt, Explains}
+use Rattle.css_model.proofs.Wall.{wall_is_true}
+use Rattle.css_model.specs.History.{Entry, History, Each, Once, LandedAnswer, landed_answer, landed_answers}
+use Rattle.css_model.specs.History.{is_possible}
+use Rattle.css_model.specs.History.{Listening, Slept, Clock, Dialling, Dialled, NotDialled, Accepted, NoneCame, Sent}
+use Rattle.css_model.specs.History.{Took, TookNone, Quiet, Heard, Closed, Wrote, Gone, HungUp}
+use Rattle.css_outside.specs.Outsides.{opening_entries, datagram_entries, heard_entries, wrote_entries, sleep_entries}
+use Rattle.css_outside.specs.declared.calls.Heard.{Heard as SessionHeard}
+use Rattle.css_outside.specs.declared.calls.Heard.TheVariants as heard
+use Rattle.css_outside.specs.declared.calls.Wrote.{Wrote as Outcome}
+use Rattle.css_outside.specs.declared.calls.Wrote.TheVariants as outcome
+use Rattle.css_relay.specs.Answers.{answered_after}
+use Rattle.css_relay.specs.TwoHops.{IsAnswerOf, IsTrueResponse}
+use Rattle.css_relay.specs.declared.fault.RelayFault.{RelayFault}
+use Rattle.css_relay.proofs.TwoHops as two
+use Rattle.css_drive_relay.specs.Places.{Place, Received}
+use Rattle.css_drive_relay.specs.Places.{progress_of}
+use Rattle.css_drive_relay.specs.Due.{due_at, IsProperRelay}
+use Rattle.css_drive_relay.specs.SecondHop.{given_at, given_by, IsGiven, last_take, GivenIsTrue}
+use Rattle.css_drive_relay.specs.SecondHop.{IsTrueAnswer, IsRequest, IsResponse, IsSentAt, IsFromRun, FromRunAt}
+use Rattle.css_drive_relay.specs.SecondHop.{SecondHopsAreTrue}
+use Rattle.css_drive_relay.proofs.DatagramPlaces.{Shows, Shape, shape_of}
+use Rattle.css_drive_relay.proofs.ReadBack.{TellSame, reads_back, true_as}
+use Rattle.css_drive_relay.proofs.Sending.{sent_is_known}
+use Rattle.css_drive_relay.specs.declared.config.RelayRun.{RelayRun}
+
+-- ---- responses that were given
+-- the response answers the request that was taken last
+record IsFound (own : Local) (h : History) (message : Message) (before : History) : Type 0 where
+  answer : IsAnswerOf own h message
+  at_take : length answer.before_take ≡ last_take before
+  at_give : answer.before_give ≡ before
+
+found_later : {own : Local} {h : History} {message : Message} {before : History} (entry : Entry)
+    → IsFound own h message before → IsFound own (entry ∷ h) message before
+found_later entry x = record {
+  answer = record {
+    request = x.answer.request;
+    ticket = x.answer.ticket;
+    take = x.answer.take;
+    give = x.answer.give;
+    before_take = x.answer.before_take;
+    before_give = x.answer.before_give;
+    taken = x.answer.taken;
+    given = inr x.answer.given;
+    received = x.answer.received;
+    answered = x.answer.answered;
+  };
+  at_take = x.at_take;
+  at_give = x.at_give;
+}
+
+abbrev Finds : RelayRun → History → Type 0
+Finds run h = (message : Message) (before : History) → IsGiven run h message before
+    → IsFound run.companion.local h message before
+
+-- an entry that gives none
+skip : (run : RelayRun) (older : History) (entry : Entry) → given_by run entry older ≡ None → Finds run older
+    → Finds run (entry ∷ older)
+skip run older entry none finds message before (inl here) =
+    absurd (let e : None ≡ Some message = sym none ∙ here.0 in cc)
+skip run older entry none finds message before (inr later) = found_later entry (finds message before later)
+
+ok_some : (x : Result Message RelayFault) (message : Message) → result_ok x ≡ Some message → x ≡ Ok message
+ok_some (Ok m) message e = cc
+ok_some (Err fault) message e = absurd (cc)
+
+-- the request was taken just before the sleeps, if there were any
+taken_before : (take : ℕ) (b h : History) (slept : Bool) → h ≡ Clock why.Take take ∷ b
+    → Once (λ entry older. (entry ≡ Clock why.Take take) × (older ≡ b)) (sleep_entries slept ++ h)
+taken_before take b h false e =
+    subst (λ (x : History). Once (λ entry older. (entry ≡ Clock why.Take take) × (older ≡ b)) x) (sym e)
+    (inl (refl, refl))
+taken_before take b h true e =
+    inr (subst (λ (x : History). Once (λ entry older. (entry ≡ Clock why.Take take) × (older ≡ b)) x) (sym e)
+    (inl (refl, refl)))
+
+last_before : (take : ℕ) (b h : History) (slept : Bool) → h ≡ Clock why.Take take ∷ b
+    → length b ≡ last_take (sleep_entries slept ++ h)
+last_before take b h false e = sym (ap last_take e)
+last_before take b h true e = sym (ap last_take e)
+
+-- it is given with a reading
+gives : (run : RelayRun) (h : History) (reading : ℕ) (slept : Bool) (message : Message) (place : Place)
+    → Shows run h place
+    → given_at run reading (sleep_entries slept ++ h) place ≡ Some message
+    → IsFound run.companion.local (Clock why.Give reading ∷ (sleep_entries slept ++ h)) message
+    (sleep_entries slept ++ h)
+gives run h reading slept message (Received peer ticket) shape is = record {
+  answer = record {
+    request = shape.request;
+    ticket = ticket;
+    take = shape.take;
+    give = reading;
+    before_take = shape.before;
+    before_give = sleep_entries slept ++ h;
+    taken = taken_before shape.take shape.before h slept shape.just;
+    given = inl (refl, refl);
+    received = shape.received;
+    answered =
+        ok_some (answered_after run.companion.local (sleep_entries slept ++ h) reading ticket) message is;
+  };
+  at_take = last_before shape.take shape.before h slept shape.just;
+  at_give = refl;
+}
+gives run h reading slept message place shape is = absurd (cc)
+
+module _ (run : RelayRun) (older : History) (shape : Shape run older) (finds : Finds run older) where
+  slept_finds : (slept : Bool) → Finds run (sleep_entries slept ++ older)
+  slept_finds false = finds
+  slept_finds true = skip run older Slept refl finds
+
+  slept_place : (slept : Bool) → (progress_of run (sleep_entries slept ++ older)).place ≡ (progress_of run older).place
+  slept_place false = refl
+  slept_place true = refl
+
+  give_finds : (reading : ℕ) (slept : Bool) → Finds run (Clock why.Give reading ∷ (sleep_entries slept ++ older))
+  give_finds reading slept message before (inl here) =
+      subst (λ (x : History). IsFound run.companion.local (Clock why.Give reading ∷ (sleep_entries slept ++ older))
+      message x) here.1
+      (gives run older reading slept message (progress_of run older).place shape
+      (sym (ap (λ (place : Place). given_at run reading (sleep_entries slept ++ older) place) (slept_place slept))
+      ∙ here.0))
+  give_finds reading slept message before (inr later) =
+      found_later (Clock why.Give reading) (slept_finds slept message before later)
+
+  clock_finds : (w : Why) (reading : ℕ) (slept : Bool) → Finds run (Clock w reading ∷ (sleep_entries slept ++ older))
+  clock_finds why.Turn reading slept = skip run _ (Clock why.Turn reading) refl (slept_finds slept)
+  clock_finds why.Ask reading slept = skip run _ (Clock why.Ask reading) refl (slept_finds slept)
+  clock_finds why.Land reading slept = skip run _ (Clock why.Land reading) refl (slept_finds slept)
+  clock_finds why.Take reading slept = skip run _ (Clock why.Take reading) refl (slept_finds slept)
+  clock_finds why.Give reading slept = give_finds reading slept
+
+  opening_finds : (o : Option (ℕ × Kind)) → Finds run (opening_entries o ++ older)
+  opening_finds None = skip run older NoneCame refl finds
+  opening_finds (Some (peer, k)) = skip run older (Accepted peer k) refl finds
+
+  datagram_finds : (room : List ℕ) (o : Option (ℕ × ℕ)) → Finds run (datagram_entries room o ++ older)
+  datagram_finds room None = skip run older TookNone refl finds
+  datagram_finds room (Some (peer, count)) = skip run older (Took peer (take count room)) refl finds
+
+  text_finds : (peer : ℕ) (x : SessionHeard) → Finds run (heard_entries peer x ++ older)
+  text_finds peer heard.Quiet = skip run older (Quiet peer) refl finds
+  text_finds peer (heard.Text text) = skip run older (Heard peer text) refl finds
+  text_finds peer heard.Closed = skip run older (Closed peer) refl finds
+
+  writing_finds : (peer : ℕ) (text : List ℕ) (x : Outcome) → Finds run (wrote_entries peer text x ++ older)
+  writing_finds peer text outcome.Sent = skip run older (Wrote peer text) refl finds
+  writing_finds peer text outcome.Gone = skip run older (Gone peer) refl finds
+
+  call_finds : (d : Due) (call : History) → MayAdd d call → Finds run (call ++ older)
+  call_finds (Listen host port) call may =
+      subst (λ (x : History). Finds run (x ++ older)) (sym may) (skip run older (Listening host port) refl finds)
+  call_finds (Now w) call may =
+      subst (λ (x : History). Finds run (x ++ older)) (sym may.1) (clock_finds w may.0.reading may.0.slept)
+  call_finds (Dial k to) call (inl may) =
+      subst (λ (x : History). Finds run (x ++ older)) (sym may.1)
+      (skip run (Dialling k to ∷ older) (Dialled k may.0) refl (skip run older (Dialling k to) refl finds))
+  call_finds (Dial k to) call (inr may) =
+      subst (λ (x : History). Finds run (x ++ older)) (sym may)
+      (skip run (Dialling k to ∷ older) (NotDialled k) refl (skip run older (Dialling k to) refl finds))
+  call_finds Accept call may =
+      subst (λ (x : History). Finds run (x ++ older)) (sym may.1) (opening_finds may.0)
+  call_finds (SendDatagram peer bytes) call may =
+      subst (λ (x : History). Finds run (x ++ older)) (sym may) (skip run older (Sent peer bytes) refl finds)
+  call_finds TakeDatagram call may =
+      subst (λ (x : History). Finds run (x ++ older)) (sym may.2) (datagram_finds may.0 may.1)
+  call_finds (TakeText peer) call may =
+      subst (λ (x : History). Finds run (x ++ older)) (sym may.1) (text_finds peer may.0)
+  call_finds (SendText peer text) call may =
+      subst (λ (x : History). Finds run (x ++ older)) (sym may.1) (writing_finds peer text may.0)
+  call_finds (HangUp peer) call may =
+      subst (λ (x : History). Finds run (x ++ older)) (sym may) (skip run older (HungUp peer) refl finds)
+  call_finds (Ends ended) call may = absurd may
+
+finds_all : (run : RelayRun) (h : History) → IsProperRelay run h → Finds run h
+finds_all run [] Empty = λ message before once. absurd once
+finds_all run h (More {older} call may proper) =
+    call_finds run older (shape_of run older proper) (finds_all run older proper)
+    (due_at run (progress_of run older).facts older (progress_of run older).place) call may
+
+-- ---- the laws
+true_at : (world : World) (tv_error : ℕ) (moment_of : ℕ → ℕ) (message : Message) (before : History) (take give : ℕ)
+    → take ≡ last_take before → give ≡ length before
+    → IsTrueResponse world tv_error (moment_of take) (moment_of give) message
+    → IsTrueResponse world tv_error (moment_of (last_take before)) (moment_of (length before)) message
+true_at world tv_error moment_of message before take give is_take is_give x =
+    subst (λ (n : ℕ). IsTrueResponse world tv_error (moment_of (last_take before)) (moment_of n) message) is_give
+    (subst (λ (n : ℕ). IsTrueResponse world tv_error (moment_of n) (moment_of give) message) is_take x)
+
+pub given_is_true : GivenIsTrue
+given_is_true errors world who run history moment_of message before proper for range lawful explains given =
+    let x : IsFound run.companion.local history message before = finds_all run history proper message before given in
+    let is : IsTrueResponse world errors.tv (moment_of (last_take before)) (moment_of (length before)) message =
+    true_at world errors.tv moment_of message before (length x.answer.before_take) (length x.answer.before_give)
+    x.at_take (ap length x.at_give)
+    (two.answers_are_true errors world who run.companion.local history moment_of message for range lawful explains
+    x.answer) in
+    record { response = is; truthful = two.true_is_truthful world errors.tv _ _ message is }
+
+-- what was sent right after a reading for an answer is the datagram of the response given then
+sent_given : (run : RelayRun) (bytes : List ℕ) (give : ℕ) (before h : History) → h ≡ Clock why.Give give ∷ before
+    → IsRequest bytes h ⊎ IsResponse run bytes h
+    → (message : Message) × (given_by run (Clock why.Give give) before ≡ Some message) × (bytes ≡ encoded message)
+sent_given run bytes give before h is (inl asked) =
+    absurd (let e : Clock why.Give give ∷ before ≡ Clock why.Ask asked.reading ∷ asked.before =
+    sym is ∙ asked.just in cc)
+sent_given run bytes give before h is (inr r) =
+    let e : Clock why.Give r.reading ∷ r.before ≡ Clock why.Give give ∷ before = sym r.just ∙ is in
+    let reading : r.reading ≡ give = cc in
+    let older : r.before ≡ before = cc in (
+      r.message,
+      subst (λ (x : History). given_by run (Clock why.Give give) x ≡ Some r.message) older
+          (subst (λ (n : ℕ). given_by run (Clock why.Give n) r.before ≡ Some r.message) reading r.given),
+      r.wire,
+    )
+
+-- so some response was given that it is the datagram of
+abbrev IsSentOf : RelayRun → History → List ℕ → History → Type 0
+IsSentOf run h bytes before = (message : Message) × IsGiven run h message before × (bytes ≡ encoded message)
+
+sent_of : (run : RelayRun) (peer : ℕ) (bytes : List ℕ) (give : ℕ) (before h : History) → Each (IsSentAt run) h
+    → Once (λ entry earlier. (entry ≡ Sent peer bytes) × (earlier ≡ Clock why.Give give ∷ before)) h
+    → IsSentOf run h bytes before
+sent_of run peer bytes give before [] all once = absurd once
+sent_of run peer bytes give before (entry ∷ older) all (inl here) =
+    let known = subst (λ (x : Entry). IsSentAt run x older) here.0 all.0 in
+    let x = sent_given run bytes give before older here.1 known in (
+      x.0,
+      subst (λ (y : History). IsGiven run (entry ∷ y) x.0 before) (sym here.1) (inr (inl (x.1, refl))),
+      x.2,
+    )
+sent_of run peer bytes give before (entry ∷ older) all (inr later) =
+    let x = sent_of run peer bytes give before older all.1 later in (x.0, inr x.1, x.2)
+
+-- the last request was taken before
+take_earlier : (h : History) → last_take h ≤ length h
+take_earlier [] = omega arith
+take_earlier (Clock why.Take reading ∷ older) = omega arith
+take_earlier (_ ∷ older) = let earlier = take_earlier older in omega (arith, earlier)
+
+module _ (errors : Errors) (world : World) (who : ℕ) (run : RelayRun) (history : History) (moment_of : ℕ → ℕ)
+    (proper : IsProperRelay run history) (keeps : IsWorldFor errors world who run.companion.local)
+    (range : IsInRange world) (lawful : IsLawful history)
+    (explains : Explains world who errors.tv run.companion.local history moment_of) where
+  from_run : (second_moment_of : ℕ → ℕ) (landed : LandedAnswer) (older : History)
+      → IsFromRun history moment_of second_moment_of landed older
+      → IsTruthful world errors.tv second_moment_of landed older
+  from_run second_moment_of landed older x =
+      let sent = sent_of run x.peer x.bytes x.give x.before history (sent_is_known run history proper) x.sent in
+      let message : Message = sent.0 in
+      let found : IsFound run.companion.local history message x.before =
+      finds_all run history proper message x.before sent.1 in
+      let is : IsTrueAnswer world errors.tv moment_of x.before message =
+      given_is_true errors world who run history moment_of message x.before proper keeps range lawful explains sent.1 in
+      let same : TellSame message landed.message =
+      reads_back run.companion.local found.answer.before_take found.answer.before_give found.answer.take
+      found.answer.give found.answer.request found.answer.ticket message landed.message found.answer.received
+      found.answer.answered (sym (ap decoded sent.2) ∙ x.read) in
+      two.true_is_truthful world errors.tv (moment_of (last_take x.before)) (moment_of (length x.before))
+      landed.message
+      (true_as world errors.tv (moment_of (last_take x.before)) (moment_of (length x.before)) message landed.message
+      same is.response)
+      second_moment_of landed x.ask older refl x.asked x.sent_before
+      (explains.happens.in_order (last_take x.before) (length x.before) (take_earlier x.before)) x.landed_after
+
+  each_truthful : (second_moment_of : ℕ → ℕ) (second_own : Local) (second_history : History)
+      → Each (FromRunAt history moment_of second_own second_moment_of) second_history
+      → Each (TruthfulAt world errors.tv second_own second_moment_of) second_history
+  each_truthful second_moment_of second_own [] each = tt
+  each_truthful second_moment_of second_own (entry ∷ older) each = (
+    by (landed_answer entry older) each.0,
+    each_truthful second_moment_of second_own older each.1,
+  )
+    where
+      by : (o : Option LandedAnswer)
+          → IfSome o (λ landed. IsTrue (is_possible second_own landed (landed_answers older))
+          → IsFromRun history moment_of second_moment_of landed older)
+          → IfSome o (λ landed. IsTrue (is_possible second_own landed (landed_answers older))
+          → IsTruthful world errors.tv second_moment_of landed older)
+      by None x = tt
+      by (Some landed) x = λ possible. from_run second_moment_of landed older (x possible)
+
+pub second_hops_are_true : SecondHopsAreTrue
+second_hops_are_true errors world who run history moment_of second second_own second_history second_moment_of proper
+    keeps second_keeps range lawful explains second_lawful happens each =
+    let second_explains : Explains world second errors.tv second_own second_history second_moment_of = record {
+      happens = happens;
+      truthful =
+          each_truthful errors world who run history moment_of proper keeps range lawful explains second_moment_of
+          second_own second_history each;
+    } in
+    record {
+      explains = second_explains;
+      contains =
+          wall_is_true errors world second second_own second_history second_moment_of second_keeps second_lawful
+          second_explains;
+    }
