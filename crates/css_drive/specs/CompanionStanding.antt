@@ -5,6 +5,7 @@ use Rattle.std.specs.Prelude.{IsTrue}
 use Rattle.std.specs.Io.KnownBytes.{Appends}
 use Rattle.css_model.specs.declared.TheConstants.{LIMIT}
 use Rattle.css_model.specs.declared.Why.{Why}
+use Rattle.css_model.specs.declared.Why.TheVariants as whys
 use Rattle.css_model.specs.declared.Kind.{Kind}
 use Rattle.css_model.specs.declared.Kind.TheVariants as kind
 use Rattle.css_model.specs.Explains.{IsLawful}
@@ -247,6 +248,10 @@ pub record Begins (config : DriveConfig) (before now : Shown) (live : Live) (com
   pub known : Knows config companion history
   pub stands : Stands config before now live (with_newest config history reading reports) history
   pub next : due config history ≡ from_turn config history
+
+-- the clock was read for a turn, and nothing else was called
+abbrev pub HasBegun : Option History → Option History → Type 0
+HasBegun before now = (clocked : Clocked) × (now ≡ with_entries (clock_entries whys.Turn clocked) before)
 
 -- ---- reports
 -- A report has this text, its line and what the followers said of it.
