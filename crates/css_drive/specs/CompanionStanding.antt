@@ -236,6 +236,10 @@ abbrev pub hung : Option ℕ → History
 hung None = []
 hung (Some peer) = HungUp peer ∷ []
 
+-- no more than two sessions were hung up
+abbrev pub HangsUp : Option History → Option History → Type 0
+HangsUp before now = (first : Option ℕ) × (second : Option ℕ) × (now ≡ with_entries (hung second ++ hung first) before)
+
 -- the reports, with that of this reading where there is one
 abbrev pub with_newest : DriveConfig → History → Option ℕ → List Report → List Report
 with_newest config history None reports = reports

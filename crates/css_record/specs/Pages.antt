@@ -1,6 +1,5 @@
 -- What is written between two moments of a run.
-use Rattle.std.specs.Prelude.{◌≡◌, ℕ, ◌-◌, List, [], ◌∷◌, ◌++◌, length, take, Option, Some, None, IfSome, Bool, ⊤}
-use Rattle.std.specs.Prelude.{Result, Ok, Err}
+use Rattle.std.specs.Prelude.{◌≡◌, ℕ, List, take, Option, ⊤}
 use Rattle.std.specs.Option.{option_map}
 use Rattle.std.specs.Io.KnownBytes.{Appends}
 use Rattle.css_model.specs.History.{History}
@@ -9,9 +8,7 @@ use Rattle.css_outside.specs.Faults.{HasRisen}
 use Rattle.css_outside.specs.declared.fault.OutFault.{OutFault}
 use Rattle.css_outside.specs.declared.fault.OutFault.TheVariants as fault
 use Rattle.css_outside.specs.Outsides.{with_entries}
-use Rattle.css_drive.specs.declared.driven.Driven.{Driven}
-use Rattle.css_drive.specs.declared.driven.Driven.TheVariants as driven
-use Rattle.css_record.specs.Lines.{Notes, blank, all_noted, added}
+use Rattle.css_record.specs.Notes.{Notes, all_noted, added}
 use Rattle.css_record.specs.declared.notebook.Notebook.{Notebook}
 use Rattle.css_record.specs.declared.notebook.Taken.{Taken}
 use Rattle.css_record.specs.declared.course.Course.{Course}
@@ -74,9 +71,9 @@ abbrev pub after_fault : OutFault → Course
 after_fault fault.Failed = course.NetFault
 after_fault fault.Memory = course.On
 
--- the count of faults of an outside, of which a call failed or none
+-- the count of faults of an outside is as it was, unless a call failed
 abbrev pub CountsCourse : Course → ℕ → ℕ → Type 0
-CountsCourse course.NetFault before now = HasRisen before now
+CountsCourse course.NetFault before now = ⊤
 CountsCourse _ before now = now ≡ before
 
 -- the lines of these entries were written
@@ -92,27 +89,3 @@ pub record KeptBy (course : Course) (entries : History) (start now : Seen) : Typ
 -- there are such calls
 abbrev pub Kept : Course → Seen → Seen → Type 0
 Kept course start now = (entries : History) × KeptBy course entries start now
-
--- ---- how a stage ends
--- how a stage ends whose calls and lines came to this
-abbrev pub ended_by : {T : Type 0} → Course → Result T Driven → Result T Driven
-ended_by course.On made = made
-ended_by course.NetFault made = Err driven.NetFault
-ended_by course.WriteFault made = Err driven.WriteFault
-ended_by course.Memory made = Err driven.Memory
-
-abbrev pub course_at : Driven → Course
-course_at driven.NetFault = course.NetFault
-course_at driven.WriteFault = course.WriteFault
-course_at driven.Memory = course.Memory
-course_at _ = course.On
-
--- what became of the calls and lines of a stage that ended so
-abbrev pub course_of : {T : Type 0} → Result T Driven → Course
-course_of (Ok value) = course.On
-course_of (Err ended) = course_at ended
-
--- A stage ended so, and the lines of the calls that it made were written.
-abbrev pub Jotted : {T : Type 0} → Result T Driven → Option History → Option History → Page → Page → Type 0
-Jotted result before now was is = (entries : History) × (now ≡ with_entries entries before)
-    × JotsEntries (course_of result) entries was is

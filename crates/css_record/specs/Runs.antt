@@ -16,8 +16,9 @@ use Rattle.css_drive.specs.declared.companion_live.Live.{Live}
 use Rattle.css_drive.specs.declared.config.DriveConfig.{DriveConfig}
 use Rattle.css_drive.specs.declared.driven.Driven.{Driven}
 use Rattle.css_drive.specs.declared.driven.Driven.TheVariants as driven
-use Rattle.css_audit.specs.Printed.{record_text}
-use Rattle.css_record.specs.Lines.{Notes, notes_of, record_of, record_before}
+use Rattle.css_audit.specs.declared.input.RecordLine.{RecordLine}
+use Rattle.css_record.specs.Notes.{Notes, notes_of, bytes_of}
+use Rattle.css_record.specs.Lines.{record_of}
 
 -- What a sink holds after a run that ended so, which wrote this: all of it, but where a write failed or memory ran out.
 abbrev pub HoldsRecord : Option (List ℕ) → Option (List ℕ) → List ℕ → Driven → Type 0
@@ -47,10 +48,17 @@ abbrev pub IsWritten : DriveConfig → Option History → Option (List ℕ) → 
 IsWritten config before started holds notes history =
     IfSome before (λ _. IsOn started holds (record_of config history) notes history)
 
--- the same, but for the report of the turn that was begun with the newest call
-abbrev pub IsBegun : DriveConfig → Option History → Option (List ℕ) → Option (List ℕ) → Notes → History → Type 0
-IsBegun config before started holds notes history =
-    IfSome before (λ _. IsOn started holds (record_before config history) notes history)
+-- The same, but for this line, which is the record's last.
+pub record IsOnBut (started holds : Option (List ℕ)) (whole : List ℕ) (line : Option RecordLine) (notes : Notes)
+    (history : History) : Type 0 where
+  pub bytes : List ℕ
+  pub is_on : IsOn started holds bytes notes history
+  pub whole_so : whole ≡ bytes ++ bytes_of line
+
+abbrev pub IsBegun : DriveConfig → Option History → Option (List ℕ) → Option (List ℕ) → Notes → History
+    → Option RecordLine → Type 0
+IsBegun config before started holds notes history line =
+    IfSome before (λ _. IsOnBut started holds (record_of config history) line notes history)
 
 -- The run came to where `to` says what is due, and its record is written.
 pub record Writes (config : DriveConfig) (before now : Shown) (live : Live) (companion : Companion)

@@ -1,6 +1,3 @@
-use css_drive::Driven;
-use css_outside::OutFault;
-
 /// What becomes of the calls of a stage, and of the lines that are written of them.
 #[derive(Clone, Copy, Debug, PartialEq, Eq)]
 pub(crate) enum Course {

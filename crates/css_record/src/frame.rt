@@ -1,5 +1,5 @@
 ghost use Rattle.std.specs.Prelude.{ℕ, None};
-ghost use Rattle.css_record.specs.Lines.{blank};
+ghost use Rattle.css_record.specs.Notes.{blank};
 ghost use Rattle.css_record.specs.Pages.{Seen, page_of, seen_of};
 
 use std::marker::Brand;

@@ -5,9 +5,8 @@ ghost use Rattle.css_model.specs.History.{Heard as HeardText, Closed};
 ghost use Rattle.css_outside.specs.Outsides.{clock_entries, heard_entries, wrote_entries};
 ghost use Rattle.css_audit.specs.Printed.{line_text};
 ghost use Rattle.css_audit.specs.declared.input.RecordLine.{RecordLine as Line};
-ghost use Rattle.css_drive.specs.CompanionTurns.{is_peer};
-ghost use Rattle.css_record.specs.Lines.{line_of, bytes_of, clock_line};
-ghost use Rattle.css_record.specs.Lines as spec_lines;
+ghost use Rattle.css_record.specs.Notes.{line_of, bytes_of, clock_line, is_with};
+ghost use Rattle.css_record.specs.Notes as told_lines;
 ghost use Rattle.css_record.specs.Pages.{notes_in, taken_bytes, Writes, JotsEntries, IsPlain, page_of};
 
 use crate::course::Course;
@@ -71,7 +70,7 @@ fn landing(
     reading: u64,
     took: &Option<Taken>,
 ) -> Result<Option<RecordLine>, Memory>
-    ensures { IfOk result (λ line. line ≡ spec_lines.landing reading (option_map taken_bytes took.now)) }
+    ensures { IfOk result (λ line. line ≡ told_lines.landing reading (option_map taken_bytes took.now)) }
 {
     match took {
         None => Ok(None),
@@ -99,7 +98,7 @@ fn clock_line(
 
 /// The line of a datagram that is sent.
 pub(crate) fn asking(book: &Notebook) -> Option<RecordLine>
-    ensures { result ≡ spec_lines.asking book.now.asked }
+    ensures { result ≡ told_lines.asking book.now.asked }
 {
     match book.asked {
         None => None,
@@ -107,8 +106,8 @@ pub(crate) fn asking(book: &Notebook) -> Option<RecordLine>
     }
 }
 
-fn is_peer(session: Option<u32>, peer: u32) -> bool
-    ensures { result ≡ is_peer session peer }
+fn is_with(session: Option<u32>, peer: u32) -> bool
+    ensures { result ≡ is_with session peer }
 {
     match session {
         None => false,
@@ -124,10 +123,10 @@ pub(crate) fn hearing(
 ) -> Result<Option<RecordLine>, Memory>
     ensures { IfOk result (λ line. line ≡ line_of (HeardText peer text.now) (notes_in book.now)) }
 {
-    if is_peer(book.cii, peer) {
+    if is_with(book.cii, peer) {
         return Ok(Some(RecordLine::Cii(text.clone()?)));
     }
-    if is_peer(book.ts, peer) {
+    if is_with(book.ts, peer) {
         return Ok(Some(RecordLine::Ts(text.clone()?)));
     }
     Ok(None)
@@ -137,10 +136,10 @@ pub(crate) fn hearing(
 pub(crate) fn closing(book: &Notebook, peer: u32) -> Option<RecordLine>
     ensures { result ≡ line_of (Closed peer) (notes_in book.now) }
 {
-    if is_peer(book.cii, peer) {
+    if is_with(book.cii, peer) {
         return Some(RecordLine::ClosedCii);
     }
-    if is_peer(book.ts, peer) {
+    if is_with(book.ts, peer) {
         return Some(RecordLine::ClosedTs);
     }
     None

@@ -1,7 +1,5 @@
-ghost use Rattle.std.specs.Prelude.{◌≡◌, ◌≤◌, Some, None, IfSome};
-ghost use Rattle.std.specs.Option.{option_map};
+ghost use Rattle.std.specs.Prelude.{◌≤◌};
 
-use css_model::{Kind, Why};
 
 /// A datagram that was taken: its bytes are at the front of these.
 #[derive(Clone, Copy, Debug)]

@@ -1,5 +1,5 @@
 ghost use Rattle.std.specs.Prelude.{◌≡◌, ◌≤◌, ℕ, take};
-ghost use Rattle.css_record.specs.Lines.{blank, only_sessions, with_clock, with_dial, noted};
+ghost use Rattle.css_record.specs.Notes.{blank, only_sessions, with_clock, with_dial, noted};
 ghost use Rattle.css_record.specs.Pages.{notes_in, taken_bytes};
 ghost use Rattle.css_model.specs.History as entries;
 

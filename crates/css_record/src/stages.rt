@@ -10,7 +10,8 @@ ghost use Rattle.css_drive.specs.CompanionDue.{due, from_cii, from_end};
 ghost use Rattle.css_drive.specs.CompanionStanding.{Shown, shown, Stands, Stops, Knows, Goes, Keeps, Begins, HasBegun};
 ghost use Rattle.css_drive.specs.CompanionStanding.{IsCut, IsEarly, CountsSink};
 ghost use Rattle.css_drive.specs.Proper.{Now};
-ghost use Rattle.css_record.specs.Pages.{Kept, Jotted, seen_of, page_of, notes_in, ended_by};
+ghost use Rattle.css_record.specs.Pages.{Kept, seen_of, page_of, notes_in};
+ghost use Rattle.css_record.specs.Stages.{Jotted, NotBegun, ended_by};
 
 use crate::course::Course;
 use crate::devices::{Devices, Lent};
@@ -31,7 +32,11 @@ fn ended_by<T: Drop>(course: Course, made: Result<T, Driven>) -> Result<T, Drive
 {
     match course {
         Course::On => made,
-        Course::NetFault => Err(Driven::NetFault),
+        // A stage ends with the call that failed.
+        Course::NetFault => match made {
+            Ok(_) => Err(Driven::Memory),
+            Err(ended) => Err(ended),
+        },
         Course::WriteFault => Err(Driven::WriteFault),
         Course::Memory => Err(Driven::Memory),
     }
@@ -117,7 +122,8 @@ pub(crate) fn begin_turn<K: Sink, O: Outside>(
         → Knows config.now companion.old history → due config.now history ≡ Now whys.Turn
         → MatchResult result
         (Begins config.now before (shown (O.told outside.new) (O.counts outside.new)) live.new companion.new reports)
-        (Stops config.now before (shown (O.told outside.new) (O.counts outside.new)) reports) }
+        (NotBegun config.now before (O.told outside.old) (shown (O.told outside.new) (O.counts outside.new))
+        live.new companion.new reports) }
     ensures entries { OnOk result (HasBegun (O.told outside.old) (O.told outside.new)) }
     ensures floor { OnOk result (companion.new.client.floor ≤ (O.counts outside.new).last) }
     ensures reading { IfOk result (λ report. IfSome report (λ reading.

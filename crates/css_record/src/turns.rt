@@ -1,5 +1,5 @@
 //! The turns of a companion's run that is recorded.
-ghost use Rattle.std.specs.Prelude.{◌≡◌, ◌≤◌, ◌<◌, ◌+◌, ◌∷◌, [], List, ℕ, Option, Some, None, IfSome, OnOk, OnErr, IfOk, IfErr};
+ghost use Rattle.std.specs.Prelude.{◌≡◌, ◌≤◌, ◌<◌, ◌+◌, ◌∷◌, [], List, ℕ, length, Option, Some, None, IfSome, OnOk, OnErr, IfOk, IfErr};
 ghost use Rattle.std.specs.Io.KnownBytes.{Appends};
 ghost use Rattle.css_model.specs.History.{History};
 ghost use Rattle.css_model.specs.declared.TheConstants.{LIMIT};
@@ -13,7 +13,8 @@ ghost use Rattle.css_drive.specs.CompanionReports.{report_at};
 ghost use Rattle.css_drive.specs.CompanionStanding.{Shown, shown, Stands, Knows, IsEarly, IsWriteFault, CountsSink};
 ghost use Rattle.css_drive.specs.Ends.{CountsNetFault, CountsWriteFault, CountsDialFaults};
 ghost use Rattle.css_drive.specs.Proper.{Now};
-ghost use Rattle.css_record.specs.Lines.{record_of, report_line, bytes_of};
+ghost use Rattle.css_record.specs.Lines.{record_of, report_line};
+ghost use Rattle.css_record.specs.Notes.{bytes_of};
 ghost use Rattle.css_record.specs.Pages.{page_of, notes_in};
 ghost use Rattle.css_record.specs.Runs.{Recorded, IsBegun, Writes, Turned};
 
@@ -92,6 +93,7 @@ fn go_on<K: Sink, O: Outside>(
     requires bounds { IfSome config.now.present IsWindow }
     ensures turned { (before : Shown) → (started : Option (List ℕ)) → (reports : List Report) → (history : History)
         → IsBegun config.now before.told started (K.holds sink.old) (notes_in book.old) history
+        (Some (report_line (length reports + 1) (report_at config.now history reading)))
         → Stands config.now before (shown (O.told outside.old) (O.counts outside.old)) live.old
         (report_at config.now history reading ∷ reports) history
         → Knows config.now companion.old history → due config.now history ≡ from_turn config.now history

@@ -1,0 +1,141 @@
+-- What is written, from call to call.
+use Rattle.std.proofs.Common.{◌≡◌, ◌≤◌, ℕ, ap, sym, ◌∙◌, subst, refl, List, [], ◌∷◌, ◌++◌, append_assoc, append-nil}
+use Rattle.std.proofs.Common.{Option, Some, None, Result, Ok, Err}
+use Rattle.std.proofs.Math.Logic.{∥∥₁_map}
+use Rattle.std.proofs.KnownBytes.{Appends-nil, Appends-trans}
+use Rattle.std.specs.Io.KnownBytes.{Appends}
+use Rattle.css_model.specs.History.{Entry, History}
+use Rattle.css_outside.specs.Bytes.{AppendsPrefix}
+use Rattle.css_outside.specs.Faults.{HasRisen}
+use Rattle.css_outside.specs.Outsides.{with_entries}
+use Rattle.css_record.specs.Notes.{Notes, noted, all_noted, line_of, bytes_of, added}
+use Rattle.css_record.specs.Pages.{Page, Seen, Jots, JotsEntries, CountsCourse, Writes, IsPlain, Kept, KeptBy, page_of, seen_of}
+use Rattle.css_record.specs.declared.course.Course.{Course}
+use Rattle.css_record.specs.declared.course.Course.TheVariants as course
+
+-- ---- bytes
+-- they were appended whole
+pub whole_prefix : (held holds : Option (List ℕ)) (bytes : List ℕ) → Appends held holds bytes
+    → AppendsPrefix held holds bytes
+whole_prefix held holds bytes p = record { front = bytes; of = ([], sym (append-nil bytes)); grew = p }
+
+-- nothing was appended
+pub no_prefix : (held : Option (List ℕ)) (bytes : List ℕ) → AppendsPrefix held held bytes
+no_prefix held bytes = record { front = []; of = (bytes, refl); grew = Appends-nil held }
+
+-- a part of more
+pub prefix_on : (a b c : Option (List ℕ)) (bytes more : List ℕ) → Appends a b bytes → AppendsPrefix b c more
+    → AppendsPrefix a c (bytes ++ more)
+prefix_on a b c bytes more p q = record {
+  front = bytes ++ q.front;
+  of = (q.of.0, ap (λ x. bytes ++ x) q.of.1 ∙ sym (append_assoc bytes q.front q.of.0));
+  grew = Appends-trans a b c bytes q.front p q.grew;
+}
+
+pub longer : (a b : Option (List ℕ)) (bytes more : List ℕ) → AppendsPrefix a b bytes
+    → AppendsPrefix a b (bytes ++ more)
+longer a b bytes more p = record {
+  front = p.front;
+  of = (p.of.0 ++ more, ap (λ x. x ++ more) p.of.1 ∙ append_assoc p.front p.of.0 more);
+  grew = p.grew;
+}
+
+-- ---- notes and bytes of more entries
+pub all_noted_on : (later earlier : History) (notes : Notes)
+    → all_noted (later ++ earlier) notes ≡ all_noted later (all_noted earlier notes)
+all_noted_on [] earlier notes = refl
+all_noted_on (entry ∷ later) earlier notes = ap (noted entry) (all_noted_on later earlier notes)
+
+pub added_on : (later earlier : History) (notes : Notes)
+    → added notes (later ++ earlier) ≡ added notes earlier ++ added (all_noted earlier notes) later
+added_on [] earlier notes = sym (append-nil (added notes earlier))
+added_on (entry ∷ later) earlier notes =
+    ap (λ x. x ++ bytes_of (line_of entry (all_noted (later ++ earlier) notes))) (added_on later earlier notes)
+    ∙ ap (λ n. (added notes earlier ++ added (all_noted earlier notes) later) ++ bytes_of (line_of entry n))
+    (all_noted_on later earlier notes)
+    ∙ append_assoc (added notes earlier) (added (all_noted earlier notes) later)
+    (bytes_of (line_of entry (all_noted later (all_noted earlier notes))))
+
+-- ---- pages
+risen_on : (a b c : ℕ) → b ≡ a → HasRisen b c → HasRisen a c
+risen_on a b c e r = let P : ℕ → Type 0 = λ x. HasRisen x c in subst P e r
+
+pub jots_on : (c : Course) (was mid is : Page) (bytes more : List ℕ) (notes last : Notes)
+    → Jots course.On was mid bytes notes → Jots c mid is more last → Jots c was is (bytes ++ more) last
+jots_on course.On was mid is bytes more notes last p q =
+    (Appends-trans was.holds mid.holds is.holds bytes more p.0 q.0, q.1 ∙ p.1, q.2)
+jots_on course.NetFault was mid is bytes more notes last p q =
+    (Appends-trans was.holds mid.holds is.holds bytes more p.0 q.0, q.1 ∙ p.1, q.2)
+jots_on course.WriteFault was mid is bytes more notes last p q =
+    (prefix_on was.holds mid.holds is.holds bytes more p.0 q.0, risen_on was.faults mid.faults is.faults p.1 q.1)
+jots_on course.Memory was mid is bytes more notes last p q =
+    (prefix_on was.holds mid.holds is.holds bytes more p.0 q.0, q.1 ∙ p.1)
+
+-- later entries after earlier ones
+pub entries_on : (c : Course) (earlier later : History) (was mid is : Page)
+    → JotsEntries course.On earlier was mid → JotsEntries c later mid is → JotsEntries c (later ++ earlier) was is
+entries_on c earlier later was mid is p q =
+    let next : Jots c mid is (added (all_noted earlier was.notes) later) (all_noted later (all_noted earlier was.notes)) =
+    (let P : Notes → Type 0 = λ n. Jots c mid is (added n later) (all_noted later n) in subst P p.2 q) in
+    let both = jots_on c was mid is (added was.notes earlier) (added (all_noted earlier was.notes) later)
+    (all_noted earlier was.notes) (all_noted later (all_noted earlier was.notes)) p next in
+    let P : List ℕ → Type 0 = λ x. Jots c was is x (all_noted later (all_noted earlier was.notes)) in
+    let Q : Notes → Type 0 = λ n. Jots c was is (added was.notes (later ++ earlier)) n in
+    subst Q (sym (all_noted_on later earlier was.notes)) (subst P (sym (added_on later earlier was.notes)) both)
+
+-- The lines of earlier entries could not be written, so there is nothing of the later ones.
+pub entries_cut : (c : Course) (earlier later : History) (was is : Page) → IsPlain c → (c ≡ course.On → ⊥)
+    → JotsEntries c earlier was is → JotsEntries c (later ++ earlier) was is
+entries_cut course.On earlier later was is plain over p = absurd (over refl)
+entries_cut course.NetFault earlier later was is plain over p = absurd plain
+entries_cut course.WriteFault earlier later was is plain over p =
+    let P : List ℕ → Type 0 = λ x. AppendsPrefix was.holds is.holds x in
+    (subst P (sym (added_on later earlier was.notes))
+    (longer was.holds is.holds (added was.notes earlier) (added (all_noted earlier was.notes) later) p.0), p.1)
+entries_cut course.Memory earlier later was is plain over p =
+    let P : List ℕ → Type 0 = λ x. AppendsPrefix was.holds is.holds x in
+    (subst P (sym (added_on later earlier was.notes))
+    (longer was.holds is.holds (added was.notes earlier) (added (all_noted earlier was.notes) later) p.0), p.1)
+
+-- bytes were written, and then the notes were made
+pub jots_by : (c : Course) (held : Option (List ℕ)) (before : ℕ) (holds : Option (List ℕ)) (now : ℕ) (bytes : List ℕ)
+    (notes last : Notes) → Writes c held before holds now bytes
+    → Jots c (page_of held before notes) (page_of holds now last) bytes last
+jots_by course.On held before holds now bytes notes last w = (w.0, w.1, refl)
+jots_by course.NetFault held before holds now bytes notes last w = absurd w
+jots_by course.WriteFault held before holds now bytes notes last w = w
+jots_by course.Memory held before holds now bytes notes last w = w
+
+pub writes_plain : (c : Course) (held : Option (List ℕ)) (before : ℕ) (holds : Option (List ℕ)) (now : ℕ)
+    (bytes : List ℕ) → Writes c held before holds now bytes → IsPlain c
+writes_plain course.On held before holds now bytes w = tt
+writes_plain course.NetFault held before holds now bytes w = w
+writes_plain course.WriteFault held before holds now bytes w = tt
+writes_plain course.Memory held before holds now bytes w = tt
+
+-- ---- calls
+with_more : (later earlier : History) (told : Option History)
+    → with_entries later (with_entries earlier told) ≡ with_entries (later ++ earlier) told
+with_more later earlier None = refl
+with_more later earlier (Some history) = ap Some (sym (append_assoc later earlier history))
+
+counts_on : (c : Course) (a b d : ℕ) → b ≡ a → CountsCourse c b d → CountsCourse c a d
+counts_on course.On a b d e p = p ∙ e
+counts_on course.NetFault a b d e p = tt
+counts_on course.WriteFault a b d e p = p ∙ e
+counts_on course.Memory a b d e p = p ∙ e
+
+-- later calls after earlier ones
+kept_by_on : (c : Course) (start mid now : Seen) (earlier later : History) → KeptBy course.On earlier start mid
+    → KeptBy c later mid now → KeptBy c (later ++ earlier) start now
+kept_by_on c start mid now earlier later p q = record {
+  told = q.told ∙ ap (with_entries later) p.told ∙ with_more later earlier start.told;
+  faults = counts_on c start.faults mid.faults now.faults p.faults q.faults;
+  jots = entries_on c earlier later start.page mid.page now.page p.jots q.jots;
+}
+
+-- a call after those that were made
+pub kept_on : (c : Course) (start mid now : Seen) (later : History) → ∥ Kept course.On start mid ∥₁
+    → KeptBy c later mid now → ∥ Kept c start now ∥₁
+kept_on c start mid now later p q =
+    ∥∥₁_map p (λ k. (later ++ k.0, kept_by_on c start mid now k.0 later k.1 q))

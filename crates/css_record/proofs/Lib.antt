@@ -1,0 +1,5 @@
+pub mod Keeping
+pub mod Props
+pub mod Stages
+pub mod Records
+pub mod Turns
