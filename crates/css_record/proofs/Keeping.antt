@@ -6,10 +6,15 @@ use Rattle.std.proofs.KnownBytes.{Appends-nil, Appends-trans}
 use Rattle.std.specs.Io.KnownBytes.{Appends}
 use Rattle.css_model.specs.History.{Entry, History}
 use Rattle.css_outside.specs.Bytes.{AppendsPrefix}
-use Rattle.css_outside.specs.Faults.{HasRisen}
-use Rattle.css_outside.specs.Outsides.{with_entries}
-use Rattle.css_record.specs.Notes.{Notes, noted, all_noted, line_of, bytes_of, added}
-use Rattle.css_record.specs.Pages.{Page, Seen, Jots, JotsEntries, CountsCourse, Writes, IsPlain, Kept, KeptBy, page_of, seen_of}
+use Rattle.css_outside.specs.Faults.{HasRisen, CountsOutFault}
+use Rattle.css_outside.specs.declared.fault.OutFault.{OutFault}
+use Rattle.css_outside.specs.declared.fault.OutFault.TheVariants as faults
+use Rattle.css_outside.specs.Outsides.{with_entries, opening_entries}
+use Rattle.css_model.specs.declared.Kind.{Kind}
+use Rattle.css_model.specs.declared.Kind.TheVariants as kind
+use Rattle.css_record.specs.Notes.{Notes, noted, all_noted, line_of, bytes_of, added, only_sessions, with_dial}
+use Rattle.css_record.specs.Pages.{Page, Seen, Jots, JotsEntries, CountsCourse, Writes, IsPlain, Kept, KeptBy}
+use Rattle.css_record.specs.Pages.{page_of, seen_of, after_fault}
 use Rattle.css_record.specs.declared.course.Course.{Course}
 use Rattle.css_record.specs.declared.course.Course.TheVariants as course
 
@@ -99,12 +104,12 @@ entries_cut course.Memory earlier later was is plain over p =
 
 -- bytes were written, and then the notes were made
 pub jots_by : (c : Course) (held : Option (List ℕ)) (before : ℕ) (holds : Option (List ℕ)) (now : ℕ) (bytes : List ℕ)
-    (notes last : Notes) → Writes c held before holds now bytes
-    → Jots c (page_of held before notes) (page_of holds now last) bytes last
-jots_by course.On held before holds now bytes notes last w = (w.0, w.1, refl)
-jots_by course.NetFault held before holds now bytes notes last w = absurd w
-jots_by course.WriteFault held before holds now bytes notes last w = w
-jots_by course.Memory held before holds now bytes notes last w = w
+    (was last notes : Notes) → last ≡ notes → Writes c held before holds now bytes
+    → Jots c (page_of held before was) (page_of holds now last) bytes notes
+jots_by course.On held before holds now bytes was last notes e w = (w.0, w.1, e)
+jots_by course.NetFault held before holds now bytes was last notes e w = absurd w
+jots_by course.WriteFault held before holds now bytes was last notes e w = w
+jots_by course.Memory held before holds now bytes was last notes e w = w
 
 pub writes_plain : (c : Course) (held : Option (List ℕ)) (before : ℕ) (holds : Option (List ℕ)) (now : ℕ)
     (bytes : List ℕ) → Writes c held before holds now bytes → IsPlain c
@@ -139,3 +144,90 @@ pub kept_on : (c : Course) (start mid now : Seen) (later : History) → ∥ Kept
     → KeptBy c later mid now → ∥ Kept c start now ∥₁
 kept_on c start mid now later p q =
     ∥∥₁_map p (λ k. (later ++ k.0, kept_by_on c start mid now k.0 later k.1 q))
+
+-- ---- single calls
+as_on : (c : Course) (start now : Seen) → c ≡ course.On → ∥ Kept c start now ∥₁ → ∥ Kept course.On start now ∥₁
+as_on c start now e k = let P : Course → Type 0 = λ x. ∥ Kept x start now ∥₁ in subst P e k
+
+counts_same : (c : Course) (a b : ℕ) → b ≡ a → CountsCourse c a b
+counts_same course.On a b e = e
+counts_same course.NetFault a b e = tt
+counts_same course.WriteFault a b e = e
+counts_same course.Memory a b e = e
+
+-- a call was made, and then its lines were written
+pub line_on : (c now : Course) (start : Seen) (entries : History) (t u v : Option History) (f m n : ℕ)
+    (h i j : Option (List ℕ)) (k l o : ℕ) (was is : Notes) → c ≡ course.On
+    → ∥ Kept c start (seen_of t f (page_of h k was)) ∥₁
+    → u ≡ with_entries entries t → m ≡ f → i ≡ h → l ≡ k → v ≡ u → n ≡ m
+    → JotsEntries now entries (page_of i l was) (page_of j o is)
+    → ∥ Kept now start (seen_of v n (page_of j o is)) ∥₁
+line_on c now start entries t u v f m n h i j k l o was is on kept e p x y same counts jots =
+    let P : Option (List ℕ) → Type 0 = λ a. JotsEntries now entries (page_of a l was) (page_of j o is) in
+    let Q : ℕ → Type 0 = λ a. JotsEntries now entries (page_of h a was) (page_of j o is) in
+    kept_on now start (seen_of t f (page_of h k was)) (seen_of v n (page_of j o is)) entries
+    (as_on c start (seen_of t f (page_of h k was)) on kept)
+    (record { told = same ∙ e; faults = counts_same now f n (counts ∙ p); jots = subst Q y (subst P x jots) })
+
+-- a call was made that has no line
+pub plain_on : (c : Course) (start : Seen) (entries : History) (t u : Option History) (f m : ℕ)
+    (h i : Option (List ℕ)) (k l : ℕ) (was is : Notes) → c ≡ course.On
+    → ∥ Kept c start (seen_of t f (page_of h k was)) ∥₁
+    → u ≡ with_entries entries t → m ≡ f → i ≡ h → l ≡ k → added was entries ≡ [] → is ≡ all_noted entries was
+    → ∥ Kept c start (seen_of u m (page_of i l is)) ∥₁
+plain_on c start entries t u f m h i k l was is on kept e p x y none notes =
+    let P : Course → Type 0 = λ a. ∥ Kept a start (seen_of u m (page_of i l is)) ∥₁ in
+    let Q : List ℕ → Type 0 = λ a. Appends i i a in
+    subst P (sym on)
+    (line_on c course.On start entries t u u f m m h i i k l l was is on kept e p x y refl refl
+    (subst Q (sym none) (Appends-nil i), refl, notes))
+
+-- a call lacked memory, and did nothing
+pub still_on : (c : Course) (start : Seen) (t u : Option History) (f m : ℕ) (h i : Option (List ℕ)) (k l : ℕ)
+    (was : Notes) → ∥ Kept c start (seen_of t f (page_of h k was)) ∥₁ → u ≡ t → m ≡ f → i ≡ h → l ≡ k
+    → ∥ Kept c start (seen_of u m (page_of i l was)) ∥₁
+still_on c start t u f m h i k l was kept e p x y =
+    let T : Option History → Type 0 = λ a. ∥ Kept c start (seen_of a m (page_of i l was)) ∥₁ in
+    let F : ℕ → Type 0 = λ a. ∥ Kept c start (seen_of t a (page_of i l was)) ∥₁ in
+    let H : Option (List ℕ) → Type 0 = λ a. ∥ Kept c start (seen_of t f (page_of a l was)) ∥₁ in
+    let K : ℕ → Type 0 = λ a. ∥ Kept c start (seen_of t f (page_of h a was)) ∥₁ in
+    subst T (sym e) (subst F (sym p) (subst H (sym x) (subst K (sym y) kept)))
+
+-- a call failed
+pub fault_on : (c now : Course) (start : Seen) (fault : OutFault) (t u : Option History) (f m : ℕ)
+    (h i : Option (List ℕ)) (k l : ℕ) (was : Notes) → now ≡ after_fault fault → c ≡ course.On
+    → ∥ Kept c start (seen_of t f (page_of h k was)) ∥₁
+    → u ≡ t → CountsOutFault f m fault → i ≡ h → l ≡ k
+    → ∥ Kept now start (seen_of u m (page_of i l was)) ∥₁
+fault_on c now start fault t u f m h i k l was is-now on kept e p x y =
+    let P : Course → Type 0 = λ a. ∥ Kept a start (seen_of u m (page_of i l was)) ∥₁ in
+    subst P (sym is-now) (kept_on (after_fault fault) start (seen_of t f (page_of h k was))
+    (seen_of u m (page_of i l was)) [] (as_on c start (seen_of t f (page_of h k was)) on kept) (by fault p))
+  where
+    grew : Appends h i []
+    grew = let P : Option (List ℕ) → Type 0 = λ a. Appends h a [] in subst P (sym x) (Appends-nil h)
+
+    nothing : (told : Option History) → told ≡ with_entries [] told
+    nothing None = refl
+    nothing (Some history) = refl
+
+    by : (failed : OutFault) → CountsOutFault f m failed
+        → KeptBy (after_fault failed) [] (seen_of t f (page_of h k was)) (seen_of u m (page_of i l was))
+    by faults.Failed q = record { told = e ∙ nothing t; faults = tt; jots = (grew, y, refl) }
+    by faults.Memory q = record { told = e ∙ nothing t; faults = q; jots = (grew, y, refl) }
+
+-- ---- the entries of calls
+pub dial_notes : (kind : Kind) (peer : ℕ) (notes : Notes)
+    → with_dial kind peer notes ≡ with_dial kind peer (only_sessions notes)
+dial_notes kind.Wc peer notes = refl
+dial_notes kind.Cii peer notes = refl
+dial_notes kind.Ts peer notes = refl
+
+pub opening_bytes : (came : Option (ℕ × Kind)) (notes : Notes) → added notes (opening_entries came) ≡ []
+opening_bytes None notes = refl
+opening_bytes (Some (peer, kind)) notes = refl
+
+pub opening_notes : (came : Option (ℕ × Kind)) (notes : Notes)
+    → only_sessions notes ≡ all_noted (opening_entries came) notes
+opening_notes None notes = refl
+opening_notes (Some (peer, kind)) notes = refl

@@ -19,6 +19,7 @@ use Rattle.css_drive.specs.CompanionDue.{due, from_end, from_cii}
 use Rattle.css_drive.specs.CompanionReports.{due_reports, report_at}
 use Rattle.css_drive.specs.CompanionStanding.{Shown, Facts, facts_of, facts_in, KnowsPeers, Stands, Stops, Comes, Goes}
 use Rattle.css_drive.specs.CompanionStanding.{Knows, Begins, HasBegun, HangsUp, hung, IsWriteFault, IsHangingUp, ending_of}
+use Rattle.css_drive.specs.CompanionStanding.{CountsSink}
 use Rattle.css_drive.specs.Ends.{CountsNetFault, MayEnd}
 use Rattle.css_drive.specs.Proper.{Due, Now, Empty}
 use Rattle.css_drive.specs.declared.companion_live.Live.{Live}
@@ -553,3 +554,29 @@ not_begun config told held holds ended f p = record {
   promised = tt;
   wrote = header_part config told held holds ended f p;
 }
+
+-- ---- the line of a report, by its number and the report
+line_same : (number due : ℕ) (report is : Report) → number ≡ due → report ≡ is
+    → bytes_of (Some (report_line number report)) ≡ bytes_of (Some (report_line due is))
+line_same number due report is e f =
+    ap (λ n. bytes_of (Some (report_line n report))) e ∙ ap (λ r. bytes_of (Some (report_line due r))) f
+
+pub line_as : (held holds : Option (List ℕ)) (number due : ℕ) (report is : Report) → number ≡ due → report ≡ is
+    → AppendsPrefix held holds (bytes_of (Some (report_line number report)))
+    → AppendsPrefix held holds (bytes_of (Some (report_line due is)))
+line_as held holds number due report is e f p =
+    let P : List ℕ → Type 0 = λ x. AppendsPrefix held holds x in
+    subst P (line_same number due report is e f) p
+
+pub whole_line_as : (held holds : Option (List ℕ)) (number due : ℕ) (report is : Report) → number ≡ due → report ≡ is
+    → Appends held holds (bytes_of (Some (report_line number report)))
+    → Appends held holds (bytes_of (Some (report_line due is)))
+whole_line_as held holds number due report is e f p =
+    let P : List ℕ → Type 0 = λ x. Appends held holds x in
+    subst P (line_same number due report is e f) p
+
+-- ---- counts
+-- the sink's count of faults since an earlier write that went well
+pub counts_from : {T : Type 0} (was before now : ℕ) (made : Result T Driven) → before ≡ was
+    → CountsSink before now made → CountsSink was now made
+counts_from was before now made e p = let P : ℕ → Type 0 = λ n. CountsSink n now made in subst P e p
