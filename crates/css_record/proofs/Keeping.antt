@@ -1,18 +1,26 @@
 -- What is written, from call to call.
 use Rattle.std.proofs.Common.{◌≡◌, ◌≤◌, ℕ, ap, sym, ◌∙◌, subst, refl, List, [], ◌∷◌, ◌++◌, append_assoc, append-nil}
+use Rattle.std.proofs.Common.{Bool, true, false}
 use Rattle.std.proofs.Common.{Option, Some, None, Result, Ok, Err}
 use Rattle.std.proofs.Math.Logic.{∥∥₁_map}
 use Rattle.std.proofs.KnownBytes.{Appends-nil, Appends-trans}
 use Rattle.std.specs.Io.KnownBytes.{Appends}
-use Rattle.css_model.specs.History.{Entry, History}
+use Rattle.css_model.specs.History.{Entry, History, Clock, Slept, Heard, Closed, Gone}
 use Rattle.css_outside.specs.Bytes.{AppendsPrefix}
 use Rattle.css_outside.specs.Faults.{HasRisen, CountsOutFault}
 use Rattle.css_outside.specs.declared.fault.OutFault.{OutFault}
 use Rattle.css_outside.specs.declared.fault.OutFault.TheVariants as faults
-use Rattle.css_outside.specs.Outsides.{with_entries, opening_entries}
+use Rattle.css_outside.specs.Outsides.{with_entries, opening_entries, heard_entries, wrote_entries, clock_entries, sleep_entries}
+use Rattle.css_outside.specs.declared.calls.Clocked.{Clocked}
+use Rattle.css_outside.specs.declared.calls.Heard.{Heard as SessionHeard}
+use Rattle.css_outside.specs.declared.calls.Heard.TheVariants as heard
+use Rattle.css_outside.specs.declared.calls.Wrote.{Wrote as Outcome}
+use Rattle.css_outside.specs.declared.calls.Wrote.TheVariants as outcome
+use Rattle.css_model.specs.declared.Why.{Why}
 use Rattle.css_model.specs.declared.Kind.{Kind}
 use Rattle.css_model.specs.declared.Kind.TheVariants as kind
-use Rattle.css_record.specs.Notes.{Notes, noted, all_noted, line_of, bytes_of, added, only_sessions, with_dial}
+use Rattle.css_record.specs.Notes.{Notes, noted, all_noted, line_of, line_in, bytes_of, added, only_sessions}
+use Rattle.css_record.specs.Notes.{with_dial}
 use Rattle.css_record.specs.Pages.{Page, Seen, Jots, JotsEntries, CountsCourse, Writes, IsPlain, Kept, KeptBy}
 use Rattle.css_record.specs.Pages.{page_of, seen_of, after_fault}
 use Rattle.css_record.specs.declared.course.Course.{Course}
@@ -231,3 +239,34 @@ pub opening_notes : (came : Option (ℕ × Kind)) (notes : Notes)
     → only_sessions notes ≡ all_noted (opening_entries came) notes
 opening_notes None notes = refl
 opening_notes (Some (peer, kind)) notes = refl
+
+-- ---- the lines of calls
+pub heard_jots : (c : Course) (peer : ℕ) (heard : SessionHeard) (held : Option (List ℕ)) (before : ℕ)
+    (holds : Option (List ℕ)) (now : ℕ) (was last : Notes) → last ≡ only_sessions was
+    → Writes c held before holds now (bytes_of (line_in (heard_entries peer heard) was))
+    → JotsEntries c (heard_entries peer heard) (page_of held before was) (page_of holds now last)
+heard_jots c peer heard.Quiet held before holds now was last e w =
+    jots_by c held before holds now [] was last (only_sessions was) e w
+heard_jots c peer (heard.Text text) held before holds now was last e w =
+    jots_by c held before holds now (bytes_of (line_of (Heard peer text) was)) was last (only_sessions was) e w
+heard_jots c peer heard.Closed held before holds now was last e w =
+    jots_by c held before holds now (bytes_of (line_of (Closed peer) was)) was last (only_sessions was) e w
+
+pub wrote_jots : (c : Course) (peer : ℕ) (text : List ℕ) (wrote : Outcome) (held : Option (List ℕ)) (before : ℕ)
+    (holds : Option (List ℕ)) (now : ℕ) (was last : Notes) → last ≡ only_sessions was
+    → Writes c held before holds now (bytes_of (line_in (wrote_entries peer text wrote) was))
+    → JotsEntries c (wrote_entries peer text wrote) (page_of held before was) (page_of holds now last)
+wrote_jots c peer text outcome.Sent held before holds now was last e w =
+    jots_by c held before holds now [] was last (only_sessions was) e w
+wrote_jots c peer text outcome.Gone held before holds now was last e w =
+    jots_by c held before holds now (bytes_of (line_of (Gone peer) was)) was last (only_sessions was) e w
+
+pub clock_slept : (c : Course) (why : Why) (clocked : Clocked) (was is : Page) → clocked.slept ≡ true
+    → JotsEntries c (Clock why clocked.reading ∷ Slept ∷ []) was is → JotsEntries c (clock_entries why clocked) was is
+clock_slept c why clocked was is e j =
+    let P : Bool → Type 0 = λ b. JotsEntries c (Clock why clocked.reading ∷ sleep_entries b) was is in subst P (sym e) j
+
+pub clock_awake : (c : Course) (why : Why) (clocked : Clocked) (was is : Page) → clocked.slept ≡ false
+    → JotsEntries c (Clock why clocked.reading ∷ []) was is → JotsEntries c (clock_entries why clocked) was is
+clock_awake c why clocked was is e j =
+    let P : Bool → Type 0 = λ b. JotsEntries c (Clock why clocked.reading ∷ sleep_entries b) was is in subst P (sym e) j

@@ -1,5 +1,7 @@
 -- How a stage ends by what became of its calls and of their lines.
-use Rattle.std.proofs.Common.{◌≡◌, ◌≤◌, ℕ, ap, sym, ◌∙◌, subst, refl, inl, inr, Option, Some, None, Result, Ok, Err}
+use Rattle.std.proofs.Common.{◌≡◌, ◌≤◌, ℕ, ap, sym, ◌∙◌, subst, refl, inl, inr, Option, Some, None, Result, Ok, Err, []}
+use Rattle.std.proofs.Math.Logic.{∥∥₁_map}
+use Rattle.std.proofs.KnownBytes.{Appends-nil}
 use Rattle.std.specs.Prelude.{IfErr, OnOk, IfOk, MatchResult, List}
 use Rattle.css_model.specs.Explains.{IsLawful}
 use Rattle.css_model.specs.History.{History}
@@ -24,7 +26,7 @@ use Rattle.css_record.specs.Stages.{CutBegun, NotBegun, Jotted, ended_by, course
 use Rattle.css_record.specs.declared.course.Course.{Course}
 use Rattle.css_record.specs.declared.course.Course.TheVariants as course
 use Rattle.css_record.proofs.Keeping.{whole_prefix}
-use Rattle.css_record.proofs.Props.{CountsPage}
+use Rattle.css_record.proofs.Props.{CountsPage, page_counts, net_counts}
 
 -- ---- lines
 -- all lines are written where a stage ends so by itself
@@ -178,3 +180,31 @@ stage_begins course.WriteFault config before old now live companion reports begu
     begins_as config before old.told now live companion reports begun driven.WriteFault x h (p ∙ e) (λ d. tt) tt
 stage_begins course.Memory config before old now live companion reports begun x h e p =
     begins_as config before old.told now live companion reports begun driven.Memory x h (p ∙ e) (λ d. tt) tt
+
+-- ---- the devices that were lent
+-- nothing was called yet
+pub kept_begun : (start now : Seen) → start ≡ now → ∥ Kept course.On start now ∥₁
+kept_begun start now e =
+    let P : Seen → Type 0 = λ x. ∥ Kept course.On start x ∥₁ in
+    subst P e ∣ ([], record { told = nothing start.told; faults = refl; jots = (Appends-nil start.page.holds, refl, refl) }) ∣₁
+  where
+    nothing : (told : Option History) → told ≡ with_entries [] told
+    nothing None = refl
+    nothing (Some history) = refl
+
+since : (c : Course) (was start now : Seen) → was ≡ start → ∥ Kept c was now ∥₁ → ∥ Kept c start now ∥₁
+since c was start now e k = let P : Seen → Type 0 = λ x. ∥ Kept c x now ∥₁ in subst P e k
+
+pub over_jots : {T : Type 0} (c : Course) (made : Result T Driven) (was start now : Seen) → was ≡ start
+    → IfErr made IsCut → ∥ Kept c was now ∥₁
+    → ∥ Jotted (ended_by c made) start.told now.told start.page now.page ∥₁
+over_jots c made was start now e cut k = ∥∥₁_map (since c was start now e k) (stage_jots c made start now cut)
+
+pub over_counts : {T : Type 0} (c : Course) (made : Result T Driven) (was start now : Seen) → was ≡ start
+    → IfErr made IsCut → ∥ Kept c was now ∥₁ → CountsSink start.page.faults now.page.faults (ended_by c made)
+over_counts c made was start now e cut k =
+    stage_counts c made start.page.faults now.page.faults cut (page_counts c start now (since c was start now e k))
+
+pub over_net : (c : Course) (was start now : Seen) → was ≡ start → ∥ Kept c was now ∥₁
+    → CountsCourse c start.faults now.faults
+over_net c was start now e k = net_counts c start now (since c was start now e k)

@@ -85,6 +85,11 @@ line_of (Closed peer) notes = session_line notes peer lines.ClosedCii lines.Clos
 line_of (Gone peer) notes = session_line notes peer lines.ClosedCii lines.ClosedTs
 line_of _ notes = None
 
+-- the line of the newest of these entries, if it has one
+abbrev pub line_in : History → Notes → Option RecordLine
+line_in [] notes = None
+line_in (entry ∷ older) notes = line_of entry (all_noted older notes)
+
 -- ---- their bytes
 abbrev pub bytes_of : Option RecordLine → List ℕ
 bytes_of None = []

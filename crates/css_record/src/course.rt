@@ -1,5 +1,5 @@
 /// What becomes of the calls of a stage, and of the lines that are written of them.
-#[derive(Clone, Copy, Debug, PartialEq, Eq)]
+#[derive(Clone, Copy)]
 pub(crate) enum Course {
     /// All went well so far.
     On,

@@ -1,11 +1,11 @@
 //! The lines of single calls.
 ghost use Rattle.std.specs.Prelude.{◌≡◌, ◌++◌, ◌∷◌, [], ℕ, List, Option, IfOk};
 ghost use Rattle.std.specs.Option.{option_map};
-ghost use Rattle.css_model.specs.History.{Heard as HeardText, Closed};
+ghost use Rattle.css_model.specs.History.{Clock, Slept, Heard as HeardText, Closed};
 ghost use Rattle.css_outside.specs.Outsides.{clock_entries, heard_entries, wrote_entries};
 ghost use Rattle.css_audit.specs.Printed.{line_text};
 ghost use Rattle.css_audit.specs.declared.input.RecordLine.{RecordLine as Line};
-ghost use Rattle.css_record.specs.Notes.{line_of, bytes_of, clock_line, is_with};
+ghost use Rattle.css_record.specs.Notes.{line_of, line_in, bytes_of, clock_line, is_with};
 ghost use Rattle.css_record.specs.Notes as told_lines;
 ghost use Rattle.css_record.specs.Pages.{notes_in, taken_bytes, Writes, JotsEntries, IsPlain, page_of};
 
@@ -31,6 +31,7 @@ fn text_of(alloc: Global, line: &RecordLine) -> Result<Text, Memory>
 fn write<D: Devices>(devices: &mut D, text: &Text) -> Course
     ensures writes { Writes result (D.holds devices.old) (D.faults devices.old) (D.holds devices.new)
         (D.faults devices.new) text.now }
+    ensures plain { IsPlain result }
     ensures outside { (D.told devices.new ≡ D.told devices.old) × (D.counts devices.new ≡ D.counts devices.old) }
     ensures sink_name { D.sink_name devices.new ≡ D.sink_name devices.old }
     ensures outside_name { D.outside_name devices.new ≡ D.outside_name devices.old }
@@ -51,6 +52,7 @@ pub(crate) fn jot<D: Devices>(
     ensures writes { (told : Option Line) → IfOk line.now (λ line. line ≡ told)
         → Writes result (D.holds devices.old) (D.faults devices.old) (D.holds devices.new) (D.faults devices.new)
         (bytes_of told) }
+    ensures plain { IsPlain result }
     ensures outside { (D.told devices.new ≡ D.told devices.old) × (D.counts devices.new ≡ D.counts devices.old) }
     ensures sink_name { D.sink_name devices.new ≡ D.sink_name devices.old }
     ensures outside_name { D.outside_name devices.new ≡ D.outside_name devices.old }
@@ -145,6 +147,63 @@ pub(crate) fn closing(book: &Notebook, peer: u32) -> Option<RecordLine>
     None
 }
 
+/// Writes the line of a sleep, and notes it.
+fn jot_sleep<D: Devices>(alloc: Global, devices: &mut D, book: &mut Notebook) -> Course
+    ensures jots { JotsEntries result (Slept ∷ [])
+        (page_of (D.holds devices.old) (D.faults devices.old) (notes_in book.old))
+        (page_of (D.holds devices.new) (D.faults devices.new) (notes_in book.new)) }
+    ensures plain { IsPlain result }
+    ensures outside { (D.told devices.new ≡ D.told devices.old) × (D.counts devices.new ≡ D.counts devices.old) }
+    ensures sink_name { D.sink_name devices.new ≡ D.sink_name devices.old }
+    ensures outside_name { D.outside_name devices.new ≡ D.outside_name devices.old }
+{
+    *book = after_sleep(book);
+    jot(alloc, devices, &Ok(Some(RecordLine::Slept)))
+}
+
+/// Writes the line of a reading, and notes it.
+fn jot_reading<D: Devices>(
+    alloc: Global,
+    devices: &mut D,
+    book: &mut Notebook,
+    why: Why,
+    reading: u64,
+) -> Course
+    ensures jots { JotsEntries result (Clock why reading ∷ [])
+        (page_of (D.holds devices.old) (D.faults devices.old) (notes_in book.old))
+        (page_of (D.holds devices.new) (D.faults devices.new) (notes_in book.new)) }
+    ensures plain { IsPlain result }
+    ensures outside { (D.told devices.new ≡ D.told devices.old) × (D.counts devices.new ≡ D.counts devices.old) }
+    ensures sink_name { D.sink_name devices.new ≡ D.sink_name devices.old }
+    ensures outside_name { D.outside_name devices.new ≡ D.outside_name devices.old }
+{
+    let line = clock_line(alloc, book, why, reading);
+    *book = after_clock(book, why, reading);
+    jot(alloc, devices, &line)
+}
+
+/// Writes the lines of a sleep and of the reading that told it.
+fn jot_both<D: Devices>(
+    alloc: Global,
+    devices: &mut D,
+    book: &mut Notebook,
+    why: Why,
+    reading: u64,
+) -> Course
+    ensures jots { JotsEntries result (Clock why reading ∷ Slept ∷ [])
+        (page_of (D.holds devices.old) (D.faults devices.old) (notes_in book.old))
+        (page_of (D.holds devices.new) (D.faults devices.new) (notes_in book.new)) }
+    ensures plain { IsPlain result }
+    ensures outside { (D.told devices.new ≡ D.told devices.old) × (D.counts devices.new ≡ D.counts devices.old) }
+    ensures sink_name { D.sink_name devices.new ≡ D.sink_name devices.old }
+    ensures outside_name { D.outside_name devices.new ≡ D.outside_name devices.old }
+{
+    match jot_sleep(alloc, devices, book) {
+        Course::On => jot_reading(alloc, devices, book, why, reading),
+        over => over,
+    }
+}
+
 /// Writes the lines of a reading, and notes it.
 pub(crate) fn jot_clock<D: Devices>(
     alloc: Global,
@@ -156,20 +215,29 @@ pub(crate) fn jot_clock<D: Devices>(
     ensures jots { JotsEntries result (clock_entries why clocked.now)
         (page_of (D.holds devices.old) (D.faults devices.old) (notes_in book.old))
         (page_of (D.holds devices.new) (D.faults devices.new) (notes_in book.new)) }
-    ensures on { IsPlain result }
+    ensures plain { IsPlain result }
     ensures outside { (D.told devices.new ≡ D.told devices.old) × (D.counts devices.new ≡ D.counts devices.old) }
     ensures sink_name { D.sink_name devices.new ≡ D.sink_name devices.old }
     ensures outside_name { D.outside_name devices.new ≡ D.outside_name devices.old }
 {
     if clocked.slept {
-        match jot(alloc, devices, &Ok(Some(RecordLine::Slept))) {
-            Course::On => *book = after_sleep(book),
-            over => return over,
-        }
+        return jot_both(alloc, devices, book, why, clocked.reading);
     }
-    let line = clock_line(alloc, book, why, clocked.reading);
-    *book = after_clock(book, why, clocked.reading);
-    jot(alloc, devices, &line)
+    jot_reading(alloc, devices, book, why, clocked.reading)
+}
+
+fn heard_line(
+    book: &Notebook,
+    peer: u32,
+    heard: &Heard,
+) -> Result<Option<RecordLine>, Memory>
+    ensures { IfOk result (λ line. line ≡ line_in (heard_entries peer heard.now) (notes_in book.now)) }
+{
+    match heard {
+        Heard::Quiet => Ok(None),
+        Heard::Text(text) => hearing(book, peer, text),
+        Heard::Closed => Ok(closing(book, peer)),
+    }
 }
 
 /// Writes the line of a text that came, or of a session that is over, and notes the call.
@@ -183,18 +251,23 @@ pub(crate) fn jot_heard<D: Devices>(
     ensures jots { JotsEntries result (heard_entries peer heard.now)
         (page_of (D.holds devices.old) (D.faults devices.old) (notes_in book.old))
         (page_of (D.holds devices.new) (D.faults devices.new) (notes_in book.new)) }
-    ensures on { IsPlain result }
+    ensures plain { IsPlain result }
     ensures outside { (D.told devices.new ≡ D.told devices.old) × (D.counts devices.new ≡ D.counts devices.old) }
     ensures sink_name { D.sink_name devices.new ≡ D.sink_name devices.old }
     ensures outside_name { D.outside_name devices.new ≡ D.outside_name devices.old }
 {
-    let line = match heard {
-        Heard::Quiet => Ok(None),
-        Heard::Text(text) => hearing(book, peer, text),
-        Heard::Closed => Ok(closing(book, peer)),
-    };
+    let line = heard_line(book, peer, heard);
     *book = after_other(book);
     jot(alloc, devices, &line)
+}
+
+fn wrote_line(book: &Notebook, peer: u32, wrote: &Wrote) -> Option<RecordLine>
+    ensures { (text : List ℕ) → result ≡ line_in (wrote_entries peer text wrote.now) (notes_in book.now) }
+{
+    match wrote {
+        Wrote::Sent => None,
+        Wrote::Gone => closing(book, peer),
+    }
 }
 
 /// Writes the line of a session that was over when a text was to be sent, and notes the call.
@@ -208,15 +281,12 @@ pub(crate) fn jot_wrote<D: Devices>(
     ensures jots { (text : List ℕ) → JotsEntries result (wrote_entries peer text wrote.now)
         (page_of (D.holds devices.old) (D.faults devices.old) (notes_in book.old))
         (page_of (D.holds devices.new) (D.faults devices.new) (notes_in book.new)) }
-    ensures on { IsPlain result }
+    ensures plain { IsPlain result }
     ensures outside { (D.told devices.new ≡ D.told devices.old) × (D.counts devices.new ≡ D.counts devices.old) }
     ensures sink_name { D.sink_name devices.new ≡ D.sink_name devices.old }
     ensures outside_name { D.outside_name devices.new ≡ D.outside_name devices.old }
 {
-    let line = match wrote {
-        Wrote::Sent => None,
-        Wrote::Gone => closing(book, peer),
-    };
+    let line = wrote_line(book, peer, wrote);
     *book = after_other(book);
     jot(alloc, devices, &Ok(line))
 }

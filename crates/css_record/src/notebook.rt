@@ -2,7 +2,7 @@ ghost use Rattle.std.specs.Prelude.{◌≤◌};
 
 
 /// A datagram that was taken: its bytes are at the front of these.
-#[derive(Clone, Copy, Debug)]
+#[derive(Clone, Copy)]
 pub(crate) struct Taken {
     pub(crate) bytes: [u8; 64],
     pub(crate) count: usize,
@@ -10,7 +10,7 @@ pub(crate) struct Taken {
 }
 
 /// What the lines of a record have to know of the calls before.
-#[derive(Clone, Copy, Debug)]
+#[derive(Clone, Copy)]
 pub(crate) struct Notebook {
     /// The peers of the two sessions that were dialled last.
     pub(crate) cii: Option<u32>,

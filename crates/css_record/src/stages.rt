@@ -7,10 +7,10 @@ ghost use Rattle.css_outside.specs.Faults.{HasRisen};
 ghost use Rattle.css_companion.specs.declared.report.Report.{Report};
 ghost use Rattle.css_drive.specs.Configs.{IsWindow};
 ghost use Rattle.css_drive.specs.CompanionDue.{due, from_cii, from_end};
-ghost use Rattle.css_drive.specs.CompanionStanding.{Shown, shown, Stands, Stops, Knows, Goes, Keeps, Begins, HasBegun};
-ghost use Rattle.css_drive.specs.CompanionStanding.{IsCut, IsEarly, CountsSink};
+ghost use Rattle.css_drive.specs.CompanionStanding.{Shown, shown, Stands, Knows, Goes, Keeps, Begins, HasBegun};
+ghost use Rattle.css_drive.specs.CompanionStanding.{IsEarly, CountsSink};
 ghost use Rattle.css_drive.specs.Proper.{Now};
-ghost use Rattle.css_record.specs.Pages.{Kept, seen_of, page_of, notes_in};
+ghost use Rattle.css_record.specs.Pages.{seen_of, page_of, notes_in};
 ghost use Rattle.css_record.specs.Stages.{Jotted, NotBegun, ended_by};
 
 use crate::course::Course;
@@ -49,7 +49,6 @@ fn start_over<D: Devices, F: Frame>(
     live: &mut Live,
     companion: &mut Companion,
     book: &mut Notebook,
-    course: &mut Course,
     begun: &mut Result<Option<u64>, Driven>,
     devices: D,
 ) -> D
@@ -60,16 +59,16 @@ fn start_over<D: Devices, F: Frame>(
         (page_of (D.holds devices) (D.faults devices) (notes_in book.old)) }
     requires sink { D.sink_name devices ≡ F.sink }
     requires outside { D.outside_name devices ≡ F.outside }
-    ensures kept { ∥ Kept course.new (seen_of (D.told devices) (D.counts devices).faults
-        (page_of (D.holds devices) (D.faults devices) (notes_in book.old)))
-        (seen_of (D.told result) (D.counts result).faults
-        (page_of (D.holds result) (D.faults result) (notes_in book.new))) ∥₁ }
+    ensures jotted { ∥ Jotted begun.new (D.told devices) (D.told result)
+        (page_of (D.holds devices) (D.faults devices) (notes_in book.old))
+        (page_of (D.holds result) (D.faults result) (notes_in book.new)) ∥₁ }
     ensures begins { (before : Shown) → (reports : List Report) → (history : History)
         → Stands config.now before (shown (D.told devices) (D.counts devices)) live.old reports history
         → Knows config.now companion.old history → due config.now history ≡ Now whys.Turn
         → MatchResult begun.new
         (Begins config.now before (shown (D.told result) (D.counts result)) live.new companion.new reports)
-        (Stops config.now before (shown (D.told result) (D.counts result)) reports) }
+        (NotBegun config.now before (D.told devices) (shown (D.told result) (D.counts result)) live.new
+        companion.new reports) }
     ensures entries { OnOk begun.new (HasBegun (D.told devices) (D.told result)) }
     ensures floor { OnOk begun.new (companion.new.client.floor ≤ (D.counts result).last) }
     ensures reading { IfOk begun.new (λ report. IfSome report (λ reading.
@@ -77,7 +76,8 @@ fn start_over<D: Devices, F: Frame>(
     ensures made { OnOk begun.new (live.new.made ≡ live.old.made + 1) }
     ensures reported { IfOk begun.new (λ report. IfNone report (live.new.reported ≡ live.old.reported)) }
     ensures dials { (D.counts devices).dial_faults ≤ (D.counts result).dial_faults }
-    ensures cut { IfErr begun.new IsCut }
+    ensures counted { CountsSink (D.faults devices) (D.faults result) begun.new }
+    ensures early { IfErr begun.new IsEarly }
     ensures sink_name { D.sink_name result ≡ D.sink_name devices }
     ensures outside_name { D.outside_name result ≡ D.outside_name devices }
 {
@@ -88,16 +88,16 @@ fn start_over<D: Devices, F: Frame>(
         course: Course::On,
         of: PhantomData,
     };
-    *begun = start(config, live, companion, &mut logging);
+    let came = start(config, live, companion, &mut logging);
     let Logging {
         alloc: _,
         devices,
         book: now,
-        course: over,
+        course,
         of: _,
     } = logging;
     *book = now;
-    *course = over;
+    *begun = ended_by(course, came);
     devices
 }
 
@@ -134,13 +134,12 @@ pub(crate) fn begin_turn<K: Sink, O: Outside>(
     ensures counted { CountsSink (K.faults sink.old) (K.faults sink.new) result }
     ensures early { IfErr result IsEarly }
 {
-    let mut course = Course::On;
     let mut begun = Ok(None);
     let lent = Lent { sink, outside };
     let _back = start_over::<Lent<K, O>, Brand>(
-        alloc, config, live, companion, book, &mut course, &mut begun, lent,
+        alloc, config, live, companion, book, &mut begun, lent,
     );
-    ended_by(course, begun)
+    begun
 }
 
 /// Makes the calls of a turn after its report, over devices that are lent.
@@ -150,7 +149,6 @@ fn calls_over<D: Devices, F: Frame>(
     live: &mut Live,
     companion: &mut Companion,
     book: &mut Notebook,
-    course: &mut Course,
     made: &mut Result<(), Driven>,
     devices: D,
 ) -> D
@@ -160,10 +158,9 @@ fn calls_over<D: Devices, F: Frame>(
         (page_of (D.holds devices) (D.faults devices) (notes_in book.old)) }
     requires sink { D.sink_name devices ≡ F.sink }
     requires outside { D.outside_name devices ≡ F.outside }
-    ensures kept { ∥ Kept course.new (seen_of (D.told devices) (D.counts devices).faults
-        (page_of (D.holds devices) (D.faults devices) (notes_in book.old)))
-        (seen_of (D.told result) (D.counts result).faults
-        (page_of (D.holds result) (D.faults result) (notes_in book.new))) ∥₁ }
+    ensures jotted { ∥ Jotted made.new (D.told devices) (D.told result)
+        (page_of (D.holds devices) (D.faults devices) (notes_in book.old))
+        (page_of (D.holds result) (D.faults result) (notes_in book.new)) ∥₁ }
     ensures goes { (before : Shown) → (reports : List Report) → (history : History)
         → Stands config.now before (shown (D.told devices) (D.counts devices)) live.old reports history
         → Knows config.now companion.old history → due config.now history ≡ from_cii config.now history
@@ -171,7 +168,8 @@ fn calls_over<D: Devices, F: Frame>(
         (from_end config.now) made.new }
     ensures floor { OnOk made.new (companion.new.client.floor ≤ (D.counts result).last) }
     ensures keeps { Keeps (D.counts devices) (D.counts result) live.old live.new }
-    ensures cut { IfErr made.new IsCut }
+    ensures counted { CountsSink (D.faults devices) (D.faults result) made.new }
+    ensures early { IfErr made.new IsEarly }
     ensures tried { OnOk made.new (live.new.cii ≡ None
         → HasRisen (D.counts devices).dial_faults (D.counts result).dial_faults) }
     ensures sink_name { D.sink_name result ≡ D.sink_name devices }
@@ -184,16 +182,16 @@ fn calls_over<D: Devices, F: Frame>(
         course: Course::On,
         of: PhantomData,
     };
-    *made = calls(alloc, config, live, companion, &mut logging);
+    let came = calls(alloc, config, live, companion, &mut logging);
     let Logging {
         alloc: _,
         devices,
         book: now,
-        course: over,
+        course,
         of: _,
     } = logging;
     *book = now;
-    *course = over;
+    *made = ended_by(course, came);
     devices
 }
 
@@ -224,11 +222,10 @@ pub(crate) fn make_calls<K: Sink, O: Outside>(
     ensures tried { OnOk result (live.new.cii ≡ None
         → HasRisen (O.counts outside.old).dial_faults (O.counts outside.new).dial_faults) }
 {
-    let mut course = Course::On;
     let mut made = Ok(());
     let lent = Lent { sink, outside };
     let _back = calls_over::<Lent<K, O>, Brand>(
-        alloc, config, live, companion, book, &mut course, &mut made, lent,
+        alloc, config, live, companion, book, &mut made, lent,
     );
-    ended_by(course, made)
+    made
 }

@@ -20,7 +20,7 @@ invariant_of-self-in-Err-Failed g c = record {
   sink = c.dial.ensures.sink_name ∙ c.args.self.now.sink;
   outside = c.dial.ensures.outside_name ∙ c.args.self.now.outside;
   kept = keeping.plain_on _ _ (entries.NotDialled c.args.kind ∷ entries.Dialling c.args.kind c.args.to.now ∷ []) _ _ _ _ _ _ _ _ _ _
-      c.in_ok-go_on.ensures c.args.self.now.kept c.in-Err-Failed.ensures.told (ap (λ x. x.faults) c.in-Err-Failed.ensures.counted.same) c.in-Err-Failed.ensures.sink.0
+      c.in_ok-go_on.ensures c.args.self.now.kept (rw c.in-Err-Failed.field-0-is at c.in-Err-Failed.ensures.told) (ap (λ x. x.faults) c.in-Err-Failed.ensures.counted.same) c.in-Err-Failed.ensures.sink.0
       c.in-Err-Failed.ensures.sink.1 refl (c.after_other-self.ensures);
 }
 
@@ -28,7 +28,7 @@ pub invariant_of-self-in-Err-Memory : goal.invariant_of-self-in-Err-Memory
 invariant_of-self-in-Err-Memory g c = record {
   sink = c.dial.ensures.sink_name ∙ c.args.self.now.sink;
   outside = c.dial.ensures.outside_name ∙ c.args.self.now.outside;
-  kept = keeping.still_on _ _ _ _ _ _ _ _ _ _ _ c.args.self.now.kept c.in-Err-Memory.ensures.told
+  kept = keeping.still_on _ _ _ _ _ _ _ _ _ _ _ c.args.self.now.kept (rw c.in-Err-Memory.field-0-is at c.in-Err-Memory.ensures.told)
       (ap (λ x. x.faults) c.in-Err-Memory.ensures.counted.same) c.in-Err-Memory.ensures.sink.0
       c.in-Err-Memory.ensures.sink.1;
 }
