@@ -1,5 +1,5 @@
 pub mod Keeping
 pub mod Props
-pub mod Stages
+pub mod StageEnds
 pub mod Records
-pub mod Turns
+pub mod TurnEnds

@@ -7,7 +7,7 @@ use Rattle.css_drive.specs.CompanionStanding.{shown, Goes, Begins, IsEarly, Coun
 use Rattle.css_drive.specs.declared.driven.Driven.{Driven}
 use Rattle.css_record.specs.Pages.{seen_of, page_of, notes_in}
 use Rattle.css_record.specs.Stages.{Jotted, NotBegun}
-use Rattle.css_record.proofs.Stages as stages
+use Rattle.css_record.proofs.StageEnds as stages
 use Rattle.css_record.proofs.stages.calls_over.Goals as goal
 
 pub invariant_of-logging : goal.invariant_of-logging

@@ -3,7 +3,7 @@ use Rattle.std.specs.Prelude.{nat_lt}
 use Rattle.std.proofs.lemmas.Grind.{common_steps}
 use Rattle.css_drive.proofs.CompanionSteps.{knows_lawful}
 use Rattle.css_drive.proofs.CompanionRuns as runs
-use Rattle.css_record.proofs.Turns as turns
+use Rattle.css_record.proofs.TurnEnds as turns
 use Rattle.css_record.proofs.turns.drive.Goals as goal
 
 pub turns-init : goal.turns-init

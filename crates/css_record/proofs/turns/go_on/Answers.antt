@@ -10,7 +10,7 @@ use Rattle.css_drive.proofs.CompanionEnds as ends
 use Rattle.css_drive.proofs.CompanionRuns as runs
 use Rattle.css_record.specs.Notes.{bytes_of}
 use Rattle.css_record.specs.Lines.{report_line}
-use Rattle.css_record.proofs.Turns as turns
+use Rattle.css_record.proofs.TurnEnds as turns
 use Rattle.css_record.proofs.turns.go_on.Goals as goal
 
 pub returns-in-Err-clause-turned : goal.returns-in-Err-clause-turned

@@ -3,7 +3,7 @@ use Rattle.std.specs.Prelude.{nat_lt}
 use Rattle.std.proofs.lemmas.Grind.{common_steps}
 use Rattle.css_drive.proofs.CompanionEnds as ends
 use Rattle.css_drive.proofs.CompanionRuns as runs
-use Rattle.css_record.proofs.Turns as turns
+use Rattle.css_record.proofs.TurnEnds as turns
 use Rattle.css_record.proofs.turns.turn.Goals as goal
 
 pub returns-in-Err-clause-turned : goal.returns-in-Err-clause-turned

@@ -414,7 +414,7 @@ report_part config (Some s) started held holds notes history line ended f x p =
     holds_part ended started holds (record_of config history) f
     (subst P (sym x.whole_so) (prefix_on started held holds x.bytes (bytes_of (Some line)) x.is_on.grew p))
 
-write_counts : (before now : ℕ) (ended : Driven) → IsWriteFault ended → now ≡ before
+pub write_counts : (before now : ℕ) (ended : Driven) → IsWriteFault ended → now ≡ before
     → CountsNetFault before now ended
 write_counts before now driven.Done f e = absurd f
 write_counts before now (driven.BadLine line why) f e = absurd f
