@@ -10,6 +10,7 @@ use Rattle.css_companion.specs.declared.config.CompanionConfig.{CompanionConfig}
 use Rattle.css_companion.specs.declared.report.Report.{Report}
 use Rattle.css_audit.specs.Printed.{line_text, record_text}
 use Rattle.css_audit.specs.declared.input.RecordLine.{RecordLine}
+use Rattle.css_audit.specs.declared.input.RecordLine.TheVariants as lines
 use Rattle.css_drive.specs.CompanionReports.{is_due, report_at, due_reports, with_report}
 use Rattle.css_drive.specs.CompanionStanding.{hung}
 use Rattle.css_drive.specs.CompanionTurns.{turn_at, first_turn}
@@ -19,10 +20,10 @@ use Rattle.css_record.specs.Lines.{with_line, line_at, lines_in, record_of, repo
 use Rattle.css_record.proofs.Keeping.{all_noted_on}
 
 -- with one more line
-text_with : (config : CompanionConfig) (line : Option RecordLine) (lines : List RecordLine)
-    → record_text config (with_line line lines) ≡ record_text config lines ++ bytes_of line
-text_with config None lines = sym (append-nil (record_text config lines))
-text_with config (Some line) lines = refl
+text_with : (config : CompanionConfig) (line : Option RecordLine) (older : List RecordLine)
+    → record_text config (with_line line older) ≡ record_text config older ++ bytes_of line
+text_with config None older = sym (append-nil (record_text config older))
+text_with config (Some line) older = append_assoc (record_text config older) (line_text line) (10 ∷ [])
 
 -- an entry at which no report is due
 plain_entry : (config : DriveConfig) (entry : Entry) (older : History) → line_at config (turn_at entry) older ≡ None
@@ -107,8 +108,15 @@ record_begun config clocked history = by clocked.slept
     by true =
         text_with config.companion (line_at config (Some clocked.reading) (Slept ∷ history)) _
         ∙ ap (λ x. x ++ bytes_of (line_at config (Some clocked.reading) (Slept ∷ history)))
-        (append_assoc (record_of config history) _ _)
-    by false = text_with config.companion (line_at config (Some clocked.reading) history) _
+        (text_with config.companion (Some (lines.Turn clocked.reading)) (lines.Slept ∷ lines_in config history)
+        ∙ ap (λ x. x ++ bytes_of (Some (lines.Turn clocked.reading))) (text_with config.companion (Some lines.Slept)
+        (lines_in config history))
+        ∙ append_assoc (record_of config history) (bytes_of (Some lines.Slept))
+        (bytes_of (Some (lines.Turn clocked.reading))))
+    by false =
+        text_with config.companion (line_at config (Some clocked.reading) history) _
+        ∙ ap (λ x. x ++ bytes_of (line_at config (Some clocked.reading) history))
+        (text_with config.companion (Some (lines.Turn clocked.reading)) (lines_in config history))
 
 -- the line of the report that was due
 pub line_due : (config : DriveConfig) (clocked : Clocked) (history : History) (report : Report)

@@ -76,12 +76,12 @@ stage_early course.WriteFault made cut = tt
 stage_early course.Memory made cut = tt
 
 -- ---- what holds of a stage that went well
-pub stage_ok : {T P : Type 0} (c : Course) (made : Result T Driven) → OnOk made P → OnOk (ended_by c made) P
-stage_ok course.On made p = p
-stage_ok course.NetFault (Ok value) p = tt
-stage_ok course.NetFault (Err ended) p = tt
-stage_ok course.WriteFault made p = tt
-stage_ok course.Memory made p = tt
+pub stage_ok : {T : Type 0} (P : Type 0) (c : Course) (made : Result T Driven) → OnOk made P → OnOk (ended_by c made) P
+stage_ok P course.On made p = p
+stage_ok P course.NetFault (Ok value) p = tt
+stage_ok P course.NetFault (Err ended) p = tt
+stage_ok P course.WriteFault made p = tt
+stage_ok P course.Memory made p = tt
 
 pub stage_if : {T : Type 0} (P : T → Type 0) (c : Course) (made : Result T Driven) → IfOk made P
     → IfOk (ended_by c made) P

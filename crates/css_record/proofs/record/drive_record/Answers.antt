@@ -29,10 +29,10 @@ pub returns-in-Err-put-clause-dial_faults : goal.returns-in-Err-put-clause-dial_
 returns-in-Err-put-clause-dial_faults g c =
     runs.early_dials _ _ _ (runs.write_early _ c.in-Err-put.ensures.fault) (omega arith)
 
-pub returns-in-Ok-put-clause-recorded : goal.returns-in-Ok-put-clause-recorded
-returns-in-Ok-put-clause-recorded g c =
+pub returns-clause-recorded : goal.returns-clause-recorded
+returns-clause-recorded g c =
     let P : List ℕ → Type 0 = λ x. Appends (g.K.Sink.holds c.args.sink.now) (g.K.Sink.holds c.put.new.sink) x in
     c.drive.ensures.recorded _ (subst P c.in-Ok.ensures.header c.in-Ok-put.ensures.ok)
 
-pub returns-in-Ok-put-clause-write_faults : goal.returns-in-Ok-put-clause-write_faults
-returns-in-Ok-put-clause-write_faults g c = runs.writes_from _ _ _ _ c.in-Ok-put.ensures.counted c.drive.ensures.write_faults
+pub returns-clause-write_faults : goal.returns-clause-write_faults
+returns-clause-write_faults g c = runs.writes_from _ _ _ _ c.in-Ok-put.ensures.counted c.drive.ensures.write_faults

@@ -50,7 +50,7 @@ returns-clause-floor g c =
     let now = seen_of (g.D.Devices.told l.devices) (g.D.Devices.counts l.devices).faults (page_of (g.D.Devices.holds l.devices)
     (g.D.Devices.faults l.devices) (notes_in l.book)) in
     let P : Result (Unit {0}) Driven → Type 0 = λ r. OnOk r (c.calls-came.new.companion.client.floor ≤ (g.D.Devices.counts l.devices).last) in
-    subst P (sym c.ended_by.ensures) (stages.stage_ok l.course c.calls-came.result c.calls-came.ensures.floor)
+    subst P (sym c.ended_by.ensures) (stages.stage_ok (c.calls-came.new.companion.client.floor ≤ (g.D.Devices.counts l.devices).last) l.course c.calls-came.result c.calls-came.ensures.floor)
 
 pub returns-clause-tried : goal.returns-clause-tried
 returns-clause-tried g c =
@@ -61,7 +61,8 @@ returns-clause-tried g c =
     (g.D.Devices.faults l.devices) (notes_in l.book)) in
     let P : Result (Unit {0}) Driven → Type 0 = λ r. OnOk r (c.calls-came.new.live.cii ≡ None
     → HasRisen (g.D.Devices.counts c.args.devices).dial_faults (g.D.Devices.counts l.devices).dial_faults) in
-    subst P (sym c.ended_by.ensures) (stages.stage_ok l.course c.calls-came.result c.calls-came.ensures.tried)
+    subst P (sym c.ended_by.ensures) (stages.stage_ok (c.calls-came.new.live.cii ≡ None
+    → HasRisen (g.D.Devices.counts c.args.devices).dial_faults (g.D.Devices.counts l.devices).dial_faults) l.course c.calls-came.result c.calls-came.ensures.tried)
 
 pub returns-clause-counted : goal.returns-clause-counted
 returns-clause-counted g c =

@@ -53,7 +53,7 @@ returns-clause-entries g c =
     let now = seen_of (g.D.Devices.told l.devices) (g.D.Devices.counts l.devices).faults (page_of (g.D.Devices.holds l.devices)
     (g.D.Devices.faults l.devices) (notes_in l.book)) in
     let P : Result (Option ℕ) Driven → Type 0 = λ r. OnOk r (HasBegun start.told now.told) in
-    subst P (sym c.ended_by.ensures) (stages.stage_ok l.course c.start-came.result c.start-came.ensures.entries)
+    subst P (sym c.ended_by.ensures) (stages.stage_ok (HasBegun start.told now.told) l.course c.start-came.result c.start-came.ensures.entries)
 
 pub returns-clause-floor : goal.returns-clause-floor
 returns-clause-floor g c =
@@ -63,7 +63,7 @@ returns-clause-floor g c =
     let now = seen_of (g.D.Devices.told l.devices) (g.D.Devices.counts l.devices).faults (page_of (g.D.Devices.holds l.devices)
     (g.D.Devices.faults l.devices) (notes_in l.book)) in
     let P : Result (Option ℕ) Driven → Type 0 = λ r. OnOk r (c.start-came.new.companion.client.floor ≤ (g.D.Devices.counts l.devices).last) in
-    subst P (sym c.ended_by.ensures) (stages.stage_ok l.course c.start-came.result c.start-came.ensures.floor)
+    subst P (sym c.ended_by.ensures) (stages.stage_ok (c.start-came.new.companion.client.floor ≤ (g.D.Devices.counts l.devices).last) l.course c.start-came.result c.start-came.ensures.floor)
 
 pub returns-clause-reading : goal.returns-clause-reading
 returns-clause-reading g c =
@@ -83,7 +83,7 @@ returns-clause-made g c =
     let now = seen_of (g.D.Devices.told l.devices) (g.D.Devices.counts l.devices).faults (page_of (g.D.Devices.holds l.devices)
     (g.D.Devices.faults l.devices) (notes_in l.book)) in
     let P : Result (Option ℕ) Driven → Type 0 = λ r. OnOk r (c.start-came.new.live.made ≡ c.args.live.now.made + 1) in
-    subst P (sym c.ended_by.ensures) (stages.stage_ok l.course c.start-came.result c.start-came.ensures.made)
+    subst P (sym c.ended_by.ensures) (stages.stage_ok (c.start-came.new.live.made ≡ c.args.live.now.made + 1) l.course c.start-came.result c.start-came.ensures.made)
 
 pub returns-clause-reported : goal.returns-clause-reported
 returns-clause-reported g c =
