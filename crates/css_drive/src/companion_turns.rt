@@ -14,7 +14,8 @@ ghost use Rattle.css_drive.specs.CompanionDue.{due, from_turn, from_cii, from_en
 ghost use Rattle.css_drive.specs.CompanionReports.{is_due, report_at};
 ghost use Rattle.css_drive.specs.CompanionRun.{Ran};
 ghost use Rattle.css_drive.specs.CompanionStanding.{Shown, shown, Stands, Stops, Knows, Goes, Keeps, Begins};
-ghost use Rattle.css_drive.specs.CompanionStanding.{HasBegun, HasSaid, HasSaidFirst, IsWriteFault, IsWritten, IsPartlyWritten};
+ghost use Rattle.css_drive.specs.CompanionStanding.{HasBegun, HasSaid, HasSaidFirst, IsWriteFault, IsWritten};
+ghost use Rattle.css_drive.specs.CompanionStanding.{IsPartlyWritten};
 ghost use Rattle.css_drive.specs.CompanionStanding.{Audience, audience, HasTold};
 ghost use Rattle.css_drive.specs.CompanionStanding.{Writes, Turned, CountsSink, IsCut, IsEarly, ending_of};
 ghost use Rattle.css_drive.specs.Ends.{CountsNetFault, CountsWriteFault, CountsDialFaults};

@@ -10,7 +10,8 @@ use Rattle.css_outside.specs.Bytes.{AppendsPrefix}
 use Rattle.css_outside.specs.Faults.{HasRisen, CountsOutFault}
 use Rattle.css_outside.specs.declared.fault.OutFault.{OutFault}
 use Rattle.css_outside.specs.declared.fault.OutFault.TheVariants as faults
-use Rattle.css_outside.specs.Outsides.{with_entries, opening_entries, heard_entries, wrote_entries, clock_entries, sleep_entries}
+use Rattle.css_outside.specs.Outsides.{with_entries, opening_entries, heard_entries, wrote_entries, clock_entries}
+use Rattle.css_outside.specs.Outsides.{sleep_entries}
 use Rattle.css_outside.specs.declared.calls.Clocked.{Clocked}
 use Rattle.css_outside.specs.declared.calls.Heard.{Heard as SessionHeard}
 use Rattle.css_outside.specs.declared.calls.Heard.TheVariants as heard
@@ -88,7 +89,8 @@ jots_on course.Memory was mid is bytes more notes last p q =
 pub entries_on : (c : Course) (earlier later : History) (was mid is : Page)
     → JotsEntries course.On earlier was mid → JotsEntries c later mid is → JotsEntries c (later ++ earlier) was is
 entries_on c earlier later was mid is p q =
-    let next : Jots c mid is (added (all_noted earlier was.notes) later) (all_noted later (all_noted earlier was.notes)) =
+    let next : Jots c mid is (added (all_noted earlier was.notes) later) (all_noted later (all_noted earlier
+    was.notes)) =
     (let P : Notes → Type 0 = λ n. Jots c mid is (added n later) (all_noted later n) in subst P p.2 q) in
     let both = jots_on c was mid is (added was.notes earlier) (added (all_noted earlier was.notes) later)
     (all_noted earlier was.notes) (all_noted later (all_noted earlier was.notes)) p next in
@@ -102,13 +104,17 @@ pub entries_cut : (c : Course) (earlier later : History) (was is : Page) → IsP
 entries_cut course.On earlier later was is plain over p = absurd (over refl)
 entries_cut course.NetFault earlier later was is plain over p = absurd plain
 entries_cut course.WriteFault earlier later was is plain over p =
-    let P : List ℕ → Type 0 = λ x. AppendsPrefix was.holds is.holds x in
-    (subst P (sym (added_on later earlier was.notes))
-    (longer was.holds is.holds (added was.notes earlier) (added (all_noted earlier was.notes) later) p.0), p.1)
+    let P : List ℕ → Type 0 = λ x. AppendsPrefix was.holds is.holds x in (
+      subst P (sym (added_on later earlier was.notes))
+          (longer was.holds is.holds (added was.notes earlier) (added (all_noted earlier was.notes) later) p.0),
+      p.1,
+    )
 entries_cut course.Memory earlier later was is plain over p =
-    let P : List ℕ → Type 0 = λ x. AppendsPrefix was.holds is.holds x in
-    (subst P (sym (added_on later earlier was.notes))
-    (longer was.holds is.holds (added was.notes earlier) (added (all_noted earlier was.notes) later) p.0), p.1)
+    let P : List ℕ → Type 0 = λ x. AppendsPrefix was.holds is.holds x in (
+      subst P (sym (added_on later earlier was.notes))
+          (longer was.holds is.holds (added was.notes earlier) (added (all_noted earlier was.notes) later) p.0),
+      p.1,
+    )
 
 -- bytes were written, and then the notes were made
 pub jots_by : (c : Course) (held : Option (List ℕ)) (before : ℕ) (holds : Option (List ℕ)) (now : ℕ) (bytes : List ℕ)

@@ -1,5 +1,6 @@
 -- Facts with at most one proof, and what a truncated fact says of them.
-use Rattle.std.proofs.Common.{◌≡◌, ◌≤◌, ◌<◌, ◌-◌, ◌+◌, ℕ, ap, sym, ◌∙◌, subst, refl, List, [], ◌∷◌, ◌++◌, take, drop, length}
+use Rattle.std.proofs.Common.{◌≡◌, ◌≤◌, ◌<◌, ◌-◌, ◌+◌, ℕ, ap, sym, ◌∙◌, subst, refl, List, [], ◌∷◌, ◌++◌, take}
+use Rattle.std.proofs.Common.{drop, length}
 use Rattle.std.proofs.Common.{Option, Some, None, arith}
 use Rattle.std.proofs.Math.Seq.{take-append_seam}
 use Rattle.std.proofs.lemmas.List.{take-append-drop, length-append}
@@ -47,8 +48,10 @@ pub part_of : (a b : Option (List ℕ)) (bytes : List ℕ) → AppendsPrefix a b
 part_of None b bytes p = tt
 part_of (Some x) None bytes p = p.grew
 part_of (Some x) (Some y) bytes p =
-    let e : length y - length x ≡ length p.front = (let n = ap length p.grew ∙ length-append x p.front in omega (arith, n)) in
-    p.grew ∙ ap (λ l. x ++ l) (sym (ap (λ n. take n bytes) e ∙ ap (take (length p.front)) p.of.1 ∙ take-append_seam p.front p.of.0))
+    let e : length y - length x ≡ length p.front = (let n = ap length p.grew ∙ length-append x p.front in omega
+    (arith, n)) in
+    p.grew ∙ ap (λ l. x ++ l) (sym (ap (λ n. take n bytes) e ∙ ap (take (length p.front)) p.of.1 ∙ take-append_seam
+    p.front p.of.0))
 
 pub prefix_of : (a b : Option (List ℕ)) (bytes : List ℕ) → AppendsPart a b bytes → AppendsPrefix a b bytes
 prefix_of a b bytes p = record {

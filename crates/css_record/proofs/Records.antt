@@ -48,9 +48,12 @@ pub reports_grow : (config : DriveConfig) (later history : History)
     → length (due_reports config history) ≤ length (due_reports config (later ++ history))
 reports_grow config [] history = omega arith
 reports_grow config (entry ∷ later) history =
-    omega (arith, reports_grow config later history,
-    with_more config (turn_at entry) (later ++ history) (first_turn (later ++ history))
-    (due_reports config (later ++ history)))
+    omega (
+      arith,
+      reports_grow config later history,
+      with_more config (turn_at entry) (later ++ history) (first_turn (later ++ history))
+          (due_reports config (later ++ history)),
+    )
 
 -- where no report becomes due with an entry, none was due before, and it has none
 quiet_entry : (config : DriveConfig) (reading : Option ℕ) (older : History) (reports : List Report)
@@ -68,8 +71,11 @@ quiet_entry config (Some reading) older reports le e =
         → cond b (report_at config older reading ∷ due_reports config older) (due_reports config older) ≡ reports
         → (due_reports config older ≡ reports) × (line_at config (Some reading) older ≡ None)
     by true is same = absurd (let n = ap length same in omega (arith, n, le))
-    by false is same = (same, ap (λ b. cond b (Some (report_line (length (due_reports config older) + 1) (report_at
-        config older reading))) None) is)
+    by false is same = (
+      same,
+      ap (λ b. cond b (Some (report_line (length (due_reports config older) + 1) (report_at
+          config older reading))) None) is,
+    )
 
 -- the record with more entries among which no report was due
 pub record_on : (config : DriveConfig) (later history : History)

@@ -1,6 +1,7 @@
 -- What the turns of a recorded run come to.
 use Rattle.std.proofs.Common.{◌≡◌, ◌≤◌, ℕ, ◌+◌, ap, sym, ◌∙◌, subst, refl, inl, inr, true, false}
-use Rattle.std.proofs.Common.{List, [], ◌∷◌, ◌++◌, append_assoc, append-nil, length, Option, Some, None, Result, Ok, Err}
+use Rattle.std.proofs.Common.{List, [], ◌∷◌, ◌++◌, append_assoc, append-nil, length, Option, Some, None, Result, Ok}
+use Rattle.std.proofs.Common.{Err}
 use Rattle.std.specs.Prelude.{nat_lt, IfSome, OnOk, OnErr, IfErr, MatchResult}
 use Rattle.std.proofs.Math.Logic.{∥∥₁_elim}
 use Rattle.std.proofs.lemmas.List.{append_cancel_right}
@@ -18,7 +19,8 @@ use Rattle.css_audit.specs.declared.input.RecordLine.{RecordLine}
 use Rattle.css_drive.specs.CompanionDue.{due, from_end, from_cii}
 use Rattle.css_drive.specs.CompanionReports.{due_reports, report_at}
 use Rattle.css_drive.specs.CompanionStanding.{Shown, Facts, facts_of, facts_in, KnowsPeers, Stands, Stops, Comes, Goes}
-use Rattle.css_drive.specs.CompanionStanding.{Knows, Begins, HasBegun, HangsUp, hung, IsWriteFault, IsHangingUp, ending_of}
+use Rattle.css_drive.specs.CompanionStanding.{Knows, Begins, HasBegun, HangsUp, hung, IsWriteFault, IsHangingUp}
+use Rattle.css_drive.specs.CompanionStanding.{ending_of}
 use Rattle.css_drive.specs.CompanionStanding.{CountsSink}
 use Rattle.css_drive.specs.Ends.{CountsNetFault, MayEnd}
 use Rattle.css_drive.specs.Proper.{Due, Now, Empty}
@@ -35,100 +37,10 @@ use Rattle.css_record.specs.Stages.{CutBegun, NotBegun, Jotted, JottedAt, course
 use Rattle.css_record.specs.Runs.{HoldsRecord, Recorded, IsOn, IsOnBut, IsWritten, IsBegun, Writes, Ended, Turned}
 use Rattle.css_record.specs.declared.course.Course.TheVariants as course
 use Rattle.css_record.proofs.Keeping.{whole_prefix, prefix_on, longer, all_noted_on}
+use Rattle.css_record.proofs.Held.{HoldsPart, holds_whole, holds_part, holds_prop, holds_from, jots_held}
+use Rattle.css_record.proofs.Held.{jots_held_part, fault_ends, write_counts}
 use Rattle.css_record.proofs.Props.{appends_prop, notes_prop, AppendsPart, part_of, prefix_of}
 use Rattle.css_record.proofs.Records.{record_on, record_hung, record_begun, line_due, line_not_due}
-
--- ---- what the sink holds
--- it holds the whole record, at whichever end
-pub holds_whole : (ended : Driven) (held holds : Option (List ℕ)) (whole : List ℕ) → Appends held holds whole
-    → HoldsRecord held holds whole ended
-holds_whole driven.Done held holds whole p = p
-holds_whole (driven.BadLine line why) held holds whole p = p
-holds_whole driven.WriteFault held holds whole p = whole_prefix held holds whole p
-holds_whole driven.NetFault held holds whole p = p
-holds_whole (driven.BadCii text fault) held holds whole p = p
-holds_whole (driven.Moved property old new) held holds whole p = p
-holds_whole (driven.Spent n) held holds whole p = p
-holds_whole (driven.Unreachable n) held holds whole p = p
-holds_whole (driven.BadUrl property) held holds whole p = p
-holds_whole driven.Memory held holds whole p = whole_prefix held holds whole p
-
--- it holds a part of it
-pub holds_part : (ended : Driven) (held holds : Option (List ℕ)) (whole : List ℕ) → IsWriteFault ended
-    → AppendsPrefix held holds whole → HoldsRecord held holds whole ended
-holds_part driven.Done held holds whole f p = absurd f
-holds_part (driven.BadLine line why) held holds whole f p = absurd f
-holds_part driven.WriteFault held holds whole f p = p
-holds_part driven.NetFault held holds whole f p = absurd f
-holds_part (driven.BadCii text fault) held holds whole f p = absurd f
-holds_part (driven.Moved property old new) held holds whole f p = absurd f
-holds_part (driven.Spent n) held holds whole f p = absurd f
-holds_part (driven.Unreachable n) held holds whole f p = absurd f
-holds_part (driven.BadUrl property) held holds whole f p = absurd f
-holds_part driven.Memory held holds whole f p = p
-
--- the same as a fact with one proof
-abbrev HoldsPart : Option (List ℕ) → Option (List ℕ) → List ℕ → Driven → Type 0
-HoldsPart held holds whole driven.WriteFault = AppendsPart held holds whole
-HoldsPart held holds whole driven.Memory = AppendsPart held holds whole
-HoldsPart held holds whole _ = Appends held holds whole
-
-holds_prop : (ended : Driven) (held holds : Option (List ℕ)) (whole : List ℕ) → IsProp (HoldsPart held holds whole ended)
-holds_prop driven.Done held holds whole = appends_prop held holds whole
-holds_prop (driven.BadLine line why) held holds whole = appends_prop held holds whole
-holds_prop driven.WriteFault held holds whole = appends_prop held holds _
-holds_prop driven.NetFault held holds whole = appends_prop held holds whole
-holds_prop (driven.BadCii text fault) held holds whole = appends_prop held holds whole
-holds_prop (driven.Moved property old new) held holds whole = appends_prop held holds whole
-holds_prop (driven.Spent n) held holds whole = appends_prop held holds whole
-holds_prop (driven.Unreachable n) held holds whole = appends_prop held holds whole
-holds_prop (driven.BadUrl property) held holds whole = appends_prop held holds whole
-holds_prop driven.Memory held holds whole = appends_prop held holds _
-
-holds_from : (ended : Driven) (held holds : Option (List ℕ)) (whole : List ℕ) → HoldsPart held holds whole ended
-    → HoldsRecord held holds whole ended
-holds_from driven.Done held holds whole p = p
-holds_from (driven.BadLine line why) held holds whole p = p
-holds_from driven.WriteFault held holds whole p = prefix_of held holds whole p
-holds_from driven.NetFault held holds whole p = p
-holds_from (driven.BadCii text fault) held holds whole p = p
-holds_from (driven.Moved property old new) held holds whole p = p
-holds_from (driven.Spent n) held holds whole p = p
-holds_from (driven.Unreachable n) held holds whole p = p
-holds_from (driven.BadUrl property) held holds whole p = p
-holds_from driven.Memory held holds whole p = prefix_of held holds whole p
-
--- after whole bytes the lines of a stage that ended so
-jots_held : (ended : Driven) (started : Option (List ℕ)) (was is : Page) (bytes more : List ℕ) (notes : Notes)
-    → Appends started was.holds bytes → Jots (course_at ended) was is more notes
-    → HoldsPart started is.holds (bytes ++ more) ended
-jots_held driven.Done started was is bytes more notes p q = Appends-trans started was.holds is.holds bytes more p q.0
-jots_held (driven.BadLine line why) started was is bytes more notes p q = Appends-trans started was.holds is.holds bytes more p q.0
-jots_held driven.WriteFault started was is bytes more notes p q = part_of started is.holds (bytes ++ more) (prefix_on started was.holds is.holds bytes more p q.0)
-jots_held driven.NetFault started was is bytes more notes p q = Appends-trans started was.holds is.holds bytes more p q.0
-jots_held (driven.BadCii text fault) started was is bytes more notes p q = Appends-trans started was.holds is.holds bytes more p q.0
-jots_held (driven.Moved property old new) started was is bytes more notes p q = Appends-trans started was.holds is.holds bytes more p q.0
-jots_held (driven.Spent n) started was is bytes more notes p q = Appends-trans started was.holds is.holds bytes more p q.0
-jots_held (driven.Unreachable n) started was is bytes more notes p q = Appends-trans started was.holds is.holds bytes more p q.0
-jots_held (driven.BadUrl property) started was is bytes more notes p q = Appends-trans started was.holds is.holds bytes more p q.0
-jots_held driven.Memory started was is bytes more notes p q = part_of started is.holds (bytes ++ more) (prefix_on started was.holds is.holds bytes more p q.0)
-
--- and of a stage that ended in want of more lines
-jots_held_part : (ended : Driven) (started : Option (List ℕ)) (was is : Page) (bytes more last : List ℕ) (notes : Notes)
-    → IsWriteFault ended → Appends started was.holds bytes → Jots (course_at ended) was is more notes
-    → HoldsPart started is.holds ((bytes ++ more) ++ last) ended
-jots_held_part driven.Done started was is bytes more last notes f p q = absurd f
-jots_held_part (driven.BadLine line why) started was is bytes more last notes f p q = absurd f
-jots_held_part driven.WriteFault started was is bytes more last notes f p q = part_of started is.holds ((bytes ++ more) ++ last) (longer started is.holds (bytes ++ more) last
-    (prefix_on started was.holds is.holds bytes more p q.0))
-jots_held_part driven.NetFault started was is bytes more last notes f p q = absurd f
-jots_held_part (driven.BadCii text fault) started was is bytes more last notes f p q = absurd f
-jots_held_part (driven.Moved property old new) started was is bytes more last notes f p q = absurd f
-jots_held_part (driven.Spent n) started was is bytes more last notes f p q = absurd f
-jots_held_part (driven.Unreachable n) started was is bytes more last notes f p q = absurd f
-jots_held_part (driven.BadUrl property) started was is bytes more last notes f p q = absurd f
-jots_held_part driven.Memory started was is bytes more last notes f p q = part_of started is.holds ((bytes ++ more) ++ last) (longer started is.holds (bytes ++ more) last
-    (prefix_on started was.holds is.holds bytes more p q.0))
 
 -- ---- which calls a stage made
 some_same : {A : Type 0} (x y : A) → Some x ≡ Some y → x ≡ y
@@ -179,7 +91,8 @@ page_on config (Some s) old new history later started was is j e f same w =
     let P : List ℕ → Type 0 = λ x. Appends started is.holds x in
     record {
       grew = subst P (record_so config k.0 history later so same)
-          (Appends-trans started was.holds is.holds (record_of config history) (added (notes_of history) k.0) w.grew grew);
+          (Appends-trans started was.holds is.holds (record_of config history) (added (notes_of history) k.0) w.grew
+          grew);
       notes_so = notes_on k.0 history later was.notes is.notes so w.notes_so k.2.2;
     })
 
@@ -315,18 +228,6 @@ cut_ended config (Some s) old new history later started was is ended j e f b fau
     (bytes_of (line_at config (Some b.0.reading) (sleep_entries b.0.slept ++ history))) (all_noted k.0 was.notes)
     fault w.grew jots)))
 
-fault_ends : (ended : Driven) → IsWriteFault ended → (d : Due) → MayEnd d ended
-fault_ends driven.Done f d = absurd f
-fault_ends (driven.BadLine line why) f d = absurd f
-fault_ends driven.WriteFault f d = tt
-fault_ends driven.NetFault f d = absurd f
-fault_ends (driven.BadCii text fault) f d = absurd f
-fault_ends (driven.Moved property old new) f d = absurd f
-fault_ends (driven.Spent n) f d = absurd f
-fault_ends (driven.Unreachable n) f d = absurd f
-fault_ends (driven.BadUrl property) f d = absurd f
-fault_ends driven.Memory f d = tt
-
 pub begin_ended : (config : DriveConfig) (before old now : Shown) (live next : Live) (companion : Companion)
     (reports : List Report) (history : History) (started : Option (List ℕ)) (was is : Page) (ended : Driven)
     → Stands config before old live reports history
@@ -413,19 +314,6 @@ report_part config (Some s) started held holds notes history line ended f x p =
     let P : List ℕ → Type 0 = λ y. AppendsPrefix started holds y in
     holds_part ended started holds (record_of config history) f
     (subst P (sym x.whole_so) (prefix_on started held holds x.bytes (bytes_of (Some line)) x.is_on.grew p))
-
-pub write_counts : (before now : ℕ) (ended : Driven) → IsWriteFault ended → now ≡ before
-    → CountsNetFault before now ended
-write_counts before now driven.Done f e = absurd f
-write_counts before now (driven.BadLine line why) f e = absurd f
-write_counts before now driven.WriteFault f e = e
-write_counts before now driven.NetFault f e = absurd f
-write_counts before now (driven.BadCii text fault) f e = absurd f
-write_counts before now (driven.Moved property old new) f e = absurd f
-write_counts before now (driven.Spent n) f e = absurd f
-write_counts before now (driven.Unreachable n) f e = absurd f
-write_counts before now (driven.BadUrl property) f e = absurd f
-write_counts before now driven.Memory f e = e
 
 -- the run ended with a report that was written in part, or not at all
 pub report_ended : (config : DriveConfig) (before now : Shown) (live : Live) (companion : Companion)

@@ -15,14 +15,17 @@ use css_outside::{Address, Clocked, Heard, OutFault, Outside, Sink, Wrote, write
 pub(crate) trait Devices {
     /// What the outside tells and counts.
     ghost told: { Self → Option History };
+
     ghost counts: { Self → Counts };
 
     /// What the sink holds and counts.
     ghost holds: { Self → Option (List ℕ) };
+
     ghost faults: { Self → ℕ };
 
     /// Which ones they are.
     ghost sink_name: { Self → ℕ };
+
     ghost outside_name: { Self → ℕ };
 
     /// The call of the outside.

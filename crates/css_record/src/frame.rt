@@ -12,6 +12,7 @@ pub(crate) trait Frame {
 
     /// Which sink and which outside are lent.
     ghost sink: { ℕ };
+
     ghost outside: { ℕ };
 }
 

@@ -67,11 +67,7 @@ pub(crate) fn jot<D: Devices>(
     }
 }
 
-fn landing(
-    alloc: Global,
-    reading: u64,
-    took: &Option<Taken>,
-) -> Result<Option<RecordLine>, Memory>
+fn landing(alloc: Global, reading: u64, took: &Option<Taken>) -> Result<Option<RecordLine>, Memory>
     ensures { IfOk result (λ line. line ≡ told_lines.landing reading (option_map taken_bytes took.now)) }
 {
     match took {
@@ -118,11 +114,7 @@ fn is_with(session: Option<u32>, peer: u32) -> bool
 }
 
 /// The line of a text that came.
-pub(crate) fn hearing(
-    book: &Notebook,
-    peer: u32,
-    text: &Text,
-) -> Result<Option<RecordLine>, Memory>
+pub(crate) fn hearing(book: &Notebook, peer: u32, text: &Text) -> Result<Option<RecordLine>, Memory>
     ensures { IfOk result (λ line. line ≡ line_of (HeardText peer text.now) (notes_in book.now)) }
 {
     if is_with(book.cii, peer) {
@@ -226,11 +218,7 @@ pub(crate) fn jot_clock<D: Devices>(
     jot_reading(alloc, devices, book, why, clocked.reading)
 }
 
-fn heard_line(
-    book: &Notebook,
-    peer: u32,
-    heard: &Heard,
-) -> Result<Option<RecordLine>, Memory>
+fn heard_line(book: &Notebook, peer: u32, heard: &Heard) -> Result<Option<RecordLine>, Memory>
     ensures { IfOk result (λ line. line ≡ line_in (heard_entries peer heard.now) (notes_in book.now)) }
 {
     match heard {

@@ -73,7 +73,11 @@ impl<D: Devices, F: Frame> Outside for Logging<D, F> {
         match self.devices.now(why) {
             Ok(clocked) => {
                 self.course = jot_clock(
-                    self.alloc, &mut self.devices, &mut self.book, why, &clocked,
+                    self.alloc,
+                    &mut self.devices,
+                    &mut self.book,
+                    why,
+                    &clocked,
                 );
                 Ok(clocked)
             }
@@ -151,7 +155,11 @@ impl<D: Devices, F: Frame> Outside for Logging<D, F> {
         match self.devices.take_text(peer) {
             Ok(heard) => {
                 self.course = jot_heard(
-                    self.alloc, &mut self.devices, &mut self.book, peer, &heard,
+                    self.alloc,
+                    &mut self.devices,
+                    &mut self.book,
+                    peer,
+                    &heard,
                 );
                 Ok(heard)
             }
@@ -167,7 +175,11 @@ impl<D: Devices, F: Frame> Outside for Logging<D, F> {
         match self.devices.send_text(peer, text) {
             Ok(wrote) => {
                 self.course = jot_wrote(
-                    self.alloc, &mut self.devices, &mut self.book, peer, &wrote,
+                    self.alloc,
+                    &mut self.devices,
+                    &mut self.book,
+                    peer,
+                    &wrote,
                 );
                 Ok(wrote)
             }

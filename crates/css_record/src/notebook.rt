@@ -1,6 +1,5 @@
 ghost use Rattle.std.specs.Prelude.{◌≤◌};
 
-
 /// A datagram that was taken: its bytes are at the front of these.
 #[derive(Clone, Copy)]
 pub(crate) struct Taken {

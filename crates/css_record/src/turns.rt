@@ -1,5 +1,6 @@
 //! The turns of a companion's run that is recorded.
-ghost use Rattle.std.specs.Prelude.{◌≡◌, ◌≤◌, ◌<◌, ◌+◌, ◌∷◌, [], List, ℕ, length, Option, Some, None, IfSome, OnOk, OnErr, IfOk, IfErr};
+ghost use Rattle.std.specs.Prelude.{◌≡◌, ◌≤◌, ◌<◌, ◌+◌, ◌∷◌, [], List, ℕ, length, Option, Some, None, IfSome, OnOk};
+ghost use Rattle.std.specs.Prelude.{OnErr, IfOk, IfErr};
 ghost use Rattle.std.specs.Io.KnownBytes.{Appends};
 ghost use Rattle.css_model.specs.History.{History};
 ghost use Rattle.css_model.specs.declared.TheConstants.{LIMIT};
@@ -152,9 +153,7 @@ fn turn<K: Sink, O: Outside>(
     match begin_turn(alloc, config, live, companion, book, sink, outside) {
         Err(ended) => Err(ended),
         Ok(None) => make_calls(alloc, config, live, companion, book, sink, outside),
-        Ok(Some(reading)) => go_on(
-            alloc, config, live, companion, book, sink, outside, reading,
-        ),
+        Ok(Some(reading)) => go_on(alloc, config, live, companion, book, sink, outside, reading),
     }
 }
 

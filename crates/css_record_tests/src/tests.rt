@@ -145,7 +145,15 @@ fn assert_run(
 #[test]
 fn each_row_writes_its_record(rt: HostRuntime) -> Result<(), Fail> {
     for case in ROWS {
-        assert_run(&rt, rt.alloc(), case, case.fails, &[], case.ended, case.lines)?;
+        assert_run(
+            &rt,
+            rt.alloc(),
+            case,
+            case.fails,
+            &[],
+            case.ended,
+            case.lines,
+        )?;
     }
     Ok(())
 }
@@ -154,7 +162,13 @@ fn each_row_writes_its_record(rt: HostRuntime) -> Result<(), Fail> {
 fn each_call_fails_once(rt: HostRuntime) -> Result<(), Fail> {
     for (call, count) in FAILING {
         assert_run(
-            &rt, rt.alloc(), &K, &[*call], &[], Ended::NetFault, &K.lines[..*count],
+            &rt,
+            rt.alloc(),
+            &K,
+            &[*call],
+            &[],
+            Ended::NetFault,
+            &K.lines[..*count],
         )?;
     }
     Ok(())
@@ -165,7 +179,13 @@ fn each_write_fails_once(rt: HostRuntime) -> Result<(), Fail> {
     for count in 0..K.lines.len() {
         let write = count as u64 + 1;
         assert_run(
-            &rt, rt.alloc(), &K, &[], &[write], Ended::WriteFault, &K.lines[..count],
+            &rt,
+            rt.alloc(),
+            &K,
+            &[],
+            &[write],
+            Ended::WriteFault,
+            &K.lines[..count],
         )?;
     }
     Ok(())

@@ -4,6 +4,7 @@ use Rattle.css_outside.specs.Bytes.{AppendsPrefix}
 use Rattle.css_drive.specs.declared.driven.Driven.TheVariants as driven
 use Rattle.css_drive.proofs.CompanionRuns as runs
 use Rattle.css_record.specs.Lines.{record_of}
+use Rattle.css_record.proofs.Held.{write_counts}
 use Rattle.css_record.proofs.Keeping.{no_prefix}
 use Rattle.css_record.proofs.TurnEnds as turns
 use Rattle.css_record.proofs.record.drive_record.Goals as goal
@@ -20,7 +21,7 @@ returns-in-Err-put-clause-recorded g c =
     (subst P c.in-Ok.ensures.header c.in-Err-put.ensures.err)
 
 pub returns-in-Err-put-clause-net_faults : goal.returns-in-Err-put-clause-net_faults
-returns-in-Err-put-clause-net_faults g c = turns.write_counts _ _ c.in-Err-put.ended c.in-Err-put.ensures.fault refl
+returns-in-Err-put-clause-net_faults g c = write_counts _ _ c.in-Err-put.ended c.in-Err-put.ensures.fault refl
 
 pub returns-in-Err-put-clause-write_faults : goal.returns-in-Err-put-clause-write_faults
 returns-in-Err-put-clause-write_faults g c = c.in-Err-put.ensures.counted

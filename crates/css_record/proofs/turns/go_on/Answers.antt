@@ -1,4 +1,5 @@
-use Rattle.std.proofs.Common.{◌≡◌, ℕ, ◌<◌, List, ◌+◌, length, refl, sym, ◌∙◌, ap, subst, arith, true, false, Option, Some}
+use Rattle.std.proofs.Common.{◌≡◌, ℕ, ◌<◌, List, ◌+◌, length, refl, sym, ◌∙◌, ap, subst, arith, true, false, Option}
+use Rattle.std.proofs.Common.{Some}
 use Rattle.std.specs.Prelude.{nat_lt}
 use Rattle.std.proofs.lemmas.Grind.{common_steps}
 use Rattle.std.specs.Io.KnownBytes.{Appends}

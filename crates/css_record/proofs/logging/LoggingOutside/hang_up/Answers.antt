@@ -11,7 +11,8 @@ invariant_of-self g c = record {
   sink = c.hang_up.ensures.sink_name ∙ c.args.self.now.sink;
   outside = c.hang_up.ensures.outside_name ∙ c.args.self.now.outside;
   kept = keeping.plain_on _ _ (entries.HungUp c.args.peer ∷ []) _ _ _ _ _ _ _ _ _ _
-      c.in_ok-go_on.ensures c.args.self.now.kept c.in-Ok.ensures.told c.in-Ok.ensures.counted.faults c.in-Ok.ensures.sink.0
+      c.in_ok-go_on.ensures c.args.self.now.kept c.in-Ok.ensures.told c.in-Ok.ensures.counted.faults
+      c.in-Ok.ensures.sink.0
       c.in-Ok.ensures.sink.1 refl (c.after_other-self.ensures);
 }
 

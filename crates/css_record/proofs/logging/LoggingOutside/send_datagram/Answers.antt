@@ -13,7 +13,8 @@ invariant_of-self g c = record {
   kept = keeping.line_on _ _ _ (entries.Sent c.args.peer c.args.bytes.now ∷ []) _ _ _ _ _ _ _ _ _ _ _ _ _ _
       c.in_ok-go_on.ensures c.args.self.now.kept c.in-Ok.ensures.told c.in-Ok.ensures.counted.faults
       c.in-Ok.ensures.sink.0 c.in-Ok.ensures.sink.1 c.jot-self.ensures.outside.0
-      (ap (λ x. x.faults) c.jot-self.ensures.outside.1) (keeping.jots_by _ _ _ _ _ _ (notes_in c.args.self.now.book) _ _ c.after_other-self.ensures
+      (ap (λ x. x.faults) c.jot-self.ensures.outside.1) (keeping.jots_by _ _ _ _ _ _ (notes_in c.args.self.now.book) _
+      _ c.after_other-self.ensures
       (c.jot-self.ensures.writes (notes.asking c.args.self.now.book.asked) c.asking.ensures));
 }
 

@@ -10,7 +10,8 @@ pub invariant_of-self : goal.invariant_of-self
 invariant_of-self g c = record {
   sink = c.jot_wrote-self.ensures.sink_name ∙ c.send_text.ensures.sink_name ∙ c.args.self.now.sink;
   outside = c.jot_wrote-self.ensures.outside_name ∙ c.send_text.ensures.outside_name ∙ c.args.self.now.outside;
-  kept = keeping.line_on _ _ _ (calls.wrote_entries c.args.peer c.args.text.now c.in-Ok.wrote) _ _ _ _ _ _ _ _ _ _ _ _ _ _
+  kept = keeping.line_on _ _ _ (calls.wrote_entries c.args.peer c.args.text.now c.in-Ok.wrote) _ _ _ _ _ _ _ _ _ _ _ _
+      _ _
       c.in_ok-go_on.ensures c.args.self.now.kept c.in-Ok.ensures.told c.in-Ok.ensures.counted.faults
       c.in-Ok.ensures.sink.0 c.in-Ok.ensures.sink.1 c.jot_wrote-self.ensures.outside.0
       (ap (λ x. x.faults) c.jot_wrote-self.ensures.outside.1) (c.jot_wrote-self.ensures.jots c.args.text.now);
