@@ -1,5 +1,5 @@
 -- Facts with at most one proof, and what a truncated fact says of them.
-use Rattle.std.proofs.Common.{◌≡◌, ◌≤◌, ◌<◌, ◌-◌, ◌+◌, ℕ, ap, sym, ◌∙◌, subst, refl, List, [], ◌∷◌, ◌++◌, take}
+use Rattle.std.proofs.Common.{◌≡◌, ◌-◌, ℕ, ap, sym, ◌∙◌, refl, List, ◌++◌, take}
 use Rattle.std.proofs.Common.{drop, length}
 use Rattle.std.proofs.Common.{Option, Some, None, arith}
 use Rattle.std.proofs.Math.Seq.{take-append_seam}

@@ -1,9 +1,8 @@
 -- The record of a history with more entries.
-use Rattle.std.proofs.Common.{◌≡◌, ◌≤◌, ℕ, ◌+◌, suc, ap, sym, ◌∙◌, subst, refl, Bool, true, false, cond, arith}
+use Rattle.std.proofs.Common.{◌≡◌, ◌≤◌, ℕ, ◌+◌, ap, sym, ◌∙◌, refl, Bool, true, false, cond, arith}
 use Rattle.std.proofs.Common.{List, [], ◌∷◌, ◌++◌, append_assoc, append-nil, length, Option, Some, None}
-use Rattle.std.proofs.lemmas.Grind.{common_steps}
 use Rattle.css_model.specs.declared.Why.TheVariants as why
-use Rattle.css_model.specs.History.{Entry, Clock, Slept, History}
+use Rattle.css_model.specs.History.{Entry, Slept, History}
 use Rattle.css_outside.specs.Outsides.{clock_entries, sleep_entries}
 use Rattle.css_outside.specs.declared.calls.Clocked.{Clocked}
 use Rattle.css_companion.specs.declared.config.CompanionConfig.{CompanionConfig}
@@ -15,7 +14,7 @@ use Rattle.css_drive.specs.CompanionReports.{is_due, report_at, due_reports, wit
 use Rattle.css_drive.specs.CompanionStanding.{hung}
 use Rattle.css_drive.specs.CompanionTurns.{turn_at, first_turn}
 use Rattle.css_drive.specs.declared.config.DriveConfig.{DriveConfig}
-use Rattle.css_record.specs.Notes.{Notes, notes_of, all_noted, line_of, bytes_of, added}
+use Rattle.css_record.specs.Notes.{notes_of, all_noted, line_of, bytes_of, added}
 use Rattle.css_record.specs.Lines.{with_line, line_at, lines_in, record_of, report_line}
 use Rattle.css_record.proofs.Keeping.{all_noted_on}
 

@@ -1,16 +1,14 @@
 -- How a stage ends by what became of its calls and of their lines.
-use Rattle.std.proofs.Common.{◌≡◌, ◌≤◌, ℕ, ap, sym, ◌∙◌, subst, refl, inl, inr, Option, Some, None, Result, Ok, Err, []}
+use Rattle.std.proofs.Common.{◌≡◌, ℕ, ap, ◌∙◌, subst, refl, inl, inr, Option, Some, None, Result, Ok, Err, []}
 use Rattle.std.proofs.Math.Logic.{∥∥₁_map}
 use Rattle.std.proofs.KnownBytes.{Appends-nil}
 use Rattle.std.specs.Prelude.{IfErr, OnOk, IfOk, MatchResult, List}
-use Rattle.css_model.specs.Explains.{IsLawful}
 use Rattle.css_model.specs.History.{History}
 use Rattle.css_outside.specs.Outsides.{with_entries}
 use Rattle.css_companion.specs.Standing.{Companion}
 use Rattle.css_companion.specs.declared.report.Report.{Report}
-use Rattle.css_drive.specs.CompanionDue.{due, IsProperRun}
-use Rattle.css_drive.specs.CompanionReports.{due_reports}
-use Rattle.css_drive.specs.CompanionStanding.{Shown, shown, Facts, Comes, Goes, Stops, Begins, HasBegun, IsCut, IsEarly}
+use Rattle.css_drive.specs.CompanionDue.{due}
+use Rattle.css_drive.specs.CompanionStanding.{Shown, Facts, Comes, Goes, Stops, Begins, HasBegun, IsCut, IsEarly}
 use Rattle.css_drive.specs.CompanionStanding.{CountsSink, IsWriteFault}
 use Rattle.css_drive.specs.Ends.{MayEnd, CountsNetFault}
 use Rattle.css_drive.specs.Proper.{Due}
@@ -20,9 +18,9 @@ use Rattle.css_drive.specs.declared.driven.Driven.{Driven}
 use Rattle.css_drive.specs.declared.driven.Driven.TheVariants as driven
 use Rattle.css_drive.proofs.CompanionRuns.{cut_writes, cut_early}
 use Rattle.css_drive.proofs.CompanionSteps.{knows_lawful}
-use Rattle.css_record.specs.Notes.{added, all_noted}
-use Rattle.css_record.specs.Pages.{Page, Seen, Jots, JotsEntries, CountsCourse, Kept, KeptBy}
-use Rattle.css_record.specs.Stages.{CutBegun, NotBegun, Jotted, ended_by, course_at, course_of}
+use Rattle.css_record.specs.Notes.{added}
+use Rattle.css_record.specs.Pages.{Page, Seen, JotsEntries, CountsCourse, Kept}
+use Rattle.css_record.specs.Stages.{NotBegun, Jotted, ended_by, course_at}
 use Rattle.css_record.specs.declared.course.Course.{Course}
 use Rattle.css_record.specs.declared.course.Course.TheVariants as course
 use Rattle.css_record.proofs.Keeping.{whole_prefix}

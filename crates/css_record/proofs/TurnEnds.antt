@@ -1,13 +1,12 @@
 -- What the turns of a recorded run come to.
-use Rattle.std.proofs.Common.{◌≡◌, ◌≤◌, ℕ, ◌+◌, ap, sym, ◌∙◌, subst, refl, inl, inr, true, false}
+use Rattle.std.proofs.Common.{◌≡◌, ℕ, ◌+◌, ap, sym, ◌∙◌, subst, refl, inl, inr, true, false}
 use Rattle.std.proofs.Common.{List, [], ◌∷◌, ◌++◌, append_assoc, append-nil, length, Option, Some, None, Result, Ok}
 use Rattle.std.proofs.Common.{Err}
-use Rattle.std.specs.Prelude.{nat_lt, IfSome, OnOk, OnErr, IfErr, MatchResult}
+use Rattle.std.specs.Prelude.{nat_lt, IfSome}
 use Rattle.std.proofs.Math.Logic.{∥∥₁_elim}
 use Rattle.std.proofs.lemmas.List.{append_cancel_right}
-use Rattle.std.proofs.KnownBytes.{Appends-nil, Appends-trans}
+use Rattle.std.proofs.KnownBytes.{Appends-trans}
 use Rattle.std.specs.Io.KnownBytes.{Appends}
-use Rattle.css_model.specs.Explains.{IsLawful}
 use Rattle.css_model.specs.History.{History}
 use Rattle.css_model.specs.declared.Why.TheVariants as why
 use Rattle.css_outside.specs.Bytes.{AppendsPrefix}
@@ -16,30 +15,28 @@ use Rattle.css_outside.specs.declared.calls.Clocked.{Clocked}
 use Rattle.css_companion.specs.Standing.{Companion}
 use Rattle.css_companion.specs.declared.report.Report.{Report}
 use Rattle.css_audit.specs.declared.input.RecordLine.{RecordLine}
-use Rattle.css_drive.specs.CompanionDue.{due, from_end, from_cii}
+use Rattle.css_drive.specs.CompanionDue.{due, from_end}
 use Rattle.css_drive.specs.CompanionReports.{due_reports, report_at}
-use Rattle.css_drive.specs.CompanionStanding.{Shown, Facts, facts_of, facts_in, KnowsPeers, Stands, Stops, Comes, Goes}
+use Rattle.css_drive.specs.CompanionStanding.{Shown, Facts, facts_of, facts_in, KnowsPeers, Stands, Stops, Goes}
 use Rattle.css_drive.specs.CompanionStanding.{Knows, Begins, HasBegun, HangsUp, hung, IsWriteFault, IsHangingUp}
 use Rattle.css_drive.specs.CompanionStanding.{ending_of}
 use Rattle.css_drive.specs.CompanionStanding.{CountsSink}
-use Rattle.css_drive.specs.Ends.{CountsNetFault, MayEnd}
-use Rattle.css_drive.specs.Proper.{Due, Now, Empty}
+use Rattle.css_drive.specs.Proper.{Now, Empty}
 use Rattle.css_drive.specs.declared.companion_live.Live.{Live}
 use Rattle.css_drive.specs.declared.config.DriveConfig.{DriveConfig}
 use Rattle.css_drive.specs.declared.driven.Driven.{Driven}
-use Rattle.css_drive.specs.declared.driven.Driven.TheVariants as driven
 use Rattle.css_drive.proofs.CompanionEnds.{keeps_promises, next_turn, is_over}
 use Rattle.css_drive.proofs.CompanionSteps.{knows_lawful}
 use Rattle.css_record.specs.Notes.{Notes, blank, notes_of, all_noted, added, bytes_of}
 use Rattle.css_record.specs.Lines.{record_of, report_line, line_at}
-use Rattle.css_record.specs.Pages.{Page, Jots, JotsEntries}
-use Rattle.css_record.specs.Stages.{CutBegun, NotBegun, Jotted, JottedAt, course_at}
-use Rattle.css_record.specs.Runs.{HoldsRecord, Recorded, IsOn, IsOnBut, IsWritten, IsBegun, Writes, Ended, Turned}
+use Rattle.css_record.specs.Pages.{Page, Jots}
+use Rattle.css_record.specs.Stages.{NotBegun, Jotted, JottedAt, course_at}
+use Rattle.css_record.specs.Runs.{HoldsRecord, Recorded, IsOn, IsWritten, IsBegun, Writes, Ended, Turned}
 use Rattle.css_record.specs.declared.course.Course.TheVariants as course
-use Rattle.css_record.proofs.Keeping.{whole_prefix, prefix_on, longer, all_noted_on}
+use Rattle.css_record.proofs.Keeping.{prefix_on, all_noted_on}
 use Rattle.css_record.proofs.Held.{HoldsPart, holds_whole, holds_part, holds_prop, holds_from, jots_held}
 use Rattle.css_record.proofs.Held.{jots_held_part, fault_ends, write_counts}
-use Rattle.css_record.proofs.Props.{appends_prop, notes_prop, AppendsPart, part_of, prefix_of}
+use Rattle.css_record.proofs.Props.{appends_prop, notes_prop}
 use Rattle.css_record.proofs.Records.{record_on, record_hung, record_begun, line_due, line_not_due}
 
 -- ---- which calls a stage made

@@ -1,7 +1,4 @@
-use Rattle.std.proofs.Common.{◌≡◌, sym, ap, refl, [], ◌∷◌, Some}
-use Rattle.css_model.specs.History as entries
 use Rattle.css_outside.specs.Outsides as calls
-use Rattle.css_audit.specs.declared.input.RecordLine.TheVariants as lines
 use Rattle.css_record.specs.Notes as notes
 use Rattle.css_record.specs.Pages.{notes_in}
 use Rattle.css_record.proofs.Keeping as keeping

@@ -1,4 +1,4 @@
-use Rattle.std.proofs.Common.{◌≡◌, ◌≤◌, refl, sym, subst, arith, List, ℕ, []}
+use Rattle.std.proofs.Common.{refl, subst, arith, List, ℕ, []}
 use Rattle.std.specs.Io.KnownBytes.{Appends}
 use Rattle.css_outside.specs.Bytes.{AppendsPrefix}
 use Rattle.css_drive.specs.declared.driven.Driven.TheVariants as driven

@@ -1,9 +1,7 @@
-use Rattle.std.proofs.Common.{◌≡◌, ◌≤◌, ◌<◌, ◌+◌, refl, sym, ◌∙◌, ap, subst, Result, Option, None, ℕ}
+use Rattle.std.proofs.Common.{◌≡◌, ◌≤◌, ◌<◌, ◌+◌, sym, ◌∙◌, subst, Result, Option, ℕ}
 use Rattle.std.specs.Prelude.{IfErr, IfOk, IfSome, IfNone, OnOk, MatchResult}
 use Rattle.css_model.specs.declared.TheConstants.{LIMIT}
-use Rattle.css_outside.specs.Faults.{HasRisen}
-use Rattle.css_drive.specs.CompanionDue.{from_end}
-use Rattle.css_drive.specs.CompanionStanding.{shown, Goes, Begins, IsEarly, CountsSink, HasBegun}
+use Rattle.css_drive.specs.CompanionStanding.{shown, Begins, IsEarly, CountsSink, HasBegun}
 use Rattle.css_drive.specs.declared.driven.Driven.{Driven}
 use Rattle.css_record.specs.Pages.{seen_of, page_of, notes_in}
 use Rattle.css_record.specs.Stages.{Jotted, NotBegun}

@@ -1,16 +1,11 @@
-use Rattle.std.proofs.Common.{◌≡◌, ℕ, ◌<◌, List, ◌+◌, length, refl, sym, ◌∙◌, ap, subst, arith, true, false, Option}
-use Rattle.std.proofs.Common.{Some}
+use Rattle.std.proofs.Common.{◌≡◌, ◌<◌, arith, true, false}
 use Rattle.std.specs.Prelude.{nat_lt}
 use Rattle.std.proofs.lemmas.Grind.{common_steps}
-use Rattle.std.specs.Io.KnownBytes.{Appends}
-use Rattle.css_outside.specs.Bytes.{AppendsPrefix}
 use Rattle.css_drive.specs.declared.driven.Driven.TheVariants as driven
 use Rattle.css_drive.specs.CompanionReports.{report_at}
 use Rattle.css_drive.proofs.CompanionSteps.{knows_lawful}
 use Rattle.css_drive.proofs.CompanionEnds as ends
 use Rattle.css_drive.proofs.CompanionRuns as runs
-use Rattle.css_record.specs.Notes.{bytes_of}
-use Rattle.css_record.specs.Lines.{report_line}
 use Rattle.css_record.proofs.TurnEnds as turns
 use Rattle.css_record.proofs.turns.go_on.Goals as goal
 
