@@ -191,14 +191,21 @@ fn each_write_fails_once(rt: HostRuntime) -> Result<(), Fail> {
     Ok(())
 }
 
+/// Has the record of a case audited.
+fn assert_right(rt: &impl Abort, alloc: Global, lines: &[&str], name: &str) -> Result<(), Fail> {
+    assert!(rt; !lines.is_empty(), "{}", name);
+    let mut audit = Audit::new(alloc, lines[0].as_bytes()).expect(rt, name);
+    for line in &lines[1..] {
+        audit.line(line.as_bytes()).expect(rt, name);
+    }
+    Ok(())
+}
+
 #[test]
 fn an_audit_finds_each_record_right(rt: HostRuntime) -> Result<(), Fail> {
     for case in ROWS {
         if case.ended != Ended::BadCii {
-            let mut audit = Audit::new(rt.alloc(), case.lines[0].as_bytes()).expect(&rt, case.name);
-            for line in &case.lines[1..] {
-                audit.line(line.as_bytes()).expect(&rt, case.name);
-            }
+            assert_right(&rt, rt.alloc(), case.lines, case.name)?;
         }
     }
     Ok(())
