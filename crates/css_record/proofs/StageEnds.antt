@@ -184,8 +184,18 @@ stage_begins course.Memory config before old now live companion reports begun x 
 pub kept_begun : (start now : Seen) → start ≡ now → ∥ Kept course.On start now ∥₁
 kept_begun start now e =
     let P : Seen → Type 0 = λ x. ∥ Kept course.On start x ∥₁ in
-    subst P e ∣ ([], record { told = nothing start.told; faults = refl; jots = (Appends-nil start.page.holds, refl,
-    refl) }) ∣₁
+    subst P e ∣ (
+      [],
+      record {
+        told = nothing start.told;
+        faults = refl;
+        jots = (
+          Appends-nil start.page.holds,
+          refl,
+          refl,
+        );
+      },
+    ) ∣₁
   where
     nothing : (told : Option History) → told ≡ with_entries [] told
     nothing None = refl
