@@ -118,7 +118,12 @@ pub record TakesUp (who : ℕ) (outs : List TvOut) (old new : Lane) : Type 0 whe
   pub cii : new.cii ≡ with_news (news_of (peer_of who kind.Cii) outs) old.cii
   pub ts : new.ts ≡ with_news (news_of (peer_of who kind.Ts) outs) old.ts
 
--- so it is of all companions
+-- what the television tells is for this companion, so it tells no other one anything
+abbrev pub IsFor : TvOut → ℕ → Type 0
+IsFor out who = (other : ℕ) → 1 ≤ other → other ≢ who
+    → (news_of (peer_of other kind.Cii) (out ∷ []) ≡ []) × (news_of (peer_of other kind.Ts) (out ∷ []) ≡ [])
+
+-- what it tells is in flight to all companions
 abbrev pub AllTakeUp : List TvOut → List Lane → List Lane → Type 0
 AllTakeUp outs old new = (who : ℕ) (before : Lane) → stored old who ≡ Some before
     → (after : Lane) × (stored new who ≡ Some after) × TakesUp who outs before after

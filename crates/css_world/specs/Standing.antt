@@ -14,7 +14,7 @@ use Rattle.css_server.specs.Exchanges as servers
 use Rattle.css_tv.specs.Standing as tvs
 use Rattle.css_tv.specs.declared.event.TvEvent.{TvEvent}
 use Rattle.css_tv.specs.declared.event.TvEvent.TheVariants as tv_events
-use Rattle.css_schedule.specs.Ranges.{IsLine, IsSecond, IsCount}
+use Rattle.css_schedule.specs.Ranges.{IsLine, IsSecond}
 use Rattle.css_schedule.specs.declared.header.Header.{Header}
 use Rattle.css_schedule.specs.declared.line.Verb.{Verb}
 use Rattle.css_schedule.specs.declared.line.Verb.TheVariants as verbs
@@ -62,7 +62,6 @@ kept_as header tv lanes requests askers taken_for datagrams made_for = record {
 -- what is always true of a world
 pub record IsWorld (world : World) : Type 0 where
   pub declared : IsDeclared world.header
-  pub companions : IsCount (length world.header.companions)
   pub tv_error : world.tv.clock.drift.error ≡ world.header.tv_error
   pub tv_precision : world.tv.clock.precision ≡ precision_ns world.header.tv_precision
   pub tv_awake : world.tv.clock.woken ≡ false

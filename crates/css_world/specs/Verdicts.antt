@@ -1,5 +1,5 @@
 -- What becomes of a line of a schedule after the lines before it, the newest of which stands first.
-use Rattle.std.specs.Prelude.{ℕ, ℤ, ◌-◌, ◌==◌, ◌&&◌, Bool, true, false, not, if◌then◌else◌, map, List, []}
+use Rattle.std.specs.Prelude.{ℕ, ℤ, ◌-◌, ◌==◌, ◌&&◌, Bool, true, false, not, if◌then◌else◌, map, List, [], length}
 use Rattle.std.specs.Prelude.{Option, Some, None, is_some, unwrap_or, slice_get, Result, Ok, Err, FitsSigned}
 use Rattle.std.specs.Int.{w8}
 use Rattle.std.specs.Option.{option_map}
@@ -23,7 +23,7 @@ use Rattle.css_companion.specs.Printed.{line_of}
 use Rattle.css_companion.specs.declared.report.Report.{Report}
 use Rattle.css_schedule.specs.declared.header.Header.{Header}
 use Rattle.css_schedule.specs.Owners.{is_sleep}
-use Rattle.css_schedule.specs.Ranges.{IsHeader}
+use Rattle.css_schedule.specs.Ranges.{IsHeader, IsCount}
 use Rattle.css_schedule.specs.declared.line.Verb.{Verb}
 use Rattle.css_schedule.specs.declared.line.Verb.TheVariants.{Ask, Take, Give, Land, Wall, Print}
 use Rattle.css_schedule.specs.declared.line.Verb.TheVariants.{Viewer, Opening, Bring, Up, Present, Close}
@@ -41,10 +41,11 @@ abbrev pub local_of : ℕ → Header → Local
 local_of who header = unwrap_or (option_map (λ companion. companion.local) (slice_get header.companions (who - 1)))
     (record { error = 0; precision = 0 })
 
--- What a header declares is in range: the precision exponent is one of a datagram, and the oscillators' errors and the
--- precision of each companion's readings are bounded.
+-- What a header declares is in range: the precision exponent is one of a datagram, the oscillators' errors and the
+-- precision of each companion's readings are bounded, and there are 1 to 16 companions.
 pub record IsDeclared (header : Header) : Type 0 where
   pub tv : IsHeader header
+  pub companions : IsCount (length header.companions)
   pub exponent : FitsSigned w8 header.tv_precision
   pub local : (who : ℕ) → IsLocal (local_of who header)
 

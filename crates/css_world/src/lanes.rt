@@ -83,10 +83,9 @@ impl Lanes {
 
 /// The number of the companion that the television tells something, and 0 where it tells none. Peers are 2K - 1 and 2K
 /// for companion K.
+#[tactic(auto, using(crate::proofs::Lanes::said_for, crate::proofs::Lanes::hung_up_for))]
 fn told_companion(out: &TvOut) -> u32
-    ensures { (who : ℕ) → 1 ≤ who → who ≢ result
-        → (flights.news_of (sessions.peer_of who kinds.Cii) (out.now ∷ []) ≡ [])
-        × (flights.news_of (sessions.peer_of who kinds.Ts) (out.now ∷ []) ≡ []) }
+    ensures { lanes.IsFor out.now result }
 {
     match out {
         TvOut::Say { peer, .. } => *peer / 2 + *peer % 2,
