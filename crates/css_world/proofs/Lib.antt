@@ -1,3 +1,5 @@
+pub mod Peers
+pub mod Ends
 pub mod Worlds
 pub mod Lawful
 pub mod Moments
@@ -15,8 +17,6 @@ pub mod Carrying
 pub mod Verbs
 pub mod Going
 pub mod Appending
-pub mod Peers
-pub mod Ends
 pub mod Entries
 pub mod Opening
 pub mod Playing

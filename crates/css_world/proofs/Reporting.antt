@@ -11,7 +11,7 @@ use Rattle.css_world.specs.Arrived.{IsToldInOrder, HasAllCome, IsInStep}
 use Rattle.css_world.specs.Sessions.{setup_of}
 use Rattle.css_world.specs.Happened.{Numbered, datagrams, done_by, events_of, history_of}
 use Rattle.css_world.specs.Verdicts.{IsDeclared, local_of, report_at, assigned_at}
-use Rattle.css_world.specs.Worlds.{line_at, moment_or_none, world_of, moment_number, errors_of}
+use Rattle.css_world.specs.Worlds.{world_of, moment, moment_number, errors_of}
 use Rattle.css_world.specs.Standing.{AreAccepted}
 use Rattle.css_world.specs.Truth.{IsTrueWall, IsTrueReport, IsPossibleLanding, AreToldInOrder, AreInStepAt, IsTrueLine}
 use Rattle.css_world.specs.Truth.{AreWorldOf, AreWorld}
