@@ -6,7 +6,7 @@ use Rattle.std.proofs.lemmas.List.Elements.{All-nil, All-cons, All-append}
 use Rattle.css_schedule.specs.declared.header.CompanionLine.{CompanionLine}
 use Rattle.css_schedule.specs.declared.header.Header.{Header}
 use Rattle.css_schedule.specs.Headers.{with_companion}
-use Rattle.css_schedule.specs.Ranges.{IsCompanion, IsHeader, IsPrintableCompanion, IsPrintable, IsGoodCompanion}
+use Rattle.css_schedule.specs.Ranges.{IsCompanion, IsPrintableCompanion, IsGoodCompanion}
 use Rattle.css_schedule.specs.Ranges.{IsGoodHeader}
 
 -- what holds of each and of one more holds of all

@@ -12,7 +12,7 @@ use Rattle.std.proofs.lemmas.List.Elements.{All-head, All-tail}
 use Rattle.css_model.specs.Numbers.{max_error, max_local_error, max_local_precision}
 use Rattle.css_schedule.proofs.Graphic.{both}
 use Rattle.css_schedule.proofs.NumbersBack.{good, up_to-back, signed-back, text-back}
-use Rattle.css_schedule.proofs.Spaced.{Solid, AllSolid, Free, AllFree, between, words_of-with_words, with_words-after}
+use Rattle.css_schedule.proofs.Spaced.{Solid, AllSolid, AllFree, between, words_of-with_words, with_words-after}
 use Rattle.css_schedule.proofs.Spaced.{line-free, lines_of-between, graphic-solid, word-solid, decimal-solid}
 use Rattle.css_schedule.proofs.Spaced.{signed-solid}
 use Rattle.css_schedule.specs.declared.header.CompanionLine.{CompanionLine}
@@ -22,7 +22,7 @@ use Rattle.css_schedule.specs.declared.header.Start.TheVariants.{One, Two}
 use Rattle.css_schedule.specs.declared.fault.LineFault.{LineFault}
 use Rattle.css_schedule.specs.declared.fault.LineFault.TheVariants.{Form}
 use Rattle.css_schedule.specs.declared.opening.Declared.{Declared}
-use Rattle.css_schedule.specs.Words.{is_word, is_feed, after_word, words_of, lines_of, ◌>>=◌}
+use Rattle.css_schedule.specs.Words.{is_word, is_feed, after_word, lines_of, ◌>>=◌}
 use Rattle.css_schedule.specs.Headers.{max_companions, stem_of, mode_at, declared_at, local_at, companion_of_words}
 use Rattle.css_schedule.specs.Headers.{count_at, header_with, first_of_words, second_of_words, start_of}
 use Rattle.css_schedule.specs.Headers.{header_of_words, header_of, after_number, numbered_of_words, companion_of}

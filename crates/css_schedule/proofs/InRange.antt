@@ -18,7 +18,7 @@ use Rattle.css_schedule.specs.declared.fault.LineFault.TheVariants.{Memory}
 use Rattle.css_schedule.specs.declared.line.Line.{Line}
 use Rattle.css_schedule.specs.declared.line.ScriptLine.{ScriptLine}
 use Rattle.css_schedule.specs.declared.line.Verb.{Verb}
-use Rattle.css_schedule.specs.Words.{words_of, word_at, number_at, after_word, all_read}
+use Rattle.css_schedule.specs.Words.{words_of, word_at, after_word, all_read}
 use Rattle.css_schedule.specs.Lines as lines
 use Rattle.css_schedule.specs.Lines.{time_at, position_at, kind_at, finite_at, wall_time_at, earliest_of, latest_of}
 use Rattle.css_schedule.specs.Lines.{earliest_at, latest_at, change_at, speed_at, seek_at, command_at}

@@ -1,6 +1,6 @@
 -- Lines that are printed are read back.
 use Rattle.std.proofs.Common.{◌≡◌, ℕ, ◌≤◌, arith, ap, subst, refl, sym, ◌∙◌, Bool, true, false, List, [], ◌∷◌, ◌++◌}
-use Rattle.std.specs.Prelude.{if◌then◌else◌, ◌==◌, ◌||◌, ◌&&◌, not, Result, Ok, codes, decimal}
+use Rattle.std.specs.Prelude.{if◌then◌else◌, ◌==◌, ◌||◌, ◌&&◌, not, Ok, codes, decimal}
 use Rattle.std.proofs.lemmas.Bool.{eqb-true, eq-eqb}
 use Rattle.css_player.specs.declared.command.Command.TheVariants.{Change, Speed, Seek}
 use Rattle.css_schedule.proofs.NumbersBack.{good, time-back, up_to-back}

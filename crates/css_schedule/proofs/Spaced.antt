@@ -1,7 +1,7 @@
 -- Words with a space between two of them, and lines with a line feed, are cut apart again.
 use Rattle.std.proofs.Common.{◌≡◌, ℕ, suc, ◌*◌, ◌+◌, ◌-◌, ◌^◌, ◌<◌, arith, ap, subst, refl, sym, ◌∙◌, Bool, true, false}
 use Rattle.std.proofs.Common.{List, [], ◌∷◌, ◌++◌, length, append_assoc, ne_eqb}
-use Rattle.std.specs.Prelude.{if◌then◌else◌, ◌==◌, ◌&&◌, not, ℤ, pos, negsuc, nat_le, unsigned_abs}
+use Rattle.std.specs.Prelude.{if◌then◌else◌, ◌==◌, not, ℤ, pos, negsuc, nat_le, unsigned_abs}
 use Rattle.std.specs.Prelude.{Some, None, decimal}
 use Rattle.std.specs.Char.{is_ascii_digit}
 use Rattle.std.specs.Fmt.{signed_decimal}

@@ -1,8 +1,8 @@
 -- The verbs of lines that are printed are read back.
 use Rattle.std.proofs.Common.{◌≡◌, ℕ, ◌^◌, ◌<◌, ◌≤◌, arith, ap, refl, sym, ◌∙◌, Bool, true, false, List, [], ◌∷◌}
 use Rattle.std.proofs.Common.{le-leb}
-use Rattle.std.specs.Prelude.{◌==◌, ℤ, pos, negsuc, nat_le, unsigned_abs}
-use Rattle.std.specs.Prelude.{Option, Some, None, Result, Ok, Err, bytes_eq, codes, decimal}
+use Rattle.std.specs.Prelude.{ℤ, pos, negsuc, unsigned_abs}
+use Rattle.std.specs.Prelude.{Some, None, Ok, bytes_eq, codes, decimal}
 use Rattle.std.specs.Fmt.{signed_decimal}
 use Rattle.std.specs.List.{list_all}
 use Rattle.std.proofs.lemmas.Int.{ints}
@@ -24,8 +24,8 @@ use Rattle.css_schedule.proofs.NumbersBack.{text-back}
 use Rattle.css_schedule.proofs.Spaced.{Solid, AllSolid, graphic-solid, word-solid, decimal-solid, signed-solid}
 use Rattle.css_schedule.specs.declared.line.Verb.{Verb}
 use Rattle.css_schedule.specs.declared.line.Verb.TheVariants as verbs
-use Rattle.css_schedule.specs.Words.{is_graphic, is_word, after_word}
-use Rattle.css_schedule.specs.Lines.{time_at, position_at, kind_at, finite_at, wall_time_at, earliest_at, latest_at}
+use Rattle.css_schedule.specs.Words.{is_graphic, after_word}
+use Rattle.css_schedule.specs.Lines.{position_at, kind_at, finite_at, wall_time_at, earliest_at, latest_at}
 use Rattle.css_schedule.specs.Lines.{change_at, speed_at, seek_at, command_at}
 use Rattle.css_schedule.specs.Lines.{ask_at, take_at, give_at, land_at, wall_at, print_at, programme_at, timeline_at}
 use Rattle.css_schedule.specs.Lines.{viewer_at}
