@@ -1,5 +1,5 @@
 -- What a companion did on its sessions at accepted lines.
-use Rattle.std.proofs.Common.{◌≡◌, ℕ, ◌⊎◌, inl, inr, refl, sym, ap, ◌∙◌, Bool}
+use Rattle.std.proofs.Common.{◌≡◌, ◌≤◌, ℕ, ◌⊎◌, inl, inr, refl, sym, ap, ◌∙◌, Bool}
 use Rattle.std.proofs.Common.{true, false, cond, not, ◌==◌, List, [], ◌∷◌}
 use Rattle.std.specs.Prelude.{Option, Some, None, is_some, ◌||◌}
 use Rattle.std.specs.Option.{option_or}
@@ -14,8 +14,9 @@ use Rattle.css_tv.specs.declared.event.TvEvent.{TvEvent}
 use Rattle.css_companion.specs.Meanings.{kind_of}
 use Rattle.css_schedule.specs.declared.header.Header.{Header}
 use Rattle.css_schedule.specs.declared.line.Verb.TheVariants.{Opening, Bring, Present}
-use Rattle.css_world.specs.Sessions.{peer_of, is_open, was_opened, written_to, told_to, next_down}
-use Rattle.css_world.specs.Happened.{Numbered, hearing, events_of, history_of}
+use Rattle.css_world.specs.Sessions.{peer_of, setup_of, is_open, was_opened, written_to, told_to, next_down}
+use Rattle.css_world.specs.Happened.{Numbered, hearing, done_by, events_of, history_of}
+use Rattle.css_world.proofs.Ends.{events_with}
 use Rattle.css_world.specs.Standing.{AreAccepted}
 use Rattle.css_world.proofs.Peers.{cii_of, ts_of, cii-ts, ts-cii}
 use Rattle.css_world.proofs.Entries.{dialled-kind, dialled-was, dialled-kind_apart, dialled-was_apart, wrote-apart}
@@ -66,10 +67,12 @@ keeps_kind : (header : Header) (who : ℕ) (k : Kind) → 1 ≤ who → IsKeptBy
 keeps_kind header who kind.Cii first made (Opening kind.Cii) events own range can below staged staging before =
     inr (dialled-kind (cii_of who) session.Cii own)
 keeps_kind header who kind.Cii first made (Opening kind.Ts) events own range can below staged staging before =
-    same_kind who kind.Cii events _ own _
+    same_kind who kind.Cii events (events_with who events own (Opening kind.Ts)) own
+    (done_by header who made events (Opening kind.Ts) own)
     (dialled-kind_apart (cii_of who) (ts_of who) (ts-cii who first) session.Ts own) before
 keeps_kind header who kind.Ts first made (Opening kind.Cii) events own range can below staged staging before =
-    same_kind who kind.Ts events _ own _
+    same_kind who kind.Ts events (events_with who events own (Opening kind.Cii)) own
+    (done_by header who made events (Opening kind.Cii) own)
     (dialled-kind_apart (ts_of who) (cii_of who) (cii-ts who first) session.Cii own) before
 keeps_kind header who kind.Ts first made (Opening kind.Ts) events own range can below staged staging before =
     inr (dialled-kind (ts_of who) session.Ts own)

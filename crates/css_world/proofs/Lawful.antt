@@ -148,16 +148,17 @@ sleeps_are header who (now ∷ older) = elim (eqb_tells now.line.who who) [
   | inl own ↦
       ap sleeps (history_now header now older who own.1)
       ∙ sleeps-by header who (datagrams header older) (events_of header older) now.line.verb (history_of who header older)
-      ∙ by own.1 (is_sleep now.line.verb) refl
+      ∙ by own.1 (sleeps_are header who older) (is_sleep now.line.verb) refl
   | inr other ↦
       ap sleeps (history_other header now older who other.1) ∙ sleeps_are header who older
       ∙ sym (sleeps_other now older who other.1)
 ]
   where
-    by : now.line.who ≡ who → (b : Bool) → is_sleep now.line.verb ≡ b
+    by : now.line.who ≡ who → sleeps (history_of who header older) ≡ sleeps_of who older
+        → (b : Bool) → is_sleep now.line.verb ≡ b
         → sleeps_with b (sleeps (history_of who header older)) ≡ sleeps_of who (now ∷ older)
-    by own true woke = omega (arith, sleeps_are header who older, sleeps_woke now older who own woke)
-    by own false awake = sleeps_are header who older ∙ sym (sleeps_awake now older who awake)
+    by own before true woke = omega (arith, before, sleeps_woke now older who own woke)
+    by own before false awake = before ∙ sym (sleeps_awake now older who awake)
 
 -- ---- readings for requests
 -- What was asked is below the least reading after a sleep, and what was asked before the last sleep is below the least

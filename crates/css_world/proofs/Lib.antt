@@ -12,7 +12,7 @@ pub mod Numbers
 pub mod Flights
 pub mod Dialled
 pub mod News
-pub mod Lanes
+pub mod Delivered
 pub mod Carrying
 pub mod Verbs
 pub mod Going

@@ -259,7 +259,8 @@ lately_at who P (now ∷ older) i a each e same = elim (eqb_tells now.line.who w
       let at : (world_of (now ∷ older) i) ≡ world_of older i = world-older now older i below in
       let before : (world_of older i).companion who ≡ Some a = sym (ap (λ (m : Moment). m.companion who) at) ∙ e in
       subst (λ (m : Moment). P m.time a.value) (sym at)
-      (by (is_sleep now.line.verb) refl before (all-tail Q shown (drifts.shown_lately (ToldNow who now older)) here)))
+      (by (is_sleep now.line.verb) refl own.1 before (all-tail Q shown (drifts.shown_lately (ToldNow who now older)) here)
+      (λ rest e slept. lately_at who P older i a rest e slept)))
       (λ above.
       let at = world-now now older i above in
       let is = clock-is who a older now (sym (ap (λ (m : Moment). m.companion who) at) ∙ e) in
@@ -282,11 +283,12 @@ lately_at who P (now ∷ older) i a each e same = elim (eqb_tells now.line.who w
   where
     by : (woke : Bool) → is_sleep now.line.verb ≡ woke → now.line.who ≡ who → (world_of older i).companion who ≡ Some a
         → All (λ (s : Shown). P s.time s.value) (drifts.shown_lately (told_with woke (told_by (seen_of who older))))
+        → (All (λ (s : Shown). P s.time s.value) (drifts.shown_lately (told_by (seen_of who older)))
+        → (world_of older i).companion who ≡ Some a → a.sleeps ≡ sleeps_of who older → P (world_of older i).time a.value)
         → P (world_of older i).time a.value
-    by true woke own before rest =
+    by true woke own before rest earlier =
         absurd (omega (arith, clock_sleeps who older i a before, same, sleeps_woke now older who own woke))
-    by false awake own before rest =
-        lately_at who P older i a rest before (same ∙ sleeps_awake now older who awake)
+    by false awake own before rest earlier = earlier rest before (same ∙ sleeps_awake now older who awake)
 
 -- ---- two moments
 -- a clock keeps its error from a moment to itself

@@ -83,7 +83,7 @@ impl Lanes {
 
 /// The number of the companion that the television tells something, and 0 where it tells none. Peers are 2K - 1 and 2K
 /// for companion K.
-#[tactic(auto, using(crate::proofs::Lanes::said_for, crate::proofs::Lanes::hung_up_for))]
+#[tactic(auto, using(crate::proofs::Delivered::said_for, crate::proofs::Delivered::hung_up_for))]
 fn told_companion(out: &TvOut) -> u32
     ensures { lanes.IsFor out.now result }
 {

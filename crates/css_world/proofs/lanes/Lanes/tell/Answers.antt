@@ -1,6 +1,6 @@
 -- One output more.
 use Rattle.std.proofs.Common.{arith, refl}
-use Rattle.css_world.proofs.Lanes.{none_yet, told_on, kept_on, as_many}
+use Rattle.css_world.proofs.Delivered.{none_yet, told_on, kept_on, as_many}
 use Rattle.css_world.proofs.lanes.Lanes.tell.Goals as goal
 
 pub loop-out-init : goal.loop-out-init

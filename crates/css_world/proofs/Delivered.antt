@@ -4,6 +4,7 @@ use Rattle.std.proofs.Common.{List, [], ◌∷◌, ◌++◌, append-nil, length,
 use Rattle.std.specs.Prelude.{Some, map}
 use Rattle.std.proofs.lemmas.Bool.Decides.{eqb_tells}
 use Rattle.css_sessions.specs.declared.session.Kind.TheVariants as kind
+use Rattle.css_sessions.specs.declared.session.Said.{Said}
 use Rattle.css_companion.specs.Standing.{Companion}
 use Rattle.css_tv.specs.declared.event.TvOut.{TvOut}
 use Rattle.css_tv.specs.declared.event.TvOut.TheVariants as outs
@@ -41,7 +42,7 @@ none_yet lanes who lane found =
 -- a text of another peer isn't told to this one
 told_other : (peer other : ℕ) (text : List ℕ) → other ≢ peer → news_of peer (outs.Say other text ∷ []) ≡ []
 told_other peer other text differs =
-    let one : Bool → List (List ℕ) = λ b. map (λ s. s.text) (cond b (record { peer = other; text = text } ∷ []) []) in
+    let one : Bool → List (List ℕ) = λ b. map (λ (s : Said). s.text) (cond b (record { peer = other; text = text } ∷ []) []) in
     ap one (ne_eqb other peer differs)
 
 -- peers 2K - 1 and 2K are those of companion K
