@@ -1,5 +1,6 @@
 -- What an accepted line promises of the sessions and of a report.
-use Rattle.std.proofs.Common.{◌≡◌, ℕ, ap, sym, subst, ◌∙◌, arith, cond, le-ltb, List, ◌∷◌, length}
+use Rattle.std.proofs.Common.{◌≡◌, ℕ, refl, ap, sym, subst, ◌∙◌, arith, cond, le-ltb, List, ◌∷◌, length}
+use Rattle.css_schedule.specs.Owners.{is_own}
 use Rattle.std.specs.Prelude.{Some}
 use Rattle.css_model.specs.declared.Why.TheVariants as why
 use Rattle.css_model.specs.History.{Clock, History}
