@@ -1,7 +1,7 @@
 -- What a television tells is in flight to the companion that it is for, and to no other one.
 use Rattle.std.proofs.Common.{◌≡◌, ◌≢◌, ℕ, ◌+◌, ◌*◌, ◌-◌, ◌/◌, ◌%◌, ◌≤◌, arith, Bool, true, false, cond, ◌==◌}
 use Rattle.std.proofs.Common.{List, [], ◌∷◌, ◌++◌, append-nil, length, refl, ap, sym, subst, ◌∙◌, inl, inr, ne_eqb}
-use Rattle.std.specs.Prelude.{Some, map}
+use Rattle.std.specs.Prelude.{Some, map, slice_set, Result, Ok, Err, OnOk}
 use Rattle.std.proofs.lemmas.Bool.Decides.{eqb_tells}
 use Rattle.css_sessions.specs.declared.session.Kind.TheVariants as kind
 use Rattle.css_sessions.specs.declared.session.Said.{Said}
@@ -17,7 +17,7 @@ use Rattle.css_world.specs.Sessions.{peer_of}
 use Rattle.css_world.specs.Flights.{Session, grown, with_news, news_of}
 use Rattle.css_world.specs.Lanes.{IsFor, TakesUp, AllTakeUp, KeepsAllButTexts}
 use Rattle.css_world.proofs.News.{told-next}
-use Rattle.css_world.proofs.Numbers.{stored_within, parts_kept, count_kept}
+use Rattle.css_world.proofs.Numbers.{stored_within, stored_same, set_there, set_others, set_part, parts_kept, count_kept}
 
 -- ---- nothing is told
 -- a queue without more texts
@@ -115,3 +115,32 @@ pub kept_in_each : (old new : List Lane) (who : ℕ) (after : Lane) → KeepsAll
 kept_in_each old new who after kept found =
     parts_kept (λ (lane : Lane). lane.clock) (λ (lane : Lane). lane.companion) old new who after kept.clocks
     kept.companions found
+
+-- ---- one lane
+-- what follows from what holds of an Ok holds of it
+pub ok_then : {T E P Q : Type 0} (result : Result T E) → OnOk result P → (P → Q) → OnOk result Q
+ok_then (Ok x) p next = next p
+ok_then (Err fault) p next = tt
+
+-- where one lane takes up an output that is for it, and is written back, all do
+pub lane_told : (out : TvOut) (who : ℕ) (old : List Lane) (before after : Lane) → IsFor out who → 1 ≤ who
+    → who ≤ length old → stored old who ≡ Some before → TakesUp who (out ∷ []) before after
+    → AllTakeUp (out ∷ []) old (slice_set old (who - 1) after)
+lane_told out who old before after is first within found taken =
+    one_told out who old (slice_set old (who - 1) after) is
+    (λ other differs. set_others old who other after first differs)
+    (λ lane at.
+    let same : before ≡ lane = stored_same old who before lane found at in (
+      after,
+      set_there old who after first within,
+      subst (λ (x : Lane). TakesUp who (out ∷ []) x after) same taken,
+    ))
+
+-- and each keeps its clock and its companion, where that one does
+pub lane_kept : (who : ℕ) (old : List Lane) (before after : Lane) → stored old who ≡ Some before
+    → after.clock ≡ before.clock → after.companion ≡ before.companion
+    → KeepsAllButTexts old (slice_set old (who - 1) after)
+lane_kept who old before after found clock companion = record {
+  clocks = set_part (λ (lane : Lane). lane.clock) old who after before found clock;
+  companions = set_part (λ (lane : Lane). lane.companion) old who after before found companion;
+}

@@ -7,7 +7,7 @@ pub loop-out-init : goal.loop-out-init
 loop-out-init c = record {
   told = none_yet c.args.self.now.list.items;
   rest = record { clocks = refl; companions = refl };
-  few = c.requires;
+  few = c.requires.few;
 }
 
 pub loop-out-preserved : goal.loop-out-preserved
