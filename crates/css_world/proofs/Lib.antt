@@ -31,3 +31,4 @@ pub mod Floors
 pub mod Rated
 pub mod InStep
 pub mod Reporting
+pub mod Inside

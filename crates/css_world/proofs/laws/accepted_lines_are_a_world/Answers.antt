@@ -1,6 +1,5 @@
--- A trial.
-use Rattle.css_world.proofs.Verbs.{happens, closes_ts, opens_ts, raises, presents}
+use Rattle.css_world.proofs.Truth.{accepted_lines_are_world}
 use Rattle.css_world.proofs.laws.accepted_lines_are_a_world.Goals as goal
 
 pub returns : goal.returns
-returns c = ?
+returns c = accepted_lines_are_world
