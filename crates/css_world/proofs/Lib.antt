@@ -32,3 +32,4 @@ pub mod Rated
 pub mod InStep
 pub mod Reporting
 pub mod Inside
+pub mod Written

@@ -924,3 +924,17 @@ module _ (old : World) (lines : List Numbered) (number t w who l : ℕ) where
             (session_as mid.ts peer (e ∷ events) history _ _ _ _ _ (closed-open peer own) refl refl refl refl
             (session-played now.ts (closes old.header lines who kind.Ts lane.ts ts before.ts ok)));
       }))
+
+  -- ---- sleep
+  -- the companion slept
+  pub sleeps : (lane : Lane) (companion : Companion) → EndsStand old lines
+      → 1 ≤ who → who ≤ length old.lanes → stored old.lanes who ≡ Some lane
+      → companions.StandsFor companion (Slept ∷ history_of who old.header lines)
+      → EndsStand (record old { lanes = slice_set old.lanes (who - 1) (record lane { companion = companion }) })
+      (own_line number t w who l Sleep ∷ lines)
+  sleeps lane companion ends first within found stands =
+      let before = ends.lanes who lane found in
+      quiet old lines number t w who l Sleep old.tv.tv
+      (slice_set old.lanes (who - 1) (record lane { companion = companion })) tt ends refl ends.stage
+      (one_lane old.header lines number t w who l Sleep old.lanes (record lane { companion = companion }) refl first
+      within ends.lanes (record { companion = stands; cii = before.cii; ts = before.ts }))

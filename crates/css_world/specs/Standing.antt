@@ -1,5 +1,5 @@
 -- Which lines of a schedule a world stands for.
-use Rattle.std.specs.Prelude.{ℕ, ◌≡◌, ◌<◌, ◌≤◌, false, if◌then◌else◌, map, List, [], ◌∷◌, ◌++◌, length}
+use Rattle.std.specs.Prelude.{ℕ, ◌≡◌, ◌<◌, ◌≤◌, true, false, if◌then◌else◌, map, List, [], ◌∷◌, ◌++◌, length}
 use Rattle.std.specs.Prelude.{Option, Some, None, Result, Ok, Err, OnOk}
 use Rattle.std.specs.Option.{option_map, ForSome}
 use Rattle.std.specs.Result.{result_map_both}
@@ -120,6 +120,10 @@ ReadTo old new result now = (lines : List Numbered) → ReadingsStand old lines
 -- the clock of companion `who` was last read so
 abbrev pub HasRead : World → ℕ → ℕ → Type 0
 HasRead world who reading = (lane : Lane) → stored world.lanes who ≡ Some lane → WasRead lane reading
+
+-- companion `who` slept since its clock was last read
+abbrev pub HasWoken : World → ℕ → Type 0
+HasWoken world who = (lane : Lane) → stored world.lanes who ≡ Some lane → lane.clock.woken ≡ true
 
 -- the line comes after the last one that each companion's drift was told of
 abbrev pub AreNext : World → ℕ → Type 0

@@ -17,7 +17,7 @@ ghost use Rattle.css_world.specs.Printed.{wall_text};
 ghost use Rattle.css_world.specs.Truth.{TellsTruth};
 ghost use Rattle.css_world.specs.declared.fault.WorldFault.TheVariants as faults;
 ghost use Rattle.css_world.specs.Standing.{StandsFor, IsNext, IsReady, Means, GoesOn, CarriesOut, IsAtTv, Prints, Adds};
-ghost use Rattle.css_world.specs.Standing.{ShowsBy, ShownTo, ReadsBy, ReadTo, HasRead, IsNumber, AreNext};
+ghost use Rattle.css_world.specs.Standing.{ShowsBy, ShownTo, ReadsBy, ReadTo, HasRead, HasWoken, IsNumber, AreNext};
 ghost use Rattle.css_world.specs.Standing.{KeepsClocks, KeepsEnds, KeepsReadings, KeepsDrifts, KeepsRefused};
 ghost use Rattle.css_world.specs.Standing.{KeepsAllButMade};
 
@@ -167,6 +167,7 @@ impl World {
         ensures stands { ReadTo self.old self.new result (record { number = number; line = line.now }) }
         ensures own { IfSome (own_reading line.now.verb) (λ reading.
             OnOk result (HasRead self.new line.now.who reading)) }
+        ensures woken { line.now.verb ≡ events.Sleep → OnOk result (HasWoken self.new line.now.who) }
         ensures ends { KeepsEnds self.old self.new }
         ensures drifts { KeepsDrifts self.old self.new }
     {
@@ -195,6 +196,7 @@ impl World {
         requires line { IsLine line }
         requires of { IsSecond (length self.old.header.companions) line }
         requires own { IfSome (own_reading line.verb) (λ reading. HasRead self.old line.who reading) }
+        requires woken { line.verb ≡ events.Sleep → HasWoken self.old line.who }
         requires ready { (lines : List Numbered) × IsReady self.old lines }
         ensures clocks { KeepsClocks self.old self.new }
         ensures prints { Prints self.old self.new out.old.items out.new.items result
@@ -309,6 +311,7 @@ impl World {
     /// The companion slept, and wakes up.
     fn sleep(&mut self, who: u32) -> Result<(), WorldFault>
         requires who { IsNumber self.old who }
+        requires woken { HasWoken self.old who }
         ensures clocks { KeepsClocks self.old self.new }
         ensures carries { CarriesOut self.old self.new result who events.Sleep }
         ensures refused { IfErr result (λ fault. KeepsRefused self.old self.new fault) }

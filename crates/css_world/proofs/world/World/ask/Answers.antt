@@ -5,9 +5,10 @@ use Rattle.css_model.specs.History.{Sent, Clock}
 use Rattle.css_companion.specs.Standing as companions
 use Rattle.css_schedule.specs.declared.line.Verb.TheVariants.{Ask}
 use Rattle.css_world.specs.Happened.{peer, history_of}
-use Rattle.css_world.specs.Standing.{World, IsReady}
+use Rattle.css_world.specs.Standing.{World, IsReady, IsWorld, IsNumber}
 use Rattle.css_world.proofs.Carrying.{at_line, asked}
 use Rattle.css_world.proofs.Inside.{inside_of}
+use Rattle.css_world.proofs.Written.{still_world, clocks_kept, was_read, may_ask, asked_lane}
 use Rattle.css_world.proofs.world.World.ask.Goals as goal
 
 pub returns-clause-carries : goal.returns-clause-carries
@@ -33,3 +34,69 @@ returns-clause-carries c = λ lines now own is ready.
           ∙ ap (λ (bytes : List ℕ). old.requests ++ bytes ∷ []) c.ask-request.ensures.request)
           c.in_ok-push-2.ensures.items);
     }
+
+pub ask-request-requires-clause-floor : goal.ask-request-requires-clause-floor
+ask-request-requires-clause-floor c =
+    let old : World = inside_of c.self.inside in
+    let lane = c.lane-lane.result.now in
+    may_ask old.header c.args.who lane c.args.reading
+    (c.self.invariant.lanes c.args.who lane c.lane-lane.ensures.value)
+    (was_read c.args.self.now old c.args.who c.args.reading lane c.self.view_is c.requires.read
+    c.lane-lane.ensures.value)
+
+pub invariant_of-self : goal.invariant_of-self
+invariant_of-self c =
+    let old : World = inside_of c.self.inside in
+    let lane = c.lane-lane.result.now in
+    still_world old _ c.args.who (record lane { companion = c.ask-request.new.self }) c.self.invariant
+    (subst (λ (w : World). IsNumber w c.args.who) (sym c.self.view_is) c.requires.who) refl refl refl
+    (asked_lane old.header c.args.who lane c.ask-request.new.self c.args.reading
+    (c.self.invariant.lanes c.args.who lane c.lane-lane.ensures.value)
+    (was_read c.args.self.now old c.args.who c.args.reading lane c.self.view_is c.requires.read
+    c.lane-lane.ensures.value) (ap (λ (x : companions.Companion). x.setup) c.ask-request.ensures.keeps)
+    c.ask-request.ensures.own c.ask-request.ensures.floors.0 c.ask-request.ensures.floors.1)
+
+pub invariant_of-self-in_err-push-2 : goal.invariant_of-self-in_err-push-2
+invariant_of-self-in_err-push-2 c =
+    let old : World = inside_of c.self.inside in
+    let lane = c.lane-lane.result.now in
+    still_world old _ c.args.who (record lane { companion = c.ask-request.new.self }) c.self.invariant
+    (subst (λ (w : World). IsNumber w c.args.who) (sym c.self.view_is) c.requires.who) refl refl refl
+    (asked_lane old.header c.args.who lane c.ask-request.new.self c.args.reading
+    (c.self.invariant.lanes c.args.who lane c.lane-lane.ensures.value)
+    (was_read c.args.self.now old c.args.who c.args.reading lane c.self.view_is c.requires.read
+    c.lane-lane.ensures.value) (ap (λ (x : companions.Companion). x.setup) c.ask-request.ensures.keeps)
+    c.ask-request.ensures.own c.ask-request.ensures.floors.0 c.ask-request.ensures.floors.1)
+
+pub invariant_of-self-2 : goal.invariant_of-self-2
+invariant_of-self-2 c =
+    let old : World = inside_of c.self.inside in
+    let lane = c.lane-lane.result.now in
+    still_world old _ c.args.who (record lane { companion = c.ask-request.new.self }) c.self.invariant
+    (subst (λ (w : World). IsNumber w c.args.who) (sym c.self.view_is) c.requires.who) refl refl refl
+    (asked_lane old.header c.args.who lane c.ask-request.new.self c.args.reading
+    (c.self.invariant.lanes c.args.who lane c.lane-lane.ensures.value)
+    (was_read c.args.self.now old c.args.who c.args.reading lane c.self.view_is c.requires.read
+    c.lane-lane.ensures.value) (ap (λ (x : companions.Companion). x.setup) c.ask-request.ensures.keeps)
+    c.ask-request.ensures.own c.ask-request.ensures.floors.0 c.ask-request.ensures.floors.1)
+
+pub returns-in_err-push-clause-clocks : goal.returns-in_err-push-clause-clocks
+returns-in_err-push-clause-clocks c =
+    let old : World = inside_of c.self.inside in
+    let lane = c.lane-lane.result.now in
+    clocks_kept c.args.self.now old _ c.args.who lane (record lane { companion = c.ask-request.new.self })
+    c.self.view_is c.lane-lane.ensures.value refl refl refl refl
+
+pub returns-in_err-push-2-clause-clocks : goal.returns-in_err-push-2-clause-clocks
+returns-in_err-push-2-clause-clocks c =
+    let old : World = inside_of c.self.inside in
+    let lane = c.lane-lane.result.now in
+    clocks_kept c.args.self.now old _ c.args.who lane (record lane { companion = c.ask-request.new.self })
+    c.self.view_is c.lane-lane.ensures.value refl refl refl refl
+
+pub returns-clause-clocks : goal.returns-clause-clocks
+returns-clause-clocks c =
+    let old : World = inside_of c.self.inside in
+    let lane = c.lane-lane.result.now in
+    clocks_kept c.args.self.now old _ c.args.who lane (record lane { companion = c.ask-request.new.self })
+    c.self.view_is c.lane-lane.ensures.value refl refl refl refl
