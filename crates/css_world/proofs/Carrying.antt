@@ -406,6 +406,22 @@ owners_stored items older asker response (Some message) are =
     subst (λ (kept : List ℕ). AreStored owner kept (asker ∷ asker ∷ older)) (append_assoc items (asker ∷ []) (asker ∷ []))
     (pushed owner (items ++ asker ∷ []) (asker ∷ older) asker asker (pushed owner items older asker asker are refl) refl)
 
+-- of a response with no follow-up there is one
+pub alone_owned : (asker : ℕ) (bytes : Option (List ℕ)) (follow_up : Option Message) (items made : List ℕ)
+    → bytes ≡ option_map encoded follow_up → bytes ≡ None → made ≡ items ++ asker ∷ []
+    → made ≡ items ++ owners_of asker follow_up
+alone_owned asker bytes None items made is none put = put
+alone_owned asker bytes (Some message) items made is none put = absurd (cc)
+
+-- and of one with its follow-up there are two
+pub both_owned : (asker : ℕ) (bytes : Option (List ℕ)) (sent : List ℕ) (follow_up : Option Message)
+    (items first made : List ℕ)
+    → bytes ≡ option_map encoded follow_up → bytes ≡ Some sent → first ≡ items ++ asker ∷ []
+    → made ≡ first ++ asker ∷ [] → made ≡ items ++ owners_of asker follow_up
+both_owned asker bytes sent None items first made is some put put_too = absurd (cc)
+both_owned asker bytes sent (Some message) items first made is some put put_too =
+    put_too ∙ ap (λ (xs : List ℕ). xs ++ asker ∷ []) put ∙ append_assoc items (asker ∷ []) (asker ∷ [])
+
 -- so does `give`
 pub given : (old : World) (lines : List Numbered) (number t w who l take reading asker : ℕ) (ticket : Ticket)
     (tv : Television) (made : List (List ℕ)) (owners : List ℕ)

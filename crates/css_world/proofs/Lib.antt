@@ -33,3 +33,4 @@ pub mod InStep
 pub mod Reporting
 pub mod Inside
 pub mod Written
+pub mod Showing

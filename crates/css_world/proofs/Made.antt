@@ -174,6 +174,14 @@ owners-made header (now ∷ older) =
     ∙ ap (λ ys. owners_by header (tickets header older) (taken_for older) now.line.verb ++ ys)
     (owners-made header older)
 
+-- each datagram is for one companion
+pub made_count : (header : Header) (lines : List Numbered)
+    → length (made_for header lines) ≡ length (datagrams header lines)
+made_count header lines =
+    sym (ap (λ (xs : List ℕ). length xs) (owners-made header lines)) ∙ length-map (made header lines) owner_of
+    ∙ sym (length-map (made header lines) message_of)
+    ∙ ap (λ (xs : List Message). length xs) (messages-made header lines)
+
 -- a part of the item of a number is the item of that number of the parts
 numbered-map : {A : Type 0} (part : Made → A) (number : ℕ) (xs : List Made)
     → numbered number (map part xs) ≡ option_map part (numbered number xs)

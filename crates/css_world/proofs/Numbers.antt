@@ -35,6 +35,24 @@ pub stored_same : {A : Type 0} (items : List A) (who : ℕ) (x y : A) → stored
 stored_same items who x y is too =
     let same : Some x ≡ Some y = sym is ∙ too in cc
 
+-- where one of two lists that are as long has no item, the other one has none
+none_at : {A B : Type 0} (items : List A) (others : List B) (place : ℕ) → length items ≡ length others
+    → slice_get items place ≡ None → slice_get others place ≡ None
+none_at items [] place same is = refl
+none_at [] (y ∷ ys) place same is = absurd (omega (arith, same))
+none_at (x ∷ xs) (y ∷ ys) zero same is = absurd (cc)
+none_at (x ∷ xs) (y ∷ ys) (suc place) same is = none_at xs ys place (omega (arith, same)) is
+
+pub stored_none : {A B : Type 0} (items : List A) (others : List B) (number : ℕ) → length items ≡ length others
+    → stored items number ≡ None → stored others number ≡ None
+stored_none items others zero same is = refl
+stored_none items others (suc place) same is = none_at items others place same is
+
+-- what is mapped to nothing is nothing
+pub mapped_none : {A B : Type 0} (f : A → B) (o : Option A) → option_map f o ≡ None → o ≡ None
+mapped_none f None is = refl
+mapped_none f (Some x) is = absurd (cc)
+
 -- ---- one more
 -- what was put at the end has the next number, and each other item is as before
 pub stored_pushed : {A : Type 0} (items : List A) (new : A) (who : ℕ) (item : A)
@@ -73,19 +91,27 @@ set_others items (suc place) (suc other) item first differs =
     let same : suc place - 1 ≡ place = omega arith in
     rw same (slice_get-set_other items item place other (λ e. differs (ap suc (sym e))))
 
--- what holds of each item but one, and of what is written there, holds of each
-pub each_set : {A : Type 0} (P : ℕ → A → Type 0) (items : List A) (who : ℕ) (item : A) → 1 ≤ who → who ≤ length items
-    → ((other : ℕ) (x : A) → stored items other ≡ Some x → P other x) → P who item
+-- what holds of each other item, and of what is written there, holds of each
+pub each_written : {A : Type 0} (P : ℕ → A → Type 0) (items : List A) (who : ℕ) (item : A) → 1 ≤ who
+    → who ≤ length items
+    → ((other : ℕ) (x : A) → other ≢ who → stored items other ≡ Some x → P other x) → P who item
     → (other : ℕ) (x : A) → stored (slice_set items (who - 1) item) other ≡ Some x → P other x
-each_set P items who item first within each new other x is = elim (eqb_tells other who) [
+each_written P items who item first within each new other x is = elim (eqb_tells other who) [
   | inl same ↦
       let here : stored (slice_set items (who - 1) item) other ≡ Some item =
       subst (λ (n : ℕ). stored (slice_set items (who - 1) item) n ≡ Some item) (sym same.1)
       (set_there items who item first within) in
       let equal : item ≡ x = stored_same (slice_set items (who - 1) item) other item x here is in
       subst (P other) equal (subst (λ (n : ℕ). P n item) (sym same.1) new)
-  | inr differs ↦ each other x (sym (set_others items who other item first differs.1) ∙ is)
+  | inr differs ↦ each other x differs.1 (sym (set_others items who other item first differs.1) ∙ is)
 ]
+
+-- so it does where it held of each item before
+pub each_set : {A : Type 0} (P : ℕ → A → Type 0) (items : List A) (who : ℕ) (item : A) → 1 ≤ who → who ≤ length items
+    → ((other : ℕ) (x : A) → stored items other ≡ Some x → P other x) → P who item
+    → (other : ℕ) (x : A) → stored (slice_set items (who - 1) item) other ≡ Some x → P other x
+each_set P items who item first within each new =
+    each_written P items who item first within (λ other x differs found. each other x found) new
 
 -- ---- a part of each item
 -- a part that is as before in what is written is as before in each item

@@ -44,7 +44,7 @@ use Rattle.css_world.specs.Sessions.{written_to, received_from, told_to, next_do
 use Rattle.css_world.specs.Happened.{Numbered, tickets, datagrams, hearing, done_by, events_of, history_of}
 use Rattle.css_world.specs.Numbering.{stored}
 use Rattle.css_world.specs.Verdicts.{IsDeclared, can_happen, event_at, played}
-use Rattle.css_world.specs.Flights.{Session, opened, closed, first_in, rest_in}
+use Rattle.css_world.specs.Flights.{Session, phase_of, opened, closed, first_in, rest_in}
 use Rattle.css_world.specs.Flights.{with_written, SessionCarries, SessionStands, HasNews}
 use Rattle.css_world.specs.Lanes.{LaneStands, LanesStand, IsPlayed, AllArePlayed, KeepsAllButTexts}
 use Rattle.css_world.specs.Standing.{World, EndsStand, AreAccepted, IsAtTv, carried, Carries}
@@ -337,6 +337,17 @@ module _ (header : Header) (lines : List Numbered) (who : ℕ) where
   can-present earliest latest old stands live =
       is-live (is_open (ts_of who) (history_of who header lines)) (was_opened (ts_of who) (history_of who header lines))
       (sym stands.phase ∙ live)
+
+  -- none is while it isn't
+  pub cannot-present : (earliest latest : Bound) (old : Session)
+      → SessionStands (ts_of who) (events_of header lines) (history_of who header lines) old
+      → (old.phase ≡ phases.Open → ⊥) → can_happen header lines who (Present earliest latest) ≡ false
+  cannot-present earliest latest old stands shut =
+      by (is_open (ts_of who) (history_of who header lines)) stands.phase
+    where
+      by : (b : Bool) → old.phase ≡ phase_of b (was_opened (ts_of who) (history_of who header lines)) → b ≡ false
+      by true is = absurd (shut is)
+      by false is = refl
 
   -- what happens at the television alone can always happen
   pub carried-at-tv : (verb : Verb) (e : TvEvent) → IsAtTv verb e
@@ -924,17 +935,3 @@ module _ (old : World) (lines : List Numbered) (number t w who l : ℕ) where
             (session_as mid.ts peer (e ∷ events) history _ _ _ _ _ (closed-open peer own) refl refl refl refl
             (session-played now.ts (closes old.header lines who kind.Ts lane.ts ts before.ts ok)));
       }))
-
-  -- ---- sleep
-  -- the companion slept
-  pub sleeps : (lane : Lane) (companion : Companion) → EndsStand old lines
-      → 1 ≤ who → who ≤ length old.lanes → stored old.lanes who ≡ Some lane
-      → companions.StandsFor companion (Slept ∷ history_of who old.header lines)
-      → EndsStand (record old { lanes = slice_set old.lanes (who - 1) (record lane { companion = companion }) })
-      (own_line number t w who l Sleep ∷ lines)
-  sleeps lane companion ends first within found stands =
-      let before = ends.lanes who lane found in
-      quiet old lines number t w who l Sleep old.tv.tv
-      (slice_set old.lanes (who - 1) (record lane { companion = companion })) tt ends refl ends.stage
-      (one_lane old.header lines number t w who l Sleep old.lanes (record lane { companion = companion }) refl first
-      within ends.lanes (record { companion = stands; cii = before.cii; ts = before.ts }))

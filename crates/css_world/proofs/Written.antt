@@ -1,18 +1,22 @@
 -- One lane of a world is written over: what is always true stays so, and no clock is touched.
 use Rattle.std.proofs.Common.{◌≡◌, ◌≤◌, ◌-◌, ◌+◌, ℕ, suc, arith, List, length, refl, ap, sym, subst, ◌∙◌, true, false, length-set}
-use Rattle.std.specs.Prelude.{Some, None, Option, slice_set, map, max}
+use Rattle.std.specs.Prelude.{Some, None, Option, Result, Ok, Err, IfErr, slice_set, map, max}
 use Rattle.css_model.specs.Numbers.{precision_ns}
 use Rattle.css_client.specs.Clients.{local_of}
 use Rattle.css_companion.specs.Standing as companions
 use Rattle.css_companion.specs.Standing.{Companion}
 use Rattle.css_schedule.specs.declared.header.Header.{Header}
+use Rattle.css_world.specs.declared.fault.WorldFault.{WorldFault}
+use Rattle.css_world.specs.declared.fault.WorldFault.TheVariants as faults
 use Rattle.css_world.specs.declared.lane.Lane.{Lane}
 use Rattle.css_world.specs.declared.watch.Reading.{Reading}
 use Rattle.css_world.specs.Clocks.{least_next}
-use Rattle.css_world.specs.Lanes.{IsLaneOf, WasRead}
+use Rattle.css_schedule.specs.Headers.{max_companions}
+use Rattle.css_world.specs.Lanes.{IsLaneOf, WasRead, KeepsAllButTexts, KeepsTv}
 use Rattle.css_world.specs.Numbering.{stored}
-use Rattle.css_world.specs.Standing.{World, IsWorld, IsNumber, HasRead, KeepsClocks}
+use Rattle.css_world.specs.Standing.{World, IsWorld, IsNumber, HasRead, KeepsClocks, KeepsBoth, KeepsRefused}
 use Rattle.css_world.specs.Verdicts.{IsDeclared}
+use Rattle.css_world.proofs.Delivered.{as_many, kept_in_each}
 use Rattle.css_world.proofs.Numbers.{each_set, set_part}
 
 -- ---- what is always true
@@ -46,6 +50,13 @@ pub clocks_set : (old : List Lane) (who : ℕ) (before after : Lane) → stored 
     → map (λ (lane : Lane). lane.clock) (slice_set old (who - 1) after) ≡ map (λ (lane : Lane). lane.clock) old
 clocks_set old who before after found same =
     set_part (λ (lane : Lane). lane.clock) old who after before found same
+
+-- so it is of the companions
+pub companions_set : (old : List Lane) (who : ℕ) (before after : Lane) → stored old who ≡ Some before
+    → after.companion ≡ before.companion
+    → map (λ (lane : Lane). lane.companion) (slice_set old (who - 1) after) ≡ map (λ (lane : Lane). lane.companion) old
+companions_set old who before after found same =
+    set_part (λ (lane : Lane). lane.companion) old who after before found same
 
 -- so no clock of the world is
 pub clocks_kept : (now old new : World) (who : ℕ) (before after : Lane) → old ≡ now
@@ -143,3 +154,89 @@ kept_lane header who lane new is client setup clock = record {
   after_sleep = subst (λ c. new.companion.client.after_sleep ≤ least_next true c.last) (sym clock)
       (subst (λ c. c.after_sleep ≤ least_next true lane.clock.last) (sym client) is.after_sleep);
 }
+
+-- so what is always true stays so, where that lane keeps its client, its setup and its clock
+pub still_kept : (now old new : World) (who : ℕ) (before after : Lane) → IsWorld old → old ≡ now → IsNumber now who
+    → stored old.lanes who ≡ Some before → after.companion.client ≡ before.companion.client
+    → after.companion.setup ≡ before.companion.setup → after.clock ≡ before.clock → new.header ≡ old.header
+    → new.tv ≡ old.tv → new.lanes ≡ slice_set old.lanes (who - 1) after → IsWorld new
+still_kept now old new who before after was view number found client setup clock header tv lanes =
+    still_world old new who after was (subst (λ (w : World). IsNumber w who) (sym view) number) header tv lanes
+    (kept_lane old.header who before after (was.lanes who before found) client setup clock)
+
+-- ---- refusals
+-- the television and all companions are as before, where that lane keeps its companion
+pub both_kept : (now old new : World) (who : ℕ) (before after : Lane) → old ≡ now → stored old.lanes who ≡ Some before
+    → after.companion ≡ before.companion → new.tv.tv ≡ old.tv.tv → new.lanes ≡ slice_set old.lanes (who - 1) after
+    → KeepsBoth now new
+both_kept now old new who before after view found same tv lanes = record {
+  tv = tv ∙ ap (λ (w : World). w.tv.tv) view;
+  companions = ap (map (λ (lane : Lane). lane.companion)) lanes
+      ∙ set_part (λ (lane : Lane). lane.companion) old.lanes who after before found same
+      ∙ ap (λ (w : World). map (λ (lane : Lane). lane.companion) w.lanes) view;
+}
+
+refused_by : (now new : World) (fault : WorldFault) → KeepsBoth now new → KeepsRefused now new fault
+refused_by now new faults.Memory both = tt
+refused_by now new _ both = both
+
+pub refused_kept : (now new : World) (result : Result (Unit {0}) WorldFault) → KeepsBoth now new
+    → IfErr result (λ fault. KeepsRefused now new fault)
+refused_kept now new (Ok x) both = tt
+refused_kept now new (Err fault) both = refused_by now new fault both
+
+-- ---- what the television tells
+-- the lanes are few
+pub few : (world : World) → IsWorld world → length world.lanes ≤ max_companions
+few world was = subst (λ n. n ≤ max_companions) (sym was.count) was.declared.companions.high
+
+-- what is always true stays so, where the television took in an event
+pub still_played : (old new : World) → IsWorld old → new.header ≡ old.header → new.tv.clock ≡ old.tv.clock
+    → new.tv.tv.server ≡ old.tv.tv.server → new.tv.tv.stage.addresses ≡ old.tv.tv.stage.addresses
+    → KeepsAllButTexts old.lanes new.lanes → IsWorld new
+still_played old new was header clock server addresses kept = record {
+  declared = subst IsDeclared (sym header) was.declared;
+  tv_error = ap (λ c. c.drift.error) clock ∙ was.tv_error ∙ ap (λ (h : Header). h.tv_error) (sym header);
+  tv_precision = ap (λ c. c.precision) clock ∙ was.tv_precision
+      ∙ ap (λ (h : Header). precision_ns h.tv_precision) (sym header);
+  tv_awake = ap (λ c. c.woken) clock ∙ was.tv_awake;
+  server_precision = ap (λ s. s.precision) server ∙ was.server_precision
+      ∙ ap (λ (h : Header). h.tv_precision) (sym header);
+  server_error = ap (λ s. s.error) server ∙ was.server_error ∙ ap (λ (h : Header). h.tv_error) (sym header);
+  server_follow = ap (λ s. s.follow) server ∙ was.server_follow ∙ ap (λ (h : Header). h.follow) (sym header);
+  addresses = addresses ∙ was.addresses;
+  count = as_many old.lanes new.lanes kept ∙ was.count ∙ ap (λ (h : Header). length h.companions) (sym header);
+  lanes = λ other x at.
+      let before = kept_in_each old.lanes new.lanes other x kept at in
+      subst (λ (h : Header). IsLaneOf h other x) (sym header)
+      (kept_lane old.header other before.0 x (was.lanes other before.0 before.1)
+      (ap (λ (companion : Companion). companion.client) (sym before.3))
+      (ap (λ (companion : Companion). companion.setup) (sym before.3)) (sym before.2));
+}
+
+-- no clock is touched then, where none was before
+pub clocks_played : (now old new : World) (between : List Lane) → old ≡ now
+    → map (λ (lane : Lane). lane.clock) between ≡ map (λ (lane : Lane). lane.clock) old.lanes
+    → KeepsAllButTexts between new.lanes → new.header ≡ old.header → new.tv.clock ≡ old.tv.clock → KeepsClocks now new
+clocks_played now old new between view same kept header tv = record {
+  header = header ∙ ap (λ (w : World). w.header) view;
+  tv = tv ∙ ap (λ (w : World). w.tv.clock) view;
+  own = kept.clocks ∙ same ∙ ap (λ (w : World). map (λ (lane : Lane). lane.clock) w.lanes) view;
+}
+
+-- both ends are as before where the player refuses
+pub refused_played : (now old new : World) (between : List Lane) (fault : WorldFault) → old ≡ now
+    → map (λ (lane : Lane). lane.companion) between ≡ map (λ (lane : Lane). lane.companion) old.lanes
+    → KeepsAllButTexts between new.lanes → KeepsTv old.tv.tv new.tv.tv fault → KeepsRefused now new fault
+refused_played now old new between faults.Memory view same kept tv = tt
+refused_played now old new between _ view same kept tv = record {
+  tv = tv ∙ ap (λ (w : World). w.tv.tv) view;
+  companions = kept.companions ∙ same ∙ ap (λ (w : World). map (λ (lane : Lane). lane.companion) w.lanes) view;
+}
+
+-- so a call that passes the fault on keeps both
+pub refused_as : (now new : World) (result : Result (Unit {0}) WorldFault) (fault exit : WorldFault) → result ≡ Err exit
+    → exit ≡ fault → KeepsRefused now new fault → IfErr result (λ f. KeepsRefused now new f)
+refused_as now new result fault exit is same kept =
+    subst (λ (r : Result (Unit {0}) WorldFault). IfErr r (λ f. KeepsRefused now new f)) (sym is)
+    (subst (λ f. KeepsRefused now new f) (sym same) kept)

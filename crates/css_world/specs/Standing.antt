@@ -264,15 +264,6 @@ pub record KeepsEnds (old new : World) : Type 0 where
   pub datagrams : new.datagrams ≡ old.datagrams
   pub made_for : new.made_for ≡ old.made_for
 
--- nothing but what the television made was touched
-pub record KeepsAllButMade (old new : World) : Type 0 where
-  pub header : new.header ≡ old.header
-  pub tv : new.tv ≡ old.tv
-  pub lanes : new.lanes ≡ old.lanes
-  pub requests : new.requests ≡ old.requests
-  pub askers : new.askers ≡ old.askers
-  pub taken_for : new.taken_for ≡ old.taken_for
-
 -- The answer to a ticket, as its datagrams.
 pub record IsAnswerTo (server : Server) (ticket : Ticket) (reading : ℕ) (answered : Answered) : Type 0 where
   pub response : answered.response ≡ encoded (response_to server ticket reading)

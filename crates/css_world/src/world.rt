@@ -19,11 +19,10 @@ ghost use Rattle.css_world.specs.declared.fault.WorldFault.TheVariants as faults
 ghost use Rattle.css_world.specs.Standing.{StandsFor, IsNext, IsReady, Means, GoesOn, CarriesOut, IsAtTv, Prints, Adds};
 ghost use Rattle.css_world.specs.Standing.{ShowsBy, ShownTo, ReadsBy, ReadTo, HasRead, HasWoken, IsNumber, AreNext};
 ghost use Rattle.css_world.specs.Standing.{KeepsClocks, KeepsEnds, KeepsReadings, KeepsDrifts, KeepsRefused};
-ghost use Rattle.css_world.specs.Standing.{KeepsAllButMade};
 
 use crate::fault::WorldFault;
 use crate::lanes::Lanes;
-use crate::place::{item, owner};
+use crate::place::{item, owner, store};
 use crate::printed::{print_report, print_wall};
 use crate::session::peer_of;
 use crate::television::{Television, play};
@@ -272,21 +271,10 @@ impl World {
     {
         let asker = owner(&self.taken_for, take).ok_or(WorldFault::Absent)?;
         let answered = self.tv.give(take, reading).ok_or(WorldFault::Absent)?;
-        self.make(asker, answered.response)?;
+        store(&mut self.datagrams, &mut self.made_for, answered.response, asker)?;
         if let Some(follow_up) = answered.follow_up {
-            self.make(asker, follow_up)?;
+            store(&mut self.datagrams, &mut self.made_for, follow_up, asker)?;
         }
-        Ok(())
-    }
-
-    /// Stores a datagram that the television made for this companion.
-    fn make(&mut self, asker: u32, datagram: [u8; 32]) -> Result<(), Memory>
-        ensures datagrams { OnOk result (self.new.datagrams ≡ self.old.datagrams ++ datagram ∷ []) }
-        ensures made_for { OnOk result (self.new.made_for ≡ self.old.made_for ++ asker ∷ []) }
-        ensures rest { KeepsAllButMade self.old self.new }
-    {
-        self.datagrams.push(datagram)?;
-        self.made_for.push(asker)?;
         Ok(())
     }
 
