@@ -34,3 +34,4 @@ pub mod Reporting
 pub mod Inside
 pub mod Written
 pub mod Showing
+pub mod Fresh

@@ -5,7 +5,11 @@ use Rattle.css_model.specs.Numbers.{precision_ns}
 use Rattle.css_client.specs.Clients.{local_of}
 use Rattle.css_companion.specs.Standing as companions
 use Rattle.css_companion.specs.Standing.{Companion}
+use Rattle.css_schedule.specs.Owners.{is_own}
+use Rattle.css_schedule.specs.Ranges.{IsSecond}
 use Rattle.css_schedule.specs.declared.header.Header.{Header}
+use Rattle.css_schedule.specs.declared.line.Line.{Line}
+use Rattle.css_schedule.specs.declared.line.Verb.{Verb}
 use Rattle.css_world.specs.declared.fault.WorldFault.{WorldFault}
 use Rattle.css_world.specs.declared.fault.WorldFault.TheVariants as faults
 use Rattle.css_world.specs.declared.lane.Lane.{Lane}
@@ -184,6 +188,15 @@ pub refused_kept : (now new : World) (result : Result (Unit {0}) WorldFault) →
     → IfErr result (λ fault. KeepsRefused now new fault)
 refused_kept now new (Ok x) both = tt
 refused_kept now new (Err fault) both = refused_by now new fault both
+
+-- ---- numbers of companions
+-- a line of a companion's own verb has the number of one
+pub is_number : (world : World) (line : Line) (verb : Verb) → IsWorld world
+    → IsSecond (length world.header.companions) line → line.verb ≡ verb → is_own verb ≡ true → IsNumber world line.who
+is_number world line verb was of same own = record {
+  first = of.own (ap is_own same ∙ own);
+  within = subst (λ n. line.who ≤ n) (sym was.count) of.who;
+}
 
 -- ---- what the television tells
 -- the lanes are few

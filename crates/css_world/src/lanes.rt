@@ -1,4 +1,4 @@
-ghost use Rattle.std.specs.Prelude.{◌≡◌, ◌≢◌, ◌≤◌, ◌<◌, [], ◌∷◌, length, ℕ, None, Some, IfOk, IfNone, OnOk, vec_len};
+ghost use Rattle.std.specs.Prelude.{◌≡◌, ◌≤◌, [], ◌∷◌, length, ℕ, None, Some, All, IfOk, IfNone, IfSome, OnOk, vec_len};
 ghost use Rattle.std.specs.Borrow.{sem};
 ghost use Rattle.css_schedule.specs.Headers.{max_companions};
 ghost use Rattle.css_schedule.specs.Ranges.{IsCompanion};
@@ -25,7 +25,7 @@ pub(crate) struct Lanes {
 impl Lanes {
     /// One lane for each of these companions.
     pub(crate) fn new(alloc: Global, companions: &[CompanionLine]) -> Result<Lanes, Memory>
-        requires { (place : ℕ) → place < length companions.now → IsCompanion (slice_index companions.now place) }
+        requires { All IsCompanion companions.now }
         ensures { IfOk result (λ new. lanes.AreFresh companions.now new.list.items) }
     {
         let mut list = Vec::new(alloc);

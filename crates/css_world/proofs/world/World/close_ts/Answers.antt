@@ -129,7 +129,7 @@ returns-in_err-play-clause-refused c =
     let who = c.args.who in
     let found = c.lane-lane.ensures.value in
     let after = record lane { ts = c.close.new.self } in
-    let exit = err_from_is_err_and c.from_residual.result c.from_residual.ensures.1 in
-    refused_as c.args.self.now _ c.from_residual.result c.in_err-play.field-0.0 exit.0 exit.1 exit.2
+    let exit = err_from_is_err_and c.from_residual-in_err-play.result c.from_residual-in_err-play.ensures.1 in
+    refused_as c.args.self.now _ c.from_residual-in_err-play.result c.in_err-play.field-0.0 exit.0 exit.1 exit.2
     (refused_played c.args.self.now old _ (slice_set old.lanes (who - 1) after) c.in_err-play.field-0.0 c.self.view_is
     (companions_set old.lanes who lane after found refl) c.play.ensures.lanes c.in_err-play.ensures.refused)

@@ -32,3 +32,13 @@ returns-clause-carries c = λ who verb at lines now own is ready.
           c.play.new.lanes.list.items at stood.ends c.in_ok-play.ensures.played c.play.ensures.tv.0
           c.play.ensures.lanes);
     }
+
+pub invariant_of-self : goal.invariant_of-self
+invariant_of-self c =
+    still_played (inside_of c.self.inside) _ c.self.invariant refl refl c.play.ensures.tv.0 c.play.ensures.tv.1
+    c.play.ensures.lanes
+
+pub invariant_of-self-2 : goal.invariant_of-self-2
+invariant_of-self-2 c =
+    still_played (inside_of c.self.inside) _ c.self.invariant refl refl c.play.ensures.tv.0 c.play.ensures.tv.1
+    c.play.ensures.lanes

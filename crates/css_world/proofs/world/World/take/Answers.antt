@@ -60,7 +60,7 @@ pub returns-in_err-request-clause-carries : goal.returns-in_err-request-clause-c
 returns-in_err-request-clause-carries c = λ who lines now own is ready.
     let old : World = inside_of c.self.inside in
     let stood : IsReady old lines = subst (λ (w : World). IsReady w lines) (sym c.self.view_is) ready in
-    let exit = err_from_is_err_and c.from_residual.result c.from_residual.ensures.1 in
+    let exit = err_from_is_err_and c.from_residual-in_err-request.result c.from_residual-in_err-request.ensures.1 in
     let none = absent c.item.result c.in_err-request.field-0.0 c.in_err-request.ensures.value in
     let missing : stored old.requests c.args.request ≡ None =
     ap (λ (items : List (List ℕ)). stored items c.args.request) (sym c.deref-2.ensures.value) ∙ sym c.item.ensures
@@ -68,7 +68,7 @@ returns-in_err-request-clause-carries c = λ who lines now own is ready.
     let told : carried old.header lines who (Take c.args.request c.args.reading) ≡ Err exit.0 =
     carried-not old.header lines who (Take c.args.request c.args.reading)
     (none-sent old lines who c.args.request c.args.reading stood.ends missing) ∙ ap Err (sym (exit.2 ∙ none.1)) in
-    refuses c.args.self.now _ c.from_residual.result lines now who (Take c.args.request c.args.reading) exit.0 exit.1
+    refuses c.args.self.now _ c.from_residual-in_err-request.result lines now who (Take c.args.request c.args.reading) exit.0 exit.1
     (inl (subst (λ (w : World). carried w.header lines who (Take c.args.request c.args.reading) ≡ Err exit.0)
     c.self.view_is told))
 
