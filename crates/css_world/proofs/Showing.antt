@@ -103,24 +103,24 @@ pub ends_kept : (now old new : World) (who : ℕ) (before after : Lane) → old 
     → new.datagrams ≡ old.datagrams → new.made_for ≡ old.made_for → KeepsEnds now new
 ends_kept now old new who before after view found companion cii ts header tv takes lanes requests askers taken_for
     datagrams made_for = record {
-  header = header ∙ ap (λ (w : World). w.header) view;
-  tv = tv ∙ ap (λ (w : World). w.tv.tv) view;
-  takes = takes ∙ ap (λ (w : World). w.tv.takes.items) view;
-  companions = ap (map (λ (lane : Lane). lane.companion)) lanes
-      ∙ set_part (λ (lane : Lane). lane.companion) old.lanes who after before found companion
-      ∙ ap (λ (w : World). map (λ (lane : Lane). lane.companion) w.lanes) view;
-  cii = ap (map (λ (lane : Lane). lane.cii)) lanes
-      ∙ set_part (λ (lane : Lane). lane.cii) old.lanes who after before found cii
-      ∙ ap (λ (w : World). map (λ (lane : Lane). lane.cii) w.lanes) view;
-  ts = ap (map (λ (lane : Lane). lane.ts)) lanes
-      ∙ set_part (λ (lane : Lane). lane.ts) old.lanes who after before found ts
-      ∙ ap (λ (w : World). map (λ (lane : Lane). lane.ts) w.lanes) view;
-  requests = requests ∙ ap (λ (w : World). w.requests) view;
-  askers = askers ∙ ap (λ (w : World). w.askers) view;
-  taken_for = taken_for ∙ ap (λ (w : World). w.taken_for) view;
-  datagrams = datagrams ∙ ap (λ (w : World). w.datagrams) view;
-  made_for = made_for ∙ ap (λ (w : World). w.made_for) view;
-}
+      header = header ∙ ap (λ (w : World). w.header) view;
+      tv = tv ∙ ap (λ (w : World). w.tv.tv) view;
+      takes = takes ∙ ap (λ (w : World). w.tv.takes.items) view;
+      companions = ap (map (λ (lane : Lane). lane.companion)) lanes
+          ∙ set_part (λ (lane : Lane). lane.companion) old.lanes who after before found companion
+          ∙ ap (λ (w : World). map (λ (lane : Lane). lane.companion) w.lanes) view;
+      cii = ap (map (λ (lane : Lane). lane.cii)) lanes
+          ∙ set_part (λ (lane : Lane). lane.cii) old.lanes who after before found cii
+          ∙ ap (λ (w : World). map (λ (lane : Lane). lane.cii) w.lanes) view;
+      ts = ap (map (λ (lane : Lane). lane.ts)) lanes
+          ∙ set_part (λ (lane : Lane). lane.ts) old.lanes who after before found ts
+          ∙ ap (λ (w : World). map (λ (lane : Lane). lane.ts) w.lanes) view;
+      requests = requests ∙ ap (λ (w : World). w.requests) view;
+      askers = askers ∙ ap (λ (w : World). w.askers) view;
+      taken_for = taken_for ∙ ap (λ (w : World). w.taken_for) view;
+      datagrams = datagrams ∙ ap (λ (w : World). w.datagrams) view;
+      made_for = made_for ∙ ap (λ (w : World). w.made_for) view;
+    }
 
 -- no reading is taken, where that lane keeps its last one
 pub readings_kept : (now old new : World) (who : ℕ) (before after : Lane) → old ≡ now

@@ -346,8 +346,13 @@ own_two who error (now ∷ older) i j a b pairs le p q same =
             → (world_of older i).companion who ≡ Some a
             → RunsWithin error (world_of older i).time a.value now.line.t now.line.l
         from_older last true woke e =
-            absurd (omega (arith, clock_sleeps who older i a e, same, last.sleeps,
-            sleeps_woke now older who last.of_line woke))
+            absurd (omega (
+              arith,
+              clock_sleeps who older i a e,
+              same,
+              last.sleeps,
+              sleeps_woke now older who last.of_line woke,
+            ))
         from_older last false awake e =
             let whole =
             subst (λ (seen : List Seen). EachPair error (told_by seen)) (seen_own now older who last.of_line) pairs in

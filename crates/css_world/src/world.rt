@@ -271,7 +271,12 @@ impl World {
     {
         let asker = owner(&self.taken_for, take).ok_or(WorldFault::Absent)?;
         let answered = self.tv.give(take, reading).ok_or(WorldFault::Absent)?;
-        store(&mut self.datagrams, &mut self.made_for, answered.response, asker)?;
+        store(
+            &mut self.datagrams,
+            &mut self.made_for,
+            answered.response,
+            asker,
+        )?;
         if let Some(follow_up) = answered.follow_up {
             store(&mut self.datagrams, &mut self.made_for, follow_up, asker)?;
         }

@@ -40,9 +40,11 @@ attend-requires-clause-taken c =
     let first : first_in lane.cii.phase lane.cii.down ≡ Some c.in_ok-text.text =
     sym c.next_down.ensures.text ∙ c.in_ok-text.ensures.ok_part in
     let can = can-bring old.header lines who kind.Cii lane.cii c.in_ok-text.text
-    (stood.ends.lanes who lane c.lane-lane.ensures.value).cii first in
-    (None, owes-none old lines 0 0 0 who 0 lane c.in_ok-text.text c.requires.who.first c.self.invariant.declared
-    stood.accepted stood.ends c.lane-lane.ensures.value can.1)
+    (stood.ends.lanes who lane c.lane-lane.ensures.value).cii first in (
+      None,
+      owes-none old lines 0 0 0 who 0 lane c.in_ok-text.text c.requires.who.first c.self.invariant.declared
+          stood.accepted stood.ends c.lane-lane.ensures.value can.1,
+    )
 
 pub returns-clause-carries : goal.returns-clause-carries
 returns-clause-carries c = λ lines now own is ready.
