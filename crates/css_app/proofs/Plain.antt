@@ -21,7 +21,7 @@ use Rattle.css_schedule.specs.declared.line.Line.{Line}
 use Rattle.css_schedule.specs.declared.line.Verb.{Verb}
 use Rattle.css_schedule.specs.declared.line.Verb.TheVariants.{Ask, Take, Give, Land, Wall, Print}
 use Rattle.css_schedule.specs.declared.line.Verb.TheVariants.{Programme, Timeline, Viewer}
-use Rattle.css_schedule.specs.declared.line.Verb.TheVariants.{Opening, Bring, Up, Present, Close}
+use Rattle.css_schedule.specs.declared.line.Verb.TheVariants.{Opening, Bring, Up, Present, Close, Sleep}
 use Rattle.css_gen.specs.Draws.{draw}
 use Rattle.css_gen.specs.Course.{asked, taken, taken_back, given, given_next, landed, landed_back, printed}
 use Rattle.css_gen.specs.Course.{chosen, later, happening, next_line}
@@ -87,6 +87,7 @@ IsShort (Viewer reading (commands.Change programme)) = Unit {0}
 IsShort (Viewer reading _) = ⊥
 IsShort (Wall reading) = ⊥
 IsShort (Present earliest latest) = ⊥
+IsShort Sleep = ⊥
 IsShort _ = Unit {0}
 
 -- the words of such a verb
@@ -158,6 +159,7 @@ words-plain (Close kind) range short = record {
   plain = two (plain-by (codes "close") refl refl) (kind-plain kind);
   few = omega arith;
 }
+words-plain Sleep range short = absurd short
 
 -- ---- what is generated
 taken-short : (course : Course) → IsShort (taken course).verb

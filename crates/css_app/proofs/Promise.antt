@@ -26,7 +26,7 @@ use Rattle.css_schedule.specs.declared.line.Line.{Line}
 use Rattle.css_schedule.specs.declared.line.Verb.{Verb}
 use Rattle.css_schedule.specs.declared.line.Verb.TheVariants.{Ask, Take, Give, Land, Wall, Print}
 use Rattle.css_schedule.specs.declared.line.Verb.TheVariants.{Programme, Timeline, Viewer}
-use Rattle.css_schedule.specs.declared.line.Verb.TheVariants.{Opening, Bring, Up, Present, Close}
+use Rattle.css_schedule.specs.declared.line.Verb.TheVariants.{Opening, Bring, Up, Present, Close, Sleep}
 use Rattle.css_schedule.specs.Headers.{header_of}
 use Rattle.css_schedule.specs.Lines as grammar
 use Rattle.css_world.specs.declared.fault.WorldFault.{WorldFault}
@@ -52,7 +52,8 @@ use Rattle.css_app.specs.Replayed.{header_in, with_line, lines_in, caused, read_
 use Rattle.css_app.specs.Replayed.{replayed}
 use Rattle.css_app.specs.Headline.{accepted_before, IsTrueInterval, IsCause, AreTrueTicks, IsReportedCause}
 use Rattle.css_app.specs.Headline.{IsKept, KeepsLine, AreKept, KeepsPromise}
-use Rattle.css_schedule.proofs.InRange.{lines_are_in_range, headers_are_in_range}
+use Rattle.css_schedule.proofs.HeadersInRange.{headers_are_in_range}
+use Rattle.css_schedule.proofs.InRange.{lines_are_in_range}
 use Rattle.css_app.proofs.Texts.{lines_in-push, is_next}
 
 -- ---- one line
@@ -167,6 +168,7 @@ kept-by header older now (Bring kind) printed is wall report e = e
 kept-by header older now Up printed is wall report e = e
 kept-by header older now (Present earliest latest) printed is wall report e = e
 kept-by header older now (Close kind) printed is wall report e = e
+kept-by header older now Sleep printed is wall report e = e
 
 -- an accepted line keeps the promise
 kept_line : (header : Header) (older : List Numbered) (now : Numbered) (printed : List ℕ) → IsDeclared header
@@ -235,9 +237,9 @@ taken-line header first texts text sofar printed (Ok line) is taken e =
     let older = lines_in texts in
     let now : Numbered = record { number = length (first ∷ texts) + 1; line = line } in
     let ok : line_meant header older now ≡ Ok printed = caused-ok (line_meant header older now) printed e in
-    let range = lines_are_in_range text line is in
+    let read = lines_are_in_range text line is in
     let accepted : AreAccepted header (now ∷ older) =
-    (range, range.who, is_next first texts, (printed, ok), taken.accepted) in
+    (read.range, read.of.who, is_next first texts, (printed, ok), taken.accepted) in
     let is_declared = declared first header taken.is_header in
     let pushed : lines_in (texts ++ text ∷ []) ≡ now ∷ older =
     lines_in-push first texts text ∙ ap (with_line (length (first ∷ texts) + 1) older) is in

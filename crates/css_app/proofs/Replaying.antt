@@ -19,7 +19,7 @@ use Rattle.css_schedule.specs.declared.line.Line.{Line}
 use Rattle.css_schedule.specs.declared.line.Verb.{Verb}
 use Rattle.css_schedule.specs.declared.line.Verb.TheVariants.{Ask, Take, Give, Land, Wall, Print}
 use Rattle.css_schedule.specs.declared.line.Verb.TheVariants.{Programme, Timeline, Viewer}
-use Rattle.css_schedule.specs.declared.line.Verb.TheVariants.{Opening, Bring, Up, Present, Close}
+use Rattle.css_schedule.specs.declared.line.Verb.TheVariants.{Opening, Bring, Up, Present, Close, Sleep}
 use Rattle.css_schedule.specs.Lines.{line_of}
 use Rattle.css_companion.specs.Printed as companions
 use Rattle.css_world.specs.Happened.{Numbered}
@@ -69,6 +69,7 @@ printed-told header older now (Bring k) short = refl
 printed-told header older now Up short = refl
 printed-told header older now (Present a b) short = refl
 printed-told header older now (Close k) short = refl
+printed-told header older now Sleep short = refl
 
 -- what is told at the lines after the header, so many of them
 abbrev told_after : (seed count : ℕ) → List Told

@@ -25,7 +25,7 @@ use Rattle.css_schedule.specs.declared.line.Line.{Line}
 use Rattle.css_schedule.specs.declared.line.Verb.{Verb}
 use Rattle.css_schedule.specs.declared.line.Verb.TheVariants.{Ask, Take, Give, Land, Wall, Print}
 use Rattle.css_schedule.specs.declared.line.Verb.TheVariants.{Programme, Timeline, Viewer}
-use Rattle.css_schedule.specs.declared.line.Verb.TheVariants.{Opening, Bring, Up, Present, Close}
+use Rattle.css_schedule.specs.declared.line.Verb.TheVariants.{Opening, Bring, Up, Present, Close, Sleep}
 use Rattle.css_world.specs.Happened.{Numbered, datagrams, done_by, events_of, history_of}
 use Rattle.css_tsmsg.specs.declared.setup.Setup.{Setup}
 use Rattle.css_world.specs.Asked.{MayBeAsked}
@@ -66,6 +66,7 @@ asks_print (Bring k) reading e = absurd (cc)
 asks_print Up reading e = absurd (cc)
 asks_print (Present a b) reading e = absurd (cc)
 asks_print (Close k) reading e = absurd (cc)
+asks_print Sleep reading e = absurd (cc)
 
 -- the companion's history after a `print` line
 history_printed : (header : Header) (now : Numbered) (older : List Numbered) (reading : ℕ) → now.line.who ≡ 1

@@ -5,6 +5,7 @@ ghost use Rattle.css_outside.specs.Bytes.{AppendsPrefix};
 ghost use Rattle.css_outside.specs.Faults.{CountsCall};
 ghost use Rattle.css_schedule.specs.Headers.{header_of};
 ghost use Rattle.css_schedule.specs.Lines.{line_of};
+ghost use Rattle.css_schedule.specs.Owners.{is_sleep};
 ghost use Rattle.css_schedule.specs.declared.header.Start.TheVariants.{One};
 ghost use Rattle.css_schedule.specs.declared.line.Line.{Line as Happening};
 ghost use Rattle.css_world.specs.Happened.{Numbered};
@@ -52,7 +53,8 @@ fn open(alloc: Global, text: &[u8]) -> Result<World, Memory>
 // Reads a text that is in the grammar.
 fn read(alloc: Global, text: &[u8]) -> Result<Line, Memory>
     requires { (line : Happening) × (line_of text.now ≡ Ok line) }
-    ensures { IfOk result (λ line. line_of text.now ≡ Ok line) }
+    ensures value { IfOk result (λ line. line_of text.now ≡ Ok line) }
+    ensures awake { IfOk result (λ line. is_sleep line.verb ≡ false) }
 {
     match read_line(alloc, text, 1, 1) {
         Ok(line) => Ok(line),
@@ -78,7 +80,8 @@ fn carry_out(
     line: Line,
     printed: &mut Vec<u8>,
 ) -> Result<(), Memory>
-    requires { (older : List Numbered) × worlds.StandsFor world.old older
+    requires awake { is_sleep line.verb ≡ false }
+    requires accepted { (older : List Numbered) × worlds.StandsFor world.old older
         × worlds.AreAccepted world.old.header (record { number = number; line = line } ∷ older) }
     ensures header { world.new.header ≡ world.old.header }
     ensures stands { (older : List Numbered) → worlds.StandsFor world.old older → worlds.IsNext number older

@@ -118,6 +118,7 @@ plain r (verb.Bring x) e is = absurd (cc)
 plain r verb.Up e is = absurd (cc)
 plain r (verb.Present x y) e is = absurd (cc)
 plain r (verb.Close x) e is = absurd (cc)
+plain r verb.Sleep e is = absurd (cc)
 
 -- ---- a line that the player refuses
 pub line_refused : {run : TvRun} {start told : Option History} {peers : ℕ} {tv : Television} {p : Progress}

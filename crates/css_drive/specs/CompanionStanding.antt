@@ -5,6 +5,7 @@ use Rattle.std.specs.Prelude.{IsTrue}
 use Rattle.std.specs.Io.KnownBytes.{Appends}
 use Rattle.css_model.specs.declared.TheConstants.{LIMIT}
 use Rattle.css_model.specs.declared.Why.{Why}
+use Rattle.css_model.specs.declared.Why.TheVariants as whys
 use Rattle.css_model.specs.declared.Kind.{Kind}
 use Rattle.css_model.specs.declared.Kind.TheVariants as kind
 use Rattle.css_model.specs.Explains.{IsLawful}
@@ -235,6 +236,10 @@ abbrev pub hung : Option ℕ → History
 hung None = []
 hung (Some peer) = HungUp peer ∷ []
 
+-- no more than two sessions were hung up
+abbrev pub HangsUp : Option History → Option History → Type 0
+HangsUp before now = (first : Option ℕ) × (second : Option ℕ) × (now ≡ with_entries (hung second ++ hung first) before)
+
 -- the reports, with that of this reading where there is one
 abbrev pub with_newest : DriveConfig → History → Option ℕ → List Report → List Report
 with_newest config history None reports = reports
@@ -247,6 +252,10 @@ pub record Begins (config : DriveConfig) (before now : Shown) (live : Live) (com
   pub known : Knows config companion history
   pub stands : Stands config before now live (with_newest config history reading reports) history
   pub next : due config history ≡ from_turn config history
+
+-- the clock was read for a turn, and nothing else was called
+abbrev pub HasBegun : Option History → Option History → Type 0
+HasBegun before now = (clocked : Clocked) × (now ≡ with_entries (clock_entries whys.Turn clocked) before)
 
 -- ---- reports
 -- A report has this text, its line and what the followers said of it.

@@ -15,7 +15,7 @@ use css_outside::{Outside, Sink};
 use std::alloc::Global;
 
 /// The companion of a configuration.
-fn companion_of(alloc: Global, config: &DriveConfig) -> Result<Companion, Memory>
+pub fn companion_of(alloc: Global, config: &DriveConfig) -> Result<Companion, Memory>
     requires { IsWritable config.now }
     ensures known { IfOk result (λ companion. Knows config.now companion []) }
     ensures floor { IfOk result (λ companion. companion.client.floor ≡ 0) }

@@ -11,7 +11,7 @@ ghost use Rattle.css_companion.specs.declared.report.Report.{Report};
 ghost use Rattle.css_drive.specs.CompanionDue.{due, from_ask, from_take, from_cii_text, from_ts_text, from_end};
 ghost use Rattle.css_drive.specs.CompanionDue.{refusal_of};
 ghost use Rattle.css_drive.specs.CompanionStanding.{Shown, shown, Stands, Knows, Goes, Stops, Keeps, Failed, Adds};
-ghost use Rattle.css_drive.specs.CompanionStanding.{IsHangingUp, IsCut, IsFault, IsRefusal, hung};
+ghost use Rattle.css_drive.specs.CompanionStanding.{IsHangingUp, HangsUp, IsCut, IsFault, IsRefusal, hung};
 ghost use Rattle.css_drive.specs.CompanionTurns.{is_asking};
 ghost use Rattle.css_drive.specs.Proper.{Now};
 
@@ -279,6 +279,7 @@ pub fn hang_up<O: Outside>(
         → Stands config.now before (shown (O.told outside.old) (O.counts outside.old)) live.now reports history
         → IsLawful history → IsHangingUp config.now end history
         → Stops config.now before (shown (O.told outside.new) (O.counts outside.new)) reports result }
+    ensures adds { HangsUp (O.told outside.old) (O.told outside.new) }
     ensures dials { (O.counts outside.new).dial_faults ≡ (O.counts outside.old).dial_faults }
     ensures kind { (result ≡ end) ⊎ IsFault result }
 {

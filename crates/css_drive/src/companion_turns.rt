@@ -14,7 +14,8 @@ ghost use Rattle.css_drive.specs.CompanionDue.{due, from_turn, from_cii, from_en
 ghost use Rattle.css_drive.specs.CompanionReports.{is_due, report_at};
 ghost use Rattle.css_drive.specs.CompanionRun.{Ran};
 ghost use Rattle.css_drive.specs.CompanionStanding.{Shown, shown, Stands, Stops, Knows, Goes, Keeps, Begins};
-ghost use Rattle.css_drive.specs.CompanionStanding.{HasSaid, HasSaidFirst, IsWriteFault, IsWritten, IsPartlyWritten};
+ghost use Rattle.css_drive.specs.CompanionStanding.{HasBegun, HasSaid, HasSaidFirst, IsWriteFault, IsWritten};
+ghost use Rattle.css_drive.specs.CompanionStanding.{IsPartlyWritten};
 ghost use Rattle.css_drive.specs.CompanionStanding.{Audience, audience, HasTold};
 ghost use Rattle.css_drive.specs.CompanionStanding.{Writes, Turned, CountsSink, IsCut, IsEarly, ending_of};
 ghost use Rattle.css_drive.specs.Ends.{CountsNetFault, CountsWriteFault, CountsDialFaults};
@@ -45,7 +46,7 @@ fn reports_at(every: u64, reading: u64, first: Option<u64>, reported: u64) -> bo
 }
 
 /// Begins a turn, and says at which reading a report is due, if one is.
-fn start<O: Outside>(
+pub fn start<O: Outside>(
     config: &DriveConfig,
     live: &mut Live,
     companion: &mut Companion,
@@ -60,6 +61,7 @@ fn start<O: Outside>(
         → MatchResult result
         (Begins config.now before (shown (O.told outside.new) (O.counts outside.new)) live.new companion.new reports)
         (Stops config.now before (shown (O.told outside.new) (O.counts outside.new)) reports) }
+    ensures entries { OnOk result (HasBegun (O.told outside.old) (O.told outside.new)) }
     ensures floor { OnOk result (companion.new.client.floor ≤ (O.counts outside.new).last) }
     ensures reading { IfOk result (λ report. IfSome report (λ reading.
         (companion.new.client.floor ≤ reading) × (reading < LIMIT))) }
@@ -134,7 +136,7 @@ fn tell_report<K: Sink, F: Listens>(
 }
 
 /// Makes the calls of a turn after its report.
-fn calls<O: Outside>(
+pub fn calls<O: Outside>(
     alloc: Global,
     config: &DriveConfig,
     live: &mut Live,
@@ -266,7 +268,7 @@ fn turn<K: Sink, O: Outside, F: Listens>(
 }
 
 /// How a run ends whose turns are made.
-fn ending(config: &DriveConfig, live: &Live) -> Driven
+pub fn ending(config: &DriveConfig, live: &Live) -> Driven
     ensures { result ≡ ending_of config.now.turns live.now.cii live.now.wc live.now.ts }
 {
     if live.cii.is_some() || live.wc.is_some() || live.ts.is_some() {

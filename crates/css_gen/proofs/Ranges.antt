@@ -114,7 +114,6 @@ next-range course h =
     record {
       t = omega (arith, time);
       w = clock-range (later course).tv_fast (later course).time can.time;
-      who = refl;
       l = clock-range (later course).own_fast (later course).time can.time;
       verb = happening-range (later course) can;
     }
@@ -171,7 +170,6 @@ pub opening-range : (number : ℕ) → IsLine (opening_line number)
 opening-range number = record {
   t = omega arith;
   w = omega arith;
-  who = refl;
   l = omega arith;
   verb = verb-range number;
 }

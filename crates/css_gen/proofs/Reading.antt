@@ -5,10 +5,12 @@ use Rattle.std.proofs.lemmas.Int.{ints}
 use Rattle.std.proofs.lemmas.List.Elements.{All-nil, All-cons}
 use Rattle.css_schedule.specs.Printed.{header_text, line_text}
 use Rattle.css_schedule.specs.Ranges.{IsPrintable, IsPrintableCompanion}
-use Rattle.css_schedule.proofs.ReadBack.{line_back, header_text-back}
+use Rattle.css_schedule.proofs.HeadersBack.{header_text-back}
+use Rattle.css_schedule.proofs.ReadBack.{line_back}
 use Rattle.css_gen.specs.Opening.{header, companion}
 use Rattle.css_gen.specs.Generated.{line_numbered, text_numbered}
 use Rattle.css_gen.specs.Readable.{GeneratedLinesAreRead}
+use Rattle.css_gen.proofs.Awake.{line-first}
 use Rattle.css_gen.proofs.Ranges.{line-range}
 
 -- the header can be printed
@@ -35,5 +37,5 @@ generated_read seed = record {
   first = header_text-back header refl header-printable;
   others = λ number late few.
       line_back (line_numbered seed number) (text_numbered seed number) (line-range seed number few)
-      (text-line seed number late);
+      (line-first seed number) (text-line seed number late);
 }

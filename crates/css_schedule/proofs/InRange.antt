@@ -1,42 +1,35 @@
--- What is read is in its range.
-use Rattle.std.proofs.Common.{◌≡◌, ℕ, ◌+◌, ◌^◌, ◌<◌, ◌≤◌, arith, ap, refl, Bool, true, false, List, [], ◌∷◌}
-use Rattle.std.specs.Prelude.{if◌then◌else◌, ◌==◌, ◌||◌, ◌&&◌, not, length, ℤ, pos, negsuc, ◌≤ℤ◌, nat_le, unsigned_abs}
+-- The lines that are read are in their ranges.
+use Rattle.std.proofs.Common.{◌≡◌, ℕ, ◌+◌, ◌^◌, ◌<◌, ◌≤◌, arith, ap, refl, sym, subst, ◌∙◌, Bool, true, false, List}
+use Rattle.std.specs.Prelude.{if◌then◌else◌, ◌==◌, ◌||◌, ◌&&◌, not, ℤ, pos, negsuc, nat_le, unsigned_abs}
 use Rattle.std.specs.Prelude.{Option, Some, None, IfSome, Result, Ok, Err, IfOk, bytes_eq, codes, ⊤}
-use Rattle.std.proofs.lemmas.Bool.{leb-true}
+use Rattle.std.proofs.lemmas.Bool.{leb-true, eqb-true, eqb-false, eq-eqb}
 use Rattle.std.proofs.lemmas.Int.{ints}
-use Rattle.std.proofs.lemmas.List.Elements.{All-nil, All-cons}
 use Rattle.css_num.specs.Gives.{GivesBy}
 use Rattle.css_num.specs.Rates.{IsTickRate, is_rate_part, rate_of}
 use Rattle.css_model.specs.declared.TheConstants.{LIMIT}
-use Rattle.css_model.specs.Numbers.{max_error, max_local_error, max_local_precision}
-use Rattle.css_model.specs.WallClock.{IsLocal}
 use Rattle.css_tsmsg.specs.Presentations.{IsEarliest, IsLatest}
 use Rattle.css_tsmsg.specs.Times.{IsContent}
-use Rattle.css_schedule.proofs.Graphic.{both, stem-utf8}
-use Rattle.css_schedule.proofs.Steps.{Front, First, Gets, pass, after, after_some, ok-range, answer-range}
-use Rattle.css_schedule.proofs.Steps.{number-range, ordinal-range, integer-range, signed-range, text-range}
+use Rattle.css_schedule.proofs.Awake.{IsAwake, verb-awake}
+use Rattle.css_schedule.proofs.Graphic.{both}
+use Rattle.css_schedule.proofs.Steps.{Front, First, Gets, pass, after, after_some, either, where_true, ok-range}
+use Rattle.css_schedule.proofs.Steps.{answer-range, number-range, ordinal-range, integer-range, text-range}
 use Rattle.css_schedule.specs.declared.fault.LineFault.{LineFault}
 use Rattle.css_schedule.specs.declared.fault.LineFault.TheVariants.{Memory}
-use Rattle.css_schedule.specs.declared.header.CompanionLine.{CompanionLine}
-use Rattle.css_schedule.specs.declared.header.Header.{Header}
-use Rattle.css_schedule.specs.declared.header.Start.{Start}
-use Rattle.css_schedule.specs.declared.header.Start.TheVariants.{One, Two}
 use Rattle.css_schedule.specs.declared.line.Line.{Line}
 use Rattle.css_schedule.specs.declared.line.ScriptLine.{ScriptLine}
 use Rattle.css_schedule.specs.declared.line.Verb.{Verb}
-use Rattle.css_schedule.specs.declared.opening.Declared.{Declared}
-use Rattle.css_schedule.specs.Words.{is_word, words_of, word_at, number_at, after_word, all_read}
+use Rattle.css_schedule.specs.Words.{words_of, word_at, after_word, all_read}
+use Rattle.css_schedule.specs.Lines as lines
 use Rattle.css_schedule.specs.Lines.{time_at, position_at, kind_at, finite_at, wall_time_at, earliest_of, latest_of}
 use Rattle.css_schedule.specs.Lines.{earliest_at, latest_at, change_at, speed_at, seek_at, command_at}
 use Rattle.css_schedule.specs.Lines.{ask_at, take_at, give_at, land_at, wall_at, print_at, programme_at, timeline_at}
 use Rattle.css_schedule.specs.Lines.{viewer_at, opening_at, bring_at, up_at, present_at, close_at, session_at}
 use Rattle.css_schedule.specs.Lines.{timelines_at, operands_at, verb_at, line_of_words, line_of}
+use Rattle.css_schedule.specs.Lines.{second_verb_at}
 use Rattle.css_schedule.specs.Lines.{due_command_at, script_operands_at, script_verb_at, script_of_words, script_of}
-use Rattle.css_schedule.specs.Headers.{after_version, mode_at, declared_at, local_of, stem_of, header_of_words}
-use Rattle.css_schedule.specs.Headers.{header_of}
-use Rattle.css_schedule.specs.Ranges.{IsCompanion, IsHeader, is_stem, IsPrintableCompanion, IsPrintable, IsStart}
+use Rattle.css_schedule.specs.Owners.{is_own, is_named}
 use Rattle.css_schedule.specs.Ranges.{IsOrdinal, IsText, IsCommand}
-use Rattle.css_schedule.specs.Ranges.{IsVerb, IsLine, IsScripted, IsScriptLine}
+use Rattle.css_schedule.specs.Ranges.{IsVerb, IsLine, IsFirst, IsSecond, IsOf, IsScripted, IsScriptLine}
 
 -- ---- what several verbs have
 -- a time
@@ -134,12 +127,6 @@ speed-range words =
 seek-range : (words : List (List ℕ)) → Gets IsCommand (seek_at words)
 unfolding seek_at
 seek-range words = after IsPosition (First IsCommand) _ _ (position-range words) (λ media rest h. h)
-
--- one of two, by a test
-either : {B : Type 0} (Out : B → Type 0) (test : Bool) (one other : Result B LineFault) → IfOk one Out → IfOk other Out
-    → IfOk (if test then one else other) Out
-either Out true one other h k = h
-either Out false one other h k = k
 
 command-range : (name words : _) → Gets IsCommand (command_at name words)
 unfolding command_at
@@ -264,24 +251,132 @@ verb-range : (words : List (List ℕ)) → Gets IsVerb (verb_at words)
 unfolding verb_at
 verb-range words = pass (First IsVerb) (word_at words) _ (λ name. operands-range name.0 name.1)
 
+second_verb-range : (words : List (List ℕ)) → Gets IsVerb (second_verb_at words)
+unfolding second_verb_at
+second_verb-range words =
+    pass (First IsVerb) (word_at words) _ (λ name.
+    either (First IsVerb) (bytes_eq name.0 (codes "sleep")) _ _ tt (operands-range name.0 name.1))
+
 -- ---- lines
-words-range : (words : List (List ℕ)) → IfOk (line_of_words words) IsLine
+-- a line of version 1 in its ranges
+pub record IsFirstLine (line : Line) : Type 0 where
+  pub range : IsLine line
+  pub of : IsFirst line
+
+-- two facts of what is read
+two : {A : Type 0} (One Other : A → Type 0) (read : Result (Front A) LineFault) → Gets One read → Gets Other read
+    → Gets (λ value. One value × Other value) read
+two One Other (Ok front) h k = (h, k)
+two One Other (Err fault) h k = tt
+
+words-range : (words : List (List ℕ)) → IfOk (line_of_words words) IsFirstLine
 unfolding line_of_words
 words-range words =
-    after IsTime IsLine _ _ (time-range words) (λ t after_t ht.
-    after IsTime IsLine _ _ (time-range after_t) (λ w after_w hw.
-    after IsTime IsLine _ _ (time-range after_w) (λ l after_l hl.
-    after IsVerb IsLine _ _ (verb-range after_l) (λ verb end hv.
-    pass IsLine (all_read end) _ (λ done. record { t = ht; w = hw; who = refl; l = hl; verb = hv })))))
+    after IsTime IsFirstLine _ _ (time-range words) (λ t after_t ht.
+    after IsTime IsFirstLine _ _ (time-range after_t) (λ w after_w hw.
+    after IsTime IsFirstLine _ _ (time-range after_w) (λ l after_l hl.
+    after (λ verb. IsVerb verb × IsAwake verb) IsFirstLine _ _
+    (two IsVerb IsAwake (verb_at after_l) (verb-range after_l) (verb-awake after_l)) (λ verb end hv.
+    pass IsFirstLine (all_read end) _ (λ done. record {
+      range = record { t = ht; w = hw; l = hl; verb = hv.0 };
+      of = record { who = refl; awake = hv.1 };
+    })))))
 
--- every line that is read is in range
-pub lines_are_in_range : (bytes : List ℕ) (line : Line) → line_of bytes ≡ Ok line → IsLine line
-lines_are_in_range bytes line e = ok-range IsLine (line_of bytes) line (words-range (words_of bytes)) e
+-- every line of version 1 that is read is in range
+pub lines_are_in_range : (bytes : List ℕ) (line : Line) → line_of bytes ≡ Ok line → IsFirstLine line
+lines_are_in_range bytes line e = ok-range IsFirstLine (line_of bytes) line (words-range (words_of bytes)) e
+
+-- a line of version 2 in its ranges
+record IsSecondLine (companions : ℕ) (line : Line) : Type 0 where
+  range : IsLine line
+  of : IsSecond companions line
+
+-- what passes the test of whose a line is
+named_own : (who l : ℕ) (verb : Verb) → is_named who l verb ≡ true → is_own verb ≡ true → 1 ≤ who
+named_own who l verb named own = by (who == 0) refl named
+  where
+    positive : (n : ℕ) → (n ≡ 0 → ⊥) → 1 ≤ n
+    positive n apart = omega arith
+
+    by : (b : Bool) → (who == 0) ≡ b → (not b || (l == 0 && not (is_own verb))) ≡ true → 1 ≤ who
+    by true e h =
+        let none : not (is_own verb) ≡ true = (both (l == 0) (not (is_own verb)) h).1 in
+        absurd (let no : false ≡ true = ap not (sym own) ∙ none in cc)
+    by false e h = positive who (eqb-false who 0 e)
+
+named_none : (who l : ℕ) (verb : Verb) → is_named who l verb ≡ true → who ≡ 0 → l ≡ 0
+named_none who l verb named none =
+    let test : (not (who == 0) || (l == 0 && not (is_own verb))) ≡ true = named in
+    let zero : (who == 0) ≡ true = eq-eqb who 0 none in
+    let rest : (l == 0 && not (is_own verb)) ≡ true =
+    ap (λ b. not b || (l == 0 && not (is_own verb))) (sym zero) ∙ test in
+    eqb-true l 0 (both (l == 0) (not (is_own verb)) rest).0
+
+second-range : (companions : ℕ) (words : List (List ℕ))
+    → IfOk (lines.second_of_words companions words) (IsSecondLine companions)
+unfolding lines.second_of_words
+second-range companions words =
+    let Out = IsSecondLine companions in
+    after IsTime Out _ _ (time-range words) (λ t after_t ht.
+    after IsTime Out _ _ (time-range after_t) (λ w after_w hw.
+    after (λ n. n < companions + 1) Out _ _ (number-range (companions + 1) after_w) (λ who after_who hk.
+    after IsTime Out _ _ (time-range after_who) (λ l after_l hl.
+    after IsVerb Out _ _ (second_verb-range after_l) (λ verb end hv.
+    pass Out (all_read end) _ (λ done.
+    where_true Out (is_named who l verb) _ (λ named. record {
+      range = record { t = ht; w = hw; l = hl; verb = hv };
+      of = record { who = omega (arith, hk); own = named_own who l verb named; none = named_none who l verb named };
+    })))))))
 
 -- so is that of a call that answers it
-pub line_in_range : (bytes : List ℕ) (answer : Result Line LineFault)
-    → GivesBy (λ line. line) Memory answer (line_of bytes) → IfOk answer IsLine
-line_in_range bytes answer e = answer-range IsLine answer (line_of bytes) (words-range (words_of bytes)) e
+pub first_range : (words : List (List ℕ)) (answer : Result Line LineFault)
+    → GivesBy (λ line. line) Memory answer (line_of_words words) → IfOk answer IsLine
+first_range words answer e = by answer (answer-range IsFirstLine answer (line_of_words words) (words-range words) e)
+  where
+    by : (answer : Result Line LineFault) → IfOk answer IsFirstLine → IfOk answer IsLine
+    by (Ok line) h = h.range
+    by (Err fault) h = tt
+
+-- and it is of version 1
+pub first_is_first : (words : List (List ℕ)) (answer : Result Line LineFault)
+    → GivesBy (λ line. line) Memory answer (line_of_words words) → IfOk answer IsFirst
+first_is_first words answer e = by answer (answer-range IsFirstLine answer (line_of_words words) (words-range words) e)
+  where
+    by : (answer : Result Line LineFault) → IfOk answer IsFirstLine → IfOk answer IsFirst
+    by (Ok line) h = h.of
+    by (Err fault) h = tt
+
+-- the same of version 2
+pub second_line_range : (companions : ℕ) (words : List (List ℕ)) (answer : Result Line LineFault)
+    → GivesBy (λ line. line) Memory answer (lines.second_of_words companions words) → IfOk answer IsLine
+second_line_range companions words answer e =
+    by answer
+    (answer-range (IsSecondLine companions) answer (lines.second_of_words companions words)
+    (second-range companions words) e)
+  where
+    by : (answer : Result Line LineFault) → IfOk answer (IsSecondLine companions) → IfOk answer IsLine
+    by (Ok line) h = h.range
+    by (Err fault) h = tt
+
+pub second_is_second : (companions : ℕ) (words : List (List ℕ)) (answer : Result Line LineFault)
+    → GivesBy (λ line. line) Memory answer (lines.second_of_words companions words) → IfOk answer (IsSecond companions)
+second_is_second companions words answer e =
+    by answer
+    (answer-range (IsSecondLine companions) answer (lines.second_of_words companions words)
+    (second-range companions words) e)
+  where
+    by : (answer : Result Line LineFault) → IfOk answer (IsSecondLine companions) → IfOk answer (IsSecond companions)
+    by (Ok line) h = h.of
+    by (Err fault) h = tt
+
+-- ---- by the version
+pub of_first : (version companions : ℕ) (answer : Result Line LineFault) → (version == 1) ≡ true
+    → IfOk answer IsFirst → IfOk answer (IsOf (version == 1) companions)
+of_first version companions answer is h = subst (λ b. IfOk answer (IsOf b companions)) (sym is) h
+
+pub of_second : (version companions : ℕ) (answer : Result Line LineFault) → (version == 1) ≡ false
+    → IfOk answer (IsSecond companions) → IfOk answer (IsOf (version == 1) companions)
+of_second version companions answer is h = subst (λ b. IfOk answer (IsOf b companions)) (sym is) h
 
 -- ---- lines of a script
 -- a viewer's command has no reading yet
@@ -313,127 +408,3 @@ pub script_in_range : (bytes : List ℕ) (answer : Result ScriptLine LineFault)
     → GivesBy (λ script. script) Memory answer (script_of bytes) → IfOk answer IsScriptLine
 script_in_range bytes answer e =
     answer-range IsScriptLine answer (script_of bytes) (script_words-range (words_of bytes)) e
-
--- ---- headers
--- what a whole header of version 1 declares is in range
-pub record IsReadHeader (header : Header) : Type 0 where
-  pub tv : IsHeader header
-  pub printable : IsPrintable header
-  pub least : negsuc 127 ≤ℤ header.tv_precision
-  pub companion : CompanionLine
-  pub alone : header.companions ≡ companion ∷ []
-  pub local : IsLocal companion.local
-
--- the numbers that are declared are in range
-record AreInRange (declared : Declared) : Type 0 where
-  of_tv : declared.tv_error ≤ max_error
-  least : negsuc 127 ≤ℤ declared.tv_precision
-  greatest : declared.tv_precision ≤ℤ pos 30
-  own : IsLocal (local_of declared)
-
--- a number that may reach its bound
-abbrev IsUpTo : ℕ → ℕ → Type 0
-IsUpTo most number = number ≤ most
-
-up_to-range : (most : ℕ) (words : List (List ℕ)) → Gets (IsUpTo most) (number_at (most + 1) words)
-up_to-range most words = weaker (number_at (most + 1) words) (number-range (most + 1) words)
-  where
-    weaker : (read : Result (Front ℕ) LineFault) → Gets (λ n. n < most + 1) read → Gets (IsUpTo most) read
-    weaker (Ok front) h = omega (arith, h)
-    weaker (Err fault) h = tt
-
--- the television's precision, as the base-2 logarithm of seconds
-abbrev IsPrecision : ℤ → Type 0
-IsPrecision number = (negsuc 127 ≤ℤ number) × (number ≤ℤ pos 30)
-
-declared-range : (words : List (List ℕ)) → Gets AreInRange (declared_at words)
-unfolding declared_at
-declared-range words =
-    after (IsUpTo max_error) (First AreInRange) _ _ (up_to-range max_error words) (λ tv_error rest a.
-    after IsPrecision (First AreInRange) _ _ (signed-range 3 (negsuc 127) (pos 30) rest) (λ tv_precision rest b.
-    after (IsUpTo max_local_error) (First AreInRange) _ _ (up_to-range max_local_error rest) (λ error rest c.
-    after (IsUpTo max_local_precision) (First AreInRange) _ _ (up_to-range max_local_precision rest) (λ _ end d.
-    record {
-      of_tv = a;
-      least = b.0;
-      greatest = b.1;
-      own = record { error = c; precision = d };
-    }))))
-
--- whatever else holds, a truth does
-or_true : (a b : Bool) → b ≡ true → (a || b) ≡ true
-or_true true b h = refl
-or_true false b h = h
-
--- two truths
-and_true : (a b : Bool) → a ≡ true → b ≡ true → (a && b) ≡ true
-and_true true b p q = q
-and_true false b p q = absurd (cc)
-
--- the stem that a word stands for is a stem
-stem-range : (word : List ℕ) → is_word word ≡ true → is_stem (stem_of word) ≡ true
-stem-range word h = by (bytes_eq word (codes "-")) refl
-  where
-    by : (b : Bool) → bytes_eq word (codes "-") ≡ b → is_stem (if b then [] else word) ≡ true
-    by true p = refl
-    by false p =
-        let other = and_true (is_word word) (not (bytes_eq word (codes "-"))) h (ap not p) in
-        or_true (length word == 0) (is_word word && not (bytes_eq word (codes "-"))) other
-
--- a start of version 1 is in range, and there is no other
-abbrev IsReadStart : Start → Type 0
-IsReadStart (One header) = IsReadHeader header
-IsReadStart (Two header companions) = ⊥
-
-header-range : (words : List (List ℕ)) → IfOk (header_of_words words) IsReadStart
-unfolding header_of_words
-header-range words =
-    pass IsReadStart (after_version words) _ (λ version.
-    pass IsReadStart (mode_at version) _ (λ follow.
-    after AreInRange IsReadStart _ _ (declared-range follow.1) (λ declared after_declared known.
-    after IsText IsReadStart _ _ (text-range after_declared) (λ selector after_selector wanted.
-    after IsText IsReadStart _ _ (text-range after_selector) (λ stem end begun.
-    pass IsReadStart (all_read end) _ (λ done. record {
-      tv = record {
-        tv_error = known.of_tv;
-        tv_precision = known.greatest;
-        companions = All-cons IsCompanion _ [] (record {
-          selector = wanted.utf8;
-          stem = stem-utf8 stem begun.utf8;
-        }) (All-nil IsCompanion);
-      };
-      printable = record {
-        tv_error = known.of_tv;
-        least = known.least;
-        greatest = known.greatest;
-        companions = All-cons IsPrintableCompanion _ [] (record {
-          local = known.own;
-          selector = wanted.word;
-          stem = stem-range stem begun.word;
-        }) (All-nil IsPrintableCompanion);
-      };
-      least = known.least;
-      companion = record { local = local_of declared; selector = selector; stem = stem_of stem };
-      alone = refl;
-      local = known.own;
-    }))))))
-
--- every header that is read is in range
-pub headers_are_in_range : (bytes : List ℕ) (header : Header) → header_of bytes ≡ Ok (One header) → IsReadHeader header
-headers_are_in_range bytes header e =
-    ok-range IsReadStart (header_of bytes) (One header) (header-range (words_of bytes)) e
-
--- what is known of a start that is read
-known_start : (start : Start) → IsReadStart start → IsStart start
-known_start (One header) h = (h.tv, ap length h.alone, h.printable)
-known_start (Two header companions) h = absurd h
-
--- the start that a call answers is in range
-pub start_in_range : (bytes : List ℕ) (answer : Result Start LineFault)
-    → GivesBy (λ start. start) Memory answer (header_of bytes) → IfOk answer IsStart
-start_in_range bytes answer e =
-    known answer (answer-range IsReadStart answer (header_of bytes) (header-range (words_of bytes)) e)
-  where
-    known : (answer : Result Start LineFault) → IfOk answer IsReadStart → IfOk answer IsStart
-    known (Ok start) h = known_start start h
-    known (Err fault) h = tt

@@ -41,11 +41,25 @@ pub after : {A B : Type 0} (In : A → Type 0) (Out : B → Type 0)
 after In Out (Ok front) next in_range go = go front.0 front.1 in_range
 after In Out (Err fault) next in_range go = tt
 
+-- after a step that reads all that is left
+pub after_whole : {A B : Type 0} (In : A → Type 0) (Out : B → Type 0)
+    (read : Result A LineFault) (next : A → Result B LineFault)
+    → IfOk read In → ((value : A) → In value → IfOk (next value) Out) → IfOk (read >>= next) Out
+after_whole In Out (Ok value) next in_range go = go value in_range
+after_whole In Out (Err fault) next in_range go = tt
+
 -- after a value that may be missing
 pub after_some : {A B : Type 0} (In : A → Type 0) (Out : B → Type 0) (value : Option A) (next : A → Result B LineFault)
     → IfSome value In → ((a : A) → In a → IfOk (next a) Out) → IfOk (or_form value >>= next) Out
 after_some In Out None next in_range go = tt
 after_some In Out (Some a) next in_range go = go a in_range
+
+-- one of two, by a test
+pub either : {B : Type 0} (Out : B → Type 0) (test : Bool) (one other : Result B LineFault)
+    → IfOk one Out → IfOk other Out
+    → IfOk (if test then one else other) Out
+either Out true one other h k = h
+either Out false one other h k = k
 
 -- what passes a test
 pub where_true : {B : Type 0} (Out : B → Type 0) (test : Bool) (result : Result B LineFault)

@@ -1,4 +1,5 @@
 pub mod Words
+pub mod Owners
 pub mod Lines
 pub mod ClockVerbs
 pub mod Headers

@@ -1,5 +1,6 @@
 -- The lines of a schedule after its header, and those of a script, as words.
-use Rattle.std.specs.Prelude.{ℕ, ℤ, ◌^◌, if◌then◌else◌, List, Option, Some, None, Result, Ok, Err, codes, bytes_eq}
+use Rattle.std.specs.Prelude.{ℕ, ℤ, ◌+◌, ◌^◌, ◌==◌, if◌then◌else◌, List, Option, Some, None}
+use Rattle.std.specs.Prelude.{Result, Ok, Err, codes, bytes_eq}
 use Rattle.css_model.specs.declared.TheConstants.{LIMIT}
 use Rattle.css_num.specs.Rates.{rate_of}
 use Rattle.css_player.specs.declared.command.Command.{Command}
@@ -16,6 +17,7 @@ use Rattle.css_schedule.specs.declared.line.Line.{Line}
 use Rattle.css_schedule.specs.declared.line.ScriptLine.{ScriptLine}
 use Rattle.css_schedule.specs.Words.{At, ◌>>=◌, or_form, word_at, number_at, ordinal_at, integer_at, text_at}
 use Rattle.css_schedule.specs.Words.{after_word, all_read, words_of}
+use Rattle.css_schedule.specs.Owners.{is_named}
 
 -- ---- what several verbs have
 -- a time in nanoseconds: below 2^32 seconds
@@ -243,9 +245,37 @@ line_of_words words = do
   end ← all_read verb.1
   Ok (record { t = t.0; w = w.0; who = 1; l = l.0; verb = verb.0 })
 
--- the line that bytes are, or that they are none
+-- the line that bytes are in version 1, or that they are none
 abbrev pub line_of : List ℕ → Result Line LineFault
 line_of bytes = line_of_words (words_of bytes)
+
+-- ---- lines of version 2
+-- the operands of the verb with this name; `sleep` has none
+abbrev pub second_operands_at : List ℕ → At Verb
+second_operands_at name words =
+    if bytes_eq name (codes "sleep") then Ok (verbs.Sleep, words) else operands_at name words
+
+-- a verb and its operands
+unfoldable pub second_verb_at : At Verb
+second_verb_at words = do
+  name ← word_at words
+  second_operands_at name.0 name.1
+
+-- `T W K L VERB ..`: with the number of the companion, at most that of the last one
+unfoldable pub second_of_words : ℕ → List (List ℕ) → Result Line LineFault
+second_of_words companions words = do
+  t ← time_at words
+  w ← time_at t.1
+  who ← number_at (companions + 1) w.1
+  l ← time_at who.1
+  verb ← second_verb_at l.1
+  end ← all_read verb.1
+  if is_named who.0 l.0 verb.0 then Ok (record { t = t.0; w = w.0; who = who.0; l = l.0; verb = verb.0 }) else Err Form
+
+-- the line that bytes are in a version, with so many companions
+abbrev pub line_in : ℕ → ℕ → List ℕ → Result Line LineFault
+line_in version companions bytes =
+    if version == 1 then line_of bytes else second_of_words companions (words_of bytes)
 
 -- ---- lines of a script
 -- a viewer's command without a reading, in whose place 0 stands

@@ -1,5 +1,6 @@
 -- Headers and lines as texts: the words of each, with one space between two of them.
-use Rattle.std.specs.Prelude.{ℕ, ℤ, ◌==◌, ◌++◌, Bool, true, false, if◌then◌else◌, List, [], ◌∷◌, length, codes, decimal}
+use Rattle.std.specs.Prelude.{ℕ, suc, ℤ, ◌==◌, ◌++◌, Bool, true, false, if◌then◌else◌, List, [], ◌∷◌}
+use Rattle.std.specs.Prelude.{length, codes, decimal}
 use Rattle.std.specs.Fmt.{signed_decimal}
 use Rattle.css_num.specs.Rates.{TickRate}
 use Rattle.css_player.specs.declared.command.Command.{Command}
@@ -40,18 +41,37 @@ abbrev pub first_words : List CompanionLine → List (List ℕ)
 first_words [] = []
 first_words (companion ∷ companions) = companion_words companion
 
--- `1 MODE EW KW`, and what follows it
+-- `MODE EW KW`, and what follows it
 abbrev pub declared_words : Header → List (List ℕ) → List (List ℕ)
 declared_words header words =
-    codes "1" ∷ mode_word header.follow ∷ decimal header.tv_error ∷ signed_decimal header.tv_precision ∷ words
+    mode_word header.follow ∷ decimal header.tv_error ∷ signed_decimal header.tv_precision ∷ words
 
 -- `1 MODE EW KW EL PL SELECTOR STEM`
 abbrev pub header_words : Header → List (List ℕ)
-header_words header = declared_words header (first_words header.companions)
+header_words header = codes "1" ∷ declared_words header (first_words header.companions)
 
--- the header's line
+-- the header's line in version 1
 abbrev pub header_text : Header → List ℕ
 header_text header = with_words (codes "css-schedule") (header_words header)
+
+-- `2 MODE EW KW COUNT`
+abbrev pub second_words : Header → List (List ℕ)
+second_words header = codes "2" ∷ declared_words header (decimal (length header.companions) ∷ [])
+
+-- a text with a line after it for each companion, the first of which has that number; a line feed stands before each
+abbrev pub with_companions : List ℕ → ℕ → List CompanionLine → List ℕ
+with_companions text number [] = text
+with_companions text number (companion ∷ companions) =
+    with_companions (with_words (text ++ 10 ∷ codes "companion") (decimal number ∷ companion_words companion))
+    (suc number) companions
+
+-- the header's lines in version 2
+abbrev pub second_text : Header → List ℕ
+second_text header = with_companions (with_words (codes "css-schedule") (second_words header)) 1 header.companions
+
+-- the header's lines in a version
+abbrev pub header_text_in : ℕ → Header → List ℕ
+header_text_in version header = if version == 1 then header_text header else second_text header
 
 -- ---- lines
 -- the word for a kind of session
@@ -102,7 +122,17 @@ verb_words verbs.Up = codes "up" ∷ codes "ts" ∷ []
 verb_words (verbs.Present earliest latest) =
     codes "present" ∷ content_text earliest ∷ wall_text earliest ∷ content_text latest ∷ wall_text latest ∷ []
 verb_words (verbs.Close kind) = codes "close" ∷ kind_word kind ∷ []
+verb_words verbs.Sleep = codes "sleep" ∷ []
 
 -- the line of the one companion that there is in version 1
 abbrev pub line_text : Line → List ℕ
 line_text line = with_words (decimal line.t) (decimal line.w ∷ decimal line.l ∷ verb_words line.verb)
+
+-- `W L` of version 1, or `W K L` of version 2
+abbrev pub clock_words : Bool → Line → List (List ℕ)
+clock_words true line = decimal line.w ∷ decimal line.l ∷ []
+clock_words false line = decimal line.w ∷ decimal line.who ∷ decimal line.l ∷ []
+
+-- the line in a version
+abbrev pub line_text_in : ℕ → Line → List ℕ
+line_text_in version line = with_words (decimal line.t) (clock_words (version == 1) line ++ verb_words line.verb)

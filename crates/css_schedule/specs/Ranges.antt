@@ -1,6 +1,6 @@
 -- The ranges of what a schedule says. What is read is in them, and what is in them can be printed and is read back.
 use Rattle.std.specs.Prelude.{◌<◌, ◌≤◌, ◌≡◌, ◌^◌, ◌==◌, ◌&&◌, ◌||◌, not, ℕ, ℤ, pos, negsuc, ◌≤ℤ◌, unsigned_abs, length}
-use Rattle.std.specs.Prelude.{List, All, Bool, true, None, ⊤, bytes_eq, codes}
+use Rattle.std.specs.Prelude.{List, [], All, Bool, true, false, None, ⊤, bytes_eq, codes}
 use Rattle.std.specs.Str.{IsUtf8}
 use Rattle.css_model.specs.Numbers.{max_error}
 use Rattle.css_model.specs.WallClock.{IsLocal}
@@ -12,6 +12,8 @@ use Rattle.css_tsmsg.specs.Presentations.{IsPresentation}
 use Rattle.css_tsmsg.specs.declared.bound.Bound.{Bound}
 use Rattle.css_tsmsg.specs.declared.bound.Presentation.{Presentation}
 use Rattle.css_schedule.specs.Words.{is_word}
+use Rattle.css_schedule.specs.Headers.{max_companions}
+use Rattle.css_schedule.specs.Owners.{is_sleep, is_own}
 use Rattle.css_schedule.specs.declared.header.CompanionLine.{CompanionLine}
 use Rattle.css_schedule.specs.declared.header.Header.{Header}
 use Rattle.css_schedule.specs.declared.header.Start.{Start}
@@ -50,10 +52,32 @@ pub record IsPrintable (header : Header) : Type 0 where
   pub greatest : header.tv_precision ≤ℤ pos 30
   pub companions : All IsPrintableCompanion header.companions
 
--- a header is in range and can be printed, and version 1 has one companion
+-- the number of a companion, or how many there are
+pub record IsCount (number : ℕ) : Type 0 where
+  pub low : 1 ≤ number
+  pub high : number ≤ max_companions
+
+-- what a companion wants can be told to a television, and its line can be printed
+abbrev pub IsGoodCompanion : CompanionLine → Type 0
+IsGoodCompanion companion = IsCompanion companion × IsPrintableCompanion companion
+
+-- a header is in range and can be printed
+abbrev pub IsGoodHeader : Header → Type 0
+IsGoodHeader header = IsHeader header × IsPrintable header
+
+-- version 1 has one companion; in version 2 they follow the header
 abbrev pub IsStart : Start → Type 0
 IsStart (One header) = IsHeader header × (length header.companions ≡ 1) × IsPrintable header
-IsStart (Two header companions) = IsHeader header
+IsStart (Two header companions) = IsGoodHeader header × (header.companions ≡ []) × IsCount companions
+
+-- there are two versions
+abbrev pub IsVersion : ℕ → Type 0
+IsVersion version = (1 ≤ version) × (version ≤ 2)
+
+-- how many companions a version may have, by whether it is version 1
+abbrev pub FitsFirst : Bool → ℕ → Type 0
+FitsFirst true companions = companions ≡ 1
+FitsFirst false companions = IsCount companions
 
 -- ---- the parts of a verb
 -- the number of a request, a take, a datagram or a programme
@@ -110,14 +134,31 @@ IsVerb (verbs.Bring kind) = ⊤
 IsVerb verbs.Up = ⊤
 IsVerb (verbs.Present earliest latest) = IsPresentation (window earliest latest)
 IsVerb (verbs.Close kind) = ⊤
+IsVerb verbs.Sleep = ⊤
 
--- so is each clock, and the companion is the one that there is in version 1
+-- so is each clock
 pub record IsLine (line : Line) : Type 0 where
   pub t : line.t < LIMIT
   pub w : line.w < LIMIT
-  pub who : line.who ≡ 1
   pub l : line.l < LIMIT
   pub verb : IsVerb line.verb
+
+-- a line of version 1, which has one companion and no sleep
+pub record IsFirst (line : Line) : Type 0 where
+  pub who : line.who ≡ 1
+  pub awake : is_sleep line.verb ≡ false
+
+-- A line of version 2 with so many companions. What no companion takes part in may be the television's alone, and then
+-- gives no companion's clock.
+pub record IsSecond (companions : ℕ) (line : Line) : Type 0 where
+  pub who : line.who ≤ companions
+  pub own : is_own line.verb ≡ true → 1 ≤ line.who
+  pub none : line.who ≡ 0 → line.l ≡ 0
+
+-- one of the two, by whether it is version 1
+abbrev pub IsOf : Bool → ℕ → Line → Type 0
+IsOf true companions line = IsFirst line
+IsOf false companions line = IsSecond companions line
 
 -- the verb is the television's own, and a viewer's command has no reading yet
 abbrev pub IsScripted : Verb → Type 0

@@ -17,6 +17,14 @@ is_space byte = byte == 32
 abbrev pub words_of : List ℕ → List (List ℕ)
 words_of bytes = slice_split is_space bytes
 
+-- one line feed stands between two lines
+abbrev pub is_feed : ℕ → Bool
+is_feed byte = byte == 10
+
+-- the lines of bytes at whose end no line feed stands
+abbrev pub lines_of : List ℕ → List (List ℕ)
+lines_of bytes = slice_split is_feed bytes
+
 -- a byte from `!` to `~`
 abbrev pub is_graphic : ℕ → Bool
 is_graphic byte = nat_le 33 byte && nat_le byte 126

@@ -42,13 +42,15 @@ impl From<Memory> for LineFault {
 /// Why a line of a schedule or a script ends the run.
 #[derive(Clone, Copy, Debug, PartialEq, Eq)]
 pub enum LineWhy {
-    /// It has more than 4,096 bytes, or the 67,108,865th byte of the input stands in it.
+    /// It has more bytes than a line of its version may have, or the first byte too many of the input stands in it.
+    /// Version 1 has at most 4,096 bytes in a line and 67,108,864 in all. Version 2 has at most 4,096 bytes in line 1,
+    /// 4,352 in each other one, and 134,217,728 in all.
     Long,
     /// It is outside the grammar, or a number is outside its range.
     Form,
     /// What it names isn't there: a request that wasn't sent, a take that wasn't made or has its answer, a datagram
-    /// that wasn't made, a session that isn't open, or a text where none is in flight. A session that is opened a
-    /// second time is told so too.
+    /// that wasn't made or answers another companion, a session that isn't open, or a text where none is in flight. A
+    /// session that is opened a second time is told so too.
     Absent,
     /// The television's player refuses it. Want of memory never stands here.
     Player(PlayerFault),

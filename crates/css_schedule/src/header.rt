@@ -1,4 +1,4 @@
-use css_num::Text;
+use css_num::{Memory, Text};
 use css_span::Local;
 use std::marker::Model;
 
@@ -29,7 +29,7 @@ impl Model for Companions {
 }
 
 impl Companions {
-    ghost use Rattle.std.specs.Prelude.{◌≡◌};
+    ghost use Rattle.std.specs.Prelude.{◌≡◌, ◌++◌, ◌∷◌, [], OnOk, OnErr};
 
     /// These companions.
     pub fn of(list: Vec<CompanionLine>) -> Companions
@@ -44,6 +44,15 @@ impl Companions {
     {
         &self.list
     }
+
+    // One more, after them.
+    fn push(&mut self, companion: CompanionLine) -> Result<(), Memory>
+        ensures added { OnOk result (self.new ≡ self.old ++ companion ∷ []) }
+        ensures kept { OnErr result (self.new ≡ self.old) }
+    {
+        self.list.push(companion)?;
+        Ok(())
+    }
 }
 
 /// The header of a schedule: what the two ends declare.
@@ -55,8 +64,23 @@ pub struct Header {
     pub tv_error: u32,
     /// The television's precision, as the base-2 logarithm of seconds: -128 to 30.
     pub tv_precision: i8,
-    /// The companions; one of them in version 1.
+    /// The companions; one of them in version 1, and 1 to 16 in version 2.
     pub companions: Companions,
+}
+
+impl Header {
+    ghost use Rattle.std.specs.Prelude.{◌≡◌, OnOk, OnErr};
+    ghost use Rattle.css_schedule.specs.Headers.{with_companion};
+    ghost use Rattle.css_schedule.specs.Ranges.{IsGoodHeader, IsGoodCompanion};
+
+    /// Adds the next companion. For want of memory it isn't added, and the header is as it was.
+    pub fn add(&mut self, companion: CompanionLine) -> Result<(), Memory>
+        ensures added { OnOk result (self.new ≡ with_companion self.old companion) }
+        ensures range { OnOk result (IsGoodHeader self.old → IsGoodCompanion companion → IsGoodHeader self.new) }
+        ensures kept { OnErr result (self.new ≡ self.old) }
+    {
+        self.companions.push(companion)
+    }
 }
 
 /// How a schedule starts.

@@ -71,6 +71,8 @@ pub enum Verb {
     Close {
         kind: Kind,
     },
+    /// The companion slept, and wakes up. Version 1 has no such line.
+    Sleep,
 }
 
 /// A line of a schedule after the header. Its times are nanoseconds below 2^32 seconds.
@@ -80,9 +82,9 @@ pub struct Line {
     pub t: u64,
     /// What the television's wall clock shows.
     pub w: u64,
-    /// The companion whose clock and event this is, by number from 1.
+    /// The companion whose clock and event this is, by number from 1; 0 where it is the television's alone.
     pub who: u32,
-    /// What that companion's clock shows.
+    /// What that companion's clock shows; 0 where there is none.
     pub l: u64,
     /// What happens.
     pub verb: Verb,

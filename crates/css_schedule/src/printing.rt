@@ -1,10 +1,10 @@
-ghost use Rattle.std.specs.Prelude.{◌≡◌, ◌++◌, ◌∷◌, [], length, decimal, IfOk, OnOk};
+ghost use Rattle.std.specs.Prelude.{◌≡◌, ◌≤◌, ◌==◌, ◌++◌, ◌∷◌, [], ℕ, length, decimal, IfOk, OnOk};
 ghost use Rattle.std.specs.Fmt.{signed_decimal};
-ghost use Rattle.css_schedule.specs.Headers.{header_of};
-ghost use Rattle.css_schedule.specs.Lines.{line_of};
+ghost use Rattle.css_schedule.specs.Headers.{max_companions, header_of, whole_header_of};
+ghost use Rattle.css_schedule.specs.Lines.{line_in};
 ghost use Rattle.css_schedule.specs.Printed as printed;
 ghost use Rattle.css_schedule.specs.Printed.{with_words};
-ghost use Rattle.css_schedule.specs.Ranges.{IsLine, IsPrintable};
+ghost use Rattle.css_schedule.specs.Ranges.{IsVersion, IsCount, FitsFirst, IsLine, IsOf, IsPrintable};
 ghost use Rattle.css_schedule.specs.declared.header.Start.TheVariants as starts;
 ghost use Rattle.css_schedule.specs.declared.line.Verb.TheVariants as verbs;
 
@@ -176,23 +176,38 @@ fn add_verb(text: &mut Text, verb: &Verb) -> Result<(), Memory>
         Verb::Up => add_session(text, b"up", Kind::Ts),
         Verb::Present { earliest, latest } => add_window(text, *earliest, *latest),
         Verb::Close { kind } => add_session(text, b"close", *kind),
+        Verb::Sleep => add_word(text, b"sleep"),
     }
 }
 
-/// Writes a line of a schedule after its header, without its line feed. `read_line` reads the same line back.
+// The clocks of a line, and in version 2 the companion's number.
+fn add_clocks(text: &mut Text, line: &Line, version: u32) -> Result<(), Memory>
+    ensures { OnOk result (text.new ≡ with_words text.old (printed.clock_words (version == 1) line.now)) }
+{
+    add_number(text, line.w)?;
+    if version != 1 {
+        add_number(text, u64::from(line.who))?;
+    }
+    add_number(text, line.l)
+}
+
+/// Writes a line of a schedule after its header, in a version and without its line feed. `read_line` reads the same
+/// line back, where there are enough companions.
 ///
-/// The line's numbers are in the ranges that `read_line` names, and its texts are words of bytes from `!` to `~`.
-#[tactic(auto, using(crate::proofs::ReadBack::line_back))]
+/// The line's numbers are in the ranges that `read_line` names for the version, and its texts are words of bytes from
+/// `!` to `~`. There are at most 16 companions.
+#[tactic(auto, using(crate::proofs::ReadBack::line_back_in))]
 pub fn print_line(alloc: Global, line: &Line, version: u32) -> Result<Text, Memory>
-    requires version { version ≡ 1 }
+    requires version { IsVersion version }
     requires line { IsLine line.now }
-    ensures text { IfOk result (λ text. text ≡ printed.line_text line.now) }
-    ensures read_back { IfOk result (λ text. line_of text ≡ Ok line.now) }
+    requires of { IsOf (version == 1) max_companions line.now }
+    ensures text { IfOk result (λ text. text ≡ printed.line_text_in version line.now) }
+    ensures read_back { IfOk result (λ text. (companions : ℕ) → line.now.who ≤ companions → companions ≤ max_companions
+        → line_in version companions text ≡ Ok line.now) }
 {
     let mut text = Text::new(alloc);
     text.push_number(i128::from(line.t))?;
-    add_number(&mut text, line.w)?;
-    add_number(&mut text, line.l)?;
+    add_clocks(&mut text, line, version)?;
     add_verb(&mut text, &line.verb)?;
     Ok(text)
 }
@@ -222,7 +237,8 @@ fn add_companion(text: &mut Text, companion: &CompanionLine) -> Result<(), Memor
     add_stem(text, &companion.stem)
 }
 
-fn add_companions(text: &mut Text, companions: &Companions) -> Result<(), Memory>
+// The words of the first companion, which is the only one in version 1.
+fn add_first(text: &mut Text, companions: &Companions) -> Result<(), Memory>
     ensures { OnOk result (text.new ≡ with_words text.old (printed.first_words companions.now)) }
 {
     match companions.list().first() {
@@ -231,30 +247,80 @@ fn add_companions(text: &mut Text, companions: &Companions) -> Result<(), Memory
     }
 }
 
-// The words of version 1 after `css-schedule`.
-fn add_header(text: &mut Text, header: &Header) -> Result<(), Memory>
-    ensures { OnOk result (text.new ≡ with_words text.old (printed.header_words header.now)) }
+// What the television declares, after the word for the version.
+fn add_declared(text: &mut Text, version: &[u8], header: &Header) -> Result<(), Memory>
+    ensures { OnOk result (text.new ≡ with_words text.old (version.now ∷ printed.declared_words header.now [])) }
 {
-    add_word(text, b"1")?;
+    add_word(text, version)?;
     add_word(text, mode_word(header.follow))?;
     add_number(text, u64::from(header.tv_error))?;
-    add_signed(text, i64::from(header.tv_precision))?;
-    add_companions(text, &header.companions)
+    add_signed(text, i64::from(header.tv_precision))
 }
 
-/// Writes the first line of a schedule, without its line feed. `read_header` reads the same header back.
-///
-/// The header's numbers are in the ranges that `read_header` names. Its selector is a word of bytes from `!` to `~`,
-/// and its stem is empty or such a word other than `-`.
-#[tactic(auto, using(crate::proofs::ReadBack::header_back))]
-pub fn print_header(alloc: Global, header: &Header, version: u32) -> Result<Text, Memory>
-    requires version { version ≡ 1 }
-    requires alone { length header.now.companions ≡ 1 }
-    requires range { IsPrintable header.now }
-    ensures text { IfOk result (λ text. text ≡ printed.header_text header.now) }
-    ensures read_back { IfOk result (λ text. header_of text ≡ Ok (starts.One header.now)) }
+// The line of the companion with this number, after a line feed.
+fn add_companion_line(text: &mut Text, number: u32, companion: &CompanionLine) -> Result<(), Memory>
+    ensures { OnOk result (text.new ≡ printed.with_companions text.old number (companion.now ∷ [])) }
+{
+    text.push(b"\ncompanion")?;
+    add_number(text, u64::from(number))?;
+    add_companion(text, companion)
+}
+
+// The lines of these companions, a line feed before each.
+fn add_companion_lines(text: &mut Text, companions: &[CompanionLine]) -> Result<(), Memory>
+    requires { IsCount (length companions.now) }
+    ensures { OnOk result (text.new ≡ printed.with_companions text.old 1 companions.now) }
+{
+    let mut number = 1;
+    for companion in companions.iter() {
+        add_companion_line(text, number, companion)?;
+        number += 1;
+    }
+    Ok(())
+}
+
+// The header's line of version 1.
+fn first_header(alloc: Global, header: &Header) -> Result<Text, Memory>
+    ensures { IfOk result (λ text. text ≡ printed.header_text header.now) }
 {
     let mut text = Text::of(alloc, b"css-schedule")?;
-    add_header(&mut text, header)?;
+    add_declared(&mut text, b"1", header)?;
+    add_first(&mut text, &header.companions)?;
     Ok(text)
+}
+
+// The header's lines of version 2.
+fn second_header(alloc: Global, header: &Header) -> Result<Text, Memory>
+    requires { IsCount (length header.now.companions) }
+    ensures { IfOk result (λ text. text ≡ printed.second_text header.now) }
+{
+    let companions = header.companions.list();
+    let mut text = Text::of(alloc, b"css-schedule")?;
+    add_declared(&mut text, b"2", header)?;
+    add_number(&mut text, companions.len() as u64)?;
+    add_companion_lines(&mut text, companions)?;
+    Ok(text)
+}
+
+/// Writes the header of a schedule in a version: its first line and, in version 2, the lines of its companions. A line
+/// feed stands between two lines, and none at the end. The same header is read back by `read_header` and, line by line,
+/// by `read_companion`.
+///
+/// The header's numbers are in the ranges that `read_header` names. Each selector is a word of bytes from `!` to `~`,
+/// and each stem is empty or such a word other than `-`. In version 1 there is one companion, in version 2 there are 1
+/// to 16.
+#[tactic(auto, using(crate::proofs::HeadersBack::header_back_in, crate::proofs::HeadersBack::header_back))]
+pub fn print_header(alloc: Global, header: &Header, version: u32) -> Result<Text, Memory>
+    requires version { IsVersion version }
+    requires companions { FitsFirst (version == 1) (length header.now.companions) }
+    requires range { IsPrintable header.now }
+    ensures text { IfOk result (λ text. text ≡ printed.header_text_in version header.now) }
+    ensures read_back { IfOk result (λ text. whole_header_of text ≡ Ok header.now) }
+    ensures line { IfOk result (λ text. version ≡ 1 → header_of text ≡ Ok (starts.One header.now)) }
+{
+    if version == 1 {
+        first_header(alloc, header)
+    } else {
+        second_header(alloc, header)
+    }
 }

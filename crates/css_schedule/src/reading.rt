@@ -1,13 +1,14 @@
-ghost use Rattle.std.specs.Prelude.{◌≡◌, IfOk};
+ghost use Rattle.std.specs.Prelude.{◌≡◌, ◌==◌, IfOk};
 ghost use Rattle.css_num.specs.Gives.{GivesBy};
 ghost use Rattle.css_schedule.specs.Words.{words_left, Reads};
 ghost use Rattle.css_schedule.specs.ClockVerbs.{clock_verb_of};
 ghost use Rattle.css_schedule.specs.Lines as lines;
-ghost use Rattle.css_schedule.specs.Ranges.{IsLine, IsScriptLine};
+ghost use Rattle.css_schedule.specs.Owners.{is_own, is_named};
+ghost use Rattle.css_schedule.specs.Ranges.{IsVersion, IsLine, IsOf, IsScriptLine};
 ghost use Rattle.css_schedule.specs.declared.fault.LineFault.TheVariants as faults;
 
 use crate::parts::{command, earliest, kind, latest, position, time};
-use crate::words::{Words, all_words, finish, ordinal, skip, text, word};
+use crate::words::{Words, all_words, finish, number, ordinal, skip, text, word};
 use crate::{Line, LineFault, ScriptLine, Verb};
 use css_num::{Rate, Text};
 use std::alloc::Global;
@@ -233,10 +234,9 @@ fn verb<'a>(alloc: Global, words: Words<'a>) -> Result<(Verb, Words<'a>), LineFa
     operands(alloc, name, rest)
 }
 
-// The line that these words are. There is one companion.
+// The line of version 1 that these words are. There is one companion.
 #[tactic(auto, unfolding(crate::specs::Lines::line_of_words))]
-fn line(alloc: Global, words: Words<'_>, companions: u32) -> Result<Line, LineFault>
-    requires { companions ≡ 1 }
+fn first_line(alloc: Global, words: Words<'_>) -> Result<Line, LineFault>
     ensures { GivesBy (λ x. x) faults.Memory result (lines.line_of_words (words_left words.entry)) }
 {
     let (t, rest) = time(words)?;
@@ -247,17 +247,77 @@ fn line(alloc: Global, words: Words<'_>, companions: u32) -> Result<Line, LineFa
     Ok(Line {
         t,
         w,
-        who: companions,
+        who: 1,
         l,
         verb,
     })
 }
 
-/// Reads a line of a schedule after its header, without its line feed.
+// The operands of the verb of version 2 with this name.
+fn second_operands<'a>(
+    alloc: Global,
+    name: &[u8],
+    words: Words<'a>,
+) -> Result<(Verb, Words<'a>), LineFault>
+    ensures { Reads result (lines.second_operands_at name.now (words_left words.entry)) }
+{
+    if name == b"sleep".as_slice() {
+        Ok((Verb::Sleep, words))
+    } else {
+        operands(alloc, name, words)
+    }
+}
+
+#[tactic(auto, unfolding(crate::specs::Lines::second_verb_at))]
+fn second_verb<'a>(alloc: Global, words: Words<'a>) -> Result<(Verb, Words<'a>), LineFault>
+    ensures { Reads result (lines.second_verb_at (words_left words.entry)) }
+{
+    let (name, rest) = word(words)?;
+    second_operands(alloc, name, rest)
+}
+
+// Whether a companion takes part in it.
+fn is_own(verb: &Verb) -> bool
+    ensures { result ≡ is_own verb.now }
+{
+    match verb {
+        Verb::Take { .. } | Verb::Give { .. } => false,
+        Verb::Programme { .. } | Verb::Timeline { .. } | Verb::Viewer { .. } => false,
+        _ => true,
+    }
+}
+
+// Whether a line of version 2 may have this number and this clock of a companion.
+fn is_named(who: u32, l: u64, verb: &Verb) -> bool
+    ensures { result ≡ is_named who l verb.now }
+{
+    who != 0 || l == 0 && !is_own(verb)
+}
+
+// The line of version 2 that these words are, where there are so many companions.
+#[tactic(auto, unfolding(crate::specs::Lines::second_of_words))]
+fn second_line(alloc: Global, words: Words<'_>, companions: u32) -> Result<Line, LineFault>
+    ensures { GivesBy (λ x. x) faults.Memory result (lines.second_of_words companions (words_left words.entry)) }
+{
+    let (t, rest) = time(words)?;
+    let (w, rest) = time(rest)?;
+    let (who, rest) = number(rest, u64::from(companions) + 1)?;
+    let (l, rest) = time(rest)?;
+    let (verb, rest) = second_verb(alloc, rest)?;
+    finish(rest)?;
+    let who = who as u32;
+    if !is_named(who, l, &verb) {
+        return Err(LineFault::Form);
+    }
+    Ok(Line { t, w, who, l, verb })
+}
+
+/// Reads a line of a schedule after its header, without its line feed, in a version and with so many companions.
 ///
-/// The words are `T W L VERB ..` with exactly one space between two of them. T, W and L are true time, the
-/// television's wall clock and the companion's clock, in nanoseconds below 2^32 seconds. The verbs, with readings R
-/// below 2^32 seconds and numbers I, J and N from 1 to 2^32 - 1:
+/// In version 1 the words are `T W L VERB ..`, in version 2 `T W K L VERB ..`, with exactly one space between two of
+/// them. T, W and L are true time, the television's wall clock and the companion's clock, in nanoseconds below 2^32
+/// seconds. K is the companion's number, or 0. The verbs, with readings R below 2^32 seconds and numbers I, J and N
+/// from 1 to 2^32 - 1:
 ///
 /// - `ask R`, `take I R`, `give J R`, `land I R`, `wall R` and `print R`
 /// - `programme ID` and `timeline N SELECTOR UPT UPS BASE`: ID and SELECTOR are words of bytes from `!` to `~`, UPT
@@ -266,21 +326,26 @@ fn line(alloc: Global, words: Words<'_>, companions: u32) -> Result<Line, LineFa
 /// - `open KIND`, `text KIND` and `close KIND`, where KIND is `cii` or `ts`, and `up ts`
 /// - `present EC EW LC LW`: the content times EC and LC are signed with at most 18 digits; the wall time EW is a number
 ///   below 2^63 or `minusinfinity`, and LW a number below 2^63 or `plusinfinity`
+/// - `sleep`, in version 2
 ///
-/// Anything else is `Form`.
-#[tactic(auto, using(crate::proofs::InRange::line_in_range))]
+/// A line of version 1 is that of companion 1. With K 0 the line is the television's alone: L is `0`, and the verb is
+/// `take`, `give`, `programme`, `timeline`, `change`, `speed` or `seek`. Anything else is `Form`.
 pub fn read_line(
     alloc: Global,
     bytes: &[u8],
     version: u32,
     companions: u32,
 ) -> Result<Line, LineFault>
-    requires version { version ≡ 1 }
-    requires companions { companions ≡ 1 }
-    ensures value { GivesBy (λ x. x) faults.Memory result (lines.line_of bytes.now) }
+    requires { IsVersion version }
+    ensures value { GivesBy (λ x. x) faults.Memory result (lines.line_in version companions bytes.now) }
     ensures range { IfOk result IsLine }
+    ensures of { IfOk result (IsOf (version == 1) companions) }
 {
-    line(alloc, all_words(bytes), companions)
+    if version == 1 {
+        first_line(alloc, all_words(bytes))
+    } else {
+        second_line(alloc, all_words(bytes), companions)
+    }
 }
 
 // A viewer's command of a script, by its name. It has no reading, and 0 stands in its place.

@@ -124,7 +124,7 @@ const NO_HEADERS: &[&[u8]] = &[
     b"css-schedule 0 plain 0 -30 0 0 urn:x -",
     b"css-schedule 01 plain 0 -30 0 0 urn:x -",
     b"css-schedule 2 plain 0 -30 0 0 urn:x -",
-    b"css-schedule 2 plain 0 -30 1",
+    b"css-schedule 3 plain 0 -30 1",
     b"css-schedule 1 Plain 0 -30 0 0 urn:x -",
     b"css-schedule 1 follows 0 -30 0 0 urn:x -",
     b"css-schedule 1 follo 0 -30 0 0 urn:x -",

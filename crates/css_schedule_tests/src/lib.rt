@@ -7,3 +7,5 @@ mod headers;
 mod lines;
 #[cfg(test)]
 mod refused;
+#[cfg(test)]
+mod second;

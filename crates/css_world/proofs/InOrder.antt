@@ -230,6 +230,7 @@ hears_by header made v events own can before = by v can where
   by verb.Up can = same
   by (verb.Present earliest latest) can = silent _ same.cii_few same.tells same.ts_few same.control
   by (verb.Close k) can = silent _ same.cii_few same.tells same.ts_few same.control
+  by verb.Sleep can = same
 
 -- Each verb keeps the order.
 pub order_kept : (header : Header) → IsUtf8Setup (setup_of 1 header) → IsKeptBy header (IsInOrder header)

@@ -253,6 +253,7 @@ stays_unknown header kind made verb.Up events own range can before =
 stays_unknown header kind made (verb.Present earliest latest) events own range can before = before
 stays_unknown header kind made (verb.Close from) events own range can before = λ never.
     unknown_event (peer_of 1 kind) addresses (event.Closed (peer_of 1 from)) events refl (before never)
+stays_unknown header kind made verb.Sleep events own range can before = before
 
 -- a session that companion 1 never opened has neither a life nor a talk
 unknown : (header : Header) (lines : List Numbered) (kind : Kind) → AreAccepted header lines

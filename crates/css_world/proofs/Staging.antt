@@ -358,6 +358,7 @@ sound_by (verb.Bring kind) events own range can before = tt
 sound_by verb.Up events own range can before = text_sound 2 (next_up 1 events own) (calls_of addresses events).sessions
 sound_by (verb.Present earliest latest) events own range can before = tt
 sound_by (verb.Close kind) events own range can before = tt
+sound_by verb.Sleep events own range can before = tt
 
 -- so it leaves the television staged
 staged_by : (o : Option TvEvent) (events : List TvEvent) → IsStaged addresses (calls_of addresses events)

@@ -286,6 +286,7 @@ module _ (header : Header) (events : List TvEvent) (own : History) (before : Has
   talked_by (verb.Present earliest latest) made utf8 range can staging =
       ts_writes (window earliest latest) can range staging
   talked_by (verb.Close k) made utf8 range can staging = closes_talked k made can staging
+  talked_by verb.Sleep made utf8 range can staging = before
 
 -- What both ends know stays so by each verb.
 pub talked_kept : (header : Header) → IsUtf8Setup (setup_of 1 header) → IsKeptBy header (HasTalked header)

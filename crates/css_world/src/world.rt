@@ -1,6 +1,7 @@
-ghost use Rattle.std.specs.Prelude.{◌≡◌, ◌≢◌, ◌<◌, ◌==◌, List, [], length, ℕ};
+ghost use Rattle.std.specs.Prelude.{◌≡◌, ◌≢◌, ◌<◌, ◌==◌, false, List, [], length, ℕ};
 ghost use Rattle.std.specs.Prelude.{Err, IfSome, IfNone, IfOk, IfErr, OnOk, OnErr};
 ghost use Rattle.std.specs.Option.{ForSome};
+ghost use Rattle.css_schedule.specs.Owners.{is_sleep};
 ghost use Rattle.css_schedule.specs.Ranges.{IsHeader, IsLine};
 ghost use Rattle.css_schedule.specs.declared.line.Verb.{Verb as Happening};
 ghost use Rattle.css_schedule.specs.declared.line.Verb.TheVariants as events;
@@ -80,6 +81,7 @@ impl World {
     }
 
     /// Takes the line of that number, which is above that of the line before, and adds what is printed for it to `out`.
+    /// It is a line of version 1, so no sleep.
     ///
     /// The tests come in this order.
     ///
@@ -94,6 +96,7 @@ impl World {
     /// world is used no more.
     pub fn line(&mut self, number: u64, line: Line, out: &mut Vec<u8>) -> Result<(), WorldFault>
         requires line { IsLine line × (line.who ≡ 1) }
+        requires awake { is_sleep line.verb ≡ false }
         requires stands { (lines : List Numbered) × StandsFor self.old lines × IsNext number lines }
         ensures header { self.new.header ≡ self.old.header }
         ensures answers { Means self.old out.old.items out.new.items result (record { number = number; line = line }) }
@@ -160,6 +163,7 @@ impl World {
     /// Carries out what happens at a line, and prints what is printed for it.
     fn carry_out(&mut self, number: u64, line: Line, out: &mut Vec<u8>) -> Result<(), WorldFault>
         requires line { IsLine line }
+        requires awake { is_sleep line.verb ≡ false }
         requires own { IfSome (own_reading line.verb) (λ reading. last_value self.old.lane.clock.last ≡ reading) }
         requires ready { (lines : List Numbered) × IsReady self.old lines }
         ensures clocks { KeepsClocks self.old self.new }
@@ -193,6 +197,7 @@ impl World {
             Verb::Up => self.up(),
             Verb::Present { earliest, latest } => self.present(earliest, latest),
             Verb::Close { kind } => self.close(kind),
+            Verb::Sleep => unreachable!(),
         }
     }
 

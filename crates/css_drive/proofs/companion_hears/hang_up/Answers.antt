@@ -1,5 +1,7 @@
-use Rattle.std.proofs.Common.{◌≡◌, refl, sym, ◌∙◌, ap, subst, inl, inr, false, Option, Some, None, ℕ, List, ◌++◌}
+use Rattle.std.proofs.Common.{◌≡◌, refl, sym, ◌∙◌, ap, subst, inl, inr, false, Option, Some, None, ℕ, List, [], ◌++◌}
 use Rattle.css_model.specs.declared.Kind.TheVariants as kind
+use Rattle.css_model.specs.History.{History}
+use Rattle.css_outside.specs.Outsides.{with_entries}
 use Rattle.css_drive.specs.CompanionDue.{hang_up, due}
 use Rattle.css_drive.specs.CompanionStanding.{Facts, hung}
 use Rattle.css_drive.specs.CompanionTurns.{opened, is_peer}
@@ -12,6 +14,14 @@ use Rattle.css_drive.proofs.companion_hears.hang_up.Goals as goal
 
 pub returns-in-Err-clause-stops : goal.returns-in-Err-clause-stops
 returns-in-Err-clause-stops g c before reports h s l i = stops_by_fault s l _ _ c.in-Err.ensures.told
+
+pub returns-in-Err-clause-adds : goal.returns-in-Err-clause-adds
+returns-in-Err-clause-adds g c =
+    (None, None, c.in-Err.ensures.told.told ∙ by (g.O.Outside.told c.args.outside.now))
+  where
+    by : (told : Option History) → told ≡ with_entries [] told
+    by None = refl
+    by (Some history) = refl
 
 pub returns-in-Err-clause-dials : goal.returns-in-Err-clause-dials
 returns-in-Err-clause-dials g c = c.in-Err.ensures.dials
@@ -49,6 +59,12 @@ returns-in-Ok-hang_up_one-clause-stops g c before reports h s l i =
           h) a)) (ends.over_ends end i.over);
     }
 
+pub returns-in-Ok-hang_up_one-clause-adds : goal.returns-in-Ok-hang_up_one-clause-adds
+returns-in-Ok-hang_up_one-clause-adds g c =
+    let o = c.args.live.now.cii_open in
+    let t = c.args.live.now.ts_open in
+    (o, t, told_more _ _ _ (hung t) (hung o) c.in-Ok.ensures.told.told c.in-Ok-hang_up_one.ensures.told.told)
+
 pub returns-in-Ok-hang_up_one-clause-dials : goal.returns-in-Ok-hang_up_one-clause-dials
 returns-in-Ok-hang_up_one-clause-dials g c = c.in-Ok-hang_up_one.ensures.dials ∙ c.in-Ok.ensures.dials
 
@@ -74,6 +90,10 @@ returns-in-Err-hang_up_one-clause-stops g c before reports h s l i =
       made = ends.hung_reports cfg h o ∙ ap {A = Facts} (λ x. x.reports) s.facts;
       ends = fault_ends (due cfg (hung o ++ h)) ended second.fault;
     }
+
+pub returns-in-Err-hang_up_one-clause-adds : goal.returns-in-Err-hang_up_one-clause-adds
+returns-in-Err-hang_up_one-clause-adds g c =
+    (c.args.live.now.cii_open, None, c.in-Err-hang_up_one.ensures.told.told ∙ c.in-Ok.ensures.told.told)
 
 pub returns-in-Err-hang_up_one-clause-dials : goal.returns-in-Err-hang_up_one-clause-dials
 returns-in-Err-hang_up_one-clause-dials g c = c.in-Err-hang_up_one.ensures.dials ∙ c.in-Ok.ensures.dials

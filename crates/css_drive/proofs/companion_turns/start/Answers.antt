@@ -83,3 +83,9 @@ returns-clause-begins g c before reports h s k d =
           (calls.peers_clock _ _ _ why.Turn clocked h s.peers));
       next = ends.begun_next cfg clocked h;
     }
+
+pub returns-then-due-clause-entries : goal.returns-then-due-clause-entries
+returns-then-due-clause-entries g c = (c.in_ok-reading.field-0, c.in_ok-reading.ensures.told.told)
+
+pub returns-clause-entries : goal.returns-clause-entries
+returns-clause-entries g c = (c.in_ok-reading.field-0, c.in_ok-reading.ensures.told.told)

@@ -1,0 +1,5 @@
+pub mod Notes
+pub mod Lines
+pub mod Pages
+pub mod Stages
+pub mod Runs
