@@ -34,7 +34,10 @@ const CII_TEXTS: [(&str, Option<Option<i64>>); 6] = [
         Some(Some(50)),
     ),
     (
-        r#"{"timelines":[{"timelineSelector":"urn:x:1","timelineProperties":{"unitsPerTick":1,"unitsPerSecond":1000}},{"timelineSelector":"urn:x:1","timelineProperties":{"unitsPerTick":1,"unitsPerSecond":50}}]}"#,
+        r#"{"timelines":[
+            {"timelineSelector":"urn:x:1","timelineProperties":{"unitsPerTick":1,"unitsPerSecond":1000}},
+            {"timelineSelector":"urn:x:1","timelineProperties":{"unitsPerTick":1,"unitsPerSecond":50}}
+        ]}"#,
         Some(Some(1000)),
     ),
     (r#"{"contentId":"dvb://1"}"#, None),
