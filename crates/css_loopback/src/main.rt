@@ -1,4 +1,4 @@
-//! Runs on loopback: a pair, and a companion behind a relay.
+//! Runs on loopback: a pair, a companion behind a relay, and a companion that writes a record, which is then audited.
 //!
 //! Their televisions and the relay are children: this program again, with the words of a command.
 #![tactic(auto)]
@@ -64,12 +64,12 @@ fn start<P: Spawner>(
 fn written_by<O: Outside, P: Spawner>(
     alloc: Global,
     line: &str,
-    input: &str,
+    input: &[u8],
     outside: &mut O,
     spawner: &mut P,
 ) -> Result<MemorySink, OutFault> {
     let words = words_in(alloc, line)?;
-    let mut source = MemorySource::new(alloc, input.as_bytes(), 4096, &[])?;
+    let mut source = MemorySource::new(alloc, input, 4096, &[])?;
     let mut sink = MemorySink::new(alloc, 4096, &[])?;
     let status = run(
         alloc,
@@ -108,6 +108,13 @@ fn companion_line(alloc: Global, port: u32) -> Result<String, Memory> {
     )?)
 }
 
+fn recorded_line(alloc: Global, port: u32) -> Result<String, Memory> {
+    Ok(format!(in alloc;
+        "companion --record --cii ws://127.0.0.1:{port}/cii --selector urn:dvb:css:timeline:pts --stem dvb:// \
+         --reports 4 --report-every 200000000 --ask-every 50000000"
+    )?)
+}
+
 /// The run of a television and a companion beside it.
 fn pair<O: Outside, P: Spawner>(
     alloc: Global,
@@ -116,7 +123,7 @@ fn pair<O: Outside, P: Spawner>(
     spawner: &mut P,
 ) -> Result<MemorySink, OutFault> {
     let line = pair_line(alloc, port)?;
-    written_by(alloc, &line, SCRIPT, outside, spawner)
+    written_by(alloc, &line, SCRIPT.as_bytes(), outside, spawner)
 }
 
 /// The run of a companion that knows a relay alone.
@@ -133,25 +140,54 @@ fn behind_a_relay<O: Outside, P: Spawner>(
     let companion = companion_line(alloc, relay_port)?;
     start(alloc, spawner, &tv, SCRIPT)?;
     start(alloc, spawner, &relay, "")?;
-    let written = written_by(alloc, &companion, "", outside, unused)?;
+    let written = written_by(alloc, &companion, b"", outside, unused)?;
     spawner.finish()?;
     spawner.finish()?;
     Ok(written)
 }
 
-/// As many lines as reports, the last of which is an interval.
-fn is_as_wanted(written: &str, reports: usize, last: &str) -> bool {
-    let newest = written.lines().last().unwrap_or("");
-    written.lines().count() == reports && newest.starts_with(last)
+/// Whether the last report of a record is an interval.
+fn has_interval(record: &[u8]) -> bool {
+    let record = str::from_utf8(record).unwrap_or("");
+    record
+        .lines()
+        .last()
+        .unwrap_or("")
+        .starts_with("report 4 ticks ")
 }
 
-/// What is said of a run: what it wrote, where that isn't as wanted.
-fn said<'a>(written: &'a Result<MemorySink, OutFault>, reports: usize, last: &str) -> &'a str {
+/// What an audit writes of the record of a companion whose last report is an interval.
+fn audited<O: Outside, P: Spawner>(
+    alloc: Global,
+    port: u32,
+    outside: &mut O,
+    spawner: &mut P,
+    unused: &mut P,
+) -> Result<MemorySink, OutFault> {
+    let tv = tv_line(alloc, port)?;
+    let companion = recorded_line(alloc, port)?;
+    start(alloc, spawner, &tv, SCRIPT)?;
+    let record = written_by(alloc, &companion, b"", outside, unused)?;
+    spawner.finish()?;
+    if !has_interval(record.bytes()) {
+        return Err(OutFault::Failed);
+    }
+    written_by(alloc, "audit", record.bytes(), outside, unused)
+}
+
+/// Whether there are as many lines, and the last of them begins so.
+fn is_as_wanted(written: &str, lines: usize, last: &str) -> bool {
+    let newest = written.lines().last().unwrap_or("");
+    written.lines().count() == lines && newest.starts_with(last)
+}
+
+/// `yes` where a run wrote as many lines, and the last of them begins so. Else what it wrote.
+fn said<'a>(written: &'a Result<MemorySink, OutFault>, lines: usize, last: &str) -> &'a str {
     let Ok(sink) = written else {
         return "it failed";
     };
     match str::from_utf8(sink.bytes()) {
-        Ok(written) if is_as_wanted(written, reports, last) => "an interval in the last line",
+        Ok(written) if is_as_wanted(written, lines, last) => "yes",
         Ok(written) => written,
         Err(_) => "no text",
     }
@@ -182,10 +218,15 @@ fn main(rt: HostRuntime) -> ExitCode {
     let mut unused = ChildSpawner::new(alloc, &rt);
     let mut further = NetOutside::new(alloc, &rt);
     let behind = behind_a_relay(alloc, port, &mut further, &mut spawner, &mut unused);
+    let mut recorded = NetOutside::new(alloc, &rt);
+    let audited = audited(alloc, port, &mut recorded, &mut spawner, &mut unused);
     let told = print!(rt;
-        "pair: {}\nbehind a relay: {}\n",
+        "a pair ends with an interval: {}\n\
+         so does a companion behind a relay: {}\n\
+         an audit finds a companion's record right: {}\n",
         said(&pair, 5, "5 ticks "),
-        said(&behind, 4, "4 ticks ")
+        said(&behind, 4, "4 ticks "),
+        said(&audited, 1, "reports 4")
     );
     ExitCode::from(if told.is_ok() { 0 } else { 1 })
 }
