@@ -1,8 +1,10 @@
 pub mod Faults
 pub mod Options
+pub mod Lines
 pub mod Generator
 pub mod Bounds
 pub mod Tv
+pub mod Recorded
 pub mod Companion
 pub mod Written
 pub mod Pair

@@ -21,7 +21,10 @@ fn shown_text(text: &Text) -> &str {
 }
 
 fn shown_generator(alloc: Global, words: &GeneratorWords) -> Result<String, Fail> {
-    Ok(format!(in alloc; "{} {}", words.seed, words.lines)?)
+    Ok(match words.companions {
+        None => format!(in alloc; "{} {}", words.seed, words.lines)?,
+        Some(count) => format!(in alloc; "{} {} {count}", words.seed, words.lines)?,
+    })
 }
 
 fn shown_tv(alloc: Global, words: &TvWords) -> Result<String, Fail> {
@@ -90,11 +93,16 @@ fn shown(alloc: Global, command: &Command) -> Result<String, Fail> {
         Command::Replay => String::from_str(alloc, "replay")?,
         Command::Agree => String::from_str(alloc, "agree")?,
         Command::Audit => String::from_str(alloc, "audit")?,
+        Command::Migrate => String::from_str(alloc, "migrate")?,
         Command::Companion(words) => {
             let host = shown_text(&words.cii.host);
             let path = shown_text(&words.cii.path);
             let options = shown_options(alloc, &words.options)?;
-            format!(in alloc; "companion {host} {} {path} {options}", words.cii.port)?
+            let record = if words.recorded { " recorded" } else { "" };
+            format!(in alloc;
+                "companion {host} {} {path} {options}{record}",
+                words.cii.port
+            )?
         }
         Command::Tv(words) => format!(in alloc; "tv {}", shown_tv(alloc, words)?)?,
         Command::Pair(words) => {
@@ -140,7 +148,8 @@ fn names_and_words_without_options(rt: HostRuntime) -> Result<(), Fail> {
     let told = "\
 replay => replay
 agree => agree
-audit => audit";
+audit => audit
+migrate => migrate";
     check_told(&rt, rt.alloc(), told)?;
     let usage = "\
 reply
@@ -157,6 +166,10 @@ agree --seed 7
 agree -x
 audit --record
 audit audit
+migrate --version 2
+migrate --
+migrate schedule
+migrates
 --help
 -
 --
@@ -173,7 +186,11 @@ help";
 const SCHEDULES: &str = "\
 generate --seed 7 --lines 9 => generate 7 9
 survey --lines=200000 --seed=9223372036854775807 => survey 9223372036854775807 200000
-generate --seed 0 --lines=10 => generate 0 10";
+generate --seed 0 --lines=10 => generate 0 10
+generate --seed 1 --lines 16 --companions 2 => generate 1 16 2
+survey --companions=16 --lines=100 --seed=1 => survey 1 100 16
+generate --companions 16 --seed 7 --lines 200000 => generate 7 200000 16
+survey --lines 22 --companions 3 --seed 0 => survey 0 22 3";
 
 /// Command lines of `generate` and `survey` that are refused.
 const NO_SCHEDULES: &str = "\
@@ -212,10 +229,36 @@ generate --=7 --seed 7 --lines 9
 survey --seed 7
 survey --seed 7 --lines 8";
 
+/// Command lines with `--companions` that are refused.
+const NO_CROWDS: &str = "\
+generate --seed 7 --lines 9 --companions 2
+generate --seed 7 --lines 15 --companions 2
+generate --seed 7 --lines 99 --companions 16
+generate --seed 7 --lines 200001 --companions 16
+generate --seed 7 --lines 200 --companions 0
+generate --seed 7 --lines 200 --companions 1
+generate --seed 7 --lines 200 --companions 17
+generate --seed 7 --lines 200 --companions 4294967298
+generate --seed 7 --lines 200 --companions
+generate --seed 7 --lines 200 --companions=
+generate --seed 7 --lines 200 --companions 02
+generate --seed 7 --lines 200 --companions +2
+generate --seed 7 --lines 200 --companions=-2
+generate --seed 7 --lines 200 --companions 2 --companions 2
+generate --seed 7 --lines 200 --companion 2
+generate --seed 7 --companions 2
+generate --lines 200 --companions 2
+survey --seed 7 --lines 15 --companions 2
+survey --seed 7 --lines 200 --companions 17
+replay --companions 2
+migrate --companions 2
+companion --cii ws://h --companions 2";
+
 #[test]
 fn schedules_to_generate(rt: HostRuntime) -> Result<(), Fail> {
     check_told(&rt, rt.alloc(), SCHEDULES)?;
-    check_usage(&rt, rt.alloc(), NO_SCHEDULES)
+    check_usage(&rt, rt.alloc(), NO_SCHEDULES)?;
+    check_usage(&rt, rt.alloc(), NO_CROWDS)
 }
 
 #[test]
@@ -315,6 +358,47 @@ companion --cii ws://h cue.sheet";
 fn companions(rt: HostRuntime) -> Result<(), Fail> {
     check_told(&rt, rt.alloc(), COMPANIONS)?;
     check_usage(&rt, rt.alloc(), NO_COMPANIONS)
+}
+
+/// Command lines of `companion` whose run is recorded or can't be, and what each of them asks for.
+const RECORDED: &str = "\
+companion --record --cii ws://h => companion h 80 / \
+urn:dvb:css:timeline:pts '' 10 10000 1000000000 1000000000 128000 1000 always recorded
+companion --cii ws://h --selector=!~ --record --stem=-- => companion h 80 / \
+!~ '--' 10 10000 1000000000 1000000000 128000 1000 always recorded
+companion --cii ws://h --stem= --selector=- --record => companion h 80 / \
+- '' 10 10000 1000000000 1000000000 128000 1000 always recorded
+companion --cii ws://h --selector=é --stem=- => companion h 80 / \
+é '-' 10 10000 1000000000 1000000000 128000 1000 always
+companion --cii ws://h --selector=a\tb --stem=\u{7f} => companion h 80 / \
+a\tb '\u{7f}' 10 10000 1000000000 1000000000 128000 1000 always";
+
+/// Command lines with `--record` that are refused.
+const NOT_RECORDED: &str = "\
+companion --record
+companion --record --cii ws://h --selector=
+companion --record --cii ws://h --selector=a\tb
+companion --record --cii ws://h --selector=\u{7f}
+companion --record --cii ws://h --selector=é
+companion --record --cii ws://h --stem=-
+companion --record --cii ws://h --stem=a\tb
+companion --record --cii ws://h --stem=\u{7f}
+companion --record --cii ws://h --stem=é
+companion --record --cii ws://h --reports 0
+companion --record --cii ws://h --record
+companion --record=true --cii ws://h
+companion --record true --cii ws://h
+companion --cii ws://h --recor
+companion --cii ws://h --recorded
+pair --record
+tv --record
+relay --cii ws://h --record
+replay --record";
+
+#[test]
+fn recorded_runs(rt: HostRuntime) -> Result<(), Fail> {
+    check_told(&rt, rt.alloc(), RECORDED)?;
+    check_usage(&rt, rt.alloc(), NOT_RECORDED)
 }
 
 /// Command lines of `relay`, and what each of them asks for.
