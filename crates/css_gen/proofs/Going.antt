@@ -4,7 +4,7 @@ use Rattle.std.specs.Prelude.{nat_lt, if◌then◌else◌, Option, Some, None}
 use Rattle.std.proofs.lemmas.Bool.{lt-ltb, ltb-true, ltb-false}
 use Rattle.css_gen.specs.Course.{next_course, course_after}
 use Rattle.css_gen.specs.Generated.{Generator, text_from, text_numbered, next_text}
-use Rattle.css_gen.specs.Bounds.{course_from}
+use Rattle.css_gen.specs.Standing.{course_from}
 use Rattle.css_gen.specs.declared.course.Course.{Course}
 
 -- the course after a line is the one before the next line

@@ -3,9 +3,12 @@
 #![tactic(auto)]
 
 mod course;
+mod crowd;
 mod generator;
 pub mod laws;
 mod opening;
+mod second;
+mod senders;
 #[cfg(test)]
 mod tests;
 

@@ -1,6 +1,6 @@
 use Rattle.std.proofs.Common.{◌+◌, ◌-◌, arith, ap, ◌∙◌}
 use Rattle.css_gen.specs.Generated.{next_text}
-use Rattle.css_gen.specs.Bounds.{course_from}
+use Rattle.css_gen.specs.Standing.{course_from}
 use Rattle.css_gen.specs.declared.course.Course.{Course}
 use Rattle.css_gen.proofs.Bounds.{course-small}
 use Rattle.css_gen.proofs.Going.{course-goes_on, text-next}
