@@ -59,8 +59,8 @@ turn crowd = let course = later crowd.course in turned crowd.fast course (draw c
 unfoldable pub datagrams : (who : ℕ) → (askers : List ℕ) → (answers : ℕ) → List ℕ
 datagrams who askers zero = []
 datagrams who askers (suc before) =
-    if slice_index askers before == who then 2 * before + 2 ∷ 2 * before + 1 ∷ datagrams who askers before
-    else datagrams who askers before
+    let older = datagrams who askers before in
+    if slice_index askers before == who then (2 * before + 2) ∷ (2 * before + 1) ∷ older else older
 
 -- one of these lands, so many before the newest
 abbrev pub landed_from : List ℕ → Course → Drawn → Happening

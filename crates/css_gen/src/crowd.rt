@@ -61,6 +61,7 @@ fn line_at(t: u64, w: u64, who: u32, l: u64, verb: Verb) -> Line
 }
 
 /// Draws which oscillators run fast, after that of the first companion, which the course has.
+#[tactic(auto, unfolding(crate::specs::Crowd::tuned), using(crate::proofs::Tuning::tuned_next))]
 fn tune(course: &mut Course, companions: u32) -> [bool; 16]
     requires { AreSome companions }
     ensures fast { result ≡ (crowds.tuned course.old (companions - 1)).fast }

@@ -47,7 +47,6 @@ impl Generator {
     /// The lines of a seed, of 1 to 16 companions: at most 200,000 of them in all, and at least those that open the
     /// schedule. One companion has a schedule of version 1, which 9 lines open. Several have one of version 2, which
     /// 4 lines and 6 for each companion open.
-    #[tactic(auto, unfolding(crate::specs::Course::course_after, crate::specs::Crowd::crowd_after))]
     pub fn new(alloc: Global, seed: u64, lines: u64, companions: u32) -> Generator
         requires least { least_lines companions ≤ lines }
         requires most { lines ≤ 200000 }

@@ -38,7 +38,8 @@ fn companion_text(alloc: Global, who: u64) -> Result<Text, Memory>
 /// The line of that place. The television's lines are at the places 2 to 4, and five of each companion follow: all of
 /// them are at true time 0, where each clock shows one second.
 fn line_placed(alloc: Global, place: u64) -> Result<Line, Memory>
-    requires { place ≤ 84 }
+    requires low { 2 ≤ place }
+    requires high { place ≤ 84 }
     ensures { IfOk result (λ line. line ≡ second.line_placed place) }
 {
     let own = place >= 5;
@@ -53,7 +54,8 @@ fn line_placed(alloc: Global, place: u64) -> Result<Line, Memory>
 }
 
 fn placed_text(alloc: Global, place: u64) -> Result<Text, Memory>
-    requires { place ≤ 84 }
+    requires low { 2 ≤ place }
+    requires high { place ≤ 84 }
     ensures { IfOk result (λ text. text ≡ printed.line_text_in 2 (second.line_placed place)) }
 {
     print_line(alloc, &line_placed(alloc, place)?, 2)

@@ -1,0 +1,6 @@
+use Rattle.std.proofs.Common.{ap, sym, ◌∙◌, ◌++◌}
+use Rattle.css_gen.proofs.SecondTexts.{header_text-is}
+use Rattle.css_gen.proofs.second.header_text.Goals as goal
+
+pub returns : goal.returns
+returns c = ?
