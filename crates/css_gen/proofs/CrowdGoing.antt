@@ -7,7 +7,7 @@ use Rattle.css_gen.specs.Course.{started, course_after}
 use Rattle.css_gen.specs.Crowd.{tuned, gathered, crowd_after, next_crowd}
 use Rattle.css_gen.specs.Second.{openings, second_text, second_text_from, crowd_from}
 use Rattle.css_gen.specs.Generated.{Generator, text_from, text_numbered, text_in, next_text}
-use Rattle.css_gen.specs.Standing.{AreSome, IsReady, course_from, crowd_with, text_with, CanGive, Follows}
+use Rattle.css_gen.specs.Standing.{AreSome, IsReady, course_from, crowd_with, text_with, CanGive, Follows, IsGenerator}
 use Rattle.css_gen.specs.declared.course.Course.{Course}
 use Rattle.css_gen.specs.declared.crowd.Crowd.{Crowd}
 use Rattle.css_gen.proofs.Bounds.{course-small}
@@ -123,3 +123,13 @@ starts seed companions = by (companions == 1) refl
         ap (λ (n : ℕ). (gathered seed n).course) one
     by false e =
         let none : zero ≡ 0 - openings companions = omega arith in ap (crowd_after seed companions) none
+
+-- so a generator begins
+pub begins : (seed lines companions : ℕ) → lines ≤ 200000 → 1 ≤ companions → companions ≤ 16
+    → IsGenerator seed lines 0 (gathered seed companions)
+unfolding gathered
+begins seed lines companions short some few = record {
+  few = short;
+  companions = record { low = some; high = few };
+  follows = starts seed companions;
+}

@@ -179,9 +179,9 @@ turn-takes crowd = refl
 
 -- ---- line after line
 -- what a crowd keeps, after so many lines
-record IsKept (lines companions : ℕ) (crowd : Crowd) : Type 0 where
+record IsKept (lines count : ℕ) (crowd : Crowd) : Type 0 where
   within : IsWithin lines crowd.course
-  companions : crowd.companions ≡ companions
+  companions : crowd.companions ≡ count
   senders : length crowd.senders ≡ crowd.course.requests
   askers : length crowd.askers ≡ crowd.course.takes
 
@@ -210,6 +210,9 @@ unfolding crowd_after
 crowd-kept seed companions zero = gathered-kept seed companions
 crowd-kept seed companions (suc lines) =
     next-kept lines companions (crowd_after seed companions lines) (crowd-kept seed companions lines)
+
+pub crowd-companions : (seed companions lines : ℕ) → (crowd_after seed companions lines).companions ≡ companions
+crowd-companions seed companions lines = (crowd-kept seed companions lines).companions
 
 -- so a line more can be given after those of the longest schedule
 pub crowd-ready : (seed companions lines : ℕ) → AreSome companions → lines ≤ 200000

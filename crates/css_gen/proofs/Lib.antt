@@ -11,3 +11,4 @@ pub mod Crowds
 pub mod CrowdRanges
 pub mod SecondTexts
 pub mod CrowdGoing
+pub mod SecondReading

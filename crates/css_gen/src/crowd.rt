@@ -111,8 +111,7 @@ impl Crowd {
     #[tactic(auto, unfolding(crate::specs::Crowd::turn))]
     fn turn(&self) -> Result<Turn, Memory>
         requires { IsReady self.now }
-        ensures turn { IfOk result (λ turn. turn ≡ crowds.turn self.now) }
-        ensures can { IfOk result (λ turn. CanTurn self.now turn) }
+        ensures { IfOk result (λ turn. turn ≡ crowds.turn self.now) }
     {
         let mut course = self.course.clone()?;
         course.pass();
