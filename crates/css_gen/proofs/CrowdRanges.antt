@@ -105,17 +105,17 @@ happening_of-range askers turn h =
 
 -- ---- whose a line is
 -- what a companion takes part in has its number, and the rest has none
-record IsWhose (most who l : ℕ) (own : Bool) : Type 0 where
-  who : (if own then who else 0) ≤ most
-  own : own ≡ true → 1 ≤ (if own then who else 0)
-  none : (if own then who else 0) ≡ 0 → (if own then l else 0) ≡ 0
-  l : l < LIMIT → (if own then l else 0) < LIMIT
+record IsWhose (most number shown : ℕ) (mine : Bool) : Type 0 where
+  who : (if mine then number else 0) ≤ most
+  own : mine ≡ true → 1 ≤ (if mine then number else 0)
+  none : (if mine then number else 0) ≡ 0 → (if mine then shown else 0) ≡ 0
+  clock : shown < LIMIT → (if mine then shown else 0) < LIMIT
 
-whose : (most who l : ℕ) (own : Bool) → 1 ≤ who → who ≤ most → IsWhose most who l own
-whose most who l true some few =
-    record { who = few; own = λ e. some; none = λ e. absurd (omega arith); l = λ h. h }
-whose most who l false some few =
-    record { who = omega arith; own = λ e. absurd (cc); none = λ e. refl; l = λ h. omega arith }
+whose : (most number shown : ℕ) (mine : Bool) → 1 ≤ number → number ≤ most → IsWhose most number shown mine
+whose most number shown true some few =
+    record { who = few; own = λ e. some; none = λ e. absurd (omega arith); clock = λ h. h }
+whose most number shown false some few =
+    record { who = omega arith; own = λ e. absurd (cc); none = λ e. refl; clock = λ h. omega arith }
 
 line_at-second : (most t w who l : ℕ) (verb : Verb) → 1 ≤ who → who ≤ most → IsSecond most (line_at t w who l verb)
 line_at-second most t w who l verb some few =
@@ -134,7 +134,7 @@ next-range_of crowd h =
     record {
       t = omega (arith, time);
       w = clock-range course.tv_fast course.time can.course.time;
-      l = is.l own;
+      l = is.clock own;
       verb = happening_of-range crowd.askers (turn crowd) can.course;
     }
 

@@ -116,6 +116,19 @@ companion-back who few =
     solid)
     ∙ numbered-words who few
 
+-- the text of such a line
+text-own : (crowd : Crowd) (who : ℕ) → 1 ≤ who → who ≤ crowd.companions
+    → second_text_from crowd (who + 1) ≡ companion_text who
+text-own crowd who low few =
+    let other = line_text_in 2 (second_line_from crowd (who + 1)) in
+    let own = companion_text (who + 1 - 1) in
+    let all = if nat_le (who + 1) (crowd.companions + 1) then own else other in
+    let back : who + 1 - 1 ≡ who = omega arith in
+    ap (λ (b : Bool). if b then second_header_text crowd.companions else all)
+    (ne_eqb (who + 1) 1 (λ e. omega (arith, e, low)))
+    ∙ ap (λ (b : Bool). if b then own else other) (le-leb (who + 1) (crowd.companions + 1) (omega (arith, few)))
+    ∙ ap companion_text back
+
 -- ---- the other lines
 -- a line in range and of version 2, of one of so many companions
 record IsGood (companions : ℕ) (line : Line) : Type 0 where
@@ -153,7 +166,7 @@ text-line crowd number late =
     ap (λ (b : Bool). if b then second_header_text crowd.companions else own)
     (ne_eqb number 1 (λ e. omega (arith, e, late)))
     ∙ ap (λ (b : Bool). if b then companion_text (number - 1) else text)
-        (lt-leb (crowd.companions + 1) number (omega (arith, late)))
+    (lt-leb number (crowd.companions + 1) (omega (arith, late)))
 
 line-back : (crowd : Crowd) (number : ℕ) → IsReady crowd → crowd.companions + 2 ≤ number
     → line_in 2 crowd.companions (second_text_from crowd number) ≡ Ok (second_line_from crowd number)
@@ -176,7 +189,11 @@ second_read seed companions some = record {
 
     each : (who : ℕ) → 1 ≤ who → who ≤ companions
         → companion_of who (second_text_from (crowd_before seed companions (who + 1)) (who + 1)) ≡ Ok companion
-    each who low few = ?
+    each who low few =
+        let is = same (who + 1) in
+        let high = some.high in
+        ap (companion_of who) (text-own (crowd_before seed companions (who + 1)) who low (omega (arith, is, few)))
+        ∙ companion-back who (omega (arith, few, high))
 
     others : (number : ℕ) → companions + 2 ≤ number → number ≤ 200000
         → line_in 2 companions (second_text_from (crowd_before seed companions number) number)

@@ -42,7 +42,11 @@ fn is_own(verb: &Verb) -> bool
 {
     !matches!(
         verb,
-        Verb::Take { .. } | Verb::Give { .. } | Verb::Programme { .. } | Verb::Timeline { .. } | Verb::Viewer { .. }
+        Verb::Take { .. }
+            | Verb::Give { .. }
+            | Verb::Programme { .. }
+            | Verb::Timeline { .. }
+            | Verb::Viewer { .. }
     )
 }
 
@@ -79,7 +83,8 @@ impl Crowd {
     #[tactic(auto, unfolding(crate::specs::Crowd::gathered))]
     pub(crate) fn start(alloc: Global, seed: u64, companions: u32) -> Crowd
         requires { AreSome companions }
-        ensures { result ≡ crowds.gathered seed companions }
+        ensures crowd { result ≡ crowds.gathered seed companions }
+        ensures companions { result.companions ≡ companions }
     {
         let mut course = Course::start(seed);
         let fast = tune(&mut course, companions);

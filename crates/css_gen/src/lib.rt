@@ -8,6 +8,8 @@ mod generator;
 pub mod laws;
 mod opening;
 mod second;
+#[cfg(test)]
+mod second_tests;
 mod senders;
 #[cfg(test)]
 mod tests;

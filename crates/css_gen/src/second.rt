@@ -1,4 +1,4 @@
-ghost use Rattle.std.specs.Prelude.{◌≡◌, ◌≤◌, ◌+◌, IfOk, OnOk, OnErr};
+ghost use Rattle.std.specs.Prelude.{◌≡◌, ◌≤◌, ◌++◌, decimal, IfOk, OnOk, OnErr};
 ghost use Rattle.css_schedule.specs.Printed as printed;
 ghost use Rattle.css_gen.specs.Second as second;
 ghost use Rattle.css_gen.specs.Standing.{IsReady};
@@ -16,12 +16,19 @@ fn openings(companions: u32) -> u64
     u64::from(companions) + 4 + 5 * u64::from(companions)
 }
 
+/// Appends a number in decimal.
+fn push_count(text: &mut Text, count: u64) -> Result<(), Memory>
+    ensures { OnOk result (text.new ≡ text.old ++ decimal count) }
+{
+    text.push_number(i128::from(count))
+}
+
 /// Line 1.
-fn header_text(alloc: Global, companions: u32) -> Result<Text, Memory>
+fn header_text(alloc: Global, companions: u64) -> Result<Text, Memory>
     ensures { IfOk result (λ text. text ≡ second.second_header_text companions) }
 {
     let mut text = Text::of(alloc, b"css-schedule 2 follow 12800 -20 ")?;
-    text.push_number(i128::from(companions))?;
+    push_count(&mut text, companions)?;
     Ok(text)
 }
 
@@ -30,7 +37,7 @@ fn companion_text(alloc: Global, who: u64) -> Result<Text, Memory>
     ensures { IfOk result (λ text. text ≡ second.companion_text who) }
 {
     let mut text = Text::of(alloc, b"companion ")?;
-    text.push_number(i128::from(who))?;
+    push_count(&mut text, who)?;
     text.push(b" 12800 1000 urn:dvb:css:timeline:pts dvb://")?;
     Ok(text)
 }
@@ -71,7 +78,7 @@ pub(crate) fn second_text(alloc: Global, crowd: &mut Crowd, number: u64) -> Resu
 {
     let companions = u64::from(crowd.companions);
     if number == 1 {
-        header_text(alloc, crowd.companions)
+        header_text(alloc, companions)
     } else if number <= companions + 1 {
         companion_text(alloc, number - 1)
     } else if number <= openings(crowd.companions) {

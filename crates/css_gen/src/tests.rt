@@ -69,13 +69,17 @@ const LINES: [(u64, &str); 6] = [
 ];
 
 /// The next line, which there is.
-fn next(rt: &impl Abort, alloc: Global, generator: &mut Generator) -> Result<Text, Memory> {
+pub(crate) fn next(
+    rt: &impl Abort,
+    alloc: Global,
+    generator: &mut Generator,
+) -> Result<Text, Memory> {
     let text = generator.next_line(alloc)?;
     Ok(text.expect(rt, "there is a line more"))
 }
 
 /// Passes over so many lines.
-fn skip(alloc: Global, generator: &mut Generator, lines: u64) -> Result<(), Memory> {
+pub(crate) fn skip(alloc: Global, generator: &mut Generator, lines: u64) -> Result<(), Memory> {
     for _ in 0..lines {
         let _ = generator.next_line(alloc)?;
     }

@@ -7,6 +7,6 @@ pub returns : goal.returns
 returns c =
     c.in_ok-push.ensures.ok
     ∙ ap (λ (text : List ℕ). text ++ codes " 12800 1000 urn:dvb:css:timeline:pts dvb://")
-        (c.in_ok-push_number.ensures.ok
-        ∙ ap (λ (text : List ℕ). text ++ decimal c.args.who) c.in_ok-text.ensures)
+    (c.in_ok-push_count.ensures
+    ∙ ap (λ (text : List ℕ). text ++ decimal c.args.who) c.in_ok-text.ensures)
     ∙ companion_text-is c.args.who
