@@ -1,0 +1,150 @@
+-- A line is shown to the clocks, and its reading is taken: the lane of its companion alone is written.
+use Rattle.std.proofs.Common.{◌≡◌, ◌≢◌, ◌≤◌, ◌-◌, ◌==◌, ℕ, cond, List, ◌∷◌, length}
+use Rattle.std.proofs.Common.{arith, refl, ap, sym, subst, ◌∙◌}
+use Rattle.std.proofs.Common.{ne_eqb}
+use Rattle.std.specs.Prelude.{Some, Result, Ok, Err, slice_set, map}
+use Rattle.std.specs.Result.{result_and, result_map_both}
+use Rattle.css_moments.specs.Drifts.{verdict}
+use Rattle.css_moments.specs.Standing as drifts
+use Rattle.css_schedule.specs.declared.header.Header.{Header}
+use Rattle.css_world.specs.Clocks.{Seen, shown_at, told_by, told_with, broken_by, clock_verdict}
+use Rattle.css_world.specs.declared.fault.WorldFault.{WorldFault}
+use Rattle.css_world.specs.declared.lane.Lane.{Lane}
+use Rattle.css_world.specs.Happened.{Numbered}
+use Rattle.css_world.specs.Numbering.{stored}
+use Rattle.css_world.specs.Standing.{World, DriftsStand, KeepsEnds, KeepsReadings, KeepsDrifts}
+use Rattle.css_world.specs.Verdicts.{tv_seen, own_seen, seen_of_tv, seen_of, own_shown_tested, shown_tested, local_of}
+use Rattle.css_world.proofs.Numbers.{each_written, stored_within, set_part}
+use Rattle.css_world.proofs.Worlds.{seen_own, seen_other}
+
+-- ---- what is told of the clocks
+-- what the drift of an end tells, where its error is that of its oscillator
+pub clock_told : (error declared : ℕ) (earlier : List Seen) (now : Seen) (result : Result (Unit {0}) WorldFault)
+    → error ≡ declared
+    → result ≡ result_map_both (λ x. x) broken_by (verdict error (told_with now.woke (told_by earlier)) (shown_at now))
+    → result ≡ clock_verdict declared earlier now
+clock_told error declared earlier now result same is =
+    is ∙ ap (λ e. result_map_both (λ x. x) broken_by (verdict e (told_with now.woke (told_by earlier)) (shown_at now))) same
+
+-- where the wall clock is refused, so is the line
+pub wall_refused : (header : Header) (lines : List Numbered) (now : Numbered) (fault : WorldFault)
+    → Err fault ≡ clock_verdict header.tv_error (seen_of_tv lines) (tv_seen now)
+    → Err fault ≡ shown_tested header lines now
+wall_refused header lines now fault is =
+    ap (λ v. result_and v (own_shown_tested header lines now)) is
+
+-- where it isn't, and no companion takes part, the line isn't refused
+pub none_shown : (header : Header) (lines : List Numbered) (now : Numbered) → now.line.who ≡ 0
+    → Ok tt ≡ clock_verdict header.tv_error (seen_of_tv lines) (tv_seen now) → Ok tt ≡ shown_tested header lines now
+none_shown header lines now nobody wall =
+    let ok : Result (Unit {0}) WorldFault = Ok tt in
+    let none : own_shown_tested header lines now ≡ ok =
+    ap (λ who. cond (who == 0) ok
+    (clock_verdict (local_of who header).error (seen_of who lines) (own_seen now))) nobody in
+    sym none ∙ ap (λ v. result_and v (own_shown_tested header lines now)) wall
+
+-- where one does, its clock decides
+pub own_shown : (header : Header) (lines : List Numbered) (now : Numbered) (result : Result (Unit {0}) WorldFault)
+    → now.line.who ≢ 0 → Ok tt ≡ clock_verdict header.tv_error (seen_of_tv lines) (tv_seen now)
+    → result ≡ clock_verdict (local_of now.line.who header).error (seen_of now.line.who lines) (own_seen now)
+    → result ≡ shown_tested header lines now
+own_shown header lines now result somebody wall is =
+    is
+    ∙ sym (ap (λ b. cond b (Ok tt)
+    (clock_verdict (local_of now.line.who header).error (seen_of now.line.who lines) (own_seen now)))
+    (ne_eqb now.line.who 0 somebody))
+    ∙ ap (λ v. result_and v (own_shown_tested header lines now)) wall
+
+-- ---- what was written
+-- all drifts stand for the line too, where that of its companion does
+pub drifts_written : (old new : World) (lines : List Numbered) (now : Numbered) (lane : Lane) → DriftsStand old lines
+    → 1 ≤ now.line.who → now.line.who ≤ length old.lanes
+    → drifts.StandsFor new.tv.clock.drift (told_by (seen_of_tv (now ∷ lines)))
+    → new.lanes ≡ slice_set old.lanes (now.line.who - 1) lane
+    → drifts.StandsFor lane.clock.drift (told_by (own_seen now ∷ seen_of now.line.who lines))
+    → DriftsStand new (now ∷ lines)
+drifts_written old new lines now lane stand first within tv lanes own =
+    let who = now.line.who in record {
+      tv = tv;
+      own = λ n x found.
+          each_written (λ n x. drifts.StandsFor x.clock.drift (told_by (seen_of n (now ∷ lines)))) old.lanes who lane first
+          within
+          (λ n x differs at.
+          subst (λ (seen : List Seen). drifts.StandsFor x.clock.drift (told_by seen))
+          (sym (seen_other now lines n (λ same. differs (sym same)))) (stand.own n x at))
+          (subst (λ (seen : List Seen). drifts.StandsFor lane.clock.drift (told_by seen))
+          (sym (seen_own now lines who refl)) own)
+          n x (subst (λ (xs : List Lane). stored xs n ≡ Some x) lanes found);
+    }
+
+-- where no companion takes part, they do where the television's does
+pub drifts_untouched : (old new : World) (lines : List Numbered) (now : Numbered) → DriftsStand old lines
+    → now.line.who ≡ 0 → drifts.StandsFor new.tv.clock.drift (told_by (seen_of_tv (now ∷ lines)))
+    → new.lanes ≡ old.lanes → DriftsStand new (now ∷ lines)
+drifts_untouched old new lines now stand nobody tv lanes = record {
+  tv = tv;
+  own = λ n x found.
+      let at : stored old.lanes n ≡ Some x = subst (λ (xs : List Lane). stored xs n ≡ Some x) lanes found in
+      subst (λ (seen : List Seen). drifts.StandsFor x.clock.drift (told_by seen))
+      (sym (seen_other now lines n (apart n x at))) (stand.own n x at);
+}
+  where
+    apart : (n : ℕ) (x : Lane) → stored old.lanes n ≡ Some x → now.line.who ≢ n
+    apart n x at same =
+        let within = stored_within old.lanes n x at in
+        absurd (omega (arith, within.0, same, nobody))
+
+-- the ends are as before, where that lane keeps its companion and its sessions
+pub ends_kept : (now old new : World) (who : ℕ) (before after : Lane) → old ≡ now
+    → stored old.lanes who ≡ Some before → after.companion ≡ before.companion → after.cii ≡ before.cii
+    → after.ts ≡ before.ts → new.header ≡ old.header → new.tv.tv ≡ old.tv.tv
+    → new.tv.takes.items ≡ old.tv.takes.items → new.lanes ≡ slice_set old.lanes (who - 1) after
+    → new.requests ≡ old.requests → new.askers ≡ old.askers → new.taken_for ≡ old.taken_for
+    → new.datagrams ≡ old.datagrams → new.made_for ≡ old.made_for → KeepsEnds now new
+ends_kept now old new who before after view found companion cii ts header tv takes lanes requests askers taken_for
+    datagrams made_for = record {
+      header = header ∙ ap (λ (w : World). w.header) view;
+      tv = tv ∙ ap (λ (w : World). w.tv.tv) view;
+      takes = takes ∙ ap (λ (w : World). w.tv.takes.items) view;
+      companions = ap (map (λ (lane : Lane). lane.companion)) lanes
+          ∙ set_part (λ (lane : Lane). lane.companion) old.lanes who after before found companion
+          ∙ ap (λ (w : World). map (λ (lane : Lane). lane.companion) w.lanes) view;
+      cii = ap (map (λ (lane : Lane). lane.cii)) lanes
+          ∙ set_part (λ (lane : Lane). lane.cii) old.lanes who after before found cii
+          ∙ ap (λ (w : World). map (λ (lane : Lane). lane.cii) w.lanes) view;
+      ts = ap (map (λ (lane : Lane). lane.ts)) lanes
+          ∙ set_part (λ (lane : Lane). lane.ts) old.lanes who after before found ts
+          ∙ ap (λ (w : World). map (λ (lane : Lane). lane.ts) w.lanes) view;
+      requests = requests ∙ ap (λ (w : World). w.requests) view;
+      askers = askers ∙ ap (λ (w : World). w.askers) view;
+      taken_for = taken_for ∙ ap (λ (w : World). w.taken_for) view;
+      datagrams = datagrams ∙ ap (λ (w : World). w.datagrams) view;
+      made_for = made_for ∙ ap (λ (w : World). w.made_for) view;
+    }
+
+-- no reading is taken, where that lane keeps its last one
+pub readings_kept : (now old new : World) (who : ℕ) (before after : Lane) → old ≡ now
+    → stored old.lanes who ≡ Some before → after.clock.last ≡ before.clock.last
+    → after.clock.woken ≡ before.clock.woken → new.tv.clock.last ≡ old.tv.clock.last
+    → new.lanes ≡ slice_set old.lanes (who - 1) after → KeepsReadings now new
+readings_kept now old new who before after view found last woken tv lanes = record {
+  tv = tv ∙ ap (λ (w : World). w.tv.clock.last) view;
+  last = ap (map (λ (lane : Lane). lane.clock.last)) lanes
+      ∙ set_part (λ (lane : Lane). lane.clock.last) old.lanes who after before found last
+      ∙ ap (λ (w : World). map (λ (lane : Lane). lane.clock.last) w.lanes) view;
+  woken = ap (map (λ (lane : Lane). lane.clock.woken)) lanes
+      ∙ set_part (λ (lane : Lane). lane.clock.woken) old.lanes who after before found woken
+      ∙ ap (λ (w : World). map (λ (lane : Lane). lane.clock.woken) w.lanes) view;
+}
+
+-- no drift is told anything, where that lane keeps its own
+pub drifts_kept : (now old new : World) (who : ℕ) (before after : Lane) → old ≡ now
+    → stored old.lanes who ≡ Some before → after.clock.drift ≡ before.clock.drift
+    → new.tv.clock.drift ≡ old.tv.clock.drift
+    → new.lanes ≡ slice_set old.lanes (who - 1) after → KeepsDrifts now new
+drifts_kept now old new who before after view found drift tv lanes = record {
+  tv = tv ∙ ap (λ (w : World). w.tv.clock.drift) view;
+  own = ap (map (λ (lane : Lane). lane.clock.drift)) lanes
+      ∙ set_part (λ (lane : Lane). lane.clock.drift) old.lanes who after before found drift
+      ∙ ap (λ (w : World). map (λ (lane : Lane). lane.clock.drift) w.lanes) view;
+}

@@ -1,0 +1,33 @@
+-- Each turn makes one lane more.
+use Rattle.std.proofs.Common.{◌≤◌, ◌+◌, ◌++◌, ◌∷◌, [], List, length, arith, refl, sym, ap, subst, ◌∙◌}
+use Rattle.css_world.specs.declared.lane.Lane.{Lane}
+use Rattle.css_world.proofs.Fresh.{EachFresh, none_fresh, one_fresh, counts_more}
+use Rattle.css_world.proofs.lanes.Lanes.new.Goals as goal
+
+pub loop-companion-init : goal.loop-companion-init
+loop-companion-init c = record {
+  count = refl;
+  within = omega arith;
+  each = none_fresh c.args.companions.now;
+}
+
+pub loop-companion-preserved : goal.loop-companion-preserved
+loop-companion-preserved c =
+    let before = c.loop-companion.list.items in
+    let place = c.loop-companion.companion-index in
+    let declared = c.companion-item.result in
+    let lane : Lane = c.in_ok-lane.lane in
+    let so_far = c.loop-companion.invariant in
+    record {
+      count = ap (λ (xs : List Lane). length xs) c.in_ok-push.ensures.items
+          ∙ counts_more before lane place so_far.count;
+      within = omega (arith, c.loop-companion-test.true);
+      each = subst (EachFresh c.args.companions.now) (sym c.in_ok-push.ensures.items)
+          (one_fresh c.args.companions.now before place declared lane so_far.count c.loop-companion-test.true
+          c.companion-item.is c.in_ok-lane.ensures.ok so_far.each);
+    }
+
+pub returns-clause : goal.returns-clause
+returns-clause c =
+    let so_far = c.loop-companion.invariant in
+    record { count = omega (arith, so_far.count, so_far.within, c.loop-companion-test.false); each = so_far.each }
