@@ -35,3 +35,5 @@ pub mod Inside
 pub mod Written
 pub mod Showing
 pub mod Fresh
+pub mod Began
+pub mod Printing

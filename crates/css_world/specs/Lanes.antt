@@ -3,6 +3,7 @@ use Rattle.std.specs.Prelude.{◌≡◌, ◌≢◌, ◌≤◌, true, false, ℕ,
 use Rattle.std.specs.Prelude.{Result, Ok, Err, OnOk}
 use Rattle.css_num.specs.Gives.{GivesBy}
 use Rattle.css_model.specs.History.{Entry, History}
+use Rattle.css_model.specs.WallClock.{IsLocal}
 use Rattle.css_sessions.specs.declared.session.Kind.TheVariants as kind
 use Rattle.css_tv.specs.Stages.{Television as Tv}
 use Rattle.css_tv.specs.Standing as tvs
@@ -55,6 +56,7 @@ setup_by declared = record { stem = declared.stem; selector = declared.selector 
 
 -- a lane of a companion that did nothing yet, as its line declares it
 pub record IsFresh (declared : CompanionLine) (lane : Lane) : Type 0 where
+  pub local : IsLocal declared.local
   pub setup : lane.companion.setup ≡ setup_by declared
   pub own : companions.own_of lane.companion ≡ declared.local
   pub floor : lane.companion.client.floor ≡ 0
