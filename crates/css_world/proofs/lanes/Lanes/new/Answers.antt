@@ -7,7 +7,7 @@ use Rattle.css_world.proofs.lanes.Lanes.new.Goals as goal
 
 pub loop-companion-init : goal.loop-companion-init
 loop-companion-init c =
-    let empty : c.new-list.result.items ≡ [] = c.new-list.ensures.empty in
+    let empty : c.new-list.result.items ≡ [] = c.new-list.ensures.items in
     record {
       count = ap (λ (xs : List Lane). length xs) empty;
       within = omega arith;
