@@ -1,5 +1,5 @@
--- What a companion tells at a line is what the lines before it tell.
-use Rattle.std.proofs.Common.{◌≡◌, ℕ, ℤ, List, ap, ◌∙◌}
+-- What a companion tells at a line is what the lines before it tell; and what it may be asked.
+use Rattle.std.proofs.Common.{◌≡◌, ℕ, ℤ, List, refl, ap, subst, ◌∙◌}
 use Rattle.std.specs.Prelude.{Option, Some}
 use Rattle.css_num.specs.Spans.{Interval}
 use Rattle.css_model.specs.WallClock.{Local}
@@ -10,10 +10,11 @@ use Rattle.css_companion.specs.Meanings.{report_after, assigned_after}
 use Rattle.css_companion.specs.Standing as companions
 use Rattle.css_companion.specs.declared.report.Report.{Report}
 use Rattle.css_world.specs.declared.lane.Lane.{Lane}
+use Rattle.css_world.specs.Asked.{MayBeAsked}
 use Rattle.css_world.specs.Happened.{Numbered, history_of}
 use Rattle.css_world.specs.Lanes.{IsLaneOf}
 use Rattle.css_world.specs.Numbering.{stored}
-use Rattle.css_world.specs.Standing.{World, EndsStand}
+use Rattle.css_world.specs.Standing.{World, IsWorld, EndsStand}
 use Rattle.css_world.specs.Verdicts.{local_of, span_at, report_at, assigned_at}
 
 -- the companion of the lane stands for its own history
@@ -55,3 +56,12 @@ position_told world lines who lane wall told is found ends tells =
     let history = history_of who world.header lines in
     tells history (stood world lines who lane found ends)
     ∙ ap (λ (setup : Setup). assigned_after setup.selector history wall) is.setup
+
+-- ---- what it may be asked
+-- a companion of the world may be asked from the least next reading of its clock on
+pub may_be_asked : (now old : World) (who : ℕ) (lane : Lane) → old ≡ now → IsWorld old
+    → stored old.lanes who ≡ Some lane → MayBeAsked now who lane.companion
+may_be_asked now old who lane view was found =
+    let is : IsLaneOf old.header who lane = was.lanes who lane found in
+    subst (λ (w : World). MayBeAsked w who lane.companion) view
+    (record { lane = lane; is = found; same = refl; own = is.own; setup = is.setup; floor = is.floor })

@@ -1,7 +1,8 @@
 -- What the companion of the line tells of the wall clock is printed.
-use Rattle.std.proofs.Common.{◌≡◌, ◌++◌, sym, ap, subst, ◌∙◌}
+use Rattle.std.proofs.Common.{◌++◌, sym, ap, subst, ◌∙◌}
 use Rattle.css_world.specs.Printed.{wall_text}
-use Rattle.css_world.specs.Standing.{World, EndsStand, HasRead}
+use Rattle.css_world.specs.Standing.{World, EndsStand}
+use Rattle.css_world.specs.Verdicts.{span_at}
 use Rattle.css_world.proofs.Inside.{inside_of}
 use Rattle.css_world.proofs.Printing.{span_told}
 use Rattle.css_world.proofs.Written.{was_read, may_ask}
@@ -22,4 +23,6 @@ returns-clause-printed c = λ lines ends.
     let told = span_told old lines c.args.who lane c.args.reading c.wall.result
     (c.self.invariant.lanes c.args.who lane c.in-Some.ensures.some) c.in-Some.ensures.some
     (subst (λ (w : World). EndsStand w lines) (sym c.self.view_is) ends) c.wall.ensures.span in
-    ?
+    c.in_ok-print_wall.ensures.ok
+    ∙ ap (λ span. c.args.out.now.items ++ wall_text c.args.number span c.args.w)
+    (told ∙ ap (λ (w : World). span_at c.args.who w.header lines c.args.reading) c.self.view_is)
