@@ -2,14 +2,12 @@
 use Rattle.std.proofs.Common.{◌≡◌, ◌≢◌, ◌≤◌, ◌-◌, ◌==◌, ℕ, cond, List, ◌∷◌, length}
 use Rattle.std.proofs.Common.{arith, true, refl, ap, sym, subst, ◌∙◌}
 use Rattle.std.proofs.Common.{ne_eqb}
-use Rattle.std.specs.Prelude.{Some, Result, Ok, Err, slice_set, map}
+use Rattle.std.specs.Prelude.{Some, Result, Ok, Err, OnOk, slice_set, map}
 use Rattle.std.specs.Result.{result_and, result_map_both}
 use Rattle.css_moments.specs.Drifts.{verdict}
 use Rattle.css_moments.specs.Standing as drifts
 use Rattle.css_model.specs.Numbers.{precision_ns}
-use Rattle.css_schedule.specs.Ranges.{IsSecond}
 use Rattle.css_schedule.specs.declared.header.Header.{Header}
-use Rattle.css_schedule.specs.declared.line.Line.{Line}
 use Rattle.css_world.specs.Clocks.{least_next, Seen, shown_at, told_by, told_with, broken_by, clock_verdict}
 use Rattle.css_world.specs.declared.fault.WorldFault.{WorldFault}
 use Rattle.css_world.specs.declared.lane.Lane.{Lane}
@@ -71,13 +69,6 @@ still_clocked old new who lane clock was found header tv lanes is =
     still_world old new who (record lane { clock = clock }) was (record { first = within.0; within = within.1 }) header
     tv lanes is
 
--- a line's companion is one of the lanes, or none
-pub no_more : (now old : World) (line : Line) → IsWorld old → old ≡ now → IsSecond (length now.header.companions) line
-    → line.who ≤ length old.lanes
-no_more now old line was view of =
-    subst (λ n. line.who ≤ n) (sym was.count)
-    (subst (λ (w : World). line.who ≤ length w.header.companions) (sym view) of.who)
-
 -- ---- what is told of the clocks
 -- what the drift of an end tells, where its error is that of its oscillator
 pub clock_told : (error declared : ℕ) (earlier : List Seen) (now : Seen) (result : Result (Unit {0}) WorldFault)
@@ -137,6 +128,18 @@ drifts_written old new lines now lane stand first within tv lanes own =
           (sym (seen_own now lines who refl)) own)
           n x (subst (λ (xs : List Lane). stored xs n ≡ Some x) lanes found);
     }
+
+-- so it is where the drift of its companion tells whether it does
+pub drifts_after : (result : Result (Unit {0}) WorldFault) (old new : World) (lines : List Numbered) (now : Numbered)
+    (before after : Lane) → DriftsStand old lines → stored old.lanes now.line.who ≡ Some before
+    → drifts.StandsFor new.tv.clock.drift (told_by (seen_of_tv (now ∷ lines)))
+    → new.lanes ≡ slice_set old.lanes (now.line.who - 1) after
+    → OnOk result (drifts.StandsFor after.clock.drift (told_by (own_seen now ∷ seen_of now.line.who lines)))
+    → OnOk result (DriftsStand new (now ∷ lines))
+drifts_after (Ok x) old new lines now before after stand found tv lanes own =
+    let within = stored_within old.lanes now.line.who before found in
+    drifts_written old new lines now after stand within.0 within.1 tv lanes own
+drifts_after (Err fault) old new lines now before after stand found tv lanes own = tt
 
 -- where no companion takes part, they do where the television's does
 pub drifts_untouched : (old new : World) (lines : List Numbered) (now : Numbered) → DriftsStand old lines
