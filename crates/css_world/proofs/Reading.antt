@@ -1,7 +1,7 @@
 -- The reading at a line: what the clocks say of it, and what all lanes then know.
 use Rattle.std.proofs.Common.{◌≡◌, ◌≢◌, ◌≤◌, ◌<◌, ◌+◌, ◌-◌, ◌&&◌, ◌||◌, ℕ, Bool, true, false, List, ◌∷◌}
 use Rattle.std.proofs.Common.{arith, refl, ap, sym, subst, ◌∙◌, ◌⊎◌, inl, inr}
-use Rattle.std.specs.Prelude.{Option, Some, None, Result, Ok, Err, OnOk, OnErr, slice_set, is_none}
+use Rattle.std.specs.Prelude.{Option, Some, None, Result, Ok, Err, OnOk, OnErr, IfSome, slice_set, is_none}
 use Rattle.std.specs.Option.{option_map, option_or}
 use Rattle.std.specs.Result.{result_and}
 use Rattle.std.proofs.lemmas.Bool.Decides.{eqb_tells}
@@ -208,6 +208,7 @@ only old who before after lane found is =
     let within = stored_within old who before found in
     stored_same (slice_set old (who - 1) after) who after lane (set_there old who after within.0 within.1) is
 
+-- the companion's clock was read so
 pub has_read : (old new : World) (who number reading : ℕ) (before after : Lane) → stored old.lanes who ≡ Some before
     → new.lanes ≡ slice_set old.lanes (who - 1) after
     → after.clock.last ≡ Some (record { line = number; value = reading }) → after.clock.woken ≡ false
@@ -217,6 +218,14 @@ has_read old new who number reading before after found lanes last awake = λ lan
     (subst (λ (xs : List Lane). stored xs who ≡ Some lane) lanes at) in
     subst (λ (x : Lane). WasRead x reading) same (record { line = number; last = last; awake = awake })
 
+-- so it is of whatever reading the line's companion took
+pub reads_own : (own : Option ℕ) (reading : ℕ) (result : Result (Unit {0}) WorldFault) (new : World) (who : ℕ)
+    → own ≡ Some reading → OnOk result (HasRead new who reading)
+    → IfSome own (λ value. OnOk result (HasRead new who value))
+reads_own own reading result new who is read =
+    subst (λ o. IfSome o (λ value. OnOk result (HasRead new who value))) (sym is) read
+
+-- and of a sleep
 pub has_woken_now : (old new : World) (who : ℕ) (before after : Lane) → stored old.lanes who ≡ Some before
     → new.lanes ≡ slice_set old.lanes (who - 1) after → after.clock.woken ≡ true → HasWoken new who
 has_woken_now old new who before after found lanes woken = λ lane at.
