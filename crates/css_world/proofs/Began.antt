@@ -1,6 +1,6 @@
 -- A world before its first line.
-use Rattle.std.proofs.Common.{◌≡◌, ◌≤◌, ◌<◌, ◌-◌, ℕ, zero, suc, arith, refl, ap, sym, subst, ◌∙◌, List, [], length}
-use Rattle.std.proofs.Common.{true, false, FitsSigned}
+use Rattle.std.proofs.Common.{◌≡◌, ◌-◌, ℕ, zero, suc, arith, refl, ap, sym, subst, ◌∙◌, List, [], length}
+use Rattle.std.proofs.Common.{false, FitsSigned}
 use Rattle.std.specs.Prelude.{Option, Some, None, unwrap_or, slice_get}
 use Rattle.std.specs.Int.{w8}
 use Rattle.std.specs.Option.{option_map}
@@ -20,7 +20,7 @@ use Rattle.css_world.specs.declared.lane.Lane.{Lane}
 use Rattle.css_world.specs.declared.television.Television.{Television}
 use Rattle.css_world.specs.Flights.{Session, SessionStands, unopened}
 use Rattle.css_world.specs.Happened.{server_of}
-use Rattle.css_world.specs.Lanes.{IsFresh, AreFresh, IsLaneOf, LaneStands, setup_by}
+use Rattle.css_world.specs.Lanes.{IsFresh, AreFresh, IsLaneOf, setup_by}
 use Rattle.css_world.specs.Numbering.{stored, numbered}
 use Rattle.css_world.specs.Sessions.{addresses, setup_of, peer_of}
 use Rattle.css_world.specs.Standing.{World, IsWorld, EndsStand, StandsFor, AreStored}

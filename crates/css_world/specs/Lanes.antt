@@ -20,7 +20,6 @@ use Rattle.css_schedule.specs.declared.header.CompanionLine.{CompanionLine}
 use Rattle.css_tsmsg.specs.declared.setup.Setup.{Setup}
 use Rattle.css_schedule.specs.declared.header.Header.{Header}
 use Rattle.css_world.specs.declared.lane.Lane.{Lane}
-use Rattle.css_world.specs.declared.watch.Reading.{Reading}
 use Rattle.css_world.specs.Clocks.{least_next}
 use Rattle.css_world.specs.Numbering.{stored}
 use Rattle.css_world.specs.Sessions.{peer_of, setup_of}

@@ -119,8 +119,8 @@ impl World {
         self.carry_out(number, line, out)
     }
 
-    /// The companion with this number, counted from 1. It may be asked for a report at the last reading of its clock, or
-    /// above that where it slept since.
+    /// The companion with this number, counted from 1. It may be asked for a report at the last reading of its clock,
+    /// or above that where it slept since.
     pub fn companion(&self, number: u32) -> Option<&Companion>
         ensures some { IfSome result (λ companion. MayBeAsked self.now number companion.now) }
         ensures none { IfNone result (stored self.now.lanes number ≡ None) }

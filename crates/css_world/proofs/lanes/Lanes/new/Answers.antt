@@ -1,5 +1,5 @@
 -- Each turn makes one lane more.
-use Rattle.std.proofs.Common.{◌≡◌, ◌≤◌, ◌+◌, ◌++◌, ◌∷◌, [], List, length, arith, refl, sym, ap, subst, ◌∙◌}
+use Rattle.std.proofs.Common.{◌≡◌, [], List, length, arith, sym, ap, subst, ◌∙◌}
 use Rattle.css_schedule.specs.Ranges.{IsCompanion}
 use Rattle.css_world.specs.declared.lane.Lane.{Lane}
 use Rattle.css_world.proofs.Fresh.{EachFresh, none_fresh, one_fresh, counts_more}

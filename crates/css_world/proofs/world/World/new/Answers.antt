@@ -1,6 +1,5 @@
 -- Both ends did nothing yet, and nothing is stored.
-use Rattle.std.proofs.Common.{rules, ◌∙◌, subst, List, FitsSigned}
-use Rattle.std.specs.Int.{w8}
+use Rattle.std.proofs.Common.{rules, ◌∙◌, subst, List}
 use Rattle.css_schedule.specs.declared.header.CompanionLine.{CompanionLine}
 use Rattle.css_world.specs.Lanes.{AreFresh}
 use Rattle.css_world.specs.Standing.{kept_as}
