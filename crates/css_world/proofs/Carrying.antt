@@ -1,7 +1,7 @@
 -- What the ends do at a line: they stand for the lines with it.
-use Rattle.std.proofs.Common.{◌≡◌, ◌≢◌, ℕ, suc, ◌<◌, ◌≤◌, ◌/◌, ◌%◌, ◌^◌, arith, rules, Bool, true, false, not}
+use Rattle.std.proofs.Common.{◌≡◌, ◌≢◌, ℕ, suc, ◌-◌, ◌==◌, cond, append_assoc, ◌<◌, ◌≤◌, ◌/◌, ◌%◌, ◌^◌, arith, rules, Bool, true, false, not}
 use Rattle.std.proofs.Common.{List, [], ◌∷◌, ◌++◌, length, refl, ap, sym, subst, ◌∙◌, inl, inr, eq-eqb, ne_eqb}
-use Rattle.std.specs.Prelude.{◌&&◌, Option, Some, None, is_some, option_to_list, Ok}
+use Rattle.std.specs.Prelude.{◌&&◌, map, unwrap_or, slice_set, Option, Some, None, is_some, option_to_list, Ok}
 use Rattle.std.specs.Option.{option_map, option_flatten}
 use Rattle.std.specs.List.{AllByRecursion}
 use Rattle.std.proofs.lemmas.Bool.Decides.{eqb_tells}
@@ -10,7 +10,7 @@ use Rattle.css_model.specs.declared.Message.{Message}
 use Rattle.css_model.specs.declared.Why.TheVariants as why
 use Rattle.css_model.specs.Wire.{encoded, decoded, request_at, stamp_of}
 use Rattle.css_wc.proofs.Codec.{decoded-encoded}
-use Rattle.css_model.specs.History.{Clock, Sent, Took}
+use Rattle.css_model.specs.History.{History, Clock, Sent, Took}
 use Rattle.css_companion.specs.Standing as companions
 use Rattle.css_companion.specs.Standing.{Companion}
 use Rattle.css_tv.specs.Stages.{Stage, Television as Tv}
@@ -23,58 +23,151 @@ use Rattle.css_schedule.specs.declared.header.Header.{Header}
 use Rattle.css_schedule.specs.declared.line.Verb.{Verb}
 use Rattle.css_schedule.specs.declared.line.Verb.TheVariants.{Ask, Take, Give, Land}
 use Rattle.css_world.specs.declared.television.Television.{Television}
-use Rattle.css_world.specs.Happened.{Numbered, requests, tickets, ticket_at, datagrams, server_of}
-use Rattle.css_world.specs.Happened.{answers_to, is_given, peer, bytes_of, events_of, history_of}
+use Rattle.css_world.specs.Happened.{Numbered, requests, askers, tickets, ticket_at, taken_for, datagrams, made_for}
+use Rattle.css_world.specs.Happened.{server_of, answers_to, is_given, peer, bytes_of, done_by, events_of, history_of}
 use Rattle.css_world.specs.Numbering.{numbered}
-use Rattle.css_world.specs.Standing.{World, stored, spent, AreStored, request_bytes}
+use Rattle.css_world.specs.Numbering.{stored, spent}
+use Rattle.css_world.specs.Standing.{World, AreStored, request_bytes, owner}
 use Rattle.css_world.specs.Standing.{open_ticket, EndsStand, IsAnswerTo, Answers}
+use Rattle.css_world.specs.Lanes.{LaneStands, LanesStand}
+use Rattle.css_world.specs.Sessions.{peer_of}
+use Rattle.css_world.specs.Verdicts.{is_for}
+use Rattle.css_sessions.specs.declared.session.Kind.TheVariants as kind
+use Rattle.css_tv.specs.declared.event.TvEvent.{TvEvent}
 use Rattle.css_world.specs.Flights.{Session, SessionStands}
 use Rattle.css_world.specs.declared.lane.Lane.{Lane}
+use Rattle.css_world.proofs.Ends.{history_now, history_other}
+use Rattle.css_world.proofs.Numbers.{stored_same, set_there, set_others}
 use Rattle.css_world.proofs.Storing.{mapped_some, numbered_within, pushed, spent_stored}
 
--- a line of the one companion
-abbrev pub own_line : (number t w l : ℕ) → Verb → Numbered
-own_line number t w l verb = record { number = number; line = record { t = t; w = w; who = 1; l = l; verb = verb } }
+-- a line of companion `who`
+abbrev pub own_line : (number t w who l : ℕ) → Verb → Numbered
+own_line number t w who l verb =
+    record { number = number; line = record { t = t; w = w; who = who; l = l; verb = verb } }
 
--- a line of the one companion, by what happens there
-pub at_line : (world : World) (lines : List Numbered) (now : Numbered) (verb : Verb)
-    → now.line.who ≡ 1 → now.line.verb ≡ verb
-    → EndsStand world (own_line now.number now.line.t now.line.w now.line.l verb ∷ lines)
+-- a line of companion `who`, by what happens there
+pub at_line : (world : World) (lines : List Numbered) (now : Numbered) (who : ℕ) (verb : Verb)
+    → now.line.who ≡ who → now.line.verb ≡ verb
+    → EndsStand world (own_line now.number now.line.t now.line.w who now.line.l verb ∷ lines)
     → EndsStand world (now ∷ lines)
-at_line world lines now verb one is ends =
-    let said : EndsStand world (own_line now.number now.line.t now.line.w now.line.l now.line.verb ∷ lines) =
-    subst (λ (v : Verb). EndsStand world (own_line now.number now.line.t now.line.w now.line.l v ∷ lines))
+at_line world lines now who verb own is ends =
+    let said : EndsStand world (own_line now.number now.line.t now.line.w who now.line.l now.line.verb ∷ lines) =
+    subst (λ (v : Verb). EndsStand world (own_line now.number now.line.t now.line.w who now.line.l v ∷ lines))
     (sym is) ends in
-    subst (λ (who : ℕ). EndsStand world (record {
+    subst (λ (n : ℕ). EndsStand world (record {
       number = now.number;
-      line = record { t = now.line.t; w = now.line.w; who = who; l = now.line.l; verb = now.line.verb };
-    } ∷ lines)) (sym one) said
+      line = record { t = now.line.t; w = now.line.w; who = n; l = now.line.l; verb = now.line.verb };
+    } ∷ lines)) (sym own) said
+
+-- ---- lanes
+-- the histories of companions after lines
+abbrev pub histories : Header → List Numbered → ℕ → History
+histories header lines = λ who. history_of who header lines
+
+-- A verb that adds nothing to a history leaves all histories as they were, whosever line it is.
+pub unmoved : (header : Header) (lines : List Numbered) (number t w who l : ℕ) (verb : Verb)
+    → ((n : ℕ) → done_by header n (datagrams header lines) (events_of header lines) verb (history_of n header lines)
+    ≡ history_of n header lines)
+    → (n : ℕ) → history_of n header (own_line number t w who l verb ∷ lines) ≡ history_of n header lines
+unmoved header lines number t w who l verb still n = by (who == n)
+  where
+    by : (b : Bool) → cond b
+        (done_by header n (datagrams header lines) (events_of header lines) verb (history_of n header lines))
+        (history_of n header lines) ≡ history_of n header lines
+    by true = still n
+    by false = refl
+
+-- so all lanes stand for them, where they stand for what happened at the television
+pub all_lanes : (header : Header) (lines : List Numbered) (number t w who l : ℕ) (verb : Verb) (lanes : List Lane)
+    → ((n : ℕ) → done_by header n (datagrams header lines) (events_of header lines) verb (history_of n header lines)
+    ≡ history_of n header lines)
+    → LanesStand (events_of header (own_line number t w who l verb ∷ lines)) (histories header lines) lanes
+    → LanesStand (events_of header (own_line number t w who l verb ∷ lines))
+    (histories header (own_line number t w who l verb ∷ lines)) lanes
+all_lanes header lines number t w who l verb lanes still stand n lane found =
+    subst (λ (h : History). LaneStands n (events_of header (own_line number t w who l verb ∷ lines)) h lane)
+    (sym (unmoved header lines number t w who l verb still n)) (stand n lane found)
+
+-- At a line of companion `who` the lane of each other one stands for its own history of before.
+pub own_lanes : (header : Header) (lines : List Numbered) (number t w who l : ℕ) (verb : Verb) (lanes : List Lane)
+    → ((n : ℕ) (lane : Lane) → stored lanes n ≡ Some lane → n ≢ who
+    → LaneStands n (events_of header (own_line number t w who l verb ∷ lines)) (history_of n header lines) lane)
+    → ((lane : Lane) → stored lanes who ≡ Some lane
+    → LaneStands who (events_of header (own_line number t w who l verb ∷ lines))
+    (done_by header who (datagrams header lines) (events_of header lines) verb (history_of who header lines)) lane)
+    → LanesStand (events_of header (own_line number t w who l verb ∷ lines))
+    (histories header (own_line number t w who l verb ∷ lines)) lanes
+own_lanes header lines number t w who l verb lanes others own n lane found = elim (eqb_tells n who) [
+  | inl same ↦
+      let now = own_line number t w who l verb in
+      let here = own lane (subst (λ k. stored lanes k ≡ Some lane) same.1 found) in
+      subst (λ k. LaneStands k (events_of header (now ∷ lines)) (history_of k header (now ∷ lines)) lane) (sym same.1)
+      (subst (λ (h : History). LaneStands who (events_of header (now ∷ lines)) h lane)
+      (sym (history_now header now lines who refl)) here)
+  | inr differs ↦
+      let now = own_line number t w who l verb in
+      subst (λ (h : History). LaneStands n (events_of header (now ∷ lines)) h lane)
+      (sym (history_other header now lines n (λ same. differs.1 (sym same))))
+      (others n lane found differs.1)
+]
+
+-- where nothing happened at the television, one lane alone was touched
+pub one_lane : (header : Header) (lines : List Numbered) (number t w who l : ℕ) (verb : Verb) (lanes : List Lane)
+    (lane : Lane)
+    → events_of header (own_line number t w who l verb ∷ lines) ≡ events_of header lines → 1 ≤ who
+    → who ≤ length lanes
+    → LanesStand (events_of header lines) (histories header lines) lanes
+    → LaneStands who (events_of header lines)
+    (done_by header who (datagrams header lines) (events_of header lines) verb (history_of who header lines)) lane
+    → LanesStand (events_of header (own_line number t w who l verb ∷ lines))
+    (histories header (own_line number t w who l verb ∷ lines)) (slice_set lanes (who - 1) lane)
+one_lane header lines number t w who l verb lanes lane none first within stand here =
+    own_lanes header lines number t w who l verb (slice_set lanes (who - 1) lane)
+    (λ n other found differs.
+    subst (λ (es : List TvEvent). LaneStands n es (history_of n header lines) other) (sym none)
+    (stand n other (sym (set_others lanes who n lane first differs) ∙ found)))
+    (λ same found.
+    let is : lane ≡ same =
+    stored_same (slice_set lanes (who - 1) lane) who lane same (set_there lanes who lane first within) found in
+    subst (λ (es : List TvEvent). LaneStands who es
+    (done_by header who (datagrams header lines) (events_of header lines) verb (history_of who header lines)) same)
+    (sym none)
+    (subst (λ (x : Lane). LaneStands who (events_of header lines)
+    (done_by header who (datagrams header lines) (events_of header lines) verb (history_of who header lines)) x) is here))
 
 -- ---- a request
-pub asked : (old : World) (lines : List Numbered) (number t w l reading : ℕ)
-    (companion : Companion) (items : List (List ℕ))
-    → EndsStand old lines → reading < LIMIT
+pub asked : (old : World) (lines : List Numbered) (number t w who l reading : ℕ) (lane : Lane)
+    (companion : Companion) (items : List (List ℕ)) (owners : List ℕ)
+    → EndsStand old lines → 1 ≤ who → who ≤ length old.lanes → stored old.lanes who ≡ Some lane → reading < LIMIT
     → companions.StandsFor companion
-    (Sent peer (encoded (request_at reading)) ∷ Clock why.Ask reading ∷ history_of 1 old.header lines)
-    → items ≡ old.requests ++ encoded (request_at reading) ∷ []
+    (Sent peer (encoded (request_at reading)) ∷ Clock why.Ask reading ∷ history_of who old.header lines)
+    → items ≡ old.requests ++ encoded (request_at reading) ∷ [] → owners ≡ old.askers ++ who ∷ []
     → EndsStand (record old {
-      lane = record old.lane { companion = companion };
+      lanes = slice_set old.lanes (who - 1) (record lane { companion = companion });
       requests = items;
-    }) (own_line number t w l (Ask reading) ∷ lines)
-asked old lines number t w l reading companion items ends range stands put =
+      askers = owners;
+    }) (own_line number t w who l (Ask reading) ∷ lines)
+asked old lines number t w who l reading lane companion items owners ends first within found range stands put put_too =
+    let before = ends.lanes who lane found in
     let stored_after : AreStored request_bytes (old.requests ++ encoded (request_at reading) ∷ [])
     (reading ∷ requests lines) =
     pushed request_bytes old.requests (requests lines) reading (encoded (request_at reading)) ends.requests refl in
+    let owned_after : AreStored owner (old.askers ++ who ∷ []) (who ∷ askers lines) =
+    pushed owner old.askers (askers lines) who who ends.askers refl in
     record {
-      lane = record { companion = stands; cii = ends.lane.cii; ts = ends.lane.ts };
+      lanes = one_lane old.header lines number t w who l (Ask reading) old.lanes (record lane { companion = companion })
+          refl first within ends.lanes (record { companion = stands; cii = before.cii; ts = before.ts });
       stage = ends.stage;
       server = ends.server;
       in_range = (range, ends.in_range);
       none_ahead = ends.none_ahead;
       requests = subst (λ (kept : List (List ℕ)). AreStored request_bytes kept (reading ∷ requests lines))
           (sym put) stored_after;
+      askers = subst (λ (kept : List ℕ). AreStored owner kept (who ∷ askers lines)) (sym put_too) owned_after;
       takes = ends.takes;
+      taken_for = ends.taken_for;
       datagrams = ends.datagrams;
+      made_for = ends.made_for;
     }
 
 -- ---- a take
@@ -135,18 +228,24 @@ ticket_same server header older reading asked follow greatest =
     ap by_follow follow ∙ ap by_greatest greatest
 
 -- `take` leaves ends that stand for one line more
-pub taken : (old : World) (lines : List Numbered) (number t w l request reading asked : ℕ) (tv : Television)
+pub taken : (old : World) (lines : List Numbered) (number t w who l request reading asked asker : ℕ) (tv : Television)
+    (owners : List ℕ)
     → EndsStand old lines → numbered request (requests lines) ≡ Some asked
+    → numbered request (askers lines) ≡ Some asker
     → tv.tv.stage ≡ old.tv.tv.stage
     → servers.StandsFor tv.tv.server
     (ticket_at old.header (tickets old.header lines) reading asked ∷ tickets old.header lines)
     → tv.takes.items ≡ old.tv.takes.items ++ Some (ticket_at old.header (tickets old.header lines) reading asked) ∷ []
-    → EndsStand (record old { tv = tv }) (own_line number t w l (Take request reading) ∷ lines)
-taken old lines number t w l request reading asked tv ends sent same_stage stands put =
+    → owners ≡ old.taken_for ++ asker ∷ []
+    → EndsStand (record old { tv = tv; taken_for = owners }) (own_line number t w who l (Take request reading) ∷ lines)
+taken old lines number t w who l request reading asked asker tv owners ends sent whose same_stage stands put put_too =
     let before : List Ticket = tickets old.header lines in
     let ticket : Ticket = ticket_at old.header before reading asked in
-    let same : tickets old.header (own_line number t w l (Take request reading) ∷ lines) ≡ ticket ∷ before =
+    let now = own_line number t w who l (Take request reading) in
+    let same : tickets old.header (now ∷ lines) ≡ ticket ∷ before =
     ap (λ (o : Option ℕ). option_to_list (option_map (ticket_at old.header before reading) o) ++ before) sent in
+    let same_owners : taken_for (now ∷ lines) ≡ asker ∷ taken_for lines =
+    ap (λ (o : Option ℕ). option_to_list o ++ taken_for lines) whose in
     let not_given : is_given (suc (length before)) lines ≡ false =
     ends.none_ahead (suc (length before)) (omega arith) in
     let seen : Some ticket ≡ open_ticket lines (suc (length before)) ticket = rw not_given refl in
@@ -155,18 +254,24 @@ taken old lines number t w l request reading asked tv ends sent same_stage stand
     let stored_so : AreStored (open_ticket lines) tv.takes.items (ticket ∷ before) =
     subst (λ (kept : List (Option Ticket)). AreStored (open_ticket lines) kept (ticket ∷ before))
     (sym put) stored_after in
+    let owned_after : AreStored owner (old.taken_for ++ asker ∷ []) (asker ∷ taken_for lines) =
+    pushed owner old.taken_for (taken_for lines) asker asker ends.taken_for refl in
     let ahead : (take : ℕ) → suc (length before) < take → is_given take lines ≡ false =
     λ take above. ends.none_ahead take (omega arith) in
     record {
-      lane = record { companion = ends.lane.companion; cii = ends.lane.cii; ts = ends.lane.ts };
+      lanes = all_lanes old.header lines number t w who l (Take request reading) old.lanes (λ n. refl) ends.lanes;
       stage = subst (λ (stage : Stage). tvs.StandsFor stage (events_of old.header lines)) (sym same_stage) ends.stage;
       server = subst (λ (ts : List Ticket). servers.StandsFor tv.tv.server ts) (sym same) stands;
       in_range = ends.in_range;
       none_ahead =
           subst (λ (ts : List Ticket). (take : ℕ) → length ts < take → is_given take lines ≡ false) (sym same) ahead;
       requests = ends.requests;
+      askers = ends.askers;
       takes = subst (λ (ts : List Ticket). AreStored (open_ticket lines) tv.takes.items ts) (sym same) stored_so;
+      taken_for = subst (λ (xs : List ℕ). AreStored owner owners xs) (sym same_owners)
+          (subst (λ (kept : List ℕ). AreStored owner kept (asker ∷ taken_for lines)) (sym put_too) owned_after);
       datagrams = ends.datagrams;
+      made_for = ends.made_for;
     }
 
 -- ---- an answer
@@ -251,6 +356,16 @@ answered_is server reading (Some ticket) (Some a) answered is e =
     let same : a ≡ answered = cc in
     (ticket, refl, subst (λ (x : Answered). IsAnswerTo server ticket reading x) same is)
 
+-- the companion of an answer, once for each of its datagrams, the oldest first
+abbrev pub owners_of : ℕ → Option Message → List ℕ
+owners_of asker None = asker ∷ []
+owners_of asker (Some follow_up) = asker ∷ asker ∷ []
+
+-- a companion is stored as itself
+pub owner_stored : (o : Option ℕ) (number who : ℕ) → option_map (owner number) o ≡ Some who → o ≡ Some who
+owner_stored None number who is = absurd (cc)
+owner_stored (Some x) number who is = is
+
 -- a response with no follow-up is stored
 pub alone_made : (header : Header) (ticket : Ticket) (reading : ℕ) (answered : Answered)
     (items made : List (List ℕ)) (older : List Message)
@@ -281,18 +396,47 @@ both_made header ticket reading answered bytes items first made older is some pu
     (both_stored items older response (follow_up_for (server_of header) ticket reading) bytes
     (sym some ∙ is.follow_up) are)
 
+-- the companions of the datagrams of an answer are stored, once for each of them
+owners_stored : (items : List ℕ) (older : List ℕ) (asker : ℕ) (response : Message) (follow_up : Option Message)
+    → AreStored owner items older
+    → AreStored owner (items ++ owners_of asker follow_up)
+    (map (λ (m : Message). asker) (option_to_list follow_up ++ response ∷ []) ++ older)
+owners_stored items older asker response None are = pushed owner items older asker asker are refl
+owners_stored items older asker response (Some message) are =
+    subst (λ (kept : List ℕ). AreStored owner kept (asker ∷ asker ∷ older)) (append_assoc items (asker ∷ []) (asker ∷ []))
+    (pushed owner (items ++ asker ∷ []) (asker ∷ older) asker asker (pushed owner items older asker asker are refl) refl)
+
+-- of a response with no follow-up there is one
+pub alone_owned : (asker : ℕ) (bytes : Option (List ℕ)) (follow_up : Option Message) (items made : List ℕ)
+    → bytes ≡ option_map encoded follow_up → bytes ≡ None → made ≡ items ++ asker ∷ []
+    → made ≡ items ++ owners_of asker follow_up
+alone_owned asker bytes None items made is none put = put
+alone_owned asker bytes (Some message) items made is none put = absurd (cc)
+
+-- and of one with its follow-up there are two
+pub both_owned : (asker : ℕ) (bytes : Option (List ℕ)) (sent : List ℕ) (follow_up : Option Message)
+    (items first made : List ℕ)
+    → bytes ≡ option_map encoded follow_up → bytes ≡ Some sent → first ≡ items ++ asker ∷ []
+    → made ≡ first ++ asker ∷ [] → made ≡ items ++ owners_of asker follow_up
+both_owned asker bytes sent None items first made is some put put_too = absurd (cc)
+both_owned asker bytes sent (Some message) items first made is some put put_too =
+    put_too ∙ ap (λ (xs : List ℕ). xs ++ asker ∷ []) put ∙ append_assoc items (asker ∷ []) (asker ∷ [])
+
 -- so does `give`
-pub given : (old : World) (lines : List Numbered) (number t w l take reading : ℕ) (ticket : Ticket)
-    (tv : Television) (made : List (List ℕ))
+pub given : (old : World) (lines : List Numbered) (number t w who l take reading asker : ℕ) (ticket : Ticket)
+    (tv : Television) (made : List (List ℕ)) (owners : List ℕ)
     → EndsStand old lines → option_flatten (stored old.tv.takes.items take) ≡ Some ticket
+    → stored old.taken_for take ≡ Some asker
     → tv.tv ≡ old.tv.tv → tv.takes.items ≡ spent old.tv.takes.items take
     → AreStored (λ number. encoded) made
     (answers_to (server_of old.header) reading (Some ticket) ++ datagrams old.header lines)
+    → owners ≡ old.made_for ++ owners_of asker (follow_up_for (server_of old.header) ticket reading)
     → ((is_some (numbered take (tickets old.header lines)) && not (is_given take lines)) ≡ true)
-    × EndsStand (record old { tv = tv; datagrams = made }) (own_line number t w l (Give take reading) ∷ lines)
-given old lines number t w l take reading ticket tv made ends found same_tv put are =
+    × EndsStand (record old { tv = tv; datagrams = made; made_for = owners })
+    (own_line number t w who l (Give take reading) ∷ lines)
+given old lines number t w who l take reading asker ticket tv made owners ends found whose same_tv put are put_too =
     let before : List Ticket = tickets old.header lines in
-    let now : Numbered = own_line number t w l (Give take reading) in
+    let now : Numbered = own_line number t w who l (Give take reading) in
     let was_open : (numbered take before ≡ Some ticket) × (is_given take lines ≡ false) =
     open_is lines take (numbered take before) ticket (ap option_flatten (sym (ends.takes.each take)) ∙ found) in
     let was_taken : numbered take before ≡ Some ticket = was_open.0 in
@@ -301,55 +445,84 @@ given old lines number t w l take reading ticket tv made ends found same_tv put 
     let same_made : datagrams old.header (now ∷ lines) ≡ answers_to (server_of old.header) reading (Some ticket)
     ++ datagrams old.header lines =
     ap (λ (o : Option Ticket). answers_to (server_of old.header) reading o ++ datagrams old.header lines) was_taken in
+    let asked_for = owner_stored (numbered take (taken_for lines)) take asker (sym (ends.taken_for.each take) ∙ whose) in
+    let same_owners : made_for old.header (now ∷ lines)
+    ≡ map (λ (m : Message). asker) (answers_to (server_of old.header) reading (Some ticket)) ++ made_for old.header lines =
+    ap (λ (o : Option Ticket). map (λ (m : Message). unwrap_or (numbered take (taken_for lines)) 0)
+    (answers_to (server_of old.header) reading o) ++ made_for old.header lines) was_taken
+    ∙ ap (λ (o : Option ℕ). map (λ (m : Message). unwrap_or o 0)
+    (answers_to (server_of old.header) reading (Some ticket)) ++ made_for old.header lines) asked_for in
     let gone : (item : Ticket) → open_ticket (now ∷ lines) take item ≡ None = λ item. rw (eq-eqb take take refl) refl in
     let rest : (other : ℕ) (item : Ticket) → take ≢ other
     → open_ticket (now ∷ lines) other item ≡ open_ticket lines other item =
     λ other item differs. rw (ne_eqb take other differs) refl in
     let within : take ≤ length before = numbered_within take before ticket was_taken in
     let ahead : (n : ℕ) → length before < n → is_given n (now ∷ lines) ≡ false = λ n above.
-    let differs : take ≢ n = omega arith in rw (ne_eqb take n differs) (ends.none_ahead n above) in (
+    let differs : take ≢ n = omega arith in rw (ne_eqb take n differs) (ends.none_ahead n above) in
+    let owned : AreStored owner (old.made_for ++ owners_of asker (follow_up_for (server_of old.header) ticket reading))
+    (map (λ (m : Message). asker) (answers_to (server_of old.header) reading (Some ticket)) ++ made_for old.header lines) =
+    owners_stored old.made_for (made_for old.header lines) asker (response_to (server_of old.header) ticket reading)
+    (follow_up_for (server_of old.header) ticket reading) ends.made_for in (
       can,
       record {
-        lane = record { companion = ends.lane.companion; cii = ends.lane.cii; ts = ends.lane.ts };
+        lanes = all_lanes old.header lines number t w who l (Give take reading) old.lanes (λ n. refl) ends.lanes;
         stage = subst (λ (tv : Tv). tvs.StandsFor tv.stage (events_of old.header lines)) (sym same_tv) ends.stage;
         server = subst (λ (tv : Tv). servers.StandsFor tv.server before) (sym same_tv) ends.server;
         in_range = ends.in_range;
         none_ahead = ahead;
         requests = ends.requests;
+        askers = ends.askers;
         takes = subst (λ (kept : List (Option Ticket)). AreStored (open_ticket (now ∷ lines)) kept before) (sym put)
             (spent_stored (open_ticket lines)
             (open_ticket (now ∷ lines)) old.tv.takes.items before take gone rest ends.takes);
+        taken_for = ends.taken_for;
         datagrams = subst (λ (ms : List Message). AreDatagrams made ms) (sym same_made) are;
+        made_for = subst (λ (xs : List ℕ). AreStored owner owners xs) (sym same_owners)
+            (subst (λ (kept : List ℕ). AreStored owner kept (map (λ (m : Message). asker)
+            (answers_to (server_of old.header) reading (Some ticket)) ++ made_for old.header lines)) (sym put_too) owned);
       },
     )
 
 -- ---- a landing
-pub landed : (old : World) (lines : List Numbered) (number t w l datagram reading : ℕ) (bytes : List ℕ) (lane : Lane)
-    → EndsStand old lines → stored old.datagrams datagram ≡ Some bytes
-    → companions.StandsFor lane.companion (Clock why.Land reading ∷ Took peer bytes ∷ history_of 1 old.header lines)
-    → lane.cii ≡ old.lane.cii → lane.ts ≡ old.lane.ts
-    → (is_some (numbered datagram (datagrams old.header lines)) ≡ true)
-    × EndsStand (record old { lane = lane }) (own_line number t w l (Land datagram reading) ∷ lines)
-landed old lines number t w l datagram reading bytes lane ends found stands same_cii same_ts =
+pub landed : (old : World) (lines : List Numbered) (number t w who l datagram reading : ℕ) (bytes : List ℕ)
+    (before lane : Lane)
+    → EndsStand old lines → 1 ≤ who → who ≤ length old.lanes → stored old.lanes who ≡ Some before
+    → stored old.datagrams datagram ≡ Some bytes → stored old.made_for datagram ≡ Some who
+    → companions.StandsFor lane.companion (Clock why.Land reading ∷ Took peer bytes ∷ history_of who old.header lines)
+    → lane.cii ≡ before.cii → lane.ts ≡ before.ts
+    → (is_for who (numbered datagram (made_for old.header lines)) ≡ true)
+    × EndsStand (record old { lanes = slice_set old.lanes (who - 1) lane })
+    (own_line number t w who l (Land datagram reading) ∷ lines)
+landed old lines number t w who l datagram reading bytes before lane ends first within is_lane found whose stands same_cii
+    same_ts =
     let made : List Message = datagrams old.header lines in
-    let own = history_of 1 old.header lines in
+    let events = events_of old.header lines in
+    let own = history_of who old.header lines in
+    let was = ends.lanes who before is_lane in
     let came = mapped_some encoded (numbered datagram made) bytes (sym (ends.datagrams.each datagram) ∙ found) in
-    let same : bytes_of (numbered datagram made) ≡ bytes = ap bytes_of came.1 ∙ came.2 in (
-      ap is_some came.1,
+    let same : bytes_of (numbered datagram made) ≡ bytes = ap bytes_of came.1 ∙ came.2 in
+    let mine = owner_stored (numbered datagram (made_for old.header lines)) datagram who
+    (sym (ends.made_for.each datagram) ∙ whose) in
+    let stand : LaneStands who events (Clock why.Land reading ∷ Took peer (bytes_of (numbered datagram made)) ∷ own) lane =
+    record {
+      companion = subst (λ (b : List ℕ). companions.StandsFor lane.companion (Clock why.Land reading ∷ Took peer b ∷ own))
+          (sym same) stands;
+      cii = subst (λ (s : Session). SessionStands (peer_of who kind.Cii) events own s) (sym same_cii) was.cii;
+      ts = subst (λ (s : Session). SessionStands (peer_of who kind.Ts) events own s) (sym same_ts) was.ts;
+    } in (
+      ap (is_for who) mine ∙ eq-eqb who who refl,
       record {
-        lane = record {
-          companion = subst (λ (b : List ℕ). companions.StandsFor lane.companion
-              (Clock why.Land reading ∷ Took peer b ∷ own)) (sym same) stands;
-          cii =
-              subst (λ (s : Session). SessionStands 1 (events_of old.header lines) own s) (sym same_cii) ends.lane.cii;
-          ts = subst (λ (s : Session). SessionStands 2 (events_of old.header lines) own s) (sym same_ts) ends.lane.ts;
-        };
+        lanes = one_lane old.header lines number t w who l (Land datagram reading) old.lanes lane refl first within
+            ends.lanes stand;
         stage = ends.stage;
         server = ends.server;
         in_range = ends.in_range;
         none_ahead = ends.none_ahead;
         requests = ends.requests;
+        askers = ends.askers;
         takes = ends.takes;
+        taken_for = ends.taken_for;
         datagrams = ends.datagrams;
+        made_for = ends.made_for;
       },
     )

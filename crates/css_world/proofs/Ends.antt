@@ -1,5 +1,6 @@
 -- What both ends did at accepted lines, by their last line.
-use Rattle.std.proofs.Common.{◌≡◌, refl, ap, subst, sym, Bool, true, false, cond, List, [], ◌∷◌, ◌++◌}
+use Rattle.std.proofs.Common.{◌≡◌, ◌≢◌, ◌≤◌, ℕ, refl, ap, subst, sym, Bool, true, false, cond, List, [], ◌∷◌, ◌++◌}
+use Rattle.std.proofs.Common.{length, ne_eqb}
 use Rattle.std.specs.Prelude.{Result, Ok, Err}
 use Rattle.std.specs.Option.{option_to_list}
 use Rattle.std.specs.Result.{result_and}
@@ -17,25 +18,34 @@ use Rattle.css_world.specs.Verdicts.{carried_out}
 use Rattle.css_world.specs.Standing.{AreAccepted}
 
 -- ---- one line more
--- the television's events after a verb of companion 1
-abbrev pub events_with : List TvEvent → History → Verb → List TvEvent
-events_with events own verb = option_to_list (event_by 1 events own verb) ++ events
+-- the television's events after a verb of companion `who`
+abbrev pub events_with : ℕ → List TvEvent → History → Verb → List TvEvent
+events_with who events own verb = option_to_list (event_by who events own verb) ++ events
 
 -- so they are after a line
-pub events_now : (header : Header) (now : Numbered) (older : List Numbered) → now.line.who ≡ 1
-    → events_of header (now ∷ older) ≡ events_with (events_of header older) (history_of 1 header older) now.line.verb
-events_now header now older one =
+pub events_now : (header : Header) (now : Numbered) (older : List Numbered) (who : ℕ) → now.line.who ≡ who
+    → events_of header (now ∷ older)
+    ≡ events_with who (events_of header older) (history_of who header older) now.line.verb
+events_now header now older who is =
     let events = events_of header older in
-    ap (λ who. option_to_list (event_by who events (history_of who header older) now.line.verb) ++ events) one
+    ap (λ who. option_to_list (event_by who events (history_of who header older) now.line.verb) ++ events) is
 
--- the history of companion 1 after a line of its own
-pub history_now : (header : Header) (now : Numbered) (older : List Numbered) → now.line.who ≡ 1
-    → history_of 1 header (now ∷ older)
-    ≡ done_by header 1 (datagrams header older) (events_of header older) now.line.verb (history_of 1 header older)
-history_now header now older one =
-    let own = history_of 1 header older in
-    let done = done_by header 1 (datagrams header older) (events_of header older) now.line.verb own in
-    ap (λ b. cond b done own) (eq-eqb now.line.who 1 one)
+-- the history of a companion after a line of its own
+pub history_now : (header : Header) (now : Numbered) (older : List Numbered) (who : ℕ) → now.line.who ≡ who
+    → history_of who header (now ∷ older)
+    ≡ done_by header who (datagrams header older) (events_of header older) now.line.verb (history_of who header older)
+history_now header now older who is =
+    let own = history_of who header older in
+    let done = done_by header who (datagrams header older) (events_of header older) now.line.verb own in
+    ap (λ b. cond b done own) (eq-eqb now.line.who who is)
+
+-- and after one of another companion
+pub history_other : (header : Header) (now : Numbered) (older : List Numbered) (who : ℕ) → now.line.who ≢ who
+    → history_of who header (now ∷ older) ≡ history_of who header older
+history_other header now older who other =
+    let own = history_of who header older in
+    let done = done_by header who (datagrams header older) (events_of header older) now.line.verb own in
+    ap (λ b. cond b done own) (ne_eqb now.line.who who other)
 
 -- ---- what is accepted
 -- where both are Ok, so is the second
@@ -48,34 +58,20 @@ then_ok : {A E : Type 0} (b : Bool) (r : Result A E) (f : E) (y : A) → cond b 
 then_ok true r f y e = refl
 then_ok false r f y e = absurd (cc)
 
--- what an accepted line of companion 1 says can happen between the ends
+-- what an accepted line says can happen between the ends
 pub can_talk_now : (header : Header) (now : Numbered) (older : List Numbered) → AreAccepted header (now ∷ older)
-    → can_talk 1 (events_of header older) (history_of 1 header older) now.line.verb ≡ true
+    → can_talk now.line.who (events_of header older) (history_of now.line.who header older) now.line.verb ≡ true
 can_talk_now header now older accepted =
     let carried = second_ok (tested header older now) (carried_out header older now) accepted.3.0 accepted.3.1 in
-    let can : can_happen header older now.line.who now.line.verb ≡ true =
-    then_ok (can_happen header older now.line.who now.line.verb) _ Absent accepted.3.0 carried in
-    let own : can_happen header older 1 now.line.verb ≡ true =
-    subst (λ who. can_happen header older who now.line.verb ≡ true) accepted.1 can in
-    (and_parts (can_exchange header older now.line.verb)
-    (can_talk 1 (events_of header older) (history_of 1 header older) now.line.verb) own).1
+    let who = now.line.who in
+    let can : can_happen header older who now.line.verb ≡ true =
+    then_ok (can_happen header older who now.line.verb) _ Absent accepted.3.0 carried in
+    (and_parts (can_exchange header older who now.line.verb)
+    (can_talk who (events_of header older) (history_of who header older) now.line.verb) can).1
 
 -- ---- all lines
--- what each verb keeps that can happen
-abbrev pub IsKeptBy : Header → (List TvEvent → History → Type 0) → Type 0
-IsKeptBy header P = (made : List Message) (verb : Verb) (events : List TvEvent) (own : History)
-    → IsVerb verb → can_talk 1 events own verb ≡ true → P events own
-    → P (events_with events own verb) (done_by header 1 made events verb own)
-
--- What holds at the start and is kept by each verb holds of both ends after accepted lines.
-pub each_end : (header : Header) (P : List TvEvent → History → Type 0) → P [] [] → IsKeptBy header P
-    → (lines : List Numbered) → AreAccepted header lines → P (events_of header lines) (history_of 1 header lines)
-each_end header P start kept [] accepted = start
-each_end header P start kept (now ∷ older) accepted =
-    let events = events_of header older in
-    let own = history_of 1 header older in
-    subst (λ (h : History). P (events_of header (now ∷ older)) h) (sym (history_now header now older accepted.1))
-    (subst (λ (es : List TvEvent). P es (done_by header 1 (datagrams header older) events now.line.verb own))
-    (sym (events_now header now older accepted.1))
-    (kept (datagrams header older) now.line.verb events own accepted.0.verb (can_talk_now header now older accepted)
-    (each_end header P start kept older accepted.4)))
+-- what each verb of companion `who` keeps that can happen
+abbrev pub IsKeptByVerbs : Header → ℕ → (List TvEvent → History → Type 0) → Type 0
+IsKeptByVerbs header who P = (made : List Message) (verb : Verb) (events : List TvEvent) (own : History)
+    → IsVerb verb → can_talk who events own verb ≡ true → P events own
+    → P (events_with who events own verb) (done_by header who made events verb own)

@@ -1,7 +1,7 @@
 -- A line that was carried out is one more that the world stands for.
 use Rattle.std.proofs.Common.{◌≡◌, ℕ, Bool, true, false, cond, List, [], ◌∷◌, ◌++◌}
 use Rattle.std.proofs.Common.{append-nil, refl, ap, sym, subst, ◌∙◌, inl, inr}
-use Rattle.std.specs.Prelude.{Option, Result, Ok, Err, OnOk, OnErr}
+use Rattle.std.specs.Prelude.{Option, Some, length, Result, Ok, Err, OnOk, OnErr}
 use Rattle.std.specs.Result.{result_and}
 use Rattle.css_server.specs.Tickets.{Ticket}
 use Rattle.css_server.specs.Exchanges as servers
@@ -15,60 +15,84 @@ use Rattle.css_companion.specs.Standing as companions
 use Rattle.css_companion.specs.Standing.{Companion}
 use Rattle.css_schedule.specs.declared.header.Header.{Header}
 use Rattle.css_schedule.specs.declared.line.Verb.{Verb}
-use Rattle.css_schedule.specs.Ranges.{IsLine}
+use Rattle.css_schedule.specs.Ranges.{IsLine, IsSecond}
+use Rattle.css_sessions.specs.declared.session.Kind.TheVariants as kind
 use Rattle.css_world.specs.declared.fault.WorldFault.{WorldFault}
 use Rattle.css_world.specs.declared.fault.WorldFault.TheVariants.{Absent, Memory}
 use Rattle.css_world.specs.declared.watch.Watch.{Watch}
 use Rattle.css_world.specs.Clocks.{told_by}
-use Rattle.css_world.specs.Happened.{Numbered, requests, tickets, datagrams, events_of, history_of}
+use Rattle.css_world.specs.declared.lane.Lane.{Lane}
+use Rattle.css_world.specs.Numbering.{stored}
+use Rattle.css_world.specs.Sessions.{peer_of}
+use Rattle.css_world.specs.Happened.{Numbered, requests, askers, tickets, taken_for, datagrams, made_for, events_of}
+use Rattle.css_world.specs.Happened.{history_of}
+use Rattle.css_world.proofs.Numbers.{stored_same, part_kept, parts_kept}
 use Rattle.css_world.specs.Verdicts.{IsDeclared, seen_of_tv, seen_of, shown_tested, reading_tested}
 use Rattle.css_world.specs.Verdicts.{can_happen, event_at, played, printed_for, carried_out, line_meant}
 use Rattle.css_world.specs.Flights.{Session, SessionStands}
 use Rattle.css_world.specs.Truth.{TellsTruth}
 use Rattle.css_world.proofs.Truth.{accepted_lines_are_true}
-use Rattle.css_world.specs.Standing.{World, AreStored, request_bytes, open_ticket, EndsStand, IsReady, DriftsStand}
+use Rattle.css_world.specs.Standing.{World, AreStored, request_bytes, owner, open_ticket, EndsStand, IsReady, DriftsStand}
 use Rattle.css_world.specs.Standing.{ReadingsStand, AreAccepted, StandsFor, carried, Carries, CarriesOut}
 use Rattle.css_world.specs.Standing.{PrintsFor, Prints, KeepsEnds, KeepsClocks, KeepsReadings, KeepsDrifts}
 use Rattle.css_world.specs.Standing.{ShowsBy, ShownTo, ReadsBy, ReadTo, Means, GoesOn, appended}
 
 -- ---- what isn't touched
+-- each lane keeps its companion and its sessions
+lane_kept : (old new : World) (n : ℕ) (lane : Lane) → KeepsEnds old new → stored new.lanes n ≡ Some lane
+    → (before : Lane) × (stored old.lanes n ≡ Some before) × (before.companion ≡ lane.companion)
+    × (before.cii ≡ lane.cii) × (before.ts ≡ lane.ts)
+lane_kept old new n lane kept found =
+    let one = parts_kept (λ (x : Lane). x.companion) (λ (x : Lane). x.cii) old.lanes new.lanes n lane kept.companions
+    kept.cii found in
+    let two = part_kept (λ (x : Lane). x.ts) old.lanes new.lanes n lane kept.ts found in
+    let same : two.0 ≡ one.0 = stored_same old.lanes n two.0 one.0 two.1 one.1 in
+    (one.0, one.1, one.2, one.3, subst (λ (x : Lane). x.ts ≡ lane.ts) same two.2)
+
 -- the ends stand for the same lines
 pub keeps_ends : (old new : World) (lines : List Numbered) → KeepsEnds old new
     → EndsStand old lines → EndsStand new lines
 keeps_ends old new lines kept ends =
     let events = events_of old.header lines in
-    let own = history_of 1 old.header lines in
     let parts : EndsStand (record new { header = old.header }) lines = record {
-      lane = record {
-        companion = subst (λ (c : Companion). companions.StandsFor c own) (sym kept.companion) ends.lane.companion;
-        cii = subst (λ (s : Session). SessionStands 1 events own s) (sym kept.cii) ends.lane.cii;
-        ts = subst (λ (s : Session). SessionStands 2 events own s) (sym kept.ts) ends.lane.ts;
-      };
+      lanes = λ n lane found.
+          let was = lane_kept old new n lane kept found in
+          let own = history_of n old.header lines in
+          let before = ends.lanes n was.0 was.1 in
+          record {
+            companion = subst (λ (c : Companion). companions.StandsFor c own) was.2 before.companion;
+            cii = subst (λ (s : Session). SessionStands (peer_of n kind.Cii) events own s) was.3 before.cii;
+            ts = subst (λ (s : Session). SessionStands (peer_of n kind.Ts) events own s) was.4 before.ts;
+          };
       stage = subst (λ (tv : Tv). tvs.StandsFor tv.stage events) (sym kept.tv) ends.stage;
       server = subst (λ (tv : Tv). servers.StandsFor tv.server (tickets old.header lines)) (sym kept.tv) ends.server;
       in_range = ends.in_range;
       none_ahead = ends.none_ahead;
       requests = subst (λ (items : List (List ℕ)). AreStored request_bytes items (requests lines))
           (sym kept.requests) ends.requests;
+      askers = subst (λ (items : List ℕ). AreStored owner items (askers lines)) (sym kept.askers) ends.askers;
       takes = subst (λ (items : List (Option Ticket)). AreStored (open_ticket lines) items (tickets old.header lines))
           (sym kept.takes) ends.takes;
+      taken_for = subst (λ (items : List ℕ). AreStored owner items (taken_for lines)) (sym kept.taken_for) ends.taken_for;
       datagrams = subst (λ (items : List (List ℕ)). AreStored (λ number. encoded) items (datagrams old.header lines))
           (sym kept.datagrams) ends.datagrams;
+      made_for = subst (λ (items : List ℕ). AreStored owner items (made_for old.header lines)) (sym kept.made_for)
+          ends.made_for;
     } in
     subst (λ (h : Header). EndsStand (record new { header = h }) lines) (sym kept.header) parts
 
 -- ---- what is answered
--- what is carried out at a line of companion 1, by whether it can be and what is printed
-carried-out : (header : Header) (lines : List Numbered) (now : Numbered) (verb : Verb)
-    → now.line.who ≡ 1 → now.line.verb ≡ verb
-    → carried_out header lines now ≡ result_and (carried header lines verb) (Ok (printed_for header lines now verb))
-carried-out header lines now verb one is =
-    ap (λ who. meant who now.line.verb) one ∙ ap (λ v. meant 1 v) is
-    ∙ by (can_happen header lines 1 verb) (played (events_of header lines) (event_at header lines 1 verb))
+-- what is carried out at a line, by whether it can be and what is printed
+carried-out : (header : Header) (lines : List Numbered) (now : Numbered) (verb : Verb) → now.line.verb ≡ verb
+    → carried_out header lines now
+    ≡ result_and (carried header lines now.line.who verb) (Ok (printed_for header lines now verb))
+carried-out header lines now verb is =
+    let who = now.line.who in
+    ap meant is ∙ by (can_happen header lines who verb) (played (events_of header lines) (event_at header lines who verb))
   where
-    meant : ℕ → Verb → Result (List ℕ) WorldFault
-    meant who v = cond (can_happen header lines who v)
-        (result_and (played (events_of header lines) (event_at header lines who v))
+    meant : Verb → Result (List ℕ) WorldFault
+    meant v = cond (can_happen header lines now.line.who v)
+        (result_and (played (events_of header lines) (event_at header lines now.line.who v))
         (Ok (printed_for header lines now v))) (Err Absent)
 
     by : (can : Bool) (done : Result (Unit {0}) WorldFault)
@@ -92,14 +116,16 @@ answers-as before after printed (Err fault) done verdict is (inr memory) ok err 
 -- a line for which nothing is printed
 pub prints_nothing : (old new : World) (before : List ℕ) (result : Result (Unit {0}) WorldFault) (now : Numbered)
     (verb : Verb) → now.line.verb ≡ verb
-    → ((lines : List Numbered) → printed_for old.header lines now verb ≡ []) → CarriesOut old new result verb
+    → ((lines : List Numbered) → printed_for old.header lines now verb ≡ [])
+    → CarriesOut old new result now.line.who verb
     → Prints old new before before result now
-prints_nothing old new before result now verb is nothing carries = λ lines one ready.
-    let done : Carries old new result lines now verb = carries lines now one is ready in
-    let verdict = carried-out old.header lines now verb one is
-    ∙ ap (λ p. result_and (carried old.header lines verb) (Ok p)) (nothing lines) in
+prints_nothing old new before result now verb is nothing carries = λ lines ready.
+    let who = now.line.who in
+    let done : Carries old new result lines now who verb = carries lines now refl is ready in
+    let verdict = carried-out old.header lines now verb is
+    ∙ ap (λ p. result_and (carried old.header lines who verb) (Ok p)) (nothing lines) in
     record {
-      answer = answers-as before before [] result (carried old.header lines verb)
+      answer = answers-as before before [] result (carried old.header lines who verb)
           (carried_out old.header lines now) verdict done.answer
           (on-ok result (sym (append-nil before))) (on-err result refl);
       ends = done.ends;
@@ -116,17 +142,18 @@ prints_nothing old new before result now verb is nothing carries = λ lines one 
 -- a line at which a companion prints, which can always happen, and at which nothing happens at the television
 pub prints_line : (old : World) (before after : List ℕ) (result : Result (Unit {0}) WorldFault) (lines : List Numbered)
     (now : Numbered) (verb : Verb) (printed : List ℕ)
-    → now.line.who ≡ 1 → now.line.verb ≡ verb → carried old.header lines verb ≡ Ok tt
+    → now.line.verb ≡ verb → carried old.header lines now.line.who verb ≡ Ok tt
     → printed_for old.header lines now verb ≡ printed
     → OnOk result (after ≡ before ++ printed) → OnErr result ((result ≡ Err Memory) × (after ≡ before))
     → EndsStand old (now ∷ lines) → PrintsFor old old before after result lines now
-prints_line old before after (Ok tt) lines now verb printed one is done prints ok err ends = record {
-  answer = answers-as before after printed (Ok tt) (carried old.header lines verb) (carried_out old.header lines now)
-      (carried-out old.header lines now verb one is
-      ∙ ap (λ p. result_and (carried old.header lines verb) (Ok p)) prints) done ok tt;
+prints_line old before after (Ok tt) lines now verb printed is done prints ok err ends = record {
+  answer = answers-as before after printed (Ok tt) (carried old.header lines now.line.who verb)
+      (carried_out old.header lines now)
+      (carried-out old.header lines now verb is
+      ∙ ap (λ p. result_and (carried old.header lines now.line.who verb) (Ok p)) prints) done ok tt;
   ends = ends;
 }
-prints_line old before after (Err fault) lines now verb printed one is done prints ok err ends = record {
+prints_line old before after (Err fault) lines now verb printed is done prints ok err ends = record {
   answer = (err.1, inr (let same : fault ≡ Memory = cc in same));
   ends = tt;
 }
@@ -144,7 +171,7 @@ still_ready old shown read lines first second stands = record {
 pub record Steps (old shown read new : World) (before after : List ℕ) (result : Result (Unit {0}) WorldFault)
     (now : Numbered) : Type 0 where
   pub range : IsLine now.line
-  pub one : now.line.who ≡ 1
+  pub of : IsSecond (length old.header.companions) now.line
   pub shown_ends : KeepsEnds old shown
   pub shown_readings : KeepsReadings old shown
   pub shown_ok : ShowsBy old (Ok tt) now
@@ -163,7 +190,11 @@ module _ {old shown read new : World} {before after : List ℕ}
       → ReadingsStand shown lines
   shown_readings lines steps stands = record {
     tv = steps.shown_readings.tv ∙ stands.readings.tv;
-    own = steps.shown_readings.own ∙ stands.readings.own;
+    own = λ n lane found.
+        let was = parts_kept (λ (x : Lane). x.clock.last) (λ (x : Lane). x.clock.woken) old.lanes shown.lanes n lane
+        steps.shown_readings.last steps.shown_readings.woken found in
+        let is = stands.readings.own n was.0 was.1 in
+        record { last = sym was.2 ∙ is.last; woken = sym was.3 ∙ is.woken };
   }
 
   -- the header is the same
@@ -179,10 +210,10 @@ module _ {old shown read new : World} {before after : List ℕ}
   meant : (lines : List Numbered) → Steps old shown read new before after result now → StandsFor old lines
       → line_meant old.header lines now ≡ carried_out read.header lines now
   meant lines steps stands =
-      let shown_ok : Ok tt ≡ shown_tested old.header lines now = steps.shown_ok lines steps.one stands.drifts in
+      let shown_ok : Ok tt ≡ shown_tested old.header lines now = steps.shown_ok lines stands.drifts in
       let read_ok : Ok tt ≡ reading_tested old.header lines now =
       subst (λ (h : Header). Ok tt ≡ reading_tested h lines now) steps.shown_ends.header
-      (steps.read_ok lines steps.one (shown_readings lines steps stands)) in
+      (steps.read_ok lines (shown_readings lines steps stands)) in
       let carried : Result (List ℕ) WorldFault = carried_out old.header lines now in
       ap (λ (r : Result (Unit {0}) WorldFault). result_and
       (result_and r (reading_tested old.header lines now)) carried) (sym shown_ok)
@@ -202,41 +233,49 @@ module _ {old shown read new : World} {before after : List ℕ} {now : Numbered}
   line_answers result steps lines stands =
       subst (λ (v : Result (List ℕ) WorldFault). LeavesBy Memory result before after (appended before v))
       (sym (meant lines steps stands))
-      (steps.prints lines steps.one (read_ready lines steps stands)).answer
+      (steps.prints lines (read_ready lines steps stands)).answer
 
   -- the world stands for the line too
   pub line_stands : (result : Result (Unit {0}) WorldFault) → Steps old shown read new before after result now
       → GoesOn old new result now
   line_stands (Ok x) steps lines stands next =
       let done : PrintsFor read new before after (Ok x) lines now =
-      steps.prints lines steps.one (read_ready lines steps stands) in
+      steps.prints lines (read_ready lines steps stands) in
       let ok = accepted-as before after (carried_out read.header lines now) done.answer in
       let accepted : AreAccepted old.header (now ∷ lines) = (
         steps.range,
-        steps.one,
+        steps.of,
         next,
         (ok.0, meant lines steps stands ∙ ok.1),
         stands.accepted,
       ) in
-      let drifted : DriftsStand shown (now ∷ lines) = steps.shown_drifts lines steps.one stands.drifts in
+      let drifted : DriftsStand shown (now ∷ lines) = steps.shown_drifts lines stands.drifts in
       let readings : ReadingsStand read (now ∷ lines) =
-      steps.read_readings lines steps.one (shown_readings lines steps stands) in
+      steps.read_readings lines (shown_readings lines steps stands) in
       let tv_drift : new.tv.clock.drift ≡ shown.tv.clock.drift =
       ap (λ (w : Watch). w.drift) steps.clocks.tv ∙ steps.read_drifts.tv in
-      let own_drift : new.lane.clock.drift ≡ shown.lane.clock.drift =
-      ap (λ (w : Watch). w.drift) steps.clocks.own ∙ steps.read_drifts.own in
       record {
         declared = subst IsDeclared (sym (steps.clocks.header ∙ read_header steps)) stands.declared;
         accepted = subst (λ (h : Header). AreAccepted h (now ∷ lines))
             (sym (steps.clocks.header ∙ read_header steps)) accepted;
         drifts = record {
           tv = subst (λ (d : Drift). drifts.StandsFor d (told_by (seen_of_tv (now ∷ lines)))) (sym tv_drift) drifted.tv;
-          own =
-              subst (λ (d : Drift). drifts.StandsFor d (told_by (seen_of 1 (now ∷ lines)))) (sym own_drift) drifted.own;
+          own = λ n lane found.
+              let was = part_kept (λ (x : Lane). x.clock) read.lanes new.lanes n lane steps.clocks.own found in
+              let first = part_kept (λ (x : Lane). x.clock.drift) shown.lanes read.lanes n was.0 steps.read_drifts.own
+              was.1 in
+              subst (λ (d : Drift). drifts.StandsFor d (told_by (seen_of n (now ∷ lines))))
+              (first.2 ∙ ap (λ (w : Watch). w.drift) was.2) (drifted.own n first.0 first.1);
         };
         readings = record {
           tv = ap (λ (w : Watch). w.last) steps.clocks.tv ∙ readings.tv;
-          own = ap (λ (w : Watch). w.last) steps.clocks.own ∙ readings.own;
+          own = λ n lane found.
+              let was = part_kept (λ (x : Lane). x.clock) read.lanes new.lanes n lane steps.clocks.own found in
+              let is = readings.own n was.0 was.1 in
+              record {
+                last = sym (ap (λ (w : Watch). w.last) was.2) ∙ is.last;
+                woken = sym (ap (λ (w : Watch). w.woken) was.2) ∙ is.woken;
+              };
         };
         ends = done.ends;
       }

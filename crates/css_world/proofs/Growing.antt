@@ -28,8 +28,7 @@ use Rattle.css_schedule.specs.declared.header.Header.{Header}
 use Rattle.css_world.specs.Sessions.{addresses, told_to}
 use Rattle.css_world.specs.Happened.{Numbered, event_by, events_of, history_of}
 use Rattle.css_world.specs.Standing.{AreAccepted}
-use Rattle.css_world.proofs.Ends.{events_now, can_talk_now}
-use Rattle.css_world.proofs.Staging.{IsStaged, IsSound, stage_by, staged_event, sound_by, staging}
+use Rattle.css_world.proofs.Staging.{IsStaged, IsSound, stage_by, staged_event, sound_now, staging}
 
 -- ---- lists
 -- the newest stand first, and what was there before stays
@@ -224,10 +223,8 @@ pub told_grows_by_line : (header : Header) (now : Numbered) (older : List Number
     → AreAccepted header (now ∷ older)
     → Grows (told_to peer (events_of header older)) (told_to peer (events_of header (now ∷ older)))
 told_grows_by_line header now older peer accepted =
+    let who = now.line.who in
     let events = events_of header older in
-    let own = history_of 1 header older in
+    let event = event_by who events (history_of who header older) now.line.verb in
     let before = staging header older accepted.4 in
-    let sound = sound_by now.line.verb events own accepted.0.verb (can_talk_now header now older accepted) before in
-    subst (λ (es : List TvEvent). Grows (told_to peer events) (told_to peer es))
-    (sym (events_now header now older accepted.1))
-    (some_grows peer (event_by 1 events own now.line.verb) events before.staged sound).texts
+    (some_grows peer event events before.staged (sound_now header now older accepted before)).texts

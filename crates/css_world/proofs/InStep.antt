@@ -1,4 +1,4 @@
--- Where all has come to companion 1, it assigns the position that the television published.
+-- Where all has come to a companion, it assigns the position that the television published.
 use Rattle.std.proofs.Common.{◌≡◌, ◌≢◌, ℕ, zero, ◌-◌, ◌<◌, ◌≤◌, refl, ap, sym, subst, ◌∙◌, arith}
 use Rattle.std.proofs.Common.{Bool, true, false, List, [], ◌∷◌, length, take, drop, length-take}
 use Rattle.std.specs.Prelude.{ℤ, pos, ◌≤ℤ◌, Option, Some, None, IfSome, Result, Ok, bytes_eq}
@@ -32,6 +32,7 @@ use Rattle.css_world.specs.Sessions.{addresses, setup_of, is_open, heard_from, r
 use Rattle.css_world.specs.Happened.{Numbered, events_of, history_of}
 use Rattle.css_world.specs.Verdicts.{IsDeclared, assigned_at}
 use Rattle.css_world.specs.Standing.{AreAccepted}
+use Rattle.css_world.proofs.Peers.{cii_of, ts_of}
 use Rattle.css_world.proofs.Playing.{IsPlayable, IsPlayableProgramme, IsPlayableTrack, present_playable, all-find}
 use Rattle.css_world.proofs.Growing.{controls_of_lived}
 use Rattle.css_world.proofs.Lives.{shown_after, lived_after}
@@ -82,67 +83,75 @@ is_set_up : (setup : Setup) (received : List (List ℕ)) (life : Life) → recei
 is_set_up setup [] life some of = absurd (some refl)
 is_set_up setup (text ∷ older) life some of = of
 
-module _ (header : Header) (events : List TvEvent) (own : History) (order : IsInOrder header events own) where
+module _ (header : Header) (who : ℕ) (first : 1 ≤ who) (events : List TvEvent) (own : History)
+    (order : IsInOrder header who events own) where
+  -- the peers of its sessions
+  abbrev cii : ℕ
+  cii = cii_of who
+
+  abbrev ts : ℕ
+  ts = ts_of who
+
   -- what is shown
   abbrev shown : Player
   shown = shown_after events
 
   -- what the companion asks of the television
   abbrev wanted : Setup
-  wanted = setup_of 1 header
+  wanted = setup_of who header
 
   -- the control that came last is the one that is published for the companion's setup
-  control_is : is_open 2 own ≡ true → received_from 2 events ≢ []
-      → in_flight (told_to 2 events) (heard_from 2 own) ≡ [] → control_by own ≡ Some (Ok (control_for wanted shown))
+  control_is : is_open ts own ≡ true → received_from ts events ≢ []
+      → in_flight (told_to ts events) (heard_from ts own) ≡ [] → control_by own ≡ Some (Ok (control_for wanted shown))
   control_is live set_up none =
       let talked = order.talked in
-      let opened = (ts_live header events own talked live).1 in
-      let set = is_set_up wanted (received_from 2 events) opened.life set_up opened.of in
+      let opened = (ts_live header who events own talked live).1 in
+      let set = is_set_up wanted (received_from ts events) opened.life set_up opened.of in
       let p = set.0 in
       let ps = set.1 in
-      let lived : lived_after 2 events ≡ lived_as (TsLife wanted p ps) true =
+      let lived : lived_after ts events ≡ lived_as (TsLife wanted p ps) true =
       opened.is ∙ ap (lived_as opened.life) live ∙ ap (λ (l : Life). lived_as l true) set.2 in
-      let reads : ReadsAsControls wanted p ps = subst AreReadBack lived (back header events own talked 2) in
-      let many : length (told_to 2 events) ≡ length (controls_after events) =
-      as_many ReadsAs (told_to 2 events) (controls_after events) (controls_said header events own talked) in
-      let flies = none_flies (told_to 2 events) (heard_from 2 own) none in
-      let all : come (heard_from 2 own) (controls_after events) ≡ ts_controls wanted p ps =
-      all_come (heard_from 2 own) (controls_after events) (omega (arith, many, flies)) ∙ ap controls_of_lived lived in
+      let reads : ReadsAsControls wanted p ps = subst AreReadBack lived (back header who first events own talked ts) in
+      let many : length (told_to ts events) ≡ length (controls_after who events) =
+      as_many ReadsAs (told_to ts events) (controls_after who events) (controls_said header who first events own talked) in
+      let flies = none_flies (told_to ts events) (heard_from ts own) none in
+      let all : come (heard_from ts own) (controls_after who events) ≡ ts_controls wanted p ps =
+      all_come (heard_from ts own) (controls_after who events) (omega (arith, many, flies)) ∙ ap controls_of_lived lived in
       let last = control_for wanted (latest_of p ps) in
       let current : last ≡ control_for wanted shown = subst (Shows shown) lived talked.shows refl in
       order.hearing.control ∙ ap newest all ∙ newest_is (ts_controls wanted p ps) last reads.newest
       ∙ ap (λ (c : Control). Some (Ok c)) current
 
   -- the state that came last is the published one
-  state_is : is_open 1 own ≡ true → in_flight (told_to 1 events) (heard_from 1 own) ≡ []
+  state_is : is_open cii own ≡ true → in_flight (told_to cii events) (heard_from cii own) ≡ []
       → state_of own ≡ published_state addresses shown
   state_is live none =
       let h = (calls_of addresses events).sessions in
       let staged = order.talked.staging.staged in
-      let opened = (cii_live header events own order.talked live).1 in
+      let opened = (cii_live header who events own order.talked live).1 in
       let s = opened.first in
       let ss = opened.later in
-      let lived : lived_after 1 events ≡ lived_as (CiiLife s ss) true =
+      let lived : lived_after cii events ≡ lived_as (CiiLife s ss) true =
       opened.is ∙ ap (lived_as (CiiLife s ss)) live in
-      let reads : ReadsAsStates s ss = subst AreReadBack lived (back header events own order.talked 1) in
-      let many : length (told_to 1 events) ≡ length (states_after events) =
-      as_many TellsAfter (told_to 1 events) (states_after events) (states_said header events own order.talked) in
-      let flies = none_flies (told_to 1 events) (heard_from 1 own) none in
-      let all : come (heard_from 1 own) (states_after events) ≡ cii_states s ss =
-      all_come (heard_from 1 own) (states_after events) (omega (arith, many, flies)) ∙ ap states_of_lived lived in
+      let reads : ReadsAsStates s ss = subst AreReadBack lived (back header who first events own order.talked cii) in
+      let many : length (told_to cii events) ≡ length (states_after who events) =
+      as_many TellsAfter (told_to cii events) (states_after who events) (states_said header who first events own order.talked) in
+      let flies = none_flies (told_to cii events) (heard_from cii own) none in
+      let all : come (heard_from cii own) (states_after who events) ≡ cii_states s ss =
+      all_come (heard_from cii own) (states_after who events) (omega (arith, many, flies)) ∙ ap states_of_lived lived in
       let kept = is_kept h staged.sessions.lawful in
-      let current : latest_of s ss ≡ state_kept h = subst (IsCurrent (state_kept h)) lived (kept.current 1) refl in
-      told_is_published own (come (heard_from 1 own) (states_after events)) order.hearing.tells
+      let current : latest_of s ss ≡ state_kept h = subst (IsCurrent (state_kept h)) lived (kept.current cii) refl in
+      told_is_published own (come (heard_from cii own) (states_after who events)) order.hearing.tells
       ∙ ap latest all ∙ latest_is (cii_states s ss) ∙ reads.newest empty ∙ current ∙ sym kept.state
       ∙ staged.stage.current
 
   -- the session isn't known to be closed
-  not_closed : is_open 2 own ≡ true → is_closed own ≡ false
-  not_closed live = (ts_live header events own order.talked live).1.closed live
+  not_closed : is_open ts own ≡ true → is_closed own ≡ false
+  not_closed live = (ts_live header who events own order.talked live).1.closed live
 
   -- so the companion assigns what is published
-  assigned_is : (wall : ℕ) → is_open 1 own ≡ true → is_open 2 own ≡ true → received_from 2 events ≢ []
-      → in_flight (told_to 1 events) (heard_from 1 own) ≡ [] → in_flight (told_to 2 events) (heard_from 2 own) ≡ []
+  assigned_is : (wall : ℕ) → is_open cii own ≡ true → is_open ts own ≡ true → received_from ts events ≢ []
+      → in_flight (told_to cii events) (heard_from cii own) ≡ [] → in_flight (told_to ts events) (heard_from ts own) ≡ []
       → assigned_after wanted.selector own wall ≡ published_tick wanted shown wall
   assigned_is wall cii_open ts_open set_up states controls =
       let assigned : Option (Result Control TsFault) → Bool → Option (List Timeline) → Option ℤ =
@@ -178,18 +187,19 @@ shown_if setup p wall None playable is = tt
 shown_if setup p wall (Some tick) playable is =
     shown_at setup p wall tick (begins_late p playable) (rate_positive p setup.selector playable) is
 
--- Where both sessions of companion 1 are open, its setup has come and no text of the television is in flight, it
+-- Where both sessions of companion `who` are open, its setup has come and no text of the television is in flight, it
 -- assigns what the television published, which is the position that is shown, or one tick less.
-pub in_step : (header : Header) (lines : List Numbered) (wall : ℕ) → IsDeclared header → AreAccepted header lines
-    → HasAllCome 1 header lines → IsInStep 1 header lines wall
-in_step header lines wall declared accepted all =
+pub in_step : (header : Header) (lines : List Numbered) (who wall : ℕ) → 1 ≤ who → IsDeclared header
+    → AreAccepted header lines
+    → HasAllCome who header lines → IsInStep who header lines wall
+in_step header lines who wall first declared accepted all =
     let events = events_of header lines in
-    let own = history_of 1 header lines in
-    let order = in_order header lines declared accepted in
+    let own = history_of who header lines in
+    let order = in_order header lines who first declared accepted in
     let playable = order.talked.staging.staged.playable in
-    let is = assigned_is header events own order wall all.cii_open all.ts_open all.set_up all.states all.controls in
-    let tick = assigned_at 1 header lines wall in
+    let is = assigned_is header who first events own order wall all.cii_open all.ts_open all.set_up all.states all.controls in
+    let tick = assigned_at who header lines wall in
     record {
       published = is;
-      shown = shown_if (setup_of 1 header) (shown_after events) wall tick playable (sym is);
+      shown = shown_if (setup_of who header) (shown_after events) wall tick playable (sym is);
     }

@@ -1,3 +1,5 @@
+pub mod Peers
+pub mod Ends
 pub mod Worlds
 pub mod Lawful
 pub mod Moments
@@ -6,14 +8,16 @@ pub mod Made
 pub mod Landed
 pub mod Truth
 pub mod Storing
+pub mod Numbers
 pub mod Flights
 pub mod Dialled
 pub mod News
+pub mod Delivered
 pub mod Carrying
 pub mod Verbs
 pub mod Going
 pub mod Appending
-pub mod Ends
+pub mod Entries
 pub mod Opening
 pub mod Playing
 pub mod Staging
@@ -27,3 +31,10 @@ pub mod Floors
 pub mod Rated
 pub mod InStep
 pub mod Reporting
+pub mod Inside
+pub mod Written
+pub mod Showing
+pub mod Reading
+pub mod Fresh
+pub mod Began
+pub mod Printing

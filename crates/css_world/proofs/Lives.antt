@@ -31,8 +31,9 @@ use Rattle.css_tv.specs.declared.event.TvEvent.TheVariants as event
 use Rattle.css_tv.specs.declared.fault.TvFault.{TvFault}
 use Rattle.css_tv.proofs.Keeping.{programme_controls}
 use Rattle.css_world.specs.Sessions.{addresses}
+use Rattle.css_world.proofs.Entries.{concerns}
 use Rattle.css_world.proofs.Opening.{IsUnknown}
-use Rattle.css_world.proofs.Staging.{IsStaged, IsGrown, IsSound, stage_by, event_grown}
+use Rattle.css_world.proofs.Staging.{AreBelow, IsStaged, IsGrown, IsSound, stage_by, event_grown}
 
 -- what is published of a player that is shown is told to a life
 abbrev pub grown_by : Player → Life → Life
@@ -61,13 +62,6 @@ pub stays : (p : Player) (old new : Option Lived) → new ≡ old → GoesOn p p
 stays p old new same = inl (same, λ u. refl)
 
 -- ---- events of others
--- whether an event is of this peer's session
-abbrev pub concerns : ℕ → TvEvent → Bool
-concerns peer (event.Opened p kind) = p == peer
-concerns peer (event.Heard p bytes) = p == peer
-concerns peer (event.Closed p) = p == peer
-concerns peer _ = false
-
 -- where a test fails, the second is taken
 left : {A : Type 0} (b : Bool) (x y : A) → b ≡ false → cond b x y ≡ y
 left true x y is = absurd (cc)
@@ -198,18 +192,16 @@ few_below (s ∷ ss) n bound rising low none =
         absurd (let some : Some s.talk ≡ None =
         ap (λ b. cond b (Some s.talk) (talk_of s.peer ss)) (sym (eq-eqb s.peer s.peer refl)) ∙ gone in cc)
 
--- only peers 1 and 2 are known
-abbrev pub AreTwo : List SessionsCall → Type 0
-AreTwo calls = (peer : ℕ) → 3 ≤ peer → IsUnknown peer calls
-
--- so there is room for one more session
-room : (calls : Calls) → IsStaged addresses calls → AreTwo calls.sessions
+-- where no peer above a small one is known, there is room for one more session
+room : (calls : Calls) (bound : ℕ) → IsStaged addresses calls → bound ≤ 32
+    → ((peer : ℕ) → bound < peer → IsUnknown peer calls.sessions)
     → nat_lt (length (sessions_of calls.sessions).list) max_sessions ≡ true
-room calls staged two =
+room calls bound staged small unknown =
     let list = (sessions_of calls.sessions).list in
     let kept = is_kept calls.sessions staged.sessions.lawful in
-    let few = few_below list 0 3 kept.rising (omega arith) (λ peer above. (two peer above).talk) in
-    lt-ltb (length list) max_sessions (omega (arith, few))
+    let few = few_below list 0 (bound + 1) kept.rising (omega arith) (λ peer above.
+    (unknown peer (omega (arith, above))).talk) in
+    lt-ltb (length list) max_sessions (omega (arith, few, small))
 
 -- ---- events of the session itself
 -- a session that opens is born with the state of what is shown, which stays
@@ -218,14 +210,14 @@ pub record OpensAs (peer : ℕ) (kind : Kind) (events : List TvEvent) : Type 0 w
       ≡ Some (born kind (published_state addresses (shown_after events)))
   pub shown : shown_after (event.Opened peer kind ∷ events) ≡ shown_after events
 
--- so does one where only the first two sessions are known
-pub opens_as : (peer : ℕ) (kind : Kind) (events : List TvEvent) → IsStaged addresses (calls_of addresses events)
-    → AreTwo (calls_of addresses events).sessions → OpensAs peer kind events
-opens_as peer kind events staged two =
+-- so does one where only few sessions are known
+pub opens_as : (peer : ℕ) (kind : Kind) (events : List TvEvent) (bound : ℕ)
+    → IsStaged addresses (calls_of addresses events) → bound ≤ 32 → AreBelow bound events → OpensAs peer kind events
+opens_as peer kind events bound staged small below =
     let calls = calls_of addresses events in
     let player = player_of calls.player in
     let by : (few : Bool) → Result Outcome TvFault = λ few. Ok (opened (Opened peer kind) peer few player) in
-    let few = room calls staged two in
+    let few = room calls bound staged small below in
     let new = Some (born kind (state_of calls.sessions)) in
     let state = sym (is_kept calls.sessions staged.sessions.lawful).state ∙ staged.stage.current in
     record {

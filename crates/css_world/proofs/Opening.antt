@@ -1,9 +1,11 @@
--- The television knows nothing of a session that companion 1 never opened.
-use Rattle.std.proofs.Common.{◌≡◌, ℕ, refl, ap, ◌∙◌, Bool, true, false, cond, ◌==◌, List, [], ◌∷◌, ◌++◌}
+-- The television knows nothing of a session that its companion never opened.
+use Rattle.std.proofs.Common.{◌≡◌, ◌≤◌, ℕ, refl, ap, sym, ◌∙◌, Bool, true, false, cond, ◌==◌, List, [], ◌∷◌, ◌++◌}
 use Rattle.std.specs.Prelude.{⊤, Option, Some, None, option_map, Result, Ok, Err, IfOk}
 use Rattle.std.specs.Option.{option_to_list}
+use Rattle.css_model.specs.declared.Kind.{Kind as Dialling}
+use Rattle.css_model.specs.declared.Kind.TheVariants as session
 use Rattle.css_model.specs.declared.Message.{Message}
-use Rattle.css_model.specs.History.{History}
+use Rattle.css_model.specs.History.{History, Dialled}
 use Rattle.css_player.specs.Player.{Player}
 use Rattle.css_player.specs.Segments.{with_programme, with_timeline, commanded}
 use Rattle.css_player.specs.Events.{player_of}
@@ -35,9 +37,10 @@ use Rattle.css_tv.specs.declared.state.Addresses.{Addresses}
 use Rattle.css_schedule.specs.declared.header.Header.{Header}
 use Rattle.css_schedule.specs.declared.line.Verb.TheVariants as verb
 use Rattle.css_world.specs.Sessions.{addresses, peer_of, was_opened, next_down, next_up}
-use Rattle.css_world.specs.Happened.{Numbered, hearing, done_by, events_of, history_of}
-use Rattle.css_world.specs.Standing.{AreAccepted}
-use Rattle.css_world.proofs.Ends.{events_with, IsKeptBy, each_end}
+use Rattle.css_world.specs.Happened.{hearing, done_by}
+use Rattle.css_world.proofs.Ends.{events_with, IsKeptByVerbs}
+use Rattle.css_world.proofs.Entries.{concerns, dialled-was, dialled-was_apart}
+use Rattle.css_world.proofs.Peers.{cii-ts, ts-cii}
 
 -- ---- one call
 -- Nothing is known of a peer's session: it has neither a life nor a talk.
@@ -199,77 +202,90 @@ unknown_event peer a e events other is =
     let k = sessions_of calls.sessions in
     unknown_outcome peer (outcome a e player k) calls (none_opens peer a e player k other) is
 
--- ---- all lines
--- a session of companion 1 that was never opened is unknown
-abbrev pub IsNeverOpened : Kind → List TvEvent → History → Type 0
-IsNeverOpened kind events own =
-    was_opened (peer_of 1 kind) own ≡ false → IsUnknown (peer_of 1 kind) (calls_of addresses events).sessions
+-- ---- all verbs
+-- an event that isn't of a session doesn't open it
+pub opens_none : (peer : ℕ) (e : TvEvent) → concerns peer e ≡ false → opens_at peer e ≡ false
+opens_none peer (event.Programme content_id) other = refl
+opens_none peer (event.AddTimeline n selector rate base) other = refl
+opens_none peer (event.Viewer command reading) other = refl
+opens_none peer (event.Opened p k) other = other
+opens_none peer (event.Heard p bytes) other = refl
+opens_none peer (event.Closed p) other = refl
+
+-- a session of companion `who` that was never opened is unknown
+abbrev pub IsNeverOpened : ℕ → Kind → List TvEvent → History → Type 0
+IsNeverOpened who k events own =
+    was_opened (peer_of who k) own ≡ false → IsUnknown (peer_of who k) (calls_of addresses events).sessions
+
+-- a session that was dialled was opened
+opened_not : (peer : ℕ) (d : Dialling) (own : History) → was_opened peer (Dialled d peer ∷ own) ≡ false → ⊥
+opened_not peer d own never =
+    let no : true ≡ false = sym (dialled-was peer d own) ∙ never in cc
 
 -- an opening opens its own session alone
-opening_keeps : (header : Header) (new kind : Kind) (made : List Message) (events : List TvEvent) (own : History)
-    → IsNeverOpened kind events own → IsNeverOpened kind (events_with events own (verb.Opening new))
-    (done_by header 1 made events (verb.Opening new) own)
-opening_keeps header kind.Cii kind.Cii made events own before = λ never. absurd (cc)
-opening_keeps header kind.Cii kind.Ts made events own before = λ never.
-    unknown_event 2 addresses (event.Opened 1 kind.Cii) events refl (before never)
-opening_keeps header kind.Ts kind.Cii made events own before = λ never.
-    unknown_event 1 addresses (event.Opened 2 kind.Ts) events refl (before never)
-opening_keeps header kind.Ts kind.Ts made events own before = λ never. absurd (cc)
+opening_keeps : (header : Header) (who : ℕ) (new k : Kind) (made : List Message) (events : List TvEvent)
+    (own : History) → 1 ≤ who
+    → IsNeverOpened who k events own → IsNeverOpened who k (events_with who events own (verb.Opening new))
+    (done_by header who made events (verb.Opening new) own)
+opening_keeps header who kind.Cii kind.Cii made events own first before = λ never.
+    absurd (opened_not (peer_of who kind.Cii) session.Cii own never)
+opening_keeps header who kind.Cii kind.Ts made events own first before = λ never.
+    let cii = peer_of who kind.Cii in
+    let ts = peer_of who kind.Ts in
+    let other = cii-ts who first in
+    unknown_event ts addresses (event.Opened cii kind.Cii) events other
+    (before (sym (dialled-was_apart ts cii other session.Cii own) ∙ never))
+opening_keeps header who kind.Ts kind.Cii made events own first before = λ never.
+    let cii = peer_of who kind.Cii in
+    let ts = peer_of who kind.Ts in
+    let other = ts-cii who first in
+    unknown_event cii addresses (event.Opened ts kind.Ts) events other
+    (before (sym (dialled-was_apart cii ts other session.Ts own) ∙ never))
+opening_keeps header who kind.Ts kind.Ts made events own first before = λ never.
+    absurd (opened_not (peer_of who kind.Ts) session.Ts own never)
 
 -- a text that comes to the companion opens none
-hearing_keeps : (kind : Kind) (peer : ℕ) (text : Option (List ℕ)) (events : List TvEvent) (own : History)
-    → IsNeverOpened kind events own → IsNeverOpened kind events (hearing peer text own)
-hearing_keeps kind peer None events own before = before
-hearing_keeps kind peer (Some bytes) events own before = before
+hearing_keeps : (who : ℕ) (k : Kind) (peer : ℕ) (text : Option (List ℕ)) (events : List TvEvent) (own : History)
+    → IsNeverOpened who k events own → IsNeverOpened who k events (hearing peer text own)
+hearing_keeps who k peer None events own before = before
+hearing_keeps who k peer (Some bytes) events own before = before
 
 -- nor does one that comes to the television
-text_keeps : (kind : Kind) (peer : ℕ) (text : Option (List ℕ)) (events : List TvEvent) (own : History)
-    → IsNeverOpened kind events own
-    → IsNeverOpened kind (option_to_list (option_map (event.Heard peer) text) ++ events) own
-text_keeps kind peer None events own before = before
-text_keeps kind peer (Some bytes) events own before = λ never.
-    unknown_event (peer_of 1 kind) addresses (event.Heard peer bytes) events refl (before never)
+text_keeps : (who : ℕ) (k : Kind) (peer : ℕ) (text : Option (List ℕ)) (events : List TvEvent) (own : History)
+    → IsNeverOpened who k events own
+    → IsNeverOpened who k (option_to_list (option_map (event.Heard peer) text) ++ events) own
+text_keeps who k peer None events own before = before
+text_keeps who k peer (Some bytes) events own before = λ never.
+    unknown_event (peer_of who k) addresses (event.Heard peer bytes) events refl (before never)
 
--- so each verb keeps what was never opened unknown
-pub stays_unknown : (header : Header) (kind : Kind) → IsKeptBy header (IsNeverOpened kind)
-stays_unknown header kind made (verb.Ask reading) events own range can before = before
-stays_unknown header kind made (verb.Take request reading) events own range can before = before
-stays_unknown header kind made (verb.Give take reading) events own range can before = before
-stays_unknown header kind made (verb.Land datagram reading) events own range can before = before
-stays_unknown header kind made (verb.Wall reading) events own range can before = before
-stays_unknown header kind made (verb.Print reading) events own range can before = before
-stays_unknown header kind made (verb.Programme content_id) events own range can before = λ never.
-    unknown_event (peer_of 1 kind) addresses (event.Programme content_id) events refl (before never)
-stays_unknown header kind made (verb.Timeline n selector rate base) events own range can before = λ never.
-    unknown_event (peer_of 1 kind) addresses (event.AddTimeline n selector rate base) events refl (before never)
-stays_unknown header kind made (verb.Viewer reading command) events own range can before = λ never.
-    unknown_event (peer_of 1 kind) addresses (event.Viewer command reading) events refl (before never)
-stays_unknown header kind made (verb.Opening new) events own range can before =
-    opening_keeps header new kind made events own before
-stays_unknown header kind made (verb.Bring from) events own range can before =
-    hearing_keeps kind (peer_of 1 from) (next_down 1 from events own) events own before
-stays_unknown header kind made verb.Up events own range can before =
-    text_keeps kind 2 (next_up 1 events own) events own before
-stays_unknown header kind made (verb.Present earliest latest) events own range can before = before
-stays_unknown header kind made (verb.Close from) events own range can before = λ never.
-    unknown_event (peer_of 1 kind) addresses (event.Closed (peer_of 1 from)) events refl (before never)
-stays_unknown header kind made verb.Sleep events own range can before = before
+-- so each verb of companion `who` keeps what was never opened unknown
+pub stays_unknown : (header : Header) (who : ℕ) (k : Kind) → 1 ≤ who → IsKeptByVerbs header who (IsNeverOpened who k)
+stays_unknown header who k first made (verb.Ask reading) events own range can before = before
+stays_unknown header who k first made (verb.Take request reading) events own range can before = before
+stays_unknown header who k first made (verb.Give take reading) events own range can before = before
+stays_unknown header who k first made (verb.Land datagram reading) events own range can before = before
+stays_unknown header who k first made (verb.Wall reading) events own range can before = before
+stays_unknown header who k first made (verb.Print reading) events own range can before = before
+stays_unknown header who k first made (verb.Programme content_id) events own range can before = λ never.
+    unknown_event (peer_of who k) addresses (event.Programme content_id) events refl (before never)
+stays_unknown header who k first made (verb.Timeline n selector rate base) events own range can before = λ never.
+    unknown_event (peer_of who k) addresses (event.AddTimeline n selector rate base) events refl (before never)
+stays_unknown header who k first made (verb.Viewer reading command) events own range can before = λ never.
+    unknown_event (peer_of who k) addresses (event.Viewer command reading) events refl (before never)
+stays_unknown header who k first made (verb.Opening new) events own range can before =
+    opening_keeps header who new k made events own first before
+stays_unknown header who k first made (verb.Bring from) events own range can before =
+    hearing_keeps who k (peer_of who from) (next_down who from events own) events own before
+stays_unknown header who k first made verb.Up events own range can before =
+    text_keeps who k (peer_of who kind.Ts) (next_up who events own) events own before
+stays_unknown header who k first made (verb.Present earliest latest) events own range can before = before
+stays_unknown header who k first made (verb.Close from) events own range can before = λ never.
+    unknown_event (peer_of who k) addresses (event.Closed (peer_of who from)) events refl (before never)
+stays_unknown header who k first made verb.Sleep events own range can before = before
 
--- a session that companion 1 never opened has neither a life nor a talk
-unknown : (header : Header) (lines : List Numbered) (kind : Kind) → AreAccepted header lines
-    → IsNeverOpened kind (events_of header lines) (history_of 1 header lines)
-unknown header lines kind accepted =
-    let start : IsNeverOpened kind [] [] = λ never. record { life = refl; talk = refl } in
-    each_end header (IsNeverOpened kind) start (stays_unknown header kind) lines accepted
-
--- it has no life
-pub never_opened : (header : Header) (lines : List Numbered) (kind : Kind) → AreAccepted header lines
-    → was_opened (peer_of 1 kind) (history_of 1 header lines) ≡ false
-    → life_of (peer_of 1 kind) (calls_of addresses (events_of header lines)).sessions ≡ None
-never_opened header lines kind accepted never = (unknown header lines kind accepted never).life
-
--- and no talk
-pub no_talk : (header : Header) (lines : List Numbered) (kind : Kind) → AreAccepted header lines
-    → was_opened (peer_of 1 kind) (history_of 1 header lines) ≡ false
-    → talk_of (peer_of 1 kind) (sessions_of (calls_of addresses (events_of header lines)).sessions).list ≡ None
-no_talk header lines kind accepted never = (unknown header lines kind accepted never).talk
+-- an event that is of neither of its sessions does so too
+pub stays_apart : (who : ℕ) (k : Kind) (events : List TvEvent) (own : History) (e : TvEvent)
+    → concerns (peer_of who k) e ≡ false → IsNeverOpened who k events own
+    → IsNeverOpened who k (e ∷ events) own
+stays_apart who k events own e other before = λ never.
+    unknown_event (peer_of who k) addresses e events (opens_none (peer_of who k) e other) (before never)

@@ -4,8 +4,8 @@ use Rattle.std.proofs.Common.{refl, ap, sym, subst, ◌∙◌, inl, inr, length-
 use Rattle.std.specs.Prelude.{Option, Some, None, slice_get, slice_set}
 use Rattle.std.specs.Option.{option_map}
 use Rattle.std.proofs.lemmas.Bool.Decides.{eqb_tells}
-use Rattle.css_world.specs.Numbering.{numbered}
-use Rattle.css_world.specs.Standing.{stored, spent, AreStored}
+use Rattle.css_world.specs.Numbering.{numbered, stored, spent}
+use Rattle.css_world.specs.Standing.{AreStored}
 
 -- ---- options
 -- what is mapped to something is something
@@ -27,12 +27,12 @@ option_map-constant f g y (Some x) h = ap Some (sym (h x))
 
 -- ---- lists
 -- what was put at the end is there
-slice_get-pushed : {A : Type 0} (items : List A) (item : A) → slice_get (items ++ item ∷ []) (length items) ≡ Some item
+pub slice_get-pushed : {A : Type 0} (items : List A) (item : A) → slice_get (items ++ item ∷ []) (length items) ≡ Some item
 slice_get-pushed [] item = refl
 slice_get-pushed (x ∷ items) item = slice_get-pushed items item
 
 -- and no other item is another one now
-slice_get-before : {A : Type 0} (items : List A) (item : A) (place : ℕ) → place ≢ length items
+pub slice_get-before : {A : Type 0} (items : List A) (item : A) (place : ℕ) → place ≢ length items
     → slice_get (items ++ item ∷ []) place ≡ slice_get items place
 slice_get-before [] item zero h = absurd (h refl)
 slice_get-before [] item (suc place) h = refl
@@ -47,7 +47,7 @@ slice_get-set_same (x ∷ items) item zero = refl
 slice_get-set_same (x ∷ items) item (suc place) = slice_get-set_same items item place
 
 -- and each other item is as before
-slice_get-set_other : {A : Type 0} (items : List A) (item : A) (place other : ℕ) → place ≢ other
+pub slice_get-set_other : {A : Type 0} (items : List A) (item : A) (place other : ℕ) → place ≢ other
     → slice_get (slice_set items place item) other ≡ slice_get items other
 slice_get-set_other [] item place other h = refl
 slice_get-set_other (x ∷ items) item zero zero h = absurd (h refl)

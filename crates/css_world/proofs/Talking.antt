@@ -1,4 +1,4 @@
--- The two sessions of companion 1, as both ends know them after accepted lines.
+-- The two sessions of a companion, as both ends know them after accepted lines.
 use Rattle.std.proofs.Common.{◌≡◌, ℕ, zero, suc, ◌<◌, ◌⊎◌, inl, inr, refl, ap, sym, subst, ◌∙◌, arith}
 use Rattle.std.proofs.Common.{Bool, true, false, cond, not, ◌==◌, List, [], ◌∷◌, length, eqb-true}
 use Rattle.std.specs.Prelude.{⊤, Option, Some, None, is_some, option_map, Ok}
@@ -23,8 +23,9 @@ use Rattle.css_companion.specs.Meanings.{kind_of, is_ts, is_closed}
 use Rattle.css_schedule.specs.declared.header.Header.{Header}
 use Rattle.css_world.specs.Numbering.{numbered}
 use Rattle.css_world.specs.Sessions.{addresses, setup_of, is_open, written_to, received_from}
+use Rattle.css_world.proofs.Peers.{cii_of, ts_of}
 use Rattle.css_world.proofs.Staging.{IsStaged, IsStaging}
-use Rattle.css_world.proofs.Lives.{grown_by, GoesOn, LifeGoesOn, AreTwo, shown_after, lived_after, sets_up, presents}
+use Rattle.css_world.proofs.Lives.{grown_by, GoesOn, LifeGoesOn, shown_after, lived_after, sets_up, presents}
 
 -- a life that is over where its session isn't open
 abbrev pub lived_as : Life → Bool → Option Lived
@@ -203,7 +204,7 @@ ts_unopened setup None live lived x none has = has
 ts_unopened setup (Some k) live lived x none has = absurd (cc)
 
 -- ---- texts for the television
--- The first text that companion 1 writes is its setup, and each later one a presentation.
+-- The first text that a companion writes is its setup, and each later one a presentation.
 abbrev pub IsWrittenAt : Setup → List ℕ → ℕ → Type 0
 IsWrittenAt setup text zero = setup_read text ≡ Ok setup
 IsWrittenAt setup text (suc before) = (q : Presentation) × (presentation_of text ≡ Ok q)
@@ -279,123 +280,124 @@ shows_over p None = tt
 shows_over p (Some l) = λ on. absurd (let no : true ≡ false = on in cc)
 
 -- ---- both ends
--- what both ends know of companion 1's session of CSS-TS
-abbrev pub exchanged : List TvEvent → History → Exchanged
-exchanged events own = record { written = written_to 2 own; received = received_from 2 events; closed = is_closed own }
+-- what both ends know of companion `who`'s session of CSS-TS
+abbrev pub exchanged : ℕ → List TvEvent → History → Exchanged
+exchanged who events own = record { written = written_to (ts_of who) own; received = received_from (ts_of who) events; closed = is_closed own }
 
--- the session of CSS-CII of companion 1
-abbrev pub HasCiiOf : List TvEvent → History → Type 0
-HasCiiOf events own = HasCii (kind_of 1 own) (is_open 1 own) (lived_after 1 events)
+-- the session of CSS-CII of companion `who`
+abbrev pub HasCiiOf : ℕ → List TvEvent → History → Type 0
+HasCiiOf who events own = HasCii (kind_of (cii_of who) own) (is_open (cii_of who) own) (lived_after (cii_of who) events)
 
 -- and that of CSS-TS, where this was exchanged
-abbrev pub HasTsOf : Header → List TvEvent → History → Exchanged → Type 0
-HasTsOf header events own x = HasTs (setup_of 1 header) (kind_of 2 own) (is_open 2 own) (lived_after 2 events) x
+abbrev pub HasTsOf : Header → ℕ → List TvEvent → History → Exchanged → Type 0
+HasTsOf header who events own x = HasTs (setup_of who header) (kind_of (ts_of who) own) (is_open (ts_of who) own) (lived_after (ts_of who) events) x
 
--- Both sessions of companion 1 are as both ends know them, and there is no other one.
-pub record HasTalked (header : Header) (events : List TvEvent) (own : History) : Type 0 where
-  pub staging : IsStaging events own
-  pub two : AreTwo (calls_of addresses events).sessions
-  pub cii : HasCiiOf events own
-  pub ts : HasTsOf header events own (exchanged events own)
-  pub written : AreWritten (setup_of 1 header) (written_to 2 own)
-  pub shows : Shows (shown_after events) (lived_after 2 events)
+-- Both sessions of companion `who` are as both ends know them.
+pub record HasTalked (header : Header) (who : ℕ) (events : List TvEvent) (own : History) : Type 0 where
+  pub staging : IsStaging who events own
+  pub cii : HasCiiOf who events own
+  pub ts : HasTsOf header who events own (exchanged who events own)
+  pub written : AreWritten (setup_of who header) (written_to (ts_of who) own)
+  pub shows : Shows (shown_after events) (lived_after (ts_of who) events)
 
-module _ (header : Header) (events : List TvEvent) (own : History) (talked : HasTalked header events own) where
+module _ (header : Header) (who : ℕ) (events : List TvEvent) (own : History)
+    (talked : HasTalked header who events own) where
   -- the session of CSS-CII goes on
-  pub cii_goes : (new : List TvEvent) → LifeGoesOn 1 events new → HasCiiOf new own
+  pub cii_goes : (new : List TvEvent) → LifeGoesOn (cii_of who) events new → HasCiiOf who new own
   cii_goes new on =
-      cii_on (kind_of 1 own) (is_open 1 own) (shown_after events) (shown_after new) (lived_after 1 events)
-      (lived_after 1 new) on talked.cii
+      cii_on (kind_of (cii_of who) own) (is_open (cii_of who) own) (shown_after events) (shown_after new) (lived_after (cii_of who) events)
+      (lived_after (cii_of who) new) on talked.cii
 
   -- so does that of CSS-TS
-  pub ts_goes : (new : List TvEvent) → LifeGoesOn 2 events new → HasTsOf header new own (exchanged events own)
+  pub ts_goes : (new : List TvEvent) → LifeGoesOn (ts_of who) events new → HasTsOf header who new own (exchanged who events own)
   ts_goes new on =
-      ts_on (setup_of 1 header) (kind_of 2 own) (is_open 2 own) (shown_after events) (shown_after new)
-      (lived_after 2 events) (lived_after 2 new) (exchanged events own) on talked.ts
+      ts_on (setup_of who header) (kind_of (ts_of who) own) (is_open (ts_of who) own) (shown_after events) (shown_after new)
+      (lived_after (ts_of who) events) (lived_after (ts_of who) new) (exchanged who events own) on talked.ts
 
   -- with what it was told
-  pub shows_goes : (new : List TvEvent) → LifeGoesOn 2 events new → Shows (shown_after new) (lived_after 2 new)
+  pub shows_goes : (new : List TvEvent) → LifeGoesOn (ts_of who) events new → Shows (shown_after new) (lived_after (ts_of who) new)
   shows_goes new on =
-      shows_on (shown_after events) (shown_after new) (lived_after 2 events) (lived_after 2 new) on talked.shows
+      shows_on (shown_after events) (shown_after new) (lived_after (ts_of who) events) (lived_after (ts_of who) new) on talked.shows
 
   -- an open session of CSS-CII has its states
-  pub cii_live : is_open 1 own ≡ true
-      → (kind_of 1 own ≡ Some session.Cii) × IsCiiOpened (lived_after 1 events) (is_open 1 own)
-  cii_live live = cii_opened (kind_of 1 own) (is_open 1 own) (lived_after 1 events) live talked.cii
+  pub cii_live : is_open (cii_of who) own ≡ true
+      → (kind_of (cii_of who) own ≡ Some session.Cii) × IsCiiOpened (lived_after (cii_of who) events) (is_open (cii_of who) own)
+  cii_live live = cii_opened (kind_of (cii_of who) own) (is_open (cii_of who) own) (lived_after (cii_of who) events) live talked.cii
 
   -- and is over where it closes
-  pub cii_ends : is_open 1 own ≡ true → HasCii (kind_of 1 own) false (option_map ended (lived_after 1 events))
-  cii_ends live = cii_over (kind_of 1 own) (is_open 1 own) (lived_after 1 events) live talked.cii
+  pub cii_ends : is_open (cii_of who) own ≡ true → HasCii (kind_of (cii_of who) own) false (option_map ended (lived_after (cii_of who) events))
+  cii_ends live = cii_over (kind_of (cii_of who) own) (is_open (cii_of who) own) (lived_after (cii_of who) events) live talked.cii
 
   -- its end doesn't close a session of CSS-TS
-  pub cii_apart : is_ts (kind_of 1 own) ≡ false
-  cii_apart = cii_not_ts (kind_of 1 own) (is_open 1 own) (lived_after 1 events) talked.cii
+  pub cii_apart : is_ts (kind_of (cii_of who) own) ≡ false
+  cii_apart = cii_not_ts (kind_of (cii_of who) own) (is_open (cii_of who) own) (lived_after (cii_of who) events) talked.cii
 
   -- an open session of CSS-TS has its life
-  pub ts_live : is_open 2 own ≡ true
-      → (kind_of 2 own ≡ Some session.Ts)
-      × IsOpened (setup_of 1 header) (lived_after 2 events) (is_open 2 own) (exchanged events own)
+  pub ts_live : is_open (ts_of who) own ≡ true
+      → (kind_of (ts_of who) own ≡ Some session.Ts)
+      × IsOpened (setup_of who header) (lived_after (ts_of who) events) (is_open (ts_of who) own) (exchanged who events own)
   ts_live live =
-      ts_opened (setup_of 1 header) (kind_of 2 own) (is_open 2 own) (lived_after 2 events) (exchanged events own) live
+      ts_opened (setup_of who header) (kind_of (ts_of who) own) (is_open (ts_of who) own) (lived_after (ts_of who) events) (exchanged who events own) live
       talked.ts
 
   -- and is then as it is opened
-  pub ts_becomes : (live : Bool) (new : List TvEvent) (x : Exchanged) → is_open 2 own ≡ true
-      → IsOpened (setup_of 1 header) (lived_after 2 new) live x
-      → HasTs (setup_of 1 header) (kind_of 2 own) live (lived_after 2 new) x
+  pub ts_becomes : (live : Bool) (new : List TvEvent) (x : Exchanged) → is_open (ts_of who) own ≡ true
+      → IsOpened (setup_of who header) (lived_after (ts_of who) new) live x
+      → HasTs (setup_of who header) (kind_of (ts_of who) own) live (lived_after (ts_of who) new) x
   ts_becomes live new x was is =
-      subst (λ k. HasTs (setup_of 1 header) k live (lived_after 2 new) x) (sym (ts_live was).0) is
+      subst (λ k. HasTs (setup_of who header) k live (lived_after (ts_of who) new) x) (sym (ts_live was).0) is
 
   -- one that was never opened has none
-  pub ts_never : is_some (kind_of 2 own) ≡ false
-      → IsUnopened (lived_after 2 events) (is_open 2 own) (exchanged events own)
+  pub ts_never : is_some (kind_of (ts_of who) own) ≡ false
+      → IsUnopened (lived_after (ts_of who) events) (is_open (ts_of who) own) (exchanged who events own)
   ts_never never =
-      ts_unopened (setup_of 1 header) (kind_of 2 own) (is_open 2 own) (lived_after 2 events) (exchanged events own)
+      ts_unopened (setup_of who header) (kind_of (ts_of who) own) (is_open (ts_of who) own) (lived_after (ts_of who) events) (exchanged who events own)
       never talked.ts
 
 -- ---- a text that comes to the television
 -- after a text of its companion a session has its setup
-pub record TextComes (setup : Setup) (received : List (List ℕ)) (bytes : List ℕ) (after : List TvEvent) : Type 0 where
+pub record TextComes (peer : ℕ) (setup : Setup) (received : List (List ℕ)) (bytes : List ℕ)
+    (after : List TvEvent) : Type 0 where
   pub life : Life
-  pub is : lived_after 2 after ≡ lived_as life true
+  pub is : lived_after peer after ≡ lived_as life true
   pub of : IsLifeOf setup (bytes ∷ received) life
-  pub shows : Shows (shown_after after) (lived_after 2 after)
+  pub shows : Shows (shown_after after) (lived_after peer after)
 
 -- with a presentation its life goes on
-presentation_comes : (setup : Setup) (received : List (List ℕ)) (bytes : List ℕ) (p : Player) (ps : List Player)
-    (after : List TvEvent) → Shows (shown_after after) (lived_after 2 after)
-    → (lived_after 2 after ≡ lived_as (TsLife setup p ps) true)
-    ⊎ (lived_after 2 after ≡ lived_as (TsLife setup p (shown_after after ∷ ps)) true)
-    → TextComes setup received bytes after
-presentation_comes setup received bytes p ps after shows (inl same) =
+presentation_comes : (peer : ℕ) (setup : Setup) (received : List (List ℕ)) (bytes : List ℕ) (p : Player) (ps : List Player)
+    (after : List TvEvent) → Shows (shown_after after) (lived_after peer after)
+    → (lived_after peer after ≡ lived_as (TsLife setup p ps) true)
+    ⊎ (lived_after peer after ≡ lived_as (TsLife setup p (shown_after after ∷ ps)) true)
+    → TextComes peer setup received bytes after
+presentation_comes peer setup received bytes p ps after shows (inl same) =
     record { life = TsLife setup p ps; is = same; of = (p, ps, refl); shows = shows }
-presentation_comes setup received bytes p ps after shows (inr grown) =
+presentation_comes peer setup received bytes p ps after shows (inr grown) =
     let more = shown_after after ∷ ps in
     record { life = TsLife setup p more; is = grown; of = (p, more, refl); shows = shows }
 
 -- A text that its companion wrote comes to an open session.
-pub text_comes : (setup : Setup) (received : List (List ℕ)) (life : Life) (bytes : List ℕ) (events : List TvEvent)
-    → IsStaged addresses (calls_of addresses events) → lived_after 2 events ≡ lived_as life true
+pub text_comes : (peer : ℕ) (setup : Setup) (received : List (List ℕ)) (life : Life) (bytes : List ℕ) (events : List TvEvent)
+    → IsStaged addresses (calls_of addresses events) → lived_after peer events ≡ lived_as life true
     → IsLifeOf setup received life → IsWrittenAt setup bytes (length received)
-    → Shows (shown_after events) (lived_after 2 events) → TextComes setup received bytes (event.Heard 2 bytes ∷ events)
-text_comes setup [] life bytes events staged is of written shows =
-    let after = event.Heard 2 bytes ∷ events in
+    → Shows (shown_after events) (lived_after peer events) → TextComes peer setup received bytes (event.Heard peer bytes ∷ events)
+text_comes peer setup [] life bytes events staged is of written shows =
+    let after = event.Heard peer bytes ∷ events in
     let unset = is ∙ ap (λ (l : Life). lived_as l true) of in
-    let set = sets_up 2 setup bytes events staged unset written in
+    let set = sets_up peer setup bytes events staged unset written in
     record {
       life = TsLife setup (shown_after events) [];
       is = set.life;
       of = (shown_after events, [], refl);
       shows = subst (Shows (shown_after after)) (sym set.life) (λ on. ap (control_for setup) (sym set.shown));
     }
-text_comes setup (text ∷ older) life bytes events staged is of written shows =
+text_comes peer setup (text ∷ older) life bytes events staged is of written shows =
     let p = of.0 in
     let ps = of.1 in
-    let after = event.Heard 2 bytes ∷ events in
-    let old = lived_after 2 events in
-    let new = lived_after 2 after in
+    let after = event.Heard peer bytes ∷ events in
+    let old = lived_after peer events in
+    let new = lived_after peer after in
     let before = is ∙ ap (λ (l : Life). lived_as l true) of.2 in
-    let on = presents 2 setup p ps bytes written.0 events staged before written.1 in
+    let on = presents peer setup p ps bytes written.0 events staged before written.1 in
     let q = shown_after after in
-    presentation_comes setup (text ∷ older) bytes p ps after (shows_on (shown_after events) q old new on shows)
+    presentation_comes peer setup (text ∷ older) bytes p ps after (shows_on (shown_after events) q old new on shows)
     (some_on (shown_after events) q old new (TsLife setup p ps) true on before)

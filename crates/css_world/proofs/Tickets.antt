@@ -1,10 +1,11 @@
 -- Where the tickets of accepted lines come from.
 use Rattle.std.proofs.Common.{◌≡◌, ℕ, suc, ◌<◌, ◌≤◌, ◌⊎◌, inl, inr, arith, ap, sym, subst, ◌∙◌}
 use Rattle.std.proofs.Common.{refl, Bool, true, false, cond, ◌==◌, List, [], ◌∷◌, ◌++◌, length}
-use Rattle.std.specs.Prelude.{All, Option, Some, None, Result}
+use Rattle.std.specs.Prelude.{All, Option, Some, None, is_some, Result}
 use Rattle.std.specs.Option.{option_map, option_and_then, option_to_list}
 use Rattle.std.specs.Result.{result_ok}
 use Rattle.std.proofs.lemmas.Bool.{eqb-true}
+use Rattle.std.proofs.lemmas.Bool.Decides.{eqb_tells}
 use Rattle.css_model.specs.declared.TheConstants.{LIMIT}
 use Rattle.css_model.specs.declared.Stamp.{Stamp}
 use Rattle.css_model.specs.declared.Message.{Message}
@@ -21,14 +22,15 @@ use Rattle.css_schedule.specs.declared.header.Header.{Header}
 use Rattle.css_schedule.specs.declared.line.Verb.{Verb}
 use Rattle.css_schedule.specs.declared.line.Verb.TheVariants.{Ask, Take}
 use Rattle.css_schedule.specs.Ranges.{IsVerb}
-use Rattle.css_world.specs.Happened.{Numbered, asked_by, requests, ticket_at, ticket_by}
-use Rattle.css_world.specs.Happened.{tickets, datagrams, events_of, history_of, peer}
+use Rattle.css_world.specs.Happened.{Numbered, asked_by, requests, askers, ticket_at, ticket_by, asker_by}
+use Rattle.css_world.specs.Happened.{tickets, taken_for, datagrams, events_of, history_of, peer}
 use Rattle.css_world.specs.Numbering.{numbered}
 use Rattle.css_world.specs.Verdicts.{tv_reading}
 use Rattle.css_world.specs.Standing.{AreAccepted}
 use Rattle.css_world.specs.Worlds.{moment}
 use Rattle.css_world.proofs.Worlds.{all-head, all-tail, tested_ok}
-use Rattle.css_world.proofs.Lawful.{done_at, history-now, once_by, request_back}
+use Rattle.css_world.proofs.Ends.{history_now, history_other}
+use Rattle.css_world.proofs.Lawful.{done_at, once_by, request_back}
 use Rattle.css_world.proofs.Moments.{Agrees, NearBy, tv_near, entries-here}
 
 -- ---- lists
@@ -41,6 +43,24 @@ numbered-in number (item ∷ older) a e = by (number == suc (length older)) e (n
         → (numbered number older ≡ Some a → IsIn a older) → IsIn a (item ∷ older)
     by true p next = inl (cc)
     by false p next = inr (next p)
+
+-- items of two lists of equal length have the same numbers
+pub numbered-both : {A B : Type 0} (number : ℕ) (xs : List A) (ys : List B) → length xs ≡ length ys
+    → is_some (numbered number xs) ≡ is_some (numbered number ys)
+numbered-both number [] [] same = refl
+numbered-both number [] (y ∷ ys) same = absurd (omega (arith, same))
+numbered-both number (x ∷ xs) [] same = absurd (omega (arith, same))
+numbered-both number (x ∷ xs) (y ∷ ys) same =
+    let counts : length xs ≡ length ys = omega (arith, same) in
+    by (number == suc (length xs)) (number == suc (length ys)) (ap (λ n. number == suc n) counts)
+    (numbered-both number xs ys counts)
+  where
+    by : (a b : Bool) → a ≡ b → is_some (numbered number xs) ≡ is_some (numbered number ys)
+        → is_some (cond a (Some x) (numbered number xs)) ≡ is_some (cond b (Some y) (numbered number ys))
+    by true true equal older = refl
+    by false false equal older = older
+    by true false equal older = absurd (cc)
+    by false true equal older = absurd (cc)
 
 -- an item of two lists, one after the other, is among one of them
 pub in-append : {A : Type 0} (xs ys : List A) (a : A) → IsIn a (xs ++ ys) → IsIn a xs ⊎ IsIn a ys
@@ -64,31 +84,80 @@ all-in P [] a each h = absurd h
 all-in P (x ∷ xs) a each (inl e) = subst P (sym e) (all-head P x xs each)
 all-in P (x ∷ xs) a each (inr h) = all-in P xs a (all-tail P x xs each) h
 
+-- the newest item has the number of their count
+numbered-newest : {A : Type 0} (number : ℕ) (item : A) (older : List A) (a : A)
+    → (number == suc (length older)) ≡ true → numbered number (item ∷ older) ≡ Some a → item ≡ a
+numbered-newest number item older a is e =
+    let same : Some item ≡ Some a = sym (ap (λ b. cond b (Some item) (numbered number older)) is) ∙ e in cc
+
+-- each other item is an older one
+numbered-older : {A : Type 0} (number : ℕ) (item : A) (older : List A) (a : A)
+    → (number == suc (length older)) ≡ false → numbered number (item ∷ older) ≡ Some a → numbered number older ≡ Some a
+numbered-older number item older a is e =
+    sym (ap (λ b. cond b (Some item) (numbered number older)) is) ∙ e
+
+-- ---- the companions of requests and of takes
+-- each request has its companion
+pub askers_count : (lines : List Numbered) → length (askers lines) ≡ length (requests lines)
+askers_count [] = refl
+askers_count (now ∷ older) = by (asked_by now.line.verb) (askers_count older)
+  where
+    by : (o : Option ℕ) → length (askers older) ≡ length (requests older)
+        → length (option_to_list (option_map (λ reading. now.line.who) o) ++ askers older)
+        ≡ length (option_to_list o ++ requests older)
+    by None same = same
+    by (Some reading) same = ap suc same
+
+-- so has each take
+pub takes_count : (header : Header) (lines : List Numbered) → length (taken_for lines) ≡ length (tickets header lines)
+takes_count header [] = refl
+takes_count header (now ∷ older) = by now.line.verb (takes_count header older)
+  where
+    both : (reading : ℕ) (o w : Option ℕ) → is_some o ≡ is_some w
+        → length (taken_for older) ≡ length (tickets header older)
+        → length (option_to_list w ++ taken_for older)
+        ≡ length (option_to_list (option_map (ticket_at header (tickets header older) reading) o) ++ tickets header older)
+    both reading None None same counts = counts
+    both reading (Some asked) (Some who) same counts = ap suc counts
+    both reading None (Some who) same counts = absurd (cc)
+    both reading (Some asked) None same counts = absurd (cc)
+
+    by : (v : Verb) → length (taken_for older) ≡ length (tickets header older)
+        → length (option_to_list (asker_by (askers older) v) ++ taken_for older)
+        ≡ length (option_to_list (ticket_by header (requests older) (tickets header older) v) ++ tickets header older)
+    by (Take request reading) counts =
+        both reading (numbered request (requests older)) (numbered request (askers older))
+        (numbered-both request (requests older) (askers older) (sym (askers_count older))) counts
+    by _ counts = counts
+
 -- ---- requests
--- The request of a reading was sent at lines, in the entry of that number.
-pub record IsSent (moment_of : ℕ → ℕ) (header : Header) (lines : List Numbered) (reading : ℕ) : Type 0 where
+-- The request of a reading was sent by companion `who` at lines, in the entry of that number.
+pub record IsSent (moment_of : ℕ → ℕ) (header : Header) (who : ℕ) (lines : List Numbered) (reading : ℕ) : Type 0 where
   pub ask : ℕ
-  pub was : WasAsked (stamp_of reading) ask (history_of 1 header lines)
+  pub was : WasAsked (stamp_of reading) ask (history_of who header lines)
   pub before : moment_of ask < length lines
   pub range : reading < LIMIT
 
 -- what was asked stays so
-pub was-longer : (header : Header) (now : Numbered) (older : List Numbered) (originate : Stamp) (ask : ℕ)
-    → now.line.who ≡ 1
-    → WasAsked originate ask (history_of 1 header older) → WasAsked originate ask (history_of 1 header (now ∷ older))
-was-longer header now older originate ask one h =
+pub was-longer : (header : Header) (who : ℕ) (now : Numbered) (older : List Numbered) (originate : Stamp) (ask : ℕ)
+    → WasAsked originate ask (history_of who header older) → WasAsked originate ask (history_of who header (now ∷ older))
+was-longer header who now older originate ask h =
     let P : Entry → History → Type 0 = λ entry before. (request_by entry ≡ Some originate)
     × (asked : IsJustAsked originate before) × (ask ≡ length asked.before) in
-    subst (λ (x : History). WasAsked originate ask x) (sym (history-now header now older one))
-    (once_by P header 1 (datagrams header older) (events_of header older) now.line.verb (history_of 1 header older) h)
+    elim (eqb_tells now.line.who who) [
+      | inl own ↦
+          subst (λ (x : History). WasAsked originate ask x) (sym (history_now header now older who own.1))
+          (once_by P header who (datagrams header older) (events_of header older) now.line.verb
+          (history_of who header older) h)
+      | inr other ↦ subst (λ (x : History). WasAsked originate ask x) (sym (history_other header now older who other.1)) h
+    ]
 
 -- what was sent stays so
-sent-longer : (moment_of : ℕ → ℕ) (header : Header) (now : Numbered) (older : List Numbered) (reading : ℕ)
-    → now.line.who ≡ 1
-    → IsSent moment_of header older reading → IsSent moment_of header (now ∷ older) reading
-sent-longer moment_of header now older reading one sent = record {
+sent-longer : (moment_of : ℕ → ℕ) (header : Header) (who : ℕ) (now : Numbered) (older : List Numbered) (reading : ℕ)
+    → IsSent moment_of header who older reading → IsSent moment_of header who (now ∷ older) reading
+sent-longer moment_of header who now older reading sent = record {
   ask = sent.ask;
-  was = was-longer header now older (stamp_of reading) sent.ask one sent.was;
+  was = was-longer header who now older (stamp_of reading) sent.ask sent.was;
   before = omega (arith, sent.before);
   range = sent.range;
 }
@@ -102,71 +171,93 @@ request_by-sent reading range =
     (request_back reading range)
 
 -- the request of the newest line was sent there
-sent-now : (header : Header) (older : List Numbered) (reading : ℕ) → reading < LIMIT
-    → WasAsked (stamp_of reading) (length (history_of 1 header older)) (done_at header older (Ask reading))
-sent-now header older reading range =
+sent-now : (header : Header) (who : ℕ) (older : List Numbered) (reading : ℕ) → reading < LIMIT
+    → WasAsked (stamp_of reading) (length (history_of who header older)) (done_at header older who (Ask reading))
+sent-now header who older reading range =
     inl (
       request_by-sent reading range,
       record {
         reading = reading;
-        before = history_of 1 header older;
+        before = history_of who header older;
         just_before = refl;
         same = refl;
       },
       refl,
     )
 
--- the entries of a line that says this are made at the moment of the line
-abbrev pub AreHere : (ℕ → ℕ) → Header → List Numbered → Verb → Type 0
-AreHere moment_of header older verb =
-    (entry : ℕ) → length (history_of 1 header older) ≤ entry → entry < length (done_at header older verb)
+-- the entries of a line of companion `who` that says this are made at the moment of the line
+abbrev pub AreHere : (ℕ → ℕ) → Header → ℕ → List Numbered → Verb → Type 0
+AreHere moment_of header who older verb =
+    (entry : ℕ) → length (history_of who header older) ≤ entry → entry < length (done_at header older who verb)
     → moment_of entry ≡ length older
 
 -- a request of this line was sent at its moment
-sent_by-line : (moment_of : ℕ → ℕ) (header : Header) (now : Numbered) (older : List Numbered) (reading : ℕ)
-    (verb : Verb) → now.line.verb ≡ verb → now.line.who ≡ 1
-    → IsVerb verb → AreHere moment_of header older now.line.verb
-    → asked_by verb ≡ Some reading → IsSent moment_of header (now ∷ older) reading
-sent_by-line moment_of header now older reading (Ask asked) is one range here e =
-    let h : History = history_of 1 header older in
+sent_by-line : (moment_of : ℕ → ℕ) (header : Header) (who : ℕ) (now : Numbered) (older : List Numbered) (reading : ℕ)
+    (verb : Verb) → now.line.verb ≡ verb → now.line.who ≡ who
+    → IsVerb verb → AreHere moment_of header who older now.line.verb
+    → asked_by verb ≡ Some reading → IsSent moment_of header who (now ∷ older) reading
+sent_by-line moment_of header who now older reading (Ask asked) is own range here e =
+    let h : History = history_of who header older in
     let same : asked ≡ reading = cc in
-    let here_too : AreHere moment_of header older (Ask asked) = subst (AreHere moment_of header older) is here in
+    let here_too : AreHere moment_of header who older (Ask asked) =
+    subst (AreHere moment_of header who older) is here in
     let at : moment_of (length h) ≡ length older = here_too (length h) (omega arith) (omega arith) in
     let in_range : reading < LIMIT = subst (λ (r : ℕ). r < LIMIT) same range in
     record {
       ask = length h;
-      was = subst (λ (x : History). WasAsked (stamp_of reading) (length h) x) (sym (history-now header now older one))
-          (subst (λ (v : Verb). WasAsked (stamp_of reading) (length h) (done_at header older v)) (sym is)
-          (subst (λ (r : ℕ). WasAsked (stamp_of reading) (length h) (done_at header older (Ask r))) (sym same)
-          (sent-now header older reading in_range)));
+      was = subst (λ (x : History). WasAsked (stamp_of reading) (length h) x)
+          (sym (history_now header now older who own))
+          (subst (λ (v : Verb). WasAsked (stamp_of reading) (length h) (done_at header older who v)) (sym is)
+          (subst (λ (r : ℕ). WasAsked (stamp_of reading) (length h) (done_at header older who (Ask r))) (sym same)
+          (sent-now header who older reading in_range)));
       before = omega (arith, at);
       range = in_range;
     }
-sent_by-line moment_of header now older reading _ is one range here e = absurd (cc)
+sent_by-line moment_of header who now older reading _ is own range here e = absurd (cc)
 
--- each request of accepted lines was sent
-pub sent_each : (world : World) (moment_of : ℕ → ℕ) (header : Header) (lines : List Numbered) (reading : ℕ)
-    → AreAccepted header lines → Agrees world moment_of header lines
-    → IsIn reading (requests lines) → IsSent moment_of header lines reading
-sent_each world moment_of header [] reading accepted agreed h = absurd h
-sent_each world moment_of header (now ∷ older) reading accepted agreed h =
-    elim (in-append (option_to_list (asked_by now.line.verb)) (requests older) reading h) [
-      | inl p ↦ sent_by-line moment_of header now older reading now.line.verb refl accepted.1 accepted.0.verb
-          (entries-here moment_of header now older accepted.1 agreed.1) (in-option (asked_by now.line.verb) reading p)
-      | inr q ↦ sent-longer moment_of header now older reading accepted.1
-          (sent_each world moment_of header older reading accepted.4 agreed.2 q)
-    ]
+-- each request that companion `who` sent at accepted lines was sent
+pub sent_each : (world : World) (moment_of : ℕ → ℕ) (header : Header) (who : ℕ) (lines : List Numbered)
+    (number reading : ℕ) → AreAccepted header lines → Agrees world moment_of header who lines
+    → numbered number (requests lines) ≡ Some reading → numbered number (askers lines) ≡ Some who
+    → IsSent moment_of header who lines reading
+sent_each world moment_of header who [] number reading accepted agreed p q = absurd (cc)
+sent_each world moment_of header who (now ∷ older) number reading accepted agreed p q =
+    by (asked_by now.line.verb) refl p q
+    (λ u v. sent_each world moment_of header who older number reading accepted.4 agreed.2 u v)
+  where
+    by : (o : Option ℕ) → asked_by now.line.verb ≡ o
+        → numbered number (option_to_list o ++ requests older) ≡ Some reading
+        → numbered number (option_to_list (option_map (λ r. now.line.who) o) ++ askers older) ≡ Some who
+        → (numbered number (requests older) ≡ Some reading → numbered number (askers older) ≡ Some who
+        → IsSent moment_of header who older reading)
+        → IsSent moment_of header who (now ∷ older) reading
+    by None is p q earlier = sent-longer moment_of header who now older reading (earlier p q)
+    by (Some asked) is p q earlier = at (number == suc (length (requests older))) refl
+      where
+        count : (number == suc (length (requests older))) ≡ (number == suc (length (askers older)))
+        count = ap (λ n. number == suc n) (sym (askers_count older))
+
+        at : (b : Bool) → (number == suc (length (requests older))) ≡ b → IsSent moment_of header who (now ∷ older) reading
+        at true newest =
+            let same = numbered-newest number asked (requests older) reading newest p in
+            let own = numbered-newest number now.line.who (askers older) who (sym count ∙ newest) q in
+            sent_by-line moment_of header who now older reading now.line.verb refl own accepted.0.verb
+            (entries-here moment_of header who now older own agreed.1) (is ∙ ap Some same)
+        at false older_one =
+            sent-longer moment_of header who now older reading
+            (earlier (numbered-older number asked (requests older) reading older_one p)
+            (numbered-older number now.line.who (askers older) who (sym count ∙ older_one) q))
 
 -- ---- tickets
--- A ticket was given at a moment of the lines, for a request that was sent before; its reading is near the wall clock
--- there.
-pub record IsTaken (world : World) (moment_of : ℕ → ℕ) (header : Header) (lines : List Numbered)
+-- A ticket was given at a moment of the lines, for a request that companion `who` sent before; its reading is near the
+-- wall clock there.
+pub record IsTaken (world : World) (moment_of : ℕ → ℕ) (header : Header) (who : ℕ) (lines : List Numbered)
     (ticket : Ticket) : Type 0 where
   pub asked : ℕ
   pub ask : ℕ
   pub received_at : ℕ
   pub originate : ticket.originate ≡ stamp_of asked
-  pub was : WasAsked (stamp_of asked) ask (history_of 1 header lines)
+  pub was : WasAsked (stamp_of asked) ask (history_of who header lines)
   pub later : moment_of ask ≤ received_at
   pub before : received_at < length lines
   pub near : IsWithin (precision_ns header.tv_precision) ticket.reading (world received_at).wall
@@ -174,15 +265,15 @@ pub record IsTaken (world : World) (moment_of : ℕ → ℕ) (header : Header) (
   pub range : ticket.reading < LIMIT
 
 -- what was taken stays so
-abbrev pub taken-longer : (world : World) (moment_of : ℕ → ℕ) (header : Header) (now : Numbered) (older : List Numbered)
-    (ticket : Ticket) → now.line.who ≡ 1
-    → IsTaken world moment_of header older ticket → IsTaken world moment_of header (now ∷ older) ticket
-taken-longer world moment_of header now older ticket one taken = record {
+abbrev pub taken-longer : (world : World) (moment_of : ℕ → ℕ) (header : Header) (who : ℕ) (now : Numbered)
+    (older : List Numbered) (ticket : Ticket)
+    → IsTaken world moment_of header who older ticket → IsTaken world moment_of header who (now ∷ older) ticket
+taken-longer world moment_of header who now older ticket taken = record {
   asked = taken.asked;
   ask = taken.ask;
   received_at = taken.received_at;
   originate = taken.originate;
-  was = was-longer header now older (stamp_of taken.asked) taken.ask one taken.was;
+  was = was-longer header who now older (stamp_of taken.asked) taken.ask taken.was;
   later = taken.later;
   before = omega (arith, taken.before);
   near = taken.near;
@@ -190,56 +281,86 @@ taken-longer world moment_of header now older ticket one taken = record {
   range = taken.range;
 }
 
--- what is mapped from an option comes from its value
-from_map : {A B : Type 0} (f : A → B) (o : Option A) (b : B) → option_map f o ≡ Some b
-    → (a : A) × (o ≡ Some a) × (b ≡ f a)
-from_map f None b e = absurd (cc)
-from_map f (Some a) b e = (a, refl, cc)
-
--- a ticket of this line was taken at its moment
-taken_by-line : (world : World) (moment_of : ℕ → ℕ) (header : Header) (now : Numbered) (older : List Numbered)
-    (ticket : Ticket) (verb : Verb)
-    → now.line.who ≡ 1 → IsVerb verb → world (length older) ≡ moment now.line
-    → NearBy (precision_ns header.tv_precision) now.line.w (tv_reading verb)
-    → ((reading : ℕ) → IsIn reading (requests older) → IsSent moment_of header older reading)
-    → ticket_by header (requests older) (tickets header older) verb ≡ Some ticket
-    → IsTaken world moment_of header (now ∷ older) ticket
-taken_by-line world moment_of header now older ticket (Take request reading) one range at near sent e =
-    let from =
-    from_map (ticket_at header (tickets header older) reading) (numbered request (requests older)) ticket e in
-    let asked = from.0 in
-    let known = sent asked (numbered-in request (requests older) asked from.1) in
-    let value : ticket.reading ≡ reading = ap (λ (t : Ticket). t.reading) from.2 in
+-- a ticket for this request was taken at the moment of the newest line
+taken-now : (world : World) (moment_of : ℕ → ℕ) (header : Header) (who : ℕ) (now : Numbered) (older : List Numbered)
+    (ticket : Ticket) (reading asked : ℕ)
+    → reading < LIMIT → world (length older) ≡ moment older now
+    → IsWithin (precision_ns header.tv_precision) reading now.line.w
+    → IsSent moment_of header who older asked → ticket_at header (tickets header older) reading asked ≡ ticket
+    → IsTaken world moment_of header who (now ∷ older) ticket
+taken-now world moment_of header who now older ticket reading asked range at near known is =
+    let value : reading ≡ ticket.reading = ap (λ (t : Ticket). t.reading) is in
     record {
       asked = asked;
       ask = known.ask;
       received_at = length older;
-      originate = ap (λ (t : Ticket). t.originate) from.2;
-      was = was-longer header now older (stamp_of asked) known.ask one known.was;
+      originate = sym (ap (λ (t : Ticket). t.originate) is);
+      was = was-longer header who now older (stamp_of asked) known.ask known.was;
       later = omega (arith, known.before);
       before = omega arith;
-      near = subst (λ (r : ℕ). IsWithin (precision_ns header.tv_precision) r (world (length older)).wall) (sym value)
+      near = subst (λ (r : ℕ). IsWithin (precision_ns header.tv_precision) r (world (length older)).wall) value
           (subst (λ (w : ℕ). IsWithin (precision_ns header.tv_precision) reading w) (sym (ap (λ m. m.wall) at)) near);
       asked_range = known.range;
-      range = subst (λ (r : ℕ). r < LIMIT) (sym value) range.reading;
+      range = subst (λ (r : ℕ). r < LIMIT) value range;
     }
-taken_by-line world moment_of header now older ticket _ one range at near sent e = absurd (cc)
 
--- each ticket of accepted lines was given for a request that was sent
-pub taken_each : (world : World) (moment_of : ℕ → ℕ) (header : Header) (lines : List Numbered) (ticket : Ticket)
-    → AreAccepted header lines → Agrees world moment_of header lines
-    → IsIn ticket (tickets header lines) → IsTaken world moment_of header lines ticket
-taken_each world moment_of header [] ticket accepted agreed h = absurd h
-taken_each world moment_of header (now ∷ older) ticket accepted agreed h =
-    elim (in-append (option_to_list (ticket_by header (requests older) (tickets header older) now.line.verb))
-    (tickets header older) ticket h) [
-      | inl p ↦ taken_by-line world moment_of header now older ticket now.line.verb accepted.1 accepted.0.verb agreed.0
-          (tv_near header older now (tested_ok header older now accepted.3.0 accepted.3.1))
-          (λ reading in_requests. sent_each world moment_of header older reading accepted.4 agreed.2 in_requests)
-          (in-option (ticket_by header (requests older) (tickets header older) now.line.verb) ticket p)
-      | inr q ↦ taken-longer world moment_of header now older ticket accepted.1
-          (taken_each world moment_of header older ticket accepted.4 agreed.2 q)
-    ]
+-- each ticket of accepted lines for a request of companion `who` was given for a request that it sent
+pub taken_each : (world : World) (moment_of : ℕ → ℕ) (header : Header) (who : ℕ) (lines : List Numbered)
+    (number : ℕ) (ticket : Ticket) → AreAccepted header lines → Agrees world moment_of header who lines
+    → numbered number (tickets header lines) ≡ Some ticket → numbered number (taken_for lines) ≡ Some who
+    → IsTaken world moment_of header who lines ticket
+taken_each world moment_of header who [] number ticket accepted agreed p q = absurd (cc)
+taken_each world moment_of header who (now ∷ older) number ticket accepted agreed p q =
+    by now.line.verb accepted.0.verb (tv_near header older now (tested_ok header older now accepted.3.0 accepted.3.1)) p q
+    (λ u v. taken_each world moment_of header who older number ticket accepted.4 agreed.2 u v)
+  where
+    -- what was taken before stays so
+    longer : (earlier : IsTaken world moment_of header who older ticket)
+        → IsTaken world moment_of header who (now ∷ older) ticket
+    longer earlier = taken-longer world moment_of header who now older ticket earlier
+
+    by : (v : Verb) → IsVerb v → NearBy (precision_ns header.tv_precision) now.line.w (tv_reading v)
+        → numbered number (option_to_list (ticket_by header (requests older) (tickets header older) v)
+        ++ tickets header older) ≡ Some ticket
+        → numbered number (option_to_list (asker_by (askers older) v) ++ taken_for older) ≡ Some who
+        → (numbered number (tickets header older) ≡ Some ticket → numbered number (taken_for older) ≡ Some who
+        → IsTaken world moment_of header who older ticket)
+        → IsTaken world moment_of header who (now ∷ older) ticket
+    by (Take request reading) range near p q earlier =
+        both (numbered request (requests older)) (numbered request (askers older)) refl refl p q
+      where
+        count : (number == suc (length (tickets header older))) ≡ (number == suc (length (taken_for older)))
+        count = ap (λ n. number == suc n) (sym (takes_count header older))
+
+        both : (o w : Option ℕ) → numbered request (requests older) ≡ o → numbered request (askers older) ≡ w
+            → numbered number (option_to_list (option_map (ticket_at header (tickets header older) reading) o)
+            ++ tickets header older) ≡ Some ticket
+            → numbered number (option_to_list w ++ taken_for older) ≡ Some who
+            → IsTaken world moment_of header who (now ∷ older) ticket
+        both None None is whose p q = longer (earlier p q)
+        both None (Some w) is whose p q =
+            absurd (let none : false ≡ true = sym (ap is_some is)
+            ∙ numbered-both request (requests older) (askers older) (sym (askers_count older)) ∙ ap is_some whose in cc)
+        both (Some asked) None is whose p q =
+            absurd (let none : true ≡ false = sym (ap is_some is)
+            ∙ numbered-both request (requests older) (askers older) (sym (askers_count older)) ∙ ap is_some whose in cc)
+        both (Some asked) (Some w) is whose p q = at (number == suc (length (tickets header older))) refl
+          where
+            new : Ticket
+            new = ticket_at header (tickets header older) reading asked
+
+            at : (b : Bool) → (number == suc (length (tickets header older))) ≡ b
+                → IsTaken world moment_of header who (now ∷ older) ticket
+            at true newest =
+                let same = numbered-newest number new (tickets header older) ticket newest p in
+                let own = numbered-newest number w (taken_for older) who (sym count ∙ newest) q in
+                let sent = sent_each world moment_of header who older request asked accepted.4 agreed.2 is
+                (whose ∙ ap Some own) in
+                taken-now world moment_of header who now older ticket reading asked range.reading agreed.0 near sent same
+            at false older_one =
+                longer (earlier (numbered-older number new (tickets header older) ticket older_one p)
+                (numbered-older number w (taken_for older) who (sym count ∙ older_one) q))
+    by _ range near p q earlier = longer (earlier p q)
 
 -- ---- promises
 promised_by : (header : Header) (asked : List ℕ) (older : List Ticket) (verb : Verb) → ArePromised header.follow older

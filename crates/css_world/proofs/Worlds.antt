@@ -1,20 +1,23 @@
 -- Accepted lines are the moments of a world that keeps the declared errors.
-use Rattle.std.proofs.Common.{◌≡◌, ℕ, suc, ◌<◌, ◌≤◌, arith, ap, sym, subst, ◌∙◌, refl, Bool}
-use Rattle.std.proofs.Common.{true, false, cond, ◌==◌, ltb, List, [], ◌∷◌, map, length}
-use Rattle.std.specs.Prelude.{All, Option, Some, None, Result, Ok, Err}
+use Rattle.std.proofs.Common.{◌≡◌, ◌≢◌, ℕ, zero, suc, ◌<◌, ◌≤◌, arith, ap, sym, subst, ◌∙◌, refl, Bool, inl, inr}
+use Rattle.std.proofs.Common.{true, false, cond, not, ◌==◌, ltb, List, [], ◌∷◌, map, length, ne_eqb}
+use Rattle.std.specs.Prelude.{◌&&◌, All, Option, Some, None, Result, Ok, Err}
 use Rattle.std.specs.List.{filter}
 use Rattle.std.specs.Result.{result_and, result_map_both}
 use Rattle.std.proofs.lemmas.Bool.{lt-ltb, le-ltb, ltb-true, ltb-false, eqb-true, eq-eqb}
+use Rattle.std.proofs.lemmas.Bool.Decides.{eqb_tells}
 use Rattle.css_model.specs.World.{Moment, OwnClock, KeepsErrors, RunsWithin}
 use Rattle.css_moments.specs.Drifts as drifts
-use Rattle.css_moments.specs.Drifts.{Shown, Told, Showed, Keeps, EachPair}
+use Rattle.css_moments.specs.Drifts.{Shown, Told, Showed, Slept, EachPair}
 use Rattle.css_moments.proofs.Pairs.{accepted_keeps}
+use Rattle.css_schedule.specs.Owners.{is_sleep}
 use Rattle.css_schedule.specs.declared.header.Header.{Header}
 use Rattle.css_world.specs.Happened.{Numbered}
-use Rattle.css_world.specs.Worlds.{line_at, moment_or_none, world_of, errors_of, clock_of, moment}
-use Rattle.css_world.specs.Clocks.{Seen, shown_at, told_by, broken_by, clock_verdict}
+use Rattle.css_world.specs.Worlds.{world_of, sleeps_of, errors_of, clock_of, moment}
+use Rattle.css_world.specs.Clocks.{Seen, shown_at, told_with, told_by, broken_by, clock_verdict}
 use Rattle.css_world.specs.Verdicts.{tv_seen, own_seen, seen_of_tv, seen_of, local_of, tested}
-use Rattle.css_world.specs.Verdicts.{shown_tested, reading_tested, carried_out, line_meant}
+use Rattle.css_world.specs.Verdicts.{own_shown_tested, shown_tested, reading_tested, carried_out, line_meant}
+use Rattle.css_world.specs.declared.fault.WorldFault.{WorldFault}
 use Rattle.css_world.specs.Standing.{AreAccepted, IsNext}
 
 -- ---- lists
@@ -25,16 +28,20 @@ all-head P x xs each = each 0 x (omega arith)
 pub all-tail : {A : Type 0} (P : A → Type 0) (x : A) (xs : List A) → All P (x ∷ xs) → All P xs
 all-tail P x xs each = λ k d h. each (suc k) d (omega (arith, h))
 
--- ---- lines by their places
--- the line of which so many came before
-line_at-older : (now : Numbered) (older : List Numbered) (i : ℕ) → i < length older
-    → line_at (now ∷ older) i ≡ line_at older i
-line_at-older now older i h = ap (λ b. cond b (line_at older i) (Some now)) (lt-ltb i (length older) h)
+-- equal values that are there are equal
+same_Some : {A : Type 0} (x y : A) → Some x ≡ Some y → x ≡ y
+same_Some x y e = cc
 
--- the newest line stands for every later number
-pub line_at-now : (now : Numbered) (older : List Numbered) (i : ℕ) → length older ≤ i
-    → line_at (now ∷ older) i ≡ Some now
-line_at-now now older i h = ap (λ b. cond b (line_at older i) (Some now)) (le-ltb i (length older) h)
+-- ---- the moments of lines
+-- the moment of each line, by how many came before it
+pub world-older : (now : Numbered) (older : List Numbered) (i : ℕ) → i < length older
+    → world_of (now ∷ older) i ≡ world_of older i
+world-older now older i h = ap (λ b. cond b (world_of older i) (moment older now)) (lt-ltb i (length older) h)
+
+-- the newest moment stands for every later one
+pub world-now : (now : Numbered) (older : List Numbered) (i : ℕ) → length older ≤ i
+    → world_of (now ∷ older) i ≡ moment older now
+world-now now older i h = ap (λ b. cond b (world_of older i) (moment older now)) (le-ltb i (length older) h)
 
 -- a place is that of an older line, or of the newest
 pub place : {P : Type 0} (i n : ℕ) → (i < n → P) → (n ≤ i → P) → P
@@ -43,61 +50,6 @@ place {P = P} i n older now = by (ltb i n) refl
     by : (b : Bool) → ltb i n ≡ b → P
     by true p = older (ltb-true i n p)
     by false p = now (ltb-false i n p)
-
--- equal values that are there are equal
-same_Some : {A : Type 0} (x y : A) → Some x ≡ Some y → x ≡ y
-same_Some x y e = cc
-
--- what holds of each shown holds of the line at each place
-at_each : (see : Numbered → Seen) (P : Shown → Type 0) (lines : List Numbered) (i : ℕ) (a : Numbered)
-    → All P (drifts.all_shown (told_by (map see lines))) → i < length lines
-    → line_at lines i ≡ Some a → P (shown_at (see a))
-at_each see P [] i a each h e = absurd (omega (arith, h))
-at_each see P (now ∷ older) i a each h e =
-    place i (length older)
-    (λ below. at_each see P older i a (all-tail P (shown_at (see now))
-    (drifts.all_shown (told_by (map see older))) each) below (sym (line_at-older now older i below) ∙ e))
-    (λ above. subst (λ (n : Numbered). P (shown_at (see n))) (same_Some now a (sym (line_at-now now older i above) ∙ e))
-    (all-head P (shown_at (see now)) (drifts.all_shown (told_by (map see older))) each))
-
--- without sleeps, what was shown lately is all
-lately-all : (see : Numbered → Seen) (lines : List Numbered)
-    → drifts.shown_lately (told_by (map see lines)) ≡ drifts.all_shown (told_by (map see lines))
-lately-all see [] = refl
-lately-all see (now ∷ older) = ap (λ xs. shown_at (see now) ∷ xs) (lately-all see older)
-
--- a clock keeps its error from a moment to itself
-keeps-itself : (error : ℕ) (shown : Shown) → Keeps error shown shown
-keeps-itself error shown = (omega arith, omega arith)
-
--- two places of lines are in order, and the clock keeps its error between them
-two : (see : Numbered → Seen) (error : ℕ) (lines : List Numbered) (i j : ℕ) (a b : Numbered)
-    → EachPair error (told_by (map see lines)) → i ≤ j → line_at lines i ≡ Some a → line_at lines j ≡ Some b
-    → ((shown_at (see a)).time ≤ (shown_at (see b)).time) × Keeps error (shown_at (see a)) (shown_at (see b))
-two see error [] i j a b pairs le p q = absurd (cc)
-two see error (now ∷ older) i j a b pairs le p q =
-    place j (length older)
-    (λ below.
-    let first : i < length older = omega (arith, le, below) in
-    two see error older i j a b pairs.2 le (sym (line_at-older now older i first)
-    ∙ p) (sym (line_at-older now older j below) ∙ q))
-    (λ above.
-    let last : now ≡ b = same_Some now b (sym (line_at-now now older j above) ∙ q) in
-    place i (length older)
-    (λ below.
-    let e : line_at older i ≡ Some a = sym (line_at-older now older i below) ∙ p in
-    subst (λ (n : Numbered). ((shown_at (see a)).time ≤ (shown_at (see n)).time)
-    × Keeps error (shown_at (see a)) (shown_at (see n))) last (
-      at_each see (λ (s : Shown). s.time ≤ (shown_at (see now)).time) older i a pairs.0 below e,
-      at_each see (λ (s : Shown). Keeps error s (shown_at (see now))) older i a
-          (subst (λ (xs : List Shown). All (λ (s : Shown). Keeps error s (shown_at (see now))) xs)
-          (lately-all see older) pairs.1) below e,
-    ))
-    (λ here.
-    let first : now ≡ a = same_Some now a (sym (line_at-now now older i here) ∙ p) in
-    subst (λ (n : Numbered). ((shown_at (see a)).time ≤ (shown_at (see n)).time)
-    × Keeps error (shown_at (see a)) (shown_at (see n))) (sym first ∙ last)
-    (omega arith, keeps-itself error (shown_at (see a)))))
 
 -- ---- accepted lines
 -- the first of two results is good where both are
@@ -131,172 +83,425 @@ tv_shown-ok : (header : Header) (older : List Numbered) (now : Numbered) → tes
     → drifts.verdict header.tv_error (told_by (seen_of_tv older)) (shown_at (tv_seen now)) ≡ Ok tt
 tv_shown-ok header older now e =
     let shown = first_ok (shown_tested header older now) (reading_tested header older now) tt e in
-    let wall = first_ok (clock_verdict header.tv_error (seen_of_tv older) (tv_seen now)) (clock_verdict
-    (local_of now.line.who header).error (seen_of now.line.who older) (own_seen now)) shown.0 shown.1 in
+    let wall = first_ok (clock_verdict header.tv_error (seen_of_tv older) (tv_seen now))
+    (own_shown_tested header older now) shown.0 shown.1 in
     ok_before broken_by
     (drifts.verdict header.tv_error (told_by (seen_of_tv older)) (shown_at (tv_seen now))) wall.0 wall.1
 
--- so is what the companion's clock shows
-own_shown-ok : (header : Header) (older : List Numbered) (now : Numbered) → tested header older now ≡ Ok tt
-    → drifts.verdict (local_of now.line.who header).error (told_by (seen_of now.line.who older))
+-- so is what its companion's clock shows
+own_shown-ok : (header : Header) (older : List Numbered) (now : Numbered) (who : ℕ) → 1 ≤ who → now.line.who ≡ who
+    → tested header older now ≡ Ok tt
+    → drifts.verdict (local_of who header).error (told_with (is_sleep now.line.verb) (told_by (seen_of who older)))
     (shown_at (own_seen now)) ≡ Ok tt
-own_shown-ok header older now e =
+own_shown-ok header older now who first is e =
     let shown = first_ok (shown_tested header older now) (reading_tested header older now) tt e in
-    let own = second_ok (clock_verdict header.tv_error (seen_of_tv older) (tv_seen now)) (clock_verdict
-    (local_of now.line.who header).error (seen_of now.line.who older) (own_seen now)) shown.0 shown.1 in
-    ok_before broken_by (drifts.verdict (local_of now.line.who header).error (told_by (seen_of now.line.who older))
-    (shown_at (own_seen now))) shown.0 own
+    let own = second_ok (clock_verdict header.tv_error (seen_of_tv older) (tv_seen now))
+    (own_shown_tested header older now) shown.0 shown.1 in
+    let by_number : ℕ → Result (Unit {0}) WorldFault = λ n.
+    cond (n == 0) (Ok tt) (clock_verdict (local_of n header).error (seen_of n older) (own_seen now)) in
+    let verdict = clock_verdict (local_of who header).error (seen_of who older) (own_seen now) in
+    let there : cond (who == 0) (Ok tt) verdict ≡ verdict =
+    ap (λ b. cond b (Ok tt) verdict) (ne_eqb who 0 (λ same. absurd (omega (arith, same, first)))) in
+    ok_before broken_by
+    (drifts.verdict (local_of who header).error (told_with (is_sleep now.line.verb) (told_by (seen_of who older)))
+    (shown_at (own_seen now))) shown.0 (sym (ap by_number is ∙ there) ∙ own)
 
 -- a line's reading passes its tests
 pub reading-ok : (header : Header) (older : List Numbered) (now : Numbered) → tested header older now ≡ Ok tt
     → reading_tested header older now ≡ Ok tt
 reading-ok header older now e = second_ok (shown_tested header older now) (reading_tested header older now) tt e
 
--- every line of an accepted list is of companion 1
-pub all_of_one : (header : Header) (lines : List Numbered) → AreAccepted header lines
-    → filter (λ now. now.line.who == 1) lines ≡ lines
-all_of_one header [] accepted = refl
-all_of_one header (now ∷ older) accepted =
-    ap (λ b. cond b (now ∷ filter (λ n. n.line.who == 1) older) (filter (λ n. n.line.who == 1) older))
-    (eq-eqb now.line.who 1 accepted.1)
-    ∙ ap (λ xs. now ∷ xs) (all_of_one header older accepted.4)
+-- ---- what is told of one companion
+-- at a line of its own
+pub seen_own : (now : Numbered) (older : List Numbered) (who : ℕ) → now.line.who ≡ who
+    → seen_of who (now ∷ older) ≡ own_seen now ∷ seen_of who older
+seen_own now older who is =
+    ap (λ b. map own_seen (cond b (now ∷ filter (λ n. n.line.who == who) older) (filter (λ n. n.line.who == who) older)))
+    (eq-eqb now.line.who who is)
 
+-- and at one of another companion
+pub seen_other : (now : Numbered) (older : List Numbered) (who : ℕ) → now.line.who ≢ who
+    → seen_of who (now ∷ older) ≡ seen_of who older
+seen_other now older who other =
+    ap (λ b. map own_seen (cond b (now ∷ filter (λ n. n.line.who == who) older) (filter (λ n. n.line.who == who) older)))
+    (ne_eqb now.line.who who other)
+
+-- how often it slept, by whether the newest line is a sleep of its own
+sleeps-now : (now : Numbered) (older : List Numbered) (who : ℕ) (b : Bool)
+    → (is_sleep now.line.verb && (now.line.who == who)) ≡ b
+    → sleeps_of who (now ∷ older) ≡ cond b (suc (sleeps_of who older)) (sleeps_of who older)
+sleeps-now now older who b is =
+    let slept = filter (λ n. is_sleep n.line.verb && (n.line.who == who)) older in
+    ap (λ c. length (cond c (now ∷ slept) slept)) is ∙ by b slept
+  where
+    by : (b : Bool) (slept : List Numbered) → length (cond b (now ∷ slept) slept) ≡ cond b (suc (length slept)) (length slept)
+    by true slept = refl
+    by false slept = refl
+
+-- at its own sleep once more
+pub sleeps_woke : (now : Numbered) (older : List Numbered) (who : ℕ) → now.line.who ≡ who
+    → is_sleep now.line.verb ≡ true → sleeps_of who (now ∷ older) ≡ suc (sleeps_of who older)
+sleeps_woke now older who is sleep =
+    sleeps-now now older who true (ap (λ b. b && (now.line.who == who)) sleep ∙ eq-eqb now.line.who who is)
+
+-- at a line that is no sleep as often as before
+pub sleeps_awake : (now : Numbered) (older : List Numbered) (who : ℕ) → is_sleep now.line.verb ≡ false
+    → sleeps_of who (now ∷ older) ≡ sleeps_of who older
+sleeps_awake now older who awake =
+    sleeps-now now older who false (ap (λ b. b && (now.line.who == who)) awake)
+
+-- and at one of another companion
+pub sleeps_other : (now : Numbered) (older : List Numbered) (who : ℕ) → now.line.who ≢ who
+    → sleeps_of who (now ∷ older) ≡ sleeps_of who older
+sleeps_other now older who other =
+    sleeps-now now older who false
+    (ap (λ b. is_sleep now.line.verb && b) (ne_eqb now.line.who who other) ∙ never (is_sleep now.line.verb))
+  where
+    never : (b : Bool) → (b && false) ≡ false
+    never true = refl
+    never false = refl
+
+-- it never sleeps less often
+sleeps_rise : (now : Numbered) (older : List Numbered) (who : ℕ) → sleeps_of who older ≤ sleeps_of who (now ∷ older)
+sleeps_rise now older who =
+    by (is_sleep now.line.verb && (now.line.who == who)) (sleeps-now now older who _ refl)
+  where
+    by : (b : Bool) → sleeps_of who (now ∷ older) ≡ cond b (suc (sleeps_of who older)) (sleeps_of who older)
+        → sleeps_of who older ≤ sleeps_of who (now ∷ older)
+    by true is = omega (arith, is)
+    by false is = omega (arith, is)
+
+-- ---- the clock of one companion
+-- the newest line gives the clock of its companion
+record IsClock (who : ℕ) (clock : OwnClock) (older : List Numbered) (now : Numbered) : Type 0 where
+  of_line : now.line.who ≡ who
+  first : 1 ≤ who
+  value : now.line.l ≡ clock.value
+  sleeps : clock.sleeps ≡ sleeps_of who (now ∷ older)
+
+clock-is : (who : ℕ) (clock : OwnClock) (older : List Numbered) (now : Numbered)
+    → (moment older now).companion who ≡ Some clock → IsClock who clock older now
+clock-is who clock older now e = by (who == 0) (now.line.who == who) refl refl e
+  where
+    shows : OwnClock
+    shows = record { value = now.line.l; sleeps = sleeps_of who (now ∷ older) }
+
+    by : (a b : Bool) → (who == 0) ≡ a → (now.line.who == who) ≡ b
+        → cond (not a && b) (Some shows) None ≡ Some clock → IsClock who clock older now
+    by true b p q is = absurd (cc)
+    by false false p q is = absurd (cc)
+    by false true p q is =
+        let same : shows ≡ clock = same_Some shows clock is in
+        record {
+          of_line = eqb-true now.line.who who q;
+          first = positive who p;
+          value = ap (λ (c : OwnClock). c.value) same;
+          sleeps = sym (ap (λ (c : OwnClock). c.sleeps) same);
+        }
+      where
+        positive : (n : ℕ) → (n == 0) ≡ false → 1 ≤ n
+        positive zero none = absurd (let no : true ≡ false = none in cc)
+        positive (suc n) none = omega arith
+
+-- a clock of these lines slept no more often than its companion
+clock_sleeps : (who : ℕ) (lines : List Numbered) (i : ℕ) (a : OwnClock) → (world_of lines i).companion who ≡ Some a
+    → a.sleeps ≤ sleeps_of who lines
+clock_sleeps who [] i a e = absurd (cc)
+clock_sleeps who (now ∷ older) i a e =
+    place i (length older)
+    (λ below.
+    let same = ap (λ (m : Moment). m.companion who) (world-older now older i below) in
+    let few = clock_sleeps who older i a (sym same ∙ e) in
+    omega (arith, few, sleeps_rise now older who))
+    (λ above.
+    let same = ap (λ (m : Moment). m.companion who) (world-now now older i above) in
+    let is = clock-is who a older now (sym same ∙ e) in
+    omega (arith, is.sleeps))
+
+-- later it slept no less often
+sleeps_order : (who : ℕ) (lines : List Numbered) (i j : ℕ) (a b : OwnClock) → i ≤ j
+    → (world_of lines i).companion who ≡ Some a → (world_of lines j).companion who ≡ Some b → a.sleeps ≤ b.sleeps
+sleeps_order who [] i j a b le p q = absurd (cc)
+sleeps_order who (now ∷ older) i j a b le p q =
+    place j (length older)
+    (λ below.
+    let first : i < length older = omega (arith, le, below) in
+    sleeps_order who older i j a b le
+    (sym (ap (λ (m : Moment). m.companion who) (world-older now older i first)) ∙ p)
+    (sym (ap (λ (m : Moment). m.companion who) (world-older now older j below)) ∙ q))
+    (λ above.
+    let later = clock-is who b older now (sym (ap (λ (m : Moment). m.companion who) (world-now now older j above)) ∙ q) in
+    omega (arith, clock_sleeps who (now ∷ older) i a p, later.sleeps))
+
+-- ---- what is told
+-- at a line of the companion's own, after what was told of a sleep
+abbrev ToldNow : ℕ → Numbered → List Numbered → List Told
+ToldNow who now older = told_with (is_sleep now.line.verb) (told_by (seen_of who older))
+
+-- what a drift accepted at a line it accepted before a sleep too
+pairs_older : (error : ℕ) (woke : Bool) (told : List Told) → EachPair error (told_with woke told) → EachPair error told
+pairs_older error true told pairs = pairs
+pairs_older error false told pairs = pairs
+
+-- what holds of time and value of all that was shown since the last sleep holds of each clock that slept as often
+lately_at : (who : ℕ) (P : ℕ → ℕ → Type 0) (lines : List Numbered) (i : ℕ) (a : OwnClock)
+    → All (λ (s : Shown). P s.time s.value) (drifts.shown_lately (told_by (seen_of who lines)))
+    → (world_of lines i).companion who ≡ Some a → a.sleeps ≡ sleeps_of who lines → P (world_of lines i).time a.value
+lately_at who P [] i a each e same = absurd (cc)
+lately_at who P (now ∷ older) i a each e same = elim (eqb_tells now.line.who who) [
+  | inl own ↦
+      let shown = shown_at (own_seen now) in
+      let Q : Shown → Type 0 = λ s. P s.time s.value in
+      let here : All Q (shown ∷ drifts.shown_lately (ToldNow who now older)) =
+      subst (λ (seen : List Seen). All Q (drifts.shown_lately (told_by seen))) (seen_own now older who own.1) each in
+      place i (length older)
+      (λ below.
+      let at : (world_of (now ∷ older) i) ≡ world_of older i = world-older now older i below in
+      let before : (world_of older i).companion who ≡ Some a = sym (ap (λ (m : Moment). m.companion who) at) ∙ e in
+      subst (λ (m : Moment). P m.time a.value) (sym at)
+      (by (is_sleep now.line.verb) refl own.1 before (all-tail Q shown (drifts.shown_lately (ToldNow who now older)) here)
+      (λ rest e slept. lately_at who P older i a rest e slept)))
+      (λ above.
+      let at = world-now now older i above in
+      let is = clock-is who a older now (sym (ap (λ (m : Moment). m.companion who) at) ∙ e) in
+      subst (λ (m : Moment). P m.time a.value) (sym at)
+      (subst (λ v. P now.line.t v) is.value (all-head Q shown (drifts.shown_lately (ToldNow who now older)) here)))
+  | inr other ↦
+      let Q : Shown → Type 0 = λ s. P s.time s.value in
+      let rest : All Q (drifts.shown_lately (told_by (seen_of who older))) =
+      subst (λ (seen : List Seen). All Q (drifts.shown_lately (told_by seen))) (seen_other now older who other.1) each in
+      place i (length older)
+      (λ below.
+      let at = world-older now older i below in
+      subst (λ (m : Moment). P m.time a.value) (sym at)
+      (lately_at who P older i a rest (sym (ap (λ (m : Moment). m.companion who) at) ∙ e)
+      (same ∙ sleeps_other now older who other.1)))
+      (λ above.
+      let is = clock-is who a older now (sym (ap (λ (m : Moment). m.companion who) (world-now now older i above)) ∙ e) in
+      absurd (other.1 is.of_line))
+]
+  where
+    by : (woke : Bool) → is_sleep now.line.verb ≡ woke → now.line.who ≡ who → (world_of older i).companion who ≡ Some a
+        → All (λ (s : Shown). P s.time s.value) (drifts.shown_lately (told_with woke (told_by (seen_of who older))))
+        → (All (λ (s : Shown). P s.time s.value) (drifts.shown_lately (told_by (seen_of who older)))
+        → (world_of older i).companion who ≡ Some a → a.sleeps ≡ sleeps_of who older → P (world_of older i).time a.value)
+        → P (world_of older i).time a.value
+    by true woke own before rest earlier =
+        absurd (omega (arith, clock_sleeps who older i a before, same, sleeps_woke now older who own woke))
+    by false awake own before rest earlier = earlier rest before (same ∙ sleeps_awake now older who awake)
+
+-- ---- two moments
+-- a clock keeps its error from a moment to itself
+keeps-itself : (error time value : ℕ) → RunsWithin error time value time value
+keeps-itself error time value = (omega arith, omega arith)
+
+-- between two moments of one companion with no sleep between its clock keeps its error
+own_two : (who error : ℕ) (lines : List Numbered) (i j : ℕ) (a b : OwnClock)
+    → EachPair error (told_by (seen_of who lines)) → i ≤ j
+    → (world_of lines i).companion who ≡ Some a → (world_of lines j).companion who ≡ Some b → a.sleeps ≡ b.sleeps
+    → RunsWithin error (world_of lines i).time a.value (world_of lines j).time b.value
+own_two who error [] i j a b pairs le p q same = absurd (cc)
+own_two who error (now ∷ older) i j a b pairs le p q same =
+    place j (length older)
+    (λ below.
+    let first : i < length older = omega (arith, le, below) in
+    let at_i = world-older now older i first in
+    let at_j = world-older now older j below in
+    subst (λ (m : Moment). RunsWithin error m.time a.value (world_of (now ∷ older) j).time b.value) (sym at_i)
+    (subst (λ (m : Moment). RunsWithin error (world_of older i).time a.value m.time b.value) (sym at_j)
+    (own_two who error older i j a b before le (sym (ap (λ (m : Moment). m.companion who) at_i) ∙ p)
+    (sym (ap (λ (m : Moment). m.companion who) at_j) ∙ q) same)))
+    (λ above.
+    let at_j = world-now now older j above in
+    let last = clock-is who b older now (sym (ap (λ (m : Moment). m.companion who) at_j) ∙ q) in
+    subst (λ (m : Moment). RunsWithin error (world_of (now ∷ older) i).time a.value m.time b.value) (sym at_j)
+    (subst (λ v. RunsWithin error (world_of (now ∷ older) i).time a.value now.line.t v) last.value
+    (to_last last)))
+  where
+    before : EachPair error (told_by (seen_of who older))
+    before = elim (eqb_tells now.line.who who) [
+      | inl own ↦
+          let whole = subst (λ (seen : List Seen). EachPair error (told_by seen)) (seen_own now older who own.1) pairs in
+          pairs_older error (is_sleep now.line.verb) (told_by (seen_of who older)) whole.2
+      | inr other ↦ subst (λ (seen : List Seen). EachPair error (told_by seen)) (seen_other now older who other.1) pairs
+    ]
+
+    -- from a moment to the newest one
+    to_last : IsClock who b older now → RunsWithin error (world_of (now ∷ older) i).time a.value now.line.t now.line.l
+    to_last last =
+        place i (length older)
+        (λ below.
+        let at_i = world-older now older i below in
+        let e = sym (ap (λ (m : Moment). m.companion who) at_i) ∙ p in
+        subst (λ (m : Moment). RunsWithin error m.time a.value now.line.t now.line.l) (sym at_i)
+        (from_older last (is_sleep now.line.verb) refl e))
+        (λ above.
+        let at_i = world-now now older i above in
+        let is = clock-is who a older now (sym (ap (λ (m : Moment). m.companion who) at_i) ∙ p) in
+        subst (λ (m : Moment). RunsWithin error m.time a.value now.line.t now.line.l) (sym at_i)
+        (subst (λ v. RunsWithin error now.line.t v now.line.t now.line.l) is.value
+        (keeps-itself error now.line.t now.line.l)))
+      where
+        from_older : IsClock who b older now → (woke : Bool) → is_sleep now.line.verb ≡ woke
+            → (world_of older i).companion who ≡ Some a
+            → RunsWithin error (world_of older i).time a.value now.line.t now.line.l
+        from_older last true woke e =
+            absurd (omega (
+              arith,
+              clock_sleeps who older i a e,
+              same,
+              last.sleeps,
+              sleeps_woke now older who last.of_line woke,
+            ))
+        from_older last false awake e =
+            let whole =
+            subst (λ (seen : List Seen). EachPair error (told_by seen)) (seen_own now older who last.of_line) pairs in
+            let lately : All (λ (s : Shown). RunsWithin error s.time s.value now.line.t now.line.l)
+            (drifts.shown_lately (told_by (seen_of who older))) =
+            subst (λ woke. All (λ (s : Shown). RunsWithin error s.time s.value now.line.t now.line.l)
+            (drifts.shown_lately (told_with woke (told_by (seen_of who older))))) awake whole.1 in
+            lately_at who (λ t v. RunsWithin error t v now.line.t now.line.l) older i a lately e
+            (same ∙ last.sleeps ∙ sleeps_awake now older who awake)
+
+-- ---- the wall clock
+-- it doesn't sleep, so what was shown lately is all
+tv_lately : (lines : List Numbered)
+    → drifts.shown_lately (told_by (seen_of_tv lines)) ≡ drifts.all_shown (told_by (seen_of_tv lines))
+tv_lately [] = refl
+tv_lately (now ∷ older) = ap (λ xs. shown_at (tv_seen now) ∷ xs) (tv_lately older)
+
+-- what holds of time and value of all that was shown holds of each moment
+tv_at : (P : ℕ → ℕ → Type 0) (lines : List Numbered) (i : ℕ)
+    → All (λ (s : Shown). P s.time s.value) (drifts.all_shown (told_by (seen_of_tv lines))) → i < length lines
+    → P (world_of lines i).time (world_of lines i).wall
+tv_at P [] i each within = absurd (omega (arith, within))
+tv_at P (now ∷ older) i each within =
+    place i (length older)
+    (λ below. subst (λ (m : Moment). P m.time m.wall) (sym (world-older now older i below))
+    (tv_at P older i (all-tail (λ (s : Shown). P s.time s.value) (shown_at (tv_seen now))
+    (drifts.all_shown (told_by (seen_of_tv older))) each) below))
+    (λ above. subst (λ (m : Moment). P m.time m.wall) (sym (world-now now older i above))
+    (all-head (λ (s : Shown). P s.time s.value) (shown_at (tv_seen now))
+    (drifts.all_shown (told_by (seen_of_tv older))) each))
+
+-- between two moments true time doesn't fall, and the wall clock keeps its error
+tv_two : (error : ℕ) (lines : List Numbered) (i j : ℕ) → EachPair error (told_by (seen_of_tv lines)) → i ≤ j
+    → ((world_of lines i).time ≤ (world_of lines j).time)
+    × RunsWithin error (world_of lines i).time (world_of lines i).wall (world_of lines j).time (world_of lines j).wall
+tv_two error [] i j pairs le = (omega arith, (omega arith, omega arith))
+tv_two error (now ∷ older) i j pairs le =
+    place j (length older)
+    (λ below.
+    let first : i < length older = omega (arith, le, below) in
+    both (sym (world-older now older i first)) (sym (world-older now older j below)) (tv_two error older i j pairs.2 le))
+    (λ above.
+    place i (length older)
+    (λ below. both (sym (world-older now older i below)) (sym (world-now now older j above)) (
+      tv_at (λ t v. t ≤ now.line.t) older i pairs.0 below,
+      tv_at (λ t v. RunsWithin error t v now.line.t now.line.w) older i
+          (subst (λ (xs : List Shown). All (λ (s : Shown). RunsWithin error s.time s.value now.line.t now.line.w) xs)
+          (tv_lately older) pairs.1) below,
+    ))
+    (λ here. both (sym (world-now now older i here)) (sym (world-now now older j above))
+    (omega arith, keeps-itself error now.line.t now.line.w)))
+  where
+    -- the same of equal moments
+    both : {m m' n n' : Moment} → m ≡ m' → n ≡ n' → (m.time ≤ n.time) × RunsWithin error m.time m.wall n.time n.wall
+        → (m'.time ≤ n'.time) × RunsWithin error m'.time m'.wall n'.time n'.wall
+    both {m} {m'} {n} {n'} p q is =
+        subst (λ (x : Moment). (x.time ≤ n'.time) × RunsWithin error x.time x.wall n'.time n'.wall) p
+        (subst (λ (y : Moment). (m.time ≤ y.time) × RunsWithin error m.time m.wall y.time y.wall) q is)
+
+-- ---- drifts accept the lines
 -- the line's number is above that of the last one shown
-next-shown : (see : Numbered → Seen) → ((n : Numbered) → (see n).number ≡ n.number)
-    → (number : ℕ) (older : List Numbered) → IsNext number older
-    → drifts.IsNext (drifts.last_shown (told_by (map see older))) number
-next-shown see same number [] next = tt
-next-shown see same number (last ∷ older) next = rw (same last) next
+next_tv : (number : ℕ) (older : List Numbered) → IsNext number older
+    → drifts.IsNext (drifts.last_shown (told_by (seen_of_tv older))) number
+next_tv number [] next = tt
+next_tv number (last ∷ older) next = next
 
--- the drift of the wall clock accepts the lines
+-- the drift of the wall clock accepts them
 tv_accepted : (header : Header) (lines : List Numbered) → AreAccepted header lines
     → drifts.IsAccepted header.tv_error (told_by (seen_of_tv lines))
 tv_accepted header [] accepted = tt
 tv_accepted header (now ∷ older) accepted = (
-  next-shown tv_seen (λ n. refl) now.number older accepted.2,
+  next_tv now.number older accepted.2,
   tv_shown-ok header older now (tested_ok header older now accepted.3.0 accepted.3.1),
   tv_accepted header older accepted.4,
 )
 
--- the drift of the companion's clock accepts them too
-own_accepted : (header : Header) (lines : List Numbered) → AreAccepted header lines
-    → drifts.IsAccepted (local_of 1 header).error (told_by (map own_seen lines))
-own_accepted header [] accepted = tt
-own_accepted header (now ∷ older) accepted =
-    let ok = own_shown-ok header older now (tested_ok header older now accepted.3.0 accepted.3.1) in
-    let of_one = subst (λ (who : ℕ). drifts.verdict (local_of who header).error (told_by (seen_of who older))
-    (shown_at (own_seen now)) ≡ Ok tt) accepted.1 ok in (
-      next-shown own_seen (λ n. refl) now.number older accepted.2,
-      subst (λ (ls : List Numbered). drifts.verdict (local_of 1 header).error (told_by (map own_seen ls))
-          (shown_at (own_seen now)) ≡ Ok tt) (all_of_one header older accepted.4) of_one,
-      own_accepted header older accepted.4,
-    )
+-- a number that is next after a line is next after those before it
+next_older : (number : ℕ) (last : Numbered) (older : List Numbered) → IsNext last.number older → last.number < number
+    → IsNext number older
+next_older number last [] next above = tt
+next_older number last (first ∷ older) next above = omega (arith, next, above)
+
+-- it is above that of the last line of a companion
+next_own : (header : Header) (who number : ℕ) (older : List Numbered) → AreAccepted header older → IsNext number older
+    → drifts.IsNext (drifts.last_shown (told_by (seen_of who older))) number
+next_own header who number [] accepted next = tt
+next_own header who number (last ∷ older) accepted next = elim (eqb_tells last.line.who who) [
+  | inl own ↦
+      subst (λ (seen : List Seen). drifts.IsNext (drifts.last_shown (told_by seen)) number)
+      (sym (seen_own last older who own.1)) next
+  | inr other ↦
+      subst (λ (seen : List Seen). drifts.IsNext (drifts.last_shown (told_by seen)) number)
+      (sym (seen_other last older who other.1))
+      (next_own header who number older accepted.4 (next_older number last older accepted.2 next))
+]
+
+-- a sleep before it changes neither
+asleep_next : (woke : Bool) (told : List Told) (number : ℕ) → drifts.IsNext (drifts.last_shown told) number
+    → drifts.IsNext (drifts.last_shown (told_with woke told)) number
+asleep_next true told number next = next
+asleep_next false told number next = next
+
+asleep_accepted : (error : ℕ) (woke : Bool) (told : List Told) → drifts.IsAccepted error told
+    → drifts.IsAccepted error (told_with woke told)
+asleep_accepted error true told accepted = accepted
+asleep_accepted error false told accepted = accepted
+
+-- the drift of a companion's clock accepts its lines
+own_accepted : (header : Header) (who : ℕ) (lines : List Numbered) → 1 ≤ who → AreAccepted header lines
+    → drifts.IsAccepted (local_of who header).error (told_by (seen_of who lines))
+own_accepted header who [] first accepted = tt
+own_accepted header who (now ∷ older) first accepted = elim (eqb_tells now.line.who who) [
+  | inl own ↦
+      let error = (local_of who header).error in
+      let told = told_by (seen_of who older) in
+      let woke = is_sleep now.line.verb in
+      subst (λ (seen : List Seen). drifts.IsAccepted error (told_by seen)) (sym (seen_own now older who own.1)) (
+        asleep_next woke told now.number (next_own header who now.number older accepted.4 accepted.2),
+        own_shown-ok header older now who first own.1 (tested_ok header older now accepted.3.0 accepted.3.1),
+        asleep_accepted error woke told (own_accepted header who older first accepted.4),
+      )
+  | inr other ↦
+      subst (λ (seen : List Seen). drifts.IsAccepted (local_of who header).error (told_by seen))
+      (sym (seen_other now older who other.1)) (own_accepted header who older first accepted.4)
+]
 
 -- ---- the world
--- every line is of companion 1, by its place
-one_at : (header : Header) (lines : List Numbered) (i : ℕ) (a : Numbered) → AreAccepted header lines
-    → line_at lines i ≡ Some a → a.line.who ≡ 1
-one_at header [] i a accepted e = absurd (cc)
-one_at header (now ∷ older) i a accepted e =
+-- a moment gives the clock of no companion with the number 0
+first_of : (who : ℕ) (lines : List Numbered) (i : ℕ) (a : OwnClock) → (world_of lines i).companion who ≡ Some a → 1 ≤ who
+first_of who [] i a e = absurd (cc)
+first_of who (now ∷ older) i a e =
     place i (length older)
-    (λ below. one_at header older i a accepted.4 (sym (line_at-older now older i below) ∙ e))
-    (λ above. subst
-    (λ (n : Numbered). n.line.who ≡ 1) (same_Some now a (sym (line_at-now now older i above) ∙ e)) accepted.1)
-
--- a companion's clock at a line
-record IsClock (who : ℕ) (clock : OwnClock) (a : Numbered) : Type 0 where
-  of_line : a.line.who ≡ who
-  value : a.line.l ≡ clock.value
-  sleeps : clock.sleeps ≡ 0
-
--- a companion's clock is that of its line
-clock-is : (who : ℕ) (clock : OwnClock) (a : Numbered) → clock_of a.line who ≡ Some clock → IsClock who clock a
-clock-is who clock a e = by (a.line.who == who) refl e
-  where
-    by : (b : Bool) → (a.line.who == who) ≡ b
-        → cond b (Some (record { value = a.line.l; sleeps = 0 })) None ≡ Some clock → IsClock who clock a
-    by true p q =
-        let same : record { value = a.line.l; sleeps = 0 } ≡ clock =
-        same_Some (record { value = a.line.l; sleeps = 0 }) clock q in
-        record {
-          of_line = eqb-true a.line.who who p;
-          value = ap (λ (c : OwnClock). c.value) same;
-          sleeps = sym (ap (λ (c : OwnClock). c.sleeps) same);
-        }
-    by false p q = absurd (cc)
-
--- where there is a line, there is one at each place
-some_at : (now : Numbered) (older : List Numbered) (i : ℕ) → (a : Numbered) × (line_at (now ∷ older) i ≡ Some a)
-some_at now [] i = (now, line_at-now now [] i (omega arith))
-some_at now (last ∷ older) i =
-    let earlier = some_at last older i in
-    place i (length (last ∷ older))
-    (λ below. (earlier.0, line_at-older now (last ∷ older) i below ∙ earlier.1))
-    (λ above. (now, line_at-now now (last ∷ older) i above))
+    (λ below. first_of who older i a (sym (ap (λ (m : Moment). m.companion who) (world-older now older i below)) ∙ e))
+    (λ above.
+    (clock-is who a older now (sym (ap (λ (m : Moment). m.companion who) (world-now now older i above)) ∙ e)).first)
 
 -- the world of accepted lines keeps the declared errors
-pub keeps_errors : (header : Header) (now : Numbered) (older : List Numbered) → AreAccepted header (now ∷ older)
-    → KeepsErrors (errors_of header) (world_of (now ∷ older))
-keeps_errors header now older accepted =
-    let lines : List Numbered = now ∷ older in
-    let tv_pairs = accepted_keeps header.tv_error (told_by (seen_of_tv lines)) (tv_accepted header lines accepted) in
-    let own_pairs =
-    accepted_keeps (local_of 1 header).error (told_by (map own_seen lines)) (own_accepted header lines accepted) in
-    let at : ℕ → Moment = λ i. moment_or_none (line_at lines i) in
+pub keeps_errors : (header : Header) (lines : List Numbered) → AreAccepted header lines
+    → KeepsErrors (errors_of header) (world_of lines)
+keeps_errors header lines accepted =
+    let pairs = accepted_keeps header.tv_error (told_by (seen_of_tv lines)) (tv_accepted header lines accepted) in
     record {
-      order = λ i j le.
-          let a = some_at now older i in
-          let b = some_at now older j in
-          subst (λ (x : Option Numbered). (moment_or_none x).time ≤ (at j).time) (sym a.1)
-          (subst (λ (y : Option Numbered). a.0.line.t ≤ (moment_or_none y).time) (sym b.1)
-          (two tv_seen header.tv_error lines i j a.0 b.0 tv_pairs le a.1 b.1).0);
-      tv = λ i j le.
-          let a = some_at now older i in
-          let b = some_at now older j in
-          subst (λ (x : Option Numbered). RunsWithin header.tv_error (moment_or_none x).time (moment_or_none x).wall
-          (at j).time (at j).wall) (sym a.1)
-          (subst (λ (y : Option Numbered). RunsWithin header.tv_error a.0.line.t a.0.line.w (moment_or_none y).time
-          (moment_or_none y).wall) (sym b.1)
-          (two tv_seen header.tv_error lines i j a.0 b.0 tv_pairs le a.1 b.1).1);
-      sleeps = λ who i j earlier later le p q.
-          let a = some_at now older i in
-          let first = clock-is who earlier a.0
-          (subst (λ (x : Option Numbered). (moment_or_none x).companion who ≡ Some earlier) a.1 p) in
-          omega (arith, first.sleeps);
+      order = λ i j le. (tv_two header.tv_error lines i j pairs le).0;
+      tv = λ i j le. (tv_two header.tv_error lines i j pairs le).1;
+      sleeps = λ who i j earlier later le p q. sleeps_order who lines i j earlier later le p q;
       companion = λ who i j earlier later le p q same.
-          let a = some_at now older i in
-          let b = some_at now older j in
-          let first = clock-is who earlier a.0
-          (subst (λ (x : Option Numbered). (moment_or_none x).companion who ≡ Some earlier) a.1 p) in
-          let last = clock-is who later b.0
-          (subst (λ (x : Option Numbered). (moment_or_none x).companion who ≡ Some later) b.1 q) in
-          let one : 1 ≡ who = sym (one_at header lines i a.0 accepted a.1) ∙ first.of_line in
-          let runs = (two own_seen (local_of 1 header).error lines i j a.0 b.0 own_pairs le a.1 b.1).1 in
-          subst (λ (x : Option Numbered). RunsWithin (local_of who header).error (moment_or_none x).time earlier.value
-          (at j).time later.value) (sym a.1)
-          (subst (λ (y : Option Numbered). RunsWithin (local_of who header).error a.0.line.t earlier.value
-          (moment_or_none y).time later.value) (sym b.1)
-          (subst (λ (n : ℕ). RunsWithin (local_of n header).error a.0.line.t earlier.value b.0.line.t later.value) one
-          (subst (λ (v : ℕ). RunsWithin (local_of 1 header).error a.0.line.t v b.0.line.t later.value) first.value
-          (subst (λ (v : ℕ). RunsWithin
-          (local_of 1 header).error a.0.line.t a.0.line.l b.0.line.t v) last.value runs))));
+          let first = first_of who lines i earlier p in
+          let error = (local_of who header).error in
+          let own =
+          accepted_keeps error (told_by (seen_of who lines)) (own_accepted header who lines first accepted) in
+          own_two who error lines i j earlier later own le p q same;
     }
-
--- a world of no line shows nothing that could break them
-pub keeps_errors-none : (header : Header) → KeepsErrors (errors_of header) (world_of [])
-keeps_errors-none header = record {
-  order = λ i j le. omega arith;
-  tv = λ i j le. (omega arith, omega arith);
-  sleeps = λ who i j earlier later le p q. absurd (cc);
-  companion = λ who i j earlier later le p q same. absurd (cc);
-}
-
--- the moment of each line, by how many came before it
-pub world-older : (now : Numbered) (older : List Numbered) (i : ℕ) → i < length older
-    → world_of (now ∷ older) i ≡ world_of older i
-world-older now older i h = ap moment_or_none (line_at-older now older i h)
-
--- the newest moment stands for every later one
-pub world-now : (now : Numbered) (older : List Numbered) (i : ℕ) → length older ≤ i
-    → world_of (now ∷ older) i ≡ moment now.line
-world-now now older i h = ap moment_or_none (line_at-now now older i h)

@@ -1,13 +1,20 @@
 -- What may be asked of a companion of a world.
-use Rattle.std.specs.Prelude.{◌≡◌, ◌≤◌}
+use Rattle.std.specs.Prelude.{◌≡◌, ◌≤◌, ℕ, Some}
 use Rattle.css_companion.specs.Standing.{Companion, own_of}
+use Rattle.css_world.specs.Clocks.{least_next}
+use Rattle.css_world.specs.Numbering.{stored}
 use Rattle.css_world.specs.Sessions.{setup_of}
 use Rattle.css_world.specs.Verdicts.{local_of}
-use Rattle.css_world.specs.Standing.{World, last_value}
+use Rattle.css_world.specs.Standing.{World}
+use Rattle.css_world.specs.declared.lane.Lane.{Lane}
 
--- The companion takes its own clock for what the header declares of it, and asks the television for what is wanted
--- there. It may be asked for a report at the last reading of its clock, and at each later one.
-pub record MayBeAsked (world : World) (companion : Companion) : Type 0 where
-  pub own : own_of companion ≡ local_of 1 world.header
-  pub setup : companion.setup ≡ setup_of 1 world.header
-  pub floor : companion.client.floor ≤ last_value world.lane.clock.last
+-- This is companion `who` of the world. It takes its own clock for what the header declares of it, and asks the
+-- television for what is wanted there. It may be asked for a report at the last reading of its clock and at each later
+-- one; where it slept since, above that reading.
+pub record MayBeAsked (world : World) (who : ℕ) (companion : Companion) : Type 0 where
+  pub lane : Lane
+  pub is : stored world.lanes who ≡ Some lane
+  pub same : companion ≡ lane.companion
+  pub own : own_of companion ≡ local_of who world.header
+  pub setup : companion.setup ≡ setup_of who world.header
+  pub floor : companion.client.floor ≤ least_next lane.clock.woken lane.clock.last

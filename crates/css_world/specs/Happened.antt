@@ -1,12 +1,12 @@
 -- What the lines of a schedule say that its ends did. In each list the newest stands first.
-use Rattle.std.specs.Prelude.{ℕ, ◌==◌, ◌&&◌, Bool, false, if◌then◌else◌, List, [], ◌∷◌, ◌++◌, Option, Some, None}
+use Rattle.std.specs.Prelude.{ℕ, ◌==◌, ◌&&◌, Bool, false, if◌then◌else◌, List, [], ◌∷◌, ◌++◌, Option, Some, None, map, unwrap_or}
 use Rattle.std.specs.Option.{option_map, option_to_list}
 use Rattle.std.specs.List.{list_any}
 use Rattle.css_model.specs.declared.Message.{Message}
 use Rattle.css_model.specs.declared.Why.TheVariants as why
 use Rattle.css_model.specs.Wire.{encoded, request_at, stamp_of}
 use Rattle.css_model.specs.declared.Kind.TheVariants as session
-use Rattle.css_model.specs.History.{Clock, Sent, Took, Dialled, Heard, Wrote, Closed, History}
+use Rattle.css_model.specs.History.{Clock, Sent, Took, Slept, Dialled, Heard, Wrote, Closed, History}
 use Rattle.css_server.specs.Tickets.{Server, Ticket, is_greater, response_to, follow_up_for}
 use Rattle.css_server.specs.Exchanges.{greatest_reading}
 use Rattle.css_tsmsg.specs.Presentations.{presentation_text}
@@ -21,7 +21,7 @@ use Rattle.css_schedule.specs.declared.line.Line.{Line}
 use Rattle.css_schedule.specs.declared.line.Verb.{Verb}
 use Rattle.css_schedule.specs.declared.line.Verb.TheVariants.{Ask, Take, Give, Land, Wall, Print}
 use Rattle.css_schedule.specs.declared.line.Verb.TheVariants.{Programme, Timeline, Viewer}
-use Rattle.css_schedule.specs.declared.line.Verb.TheVariants.{Opening, Bring, Up, Present, Close}
+use Rattle.css_schedule.specs.declared.line.Verb.TheVariants.{Opening, Bring, Up, Present, Close, Sleep}
 use Rattle.css_world.specs.Numbering.{numbered}
 use Rattle.css_world.specs.Sessions.{peer_of, setup_of, next_down, next_up}
 
@@ -39,6 +39,15 @@ asked_by _ = None
 abbrev pub requests : List Numbered → List ℕ
 requests [] = []
 requests (now ∷ older) = option_to_list (asked_by now.line.verb) ++ requests older
+
+-- the companion that sent a request at a line, if it did
+abbrev pub asker_of : Line → Option ℕ
+asker_of line = option_map (λ reading. line.who) (asked_by line.verb)
+
+-- the companions that sent the requests
+abbrev pub askers : List Numbered → List ℕ
+askers [] = []
+askers (now ∷ older) = option_to_list (asker_of now.line) ++ askers older
 
 -- ---- takes
 -- The ticket of a request that was sent at a reading: it promises a follow-up where the television does so, and its own
@@ -61,6 +70,16 @@ abbrev pub tickets : Header → List Numbered → List Ticket
 tickets header [] = []
 tickets header (now ∷ older) =
     option_to_list (ticket_by header (requests older) (tickets header older) now.line.verb) ++ tickets header older
+
+-- the companion whose request a take received, if it was sent
+abbrev pub asker_by : List ℕ → Verb → Option ℕ
+asker_by asked (Take request reading) = numbered request asked
+asker_by asked _ = None
+
+-- the companions whose requests the takes received
+abbrev pub taken_for : List Numbered → List ℕ
+taken_for [] = []
+taken_for (now ∷ older) = option_to_list (asker_by (askers older) now.line.verb) ++ taken_for older
 
 -- ---- datagrams
 -- what the television declares
@@ -87,6 +106,18 @@ answers_by header taken _ = []
 abbrev pub datagrams : Header → List Numbered → List Message
 datagrams header [] = []
 datagrams header (now ∷ older) = answers_by header (tickets header older) now.line.verb ++ datagrams header older
+
+-- the companion that the datagrams of an answer are for, once for each of them
+abbrev pub owners_by : Header → List Ticket → List ℕ → Verb → List ℕ
+owners_by header taken owners (Give take reading) =
+    map (λ message. unwrap_or (numbered take owners) 0) (answers_by header taken (Give take reading))
+owners_by header taken owners _ = []
+
+-- the companions that the television's datagrams are for
+abbrev pub made_for : Header → List Numbered → List ℕ
+made_for header [] = []
+made_for header (now ∷ older) =
+    owners_by header (tickets header older) (taken_for older) now.line.verb ++ made_for header older
 
 -- whether a take is answered by a line
 abbrev pub gives : ℕ → Verb → Bool
@@ -143,6 +174,7 @@ done_by header who made events (Bring kind) older = hearing (peer_of who kind) (
 done_by header who made events (Present earliest latest) older =
     Wrote (peer_of who kind.Ts) (presentation_text (window earliest latest)) ∷ older
 done_by header who made events (Close kind) older = Closed (peer_of who kind) ∷ older
+done_by header who made events Sleep older = Slept ∷ older
 done_by header who made events _ older = older
 
 -- ---- both ends

@@ -1,7 +1,9 @@
--- A companion of a world beside the television: which events and which history both stand for.
-use Rattle.std.specs.Prelude.{◌≡◌, ℕ, List, ◌∷◌, Option, Some, Result, Ok, Err, OnOk}
+-- The companions of a world beside the television: which events and which histories all stand for.
+use Rattle.std.specs.Prelude.{◌≡◌, ◌≢◌, ◌≤◌, true, false, ℕ, List, [], ◌∷◌, map, length, Option, Some, None}
+use Rattle.std.specs.Prelude.{Result, Ok, Err, OnOk}
 use Rattle.css_num.specs.Gives.{GivesBy}
 use Rattle.css_model.specs.History.{Entry, History}
+use Rattle.css_model.specs.WallClock.{IsLocal}
 use Rattle.css_sessions.specs.declared.session.Kind.TheVariants as kind
 use Rattle.css_tv.specs.Stages.{Television as Tv}
 use Rattle.css_tv.specs.Standing as tvs
@@ -16,10 +18,14 @@ use Rattle.css_world.specs.declared.fault.WorldFault.{WorldFault}
 use Rattle.css_world.specs.declared.fault.WorldFault.TheVariants as faults
 use Rattle.css_schedule.specs.declared.header.CompanionLine.{CompanionLine}
 use Rattle.css_tsmsg.specs.declared.setup.Setup.{Setup}
+use Rattle.css_schedule.specs.declared.header.Header.{Header}
 use Rattle.css_world.specs.declared.lane.Lane.{Lane}
-use Rattle.css_world.specs.Sessions.{peer_of}
-use Rattle.css_world.specs.Flights.{Session, SessionStands, HasNews, with_news, with_written, news_of}
-use Rattle.css_world.specs.Verdicts.{played}
+use Rattle.css_world.specs.Clocks.{least_next}
+use Rattle.css_world.specs.Numbering.{stored}
+use Rattle.css_world.specs.Sessions.{peer_of, setup_of}
+use Rattle.css_moments.specs.Standing as drifts
+use Rattle.css_world.specs.Flights.{Session, unopened, SessionStands, HasNews, with_news, with_written, news_of}
+use Rattle.css_world.specs.Verdicts.{local_of, played}
 
 -- The companion with this number stands for its history, and its sessions for that and for what happened at the
 -- television.
@@ -28,11 +34,66 @@ pub record LaneStands (who : ℕ) (events : List TvEvent) (own : History) (lane 
   pub cii : SessionStands (peer_of who kind.Cii) events own lane.cii
   pub ts : SessionStands (peer_of who kind.Ts) events own lane.ts
 
--- ---- what a companion does
+-- so do all companions for theirs
+abbrev pub LanesStand : List TvEvent → (ℕ → History) → List Lane → Type 0
+LanesStand events own lanes = (who : ℕ) (lane : Lane) → stored lanes who ≡ Some lane
+    → LaneStands who events (own who) lane
+
+-- What is always true of the lane of companion `who`: it is as the header declares, and its companion may be asked at
+-- each reading that may come next, also after a sleep.
+pub record IsLaneOf (header : Header) (who : ℕ) (lane : Lane) : Type 0 where
+  pub own : companions.own_of lane.companion ≡ local_of who header
+  pub setup : lane.companion.setup ≡ setup_of who header
+  pub error : lane.clock.drift.error ≡ (local_of who header).error
+  pub precision : lane.clock.precision ≡ (local_of who header).precision
+  pub floor : lane.companion.client.floor ≤ least_next lane.clock.woken lane.clock.last
+  pub after_sleep : lane.companion.client.after_sleep ≤ least_next true lane.clock.last
+
 -- what a companion of a schedule asks of the television
 abbrev pub setup_by : CompanionLine → Setup
 setup_by declared = record { stem = declared.stem; selector = declared.selector }
 
+-- a lane of a companion that did nothing yet, as its line declares it
+pub record IsFresh (declared : CompanionLine) (lane : Lane) : Type 0 where
+  pub local : IsLocal declared.local
+  pub setup : lane.companion.setup ≡ setup_by declared
+  pub own : companions.own_of lane.companion ≡ declared.local
+  pub floor : lane.companion.client.floor ≡ 0
+  pub after_sleep : lane.companion.client.after_sleep ≡ 0
+  pub stands : companions.StandsFor lane.companion []
+  pub error : lane.clock.drift.error ≡ declared.local.error
+  pub drift : lane.clock.drift.last ≡ None
+  pub drifts : drifts.StandsFor lane.clock.drift []
+  pub precision : lane.clock.precision ≡ declared.local.precision
+  pub last : lane.clock.last ≡ None
+  pub woken : lane.clock.woken ≡ false
+  pub cii : lane.cii ≡ unopened
+  pub ts : lane.ts ≡ unopened
+
+-- a fresh lane for each of these companions
+pub record AreFresh (companions : List CompanionLine) (lanes : List Lane) : Type 0 where
+  pub count : length lanes ≡ length companions
+  pub each : (who : ℕ) (declared : CompanionLine) (lane : Lane) → stored companions who ≡ Some declared
+      → stored lanes who ≡ Some lane → IsFresh declared lane
+
+-- ---- one lane of all
+-- No lane but the one of that number was touched.
+pub record KeepsOthers (who : ℕ) (old new : List Lane) : Type 0 where
+  pub count : length new ≡ length old
+  pub others : (other : ℕ) → other ≢ who → stored new other ≡ stored old other
+
+-- each lane keeps its clock and its companion
+pub record KeepsAllButTexts (old new : List Lane) : Type 0 where
+  pub clocks : map (λ (lane : Lane). lane.clock) new ≡ map (λ (lane : Lane). lane.clock) old
+  pub companions : map (λ (lane : Lane). lane.companion) new ≡ map (λ (lane : Lane). lane.companion) old
+
+-- The clock was last read so, after the last sleep.
+pub record WasRead (lane : Lane) (reading : ℕ) : Type 0 where
+  pub line : ℕ
+  pub last : lane.clock.last ≡ Some (record { line = line; value = reading })
+  pub awake : lane.clock.woken ≡ false
+
+-- ---- what a companion does
 -- a companion doesn't refuse an event
 abbrev pub IsTaken : Companion → CompanionEvent → Type 0
 IsTaken companion event = (text : Option (List ℕ)) × (owed companion event ≡ Ok text)
@@ -58,11 +119,26 @@ pub record TakesUp (who : ℕ) (outs : List TvOut) (old new : Lane) : Type 0 whe
   pub cii : new.cii ≡ with_news (news_of (peer_of who kind.Cii) outs) old.cii
   pub ts : new.ts ≡ with_news (news_of (peer_of who kind.Ts) outs) old.ts
 
+-- what the television tells is for this companion, so it tells no other one anything
+abbrev pub IsFor : TvOut → ℕ → Type 0
+IsFor out who = (other : ℕ) → 1 ≤ other → other ≢ who
+    → (news_of (peer_of other kind.Cii) (out ∷ []) ≡ []) × (news_of (peer_of other kind.Ts) (out ∷ []) ≡ [])
+
+-- what it tells is in flight to all companions
+abbrev pub AllTakeUp : List TvOut → List Lane → List Lane → Type 0
+AllTakeUp outs old new = (who : ℕ) (before : Lane) → stored old who ≡ Some before
+    → (after : Lane) × (stored new who ≡ Some after) × TakesUp who outs before after
+
 -- The television took in an event, and what it tells the sessions of the companion with this number is in flight.
-pub record IsPlayed (who : ℕ) (events : List TvEvent) (event : TvEvent) (tv : Tv) (old new : Lane) : Type 0 where
-  pub stage : tvs.StandsFor tv.stage (event ∷ events)
+pub record IsPlayed (who : ℕ) (events : List TvEvent) (event : TvEvent) (old new : Lane) : Type 0 where
   pub cii : HasNews (peer_of who kind.Cii) events event old.cii new.cii
   pub ts : HasNews (peer_of who kind.Ts) events event old.ts new.ts
+
+-- so it is with all companions
+pub record AllArePlayed (events : List TvEvent) (event : TvEvent) (tv : Tv) (old new : List Lane) : Type 0 where
+  pub stage : tvs.StandsFor tv.stage (event ∷ events)
+  pub each : (who : ℕ) (before : Lane) → stored old who ≡ Some before
+      → (after : Lane) × (stored new who ≡ Some after) × IsPlayed who events event before after
 
 -- the television took in an event, or it tells why the player refuses that
 abbrev pub PlaysBy : List TvEvent → TvEvent → Tv → Result (Unit {0}) WorldFault → Type 0

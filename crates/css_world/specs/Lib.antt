@@ -12,3 +12,4 @@ pub mod Standing
 pub mod Truth
 pub mod FaultWords
 pub mod Asked
+pub mod Lending

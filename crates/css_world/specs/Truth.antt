@@ -1,5 +1,5 @@
 -- What is promised of accepted lines, with no premise but the ranges of what the header declares.
-use Rattle.std.specs.Prelude.{ℕ, pos, ◌≡◌, ◌⊎◌, List, ◌∷◌, IfSome, Result, OnOk}
+use Rattle.std.specs.Prelude.{ℕ, pos, ◌≡◌, ◌≤◌, ◌⊎◌, List, ◌∷◌, length, IfSome, Result, OnOk}
 use Rattle.css_num.specs.Spans.{Covers}
 use Rattle.css_schedule.specs.declared.header.Header.{Header}
 use Rattle.css_schedule.specs.declared.line.Verb.TheVariants.{Land, Wall, Print}
@@ -21,7 +21,7 @@ abbrev pub IsTrueWall : Header → List Numbered → Numbered → Type 0
 IsTrueWall header older now = (reading : ℕ) → now.line.verb ≡ Wall reading
     → IfSome (span_at now.line.who header older reading) (λ span. Covers span (pos now.line.w))
 
--- A datagram that lands is accepted, unless its request left the last 64.
+-- A datagram that lands is accepted, unless its request left the last 64 since the companion's last sleep.
 abbrev pub IsPossibleLanding : Header → List Numbered → Numbered → Type 0
 IsPossibleLanding header older now = (datagram reading : ℕ) → now.line.verb ≡ Land datagram reading
     → let landing = landing_of (local_of now.line.who header) (history_of now.line.who header older) reading
@@ -34,18 +34,27 @@ abbrev pub IsTrueReport : Header → List Numbered → Numbered → Type 0
 IsTrueReport header older now = (reading : ℕ) → now.line.verb ≡ Print reading
     → HasTickOf (report_at now.line.who header older reading) (assigned_at now.line.who header older now.line.w)
 
--- Where all has come to the companion of a line, it assigns the position that the television published.
-abbrev pub IsInStepAt : Header → List Numbered → Numbered → Type 0
-IsInStepAt header older now =
-    HasAllCome now.line.who header older → IsInStep now.line.who header older now.line.w
+-- a companion of the schedule has this number
+pub record IsCompanionOf (header : Header) (who : ℕ) : Type 0 where
+  pub first : 1 ≤ who
+  pub within : who ≤ length header.companions
+
+-- The texts that came to each companion tell the published states of its session in their order.
+abbrev pub AreToldInOrder : Header → List Numbered → Type 0
+AreToldInOrder header lines = (who : ℕ) → IsCompanionOf header who → IsToldInOrder who header lines
+
+-- Where all has come to a companion, it assigns the position that the television published.
+abbrev pub AreInStepAt : Header → List Numbered → Numbered → Type 0
+AreInStepAt header older now = (who : ℕ) → IsCompanionOf header who
+    → HasAllCome who header older → IsInStep who header older now.line.w
 
 -- Of accepted lines all of these hold.
 pub record IsTrueLine (header : Header) (older : List Numbered) (now : Numbered) : Type 0 where
   pub wall : IsTrueWall header older now
   pub report : IsTrueReport header older now
   pub landing : IsPossibleLanding header older now
-  pub told : IsToldInOrder now.line.who header (now ∷ older)
-  pub in_step : IsInStepAt header older now
+  pub told : AreToldInOrder header (now ∷ older)
+  pub in_step : AreInStepAt header older now
 
 -- of whatever header and accepted lines
 abbrev pub AcceptedLinesAreTrue : Type 0
@@ -59,12 +68,16 @@ TellsTruth old result now = (lines : List Numbered) → StandsFor old lines → 
 
 -- ---- the world of lines
 -- The lines of a schedule are the moments of a world. It keeps the errors that the header declares, and it explains,
--- within the declared precisions, what the companion of the lines did, whose history is lawful.
-pub record AreWorld (header : Header) (lines : List Numbered) : Type 0 where
-  pub keeps : IsWorldFor (errors_of header) (world_of lines) 1 (local_of 1 header)
-  pub lawful : IsLawful (history_of 1 header lines)
-  pub explains : Explains (world_of lines) 1 header.tv_error (local_of 1 header) (history_of 1 header lines)
-      (moment_number 1 header lines)
+-- within the declared precisions, what companion `who` of the lines did, whose history is lawful.
+pub record AreWorldOf (header : Header) (lines : List Numbered) (who : ℕ) : Type 0 where
+  pub keeps : IsWorldFor (errors_of header) (world_of lines) who (local_of who header)
+  pub lawful : IsLawful (history_of who header lines)
+  pub explains : Explains (world_of lines) who header.tv_error (local_of who header) (history_of who header lines)
+      (moment_number who header lines)
+
+-- so it does of each companion
+abbrev pub AreWorld : Header → List Numbered → Type 0
+AreWorld header lines = (who : ℕ) → IsCompanionOf header who → AreWorldOf header lines who
 
 -- of whatever header and accepted lines
 abbrev pub AcceptedLinesAreWorld : Type 0

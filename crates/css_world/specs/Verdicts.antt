@@ -1,5 +1,5 @@
 -- What becomes of a line of a schedule after the lines before it, the newest of which stands first.
-use Rattle.std.specs.Prelude.{ℕ, ℤ, ◌-◌, ◌==◌, ◌&&◌, Bool, true, not, if◌then◌else◌, map, List, []}
+use Rattle.std.specs.Prelude.{ℕ, ℤ, ◌-◌, ◌==◌, ◌&&◌, Bool, true, false, not, if◌then◌else◌, map, List, [], length}
 use Rattle.std.specs.Prelude.{Option, Some, None, is_some, unwrap_or, slice_get, Result, Ok, Err, FitsSigned}
 use Rattle.std.specs.Int.{w8}
 use Rattle.std.specs.Option.{option_map}
@@ -22,7 +22,8 @@ use Rattle.css_companion.specs.Meanings.{report_after, assigned_after}
 use Rattle.css_companion.specs.Printed.{line_of}
 use Rattle.css_companion.specs.declared.report.Report.{Report}
 use Rattle.css_schedule.specs.declared.header.Header.{Header}
-use Rattle.css_schedule.specs.Ranges.{IsHeader}
+use Rattle.css_schedule.specs.Owners.{is_sleep}
+use Rattle.css_schedule.specs.Ranges.{IsHeader, IsCount}
 use Rattle.css_schedule.specs.declared.line.Verb.{Verb}
 use Rattle.css_schedule.specs.declared.line.Verb.TheVariants.{Ask, Take, Give, Land, Wall, Print}
 use Rattle.css_schedule.specs.declared.line.Verb.TheVariants.{Viewer, Opening, Bring, Up, Present, Close}
@@ -30,8 +31,9 @@ use Rattle.css_world.specs.declared.fault.WorldFault.{WorldFault}
 use Rattle.css_world.specs.declared.fault.WorldFault.TheVariants.{Absent, Player, Memory}
 use Rattle.css_world.specs.Numbering.{numbered}
 use Rattle.css_world.specs.Sessions.{addresses, peer_of, setup_of, is_open, was_opened, next_down, next_up}
-use Rattle.css_world.specs.Happened.{Numbered, requests, tickets, datagrams, is_given, event_by, events_of, history_of}
-use Rattle.css_world.specs.Clocks.{Seen, clock_verdict, last_reading, reading_verdict}
+use Rattle.css_world.specs.Happened.{Numbered, requests, tickets, made_for, is_given, event_by, events_of}
+use Rattle.css_world.specs.Happened.{history_of}
+use Rattle.css_world.specs.Clocks.{Seen, clock_verdict, last_reading, has_woken, reading_verdict}
 use Rattle.css_world.specs.Printed.{wall_text}
 
 -- what companion `who` takes its own clock for; a header has so many companions
@@ -39,12 +41,13 @@ abbrev pub local_of : ℕ → Header → Local
 local_of who header = unwrap_or (option_map (λ companion. companion.local) (slice_get header.companions (who - 1)))
     (record { error = 0; precision = 0 })
 
--- What a header declares is in range: the precision exponent is one of a datagram, and the oscillators' errors and the
--- precision of the companion's readings are bounded.
+-- What a header declares is in range: the precision exponent is one of a datagram, the oscillators' errors and the
+-- precision of each companion's readings are bounded, and there are 1 to 16 companions.
 pub record IsDeclared (header : Header) : Type 0 where
   pub tv : IsHeader header
+  pub companions : IsCount (length header.companions)
   pub exponent : FitsSigned w8 header.tv_precision
-  pub local : IsLocal (local_of 1 header)
+  pub local : (who : ℕ) → IsLocal (local_of who header)
 
 -- ---- broken
 -- the television's reading of its wall clock at a verb
@@ -64,7 +67,13 @@ own_reading _ = None
 
 -- what a line tells of the wall clock
 abbrev pub tv_seen : Numbered → Seen
-tv_seen now = record { number = now.number; time = now.line.t; shown = now.line.w; reading = tv_reading now.line.verb }
+tv_seen now = record {
+  number = now.number;
+  time = now.line.t;
+  shown = now.line.w;
+  reading = tv_reading now.line.verb;
+  woke = false;
+}
 
 -- what a line tells of its companion's clock
 abbrev pub own_seen : Numbered → Seen
@@ -73,6 +82,7 @@ own_seen now = record {
   time = now.line.t;
   shown = now.line.l;
   reading = own_reading now.line.verb;
+  woke = is_sleep now.line.verb;
 }
 
 -- what lines tell of the wall clock
@@ -83,33 +93,43 @@ seen_of_tv lines = map tv_seen lines
 abbrev pub seen_of : ℕ → List Numbered → List Seen
 seen_of who lines = map own_seen (filter (λ now. now.line.who == who) lines)
 
+-- The clock of a line's companion is tested; a line with the number 0 gives none.
+abbrev pub own_shown_tested : Header → List Numbered → Numbered → Result (Unit {0}) WorldFault
+own_shown_tested header older now =
+    if now.line.who == 0 then Ok tt
+    else clock_verdict (local_of now.line.who header).error (seen_of now.line.who older) (own_seen now)
+
 -- True time and what the clocks show: first the wall clock is tested, then the companion's.
 abbrev pub shown_tested : Header → List Numbered → Numbered → Result (Unit {0}) WorldFault
 shown_tested header older now =
-    result_and (clock_verdict header.tv_error (seen_of_tv older) (tv_seen now))
-    (clock_verdict (local_of now.line.who header).error (seen_of now.line.who older) (own_seen now))
+    result_and (clock_verdict header.tv_error (seen_of_tv older) (tv_seen now)) (own_shown_tested header older now)
 
 -- the reading that an end takes of its clock
 abbrev pub reading_tested : Header → List Numbered → Numbered → Result (Unit {0}) WorldFault
 reading_tested header older now =
-    result_and (reading_verdict now.number (precision_ns header.tv_precision) now.line.w
+    result_and (reading_verdict now.number (precision_ns header.tv_precision) now.line.w false
     (last_reading (seen_of_tv older)) (tv_reading now.line.verb))
     (reading_verdict now.number (local_of now.line.who header).precision now.line.l
-    (last_reading (seen_of now.line.who older)) (own_reading now.line.verb))
+    (has_woken (seen_of now.line.who older)) (last_reading (seen_of now.line.who older)) (own_reading now.line.verb))
 
 -- the tests of a line's numbers, in their order
 abbrev pub tested : Header → List Numbered → Numbered → Result (Unit {0}) WorldFault
 tested header older now = result_and (shown_tested header older now) (reading_tested header older now)
 
 -- ---- absent
+-- whether a companion is this one
+abbrev pub is_for : ℕ → Option ℕ → Bool
+is_for who None = false
+is_for who (Some owner) = owner == who
+
 -- A request is received that was sent; an answer is given to a take that was made and has none; a datagram lands that
--- was made.
-abbrev pub can_exchange : Header → List Numbered → Verb → Bool
-can_exchange header older (Take request reading) = is_some (numbered request (requests older))
-can_exchange header older (Give take reading) =
+-- was made for companion `who`.
+abbrev pub can_exchange : Header → List Numbered → ℕ → Verb → Bool
+can_exchange header older who (Take request reading) = is_some (numbered request (requests older))
+can_exchange header older who (Give take reading) =
     is_some (numbered take (tickets header older)) && not (is_given take older)
-can_exchange header older (Land datagram reading) = is_some (numbered datagram (datagrams header older))
-can_exchange header older _ = true
+can_exchange header older who (Land datagram reading) = is_for who (numbered datagram (made_for header older))
+can_exchange header older who _ = true
 
 -- A session of companion `who` opens that was never open. A text comes that is in flight, while its session is open; a
 -- presentation is sent, and a session is closed, while it is.
@@ -124,7 +144,7 @@ can_talk who events own _ = true
 -- what a line of companion `who` says can happen
 abbrev pub can_happen : Header → List Numbered → ℕ → Verb → Bool
 can_happen header older who verb =
-    can_exchange header older verb && can_talk who (events_of header older) (history_of who header older) verb
+    can_exchange header older who verb && can_talk who (events_of header older) (history_of who header older) verb
 
 -- ---- refused by the player
 -- the outcome of an event of the television

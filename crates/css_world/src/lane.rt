@@ -3,7 +3,6 @@ ghost use Rattle.css_model.specs.declared.Why.TheVariants as why;
 ghost use Rattle.css_model.specs.History.{Entry, History, Clock, Took};
 ghost use Rattle.css_companion.specs.Standing as companions;
 ghost use Rattle.css_companion.specs.Steps as steps;
-ghost use Rattle.css_moments.specs.Standing as drifts;
 ghost use Rattle.css_schedule.specs.Ranges.{IsCompanion};
 ghost use Rattle.css_sessions.specs.declared.session.Kind.TheVariants as kinds;
 ghost use Rattle.css_tv.specs.declared.event.TvOut.TheVariants as outs;
@@ -33,15 +32,7 @@ pub(crate) struct Lane {
 impl Lane {
     pub(crate) fn new(alloc: Global, declared: &CompanionLine) -> Result<Lane, Memory>
         requires { IsCompanion declared.now }
-        ensures setup { IfOk result (λ lane. lane.companion.setup ≡ lanes.setup_by declared.now) }
-        ensures own { IfOk result (λ lane. companions.own_of lane.companion ≡ declared.now.local) }
-        ensures floor { IfOk result (λ lane. lane.companion.client.floor ≡ 0) }
-        ensures stands { IfOk result (λ lane. companions.StandsFor lane.companion []) }
-        ensures error { IfOk result (λ lane. lane.clock.drift.error ≡ declared.now.local.error) }
-        ensures drift { IfOk result (λ lane. (lane.clock.drift.last ≡ None) × drifts.StandsFor lane.clock.drift []) }
-        ensures precision { IfOk result (λ lane. lane.clock.precision ≡ declared.now.local.precision) }
-        ensures last { IfOk result (λ lane. lane.clock.last ≡ None) }
-        ensures sessions { IfOk result (λ lane. (lane.cii ≡ flights.unopened) × (lane.ts ≡ flights.unopened)) }
+        ensures { IfOk result (lanes.IsFresh declared.now) }
     {
         let local = declared.local;
         let config = CompanionConfig {
@@ -67,6 +58,7 @@ impl Lane {
         ensures local { companions.own_of self.new.companion ≡ companions.own_of self.old.companion }
         ensures setup { self.new.companion.setup ≡ self.old.companion.setup }
         ensures floor { self.new.companion.client.floor ≤ reading }
+        ensures after_sleep { self.new.companion.client.after_sleep ≡ self.old.companion.client.after_sleep }
         ensures clock { self.new.clock ≡ self.old.clock }
         ensures sessions { (self.new.cii ≡ self.old.cii) × (self.new.ts ≡ self.old.ts) }
     {
@@ -75,7 +67,7 @@ impl Lane {
     }
 
     /// Puts a text of the television into flight, if it is for this companion, the one with this number.
-    fn tell_one(&mut self, who: u32, out: TvOut) -> Result<(), Memory>
+    pub(crate) fn tell(&mut self, who: u32, out: TvOut) -> Result<(), Memory>
         requires first { 1 ≤ who }
         requires few { who < 2147483648 }
         ensures told { OnOk result (lanes.TakesUp who (out ∷ []) self.old self.new) }
@@ -91,19 +83,6 @@ impl Lane {
         } else {
             Ok(())
         }
-    }
-
-    /// Puts into flight what the television told this companion, the one with this number.
-    pub(crate) fn tell(&mut self, who: u32, told: Vec<TvOut>) -> Result<(), Memory>
-        requires first { 1 ≤ who }
-        requires few { who < 2147483648 }
-        ensures told { OnOk result (lanes.TakesUp who told.items self.old self.new) }
-        ensures rest { (self.new.clock ≡ self.old.clock) × (self.new.companion ≡ self.old.companion) }
-    {
-        for out in told {
-            self.tell_one(who, out)?;
-        }
-        Ok(())
     }
 
     /// Lets something happen at the companion that it doesn't refuse, and puts into flight what it then owes.

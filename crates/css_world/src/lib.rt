@@ -1,4 +1,4 @@
-//! The television and the companion of a schedule, carried from line to line.
+//! The television and the companions of a schedule, carried from line to line.
 //!
 //! Each line gives true time and the clocks, and says what happens then. The numbers of the lines are a world, or the
 //! first line that contradicts one is refused. So what is printed is true of that world, with no premise left.
@@ -6,6 +6,7 @@
 
 mod fault;
 mod lane;
+mod lanes;
 pub mod laws;
 mod place;
 mod printed;

@@ -1,4 +1,5 @@
-ghost use Rattle.std.specs.Prelude.{◌≡◌, ◌<◌, ◌≤◌, IfErr, ℕ, List, [], ◌∷◌, ◌++◌, Some, None, Ok, IfOk, OnOk, OnErr};
+ghost use Rattle.std.specs.Prelude.{◌≡◌, ◌<◌, ◌≤◌, IfErr, ℕ, length, List, [], ◌∷◌, ◌++◌, Some, None, false};
+ghost use Rattle.std.specs.Prelude.{Ok, IfOk, OnOk, OnErr};
 ghost use Rattle.css_model.specs.Wire.{decoded, request_at};
 ghost use Rattle.css_model.specs.Wire as wire;
 ghost use Rattle.css_model.specs.Numbers as numbers;
@@ -8,14 +9,16 @@ ghost use Rattle.css_schedule.specs.Ranges.{IsHeader};
 ghost use Rattle.css_moments.specs.Standing.{StandsFor};
 ghost use Rattle.css_tv.specs.Standing as tvs;
 ghost use Rattle.css_tv.specs.declared.event.TvEvent.{TvEvent as Event};
-ghost use Rattle.css_world.specs.Lanes.{IsPlayed, PlaysBy, KeepsTv};
+ghost use Rattle.css_schedule.specs.Headers.{max_companions};
+ghost use Rattle.css_world.specs.Lanes.{AllArePlayed, PlaysBy, KeepsTv, KeepsAllButTexts};
+ghost use Rattle.css_world.specs.Numbering.{stored, spent};
 ghost use Rattle.css_world.specs.Sessions.{addresses};
 ghost use Rattle.css_world.specs.Happened.{server_of};
-ghost use Rattle.css_world.specs.Standing.{stored, spent, Answers, DeclaresTheSame};
+ghost use Rattle.css_world.specs.Standing.{Answers, DeclaresTheSame};
 ghost use Rattle.std.specs.Option.{option_flatten};
 
 use crate::fault::WorldFault;
-use crate::lane::Lane;
+use crate::lanes::Lanes;
 use crate::place::place;
 use crate::watch::Watch;
 use css_model::LIMIT;
@@ -47,7 +50,7 @@ impl Television {
         ensures error { IfOk result (λ tv. tv.clock.drift.error ≡ header.now.tv_error) }
         ensures drift { IfOk result (λ tv. (tv.clock.drift.last ≡ None) × StandsFor tv.clock.drift []) }
         ensures precision { IfOk result (λ tv. tv.clock.precision ≡ numbers.precision_ns header.now.tv_precision) }
-        ensures last { IfOk result (λ tv. tv.clock.last ≡ None) }
+        ensures last { IfOk result (λ tv. (tv.clock.last ≡ None) × (tv.clock.woken ≡ false)) }
         ensures server { IfOk result (λ tv. tv.tv.server ≡ server_of header.now) }
         ensures serves { IfOk result (λ tv. servers.StandsFor tv.tv.server []) }
         ensures addresses { IfOk result (λ tv. tv.tv.stage.addresses ≡ addresses) }
@@ -112,28 +115,26 @@ impl Television {
     }
 }
 
-/// Lets something happen at the television, and puts into flight what it tells the companion with this number.
+/// Lets something happen at the television, and puts into flight what it tells the companions.
 pub(crate) fn play(
     alloc: Global,
-    who: u32,
     tv: &mut Tv,
-    lane: &mut Lane,
+    lanes: &mut Lanes,
     event: TvEvent,
 ) -> Result<(), WorldFault>
-    requires first { 1 ≤ who }
-    requires few { who < 2147483648 }
+    requires few { length lanes.old.list.items ≤ max_companions }
     requires event { tvs.IsEvent event tv.old.stage }
     requires addresses { tv.old.stage.addresses ≡ addresses }
     ensures answer { (events : List Event) → PlaysBy events event tv.old result }
     ensures played { (events : List Event) → tvs.StandsFor tv.old.stage events
         → tvs.IsFresh event (tvs.calls_of addresses events).sessions
-        → OnOk result (IsPlayed who events event tv.new lane.old lane.new) }
+        → OnOk result (AllArePlayed events event tv.new lanes.old.list.items lanes.new.list.items) }
     ensures tv { (tv.new.server ≡ tv.old.server) × (tv.new.stage.addresses ≡ tv.old.stage.addresses) }
-    ensures lane { (lane.new.clock ≡ lane.old.clock) × (lane.new.companion ≡ lane.old.companion) }
+    ensures lanes { KeepsAllButTexts lanes.old.list.items lanes.new.list.items }
     ensures refused { IfErr result (λ fault. KeepsTv tv.old tv.new fault) }
 {
     let mut told = Vec::new(alloc);
     tv.step(event, &mut told)?;
-    lane.tell(who, told)?;
+    lanes.tell(told)?;
     Ok(())
 }

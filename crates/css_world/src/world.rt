@@ -1,8 +1,7 @@
-ghost use Rattle.std.specs.Prelude.{◌≡◌, ◌≢◌, ◌<◌, ◌==◌, false, List, [], length, ℕ};
+ghost use Rattle.std.specs.Prelude.{◌≡◌, ◌<◌, ◌≤◌, List, [], ◌∷◌, ◌++◌, length, ℕ};
 ghost use Rattle.std.specs.Prelude.{Err, IfSome, IfNone, IfOk, IfErr, OnOk, OnErr};
 ghost use Rattle.std.specs.Option.{ForSome};
-ghost use Rattle.css_schedule.specs.Owners.{is_sleep};
-ghost use Rattle.css_schedule.specs.Ranges.{IsHeader, IsLine};
+ghost use Rattle.css_schedule.specs.Ranges.{IsHeader, IsLine, IsSecond, IsCount};
 ghost use Rattle.css_schedule.specs.declared.line.Verb.{Verb as Happening};
 ghost use Rattle.css_schedule.specs.declared.line.Verb.TheVariants as events;
 ghost use Rattle.css_companion.specs.Printed.{line_of};
@@ -12,17 +11,18 @@ ghost use Rattle.css_tsmsg.specs.Presentations.{IsPresentation};
 ghost use Rattle.css_tv.specs.Standing.{IsEvent};
 ghost use Rattle.css_world.specs.Happened.{Numbered};
 ghost use Rattle.css_world.specs.Asked.{MayBeAsked};
+ghost use Rattle.css_world.specs.Numbering.{stored};
 ghost use Rattle.css_world.specs.Verdicts.{own_reading, span_at, report_at, assigned_at};
 ghost use Rattle.css_world.specs.Printed.{wall_text};
 ghost use Rattle.css_world.specs.Truth.{TellsTruth};
 ghost use Rattle.css_world.specs.declared.fault.WorldFault.TheVariants as faults;
 ghost use Rattle.css_world.specs.Standing.{StandsFor, IsNext, IsReady, Means, GoesOn, CarriesOut, IsAtTv, Prints, Adds};
-ghost use Rattle.css_world.specs.Standing.{ShowsBy, ShownTo, ReadsBy, ReadTo, last_value};
+ghost use Rattle.css_world.specs.Standing.{ShowsBy, ShownTo, ReadsBy, ReadTo, HasRead, HasWoken, IsNumber, AreNext};
 ghost use Rattle.css_world.specs.Standing.{KeepsClocks, KeepsEnds, KeepsReadings, KeepsDrifts, KeepsRefused};
 
 use crate::fault::WorldFault;
-use crate::lane::Lane;
-use crate::place::item;
+use crate::lanes::Lanes;
+use crate::place::{item, owner, store};
 use crate::printed::{print_report, print_wall};
 use crate::session::peer_of;
 use crate::television::{Television, play};
@@ -36,21 +36,24 @@ use css_tv::{Tv, TvEvent};
 use std::alloc::Global;
 use std::marker::Model;
 
-/// The number of the one companion.
-const ONE: u32 = 1;
-
-/// The television and the companion of a schedule, as the lines so far leave them.
+/// The television and the companions of a schedule, as the lines so far leave them.
 ///
-/// What a later line may still name is kept: each request, each take and each datagram, at most 32 bytes for each, and
+/// What a later line may still name is kept: each request, each take and each datagram, at most 36 bytes for each, and
 /// the texts in flight.
 #[derive(Drop)]
 pub struct World {
     alloc: Global,
     header: Header,
     tv: Television,
-    lane: Lane,
+    lanes: Lanes,
     requests: Vec<[u8; 32]>,
+    /// The companion that sent each request.
+    askers: Vec<u32>,
+    /// The companion whose request each take received.
+    taken_for: Vec<u32>,
     datagrams: Vec<[u8; 32]>,
+    /// The companion that each datagram answers.
+    made_for: Vec<u32>,
 }
 
 impl Model for World {
@@ -58,45 +61,52 @@ impl Model for World {
 
     ghost Value = { Known };
 
-    ghost view = { λ w. kept_as w.header w.tv w.lane w.requests.items w.datagrams.items };
+    ghost view = { λ w. kept_as w.header w.tv w.lanes.list.items w.requests.items w.askers.items w.taken_for.items
+        w.datagrams.items w.made_for.items };
 
-    ghost invariant = { λ w. IsWorld (kept_as w.header w.tv w.lane w.requests.items w.datagrams.items) };
+    ghost invariant = { λ w. IsWorld (kept_as w.header w.tv w.lanes.list.items w.requests.items w.askers.items
+        w.taken_for.items w.datagrams.items w.made_for.items) };
 }
 
 impl World {
-    /// The world of a schedule with this header of version 1, before its first line.
+    /// The world of a schedule with this header, before its first line. The header has 1 to 16 companions.
     pub fn new(alloc: Global, header: Header) -> Result<World, Memory>
-        requires { IsHeader header × (length header.companions ≡ 1) }
+        requires { IsHeader header × IsCount (length header.companions) }
         ensures header { IfOk result (λ world. world.header ≡ header) }
         ensures stands { IfOk result (λ world. StandsFor world []) }
     {
         Ok(World {
             alloc,
-            lane: Lane::new(alloc, &header.companions.list()[0])?,
+            lanes: Lanes::new(alloc, header.companions.list())?,
             tv: Television::new(alloc, &header)?,
             header,
             requests: Vec::new(alloc),
+            askers: Vec::new(alloc),
+            taken_for: Vec::new(alloc),
             datagrams: Vec::new(alloc),
+            made_for: Vec::new(alloc),
         })
     }
 
     /// Takes the line of that number, which is above that of the line before, and adds what is printed for it to `out`.
-    /// It is a line of version 1, so no sleep.
+    /// It names one of the header's companions, or none where no companion takes part in what happens.
     ///
     /// The tests come in this order.
     ///
     /// - `Broken`: true time is below that of the line before; the wall clock, or else the companion's clock, drifted
-    ///   from an earlier line by more than its oscillator's error allows; a reading differs from what its clock shows
-    ///   by more than its precision, or is below the last one of that clock.
+    ///   from an earlier line by more than its oscillator's error allows, where for the companion's clock the lines
+    ///   before its last sleep don't count; a reading differs from what its clock shows by more than its precision, or
+    ///   is below the last one of that clock, or isn't above it after a sleep.
     /// - `Absent`: the line names a request that wasn't sent, a take that wasn't made or has its answer, or a datagram
-    ///   that wasn't made; or a session that isn't open, or opens once more; or a text while none is in flight.
+    ///   that wasn't made or answers another companion; or a session that isn't open, or opens once more; or a text
+    ///   while none is in flight.
     /// - `Player`: the television's player refuses what happens there.
     ///
-    /// After each of these the television and the companion are as before. After any fault `out` is as before, and the
+    /// After each of these the television and the companions are as before. After any fault `out` is as before, and the
     /// world is used no more.
     pub fn line(&mut self, number: u64, line: Line, out: &mut Vec<u8>) -> Result<(), WorldFault>
-        requires line { IsLine line × (line.who ≡ 1) }
-        requires awake { is_sleep line.verb ≡ false }
+        requires line { IsLine line }
+        requires of { IsSecond (length self.old.header.companions) line }
         requires stands { (lines : List Numbered) × StandsFor self.old lines × IsNext number lines }
         ensures header { self.new.header ≡ self.old.header }
         ensures answers { Means self.old out.old.items out.new.items result (record { number = number; line = line }) }
@@ -109,13 +119,16 @@ impl World {
         self.carry_out(number, line, out)
     }
 
-    /// The companion with this number, counted from 1. It may be asked for a report at the last reading of its clock.
+    /// The companion with this number, counted from 1. It may be asked for a report at the last reading of its clock,
+    /// or above that where it slept since.
     pub fn companion(&self, number: u32) -> Option<&Companion>
-        ensures one { IfSome result (λ companion. (number ≡ 1) × (companion.now ≡ self.now.lane.companion)) }
-        ensures asked { IfSome result (λ companion. MayBeAsked self.now companion.now) }
-        ensures none { IfNone result (number ≢ 1) }
+        ensures some { IfSome result (λ companion. MayBeAsked self.now number companion.now) }
+        ensures none { IfNone result (stored self.now.lanes number ≡ None) }
     {
-        (number == 1).then_some(&self.lane.companion)
+        match self.lanes.get(number) {
+            Some(lane) => Some(&lane.companion),
+            None => None,
+        }
     }
 
     /// The television.
@@ -125,26 +138,35 @@ impl World {
         &self.tv.tv
     }
 
-    /// Tests true time, the wall clock, and the companion's clock at a line.
+    /// Tests true time, the wall clock, and the clock of the line's companion.
     fn show(&mut self, number: u64, line: &Line) -> Result<(), WorldFault>
         requires line { IsLine line.now }
+        requires of { IsSecond (length self.old.header.companions) line.now }
         requires tv_next { ForSome self.old.tv.clock.drift.last (λ last. last.line < number) }
-        requires own_next { ForSome self.old.lane.clock.drift.last (λ last. last.line < number) }
+        requires own_next { AreNext self.old number }
         ensures verdict { ShowsBy self.old result (record { number = number; line = line.now }) }
         ensures stands { ShownTo self.old self.new result (record { number = number; line = line.now }) }
         ensures ends { KeepsEnds self.old self.new }
         ensures readings { KeepsReadings self.old self.new }
     {
         self.tv.clock.show(number, line.t, line.w)?;
-        self.lane.clock.show(number, line.t, line.l)
+        if line.who == 0 {
+            return Ok(());
+        }
+        let lane = self.lanes.lane(line.who);
+        lane.clock.wake_at(&line.verb);
+        lane.clock.show(number, line.t, line.l)
     }
 
-    /// Tests the reading at a line, which the television takes of its clock, or the companion of its own.
+    /// Tests the reading at a line, which the television takes of its clock, or the companion of its own. After a sleep
+    /// the companion's next reading has to be above its last one.
     fn read(&mut self, number: u64, line: &Line) -> Result<(), WorldFault>
+        requires of { IsSecond (length self.old.header.companions) line.now }
         ensures verdict { ReadsBy self.old result (record { number = number; line = line.now }) }
         ensures stands { ReadTo self.old self.new result (record { number = number; line = line.now }) }
         ensures own { IfSome (own_reading line.now.verb) (λ reading.
-            OnOk result (last_value self.new.lane.clock.last ≡ reading)) }
+            OnOk result (HasRead self.new line.now.who reading)) }
+        ensures woken { line.now.verb ≡ events.Sleep → OnOk result (HasWoken self.new line.now.who) }
         ensures ends { KeepsEnds self.old self.new }
         ensures drifts { KeepsDrifts self.old self.new }
     {
@@ -155,7 +177,15 @@ impl World {
             Verb::Ask { reading }
             | Verb::Land { reading, .. }
             | Verb::Wall { reading }
-            | Verb::Print { reading } => self.lane.clock.read(number, line.l, reading),
+            | Verb::Print { reading } => {
+                let lane = self.lanes.lane(line.who);
+                lane.clock.read(number, line.l, reading)
+            }
+            Verb::Sleep => {
+                let lane = self.lanes.lane(line.who);
+                lane.clock.woken = true;
+                Ok(())
+            }
             _ => Ok(()),
         }
     }
@@ -163,22 +193,23 @@ impl World {
     /// Carries out what happens at a line, and prints what is printed for it.
     fn carry_out(&mut self, number: u64, line: Line, out: &mut Vec<u8>) -> Result<(), WorldFault>
         requires line { IsLine line }
-        requires awake { is_sleep line.verb ≡ false }
-        requires own { IfSome (own_reading line.verb) (λ reading. last_value self.old.lane.clock.last ≡ reading) }
+        requires of { IsSecond (length self.old.header.companions) line }
+        requires own { IfSome (own_reading line.verb) (λ reading. HasRead self.old line.who reading) }
+        requires woken { line.verb ≡ events.Sleep → HasWoken self.old line.who }
         requires ready { (lines : List Numbered) × IsReady self.old lines }
         ensures clocks { KeepsClocks self.old self.new }
         ensures prints { Prints self.old self.new out.old.items out.new.items result
             (record { number = number; line = line }) }
         ensures refused { IfErr result (λ fault. KeepsRefused self.old self.new fault) }
     {
-        let Line { w, verb, .. } = line;
+        let Line { w, who, verb, .. } = line;
         match verb {
-            Verb::Ask { reading } => self.ask(reading),
+            Verb::Ask { reading } => self.ask(who, reading),
             Verb::Take { request, reading } => self.take(request, reading),
             Verb::Give { take, reading } => self.give(take, reading),
-            Verb::Land { datagram, reading } => self.land(datagram, reading),
-            Verb::Wall { reading } => self.wall(number, w, reading, out),
-            Verb::Print { reading } => self.print(number, w, reading, out),
+            Verb::Land { datagram, reading } => self.land(who, datagram, reading),
+            Verb::Wall { reading } => self.wall(who, number, w, reading, out),
+            Verb::Print { reading } => self.print(who, number, w, reading, out),
             Verb::Programme { content_id } => self.happen(TvEvent::Programme(content_id)),
             Verb::Timeline {
                 programme,
@@ -192,250 +223,328 @@ impl World {
                 base,
             }),
             Verb::Viewer { reading, command } => self.happen(TvEvent::Viewer { command, reading }),
-            Verb::Opening { kind } => self.open(kind),
-            Verb::Bring { kind } => self.bring(kind),
-            Verb::Up => self.up(),
-            Verb::Present { earliest, latest } => self.present(earliest, latest),
-            Verb::Close { kind } => self.close(kind),
-            Verb::Sleep => unreachable!(),
+            Verb::Opening { kind } => self.open(who, kind),
+            Verb::Bring { kind } => self.bring(who, kind),
+            Verb::Up => self.up(who),
+            Verb::Present { earliest, latest } => self.present(who, earliest, latest),
+            Verb::Close { kind } => self.close(who, kind),
+            Verb::Sleep => self.sleep(who),
         }
     }
 
-    fn ask(&mut self, reading: u64) -> Result<(), WorldFault>
+    fn ask(&mut self, who: u32, reading: u64) -> Result<(), WorldFault>
+        requires who { IsNumber self.old who }
         requires range { reading < LIMIT }
-        requires read { last_value self.old.lane.clock.last ≡ reading }
+        requires read { HasRead self.old who reading }
         ensures clocks { KeepsClocks self.old self.new }
-        ensures carries { CarriesOut self.old self.new result (events.Ask reading) }
+        ensures carries { CarriesOut self.old self.new result who (events.Ask reading) }
         ensures refused { IfErr result (λ fault. KeepsRefused self.old self.new fault) }
     {
-        let request = self.lane.companion.ask(reading);
+        let lane = self.lanes.lane(who);
+        let request = lane.companion.ask(reading);
         self.requests.push(request)?;
+        self.askers.push(who)?;
         Ok(())
     }
 
+    /// The television receives a request, whosever line it is.
     fn take(&mut self, request: u32, reading: u64) -> Result<(), WorldFault>
         requires range { reading < LIMIT }
         requires ready { (lines : List Numbered) × IsReady self.old lines }
         ensures clocks { KeepsClocks self.old self.new }
-        ensures carries { CarriesOut self.old self.new result (events.Take request reading) }
+        ensures carries { (who : ℕ) → CarriesOut self.old self.new result who (events.Take request reading) }
         ensures refused { IfErr result (λ fault. KeepsRefused self.old self.new fault) }
     {
+        let asker = owner(&self.askers, request).ok_or(WorldFault::Absent)?;
         let request = item(&self.requests, request).ok_or(WorldFault::Absent)?;
         self.tv.take(&request, reading)?;
+        self.taken_for.push(asker)?;
         Ok(())
     }
 
+    /// The television answers a take, whosever line it is.
     fn give(&mut self, take: u32, reading: u64) -> Result<(), WorldFault>
         requires range { reading < LIMIT }
         ensures clocks { KeepsClocks self.old self.new }
-        ensures carries { CarriesOut self.old self.new result (events.Give take reading) }
+        ensures carries { (who : ℕ) → CarriesOut self.old self.new result who (events.Give take reading) }
         ensures refused { IfErr result (λ fault. KeepsRefused self.old self.new fault) }
     {
+        let asker = owner(&self.taken_for, take).ok_or(WorldFault::Absent)?;
         let answered = self.tv.give(take, reading).ok_or(WorldFault::Absent)?;
-        self.datagrams.push(answered.response)?;
+        store(
+            &mut self.datagrams,
+            &mut self.made_for,
+            answered.response,
+            asker,
+        )?;
         if let Some(follow_up) = answered.follow_up {
-            self.datagrams.push(follow_up)?;
+            store(&mut self.datagrams, &mut self.made_for, follow_up, asker)?;
         }
         Ok(())
     }
 
-    fn land(&mut self, datagram: u32, reading: u64) -> Result<(), WorldFault>
+    fn land(&mut self, who: u32, datagram: u32, reading: u64) -> Result<(), WorldFault>
+        requires who { IsNumber self.old who }
         requires range { reading < LIMIT }
-        requires read { last_value self.old.lane.clock.last ≡ reading }
+        requires read { HasRead self.old who reading }
         ensures clocks { KeepsClocks self.old self.new }
-        ensures carries { CarriesOut self.old self.new result (events.Land datagram reading) }
+        ensures carries { CarriesOut self.old self.new result who (events.Land datagram reading) }
         ensures refused { IfErr result (λ fault. KeepsRefused self.old self.new fault) }
     {
+        let asker = owner(&self.made_for, datagram).ok_or(WorldFault::Absent)?;
+        if asker != who {
+            return Err(WorldFault::Absent);
+        }
         let datagram = item(&self.datagrams, datagram).ok_or(WorldFault::Absent)?;
-        self.lane.land(&datagram, reading)?;
+        let lane = self.lanes.lane(who);
+        lane.land(&datagram, reading)?;
+        Ok(())
+    }
+
+    /// The companion slept, and wakes up.
+    fn sleep(&mut self, who: u32) -> Result<(), WorldFault>
+        requires who { IsNumber self.old who }
+        requires woken { HasWoken self.old who }
+        ensures clocks { KeepsClocks self.old self.new }
+        ensures carries { CarriesOut self.old self.new result who events.Sleep }
+        ensures refused { IfErr result (λ fault. KeepsRefused self.old self.new fault) }
+    {
+        let lane = self.lanes.lane(who);
+        lane.companion.slept();
         Ok(())
     }
 
     /// Prints the span of the wall clock, where the companion's clock reads so.
-    fn wall(&self, number: u64, w: u64, reading: u64, out: &mut Vec<u8>) -> Result<(), WorldFault>
+    fn wall(
+        &self,
+        who: u32,
+        number: u64,
+        w: u64,
+        reading: u64,
+        out: &mut Vec<u8>,
+    ) -> Result<(), WorldFault>
+        requires who { IsNumber self.now who }
         requires range { reading < LIMIT }
-        requires read { last_value self.now.lane.clock.last ≡ reading }
+        requires read { HasRead self.now who reading }
         ensures printed { Adds self.now out.old.items out.new.items result
-            (λ lines. wall_text number (span_at 1 self.now.header lines reading) w) }
+            (λ lines. wall_text number (span_at who self.now.header lines reading) w) }
         ensures err { OnErr result ((result ≡ Err faults.Memory) × (out.new.items ≡ out.old.items)) }
     {
-        print_wall(number, self.lane.companion.wall(reading), w, out)?;
+        let Some(lane) = self.lanes.get(who) else {
+            unreachable!()
+        };
+        print_wall(number, lane.companion.wall(reading), w, out)?;
         Ok(())
     }
 
     /// Prints the report of the companion, where its clock reads so, and the position at this value of the wall clock.
-    fn print(&self, number: u64, w: u64, reading: u64, out: &mut Vec<u8>) -> Result<(), WorldFault>
+    fn print(
+        &self,
+        who: u32,
+        number: u64,
+        w: u64,
+        reading: u64,
+        out: &mut Vec<u8>,
+    ) -> Result<(), WorldFault>
+        requires who { IsNumber self.now who }
         requires range { reading < LIMIT }
-        requires read { last_value self.now.lane.clock.last ≡ reading }
+        requires read { HasRead self.now who reading }
         ensures printed { Adds self.now out.old.items out.new.items result
-            (λ lines. line_of number (report_at 1 self.now.header lines reading)
-            (assigned_at 1 self.now.header lines w)) }
+            (λ lines. line_of number (report_at who self.now.header lines reading)
+            (assigned_at who self.now.header lines w)) }
         ensures err { OnErr result ((result ≡ Err faults.Memory) × (out.new.items ≡ out.old.items)) }
     {
-        let report = self.lane.companion.report(reading);
-        let position = self.lane.companion.assigned(w);
+        let Some(lane) = self.lanes.get(who) else {
+            unreachable!()
+        };
+        let report = lane.companion.report(reading);
+        let position = lane.companion.assigned(w);
         print_report(self.alloc, number, &report, position, out)?;
         Ok(())
     }
 
-    /// Lets something happen at the television alone.
+    /// Lets something happen at the television alone, whosever line it is.
     fn happen(&mut self, event: TvEvent) -> Result<(), WorldFault>
         requires event { IsEvent event self.old.tv.tv.stage }
         ensures clocks { KeepsClocks self.old self.new }
-        ensures carries { (verb : Happening) → IsAtTv verb event → CarriesOut self.old self.new result verb }
+        ensures carries { (who : ℕ) (verb : Happening) → IsAtTv verb event
+            → CarriesOut self.old self.new result who verb }
         ensures refused { IfErr result (λ fault. KeepsRefused self.old self.new fault) }
     {
-        play(self.alloc, ONE, &mut self.tv.tv, &mut self.lane, event)?;
+        play(self.alloc, &mut self.tv.tv, &mut self.lanes, event)?;
         Ok(())
     }
 
     /// Opens a session at both ends. The companion owes its setup to a TS session at once.
-    fn open(&mut self, kind: Kind) -> Result<(), WorldFault>
+    fn open(&mut self, who: u32, kind: Kind) -> Result<(), WorldFault>
+        requires who { IsNumber self.old who }
         requires ready { (lines : List Numbered) × IsReady self.old lines }
         ensures clocks { KeepsClocks self.old self.new }
-        ensures carries { CarriesOut self.old self.new result (events.Opening kind) }
+        ensures carries { CarriesOut self.old self.new result who (events.Opening kind) }
         ensures refused { IfErr result (λ fault. KeepsRefused self.old self.new fault) }
     {
         match kind {
-            Kind::Cii => self.open_cii(),
-            Kind::Ts => self.open_ts(),
+            Kind::Cii => self.open_cii(who),
+            Kind::Ts => self.open_ts(who),
         }
     }
 
-    fn open_cii(&mut self) -> Result<(), WorldFault>
+    fn open_cii(&mut self, who: u32) -> Result<(), WorldFault>
+        requires who { IsNumber self.old who }
         requires ready { (lines : List Numbered) × IsReady self.old lines }
         ensures clocks { KeepsClocks self.old self.new }
-        ensures carries { CarriesOut self.old self.new result (events.Opening kinds.Cii) }
+        ensures carries { CarriesOut self.old self.new result who (events.Opening kinds.Cii) }
         ensures refused { IfErr result (λ fault. KeepsRefused self.old self.new fault) }
     {
-        self.lane.cii.open()?;
-        let peer = peer_of(ONE, Kind::Cii);
+        let lane = self.lanes.lane(who);
+        lane.cii.open()?;
         let event = TvEvent::Opened {
-            peer,
+            peer: peer_of(who, Kind::Cii),
             kind: Kind::Cii,
         };
-        play(self.alloc, ONE, &mut self.tv.tv, &mut self.lane, event)?;
+        play(self.alloc, &mut self.tv.tv, &mut self.lanes, event)?;
         Ok(())
     }
 
-    fn open_ts(&mut self) -> Result<(), WorldFault>
+    fn open_ts(&mut self, who: u32) -> Result<(), WorldFault>
+        requires who { IsNumber self.old who }
         requires ready { (lines : List Numbered) × IsReady self.old lines }
         ensures clocks { KeepsClocks self.old self.new }
-        ensures carries { CarriesOut self.old self.new result (events.Opening kinds.Ts) }
+        ensures carries { CarriesOut self.old self.new result who (events.Opening kinds.Ts) }
         ensures refused { IfErr result (λ fault. KeepsRefused self.old self.new fault) }
     {
-        self.lane.ts.open()?;
-        let peer = peer_of(ONE, Kind::Ts);
+        let lane = self.lanes.lane(who);
+        lane.ts.open()?;
         let event = TvEvent::Opened {
-            peer,
+            peer: peer_of(who, Kind::Ts),
             kind: Kind::Ts,
         };
-        play(self.alloc, ONE, &mut self.tv.tv, &mut self.lane, event)?;
-        self.lane.attend(CompanionEvent::TsOpened)?;
+        play(self.alloc, &mut self.tv.tv, &mut self.lanes, event)?;
+        let lane = self.lanes.lane(who);
+        lane.attend(CompanionEvent::TsOpened)?;
         Ok(())
     }
 
     /// Brings the next text in flight to the companion.
-    fn bring(&mut self, kind: Kind) -> Result<(), WorldFault>
+    fn bring(&mut self, who: u32, kind: Kind) -> Result<(), WorldFault>
+        requires who { IsNumber self.old who }
         requires ready { (lines : List Numbered) × IsReady self.old lines }
         ensures clocks { KeepsClocks self.old self.new }
-        ensures carries { CarriesOut self.old self.new result (events.Bring kind) }
+        ensures carries { CarriesOut self.old self.new result who (events.Bring kind) }
         ensures refused { IfErr result (λ fault. KeepsRefused self.old self.new fault) }
     {
         match kind {
-            Kind::Cii => self.bring_cii(),
-            Kind::Ts => self.bring_ts(),
+            Kind::Cii => self.bring_cii(who),
+            Kind::Ts => self.bring_ts(who),
         }
     }
 
-    fn bring_cii(&mut self) -> Result<(), WorldFault>
+    fn bring_cii(&mut self, who: u32) -> Result<(), WorldFault>
+        requires who { IsNumber self.old who }
         requires ready { (lines : List Numbered) × IsReady self.old lines }
         ensures clocks { KeepsClocks self.old self.new }
-        ensures carries { CarriesOut self.old self.new result (events.Bring kinds.Cii) }
+        ensures carries { CarriesOut self.old self.new result who (events.Bring kinds.Cii) }
         ensures refused { IfErr result (λ fault. KeepsRefused self.old self.new fault) }
     {
-        let text = self.lane.cii.next_down().ok_or(WorldFault::Absent)?;
-        self.lane.attend(CompanionEvent::CiiText(text))?;
+        let lane = self.lanes.lane(who);
+        let text = lane.cii.next_down().ok_or(WorldFault::Absent)?;
+        lane.attend(CompanionEvent::CiiText(text))?;
         Ok(())
     }
 
-    fn bring_ts(&mut self) -> Result<(), WorldFault>
+    fn bring_ts(&mut self, who: u32) -> Result<(), WorldFault>
+        requires who { IsNumber self.old who }
         requires ready { (lines : List Numbered) × IsReady self.old lines }
         ensures clocks { KeepsClocks self.old self.new }
-        ensures carries { CarriesOut self.old self.new result (events.Bring kinds.Ts) }
+        ensures carries { CarriesOut self.old self.new result who (events.Bring kinds.Ts) }
         ensures refused { IfErr result (λ fault. KeepsRefused self.old self.new fault) }
     {
-        let text = self.lane.ts.next_down().ok_or(WorldFault::Absent)?;
-        self.lane.attend(CompanionEvent::TsText(text))?;
+        let lane = self.lanes.lane(who);
+        let text = lane.ts.next_down().ok_or(WorldFault::Absent)?;
+        lane.attend(CompanionEvent::TsText(text))?;
         Ok(())
     }
 
     /// Brings the companion's next text in flight to the television.
-    fn up(&mut self) -> Result<(), WorldFault>
+    fn up(&mut self, who: u32) -> Result<(), WorldFault>
+        requires who { IsNumber self.old who }
         ensures clocks { KeepsClocks self.old self.new }
-        ensures carries { CarriesOut self.old self.new result events.Up }
+        ensures carries { CarriesOut self.old self.new result who events.Up }
         ensures refused { IfErr result (λ fault. KeepsRefused self.old self.new fault) }
     {
-        let text = self.lane.ts.next_up().ok_or(WorldFault::Absent)?;
-        let peer = peer_of(ONE, Kind::Ts);
-        let event = TvEvent::Heard { peer, text };
-        play(self.alloc, ONE, &mut self.tv.tv, &mut self.lane, event)?;
+        let lane = self.lanes.lane(who);
+        let text = lane.ts.next_up().ok_or(WorldFault::Absent)?;
+        let event = TvEvent::Heard {
+            peer: peer_of(who, Kind::Ts),
+            text,
+        };
+        play(self.alloc, &mut self.tv.tv, &mut self.lanes, event)?;
         Ok(())
     }
 
     /// The companion sends a presentation.
-    fn present(&mut self, earliest: Bound, latest: Bound) -> Result<(), WorldFault>
+    fn present(&mut self, who: u32, earliest: Bound, latest: Bound) -> Result<(), WorldFault>
+        requires who { IsNumber self.old who }
         requires window { IsPresentation (window earliest latest) }
         ensures clocks { KeepsClocks self.old self.new }
-        ensures carries { CarriesOut self.old self.new result (events.Present earliest latest) }
+        ensures carries { CarriesOut self.old self.new result who (events.Present earliest latest) }
         ensures refused { IfErr result (λ fault. KeepsRefused self.old self.new fault) }
     {
-        if !self.lane.ts.is_open() {
+        let lane = self.lanes.lane(who);
+        if !lane.ts.is_open() {
             return Err(WorldFault::Absent);
         }
-        self.lane
-            .attend(CompanionEvent::Present { earliest, latest })?;
+        lane.attend(CompanionEvent::Present { earliest, latest })?;
         Ok(())
     }
 
     /// Closes a session at both ends.
-    fn close(&mut self, kind: Kind) -> Result<(), WorldFault>
+    fn close(&mut self, who: u32, kind: Kind) -> Result<(), WorldFault>
+        requires who { IsNumber self.old who }
         requires ready { (lines : List Numbered) × IsReady self.old lines }
         ensures clocks { KeepsClocks self.old self.new }
-        ensures carries { CarriesOut self.old self.new result (events.Close kind) }
+        ensures carries { CarriesOut self.old self.new result who (events.Close kind) }
         ensures refused { IfErr result (λ fault. KeepsRefused self.old self.new fault) }
     {
         match kind {
-            Kind::Cii => self.close_cii(),
-            Kind::Ts => self.close_ts(),
+            Kind::Cii => self.close_cii(who),
+            Kind::Ts => self.close_ts(who),
         }
     }
 
-    fn close_cii(&mut self) -> Result<(), WorldFault>
+    fn close_cii(&mut self, who: u32) -> Result<(), WorldFault>
+        requires who { IsNumber self.old who }
         requires ready { (lines : List Numbered) × IsReady self.old lines }
         ensures clocks { KeepsClocks self.old self.new }
-        ensures carries { CarriesOut self.old self.new result (events.Close kinds.Cii) }
+        ensures carries { CarriesOut self.old self.new result who (events.Close kinds.Cii) }
         ensures refused { IfErr result (λ fault. KeepsRefused self.old self.new fault) }
     {
-        self.lane.cii.close()?;
-        let peer = peer_of(ONE, Kind::Cii);
-        let event = TvEvent::Closed { peer };
-        play(self.alloc, ONE, &mut self.tv.tv, &mut self.lane, event)?;
-        self.lane.attend(CompanionEvent::CiiClosed)?;
+        let lane = self.lanes.lane(who);
+        lane.cii.close()?;
+        let event = TvEvent::Closed {
+            peer: peer_of(who, Kind::Cii),
+        };
+        play(self.alloc, &mut self.tv.tv, &mut self.lanes, event)?;
+        let lane = self.lanes.lane(who);
+        lane.attend(CompanionEvent::CiiClosed)?;
         Ok(())
     }
 
-    fn close_ts(&mut self) -> Result<(), WorldFault>
+    fn close_ts(&mut self, who: u32) -> Result<(), WorldFault>
+        requires who { IsNumber self.old who }
         requires ready { (lines : List Numbered) × IsReady self.old lines }
         ensures clocks { KeepsClocks self.old self.new }
-        ensures carries { CarriesOut self.old self.new result (events.Close kinds.Ts) }
+        ensures carries { CarriesOut self.old self.new result who (events.Close kinds.Ts) }
         ensures refused { IfErr result (λ fault. KeepsRefused self.old self.new fault) }
     {
-        self.lane.ts.close()?;
-        let peer = peer_of(ONE, Kind::Ts);
-        let event = TvEvent::Closed { peer };
-        play(self.alloc, ONE, &mut self.tv.tv, &mut self.lane, event)?;
-        self.lane.attend(CompanionEvent::TsClosed)?;
+        let lane = self.lanes.lane(who);
+        lane.ts.close()?;
+        let event = TvEvent::Closed {
+            peer: peer_of(who, Kind::Ts),
+        };
+        play(self.alloc, &mut self.tv.tv, &mut self.lanes, event)?;
+        let lane = self.lanes.lane(who);
+        lane.attend(CompanionEvent::TsClosed)?;
         Ok(())
     }
 }

@@ -6,4 +6,6 @@ mod printed;
 #[cfg(test)]
 mod refused;
 #[cfg(test)]
+mod second;
+#[cfg(test)]
 mod tests;

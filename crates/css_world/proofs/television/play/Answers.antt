@@ -1,10 +1,12 @@
 -- What the television tells by the event is in flight.
-use Rattle.std.proofs.Common.{◌*◌, ◌-◌, List, [], sym, subst}
+use Rattle.std.proofs.Common.{List, [], sym, subst}
+use Rattle.css_sessions.specs.declared.session.Kind.TheVariants as kind
 use Rattle.css_tv.specs.Outcomes.{outcome_at}
 use Rattle.css_tv.specs.Standing as tvs
 use Rattle.css_tv.specs.declared.event.TvOut.{TvOut}
 use Rattle.css_tv.specs.declared.state.Addresses.{Addresses}
 use Rattle.css_world.specs.Flights.{news_of}
+use Rattle.css_world.specs.Sessions.{peer_of}
 use Rattle.css_world.proofs.News.{told-news}
 use Rattle.css_world.proofs.television.play.Goals as goal
 
@@ -21,14 +23,23 @@ returns-clause-played c = λ events stands fresh.
     let after = c.in_ok-step.ensures.stands events stands fresh_here in
     record {
       stage = after;
-      cii = record {
-        news = news_of (c.args.who * 2 - 1) told;
-        told = told-news (c.args.who * 2 - 1) c.args.event old new events told done stands after c.requires.addresses;
-        carried = c.in_ok-tell.ensures.told.cii;
-      };
-      ts = record {
-        news = news_of (c.args.who * 2) told;
-        told = told-news (c.args.who * 2) c.args.event old new events told done stands after c.requires.addresses;
-        carried = c.in_ok-tell.ensures.told.ts;
-      };
+      each = λ who before found.
+          let taken = c.in_ok-tell.ensures.told who before found in (
+            taken.0,
+            taken.1,
+            record {
+              cii = record {
+                news = news_of (peer_of who kind.Cii) told;
+                told = told-news (peer_of who kind.Cii) c.args.event old new events told done stands after
+                    c.requires.addresses;
+                carried = taken.2.cii;
+              };
+              ts = record {
+                news = news_of (peer_of who kind.Ts) told;
+                told = told-news (peer_of who kind.Ts) c.args.event old new events told done stands after
+                    c.requires.addresses;
+                carried = taken.2.ts;
+              };
+            },
+          );
     }

@@ -5,7 +5,7 @@ use Rattle.std.specs.Int.{w64}
 use Rattle.std.proofs.lemmas.Int.{to_z-of_z}
 use Rattle.css_tv.specs.declared.event.TvEvent.TheVariants as event
 use Rattle.css_schedule.specs.declared.line.Verb.TheVariants.{Ask, Take, Give, Land, Wall, Print, Programme}
-use Rattle.css_schedule.specs.declared.line.Verb.TheVariants.{Timeline, Viewer, Opening, Bring, Up, Present, Close}
+use Rattle.css_schedule.specs.declared.line.Verb.TheVariants.{Timeline, Viewer, Opening, Bring, Up, Present, Close, Sleep}
 use Rattle.css_schedule.specs.Ranges.{IsVerb}
 use Rattle.css_companion.specs.Printed.{line_of}
 use Rattle.css_world.specs.Happened.{Numbered}
@@ -31,13 +31,13 @@ pub returns-in-Take-clause-prints : goal.returns-in-Take-clause-prints
 returns-in-Take-clause-prints c =
     prints_nothing c.args.self.now c.take.new.self c.args.out.now.items c.take.result
     (record { number = c.args.number; line = c.args.line })
-    (Take c.in-Take.request c.in-Take.reading) c.in-Take.is (λ lines. refl) c.take.ensures.carries
+    (Take c.in-Take.request c.in-Take.reading) c.in-Take.is (λ lines. refl) (c.take.ensures.carries c.args.line.who)
 
 pub returns-in-Give-clause-prints : goal.returns-in-Give-clause-prints
 returns-in-Give-clause-prints c =
     prints_nothing c.args.self.now c.give.new.self c.args.out.now.items c.give.result
     (record { number = c.args.number; line = c.args.line })
-    (Give c.in-Give.take c.in-Give.reading) c.in-Give.is (λ lines. refl) c.give.ensures.carries
+    (Give c.in-Give.take c.in-Give.reading) c.in-Give.is (λ lines. refl) (c.give.ensures.carries c.args.line.who)
 
 pub returns-in-Land-clause-prints : goal.returns-in-Land-clause-prints
 returns-in-Land-clause-prints c =
@@ -50,14 +50,14 @@ returns-in-Programme-clause-prints c =
     prints_nothing c.args.self.now c.happen.new.self c.args.out.now.items c.happen.result
     (record { number = c.args.number; line = c.args.line })
     (Programme c.in-Programme.content_id) c.in-Programme.is
-    (λ lines. refl) (c.happen.ensures.carries (Programme c.in-Programme.content_id) refl)
+    (λ lines. refl) (c.happen.ensures.carries c.args.line.who (Programme c.in-Programme.content_id) refl)
 
 pub returns-in-Timeline-clause-prints : goal.returns-in-Timeline-clause-prints
 returns-in-Timeline-clause-prints c =
     prints_nothing c.args.self.now c.happen-in-Timeline.new.self c.args.out.now.items c.happen-in-Timeline.result
     (record { number = c.args.number; line = c.args.line })
     (Timeline c.in-Timeline.programme c.in-Timeline.selector c.in-Timeline.rate c.in-Timeline.base) c.in-Timeline.is
-    (λ lines. refl) (c.happen-in-Timeline.ensures.carries (Timeline c.in-Timeline.programme c.in-Timeline.selector
+    (λ lines. refl) (c.happen-in-Timeline.ensures.carries c.args.line.who (Timeline c.in-Timeline.programme c.in-Timeline.selector
     c.in-Timeline.rate c.in-Timeline.base)
     (ap (λ base. event.AddTimeline c.in-Timeline.programme c.in-Timeline.selector c.in-Timeline.rate base)
     (to_z-of_z w64 c.in-Timeline.base
@@ -68,7 +68,7 @@ returns-in-Viewer-clause-prints c =
     prints_nothing c.args.self.now c.happen-in-Viewer.new.self c.args.out.now.items c.happen-in-Viewer.result
     (record { number = c.args.number; line = c.args.line })
     (Viewer c.in-Viewer.reading c.in-Viewer.command) c.in-Viewer.is
-    (λ lines. refl) (c.happen-in-Viewer.ensures.carries (Viewer c.in-Viewer.reading c.in-Viewer.command) refl)
+    (λ lines. refl) (c.happen-in-Viewer.ensures.carries c.args.line.who (Viewer c.in-Viewer.reading c.in-Viewer.command) refl)
 
 pub returns-in-Opening-clause-prints : goal.returns-in-Opening-clause-prints
 returns-in-Opening-clause-prints c =
@@ -100,26 +100,32 @@ returns-in-Close-clause-prints c =
     (record { number = c.args.number; line = c.args.line })
     (Close c.in-Close.kind) c.in-Close.is (λ lines. refl) c.close.ensures.carries
 
+pub returns-in-Sleep-clause-prints : goal.returns-in-Sleep-clause-prints
+returns-in-Sleep-clause-prints c =
+    prints_nothing c.args.self.now c.sleep.new.self c.args.out.now.items c.sleep.result
+    (record { number = c.args.number; line = c.args.line })
+    Sleep c.in-Sleep.is (λ lines. refl) c.sleep.ensures.carries
+
 pub returns-in-Wall-clause-prints : goal.returns-in-Wall-clause-prints
-returns-in-Wall-clause-prints c = λ lines one ready.
+returns-in-Wall-clause-prints c = λ lines ready.
     let old = c.args.self.now in
     let now : Numbered = record { number = c.args.number; line = c.args.line } in
+    let who = c.args.line.who in
     prints_line old c.args.out.now.items c.wall.new.out.items c.wall.result lines now (Wall c.in-Wall.reading)
-    (wall_text c.args.number (span_at 1 old.header lines c.in-Wall.reading) c.args.line.w) one c.in-Wall.is refl
-    (ap (λ who. wall_text c.args.number (span_at who old.header lines c.in-Wall.reading) c.args.line.w) one)
+    (wall_text c.args.number (span_at who old.header lines c.in-Wall.reading) c.args.line.w) c.in-Wall.is refl
+    refl
     (c.wall.ensures.printed lines ready.ends) c.wall.ensures.err
-    (at_line old lines now (Wall c.in-Wall.reading) one c.in-Wall.is
-    (walls old lines c.args.number c.args.line.t c.args.line.w c.args.line.l c.in-Wall.reading ready.ends))
+    (at_line old lines now who (Wall c.in-Wall.reading) refl c.in-Wall.is
+    (walls old lines c.args.number c.args.line.t c.args.line.w who c.args.line.l c.in-Wall.reading ready.ends))
 
 pub returns-in-Print-clause-prints : goal.returns-in-Print-clause-prints
-returns-in-Print-clause-prints c = λ lines one ready.
+returns-in-Print-clause-prints c = λ lines ready.
     let old = c.args.self.now in
     let now : Numbered = record { number = c.args.number; line = c.args.line } in
+    let who = c.args.line.who in
     prints_line old c.args.out.now.items c.print.new.out.items c.print.result lines now (Print c.in-Print.reading)
-    (line_of c.args.number (report_at 1 old.header lines c.in-Print.reading)
-    (assigned_at 1 old.header lines c.args.line.w)) one c.in-Print.is refl
-    (ap (λ who. line_of c.args.number (report_at who old.header lines c.in-Print.reading)
-    (assigned_at who old.header lines c.args.line.w)) one)
+    (line_of c.args.number (report_at who old.header lines c.in-Print.reading)
+    (assigned_at who old.header lines c.args.line.w)) c.in-Print.is refl refl
     (c.print.ensures.printed lines ready.ends) c.print.ensures.err
-    (at_line old lines now (Print c.in-Print.reading) one c.in-Print.is
-    (prints old lines c.args.number c.args.line.t c.args.line.w c.args.line.l c.in-Print.reading ready.ends))
+    (at_line old lines now who (Print c.in-Print.reading) refl c.in-Print.is
+    (prints old lines c.args.number c.args.line.t c.args.line.w who c.args.line.l c.in-Print.reading ready.ends))

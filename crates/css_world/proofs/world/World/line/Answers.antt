@@ -7,8 +7,8 @@ steps : (c : goal.After-carry_out)
     → Steps c.args.self.now c.show.new.self c.read.new.self c.carry_out.new.self c.args.out.now.items
     c.carry_out.new.out.items c.carry_out.result (record { number = c.args.number; line = c.args.line })
 steps c = record {
-  range = c.requires.line.0;
-  one = c.requires.line.1;
+  range = c.requires.line;
+  of = c.requires.of;
   shown_ends = c.in_ok-show.ensures.ends;
   shown_readings = c.in_ok-show.ensures.readings;
   shown_ok = c.in_ok-show.ensures.verdict;

@@ -1,37 +1,89 @@
 -- The request that is stored is read back, and its ticket is stored.
-use Rattle.std.proofs.Common.{◌≡◌, sym, ap, subst, ◌∙◌, true, cond, List, ℕ, [], ◌∷◌, ◌++◌}
-use Rattle.std.specs.Prelude.{◌&&◌, Some, is_some, Result, Ok, Err}
+use Rattle.std.proofs.Common.{◌≡◌, sym, ap, subst, ◌∙◌, true, false, cond, inl, List, ℕ, [], ◌∷◌, ◌++◌}
+use Rattle.std.specs.Prelude.{◌&&◌, Some, None, is_some, Result, Ok, Err}
+use Rattle.std.proofs.lemmas.Result.{err_from_is_err_and}
 use Rattle.css_model.specs.Wire.{stamp_of}
 use Rattle.css_server.specs.Tickets.{Ticket, ticket_for}
 use Rattle.css_server.specs.Exchanges as servers
 use Rattle.css_schedule.specs.declared.line.Verb.TheVariants.{Take}
 use Rattle.css_world.specs.declared.fault.WorldFault.{WorldFault}
 use Rattle.css_world.specs.declared.fault.WorldFault.TheVariants.{Absent}
-use Rattle.css_world.specs.Happened.{tickets, ticket_at}
-use Rattle.css_world.specs.Standing.{World, kept_as, IsReady, stored}
-use Rattle.css_world.proofs.Carrying.{at_line, stored_request, taken, ticket_same}
+use Rattle.css_world.specs.Happened.{Numbered, requests, askers, tickets, ticket_at}
+use Rattle.css_world.specs.Numbering.{numbered, stored}
+use Rattle.css_world.specs.Standing.{World, IsReady, EndsStand, request_bytes, carried}
+use Rattle.css_world.specs.Verdicts.{can_happen}
+use Rattle.css_world.proofs.Carrying.{at_line, stored_request, taken, ticket_same, owner_stored}
+use Rattle.css_world.proofs.Inside.{inside_of}
+use Rattle.css_world.proofs.Numbers.{stored_none, mapped_none}
+use Rattle.css_world.proofs.Tickets.{askers_count}
+use Rattle.css_world.proofs.Verbs.{absent, carried-not, refuses}
 use Rattle.css_world.proofs.world.World.take.Goals as goal
+
+-- where no request of this number is stored, none can be taken
+none-sent : (world : World) (lines : List Numbered) (who request reading : ℕ) → EndsStand world lines
+    → stored world.requests request ≡ None → can_happen world.header lines who (Take request reading) ≡ false
+none-sent world lines who request reading ends missing =
+    ap (λ o. is_some o && true)
+    (mapped_none (request_bytes request) (numbered request (requests lines))
+    (sym (ends.requests.each request) ∙ missing))
 
 pub take-requires-clause-request : goal.take-requires-clause-request
 take-requires-clause-request c =
-    let inside = c.self.inside in
-    let old : World = kept_as inside.header inside.tv inside.lane inside.requests.items inside.datagrams.items in
+    let old : World = inside_of c.self.inside in
     let lines = c.requires.ready.0 in
     let stood : IsReady old lines = subst (λ (w : World). IsReady w lines) (sym c.self.view_is) c.requires.ready.1 in
     let found : stored old.requests c.args.request ≡ Some c.in_ok-request.request =
-    ap (λ (items : List (List ℕ)). stored items c.args.request) (sym c.deref.ensures.value) ∙ sym c.item.ensures
+    ap (λ (items : List (List ℕ)). stored items c.args.request) (sym c.deref-2.ensures.value) ∙ sym c.item.ensures
     ∙ c.in_ok-request.ensures.ok_part in
     let sent = stored_request old lines c.args.request c.in_ok-request.request stood.ends found in
     (sent.0, sent.2)
 
+pub returns-in_err-asker-clause-carries : goal.returns-in_err-asker-clause-carries
+returns-in_err-asker-clause-carries c = λ who lines now own is ready.
+    let old : World = inside_of c.self.inside in
+    let stood : IsReady old lines = subst (λ (w : World). IsReady w lines) (sym c.self.view_is) ready in
+    let exit = err_from_is_err_and c.from_residual.result c.from_residual.ensures.1 in
+    let none = absent c.owner.result c.in_err-asker.field-0.0 c.in_err-asker.ensures.value in
+    let nobody : stored old.askers c.args.request ≡ None =
+    ap (λ (items : List ℕ). stored items c.args.request) (sym c.deref.ensures.value) ∙ sym c.owner.ensures ∙ none.0 in
+    let missing : stored old.requests c.args.request ≡ None =
+    stored_none old.askers old.requests c.args.request
+    (stood.ends.askers.count ∙ askers_count lines ∙ sym stood.ends.requests.count) nobody in
+    let told : carried old.header lines who (Take c.args.request c.args.reading) ≡ Err exit.0 =
+    carried-not old.header lines who (Take c.args.request c.args.reading)
+    (none-sent old lines who c.args.request c.args.reading stood.ends missing) ∙ ap Err (sym (exit.2 ∙ none.1)) in
+    refuses c.args.self.now _ c.from_residual.result lines now who (Take c.args.request c.args.reading) exit.0 exit.1
+    (inl (subst (λ (w : World). carried w.header lines who (Take c.args.request c.args.reading) ≡ Err exit.0)
+    c.self.view_is told))
+
+pub returns-in_err-request-clause-carries : goal.returns-in_err-request-clause-carries
+returns-in_err-request-clause-carries c = λ who lines now own is ready.
+    let old : World = inside_of c.self.inside in
+    let stood : IsReady old lines = subst (λ (w : World). IsReady w lines) (sym c.self.view_is) ready in
+    let exit = err_from_is_err_and c.from_residual-in_err-request.result c.from_residual-in_err-request.ensures.1 in
+    let none = absent c.item.result c.in_err-request.field-0.0 c.in_err-request.ensures.value in
+    let missing : stored old.requests c.args.request ≡ None =
+    ap (λ (items : List (List ℕ)). stored items c.args.request) (sym c.deref-2.ensures.value) ∙ sym c.item.ensures
+    ∙ none.0 in
+    let told : carried old.header lines who (Take c.args.request c.args.reading) ≡ Err exit.0 =
+    carried-not old.header lines who (Take c.args.request c.args.reading)
+    (none-sent old lines who c.args.request c.args.reading stood.ends missing) ∙ ap Err (sym (exit.2 ∙ none.1)) in
+    refuses c.args.self.now _ c.from_residual-in_err-request.result lines now who (Take c.args.request c.args.reading) exit.0 exit.1
+    (inl (subst (λ (w : World). carried w.header lines who (Take c.args.request c.args.reading) ≡ Err exit.0)
+    c.self.view_is told))
+
 pub returns-clause-carries : goal.returns-clause-carries
-returns-clause-carries c = λ lines now one is ready.
-    let inside = c.self.inside in
-    let old : World = kept_as inside.header inside.tv inside.lane inside.requests.items inside.datagrams.items in
+returns-clause-carries c = λ who lines now own is ready.
+    let old : World = inside_of c.self.inside in
     let stood : IsReady old lines = subst (λ (w : World). IsReady w lines) (sym c.self.view_is) ready in
     let found : stored old.requests c.args.request ≡ Some c.in_ok-request.request =
-    ap (λ (items : List (List ℕ)). stored items c.args.request) (sym c.deref.ensures.value) ∙ sym c.item.ensures
+    ap (λ (items : List (List ℕ)). stored items c.args.request) (sym c.deref-2.ensures.value) ∙ sym c.item.ensures
     ∙ c.in_ok-request.ensures.ok_part in
+    let whose : stored old.askers c.args.request ≡ Some c.in_ok-asker.asker =
+    ap (λ (items : List ℕ). stored items c.args.request) (sym c.deref.ensures.value) ∙ sym c.owner.ensures
+    ∙ c.in_ok-asker.ensures.ok_part in
+    let asker = owner_stored (numbered c.args.request (askers lines)) c.args.request c.in_ok-asker.asker
+    (sym (stood.ends.askers.each c.args.request) ∙ whose) in
     let sent = stored_request old lines c.args.request c.in_ok-request.request stood.ends found in
     let before : List Ticket = tickets old.header lines in
     let same : ticket_for old.tv.tv.server c.args.reading (stamp_of sent.0)
@@ -41,11 +93,11 @@ returns-clause-carries c = λ lines now one is ready.
     let ok : Result (Unit {0}) WorldFault = Ok tt in
     record {
       answer = ap (λ o. cond (is_some o && true) ok (Err Absent)) sent.1;
-      ends = at_line _ lines now (Take c.args.request c.args.reading) one is
-          (taken old lines now.number now.line.t now.line.w now.line.l c.args.request c.args.reading sent.0
-          c.take.new.self stood.ends sent.1 c.take.ensures.stage
+      ends = at_line _ lines now who (Take c.args.request c.args.reading) own is
+          (taken old lines now.number now.line.t now.line.w who now.line.l c.args.request c.args.reading sent.0
+          c.in_ok-asker.asker c.take.new.self c.push.new.self.items stood.ends sent.1 asker c.take.ensures.stage
           (subst (λ (ticket : Ticket). servers.StandsFor c.take.new.self.tv.server (ticket ∷ before)) same
           (c.in_ok-take.ensures.stands sent.0 before sent.2 stood.ends.server))
           (c.in_ok-take.ensures.takes sent.0 sent.2
-          ∙ ap (λ (ticket : Ticket). old.tv.takes.items ++ Some ticket ∷ []) same));
+          ∙ ap (λ (ticket : Ticket). old.tv.takes.items ++ Some ticket ∷ []) same) c.in_ok-push.ensures.items);
     }
