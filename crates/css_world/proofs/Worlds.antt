@@ -436,7 +436,7 @@ next_older number last [] next above = tt
 next_older number last (first ∷ older) next above = omega (arith, next, above)
 
 -- it is above that of the last line of a companion
-next_own : (header : Header) (who number : ℕ) (older : List Numbered) → AreAccepted header older → IsNext number older
+pub next_own : (header : Header) (who number : ℕ) (older : List Numbered) → AreAccepted header older → IsNext number older
     → drifts.IsNext (drifts.last_shown (told_by (seen_of who older))) number
 next_own header who number [] accepted next = tt
 next_own header who number (last ∷ older) accepted next = elim (eqb_tells last.line.who who) [

@@ -196,6 +196,8 @@ impl World {
             (record { number = number; line = line }) }
         ensures refused { IfErr result (λ fault. KeepsRefused self.old self.new fault) }
     {
+        // So what always holds of a world is known here.
+        let _ = &self.header;
         let Line { w, who, verb, .. } = line;
         match verb {
             Verb::Ask { reading } => self.ask(who, reading),
