@@ -8,10 +8,9 @@ ghost use Rattle.css_companion.specs.Printed.{line_of};
 ghost use Rattle.css_tv.specs.Standing.{IsEvent};
 ghost use Rattle.css_world.specs.Happened.{Numbered};
 ghost use Rattle.css_world.specs.Asked.{MayBeAsked};
-ghost use Rattle.css_world.specs.Numbering.{stored};
 ghost use Rattle.css_world.specs.Verdicts.{own_reading, span_at, report_at, assigned_at};
 ghost use Rattle.css_world.specs.Printed.{wall_text};
-ghost use Rattle.css_world.specs.Truth.{TellsTruth};
+ghost use Rattle.css_world.specs.Truth.{TellsTruth, IsCompanionOf};
 ghost use Rattle.css_world.specs.declared.fault.WorldFault.TheVariants as faults;
 ghost use Rattle.css_world.specs.Standing.{StandsFor, IsNext, IsReady, Means, GoesOn, CarriesOut, IsAtTv, Prints, Adds};
 ghost use Rattle.css_world.specs.Standing.{ShowsBy, ShownTo, ReadsBy, ReadTo, HasRead, HasWoken, IsNumber, AreNext};
@@ -117,7 +116,7 @@ impl World {
     /// or above that where it slept since.
     pub fn companion(&self, number: u32) -> Option<&Companion>
         ensures some { IfSome result (λ companion. MayBeAsked self.now number companion.now) }
-        ensures none { IfNone result (stored self.now.lanes number ≡ None) }
+        ensures none { IfNone result (IsCompanionOf self.now.header number → ⊥) }
     {
         match self.lanes.get(number) {
             Some(lane) => Some(&lane.companion),
