@@ -1,6 +1,6 @@
 -- What a companion tells at a line is what the lines before it tell; and what it may be asked.
-use Rattle.std.proofs.Common.{◌≡◌, ℕ, ℤ, List, refl, ap, subst, ◌∙◌}
-use Rattle.std.specs.Prelude.{Option, Some}
+use Rattle.std.proofs.Common.{◌≡◌, ℕ, ℤ, arith, List, refl, ap, sym, subst, ◌∙◌}
+use Rattle.std.specs.Prelude.{Option, Some, None}
 use Rattle.css_num.specs.Spans.{Interval}
 use Rattle.css_model.specs.WallClock.{Local}
 use Rattle.css_model.specs.History.{History, accepted_answers}
@@ -15,7 +15,9 @@ use Rattle.css_world.specs.Happened.{Numbered, history_of}
 use Rattle.css_world.specs.Lanes.{IsLaneOf}
 use Rattle.css_world.specs.Numbering.{stored}
 use Rattle.css_world.specs.Standing.{World, IsWorld, EndsStand}
+use Rattle.css_world.specs.Truth.{IsCompanionOf}
 use Rattle.css_world.specs.Verdicts.{local_of, span_at, report_at, assigned_at}
+use Rattle.css_world.proofs.Numbers.{stored_within, stored_there}
 
 -- the companion of the lane stands for its own history
 stood : (world : World) (lines : List Numbered) (who : ℕ) (lane : Lane) → stored world.lanes who ≡ Some lane
@@ -63,5 +65,23 @@ pub may_be_asked : (now old : World) (who : ℕ) (lane : Lane) → old ≡ now �
     → stored old.lanes who ≡ Some lane → MayBeAsked now who lane.companion
 may_be_asked now old who lane view was found =
     let is : IsLaneOf old.header who lane = was.lanes who lane found in
+    let within = stored_within old.lanes who lane found in
     subst (λ (w : World). MayBeAsked w who lane.companion) view
-    (record { lane = lane; is = found; same = refl; own = is.own; setup = is.setup; floor = is.floor })
+    (record {
+      number = record { first = within.0; within = omega (arith, within.1, was.count) };
+      lane = lane;
+      is = found;
+      same = refl;
+      own = is.own;
+      setup = is.setup;
+      floor = is.floor;
+    })
+
+-- where no lane has the number, no companion has it
+pub none_asked : (now old : World) (who : ℕ) → old ≡ now → IsWorld old → stored old.lanes who ≡ None
+    → IsCompanionOf now.header who → ⊥
+none_asked now old who view was none number =
+    let of : IsCompanionOf old.header who = subst (λ (w : World). IsCompanionOf w.header who) (sym view) number in
+    let there = stored_there old.lanes who of.first (omega (arith, of.within, was.count)) in
+    let same : Some there.0 ≡ None = sym there.1 ∙ none in
+    cc
