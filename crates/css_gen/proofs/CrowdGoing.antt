@@ -1,12 +1,13 @@
 -- What a generator gives next, of one companion or of several, and the crowd after it.
-use Rattle.std.proofs.Common.{◌≡◌, ℕ, suc, zero, ◌+◌, ◌-◌, ◌<◌, ◌≤◌, arith, ap, sym, subst, ◌∙◌, refl, Bool, true, false, List}
-use Rattle.std.specs.Prelude.{◌==◌, nat_lt, nat_le, if◌then◌else◌, Option, Some, None}
+use Rattle.std.proofs.Common.{◌≡◌, ℕ, suc, zero, ◌+◌, ◌-◌, ◌<◌, ◌≤◌, arith, ap, sym, subst, ◌∙◌, refl}
+use Rattle.std.proofs.Common.{Bool, true, false, List}
+use Rattle.std.specs.Prelude.{◌==◌, nat_le, if◌then◌else◌, Option, Some, None}
 use Rattle.std.proofs.lemmas.Bool.{lt-ltb, leb-true, leb-false, eqb-true}
 use Rattle.css_gen.specs.Bounds.{IsSmall}
-use Rattle.css_gen.specs.Course.{started, course_after}
+use Rattle.css_gen.specs.Course.{course_after}
 use Rattle.css_gen.specs.Crowd.{tuned, gathered, crowd_after, next_crowd}
 use Rattle.css_gen.specs.Second.{openings, second_text, second_text_from, crowd_from}
-use Rattle.css_gen.specs.Generated.{Generator, text_from, text_numbered, text_in, next_text}
+use Rattle.css_gen.specs.Generated.{text_from, text_numbered, text_in, next_text}
 use Rattle.css_gen.specs.Standing.{AreSome, IsReady, course_from, crowd_with, text_with, CanGive, Follows, IsGenerator}
 use Rattle.css_gen.specs.declared.course.Course.{Course}
 use Rattle.css_gen.specs.declared.crowd.Crowd.{Crowd}

@@ -1,8 +1,8 @@
 -- Each line of several companions is in the ranges of a schedule's lines, and is one of version 2.
-use Rattle.std.proofs.Common.{◌≡◌, ℕ, suc, zero, ◌+◌, ◌-◌, ◌*◌, ◌/◌, ◌%◌, ◌<◌, ◌≤◌, arith, ap, sym, subst, ◌∙◌, refl}
-use Rattle.std.proofs.Common.{Bool, true, false, List, [], ◌∷◌, length}
+use Rattle.std.proofs.Common.{◌≡◌, ℕ, suc, zero, ◌+◌, ◌*◌, ◌/◌, ◌%◌, ◌<◌, ◌≤◌, arith, refl}
+use Rattle.std.proofs.Common.{Bool, true, false, List, ◌∷◌, length}
 use Rattle.std.specs.Prelude.{◌==◌, nat_lt, min, if◌then◌else◌, slice_index}
-use Rattle.std.proofs.lemmas.Bool.{eqb-true, eqb-false, ltb-true, ltb-false}
+use Rattle.std.proofs.lemmas.Bool.{eqb-false, ltb-true, ltb-false}
 use Rattle.css_model.specs.declared.TheConstants.{LIMIT}
 use Rattle.css_schedule.specs.declared.line.Verb.{Verb}
 use Rattle.css_schedule.specs.Owners.{is_own}
@@ -14,7 +14,7 @@ use Rattle.css_gen.specs.Crowd.{turn, datagrams, landed_from, landed_of, slept, 
 use Rattle.css_gen.specs.Crowd.{next_line_of}
 use Rattle.css_gen.specs.Opening.{opening_verb}
 use Rattle.css_gen.specs.Second.{clock_line, line_placed}
-use Rattle.css_gen.specs.Standing.{IsReady, CanTurn}
+use Rattle.css_gen.specs.Standing.{IsReady}
 use Rattle.css_gen.specs.declared.course.Course.{Course}
 use Rattle.css_gen.specs.declared.crowd.Crowd.{Crowd}
 use Rattle.css_gen.specs.declared.crowd.Turn.{Turn}

@@ -1,14 +1,14 @@
 -- What a crowd keeps from line to line: its numbers are small, and it knows who sent what.
-use Rattle.std.proofs.Common.{◌≡◌, ℕ, suc, zero, ◌+◌, ◌-◌, ◌*◌, ◌<◌, ◌≤◌, arith, ap, sym, subst, ◌∙◌, refl, Bool, true, false}
-use Rattle.std.proofs.Common.{List, [], ◌∷◌, ◌++◌, length}
+use Rattle.std.proofs.Common.{◌≡◌, ℕ, suc, zero, ◌+◌, ◌-◌, ◌*◌, ◌<◌, ◌≤◌, arith, ap, sym, subst, ◌∙◌, refl}
+use Rattle.std.proofs.Common.{Bool, true, false, List, [], ◌∷◌, ◌++◌, length}
 use Rattle.std.specs.Prelude.{◌==◌, nat_lt, min, if◌then◌else◌, slice_index}
 use Rattle.std.proofs.lemmas.Bool.{eqb-false}
 use Rattle.std.proofs.lemmas.List.{length-append}
 use Rattle.css_gen.specs.Draws.{draw, Drawn}
-use Rattle.css_gen.specs.Bounds.{IsWithin, IsSmall}
+use Rattle.css_gen.specs.Bounds.{IsWithin}
 use Rattle.css_gen.specs.Course.{Happening, asked, taken, taken_back, given, given_next, landed, landed_back, printed}
 use Rattle.css_gen.specs.Course.{chosen, started, later}
-use Rattle.css_gen.specs.Crowd.{tuned, gathered, turn, datagrams, landed_from, landed_of, slept, chosen_of, happening_of}
+use Rattle.css_gen.specs.Crowd.{gathered, turn, datagrams, landed_from, landed_of, slept, chosen_of, happening_of}
 use Rattle.css_gen.specs.Crowd.{senders_after, askers_after, next_line_of, next_crowd, crowd_after}
 use Rattle.css_gen.specs.Standing.{AreSome, IsReady, CanTurn, IsKnown}
 use Rattle.css_gen.specs.declared.course.Course.{Course}

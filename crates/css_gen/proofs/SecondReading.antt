@@ -1,9 +1,9 @@
 -- What is written of several companions' lines is read as these lines.
-use Rattle.std.proofs.Common.{◌≡◌, ℕ, ◌+◌, ◌-◌, ◌*◌, ◌^◌, ◌<◌, ◌≤◌, arith, ap, sym, subst, ◌∙◌, refl, Bool, true, false}
+use Rattle.std.proofs.Common.{◌≡◌, ℕ, ◌+◌, ◌-◌, ◌^◌, ◌<◌, ◌≤◌, arith, ap, subst, ◌∙◌, refl, Bool, true, false}
 use Rattle.std.proofs.Common.{List, [], ◌∷◌, ne_eqb}
-use Rattle.std.specs.Prelude.{ℤ, pos, negsuc, ◌≤ℤ◌, unsigned_abs, ◌==◌, nat_le, if◌then◌else◌, Ok, codes, decimal}
+use Rattle.std.specs.Prelude.{ℤ, pos, negsuc, ◌≤ℤ◌, unsigned_abs, nat_le, if◌then◌else◌, Ok, codes, decimal}
 use Rattle.std.specs.Fmt.{signed_decimal}
-use Rattle.std.proofs.lemmas.Bool.{eq-eqb, le-leb, leb-true, leb-false, lt-leb}
+use Rattle.std.proofs.lemmas.Bool.{eq-eqb, le-leb, leb-true, lt-leb}
 use Rattle.std.proofs.lemmas.Int.{ints}
 use Rattle.css_model.specs.Numbers.{max_error, max_local_error, max_local_precision}
 use Rattle.css_schedule.specs.declared.header.Start.TheVariants.{Two}
@@ -13,13 +13,13 @@ use Rattle.css_schedule.specs.Headers.{max_companions, mode_at, declared_at, loc
 use Rattle.css_schedule.specs.Headers.{second_of_words, start_of, header_of_words, header_of, after_number}
 use Rattle.css_schedule.specs.Headers.{numbered_of_words, companion_of}
 use Rattle.css_schedule.specs.Lines.{line_in}
-use Rattle.css_schedule.specs.Printed.{with_words, declared_words, companion_words, line_text_in}
+use Rattle.css_schedule.specs.Printed.{declared_words, companion_words, line_text_in}
 use Rattle.css_schedule.specs.Ranges.{IsLine, IsSecond}
 use Rattle.css_schedule.proofs.NumbersBack.{up_to-back, signed-back, text-back}
 use Rattle.css_schedule.proofs.Spaced.{Solid, AllSolid, words_of-with_words, graphic-solid, decimal-solid, signed-solid}
 use Rattle.css_schedule.proofs.ReadBack.{line_back_in}
 use Rattle.css_gen.specs.Opening.{pts, header, companion}
-use Rattle.css_gen.specs.Crowd.{crowd_after, next_line_of}
+use Rattle.css_gen.specs.Crowd.{next_line_of}
 use Rattle.css_gen.specs.Second.{second_header_text, companion_text, openings, line_placed, second_line_from}
 use Rattle.css_gen.specs.Second.{second_text_from, crowd_before, second_line, second_text}
 use Rattle.css_gen.specs.Readable.{bare_header, SecondLinesAreRead}
@@ -155,7 +155,11 @@ line-good crowd number ready late = by (nat_le number (openings crowd.companions
           second = placed-second 16 place (omega (arith, low)) (omega (arith, within, low, high));
           few = own.who;
         }
-    by false e = record { range = next-range_of crowd ready; second = next-second crowd ready; few = next-few crowd ready }
+    by false e = record {
+      range = next-range_of crowd ready;
+      second = next-second crowd ready;
+      few = next-few crowd ready;
+    }
 
 -- the text of a line after those of the companions
 text-line : (crowd : Crowd) (number : ℕ) → crowd.companions + 2 ≤ number

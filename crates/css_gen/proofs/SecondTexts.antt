@@ -1,8 +1,7 @@
 -- The first lines of a schedule of several companions as texts.
-use Rattle.std.proofs.Common.{◌≡◌, ℕ, refl, ap, sym, ◌∙◌, append_assoc, List, [], ◌∷◌, ◌++◌}
+use Rattle.std.proofs.Common.{◌≡◌, ℕ, refl, sym, [], ◌∷◌, ◌++◌}
 use Rattle.std.specs.Prelude.{codes, decimal}
 use Rattle.std.specs.Fmt.{digits}
-use Rattle.css_schedule.specs.Printed.{with_words}
 use Rattle.css_schedule.proofs.Spaced.{with_words-after}
 use Rattle.css_gen.specs.Opening.{pts}
 use Rattle.css_gen.specs.Second.{second_header_text, companion_text}
@@ -18,4 +17,5 @@ pub companion_text-is : (who : ℕ)
     → (codes "companion " ++ decimal who) ++ codes " 12800 1000 urn:dvb:css:timeline:pts dvb://" ≡ companion_text who
 unfolding digits
 companion_text-is who =
-    sym (with_words-after (codes "companion " ++ decimal who) (codes " 12800") (codes "1000" ∷ pts ∷ codes "dvb://" ∷ []))
+    let more = codes "1000" ∷ pts ∷ codes "dvb://" ∷ [] in
+    sym (with_words-after (codes "companion " ++ decimal who) (codes " 12800") more)

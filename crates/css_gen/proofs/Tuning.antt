@@ -1,5 +1,5 @@
 -- The oscillators of one companion more, and the first course of a crowd.
-use Rattle.std.proofs.Common.{◌≡◌, ℕ, suc, zero, ◌+◌, arith, ap, sym, ◌∙◌}
+use Rattle.std.proofs.Common.{◌≡◌, ℕ, suc, ◌+◌, arith, ap, sym, ◌∙◌}
 use Rattle.std.specs.Prelude.{◌==◌, slice_set}
 use Rattle.css_gen.specs.Draws.{draw}
 use Rattle.css_gen.specs.Crowd.{Tuned, tuned}

@@ -1,5 +1,5 @@
 -- Which lines are generated after the opening where a schedule has several companions.
-use Rattle.std.specs.Prelude.{ℕ, suc, zero, ◌+◌, ◌-◌, ◌*◌, ◌==◌, min, nat_lt, Bool, true, false, if◌then◌else◌}
+use Rattle.std.specs.Prelude.{ℕ, suc, zero, ◌+◌, ◌-◌, ◌*◌, ◌==◌, min, nat_lt, Bool, false, if◌then◌else◌}
 use Rattle.std.specs.Prelude.{List, [], ◌∷◌, ◌++◌, length, replicate, slice_index, slice_index_or, slice_set}
 use Rattle.rand_pcg.specs.Lcg.{Lcg}
 use Rattle.css_schedule.specs.Owners.{is_own}

@@ -32,7 +32,7 @@ abbrev pub text_in : (seed companions number : ℕ) → List ℕ
 text_in seed companions number =
     if companions == 1 then text_numbered seed number else second_text seed companions number
 
--- A generator: the seed of its lines, how many lines there are in all, of how many companions, and how many lines it has
+-- A generator: the seed of its lines, how many lines there are in all and of how many companions, and how many it has
 -- given.
 pub record Generator : Type 0 where
   pub seed : ℕ

@@ -30,8 +30,8 @@ least_lines companions = if companions == 1 then 9 else openings companions
 abbrev pub clock_line : (who l number : ℕ) → Line
 clock_line who l number = record { t = 0; w = 1000000000; who = who; l = l; verb = opening_verb number }
 
--- The line of that place, where the first one after those of the companions has the place 2. What the television does is
--- at the places 2 to 4, and five lines of each companion follow: its sessions are opened.
+-- The line of that place, where the first one after those of the companions has the place 2. What the television does
+-- is at the places 2 to 4, and five lines of each companion follow: its sessions are opened.
 abbrev pub line_placed : (place : ℕ) → Line
 line_placed place =
     if nat_lt place 5 then clock_line 0 0 place else clock_line (place / 5) 1000000000 (5 + place % 5)

@@ -9,7 +9,8 @@ use css_num::{Memory, Text};
 use css_schedule::{Line, print_line};
 use std::alloc::Global;
 
-/// How many lines open the schedule: line 1, one for each companion, three of the television and five of each companion.
+/// How many lines open the schedule: line 1, one for each companion, three of the television, and five for the sessions
+/// of each companion.
 fn openings(companions: u32) -> u64
     ensures { result ≡ second.openings companions }
 {

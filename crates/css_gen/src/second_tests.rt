@@ -95,7 +95,8 @@ fn the_shortest_schedule_of_several_is_its_opening(rt: HostRuntime) -> Result<()
     let mut generator = Generator::new(rt.alloc(), 1, 16, 2);
     skip(rt.alloc(), &mut generator, 15)?;
     let text = next(&rt, rt.alloc(), &mut generator)?;
-    assert_eq!(rt; text.bytes(), b"0 1000000000 2 1000000000 text ts");
+    let last = "0 1000000000 2 1000000000 text ts";
+    assert_eq!(rt; text.bytes(), last.as_bytes());
     assert!(rt; generator.next_line(rt.alloc())?.is_none());
     Ok(())
 }
@@ -142,10 +143,8 @@ fn the_longest_schedule_of_16_ends(rt: HostRuntime) -> Result<(), Fail> {
     let mut generator = Generator::new(rt.alloc(), 1, 200_000, 16);
     skip(rt.alloc(), &mut generator, 199_999)?;
     let text = next(&rt, rt.alloc(), &mut generator)?;
-    assert_eq!(rt;
-        text.bytes(),
-        b"905906003980 906951299280 9 906951299280 sleep"
-    );
+    let last = "905906003980 906951299280 9 906951299280 sleep";
+    assert_eq!(rt; text.bytes(), last.as_bytes());
     assert!(rt; generator.next_line(rt.alloc())?.is_none());
     Ok(())
 }

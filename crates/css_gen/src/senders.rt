@@ -47,7 +47,8 @@ impl Senders {
         self.list[number as usize - 1]
     }
 
-    /// How many of the first `answers` takes are of a companion's requests; at most 4 are counted, from the last one on.
+    /// How many of the first `answers` takes are of a companion's requests. At most 4 are counted, from the last one
+    /// on.
     #[tactic(auto, unfolding(crate::specs::Crowd::datagrams))]
     fn recent_answers(&self, who: u32, answers: u32) -> u32
         requires { answers ≤ length self.now }

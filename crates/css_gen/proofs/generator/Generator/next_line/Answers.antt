@@ -1,4 +1,4 @@
-use Rattle.std.proofs.Common.{◌≡◌, ◌+◌, ◌==◌, arith, ap, sym, subst, ◌∙◌, ℕ}
+use Rattle.std.proofs.Common.{◌+◌, ◌==◌, arith, ap, sym, subst, ◌∙◌}
 use Rattle.css_gen.specs.Generated.{next_text}
 use Rattle.css_gen.specs.Standing.{AreSome, Follows}
 use Rattle.css_gen.specs.declared.crowd.Crowd.{Crowd}

@@ -1,4 +1,4 @@
-use Rattle.std.proofs.Common.{◌≡◌, ◌<◌, ◌≤◌, ◌-◌, ◌*◌, ◌+◌, length, arith, ap, sym, ◌∙◌, ℕ, List, subst}
+use Rattle.std.proofs.Common.{◌-◌, length, arith, ap, sym, ◌∙◌, ℕ, List}
 use Rattle.std.specs.Prelude.{slice_index}
 use Rattle.css_gen.specs.Crowd.{datagrams}
 use Rattle.css_gen.proofs.Landing.{own-length, own-newest, own-older, other-last}

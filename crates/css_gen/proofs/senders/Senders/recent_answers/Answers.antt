@@ -1,5 +1,4 @@
-use Rattle.std.proofs.Common.{◌≡◌, ◌<◌, ◌≤◌, ◌-◌, ◌*◌, ◌+◌, min, length, arith, ap, sym, ◌∙◌, ℕ, List}
-use Rattle.css_gen.specs.Crowd.{datagrams}
+use Rattle.std.proofs.Common.{length, arith, ap, sym, ◌∙◌}
 use Rattle.css_gen.proofs.Landing.{own-length, other-last, none-made}
 use Rattle.css_gen.proofs.senders.Senders.recent_answers.Goals as goal
 use Rattle.css_gen.proofs.senders.Senders.recent_answers.Goals.{then-at-who, else-at-who}
@@ -11,7 +10,8 @@ pub takes-preserved : goal.takes-preserved
 takes-preserved c =
     elim c.if-at-who.branch [
       | then-at-who w ↦
-          let many = own-length c.args.who c.args.self.now c.takes.take c.takes-test.true (sym c.at.ensures ∙ w.if-at-who.true) in
+          let own = sym c.at.ensures ∙ w.if-at-who.true in
+          let many = own-length c.args.who c.args.self.now c.takes.take c.takes-test.true own in
           (omega arith, omega arith, omega (arith, many, c.takes.invariant.2, w.found-is))
       | else-at-who w ↦
           let same = ap length (other-last c.args.who c.args.self.now c.takes.take c.takes-test.true
