@@ -65,7 +65,7 @@ module _ (name : Text) (before after : List Text) (word option : Text) (value : 
       (record { within = refl; whole = refl })) in
       rw (refused_rows generator_app (name ∷ (before ++ word ∷ after)) refusal) refl
 
-  companion_usage : list_any (λ known. bytes_eq known option) companion_options ≡ false
+  companion_usage : list_any (λ known. bytes_eq known option) (companion_options ++ codes "record" ∷ []) ≡ false
       → companion_in (name ∷ (before ++ word ∷ after)) ≡ Err Usage
   unfolding companion_in companion_rows
   companion_usage unknown_name =
@@ -76,7 +76,7 @@ module _ (name : Text) (before after : List Text) (word option : Text) (value : 
         name = option;
         given = value;
         spelled = long;
-        unknown = unknown_option companion_options option unknown_name;
+        unknown = unknown_beside_flag companion_options (codes "record") option unknown_name;
       })
       (record { within = refl; whole = refl })) in
       rw (refused_rows companion_app (name ∷ (before ++ word ∷ after)) refusal) refl
@@ -136,7 +136,7 @@ module _ (name : Text) (before after : List Text) (word option : Text) (value : 
   words = name ∷ rest
 
   by_tests : (replay agree audit companion tv pair relay generate survey : Bool)
-      → list_any (λ known. bytes_eq known option) (if companion then companion_options
+      → list_any (λ known. bytes_eq known option) (if companion then companion_options ++ codes "record" ∷ []
       else if tv then tv_options ++ codes "follow" ∷ []
       else if pair then pair_options ++ codes "follow" ∷ []
       else if relay then relay_options

@@ -1,6 +1,6 @@
 -- Which companion the words of `companion` ask for.
-use Rattle.std.specs.Prelude.{ℕ, List, [], ◌∷◌, codes, Option, Some, None, Result, Ok, Err}
-use Rattle.clap.specs.Words.{App, Row, Text, first_of}
+use Rattle.std.specs.Prelude.{ℕ, Bool, List, [], ◌∷◌, codes, Option, Some, None, Result, Ok, Err}
+use Rattle.clap.specs.Words.{App, Row, Text, first_of, with_rule}
 use Rattle.css_model.specs.History.{Address}
 use Rattle.css_model.specs.declared.Kind.TheVariants.{Cii}
 use Rattle.css_tsmsg.specs.declared.bound.Bound.{Bound}
@@ -8,7 +8,8 @@ use Rattle.css_address.specs.Addresses.{address_of}
 use Rattle.css_address.specs.declared.fault.AddressFault.{AddressFault}
 use Rattle.css_words.specs.Bounds.{earliest, latest}
 use Rattle.css_words.specs.Faults.{address_fault}
-use Rattle.css_words.specs.Options.{◌>>=◌, app_with, number_in, optional, text_or, rows_in}
+use Rattle.css_words.specs.Options.{◌>>=◌, app_with, flag_rule, is_set, number_in, optional, text_or, rows_in}
+use Rattle.css_words.specs.Recorded.{checked}
 use Rattle.css_words.specs.Tv.{turns}
 use Rattle.css_words.specs.declared.fault.WordsFault.{WordsFault}
 use Rattle.css_words.specs.declared.fault.WordsFault.TheVariants.{Usage}
@@ -40,13 +41,14 @@ options_of options = record {
   present = options.present;
 }
 
--- and the television's address
+-- and the television's address, and whether the run is recorded
 pub record CompanionAsked : Type 0 where
   pub cii : Address
   pub options : OptionsAsked
+  pub recorded : Bool
 
 abbrev pub companion_of : CompanionWords → CompanionAsked
-companion_of words = record { cii = words.cii; options = options_of words.options }
+companion_of words = record { cii = words.cii; options = options_of words.options; recorded = words.recorded }
 
 -- ---- numbers
 abbrev pub reports : List Row → Result ℕ WordsFault
@@ -113,14 +115,14 @@ cii_given (Some text) = address_read (address_of Cii text)
 abbrev pub cii : List Row → Result Address WordsFault
 cii rows = cii_given (first_of (codes "cii") rows)
 
--- the options
+-- its options, beside the flag
 abbrev pub companion_options : List Text
 companion_options =
     codes "cii" ∷ codes "selector" ∷ codes "stem" ∷ codes "reports" ∷ codes "turns" ∷ codes "report-every"
     ∷ codes "ask-every" ∷ codes "local-error" ∷ codes "local-precision" ∷ codes "earliest" ∷ codes "latest" ∷ []
 
 abbrev pub companion_app : App
-companion_app = app_with companion_options
+companion_app = with_rule (app_with companion_options) (flag_rule (codes "record"))
 
 unfoldable pub companion_rows : List Text → Result (List Row) WordsFault
 companion_rows words = rows_in companion_app words
@@ -130,4 +132,5 @@ companion_in words = do
   rows ← companion_rows words
   cii ← cii rows
   options ← options_in rows
-  Ok (record { cii = cii; options = options })
+  checked ← checked (is_set (codes "record") rows) options.selector options.stem
+  Ok (record { cii = cii; options = options; recorded = is_set (codes "record") rows })

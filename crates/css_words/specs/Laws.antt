@@ -15,7 +15,7 @@ use Rattle.css_words.specs.declared.fault.WordsFault.TheVariants.{Usage}
 -- the names of the options of a command
 abbrev pub options_of_command : Text → List Text
 options_of_command name =
-    if bytes_eq name (codes "companion") then companion_options
+    if bytes_eq name (codes "companion") then companion_options ++ codes "record" ∷ []
     else if bytes_eq name (codes "tv") then tv_options ++ codes "follow" ∷ []
     else if bytes_eq name (codes "pair") then pair_options ++ codes "follow" ∷ []
     else if bytes_eq name (codes "relay") then relay_options

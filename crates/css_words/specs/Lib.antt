@@ -3,6 +3,7 @@ pub mod Options
 pub mod Generator
 pub mod Bounds
 pub mod Tv
+pub mod Recorded
 pub mod Companion
 pub mod Written
 pub mod Pair

@@ -104,7 +104,9 @@ fn command_named(
 ///
 /// - `replay`, `agree` and `audit` take no options.
 /// - `companion` needs `--cii`, a `ws:` address. It takes `--selector`, `--stem`, `--reports`, `--turns`,
-///   `--report-every`, `--ask-every`, `--local-error`, `--local-precision`, and both `--earliest` and `--latest`.
+///   `--report-every`, `--ask-every`, `--local-error`, `--local-precision`, and both `--earliest` and `--latest`. With
+///   the flag `--record` the selector is a word, and the stem is a word other than `-` or empty, where a word is one
+///   byte or more, each from `!` to `~`.
 /// - `tv` takes `--port`, `--turns`, `--precision`, `--error`, `--follow` and `--host`.
 /// - `pair` takes what both take, without an address and a host.
 /// - `relay` needs `--cii`. It takes `--port`, `--turns`, `--ask-every`, `--local-error`, `--local-precision` and

@@ -7,7 +7,10 @@ ghost use Rattle.css_words.specs.declared.fault.WordsFault.TheVariants as faults
 
 use crate::bounds::{earliest, latest};
 use crate::fault::WordsFault;
-use crate::options::{command_with, matches_in, number_or, text_given, text_given_or};
+use crate::options::{
+    command_with, is_set, matches_in, number_or, text_given, text_given_or, with_flag,
+};
+use crate::recorded::check_recorded;
 use crate::tv::turns;
 use crate::words::{CompanionOptions, CompanionWords};
 use clap::ArgMatches;
@@ -140,6 +143,7 @@ fn companion_matches<'a>(alloc: Global, words: &'a [String]) -> Result<ArgMatche
         (companion.companion_rows (map string_bytes words.entry.now)) }
 {
     let command = command_with(alloc, OPTIONS.as_slice())?;
+    let command = with_flag(alloc, command, "record")?;
     matches_in(command, words)
 }
 
@@ -153,5 +157,11 @@ pub fn companion_words(alloc: Global, words: &[String]) -> Result<CompanionWords
     let matches = companion_matches(alloc, words)?;
     let cii = cii(alloc, &matches)?;
     let options = options_in(alloc, &matches)?;
-    Ok(CompanionWords { cii, options })
+    let recorded = is_set(&matches, "record");
+    check_recorded(recorded, &options.selector, &options.stem)?;
+    Ok(CompanionWords {
+        cii,
+        options,
+        recorded,
+    })
 }

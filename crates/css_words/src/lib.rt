@@ -9,6 +9,7 @@ mod generator;
 pub mod laws;
 mod options;
 mod pair;
+mod recorded;
 mod relay;
 mod tv;
 mod words;

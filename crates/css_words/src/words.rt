@@ -79,6 +79,9 @@ pub struct CompanionWords {
     /// Where the television's session of CSS-CII is dialled.
     pub cii: Address,
     pub options: CompanionOptions,
+    /// Whether it writes the record of its run in the place of its reports. Then the selector is a word, and the stem
+    /// is a word other than `-` or empty. A word is one byte or more, each from `!` to `~`.
+    pub recorded: bool,
 }
 
 /// A television and a companion of it. The companion's turns are the television's too.

@@ -94,7 +94,11 @@ fn shown(alloc: Global, command: &Command) -> Result<String, Fail> {
             let host = shown_text(&words.cii.host);
             let path = shown_text(&words.cii.path);
             let options = shown_options(alloc, &words.options)?;
-            format!(in alloc; "companion {host} {} {path} {options}", words.cii.port)?
+            let record = if words.recorded { " recorded" } else { "" };
+            format!(in alloc;
+                "companion {host} {} {path} {options}{record}",
+                words.cii.port
+            )?
         }
         Command::Tv(words) => format!(in alloc; "tv {}", shown_tv(alloc, words)?)?,
         Command::Pair(words) => {
@@ -315,6 +319,47 @@ companion --cii ws://h cue.sheet";
 fn companions(rt: HostRuntime) -> Result<(), Fail> {
     check_told(&rt, rt.alloc(), COMPANIONS)?;
     check_usage(&rt, rt.alloc(), NO_COMPANIONS)
+}
+
+/// Command lines of `companion` whose run is recorded or can't be, and what each of them asks for.
+const RECORDED: &str = "\
+companion --record --cii ws://h => companion h 80 / \
+urn:dvb:css:timeline:pts '' 10 10000 1000000000 1000000000 128000 1000 always recorded
+companion --cii ws://h --selector=!~ --record --stem=-- => companion h 80 / \
+!~ '--' 10 10000 1000000000 1000000000 128000 1000 always recorded
+companion --cii ws://h --stem= --selector=- --record => companion h 80 / \
+- '' 10 10000 1000000000 1000000000 128000 1000 always recorded
+companion --cii ws://h --selector=é --stem=- => companion h 80 / \
+é '-' 10 10000 1000000000 1000000000 128000 1000 always
+companion --cii ws://h --selector=a\tb --stem=\u{7f} => companion h 80 / \
+a\tb '\u{7f}' 10 10000 1000000000 1000000000 128000 1000 always";
+
+/// Command lines with `--record` that are refused.
+const NOT_RECORDED: &str = "\
+companion --record
+companion --record --cii ws://h --selector=
+companion --record --cii ws://h --selector=a\tb
+companion --record --cii ws://h --selector=\u{7f}
+companion --record --cii ws://h --selector=é
+companion --record --cii ws://h --stem=-
+companion --record --cii ws://h --stem=a\tb
+companion --record --cii ws://h --stem=\u{7f}
+companion --record --cii ws://h --stem=é
+companion --record --cii ws://h --reports 0
+companion --record --cii ws://h --record
+companion --record=true --cii ws://h
+companion --record true --cii ws://h
+companion --cii ws://h --recor
+companion --cii ws://h --recorded
+pair --record
+tv --record
+relay --cii ws://h --record
+replay --record";
+
+#[test]
+fn recorded_runs(rt: HostRuntime) -> Result<(), Fail> {
+    check_told(&rt, rt.alloc(), RECORDED)?;
+    check_usage(&rt, rt.alloc(), NOT_RECORDED)
 }
 
 /// Command lines of `relay`, and what each of them asks for.
