@@ -1,6 +1,6 @@
 -- What a run did, by the words of its command line.
 use Rattle.std.proofs.Common.{◌≡◌, ◌∙◌, ℕ, List, ap, refl, sym, subst, inl, inr}
-use Rattle.std.specs.Prelude.{◌⊎◌, Option, Result, Ok, Err}
+use Rattle.std.specs.Prelude.{◌⊎◌, Bool, true, false, Option, Result, Ok, Err}
 use Rattle.css_model.specs.History.{Address, History}
 use Rattle.css_follow.specs.Following.{Plan}
 use Rattle.css_follow.specs.declared.sheet.Sheet.{Sheet}
@@ -14,8 +14,8 @@ use Rattle.css_words.specs.declared.fault.WordsFault.TheVariants as words
 use Rattle.css_app.specs.declared.child.Child.{Child}
 use Rattle.css_app.specs.declared.status.Status.{Status}
 use Rattle.css_app.specs.declared.status.Status.TheVariants as status
-use Rattle.css_app.specs.Commands.{CompanionsBy, Does, EndsAsAsked, IsAskedRun, PairsAsAsked, PairsBy, asked_child}
-use Rattle.css_app.specs.Commands.{asked_tv}
+use Rattle.css_app.specs.Commands.{ByCompanion, ByRecord, CompanionsBy, Does, EitherCompanion, EndsAsAsked, IsAskedRun}
+use Rattle.css_app.specs.Commands.{PairsAsAsked, PairsBy, RecordsBy, asked_child, asked_tv}
 use Rattle.css_app.specs.Devices.{FollowersUse, OutsideUse, SinkUse, SourceUse, SpawnerUse, stage_after, stage_before}
 use Rattle.css_app.specs.Ended.{IsNoUsage}
 use Rattle.css_app.specs.Live.{Companions, EndsAsDue, Stage}
@@ -23,8 +23,8 @@ use Rattle.css_app.specs.Pairs.{Children, Pairs, PairsAsDue, PairsByScript, addr
 use Rattle.css_app.specs.Generated.{schedule_text}
 use Rattle.css_app.specs.Surveyed.{survey_text}
 use Rattle.css_app.proofs.Relays.{relays_no_usage}
-use Rattle.css_app.proofs.Quiet.{companions_no_child, pairs_no_usage, script_no_dial, serves_no_dial, sheet_no_child}
-use Rattle.css_app.proofs.Quiet.{writes_no_usage}
+use Rattle.css_app.proofs.Quiet.{companions_no_child, driven_no_child, pairs_no_usage, script_no_dial}
+use Rattle.css_app.proofs.Quiet.{serves_no_dial, sheet_no_child, writes_no_usage}
 
 -- ---- a run by what the options ask for
 pub companions_by : (asked : CompanionAsked) (run : DriveConfig) (takes : Sheet → List Plan) (source : SourceUse)
@@ -74,6 +74,21 @@ companions_no_usage asked takes source before now result (inl none) =
 companions_no_usage asked takes source before now result (inr ran) =
     (companions_no_child ran.0 takes source.left_old source.left_new before now result (inr ran.2)).0
 
+records_no_usage : (asked : CompanionAsked) (sink : SinkUse) (outside : OutsideUse) (result : Status)
+    → RecordsBy asked sink outside result → IsNoUsage result
+records_no_usage asked sink outside result (inl none) = subst IsNoUsage (sym none.lacks) tt
+records_no_usage asked sink outside result (inr ran) =
+    subst IsNoUsage (sym ran.2.tells) (driven_no_child ran.2.ended).0
+
+either_no_usage : (recorded : Bool) (asked : CompanionAsked) (source : SourceUse) (sink : SinkUse)
+    (outside : OutsideUse) (followers : FollowersUse) (result : Status)
+    → EitherCompanion recorded asked source sink outside followers result → IsNoUsage result
+either_no_usage true asked source sink outside followers result did =
+    records_no_usage asked sink outside result did.ran
+either_no_usage false asked source sink outside followers result did =
+    companions_no_usage asked followers.takes source (stage_before sink outside followers)
+    (stage_after sink outside followers) result did.ran
+
 pairs_by_no_usage : (asked : PairAsked) (takes : Sheet → List Plan) (source : SourceUse) (before now : Stage)
     (kids_old kids_new : Children) (result : Status)
     → PairsBy asked takes source before now kids_old kids_new result → IsNoUsage result
@@ -94,8 +109,7 @@ usage_only (Ok Agree) source sink outside spawner followers result did is =
 usage_only (Ok Audit) source sink outside spawner followers result did is =
     absurd (subst IsNoUsage is did.no_usage)
 usage_only (Ok (Companion asked)) source sink outside spawner followers result did is =
-    absurd (subst IsNoUsage is (companions_no_usage asked followers.takes source (stage_before sink outside followers)
-    (stage_after sink outside followers) result did.ran))
+    absurd (subst IsNoUsage is (either_no_usage asked.recorded asked source sink outside followers result did))
 usage_only (Ok (Tv asked)) source sink outside spawner followers result did is =
     absurd (subst IsNoUsage is (serves_no_dial (asked_tv asked) asked.turns source.left_old source.left_new
     outside.told_old outside.told_new result did.ran).0.0)
@@ -121,6 +135,24 @@ pub does_so : (line : List (List ℕ)) (asked : Asked) (expected : Result Asked 
     → command_in line ≡ expected → Does expected source sink outside spawner followers result
 does_so line asked expected source sink outside spawner followers result of did is =
     subst (λ (a : Result Asked WordsFault). Does a source sink outside spawner followers result) (sym of ∙ is) did
+
+-- with a record, or without one
+pub does_record : (line : List (List ℕ)) (asked : Asked) (expected : CompanionAsked) (source : SourceUse)
+    (sink : SinkUse) (outside : OutsideUse) (spawner : SpawnerUse) (followers : FollowersUse) (result : Status)
+    → command_in line ≡ Ok asked → Does (Ok asked) source sink outside spawner followers result
+    → command_in line ≡ Ok (Companion expected) → expected.recorded ≡ true → ByRecord expected sink outside result
+does_record line asked expected source sink outside spawner followers result of did is recorded =
+    subst (λ (b : Bool). EitherCompanion b expected source sink outside followers result) recorded
+    (does_so line asked (Ok (Companion expected)) source sink outside spawner followers result of did is)
+
+pub does_companion : (line : List (List ℕ)) (asked : Asked) (expected : CompanionAsked) (source : SourceUse)
+    (sink : SinkUse) (outside : OutsideUse) (spawner : SpawnerUse) (followers : FollowersUse) (result : Status)
+    → command_in line ≡ Ok asked → Does (Ok asked) source sink outside spawner followers result
+    → command_in line ≡ Ok (Companion expected) → expected.recorded ≡ false
+    → ByCompanion expected source sink outside followers result
+does_companion line asked expected source sink outside spawner followers result of did is recorded =
+    subst (λ (b : Bool). EitherCompanion b expected source sink outside followers result) recorded
+    (does_so line asked (Ok (Companion expected)) source sink outside spawner followers result of did is)
 
 -- words that are refused are those of no command
 pub usage_of : (line : List (List ℕ)) (fault : WordsFault) → fault ≡ words.Usage

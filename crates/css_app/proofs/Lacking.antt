@@ -1,6 +1,6 @@
 -- A run that lacked memory before it began left every device as it was.
 use Rattle.std.proofs.Common.{◌≡◌, ℕ, List, [], refl, sym, subst, arith, inl, inr}
-use Rattle.std.specs.Prelude.{Option, Some, Result, Ok, Err}
+use Rattle.std.specs.Prelude.{Bool, true, false, Option, Some, Result, Ok, Err}
 use Rattle.css_outside.proofs.Known.{appends_none, consumes_none}
 use Rattle.css_model.specs.History.{History}
 use Rattle.css_lines.specs.declared.ending.Stop.TheVariants as stops
@@ -13,10 +13,11 @@ use Rattle.css_drive.specs.Listening.{Listener}
 use Rattle.css_agree.specs.Agreeing.{agreeing}
 use Rattle.css_audit.specs.Auditing.{auditing}
 use Rattle.css_words.specs.Commands.{Asked, Replay, Agree, Audit, Companion, Tv, Pair, Relay, Generate, Survey}
+use Rattle.css_words.specs.Companion.{CompanionAsked}
 use Rattle.css_words.specs.declared.fault.WordsFault.{WordsFault}
 use Rattle.css_words.specs.declared.fault.WordsFault.TheVariants as words
 use Rattle.css_app.specs.declared.status.Status.TheVariants as status
-use Rattle.css_app.specs.Commands.{ByAgree, ByAudit, ByReplay, ByWriting, Does}
+use Rattle.css_app.specs.Commands.{ByAgree, ByAudit, ByRecord, ByReplay, ByWriting, Does, EitherCompanion}
 use Rattle.css_app.specs.Devices.{followers_use, sink_use, source_use}
 use Rattle.css_app.specs.Generated.{schedule_text}
 use Rattle.css_app.specs.Pairs.{Children}
@@ -105,6 +106,25 @@ writing_lacks text holds w = record {
   complete = λ written. tt;
 }
 
+record_lacks : (asked : CompanionAsked) (holds : Option (List ℕ)) (told : Option History) (w c : ℕ)
+    → ByRecord asked (sink_use holds holds w w)
+    (record { told_old = told; told_new = told; faults_old = c; faults_new = c }) status.Memory
+record_lacks asked holds told w c = record {
+  ran = inl (record { untouched = refl; unwritten = refl; lacks = refl });
+  complete = λ written called. inl refl;
+}
+
+pub companion_lacks : (recorded : Bool) (asked : CompanionAsked) (left holds : Option (List ℕ)) (told : Option History)
+    (takes : Sheet → List Plan) (heard : List Listener) (r w c : ℕ)
+    → EitherCompanion recorded asked (source_use left left r r) (sink_use holds holds w w)
+    (record { told_old = told; told_new = told; faults_old = c; faults_new = c })
+    (followers_use takes heard heard) status.Memory
+companion_lacks true asked left holds told takes heard r w c = record_lacks asked holds told w c
+companion_lacks false asked left holds told takes heard r w c = record {
+  ran = inl (record { untouched = refl; cause = tt });
+  complete = λ bytes sheet is ok read written called. inl refl;
+}
+
 -- whatever the words ask for
 pub lacks : (asked : Result Asked WordsFault) (left holds : Option (List ℕ)) (told : Option History)
     (kids : Children) (takes : Sheet → List Plan) (heard : List Listener) (r w c s : ℕ)
@@ -115,10 +135,8 @@ pub lacks : (asked : Result Asked WordsFault) (left holds : Option (List ℕ)) (
 lacks (Ok Replay) left holds told kids takes heard r w c s = replay_lacks left holds r w
 lacks (Ok Agree) left holds told kids takes heard r w c s = agree_lacks left holds r w
 lacks (Ok Audit) left holds told kids takes heard r w c s = audit_lacks left holds r w
-lacks (Ok (Companion asked)) left holds told kids takes heard r w c s = record {
-  ran = inl (record { untouched = refl; cause = tt });
-  complete = λ bytes sheet is ok read written called. inl refl;
-}
+lacks (Ok (Companion asked)) left holds told kids takes heard r w c s =
+    companion_lacks asked.recorded asked left holds told takes heard r w c
 lacks (Ok (Tv asked)) left holds told kids takes heard r w c s = record {
   ran = inl (record { untouched = refl; cause = tt });
   complete = λ bytes script is ok read called. inl refl;

@@ -23,4 +23,5 @@ pub mod TvEnds
 pub mod Quiet
 pub mod Lacking
 pub mod Relays
+pub mod Records
 pub mod Commands

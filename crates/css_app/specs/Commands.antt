@@ -1,5 +1,5 @@
 -- What each command of a command line does to its devices.
-use Rattle.std.specs.Prelude.{◌≡◌, ◌⊎◌, ℕ, Bool, true, false, List, Option, Some, Result, Ok, Err}
+use Rattle.std.specs.Prelude.{◌≡◌, ◌⊎◌, ℕ, Bool, true, false, not, List, Option, Some, Result, Ok, Err}
 use Rattle.css_model.specs.History.{Address, History}
 use Rattle.css_agree.specs.Promise as agree
 use Rattle.css_audit.specs.Promise.{SaysRight}
@@ -27,6 +27,7 @@ use Rattle.css_app.specs.Generated.{schedule_text}
 use Rattle.css_app.specs.Headline.{Promised}
 use Rattle.css_app.specs.Live.{IsAsDue, MakesNoRun, RunsBySheet, Serves, ServesAsDue, Stage}
 use Rattle.css_app.specs.Pairs.{ArePairedAsDue, Children, PairsByScript, PairsNone, address_at}
+use Rattle.css_app.specs.Records.{MakesNoRecord, MakesRecord}
 use Rattle.css_app.specs.Relays.{RelaysBy, RelaysNone, RelaysAsDue}
 use Rattle.css_app.specs.Scripts.{script_in}
 use Rattle.css_app.specs.Surveyed.{survey_text}
@@ -39,11 +40,12 @@ IsUsageUnlessMemory status.Memory = Unit {0}
 IsUsageUnlessMemory _ = ⊥
 
 -- ---- which devices a command uses
+-- A companion that records its run reads no sheet, and no one follows it.
 abbrev pub uses_source : Result Asked WordsFault → Bool
 uses_source (Ok Replay) = true
 uses_source (Ok Agree) = true
 uses_source (Ok Audit) = true
-uses_source (Ok (Companion asked)) = true
+uses_source (Ok (Companion asked)) = not asked.recorded
 uses_source (Ok (Tv asked)) = true
 uses_source (Ok (Pair asked)) = true
 uses_source _ = false
@@ -70,7 +72,7 @@ uses_spawner (Ok (Pair asked)) = true
 uses_spawner _ = false
 
 abbrev pub uses_followers : Result Asked WordsFault → Bool
-uses_followers (Ok (Companion asked)) = true
+uses_followers (Ok (Companion asked)) = not asked.recorded
 uses_followers (Ok (Pair asked)) = true
 uses_followers _ = false
 
@@ -171,6 +173,26 @@ pub record ByCompanion (asked : CompanionAsked) (source : SourceUse) (sink : Sin
       → HasNotFailed outside.faults_old outside.faults_new
       → EndsAsAsked asked.options asked.cii outside.told_old outside.told_new result
 
+-- what became of the run that the options ask for, and of its record
+abbrev pub RecordsBy : CompanionAsked → SinkUse → OutsideUse → Status → Type 0
+RecordsBy asked sink outside result =
+    MakesNoRecord outside.told_old outside.told_new sink.holds_old sink.holds_new result
+    ⊎ ((run : DriveConfig) × IsAskedRun asked.options asked.cii run
+    × MakesRecord run outside.told_old outside.told_new sink.holds_old sink.holds_new result)
+
+-- The same with a record: the sink gained what the outside gave, line by line, and the line of each report.
+pub record ByRecord (asked : CompanionAsked) (sink : SinkUse) (outside : OutsideUse) (result : Status) : Type 0 where
+  pub ran : RecordsBy asked sink outside result
+  -- over devices that don't fail, dials aside, a run ends as its calls say
+  pub complete : HasNotFailed sink.faults_old sink.faults_new → HasNotFailed outside.faults_old outside.faults_new
+      → EndsAsAsked asked.options asked.cii outside.told_old outside.told_new result
+
+-- with a record, or without one
+abbrev pub EitherCompanion : Bool → CompanionAsked → SourceUse → SinkUse → OutsideUse → FollowersUse → Status → Type 0
+EitherCompanion true asked source sink outside followers result = ByRecord asked sink outside result
+EitherCompanion false asked source sink outside followers result =
+    ByCompanion asked source sink outside followers result
+
 -- ---- `tv`
 -- Each call of the outside is the one that is due by the script and by what came.
 pub record ByTv (asked : TvAsked) (source : SourceUse) (outside : OutsideUse) (result : Status) : Type 0 where
@@ -241,7 +263,7 @@ Does (Ok Replay) source sink outside spawner followers result = ByReplay source 
 Does (Ok Agree) source sink outside spawner followers result = ByAgree source sink result
 Does (Ok Audit) source sink outside spawner followers result = ByAudit source sink result
 Does (Ok (Companion asked)) source sink outside spawner followers result =
-    ByCompanion asked source sink outside followers result
+    EitherCompanion asked.recorded asked source sink outside followers result
 Does (Ok (Tv asked)) source sink outside spawner followers result = ByTv asked source outside result
 Does (Ok (Pair asked)) source sink outside spawner followers result =
     ByPair asked source sink outside spawner followers result

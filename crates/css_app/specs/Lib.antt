@@ -10,4 +10,5 @@ pub mod Live
 pub mod Pairs
 pub mod Devices
 pub mod Relays
+pub mod Records
 pub mod Commands

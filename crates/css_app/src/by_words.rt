@@ -1,5 +1,5 @@
 //! The commands that have options, by the words of a command line.
-ghost use Rattle.std.specs.Prelude.{◌≡◌, ◌≤◌, ◌≤ℤ◌, pos, ℕ};
+ghost use Rattle.std.specs.Prelude.{◌≡◌, ◌≤◌, ◌≤ℤ◌, pos, ℕ, not, false};
 ghost use Rattle.std.specs.Str.{IsUtf8};
 ghost use Rattle.css_drive.specs.Configs.{IsWritable};
 ghost use Rattle.css_model.specs.Numbers.{max_error};
@@ -8,8 +8,8 @@ ghost use Rattle.css_words.specs.Generator.{generator_of};
 ghost use Rattle.css_words.specs.Pair.{pair_of};
 ghost use Rattle.css_words.specs.Tv.{tv_of};
 ghost use Rattle.css_words.specs.Written.{AreWritable};
-ghost use Rattle.css_app.specs.Commands.{ByCompanion, ByGenerate, ByPair, BySurvey, ByTv, IsAskedRun};
-ghost use Rattle.css_app.specs.Commands.{asked_child, asked_tv};
+ghost use Rattle.css_app.specs.Commands.{ByCompanion, ByGenerate, ByPair, ByRecord, BySurvey, ByTv};
+ghost use Rattle.css_app.specs.Commands.{EitherCompanion, IsAskedRun, asked_child, asked_tv};
 ghost use Rattle.css_app.specs.Devices.{followers_use, outside_use, sink_use, source_use, spawner_use};
 ghost use Rattle.css_app.specs.Ended.{CountsReads, CountsWrites};
 ghost use Rattle.css_app.specs.Live.{CountsCalls, CountsDials, CountsSpawns, TellsNoLive};
@@ -19,6 +19,7 @@ use crate::child::{Child, address_at};
 use crate::generated::generate;
 use crate::live_companion::companion;
 use crate::live_pair::pair;
+use crate::live_record::record_companion;
 use crate::live_tv::tv;
 use crate::status::Status;
 use crate::surveyed::survey;
@@ -55,8 +56,31 @@ fn run_of(options: CompanionOptions, cii: Address) -> DriveConfig
     }
 }
 
-/// The command `companion` with these words.
-pub(crate) fn companion_by<S: Source, K: Sink, O: Outside, F: Listens>(
+// A companion whose run is recorded, with these words.
+fn record_by<K: Sink, O: Outside>(
+    alloc: Global,
+    words: CompanionWords,
+    sink: &mut K,
+    outside: &mut O,
+) -> Status
+    requires { AreWritable words.options }
+    ensures does { ByRecord (companion_of words)
+        (sink_use (K.holds sink.old) (K.holds sink.new) (K.faults sink.old) (K.faults sink.new))
+        (outside_use (O.told outside.old) (O.told outside.new) (O.counts outside.old) (O.counts outside.new)) result }
+    ensures reads { (count : ℕ) → CountsReads count count result }
+    ensures counted_writes { CountsWrites (K.faults sink.old) (K.faults sink.new) result }
+    ensures counted_calls { CountsCalls (O.counts outside.old).faults (O.counts outside.new).faults result }
+    ensures counted_dials { CountsDials (O.counts outside.old).dial_faults
+        (O.counts outside.new).dial_faults result }
+    ensures spawns { (count : ℕ) → CountsSpawns count count result }
+{
+    let CompanionWords { cii, options, .. } = words;
+    let run = run_of(options, cii);
+    record_companion(alloc, run, sink, outside)
+}
+
+// A companion by its sheet, with these words.
+fn follow_by<S: Source, K: Sink, O: Outside, F: Listens>(
     alloc: Global,
     words: CompanionWords,
     source: &mut S,
@@ -77,9 +101,39 @@ pub(crate) fn companion_by<S: Source, K: Sink, O: Outside, F: Listens>(
         (O.counts outside.new).dial_faults result }
     ensures spawns { (count : ℕ) → CountsSpawns count count result }
 {
-    let CompanionWords { cii, options } = words;
+    let CompanionWords { cii, options, .. } = words;
     let run = run_of(options, cii);
     companion(alloc, run, source, sink, outside, followers)
+}
+
+/// The command `companion` with these words.
+pub(crate) fn companion_by<S: Source, K: Sink, O: Outside, F: Listens>(
+    alloc: Global,
+    words: CompanionWords,
+    source: &mut S,
+    sink: &mut K,
+    outside: &mut O,
+    followers: &mut F,
+) -> Status
+    requires { AreWritable words.options }
+    ensures does { EitherCompanion words.recorded (companion_of words)
+        (source_use (S.left source.old) (S.left source.new) (S.faults source.old) (S.faults source.new))
+        (sink_use (K.holds sink.old) (K.holds sink.new) (K.faults sink.old) (K.faults sink.new))
+        (outside_use (O.told outside.old) (O.told outside.new) (O.counts outside.old) (O.counts outside.new))
+        (followers_use (F.takes followers.old) (F.heard followers.old) (F.heard followers.new)) result }
+    ensures same_source { not words.recorded ≡ false → source.new ≡ source.old }
+    ensures same_followers { not words.recorded ≡ false → followers.new ≡ followers.old }
+    ensures counted_reads { CountsReads (S.faults source.old) (S.faults source.new) result }
+    ensures counted_writes { CountsWrites (K.faults sink.old) (K.faults sink.new) result }
+    ensures counted_calls { CountsCalls (O.counts outside.old).faults (O.counts outside.new).faults result }
+    ensures counted_dials { CountsDials (O.counts outside.old).dial_faults
+        (O.counts outside.new).dial_faults result }
+    ensures spawns { (count : ℕ) → CountsSpawns count count result }
+{
+    if words.recorded {
+        return record_by(alloc, words, sink, outside);
+    }
+    follow_by(alloc, words, source, sink, outside, followers)
 }
 
 // The television that these words ask for.

@@ -1,4 +1,4 @@
-ghost use Rattle.std.specs.Prelude.{◌≡◌, List, ℕ, Some, Ok, Err, false, map, string_bytes};
+ghost use Rattle.std.specs.Prelude.{◌≡◌, List, ℕ, Some, Ok, Err, false, true, map, string_bytes};
 ghost use Rattle.css_words.specs.Commands.{asked_of, command_in};
 ghost use Rattle.css_words.specs.Commands as commands;
 ghost use Rattle.css_words.specs.Companion.{CompanionAsked};
@@ -8,8 +8,8 @@ ghost use Rattle.css_words.specs.Relay.{RelayAsked};
 ghost use Rattle.css_words.specs.Tv.{TvAsked};
 ghost use Rattle.css_words.specs.Written.{IsWritable};
 ghost use Rattle.css_words.specs.declared.fault.WordsFault.TheVariants as words_fault;
-ghost use Rattle.css_app.specs.Commands.{ByAgree, ByAudit, ByCompanion, ByGenerate, ByPair, ByRelay, ByReplay};
-ghost use Rattle.css_app.specs.Commands.{BySurvey, ByTv, Does};
+ghost use Rattle.css_app.specs.Commands.{ByAgree, ByAudit, ByCompanion, ByGenerate, ByPair, ByRecord, ByRelay};
+ghost use Rattle.css_app.specs.Commands.{ByReplay, BySurvey, ByTv, Does};
 ghost use Rattle.css_app.specs.Commands.{IsUsageUnlessMemory, uses_followers, uses_outside, uses_sink, uses_source};
 ghost use Rattle.css_app.specs.Commands.{uses_spawner};
 ghost use Rattle.css_app.specs.Devices.{followers_use, outside_use, sink_use, source_use, spawner_use};
@@ -132,7 +132,8 @@ fn run_command<S: Source, K: Sink, O: Outside, P: Spawner, F: Listens>(
 /// - `agree` reads the answers of a wall clock in the same way, and tells what they say together.
 /// - `audit` reads the record of a companion in the same way, and checks each report of it.
 /// - `companion` reads a cue sheet from the source, to its end. Then it is a companion of the television at an address:
-///   it writes its reports to the sink, and the followers are told them.
+///   it writes its reports to the sink, and the followers are told them. With `--record` it reads no sheet, no one
+///   follows it, and it writes the record of its run.
 /// - `tv` reads a script from the source, to its end, and then is a television.
 /// - `pair` reads a script, starts `tv` with it as a child, and is a companion of it.
 /// - `relay` is a companion that serves the television's wall clock on to further companions.
@@ -187,12 +188,18 @@ pub fn run<S: Source, K: Sink, O: Outside, P: Spawner, F: Listens>(
     // that the last control timestamp received assigns to the television's wall clock, in every world that explains
     // what the companion was told.
     ensures companion { (asked : CompanionAsked)
-        → command_in (map string_bytes words.now) ≡ Ok (commands.Companion asked)
+        → command_in (map string_bytes words.now) ≡ Ok (commands.Companion asked) → asked.recorded ≡ false
         → ByCompanion asked
         (source_use (S.left source.old) (S.left source.new) (S.faults source.old) (S.faults source.new))
         (sink_use (K.holds sink.old) (K.holds sink.new) (K.faults sink.old) (K.faults sink.new))
         (outside_use (O.told outside.old) (O.told outside.new) (O.counts outside.old) (O.counts outside.new))
         (followers_use (F.takes followers.old) (F.heard followers.old) (F.heard followers.new)) result }
+
+    // A companion that records its run: the same, but that the sink gains the record of the calls.
+    ensures record_companion { (asked : CompanionAsked)
+        → command_in (map string_bytes words.now) ≡ Ok (commands.Companion asked) → asked.recorded ≡ true
+        → ByRecord asked (sink_use (K.holds sink.old) (K.holds sink.new) (K.faults sink.old) (K.faults sink.new))
+        (outside_use (O.told outside.old) (O.told outside.new) (O.counts outside.old) (O.counts outside.new)) result }
 
     // A television by its script: each call is the one that is due.
     ensures tv { (asked : TvAsked) → command_in (map string_bytes words.now) ≡ Ok (commands.Tv asked)

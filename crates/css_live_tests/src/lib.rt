@@ -6,6 +6,8 @@ mod changed_tables;
 #[cfg(test)]
 mod follower_tests;
 #[cfg(test)]
+mod record_tables;
+#[cfg(test)]
 mod running;
 #[cfg(test)]
 mod tables;

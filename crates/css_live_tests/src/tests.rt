@@ -3,6 +3,7 @@ ghost use Rattle.std.specs.Prelude.{◌≡◌, [], IfOk, IsTrue, false, true};
 ghost use Rattle.css_outside.specs.Scripts.{are_readings};
 
 use crate::changed_tables::{CHANGED, SLEPT};
+use crate::record_tables::RECORDS;
 use crate::running::ended;
 use crate::tables::{
     COMPANIONS, Case, FAILING, NEVER_FAILING, PAIRS, Said, TELEVISIONS, TWO_BESIDE, Times,
@@ -221,6 +222,11 @@ fn each_changed_input_is_told(rt: HostRuntime) {
 #[test]
 fn no_answer_outlasts_a_sleep(rt: HostRuntime) {
     assert_each(&rt, rt.alloc(), SLEPT);
+}
+
+#[test]
+fn each_recorded_run_writes_its_record(rt: HostRuntime) {
+    assert_each(&rt, rt.alloc(), RECORDS);
 }
 
 #[test]

@@ -1,12 +1,12 @@
 -- What a run promises of its words and its devices, from what its command does.
 use Rattle.std.proofs.Common.{◌∙◌, ap, sym, map}
-use Rattle.std.specs.Prelude.{Ok, Err, string_bytes}
+use Rattle.std.specs.Prelude.{Ok, Err, string_bytes, true, false}
 use Rattle.css_words.specs.Commands.{Replay, Agree, Audit, Companion, Tv, Pair, Relay, Generate, Survey, asked_of}
 use Rattle.css_words.specs.declared.fault.WordsFault.TheVariants as words
 use Rattle.css_app.specs.Commands.{uses_followers, uses_outside, uses_sink, uses_source, uses_spawner}
 use Rattle.css_app.specs.Pairs.{children}
-use Rattle.css_app.proofs.Commands.{does_so, usage_of, usage_only}
-use Rattle.css_app.proofs.Lacking.{lacks}
+use Rattle.css_app.proofs.Commands.{does_companion, does_record, does_so, usage_of, usage_only}
+use Rattle.css_app.proofs.Lacking.{companion_lacks, lacks}
 use Rattle.css_app.proofs.program.run.Goals as goal
 
 -- ---- a command was run
@@ -56,9 +56,14 @@ returns-in-Ok-clause-audit g c is =
     c.in-Ok.ensures.value c.run_command.ensures.does is
 
 pub returns-in-Ok-clause-companion : goal.returns-in-Ok-clause-companion
-returns-in-Ok-clause-companion g c asked is =
-    does_so (map string_bytes c.args.words.now) (asked_of c.in-Ok.command) (Ok (Companion asked)) _ _ _ _ _ _
-    c.in-Ok.ensures.value c.run_command.ensures.does is
+returns-in-Ok-clause-companion g c asked is none =
+    does_companion (map string_bytes c.args.words.now) (asked_of c.in-Ok.command) asked _ _ _ _ _ _
+    c.in-Ok.ensures.value c.run_command.ensures.does is none
+
+pub returns-in-Ok-clause-record_companion : goal.returns-in-Ok-clause-record_companion
+returns-in-Ok-clause-record_companion g c asked is recorded =
+    does_record (map string_bytes c.args.words.now) (asked_of c.in-Ok.command) asked _ _ _ _ _ _
+    c.in-Ok.ensures.value c.run_command.ensures.does is recorded
 
 pub returns-in-Ok-clause-tv : goal.returns-in-Ok-clause-tv
 returns-in-Ok-clause-tv g c asked is =
@@ -106,7 +111,12 @@ returns-in-Err-Usage-clause-audit g c is =
     c.in-Err-Usage.ensures.value in cc)
 
 pub returns-in-Err-Usage-clause-companion : goal.returns-in-Err-Usage-clause-companion
-returns-in-Err-Usage-clause-companion g c asked is =
+returns-in-Err-Usage-clause-companion g c asked is plain =
+    absurd (let none = usage_of (map string_bytes c.args.words.now) _ c.in-Err-Usage.field-0-is
+    c.in-Err-Usage.ensures.value in cc)
+
+pub returns-in-Err-Usage-clause-record_companion : goal.returns-in-Err-Usage-clause-record_companion
+returns-in-Err-Usage-clause-record_companion g c asked is recorded =
     absurd (let none = usage_of (map string_bytes c.args.words.now) _ c.in-Err-Usage.field-0-is
     c.in-Err-Usage.ensures.value in cc)
 
@@ -165,13 +175,18 @@ returns-in-Err-Memory-clause-audit g c is =
     (g.O.Outside.counts c.args.outside.now).faults (g.P.Spawner.faults c.args.spawner.now)
 
 pub returns-in-Err-Memory-clause-companion : goal.returns-in-Err-Memory-clause-companion
-returns-in-Err-Memory-clause-companion g c asked is =
-    lacks (Ok (Companion asked)) (g.S.Source.left c.args.source.now) (g.K.Sink.holds c.args.sink.now)
-    (g.O.Outside.told c.args.outside.now)
-    (children (g.P.Spawner.told c.args.spawner.now) (g.P.Spawner.running c.args.spawner.now))
-    (g.F.Listens.takes c.args.followers.now) (g.F.Listens.heard c.args.followers.now)
-    (g.S.Source.faults c.args.source.now) (g.K.Sink.faults c.args.sink.now)
-    (g.O.Outside.counts c.args.outside.now).faults (g.P.Spawner.faults c.args.spawner.now)
+returns-in-Err-Memory-clause-companion g c asked is plain =
+    companion_lacks false asked (g.S.Source.left c.args.source.now) (g.K.Sink.holds c.args.sink.now)
+    (g.O.Outside.told c.args.outside.now) (g.F.Listens.takes c.args.followers.now)
+    (g.F.Listens.heard c.args.followers.now) (g.S.Source.faults c.args.source.now)
+    (g.K.Sink.faults c.args.sink.now) (g.O.Outside.counts c.args.outside.now).faults
+
+pub returns-in-Err-Memory-clause-record_companion : goal.returns-in-Err-Memory-clause-record_companion
+returns-in-Err-Memory-clause-record_companion g c asked is recorded =
+    companion_lacks true asked (g.S.Source.left c.args.source.now) (g.K.Sink.holds c.args.sink.now)
+    (g.O.Outside.told c.args.outside.now) (g.F.Listens.takes c.args.followers.now)
+    (g.F.Listens.heard c.args.followers.now) (g.S.Source.faults c.args.source.now)
+    (g.K.Sink.faults c.args.sink.now) (g.O.Outside.counts c.args.outside.now).faults
 
 pub returns-in-Err-Memory-clause-tv : goal.returns-in-Err-Memory-clause-tv
 returns-in-Err-Memory-clause-tv g c asked is =

@@ -2,7 +2,7 @@ use Rattle.css_words.specs.Companion.{companion_of}
 use Rattle.css_app.specs.Devices.{source_use}
 use Rattle.css_app.proofs.Commands.{companions_by, ends_as_asked}
 use Rattle.css_app.proofs.Quiet.{companions_no_child}
-use Rattle.css_app.proofs.by_words.companion_by.Goals as goal
+use Rattle.css_app.proofs.by_words.follow_by.Goals as goal
 
 pub returns-clause-does : goal.returns-clause-does
 returns-clause-does g c = record {

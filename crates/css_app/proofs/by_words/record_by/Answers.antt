@@ -1,0 +1,11 @@
+use Rattle.std.proofs.Common.{inr}
+use Rattle.css_app.proofs.Commands.{ends_as_asked}
+use Rattle.css_app.proofs.by_words.record_by.Goals as goal
+
+pub returns-clause-does : goal.returns-clause-does
+returns-clause-does g c = record {
+  ran = inr (c.run_of-run.result, c.run_of-run.ensures.asked, c.record_companion.ensures.makes);
+  complete = λ wrote called.
+      ends_as_asked _ _ c.run_of-run.result _ _ _ c.run_of-run.ensures.asked
+      (c.record_companion.ensures.complete wrote called);
+}
