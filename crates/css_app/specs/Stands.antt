@@ -35,12 +35,12 @@ refused_fault refused.Memory = faults.Memory
 
 -- ---- how far it has read
 -- the lines of a version with so many companions
-abbrev pub format : ℕ → ℕ → Format
-format version companions = record { version = version; companions = companions }
+abbrev pub format_of : ℕ → ℕ → Format
+format_of version companions = record { version = version; companions = companions }
 
 -- Nothing was read yet. Line 1 counts as one of version 1, which has one companion.
 pub record IsNew (replay : Replay) : Type 0 where
-  pub format : replay.format ≡ format 1 1
+  pub format : replay.format ≡ format_of 1 1
   pub header : replay.header ≡ None
   pub world : replay.world ≡ None
 
@@ -53,16 +53,16 @@ pub record IsPart (format : Format) (header : Header) : Type 0 where
 
 -- There is such a header, and so many companions in all.
 pub record IsOpening (replay : Replay) (header : Header) (count : ℕ) : Type 0 where
-  pub count : replay.format.companions ≡ count
-  pub header : replay.header ≡ Some header
+  pub companions : replay.format.companions ≡ count
+  pub kept : replay.header ≡ Some header
   pub part : IsPart replay.format header
   pub world : replay.world ≡ None
 
 -- The header is whole, and its world stands for the lines after it.
 pub record IsRunning (replay : Replay) (header : Header) (version : ℕ) (lines : List Numbered) : Type 0 where
-  pub format : replay.format ≡ format version (length header.companions)
+  pub format : replay.format ≡ format_of version (length header.companions)
   pub known : IsVersion version
-  pub count : FitsFirst (version == 1) (length header.companions)
+  pub fits : FitsFirst (version == 1) (length header.companions)
   pub world : World
   pub is : replay.world ≡ Some world
   pub same : world.header ≡ header
@@ -81,9 +81,10 @@ pub record Stands (replay : Replay) (texts : List (List ℕ)) : Type 0 where
   pub at : IsAt replay (reached texts)
 
 -- ---- calls
--- a world was opened that stands for no lines, or memory ran out
-abbrev pub Opens : Header → Result World (LineFault Cause) → Type 0
-Opens header result = MatchResult result (λ world. (world.header ≡ header) × worlds.StandsFor world [])
+-- the world of a header was opened, which stands for no lines, or memory ran out
+abbrev pub Starts : Replay → Header → Result (Unit {0}) (LineFault Cause) → Type 0
+Starts replay header result = MatchResult result
+    (λ _. (world : World) × (replay.world ≡ Some world) × (world.header ≡ header) × worlds.StandsFor world [])
     (λ fault. fault ≡ faults.Memory)
 
 -- the header has one companion more, or it was told why a text declares none

@@ -6,7 +6,7 @@ ghost use Rattle.css_schedule.specs.Headers.{max_companions};
 ghost use Rattle.css_world.specs.Happened.{Numbered};
 ghost use Rattle.css_world.specs.Standing as worlds;
 ghost use Rattle.css_app.specs.Replayed.{read_meant, with_line, Outset, Opening};
-ghost use Rattle.css_app.specs.Stands.{Declares, Opens, ReadsOn, IsNew, IsPart, refused_fault, unread_fault};
+ghost use Rattle.css_app.specs.Stands.{Declares, Starts, ReadsOn, IsNew, IsPart, refused_fault, unread_fault};
 
 use css_lines::{LineFault, Lines};
 use css_schedule::{Header, PlayerFault, Start, read_companion, read_header, read_line};
@@ -28,7 +28,7 @@ pub enum Cause {
 
 /// Which lines a schedule has: those of version 1 or 2, with so many companions.
 #[derive(Clone, Copy)]
-pub struct Format {
+struct Format {
     version: u32,
     companions: u32,
 }
@@ -64,6 +64,33 @@ const SECOND_LINE: usize = 4352;
 
 const SECOND_INPUT: u64 = 134_217_728;
 
+impl Format {
+    ghost use Rattle.std.specs.Prelude.{◌≡◌};
+    ghost use Rattle.css_app.specs.Replayed as replayed;
+
+    // The greatest number of bytes of a line.
+    fn longest_line(&self) -> usize
+        ensures { result ≡ replayed.longest_line self.now.version }
+    {
+        if self.version == 1 {
+            FIRST_LINE
+        } else {
+            SECOND_LINE
+        }
+    }
+
+    // The greatest number of bytes of a schedule.
+    fn longest_input(&self) -> u64
+        ensures { result ≡ replayed.longest_input self.now.version }
+    {
+        if self.version == 1 {
+            FIRST_INPUT
+        } else {
+            SECOND_INPUT
+        }
+    }
+}
+
 // What the engine is told of a line that was not read.
 fn unread(fault: css_schedule::LineFault) -> LineFault<Cause>
     ensures { result ≡ unread_fault fault }
@@ -85,17 +112,6 @@ fn refused(fault: WorldFault) -> LineFault<Cause>
         WorldFault::Absent => LineFault::Refused(Cause::Absent),
         WorldFault::Player(fault) => LineFault::Refused(Cause::Player(fault)),
         WorldFault::Memory => LineFault::Memory,
-    }
-}
-
-// Opens the world of a whole header.
-fn open_world(alloc: Global, header: Header) -> Result<World, LineFault<Cause>>
-    requires { IsHeader header × IsCount (length header.companions) }
-    ensures { Opens header result }
-{
-    match World::new(alloc, header) {
-        Ok(world) => Ok(world),
-        Err(_) => Err(LineFault::Memory),
     }
 }
 
@@ -165,6 +181,21 @@ impl Replay {
         }
     }
 
+    // Opens the world of a whole header.
+    fn start(&mut self, header: Header) -> Result<(), LineFault<Cause>>
+        requires { IsHeader header × IsCount (length header.companions) }
+        ensures starts { Starts self.new header result }
+        ensures rest { (self.new.format ≡ self.old.format) × (self.new.last ≡ self.old.last) }
+    {
+        match World::new(self.alloc, header) {
+            Ok(world) => {
+                self.world = Some(world);
+                Ok(())
+            }
+            Err(_) => Err(LineFault::Memory),
+        }
+    }
+
     // Reads line 1.
     fn begin(&mut self, text: &[u8]) -> Result<(), LineFault<Cause>>
         requires { IsNew self.old }
@@ -172,19 +203,17 @@ impl Replay {
         ensures last { self.new.last ≡ self.old.last }
     {
         match read_header(self.alloc, text) {
-            Ok(Start::One(header)) => {
-                self.world = Some(open_world(self.alloc, header)?);
-            }
+            Ok(Start::One(header)) => self.start(header),
             Ok(Start::Two { header, companions }) => {
                 self.format = Format {
                     version: 2,
                     companions,
                 };
                 self.header = Some(header);
+                Ok(())
             }
-            Err(fault) => return Err(unread(fault)),
+            Err(fault) => Err(unread(fault)),
         }
-        Ok(())
     }
 
     // Reads the line of the next companion. With the last one the header is whole.
@@ -196,10 +225,9 @@ impl Replay {
     {
         declare(self.alloc, &mut header, text)?;
         if header.companions.list().len() as u32 == self.format.companions {
-            self.world = Some(open_world(self.alloc, header)?);
-        } else {
-            self.header = Some(header);
+            return self.start(header);
         }
+        self.header = Some(header);
         Ok(())
     }
 
@@ -232,19 +260,11 @@ impl Lines for Replay {
     ghost stands = { Stands };
 
     fn longest_line(&self) -> usize {
-        if self.format.version == 1 {
-            FIRST_LINE
-        } else {
-            SECOND_LINE
-        }
+        self.format.longest_line()
     }
 
     fn longest_input(&self) -> u64 {
-        if self.format.version == 1 {
-            FIRST_INPUT
-        } else {
-            SECOND_INPUT
-        }
+        self.format.longest_input()
     }
 
     fn line(
