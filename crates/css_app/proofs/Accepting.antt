@@ -1,16 +1,18 @@
 -- Each generated line is accepted after those before it.
 use Rattle.std.proofs.Common.{◌≡◌, ℕ, suc, zero, ◌+◌, ◌-◌, ◌≤◌, arith, ap, sym, subst, ◌∙◌, refl}
-use Rattle.std.proofs.Common.{Bool, cond, List, [], ◌∷◌}
-use Rattle.std.specs.Prelude.{map, Result, Ok}
+use Rattle.std.proofs.Common.{Bool, false, cond, List, [], ◌∷◌}
+use Rattle.std.specs.Prelude.{map, slice_get, unwrap_or, Result, Ok}
+use Rattle.std.specs.Option.{option_map}
 use Rattle.std.specs.Result.{result_and}
 use Rattle.std.proofs.lemmas.Bool.{le-ltb}
 use Rattle.std.proofs.lemmas.Int.{ints}
 use Rattle.std.proofs.lemmas.List.Elements.{All-nil, All-cons}
 use Rattle.css_model.specs.Numbers.{precision_ns}
+use Rattle.css_model.specs.WallClock.{IsLocal}
 use Rattle.css_schedule.specs.Ranges.{IsLine, IsCompanion}
 use Rattle.css_schedule.specs.declared.line.Line.{Line}
 use Rattle.css_world.specs.declared.fault.WorldFault.{WorldFault}
-use Rattle.css_world.specs.Clocks.{Seen, clock_verdict, last_reading, reading_verdict}
+use Rattle.css_world.specs.Clocks.{Seen, clock_verdict, last_reading, has_woken, reading_verdict}
 use Rattle.css_world.specs.Happened.{Numbered}
 use Rattle.css_world.specs.Verdicts.{IsDeclared, tv_seen, own_seen, seen_of_tv, seen_of, tv_reading, own_reading}
 use Rattle.css_world.specs.Verdicts.{shown_tested, reading_tested, tested, carried_out, line_meant}
@@ -26,7 +28,7 @@ use Rattle.css_gen.proofs.Clocks.{clock-start, clock-goes_on}
 use Rattle.css_gen.proofs.Ranges.{next-range, opening-range, pts-utf8, stem-utf8}
 use Rattle.css_app.proofs.Watched.{IsSeen, AreSeen, clock-ok, seen_next, reading-ok, both-ok}
 use Rattle.css_app.proofs.Exchanged.{AreExchanged, at}
-use Rattle.css_app.proofs.Openings.{to_9, opening-accepted, opening-exchanged, opening-tv, opening-own}
+use Rattle.css_app.proofs.Openings.{to_9, of-one, opening-accepted, opening-exchanged, opening-tv, opening-own}
 use Rattle.css_app.proofs.Stepped.{IsBefore, happening-step}
 
 -- the opening, and so many lines after it
@@ -79,19 +81,22 @@ shown-ok course number lines now h who time tv own =
 
 -- so does a reading of one of them
 readings-ok : (course : Course) (number : ℕ) (lines : List Numbered) (now : Numbered) → Holds course number lines
-    → now.line.who ≡ 1 → course.time ≤ now.line.t
+    → now.line.who ≡ 1 → course.time + 30000 ≤ now.line.t
     → IsSeen course.tv_fast now.line.t (tv_seen now) → IsSeen course.own_fast now.line.t (own_seen now)
     → reading_tested header lines now ≡ Ok tt
 readings-ok course number lines now h who time tv own =
     let precision = precision_ns header.tv_precision in
+    let seen = map own_seen lines in
     let own_reads : List Seen → Result (Unit {0}) WorldFault =
-    λ s. reading_verdict now.number 1000 now.line.l (last_reading s) (own_reading now.line.verb) in
+    λ s. reading_verdict now.number 1000 now.line.l (has_woken s) (last_reading s) (own_reading now.line.verb) in
     let own_ok : own_reads (seen_of 1 lines) ≡ Ok tt =
     ap own_reads h.alone
-    ∙ reading-ok course.own_fast course.time number (map own_seen lines) (own_seen now) 1000 h.own time own in
-    let tv_ok = reading-ok course.tv_fast course.time number (seen_of_tv lines) (tv_seen now) precision h.tv time tv in
+    ∙ reading-ok course.own_fast course.time number seen (own_seen now) 1000 (has_woken seen) h.own time own in
+    let tv_ok =
+    reading-ok course.tv_fast course.time number (seen_of_tv lines) (tv_seen now) precision false h.tv time tv in
     rw who (both-ok
-    (reading_verdict now.number precision now.line.w (last_reading (seen_of_tv lines)) (tv_reading now.line.verb))
+    (reading_verdict now.number precision now.line.w false (last_reading (seen_of_tv lines))
+    (tv_reading now.line.verb))
     (own_reads (seen_of 1 lines)) tv_ok own_ok)
 
 -- what was seen of a clock, by other names for the same numbers
@@ -112,14 +117,15 @@ step-holds course number lines range h =
       later = clock-goes_on course.tv_fast course.time (later course).time (omega arith);
     } in
     let step = happening-step lines number (tv_clock course) (later course) before in
-    let time : course.time ≤ now.line.t = omega arith in
+    let later : course.time + 30000 ≤ now.line.t = omega arith in
+    let time : course.time ≤ now.line.t = omega (arith, later) in
     let tv : IsSeen course.tv_fast now.line.t (tv_seen now) =
     record { before = omega arith; shows = refl; reads = step.tv_reads } in
     let own : IsSeen course.own_fast now.line.t (own_seen now) =
     record { before = omega arith; shows = refl; reads = step.own_reads } in
     let passes : tested header lines now ≡ Ok tt =
     both-ok (shown_tested header lines now) (reading_tested header lines now)
-    (shown-ok course number lines now h refl time tv own) (readings-ok course number lines now h refl time tv own) in
+    (shown-ok course number lines now h refl time tv own) (readings-ok course number lines now h refl later tv own) in
     let meant : line_meant header lines now ≡ Ok step.done.printed =
     ap (λ (r : Result (Unit {0}) WorldFault). result_and r (carried_out header lines now)) passes ∙ step.done.carried in
     let shown : tv_clock (next_course course) ≡ tv_clock (later course) =
@@ -127,7 +133,13 @@ step-holds course number lines range h =
     ∙ ap (clock (later course).tv_fast) step.time in
     let next = next_course course in
     record {
-      accepted = (range, refl, h.last, (step.done.printed, meant), h.accepted);
+      accepted = (
+        range,
+        of-one now.line.t now.line.w now.line.l now.line.verb,
+        h.last,
+        (step.done.printed, meant),
+        h.accepted,
+      );
       tv = seen-same course.tv_fast next.tv_fast now.line.t next.time (number + 1) (number + 1)
           (seen_of_tv (now ∷ lines)) step.tv_fast step.time refl
           (seen_next course.tv_fast course.time number (seen_of_tv lines) (tv_seen now) h.tv time refl tv);
@@ -191,6 +203,12 @@ front-accepted seed count (suc more) h =
     subst (λ n. AreAccepted header (generated seed n)) same h in
     front-accepted seed count more longer.4
 
+-- the clock of the one companion is in range, and so is that of a number that none has
+local-ok : (place : ℕ) → IsLocal (unwrap_or (option_map (λ c. c.local) (slice_get header.companions place))
+    (record { error = 0; precision = 0 }))
+local-ok zero = record { error = omega arith; precision = omega arith }
+local-ok (suc place) = record { error = omega arith; precision = omega arith }
+
 header-declared : IsDeclared header
 header-declared = record {
   tv = record {
@@ -199,8 +217,9 @@ header-declared = record {
     companions = All-cons IsCompanion companion [] (record { selector = pts-utf8; stem = stem-utf8 })
         (All-nil IsCompanion);
   };
+  companions = record { low = omega arith; high = omega arith };
   exponent = record { sfits = omega (arith, ints) };
-  local = record { error = omega arith; precision = omega arith };
+  local = λ who. local-ok (who - 1);
 }
 
 pub generated_accepted : GeneratedLinesAreAccepted

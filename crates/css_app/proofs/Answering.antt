@@ -4,17 +4,18 @@ use Rattle.std.specs.Prelude.{Result, Ok, Err}
 use Rattle.css_lines.specs.Answers.{MayFault, Answers}
 use Rattle.css_lines.specs.declared.reader.LineFault as engine
 use Rattle.css_schedule.specs.declared.fault.LineFault.{LineFault}
+use Rattle.css_schedule.specs.declared.fault.LineFault.TheVariants as unreads
 use Rattle.css_schedule.specs.declared.header.Header.{Header}
 use Rattle.css_schedule.specs.declared.line.Line.{Line}
-use Rattle.css_schedule.specs.Lines.{line_of}
 use Rattle.css_world.specs.Happened.{Numbered}
 use Rattle.css_world.specs.Verdicts.{line_meant}
 use Rattle.css_app.specs.declared.replay.Cause.{Cause}
+use Rattle.css_app.specs.declared.replay.Cause.TheVariants as causes
 use Rattle.css_world.specs.declared.fault.WorldFault.{WorldFault}
 use Rattle.css_world.specs.declared.fault.WorldFault.TheVariants.{Broken, Absent, Player, Memory}
 use Rattle.css_world.specs.Standing.{appended}
 use Rattle.css_app.specs.Replayed.{caused, read_meant}
-use Rattle.css_app.specs.Stands.{refused_fault}
+use Rattle.css_app.specs.Stands.{unread_fault, refused_fault}
 
 -- what was added is what is meant
 pub added : (meant : Result (List ℕ) WorldFault) (old new : List ℕ) → appended old meant ≡ Ok new
@@ -41,24 +42,25 @@ faulted meant old (Player fault) (inr e) = absurd (cc)
 faulted meant old Memory h = tt
 
 -- a line that was carried out answers what is meant
-pub answers-ok : (header : Header) (lines : List Numbered) (number : ℕ) (text : List ℕ) (line : Line) (old new : List ℕ)
-    → line_of text ≡ Ok line
+pub answers-ok : (header : Header) (lines : List Numbered) (number : ℕ) (read : Result Line LineFault) (line : Line)
+    (old new : List ℕ)
+    → read ≡ Ok line
     → appended old (line_meant header lines (record { number = number; line = line })) ≡ Ok new
-    → Answers {T = Unit {0}} (read_meant header lines number (line_of text)) old new (Ok tt)
-answers-ok header lines number text line old new is e =
+    → Answers {T = Unit {0}} (read_meant header lines number read) old new (Ok tt)
+answers-ok header lines number read line old new is e =
     subst (λ (r : Result Line LineFault). Answers {T = Unit {0}} (read_meant header lines number r) old new (Ok tt))
     (sym is)
     (record { cases = added (line_meant header lines (record { number = number; line = line })) old new e })
 
 -- and so does one that was refused
-pub answers-err : (header : Header) (lines : List Numbered) (number : ℕ) (text : List ℕ) (line : Line)
+pub answers-err : (header : Header) (lines : List Numbered) (number : ℕ) (read : Result Line LineFault) (line : Line)
     (old new : List ℕ) (fault : WorldFault) (told : engine.LineFault Cause)
-    → line_of text ≡ Ok line → told ≡ refused_fault fault
+    → read ≡ Ok line → told ≡ refused_fault fault
     → (new ≡ old)
     × ((appended old (line_meant header lines (record { number = number; line = line })) ≡ Err fault)
     ⊎ (fault ≡ Memory))
-    → Answers {T = Unit {0}} (read_meant header lines number (line_of text)) old new (Err told)
-answers-err header lines number text line old new fault told is same e =
+    → Answers {T = Unit {0}} (read_meant header lines number read) old new (Err told)
+answers-err header lines number read line old new fault told is same e =
     subst (λ (r : Result Line LineFault). Answers {T = Unit {0}} (read_meant header lines number r) old new (Err told))
     (sym is)
     (record {
@@ -69,3 +71,29 @@ answers-err header lines number text line old new fault told is same e =
         e.0,
       );
     })
+
+-- ---- what is not read
+-- what is said of anything that is not read
+pub unread-fault : {T : Type 0} (read : Result T LineFault) (meant : Result (List ℕ) Cause) (fault : LineFault)
+    (told : engine.LineFault Cause)
+    → (read ≡ Err unreads.Form → meant ≡ Err causes.Form) → (read ≡ Err fault) ⊎ (fault ≡ unreads.Memory)
+    → told ≡ unread_fault fault → MayFault meant told
+unread-fault read meant fault told forms is same =
+    subst (MayFault meant) (sym same) (by fault is)
+  where
+    by : (f : LineFault) → (read ≡ Err f) ⊎ (f ≡ unreads.Memory) → MayFault meant (unread_fault f)
+    by unreads.Form (inl e) = forms e
+    by unreads.Form (inr e) = absurd (cc)
+    by unreads.Memory e = tt
+
+-- a line that is not read answers that
+pub answers-unread : (header : Header) (lines : List Numbered) (number : ℕ) (read : Result Line LineFault)
+    (old : List ℕ) (fault : LineFault) (told : engine.LineFault Cause)
+    → (read ≡ Err fault) ⊎ (fault ≡ unreads.Memory) → told ≡ unread_fault fault
+    → Answers {T = Unit {0}} (read_meant header lines number read) old old (Err told)
+answers-unread header lines number read old fault told is same = record {
+  cases = (
+    unread-fault read (read_meant header lines number read) fault told (ap (read_meant header lines number)) is same,
+    refl,
+  );
+}

@@ -1,7 +1,8 @@
 -- What a generated line names is there: its request was sent, its take waits for an answer, its datagram was made.
 use Rattle.std.proofs.Common.{◌≡◌, ℕ, suc, ◌+◌, ◌*◌, ◌<◌, ◌≤◌, arith, ap, sym, subst, ◌∙◌, refl}
 use Rattle.std.proofs.Common.{Bool, true, false, cond, List, [], ◌∷◌, ◌++◌, length}
-use Rattle.std.specs.Prelude.{Option, Some, None, IfSome, is_some, Ok, Err, All, ◌==◌, ◌&&◌, ◌||◌, not, Result}
+use Rattle.std.specs.Prelude.{Option, Some, None, IfSome, is_some, unwrap_or, map, Ok, Err, All, ◌==◌, ◌&&◌, ◌||◌, not}
+use Rattle.std.specs.Prelude.{Result}
 use Rattle.std.specs.Option.{option_map, option_to_list}
 use Rattle.std.proofs.lemmas.Bool.{ne_eqb, eqb-false, lt-ltb}
 use Rattle.std.proofs.lemmas.List.Elements.{All-nil, All-cons, All-head, All-tail, All-weaker}
@@ -13,8 +14,9 @@ use Rattle.css_schedule.specs.declared.line.Verb.TheVariants.{Ask, Take, Give, L
 use Rattle.css_world.specs.declared.fault.WorldFault.{WorldFault}
 use Rattle.css_world.specs.declared.fault.WorldFault.TheVariants.{Absent}
 use Rattle.css_world.specs.Numbering.{numbered}
-use Rattle.css_world.specs.Happened.{Numbered, requests, tickets, ticket_at, datagrams, server_of, answers_to, is_given}
-use Rattle.css_world.specs.Verdicts.{carried_out, printed_for}
+use Rattle.css_world.specs.Happened.{Numbered, requests, askers, tickets, ticket_at, taken_for, made_for, server_of}
+use Rattle.css_world.specs.Happened.{answers_to, is_given}
+use Rattle.css_world.specs.Verdicts.{is_for, carried_out, printed_for}
 use Rattle.css_gen.specs.Opening.{header}
 
 -- ---- items by number
@@ -83,15 +85,24 @@ greater-by reading None h = refl
 greater-by reading (Some g) h = lt-ltb g reading h
 
 -- ---- what lines exchanged
+-- the one companion
+abbrev pub IsOne : ℕ → Type 0
+IsOne who = who ≡ 1
+
 -- So many requests were sent, and so many of them received. The first ones of these were answered, each with two
--- datagrams. No take had a greater reading than this one.
+-- datagrams. No take had a greater reading than this one. All of it is of companion 1.
 pub record AreExchanged (asked taken given shown : ℕ) (lines : List Numbered) : Type 0 where
   pub requests : length (requests lines) ≡ asked
+  pub askers : length (askers lines) ≡ asked
+  pub ask_ones : All IsOne (askers lines)
   pub takes : length (tickets header lines) ≡ taken
   pub tickets : All (IsTicket shown) (tickets header lines)
+  pub taken_for : length (taken_for lines) ≡ taken
+  pub take_ones : All IsOne (taken_for lines)
   pub answers : given ≤ taken
   pub none_ahead : (take : ℕ) → given < take → is_given take lines ≡ false
-  pub datagrams : length (datagrams header lines) ≡ 2 * given
+  pub made_for : length (made_for header lines) ≡ 2 * given
+  pub made_ones : All IsOne (made_for header lines)
 
 -- a line with these numbers
 abbrev pub at : (number t w l : ℕ) → Verb → Numbered
@@ -111,11 +122,16 @@ ask-done asked taken given shown number t w l reading lines h later = record {
   carried = refl;
   after = record {
     requests = omega (arith, h.requests);
+    askers = omega (arith, h.askers);
+    ask_ones = All-cons IsOne 1 (askers lines) refl h.ask_ones;
     takes = h.takes;
     tickets = tickets-later shown w (omega (arith, later)) (tickets header lines) h.tickets;
+    taken_for = h.taken_for;
+    take_ones = h.take_ones;
     answers = h.answers;
     none_ahead = h.none_ahead;
-    datagrams = h.datagrams;
+    made_for = h.made_for;
+    made_ones = h.made_ones;
   };
 }
 
@@ -127,11 +143,16 @@ print-done asked taken given shown number t w l reading lines h later = record {
   carried = refl;
   after = record {
     requests = h.requests;
+    askers = h.askers;
+    ask_ones = h.ask_ones;
     takes = h.takes;
     tickets = tickets-later shown w (omega (arith, later)) (tickets header lines) h.tickets;
+    taken_for = h.taken_for;
+    take_ones = h.take_ones;
     answers = h.answers;
     none_ahead = h.none_ahead;
-    datagrams = h.datagrams;
+    made_for = h.made_for;
+    made_ones = h.made_ones;
   };
 }
 
@@ -147,18 +168,23 @@ pub land-done : (asked taken given shown number t w l datagram reading : ℕ) (l
     → AreExchanged asked taken given shown lines → shown < w → 1 ≤ datagram → datagram ≤ 2 * given
     → IsDone asked taken given w lines (at number t w l (Land datagram reading))
 land-done asked taken given shown number t w l datagram reading lines h later low high =
-    let there = item-there {A = Message} Any datagram (datagrams header lines) low
-    (omega (arith, high, h.datagrams)) (all-any (datagrams header lines)) in
+    let there = item-there IsOne datagram (made_for header lines) low (omega (arith, high, h.made_for)) h.made_ones in
+    let meant : Bool → Result (List ℕ) WorldFault = λ b. cond (b && true) (Ok []) (Err Absent) in
     record {
       printed = [];
-      carried = ap (λ (o : Option Message). cond (is_some o && true) (Ok []) (Err Absent)) there.is;
+      carried = ap (λ (o : Option ℕ). meant (is_for 1 o)) there.is ∙ ap (λ (n : ℕ). meant (n == 1)) there.holds;
       after = record {
         requests = h.requests;
+        askers = h.askers;
+        ask_ones = h.ask_ones;
         takes = h.takes;
         tickets = tickets-later shown w (omega (arith, later)) (tickets header lines) h.tickets;
+        taken_for = h.taken_for;
+        take_ones = h.take_ones;
         answers = h.answers;
         none_ahead = h.none_ahead;
-        datagrams = h.datagrams;
+        made_for = h.made_for;
+        made_ones = h.made_ones;
       };
     }
 
@@ -167,16 +193,23 @@ abbrev with_take : List Numbered → ℕ → Option ℕ → List Ticket
 with_take lines reading asked =
     option_to_list (option_map (ticket_at header (tickets header lines) reading) asked) ++ tickets header lines
 
+-- and the companions whose requests were received
+abbrev with_asker : List Numbered → Option ℕ → List ℕ
+with_asker lines asker = option_to_list asker ++ taken_for lines
+
 pub take-done : (asked taken given shown number t w l request : ℕ) (lines : List Numbered)
     → AreExchanged asked taken given shown lines → shown < w → 1 ≤ request → request ≤ asked
     → IsDone asked (taken + 1) given w lines (at number t w l (Take request w))
 take-done asked taken given shown number t w l request lines h later low high =
     let there = item-there {A = ℕ} Any request (requests lines) low
     (omega (arith, high, h.requests)) (all-any (requests lines)) in
+    let asker = item-there IsOne request (askers lines) low (omega (arith, high, h.askers)) h.ask_ones in
     let all = tickets-later shown w (omega (arith, later)) (tickets header lines) h.tickets in
     let new : Ticket = ticket_at header (tickets header lines) w there.item in
     let is : with_take lines w (numbered request (requests lines)) ≡ new ∷ tickets header lines =
     ap (with_take lines w) there.is in
+    let whose : with_asker lines (numbered request (askers lines)) ≡ asker.item ∷ taken_for lines =
+    ap (with_asker lines) asker.is in
     let this : IsTicket w new = record {
       before = omega arith;
       follows = greater-by w (greatest_reading (tickets header lines))
@@ -187,26 +220,33 @@ take-done asked taken given shown number t w l request lines h later low high =
       carried = ap (λ (o : Option ℕ). cond (is_some o && true) (Ok []) (Err Absent)) there.is;
       after = record {
         requests = h.requests;
+        askers = h.askers;
+        ask_ones = h.ask_ones;
         takes = ap (λ (ts : List Ticket). length ts) is ∙ omega (arith, h.takes);
         tickets = subst (All (IsTicket w)) (sym is) (All-cons (IsTicket w) new (tickets header lines) this all);
+        taken_for = ap (λ (ws : List ℕ). length ws) whose ∙ omega (arith, h.taken_for);
+        take_ones = subst (All IsOne) (sym whose) (All-cons IsOne asker.item (taken_for lines) asker.holds h.take_ones);
         answers = omega (arith, h.answers);
         none_ahead = h.none_ahead;
-        datagrams = h.datagrams;
+        made_for = h.made_for;
+        made_ones = h.made_ones;
       };
     }
 
--- the datagrams after an answer
-abbrev with_answer : List Numbered → ℕ → Option Ticket → List Message
-with_answer lines reading ticket = answers_to (server_of header) reading ticket ++ datagrams header lines
+-- the companions that datagrams are for, after an answer
+abbrev with_answer : List Numbered → ℕ → Option Ticket → Option ℕ → List ℕ
+with_answer lines reading ticket owner =
+    map (λ (message : Message). unwrap_or owner 0) (answers_to (server_of header) reading ticket)
+    ++ made_for header lines
 
--- an answer to a ticket that promises a follow-up is two datagrams
-answer-two : (lines : List Numbered) (reading : ℕ) (ticket : Ticket) → ticket.follow_up ≡ true
-    → length (with_answer lines reading (Some ticket)) ≡ length (datagrams header lines) + 2
-answer-two lines reading ticket follows =
+-- an answer to a ticket that promises a follow-up is two datagrams, both for its companion
+answer-two : (lines : List Numbered) (reading : ℕ) (ticket : Ticket) (owner : ℕ) → ticket.follow_up ≡ true
+    → with_answer lines reading (Some ticket) (Some owner) ≡ owner ∷ (owner ∷ made_for header lines)
+answer-two lines reading ticket owner follows =
     let answer : Bool → List Message = λ b. option_to_list
     (cond b (Some (follow_up_to (server_of header) ticket reading)) None)
     ++ response_to (server_of header) ticket reading ∷ [] in
-    ap (λ b. length (answer b ++ datagrams header lines)) follows ∙ omega arith
+    ap (λ b. map (λ (message : Message). owner) (answer b) ++ made_for header lines) follows
 
 pub give-done : (asked taken given shown number t w l : ℕ) (lines : List Numbered)
     → AreExchanged asked taken given shown lines → shown < w → given < taken
@@ -214,9 +254,14 @@ pub give-done : (asked taken given shown number t w l : ℕ) (lines : List Numbe
 give-done asked taken given shown number t w l lines h later high =
     let there = item-there (IsTicket shown) (given + 1) (tickets header lines) (omega arith)
     (omega (arith, high, h.takes)) h.tickets in
+    let owner = item-there IsOne (given + 1) (taken_for lines) (omega arith) (omega (arith, high, h.taken_for))
+    h.take_ones in
     let meant : Bool → Result (List ℕ) WorldFault = λ b. cond b (Ok []) (Err Absent) in
-    let is : datagrams header (at number t w l (Give (given + 1) w) ∷ lines) ≡ with_answer lines w (Some there.item) =
-    ap (with_answer lines w) there.is in
+    let is : made_for header (at number t w l (Give (given + 1) w) ∷ lines)
+    ≡ owner.item ∷ (owner.item ∷ made_for header lines) =
+    ap (λ (o : Option Ticket). with_answer lines w o (numbered (given + 1) (taken_for lines))) there.is
+    ∙ ap (with_answer lines w (Some there.item)) owner.is
+    ∙ answer-two lines w there.item owner.item there.holds.follows in
     record {
       printed = [];
       carried =
@@ -224,13 +269,19 @@ give-done asked taken given shown number t w l lines h later high =
           ∙ ap (λ b. meant ((true && not b) && true)) (h.none_ahead (given + 1) (omega arith));
       after = record {
         requests = h.requests;
+        askers = h.askers;
+        ask_ones = h.ask_ones;
         takes = h.takes;
         tickets = tickets-later shown w (omega (arith, later)) (tickets header lines) h.tickets;
+        taken_for = h.taken_for;
+        take_ones = h.take_ones;
         answers = omega (arith, high);
         none_ahead = λ take ahead.
             ap (λ b. b || is_given take lines) (ne_eqb (given + 1) take (λ e. omega (arith, e, ahead)))
             ∙ h.none_ahead take (omega (arith, ahead));
-        datagrams = ap (λ (ms : List Message). length ms) is
-            ∙ answer-two lines w there.item there.holds.follows ∙ omega (arith, h.datagrams);
+        made_for = ap (λ (ws : List ℕ). length ws) is ∙ omega (arith, h.made_for);
+        made_ones = subst (All IsOne) (sym is)
+            (All-cons IsOne owner.item (owner.item ∷ made_for header lines) owner.holds
+            (All-cons IsOne owner.item (made_for header lines) owner.holds h.made_ones));
       };
     }

@@ -5,7 +5,8 @@ use Rattle.std.proofs.lemmas.List.Elements.{All-nil}
 use Rattle.css_tsmsg.specs.Setups.{IsUtf8Setup}
 use Rattle.css_tsmsg.specs.declared.setup.Setup.{Setup}
 use Rattle.css_tsmsg.proofs.ReadBack.{setup_reads}
-use Rattle.css_schedule.specs.Ranges.{IsLine}
+use Rattle.css_schedule.specs.Ranges.{IsLine, IsSecond}
+use Rattle.css_schedule.specs.declared.line.Verb.{Verb}
 use Rattle.css_world.specs.Happened.{Numbered}
 use Rattle.css_world.specs.Verdicts.{line_meant, seen_of_tv, own_seen, tv_seen}
 use Rattle.css_world.specs.Clocks.{Seen}
@@ -13,7 +14,7 @@ use Rattle.css_world.specs.Standing.{AreAccepted}
 use Rattle.css_gen.specs.Course.{clock}
 use Rattle.css_gen.specs.Opening.{pts, header, opening_line, opening_verb}
 use Rattle.css_gen.proofs.Clocks.{clock-start}
-use Rattle.css_app.proofs.Exchanged.{AreExchanged, IsTicket}
+use Rattle.css_app.proofs.Exchanged.{AreExchanged, IsTicket, IsOne}
 use Rattle.css_app.proofs.Watched.{IsSeen, AreSeen, seen_next}
 
 -- a line of the opening
@@ -83,17 +84,28 @@ meant-9 : IsUtf8Setup setup → line_meant header to_8 (line 9) ≡ Ok []
 unfolding opening_verb
 meant-9 utf8 = rw (setup_reads setup utf8) refl
 
+-- each line is of the one companion
+pub of-one : (t w l : ℕ) (verb : Verb) → IsSecond 1 (record { t = t; w = w; who = 1; l = l; verb = verb })
+of-one t w l verb = record {
+  who = omega arith;
+  own = λ own. omega arith;
+  none = λ zero. absurd (omega (arith, zero));
+}
+
+opening-of : (number : ℕ) → IsSecond 1 (opening_line number)
+opening-of number = of-one 0 1000000000 1000000000 (opening_verb number)
+
 -- so all of them are accepted
 pub opening-accepted : ((number : ℕ) → IsLine (opening_line number)) → IsUtf8Setup setup → AreAccepted header to_9
 opening-accepted range utf8 =
-    let a2 : AreAccepted header to_2 = (range 2, refl, tt, ([], meant-2), tt) in
-    let a3 : AreAccepted header to_3 = (range 3, refl, omega arith, ([], meant-3), a2) in
-    let a4 : AreAccepted header to_4 = (range 4, refl, omega arith, ([], meant-4), a3) in
-    let a5 : AreAccepted header to_5 = (range 5, refl, omega arith, ([], meant-5), a4) in
-    let a6 : AreAccepted header to_6 = (range 6, refl, omega arith, ([], meant-6), a5) in
-    let a7 : AreAccepted header to_7 = (range 7, refl, omega arith, ([], meant-7), a6) in
-    let a8 : AreAccepted header to_8 = (range 8, refl, omega arith, ([], meant-8), a7) in
-    (range 9, refl, omega arith, ([], meant-9 utf8), a8)
+    let a2 : AreAccepted header to_2 = (range 2, opening-of 2, tt, ([], meant-2), tt) in
+    let a3 : AreAccepted header to_3 = (range 3, opening-of 3, omega arith, ([], meant-3), a2) in
+    let a4 : AreAccepted header to_4 = (range 4, opening-of 4, omega arith, ([], meant-4), a3) in
+    let a5 : AreAccepted header to_5 = (range 5, opening-of 5, omega arith, ([], meant-5), a4) in
+    let a6 : AreAccepted header to_6 = (range 6, opening-of 6, omega arith, ([], meant-6), a5) in
+    let a7 : AreAccepted header to_7 = (range 7, opening-of 7, omega arith, ([], meant-7), a6) in
+    let a8 : AreAccepted header to_8 = (range 8, opening-of 8, omega arith, ([], meant-8), a7) in
+    (range 9, opening-of 9, omega arith, ([], meant-9 utf8), a8)
 
 -- ---- what the next line finds
 -- nothing was exchanged
@@ -101,11 +113,16 @@ pub opening-exchanged : AreExchanged 0 0 0 1000000000 to_9
 unfolding opening_verb
 opening-exchanged = record {
   requests = refl;
+  askers = refl;
+  ask_ones = All-nil IsOne;
   takes = refl;
   tickets = All-nil (IsTicket 1000000000);
+  taken_for = refl;
+  take_ones = All-nil IsOne;
   answers = omega arith;
   none_ahead = λ take ahead. refl;
-  datagrams = refl;
+  made_for = refl;
+  made_ones = All-nil IsOne;
 }
 
 -- both clocks show one second at true time 0

@@ -1,24 +1,28 @@
 -- What a replay prints keeps the promise.
-use Rattle.std.proofs.Common.{◌≡◌, ℕ, ◌+◌, ◌⊎◌, inl, inr, arith, ap, sym, subst, ◌∙◌, refl, Bool, true, false, cond}
-use Rattle.std.proofs.Common.{List, [], ◌∷◌, ◌++◌, length}
+use Rattle.std.proofs.Common.{◌≡◌, ℕ, ◌+◌, ◌-◌, ◌<◌, ◌≤◌, ◌==◌, ◌⊎◌, inl, inr, arith, ap, sym, subst, ◌∙◌, refl}
+use Rattle.std.proofs.Common.{Bool, true, false, cond, eqb, List, [], ◌∷◌, ◌++◌, length, get_or}
 use Rattle.std.specs.Int.{w8}
 use Rattle.std.specs.Prelude.{ℤ, pos, negsuc, ◌≤ℤ◌, FitsSigned, Option, Some, None, unwrap_or, slice_get, IfSome}
-use Rattle.std.specs.Prelude.{MatchOption, Result, Ok, Err}
+use Rattle.std.specs.Prelude.{All, MatchOption, Result, Ok, Err}
 use Rattle.std.specs.Option.{option_map}
 use Rattle.std.specs.Result.{result_and}
-use Rattle.std.proofs.lemmas.List.{append_assoc, append-nil}
+use Rattle.std.proofs.lemmas.Bool.{eqb-false}
+use Rattle.std.proofs.lemmas.List.{append_assoc, append-nil, length-append}
+use Rattle.std.proofs.lemmas.List.Elements.{All-get_or}
+use Rattle.std.proofs.lemmas.Option.{slice_get_within, get_or_from_slice_get}
 use Rattle.css_num.specs.Spans.{Covers}
 use Rattle.std.proofs.lemmas.Int.{ints}
 use Rattle.css_model.specs.WallClock.{Answer, Local, IsLocal, IsLeast, scaled_width, narrowest}
 use Rattle.css_model.proofs.Narrowest.{least_by-least}
 use Rattle.css_outside.specs.Bytes.{IsPrefix}
 use Rattle.css_lines.specs.Lines.{lines_of}
-use Rattle.css_lines.specs.Meaning.{finish_outcome, outcome, outcome_so_far}
+use Rattle.css_lines.specs.Meaning.{finish_outcome, reader_outcome, outcome, outcome_so_far}
 use Rattle.css_lines.proofs.Induction.{taken_so_far, taken_in_all}
 use Rattle.css_lines.specs.declared.reader.Refusal.{Refusal}
 use Rattle.css_lines.specs.declared.reader.Refusal.TheVariants.{Refused}
 use Rattle.css_span.specs.WallSpans.{span_of}
 use Rattle.css_schedule.specs.declared.fault.LineFault.{LineFault}
+use Rattle.css_schedule.specs.declared.header.CompanionLine.{CompanionLine}
 use Rattle.css_schedule.specs.declared.header.Header.{Header}
 use Rattle.css_schedule.specs.declared.header.Start.{Start}
 use Rattle.css_schedule.specs.declared.header.Start.TheVariants.{One, Two}
@@ -26,12 +30,17 @@ use Rattle.css_schedule.specs.declared.line.Line.{Line}
 use Rattle.css_schedule.specs.declared.line.Verb.{Verb}
 use Rattle.css_schedule.specs.declared.line.Verb.TheVariants.{Ask, Take, Give, Land, Wall, Print}
 use Rattle.css_schedule.specs.declared.line.Verb.TheVariants.{Programme, Timeline, Viewer}
-use Rattle.css_schedule.specs.declared.line.Verb.TheVariants.{Opening, Bring, Up, Present, Close, Sleep}
-use Rattle.css_schedule.specs.Headers.{header_of}
-use Rattle.css_schedule.specs.Lines as grammar
+use Rattle.css_schedule.specs.declared.line.Verb.TheVariants as verbs
+use Rattle.css_schedule.specs.Headers.{max_companions, header_of, with_companion}
+use Rattle.css_schedule.specs.Lines.{line_of, second_of_words, line_in}
+use Rattle.css_schedule.specs.Words.{words_of}
+use Rattle.css_schedule.specs.Ranges.{IsLine, IsSecond, IsCount, IsStart, FitsFirst, IsGoodHeader, IsPrintableCompanion}
+use Rattle.css_schedule.proofs.Adding.{more_companions}
+use Rattle.css_schedule.proofs.HeadersInRange.{start_in_range, companion_in_range}
+use Rattle.css_schedule.proofs.InRange.{lines_are_in_range, second_line_range, second_is_second}
 use Rattle.css_world.specs.declared.fault.WorldFault.{WorldFault}
 use Rattle.css_world.specs.declared.fault.WorldFault.TheVariants.{Broken, Absent, Player, Memory}
-use Rattle.css_companion.specs.Printed.{line_of}
+use Rattle.css_companion.specs.Printed as companions
 use Rattle.css_companion.specs.Meanings.{timing_after}
 use Rattle.css_companion.specs.Reports.{HasTickOf, report_by}
 use Rattle.css_companion.specs.declared.report.Cause.TheVariants as cause
@@ -42,19 +51,18 @@ use Rattle.css_world.specs.Happened.{Numbered, events_of, history_of}
 use Rattle.css_world.specs.Verdicts.{local_of, IsDeclared, span_at, report_at, assigned_at}
 use Rattle.css_world.specs.Verdicts.{can_happen, played, event_at, printed_for, carried_out, line_meant}
 use Rattle.css_world.specs.Printed.{wall_text}
-use Rattle.css_world.specs.Standing.{AreAccepted}
+use Rattle.css_world.specs.Standing.{AreAccepted, IsNext}
 use Rattle.css_world.specs.Truth.{IsTrueWall, IsTrueReport}
 use Rattle.css_world.proofs.Worlds.{carried_ok}
 use Rattle.css_world.proofs.Truth.{accepted_lines_are_true, accepted_lines_are_world}
 use Rattle.css_app.specs.declared.replay.Cause.{Cause}
 use Rattle.css_app.specs.declared.replay.Cause.TheVariants.{Form}
-use Rattle.css_app.specs.Replayed.{header_in, with_line, lines_in, caused, read_meant, meant_after, opened, text_meant}
+use Rattle.css_app.specs.Replayed.{Extent, Outset, Opening, Running, Unread, started, grown, declared, next_companion}
+use Rattle.css_app.specs.Replayed.{next_line, with_line, after, reached, caused, read_meant, opened, meant_at, ended_at}
 use Rattle.css_app.specs.Replayed.{replayed}
 use Rattle.css_app.specs.Headline.{accepted_before, IsTrueInterval, IsCause, AreTrueTicks, IsReportedCause}
 use Rattle.css_app.specs.Headline.{IsKept, KeepsLine, AreKept, KeepsPromise}
-use Rattle.css_schedule.proofs.HeadersInRange.{headers_are_in_range}
-use Rattle.css_schedule.proofs.InRange.{lines_are_in_range}
-use Rattle.css_app.proofs.Texts.{lines_in-push, is_next}
+use Rattle.css_app.proofs.Texts.{reached-push, is_next}
 
 -- ---- one line
 -- what is printed for a line that was accepted
@@ -95,7 +103,7 @@ kept-wall header older now reading printed is covers =
 
 -- and at `print`
 kept-print : (header : Header) (older : List Numbered) (now : Numbered) (reading : ℕ) (printed : List ℕ)
-    → printed ≡ line_of now.number (report_at now.line.who header older reading)
+    → printed ≡ companions.line_of now.number (report_at now.line.who header older reading)
     (assigned_at now.line.who header older now.line.w)
     → HasTickOf (report_at now.line.who header older reading) (assigned_at now.line.who header older now.line.w)
     → AreTrueTicks header older now reading printed ⊎ IsReportedCause header older now reading printed
@@ -119,7 +127,7 @@ kept-print header older now reading printed is has =
     of : (answer : Answer) → narrowest own reading accepted ≡ Some answer
         → IsLeast (λ a. scaled_width own a reading) accepted answer
         → (r : Report) → report_for (Some answer) ≡ r → (a : Option ℤ) → assigned ≡ a
-        → printed ≡ line_of now.number r a → HasTickOf r a
+        → printed ≡ companions.line_of now.number r a → HasTickOf r a
         → AreTrueTicks header older now reading printed ⊎ IsReportedCause header older now reading printed
     of answer so least (reports.None why) known a told e c = inr (record {
       cause = why;
@@ -142,7 +150,7 @@ kept-print header older now reading printed is has =
 
     by : (o : Option Answer) → narrowest own reading accepted ≡ o
         → MatchOption o (accepted ≡ []) (IsLeast (λ answer. scaled_width own answer reading) accepted)
-        → printed ≡ line_of now.number (report_for o) assigned → HasTickOf (report_for o) assigned
+        → printed ≡ companions.line_of now.number (report_for o) assigned → HasTickOf (report_for o) assigned
         → AreTrueTicks header older now reading printed ⊎ IsReportedCause header older now reading printed
     by None so least e c = inr (record { cause = cause.NoAnswer; first = ap report_for so; is_printed = e })
     by (Some answer) so least e c = of answer so least (report_for (Some answer)) refl assigned refl e c
@@ -163,12 +171,12 @@ kept-by header older now (Land datagram reading) printed is wall report e = e
 kept-by header older now (Programme content_id) printed is wall report e = e
 kept-by header older now (Timeline programme selector rate base) printed is wall report e = e
 kept-by header older now (Viewer reading command) printed is wall report e = e
-kept-by header older now (Opening kind) printed is wall report e = e
-kept-by header older now (Bring kind) printed is wall report e = e
-kept-by header older now Up printed is wall report e = e
-kept-by header older now (Present earliest latest) printed is wall report e = e
-kept-by header older now (Close kind) printed is wall report e = e
-kept-by header older now Sleep printed is wall report e = e
+kept-by header older now (verbs.Opening kind) printed is wall report e = e
+kept-by header older now (verbs.Bring kind) printed is wall report e = e
+kept-by header older now verbs.Up printed is wall report e = e
+kept-by header older now (verbs.Present earliest latest) printed is wall report e = e
+kept-by header older now (verbs.Close kind) printed is wall report e = e
+kept-by header older now verbs.Sleep printed is wall report e = e
 
 -- an accepted line keeps the promise
 kept_line : (header : Header) (older : List Numbered) (now : Numbered) (printed : List ℕ) → IsDeclared header
@@ -183,41 +191,81 @@ kept_line header older now printed declared accepted e =
     }
 
 -- ---- the header
-header-read : (r : Result Start LineFault) (header : Header) → header_in r ≡ Some header → r ≡ Ok (One header)
-header-read (Ok (One h)) header e = cc
-header-read (Ok (Two h n)) header e = absurd (cc)
-header-read (Err fault) header e = absurd (cc)
-
 -- a precision exponent in its range is one byte
 fits-exponent : (z : ℤ) → negsuc 127 ≤ℤ z → z ≤ℤ pos 30 → FitsSigned w8 z
 fits-exponent (pos n) low high = record { sfits = omega (arith, ints, high) }
 fits-exponent (negsuc n) low high = record { sfits = omega (arith, ints, low) }
 
--- what a header that was read declares is in range
-declared : (text : List ℕ) (header : Header) → header_in (header_of text) ≡ Some header → IsDeclared header
-declared text header e =
-    let known = headers_are_in_range text header (header-read (header_of text) header e) in
-    record {
-      tv = known.tv;
-      exponent = fits-exponent header.tv_precision known.least known.tv.tv_precision;
-      local =
-          subst (λ companions.
-          IsLocal (unwrap_or (option_map (λ c. c.local) (slice_get companions 0)) (record { error = 0; precision = 0 })))
-          (sym known.alone) known.local;
-    }
+-- each companion's clock is in range, and so is that of a number that no companion has
+local-good : (list : List CompanionLine) (place : ℕ) → All IsPrintableCompanion list
+    → IsLocal (unwrap_or (option_map (λ companion. companion.local) (slice_get list place))
+    (record { error = 0; precision = 0 }))
+local-good list place all = by (slice_get list place) refl
+  where
+    by : (o : Option CompanionLine) → slice_get list place ≡ o
+        → IsLocal (unwrap_or (option_map (λ companion. companion.local) o) (record { error = 0; precision = 0 }))
+    by None e = record { error = omega arith; precision = omega arith }
+    by (Some companion) e =
+        let same : get_or list place companion ≡ companion = get_or_from_slice_get list place companion companion e in
+        let within = slice_get_within list place companion e in
+        (subst IsPrintableCompanion same (All-get_or IsPrintableCompanion list place companion within all)).local
+
+-- what a good header declares is in range
+good-declared : (header : Header) → IsGoodHeader header → IsCount (length header.companions) → IsDeclared header
+good-declared header good count = record {
+  tv = good.0;
+  companions = count;
+  exponent = fits-exponent header.tv_precision good.1.least good.1.greatest;
+  local = λ who. local-good header.companions (who - 1) good.1.companions;
+}
+
+-- a line that is read is in range, and one of its companions or the television's alone
+read-range : (version companions : ℕ) (text : List ℕ) (line : Line) → FitsFirst (version == 1) companions
+    → line_in version companions text ≡ Ok line → IsLine line × IsSecond companions line
+read-range version companions text line fits is = by (version == 1) fits is
+  where
+    by : (b : Bool) → FitsFirst b companions
+        → cond b (line_of text) (second_of_words companions (words_of text)) ≡ Ok line
+        → IsLine line × IsSecond companions line
+    by true one e =
+        let read = lines_are_in_range text line e in
+        let who = read.of.who in (
+          read.range,
+          record {
+            who = omega (arith, one, who);
+            own = λ own. omega (arith, who);
+            none = λ zero. absurd (omega (arith, who, zero));
+          },
+        )
+    by false count e = (
+      second_line_range companions (words_of text) (Ok line) e,
+      second_is_second companions (words_of text) (Ok line) e,
+    )
 
 -- ---- the texts that were taken
--- Texts were taken, and this is what was printed for them: the first is the header, and the lines of the others are
--- accepted, and what was printed keeps the promise.
-record Taken (header : Header) (first : List ℕ) (texts : List (List ℕ)) (printed : List ℕ) : Type 0 where
-  is_header : header_in (header_of first) ≡ Some header
-  accepted : AreAccepted header (lines_in texts)
-  kept : AreKept header (lines_in texts) printed
+-- A part of a header was read, and nothing was printed.
+record TakenOpening (header : Header) (count : ℕ) (printed : List ℕ) : Type 0 where
+  good : IsGoodHeader header
+  more : length header.companions < count
+  few : count ≤ max_companions
+  none : printed ≡ []
 
--- so it is of all texts; where there is none nothing is printed
+-- A header was read and lines after it. The lines are accepted, and what was printed keeps the promise.
+record TakenRunning (header : Header) (version : ℕ) (lines : List Numbered) (printed : List ℕ) : Type 0 where
+  is_declared : IsDeclared header
+  fits : FitsFirst (version == 1) (length header.companions)
+  accepted : AreAccepted header lines
+  kept : AreKept header lines printed
+
+-- a schedule was read so far, and this was printed
+abbrev TakenAt : Extent → List ℕ → Type 0
+TakenAt Outset printed = printed ≡ []
+TakenAt (Opening header count) printed = TakenOpening header count printed
+TakenAt (Running header version lines) printed = TakenRunning header version lines printed
+TakenAt Unread printed = ⊥
+
 abbrev TakenAll : List (List ℕ) → List ℕ → Type 0
-TakenAll [] printed = printed ≡ []
-TakenAll (first ∷ texts) printed = (header : Header) × Taken header first texts printed
+TakenAll texts printed = TakenAt (reached texts) printed
 
 -- what is printed is what the world printed
 caused-ok : (meant : Result (List ℕ) WorldFault) (printed : List ℕ) → caused meant ≡ Ok printed → meant ≡ Ok printed
@@ -227,75 +275,148 @@ caused-ok (Err Absent) printed e = absurd (cc)
 caused-ok (Err (Player fault)) printed e = absurd (cc)
 caused-ok (Err Memory) printed e = absurd (cc)
 
--- one line more
-taken-line : (header : Header) (first : List ℕ) (texts : List (List ℕ)) (text sofar printed : List ℕ)
-    (line : Result Line LineFault) → grammar.line_of text ≡ line
-    → Taken header first texts sofar → read_meant header (lines_in texts) (length (first ∷ texts) + 1) line ≡ Ok printed
-    → Taken header first (texts ++ text ∷ []) (sofar ++ printed)
-taken-line header first texts text sofar printed (Err fault) is taken e = absurd (cc)
-taken-line header first texts text sofar printed (Ok line) is taken e =
-    let older = lines_in texts in
-    let now : Numbered = record { number = length (first ∷ texts) + 1; line = line } in
-    let ok : line_meant header older now ≡ Ok printed = caused-ok (line_meant header older now) printed e in
-    let read = lines_are_in_range text line is in
-    let accepted : AreAccepted header (now ∷ older) =
-    (read.range, read.of.who, is_next first texts, (printed, ok), taken.accepted) in
-    let is_declared = declared first header taken.is_header in
-    let pushed : lines_in (texts ++ text ∷ []) ≡ now ∷ older =
-    lines_in-push first texts text ∙ ap (with_line (length (first ∷ texts) + 1) older) is in
+-- nothing is printed for a line of the header
+nothing : (sofar printed : List ℕ) → sofar ≡ [] → Ok {E = Cause} [] ≡ Ok printed → sofar ++ printed ≡ []
+nothing sofar printed none e = ap (λ (s : List ℕ). s ++ printed) none ∙ same
+  where
+    same : printed ≡ []
+    same = cc
+
+-- line 1
+taken-start : (text sofar printed : List ℕ) (start : Result Start LineFault) → header_of text ≡ start → sofar ≡ []
+    → opened start ≡ Ok printed → TakenAt (started start) (sofar ++ printed)
+taken-start text sofar printed (Err fault) is none e = absurd (cc)
+taken-start text sofar printed (Ok (One header)) is none e =
+    let range : IsStart (One header) = start_in_range text (Ok (One header)) is in
+    let one = range.1 in
     record {
-      is_header = taken.is_header;
-      accepted = subst (λ (ls : List Numbered). AreAccepted header ls) (sym pushed) accepted;
-      kept = subst (λ (ls : List Numbered). AreKept header ls (sofar ++ printed)) (sym pushed)
-          (sofar, printed, refl, kept_line header older now printed is_declared accepted ok, taken.kept);
+      is_declared = good-declared header (range.0, range.2)
+          (record { low = omega (arith, one); high = omega (arith, one) });
+      fits = one;
+      accepted = tt;
+      kept = nothing sofar printed none e;
+    }
+taken-start text sofar printed (Ok (Two header count)) is none e =
+    let range : IsStart (Two header count) = start_in_range text (Ok (Two header count)) is in
+    let empty : length header.companions ≡ 0 = ap length range.1 in
+    let low = range.2.low in
+    record {
+      good = range.0;
+      more = omega (arith, empty, low);
+      few = range.2.high;
+      none = nothing sofar printed none e;
     }
 
--- one text more: the header, or a line
-taken_text : (before : List (List ℕ)) (text sofar printed : List ℕ) → TakenAll before sofar
-    → text_meant before text ≡ Ok printed
-    → TakenAll (before ++ text ∷ []) (sofar ++ printed)
-taken_text [] text sofar printed taken e = by (header_in (header_of text)) refl e
+-- a header with one companion more
+taken-grown : (more : Header) (count : ℕ) (printed : List ℕ) → IsGoodHeader more → 1 ≤ length more.companions
+    → length more.companions ≤ count → count ≤ max_companions → printed ≡ [] → TakenAt (grown more count) printed
+taken-grown more count printed good some less few none = by (eqb (length more.companions) count) refl
   where
-    by : (o : Option Header) → header_in (header_of text) ≡ o → opened o ≡ Ok printed
-        → TakenAll (text ∷ []) (sofar ++ printed)
-    by None is p = absurd (cc)
-    by (Some header) is p =
-        let none : sofar ++ printed ≡ [] = rw (taken, same p) refl in
-        (header, record { is_header = is; accepted = tt; kept = none })
-      where
-        same : opened (Some header) ≡ Ok printed → printed ≡ []
-        same q = cc
-taken_text (first ∷ texts) text sofar printed taken e =
-    let header = taken.0 in
-    let read : read_meant header (lines_in texts) (length (first ∷ texts) + 1) (grammar.line_of text) ≡ Ok printed =
-    subst (λ (o : Option Header).
-    meant_after o (lines_in texts) (length (first ∷ texts) + 1) (grammar.line_of text) ≡ Ok printed) taken.1.is_header
-    e in
-    (header, taken-line header first texts text sofar printed (grammar.line_of text) refl taken.1 read)
+    by : (b : Bool) → eqb (length more.companions) count ≡ b
+        → TakenAt (cond b (Running more 2 []) (Opening more count)) printed
+    by true e =
+        let all : IsCount (length more.companions) = record { low = some; high = omega (arith, less, few) } in
+        record { is_declared = good-declared more good all; fits = all; accepted = tt; kept = none }
+    by false e =
+        let apart = eqb-false (length more.companions) count e in
+        record { good = good; more = omega (arith, less, apart); few = few; none = none }
+
+-- the line of a companion
+taken-companion : (header : Header) (count : ℕ) (text sofar printed : List ℕ) (read : Result CompanionLine LineFault)
+    → next_companion header text ≡ read → TakenOpening header count sofar → opened read ≡ Ok printed
+    → TakenAt (declared header count read) (sofar ++ printed)
+taken-companion header count text sofar printed (Err fault) is taken e = absurd (cc)
+taken-companion header count text sofar printed (Ok companion) is taken e =
+    let more = with_companion header companion in
+    let range = companion_in_range (length header.companions + 1) text (Ok companion) is in
+    let longer = length-append header.companions (companion ∷ []) in
+    let less = taken.more in
+    taken-grown more count (sofar ++ printed) (more_companions header companion taken.good range)
+    (omega (arith, longer)) (omega (arith, longer, less)) taken.few (nothing sofar printed taken.none e)
+
+-- a line after the header
+taken-line : (header : Header) (version number : ℕ) (lines : List Numbered) (text sofar printed : List ℕ)
+    (read : Result Line LineFault) → next_line header version text ≡ read → IsNext number lines
+    → TakenRunning header version lines sofar → read_meant header lines number read ≡ Ok printed
+    → TakenRunning header version (with_line number lines read) (sofar ++ printed)
+taken-line header version number lines text sofar printed (Err fault) is next taken e = absurd (cc)
+taken-line header version number lines text sofar printed (Ok line) is next taken e =
+    let now : Numbered = record { number = number; line = line } in
+    let ok : line_meant header lines now ≡ Ok printed = caused-ok (line_meant header lines now) printed e in
+    let range = read-range version (length header.companions) text line taken.fits is in
+    let accepted : AreAccepted header (now ∷ lines) = (range.0, range.1, next, (printed, ok), taken.accepted) in
+    record {
+      is_declared = taken.is_declared;
+      fits = taken.fits;
+      accepted = accepted;
+      kept = (
+        sofar,
+        printed,
+        refl,
+        kept_line header lines now printed taken.is_declared accepted ok,
+        taken.kept,
+      );
+    }
+
+-- one text more
+taken-at : (number : ℕ) (extent : Extent) (text sofar printed : List ℕ)
+    → ((header : Header) (version : ℕ) (lines : List Numbered) → extent ≡ Running header version lines
+    → IsNext number lines)
+    → TakenAt extent sofar → meant_at number extent text ≡ Ok printed
+    → TakenAt (after number extent text) (sofar ++ printed)
+taken-at number Outset text sofar printed next taken e = taken-start text sofar printed (header_of text) refl taken e
+taken-at number (Opening header count) text sofar printed next taken e =
+    taken-companion header count text sofar printed (next_companion header text) refl taken e
+taken-at number (Running header version lines) text sofar printed next taken e =
+    taken-line header version number lines text sofar printed (next_line header version text) refl
+    (next header version lines refl) taken e
+taken-at number Unread text sofar printed next taken e = absurd taken
+
+taken_text : (before : List (List ℕ)) (text sofar printed : List ℕ) → TakenAll before sofar
+    → meant_at (length before + 1) (reached before) text ≡ Ok printed
+    → TakenAll (before ++ text ∷ []) (sofar ++ printed)
+taken_text before text sofar printed taken e =
+    subst (λ (x : Extent). TakenAt x (sofar ++ printed)) (sym (reached-push before text))
+    (taken-at (length before + 1) (reached before) text sofar printed (is_next before) taken e)
 
 -- ---- the whole input
 -- nothing is printed at the end, whatever comes of it
 finishes : (before : List (List ℕ)) → (verdict : Option (ℕ × Refusal Cause))
     × (finish_outcome replayed before ≡ record { printed = []; verdict = verdict })
-finishes [] = (Some (1, Refused Form), refl)
-finishes (first ∷ texts) = (None, refl)
+finishes before = by (reached before)
+  where
+    number : ℕ
+    number = length before + 1
+
+    by : (extent : Extent) → (verdict : Option (ℕ × Refusal Cause))
+        × (reader_outcome number (ended_at extent) ≡ record { printed = []; verdict = verdict })
+    by Outset = (Some (number, Refused Form), refl)
+    by (Opening header count) = (Some (number, Refused Form), refl)
+    by (Running header version lines) = (None, refl)
+    by Unread = (Some (number, Refused Form), refl)
 
 -- what was taken keeps the promise
 promise_of : (bytes : List ℕ) (texts rest : List (List ℕ)) (printed : List ℕ) → lines_of bytes ≡ texts ++ rest
     → TakenAll texts printed → KeepsPromise bytes printed
-promise_of bytes [] rest printed parts taken = inl taken
-promise_of bytes (first ∷ texts) rest printed parts taken = inr (record {
-  first = first;
-  texts = texts;
-  rest = rest;
-  are_lines = parts;
-  header = taken.0;
-  is_header = taken.1.is_header;
-  world = accepted_lines_are_world taken.0 (lines_in texts) (declared first taken.0 taken.1.is_header) taken.1.accepted;
-  whole = printed;
-  front = ([], sym (append-nil printed));
-  kept = taken.1.kept;
-})
+promise_of bytes texts rest printed parts taken = by (reached texts) refl taken
+  where
+    by : (extent : Extent) → reached texts ≡ extent → TakenAt extent printed → KeepsPromise bytes printed
+    by Outset is t = inl t
+    by (Opening header count) is t = inl t.none
+    by (Running header version lines) is t = inr (record {
+      texts = texts;
+      rest = rest;
+      are_lines = parts;
+      header = header;
+      version = version;
+      lines = lines;
+      is_read = is;
+      world = accepted_lines_are_world header lines t.is_declared t.accepted;
+      whole = printed;
+      front = ([], sym (append-nil printed));
+      kept = t.kept;
+    })
+    by Unread is t = absurd t
 
 -- what is printed for whole lines keeps the promise
 pub so_far : (bytes : List ℕ) → KeepsPromise bytes (outcome_so_far replayed bytes).printed
@@ -318,12 +439,13 @@ front_keeps bytes front whole prefix (inl none) = inl (no_front front prefix.0 (
     no_front [] ys e = refl
     no_front (x ∷ xs) ys e = absurd (cc)
 front_keeps bytes front whole prefix (inr kept) = inr (record {
-  first = kept.first;
   texts = kept.texts;
   rest = kept.rest;
   are_lines = kept.are_lines;
   header = kept.header;
-  is_header = kept.is_header;
+  version = kept.version;
+  lines = kept.lines;
+  is_read = kept.is_read;
   world = kept.world;
   whole = kept.whole;
   front = (

@@ -32,13 +32,13 @@ use Rattle.css_app.proofs.Accepting.{generated_accepted}
 use Rattle.css_gen.proofs.Reading.{generated_read}
 use Rattle.css_app.specs.declared.replay.Cause.{Cause}
 use Rattle.css_app.specs.Generated.{schedule_text}
-use Rattle.css_app.specs.Replayed.{replayed, header_in, with_line, lines_in, caused, read_meant, meant_after, opened}
-use Rattle.css_app.specs.Replayed.{text_meant}
+use Rattle.css_app.specs.Replayed.{Extent, Running, started, with_line, after, reached, caused, read_meant, opened}
+use Rattle.css_app.specs.Replayed.{meant_at, ended_at, version_of, longest_line, longest_input, replayed}
 use Rattle.css_app.specs.Surveyed.{Told, asked_by, told_by, told_at, told_of, told_text, told_in}
 use Rattle.css_app.specs.Surveyed.{GeneratedSchedulesAreReplayed}
 use Rattle.css_app.proofs.Plain.{IsShort, IsLineText, line_short, first_plain, text_plain}
 use Rattle.css_app.proofs.Promise.{printed_is}
-use Rattle.css_app.proofs.Texts.{lines_in-push}
+use Rattle.css_app.proofs.Texts.{reached-push}
 
 -- ---- what is printed
 -- the line of a report, if there is one
@@ -76,6 +76,10 @@ abbrev told_after : (seed count : ℕ) → List Told
 told_after seed count = told_of opening.header (generated seed count)
 
 -- ---- what lines mean
+-- what a text means after those before it
+abbrev text_meant : List (List ℕ) → List ℕ → Result (List ℕ) Cause
+text_meant before text = meant_at (length before + 1) (reached before) text
+
 -- the texts of the lines after the header
 abbrev others : (seed count : ℕ) → List (List ℕ)
 others seed zero = []
@@ -86,20 +90,20 @@ others-count seed zero = refl
 others-count seed (suc count) =
     omega (arith, length-append (others seed count) (text_numbered seed (count + 2) ∷ []), others-count seed count)
 
--- they are read as the generated lines
-others-read : (seed count : ℕ) → count < 200000 → lines_in (others seed count) ≡ generated seed count
+-- the header is read, and they are read as the generated lines
+others-read : (seed count : ℕ) → count < 200000
+    → reached (text_numbered seed 1 ∷ others seed count) ≡ Running opening.header 1 (generated seed count)
 unfolding generated
-others-read seed zero few = refl
+others-read seed zero few = ap started (generated_read seed).first
 others-read seed (suc count) few =
     let text = text_numbered seed (count + 2) in
-    let before = others seed count in
-    let number : length (text_numbered seed 1 ∷ before) + 1 ≡ count + 2 = omega (arith, others-count seed count) in
+    let before = text_numbered seed 1 ∷ others seed count in
+    let number : length before + 1 ≡ count + 2 = omega (arith, others-count seed count) in
     let read = (generated_read seed).others (count + 2) (omega arith) (omega (arith, few)) in
-    lines_in-push (text_numbered seed 1) before text
-    ∙ ap (λ (n : ℕ). with_line n (lines_in before) (line_of text)) number
-    ∙ ap (λ (r : Result Line LineFault). with_line (count + 2) (lines_in before) r) read
-    ∙ ap (λ (lines : List Numbered). record { number = count + 2; line = line_numbered seed (count + 2) } ∷ lines)
-    (others-read seed count (omega (arith, few)))
+    reached-push before text
+    ∙ ap (λ (n : ℕ). after n (reached before) text) number
+    ∙ ap (λ (x : Extent). after (count + 2) x text) (others-read seed count (omega (arith, few)))
+    ∙ ap (λ (r : Result Line LineFault). Running opening.header 1 (with_line (count + 2) (generated seed count) r)) read
 
 -- what is printed for a line after these, and that it is added to what was told
 record Adds (seed count : ℕ) : Type 0 where
@@ -113,24 +117,19 @@ line-adds seed count few =
     let line = line_numbered seed (count + 2) in
     let now : Numbered = record { number = count + 2; line = line } in
     let older = generated seed count in
-    let texts = others seed count in
     let text = text_numbered seed (count + 2) in
-    let first = text_numbered seed 1 in
+    let before = text_numbered seed 1 ∷ others seed count in
     let taken = (generated_accepted seed (suc count) few).accepted.3 in
     let printed : taken.0 ≡ line_for (told_at opening.header older now) =
     printed_is opening.header older now taken.0 (carried_ok opening.header older now taken.0 taken.1)
     ∙ printed-told opening.header older now line.verb (line_short seed (count + 2)) in
-    let number : length (first ∷ texts) + 1 ≡ count + 2 = omega (arith, others-count seed count) in
+    let number : length before + 1 ≡ count + 2 = omega (arith, others-count seed count) in
     let read = (generated_read seed).others (count + 2) (omega arith) (omega (arith, few)) in
     record {
       printed = taken.0;
-      meant = ap (λ (r : Result Start LineFault).
-          meant_after (header_in r) (lines_in texts) (length (first ∷ texts) + 1) (line_of text))
-          (generated_read seed).first
-          ∙ ap (λ (n : ℕ). read_meant opening.header (lines_in texts) n (line_of text)) number
-          ∙ ap (λ (r : Result Line LineFault). read_meant opening.header (lines_in texts) (count + 2) r) read
-          ∙ ap (λ (lines : List Numbered). caused (line_meant opening.header lines now))
-          (others-read seed count (omega (arith, few)))
+      meant = ap (λ (n : ℕ). meant_at n (reached before) text) number
+          ∙ ap (λ (x : Extent). meant_at (count + 2) x text) (others-read seed count (omega (arith, few)))
+          ∙ ap (λ (r : Result Line LineFault). read_meant opening.header older (count + 2) r) read
           ∙ ap caused taken.1;
       told = told_text-more (told_at opening.header older now) (told_of opening.header older)
           ∙ ap (λ (p : List ℕ). told_text (told_of opening.header older) ++ p) (sym printed);
@@ -144,24 +143,26 @@ record IsRead (bytes : List ℕ) (texts : List (List ℕ)) (printed : List ℕ) 
   last : last_part bytes ≡ []
 
 -- a line that is short enough, of an input that is, isn't refused for its length
-fits : (texts : List (List ℕ)) (text printed : List ℕ) → length text ≤ 4096
+fits : (texts : List (List ℕ)) (text printed : List ℕ) → version_of (reached texts) ≡ 1 → length text ≤ 4096
     → offset texts + length text + 1 ≤ 67108864 → text_meant texts text ≡ Ok printed
     → line_outcome replayed texts text (offset texts + length text + 1) ≡ accepted printed
-fits texts text printed short few meant =
+fits texts text printed first short few meant =
     let end = offset texts + length text + 1 in
     let number = length texts + 1 in
+    let outcome_by : Bool → Outcome Cause =
+    λ b. cond b (refused_at [] number Long) (reader_outcome number (text_meant texts text)) in
     let line_fits : ltb 4096 (length text) ≡ false = le-ltb 4096 (length text) short in
     let input_fits : ltb 67108864 end ≡ false = le-ltb 67108864 end few in
-    ap (λ (b : Bool). cond (b || ltb 67108864 end) (refused_at [] number Long)
-    (reader_outcome number (text_meant texts text))) line_fits
-    ∙ ap (λ (b : Bool). cond b (refused_at [] number Long) (reader_outcome number (text_meant texts text))) input_fits
+    ap (λ (v : ℕ). outcome_by (ltb (longest_line v) (length text) || ltb (longest_input v) end)) first
+    ∙ ap (λ (b : Bool). outcome_by (b || ltb 67108864 end)) line_fits ∙ ap outcome_by input_fits
     ∙ ap (reader_outcome number) meant
 
 -- one line more
 reads_on : (bytes : List ℕ) (texts : List (List ℕ)) (so_far text printed : List ℕ) → IsRead bytes texts so_far
-    → IsLineText text → offset texts + length text + 1 ≤ 67108864 → text_meant texts text ≡ Ok printed
+    → version_of (reached texts) ≡ 1 → IsLineText text → offset texts + length text + 1 ≤ 67108864
+    → text_meant texts text ≡ Ok printed
     → IsRead (bytes ++ (text ++ 10 ∷ [])) (texts ++ text ∷ []) (so_far ++ printed)
-reads_on bytes texts so_far text printed read plain few meant =
+reads_on bytes texts so_far text printed read first plain few meant =
     let line = bytes ++ text in
     let joined : bytes ++ (text ++ 10 ∷ []) ≡ line ++ 10 ∷ [] = sym (append_assoc bytes text (10 ∷ [])) in
     let whole : whole_lines line ≡ texts = whole_lines_free bytes text plain.free ∙ read.whole in
@@ -176,7 +177,7 @@ reads_on bytes texts so_far text printed read plain few meant =
           (offset w + length (last_part line) + 1))) whole
           ∙ ap (λ (l : List ℕ). followed_by (accepted so_far) (line_outcome replayed texts l
           (offset texts + length l + 1))) last
-          ∙ ap (followed_by (accepted so_far)) (fits texts text printed (omega (arith, plain.short)) few meant);
+          ∙ ap (followed_by (accepted so_far)) (fits texts text printed first (omega (arith, plain.short)) few meant);
       whole = ap whole_lines joined ∙ whole_lines_feed line 10 refl
           ∙ ap (λ (w : List (List ℕ)). w ++ last_part line ∷ []) whole ∙ ap (λ (l : List ℕ). texts ++ l ∷ []) last;
       last = ap last_part joined ∙ last_part_feed line 10 refl;
@@ -213,9 +214,9 @@ all-read seed zero few =
     let short = plain.short in
     let none : offset [] ≡ 0 = refl in
     let meant : text_meant [] (text_numbered seed 1) ≡ Ok [] =
-    ap (λ (r : Result Start LineFault). opened (header_in r)) (generated_read seed).first in
+    ap (λ (r : Result Start LineFault). opened r) (generated_read seed).first in
     record {
-      read = reads_on [] [] [] (text_numbered seed 1) [] nothing-read plain (omega (arith, short, none)) meant;
+      read = reads_on [] [] [] (text_numbered seed 1) [] nothing-read refl plain (omega (arith, short, none)) meant;
       few = omega (arith, none, offset-more [] (text_numbered seed 1) short);
     }
 all-read seed (suc count) few =
@@ -228,7 +229,9 @@ all-read seed (suc count) few =
     let longer : offset (text_numbered seed 1 ∷ others seed (suc count)) ≤ offset texts + 300 =
     offset-more texts (text_numbered seed (count + 2)) short in
     let more = reads_on (schedule_text seed (suc count)) texts (told_text (told_after seed count))
-    (text_numbered seed (count + 2)) adds.printed before.read plain (omega (arith, before.few, short, few)) adds.meant in
+    (text_numbered seed (count + 2)) adds.printed before.read
+    (ap version_of (others-read seed count (omega (arith, few)))) plain (omega (arith, before.few, short, few))
+    adds.meant in
     let told = subst (λ (p : List ℕ).
     IsRead (schedule_text seed (suc count) ++ (text_numbered seed (count + 2) ++ 10 ∷ []))
     (texts ++ text_numbered seed (count + 2) ∷ []) p) (sym adds.told) more in
@@ -247,11 +250,12 @@ generated_replayed seed (suc count) some few =
     let read = (all-read seed count (omega (arith, few))).read in
     let texts = text_numbered seed 1 ∷ others seed count in
     let rest : count ≡ suc count - 1 = omega arith in
+    let told = told_text (told_after seed count) in
+    let whole : ended_at (reached texts) ≡ Ok [] = ap ended_at (others-read seed count (omega (arith, few))) in
     outcome_at_end replayed bytes
     ∙ ap (λ (o : Outcome Cause). followed_by o (end_outcome replayed (whole_lines bytes) (last_part bytes))) read.so_far
-    ∙ ap (λ (w : List (List ℕ)). followed_by (accepted (told_text (told_after seed count)))
-    (end_outcome replayed w (last_part bytes))) read.whole
-    ∙ ap (λ (l : List ℕ). followed_by (accepted (told_text (told_after seed count))) (end_outcome replayed texts l))
-    read.last
-    ∙ ap accepted (append-nil (told_text (told_after seed count)))
+    ∙ ap (λ (w : List (List ℕ)). followed_by (accepted told) (end_outcome replayed w (last_part bytes))) read.whole
+    ∙ ap (λ (l : List ℕ). followed_by (accepted told) (end_outcome replayed texts l)) read.last
+    ∙ ap (λ (r : Result (List ℕ) Cause). followed_by (accepted told) (reader_outcome (length texts + 1) r)) whole
+    ∙ ap accepted (append-nil told)
     ∙ ap (λ (n : ℕ). accepted (told_text (told_of opening.header (generated seed n)))) rest

@@ -1,20 +1,20 @@
 -- A survey counts what is told at the lines of a schedule.
 use Rattle.std.proofs.Common.{◌≡◌, ℕ, suc, zero, ◌+◌, ◌-◌, ◌<◌, ◌≤◌, arith, ap, sym, subst, ◌∙◌, refl}
-use Rattle.std.proofs.Common.{true, ltb, List, [], ◌∷◌, ◌++◌, length}
+use Rattle.std.proofs.Common.{Bool, true, ltb, List, [], ◌∷◌, ◌++◌, length}
 use Rattle.std.proofs.lemmas.Bool.{lt-ltb}
 use Rattle.std.proofs.lemmas.List.{append_assoc}
 use Rattle.std.proofs.Common.{◌⊎◌, inl, inr}
 use Rattle.std.specs.Prelude.{Option, Some, None, Result, Ok, Err, IfOk, OnOk, IsErrAnd}
 use Rattle.std.specs.Option.{option_map, option_to_list}
-use Rattle.css_model.specs.History.{History, Clock}
+use Rattle.css_model.specs.History.{History}
 use Rattle.css_model.specs.WallClock.{Local}
 use Rattle.css_model.specs.declared.TheConstants.{LIMIT}
-use Rattle.css_model.specs.declared.Why.TheVariants as why
 use Rattle.css_companion.specs.Meanings.{report_after}
 use Rattle.css_companion.specs.Standing as companions
 use Rattle.css_companion.specs.Standing.{Companion, own_of}
 use Rattle.css_companion.specs.declared.report.Report.{Report}
 use Rattle.css_companion.specs.declared.report.Report.TheVariants as reports
+use Rattle.css_schedule.specs.Owners.{is_own}
 use Rattle.css_schedule.specs.Ranges.{IsVerb, IsLine}
 use Rattle.css_schedule.specs.declared.header.Header.{Header}
 use Rattle.css_schedule.specs.declared.header.Start.TheVariants.{One}
@@ -31,12 +31,15 @@ use Rattle.css_tsmsg.specs.declared.setup.Setup.{Setup}
 use Rattle.css_world.specs.Asked.{MayBeAsked}
 use Rattle.css_world.specs.declared.fault.WorldFault.{WorldFault}
 use Rattle.css_world.specs.declared.fault.WorldFault.TheVariants as faults
-use Rattle.css_world.specs.Clocks.{last_reading}
+use Rattle.css_world.specs.Clocks.{Seen, last_reading, has_woken, least_next}
+use Rattle.css_world.specs.Numbering.{stored}
 use Rattle.css_world.specs.Sessions.{setup_of}
 use Rattle.css_world.specs.Standing as worlds
-use Rattle.css_world.specs.Standing.{World, AreAccepted, last_value}
-use Rattle.css_world.specs.Verdicts.{local_of, seen_of, report_at}
+use Rattle.css_world.specs.Standing.{World, IsWorld, AreAccepted}
+use Rattle.css_world.specs.Verdicts.{local_of, own_reading, own_seen, seen_of, report_at}
 use Rattle.css_world.proofs.Ends.{history_now}
+use Rattle.css_world.proofs.Numbers.{stored_there}
+use Rattle.css_world.proofs.Worlds.{seen_own}
 use Rattle.css_app.specs.Generated.{generated}
 use Rattle.css_gen.specs.Generated.{Generator, text_numbered, line_numbered, next_text, after_next}
 use Rattle.css_gen.proofs.Reading.{generated_read}
@@ -68,58 +71,75 @@ asks_print (Present a b) reading e = absurd (cc)
 asks_print (Close k) reading e = absurd (cc)
 asks_print Sleep reading e = absurd (cc)
 
--- the companion's history after a `print` line
-history_printed : (header : Header) (now : Numbered) (older : List Numbered) (reading : ℕ) → now.line.who ≡ 1
+-- the report of a companion after its `print` line is the one at the line
+pub report_stays : (header : Header) (now : Numbered) (older : List Numbered) (who reading : ℕ) → now.line.who ≡ who
     → now.line.verb ≡ Print reading
-    → history_of 1 header (now ∷ older) ≡ Clock why.Turn reading ∷ history_of 1 header older
-history_printed header now older reading one verb =
-    history_now header now older one
-    ∙ ap (λ (v : Verb).
-    done_by header 1 (datagrams header older) (events_of header older) v (history_of 1 header older)) verb
-
--- its report after the line is the one at the line
-pub report_stays : (header : Header) (now : Numbered) (older : List Numbered) (reading : ℕ) → now.line.who ≡ 1
-    → now.line.verb ≡ Print reading
-    → report_after (local_of 1 header) (setup_of 1 header).selector (history_of 1 header (now ∷ older)) reading
+    → report_after (local_of who header) (setup_of who header).selector (history_of who header (now ∷ older)) reading
     ≡ report_at now.line.who header older reading
-report_stays header now older reading one verb =
-    ap (λ (h : History). report_after (local_of 1 header) (setup_of 1 header).selector h reading)
-    (history_printed header now older reading one verb)
-    ∙ ap (λ (who : ℕ). report_at who header older reading) (sym one)
+report_stays header now older who reading is verb =
+    let own = history_of who header older in
+    ap (λ (h : History). report_after (local_of who header) (setup_of who header).selector h reading)
+    (history_now header now older who is
+    ∙ ap (λ (v : Verb). done_by header who (datagrams header older) (events_of header older) v own) verb)
+    ∙ ap (λ (n : ℕ). report_at n header older reading) (sym is)
 
--- and the companion's clock was last read there
-pub read_last : (now : Numbered) (older : List Numbered) (reading : ℕ) → now.line.who ≡ 1
-    → now.line.verb ≡ Print reading → last_value (last_reading (seen_of 1 (now ∷ older))) ≡ reading
-read_last now older reading one verb = rw (one, verb) refl
+-- its clock was last read there, and it hasn't slept since
+pub read_last : (now : Numbered) (older : List Numbered) (who reading : ℕ) → now.line.who ≡ who
+    → now.line.verb ≡ Print reading
+    → least_next (has_woken (seen_of who (now ∷ older))) (last_reading (seen_of who (now ∷ older))) ≡ reading
+read_last now older who reading is verb =
+    ap (λ (s : List Seen). least_next (has_woken s) (last_reading s)) (seen_own now older who is)
+    ∙ ap (λ (v : Verb). least_next
+    (has_woken (record (own_seen now) { reading = own_reading v } ∷ seen_of who older))
+    (last_reading (record (own_seen now) { reading = own_reading v } ∷ seen_of who older))) verb
 
--- the reading is one of a clock
+-- and the reading is one of a clock
 pub reads_clock : (now : Numbered) (reading : ℕ) → IsLine now.line → asked_by now.line.verb ≡ Some reading
     → reading < LIMIT
 reads_clock now reading range asked = subst IsVerb (asks_print now.line.verb reading asked) range.verb
 
 -- the companion may be asked there
-pub reads_on : (world : World) (companion : Companion) (now : Numbered) (older : List Numbered) (reading : ℕ)
-    → MayBeAsked world companion → worlds.StandsFor world (now ∷ older) → asked_by now.line.verb ≡ Some reading
-    → companion.client.floor ≤ reading
-reads_on world companion now older reading may stands asked =
+pub reads_on : (world : World) (companion : Companion) (now : Numbered) (older : List Numbered) (who reading : ℕ)
+    → MayBeAsked world who companion → worlds.StandsFor world (now ∷ older) → asked_by now.line.verb ≡ Some reading
+    → now.line.who ≡ who → companion.client.floor ≤ reading
+reads_on world companion now older who reading may stands asked is =
+    let read = stands.readings.own who may.lane may.is in
     subst (λ (n : ℕ). companion.client.floor ≤ n)
-    (ap last_value stands.readings.own
-    ∙ read_last now older reading stands.accepted.1 (asks_print now.line.verb reading asked)) may.floor
+    (ap (λ (w : Bool). least_next w may.lane.clock.last) read.woken
+    ∙ ap (least_next (has_woken (seen_of who (now ∷ older)))) read.last
+    ∙ read_last now older who reading is (asks_print now.line.verb reading asked)) may.floor
 
 -- what it then tells is the report at the line
-pub tells_report : (world : World) (companion : Companion) (now : Numbered) (older : List Numbered) (reading : ℕ)
-    (report : Report) → companion ≡ world.lane.companion → MayBeAsked world companion
-    → worlds.StandsFor world (now ∷ older) → asked_by now.line.verb ≡ Some reading
+pub tells_report : (world : World) (companion : Companion) (now : Numbered) (older : List Numbered) (who reading : ℕ)
+    (report : Report) → MayBeAsked world who companion → worlds.StandsFor world (now ∷ older)
+    → asked_by now.line.verb ≡ Some reading → now.line.who ≡ who
     → ((history : History) → companions.StandsFor companion history
     → report ≡ report_after (own_of companion) companion.setup.selector history reading)
     → report ≡ report_at now.line.who world.header older reading
-tells_report world companion now older reading report same may stands asked told =
-    let history = history_of 1 world.header (now ∷ older) in
-    told history
-    (subst (λ (c : Companion). companions.StandsFor c history) (sym same) stands.ends.lane.companion)
+tells_report world companion now older who reading report may stands asked is told =
+    let history = history_of who world.header (now ∷ older) in
+    let lane = stands.ends.lanes who may.lane may.is in
+    told history (subst (λ (c : Companion). companions.StandsFor c history) (sym may.same) lane.companion)
     ∙ ap (λ (own : Local). report_after own companion.setup.selector history reading) may.own
-    ∙ ap (λ (setup : Setup). report_after (local_of 1 world.header) setup.selector history reading) may.setup
-    ∙ report_stays world.header now older reading stands.accepted.1 (asks_print now.line.verb reading asked)
+    ∙ ap (λ (setup : Setup). report_after (local_of who world.header) setup.selector history reading) may.setup
+    ∙ report_stays world.header now older who reading is (asks_print now.line.verb reading asked)
+
+-- a verb that asks for a report is a companion's own
+own_print : (verb : Verb) (reading : ℕ) → verb ≡ Print reading → is_own verb ≡ true
+own_print verb reading is = ap is_own is
+
+-- the companion of a line that asks for a report is there
+pub never_gone : (world : World) (now : Numbered) (older : List Numbered) (who reading : ℕ) → IsWorld world
+    → worlds.StandsFor world (now ∷ older) → asked_by now.line.verb ≡ Some reading → now.line.who ≡ who
+    → stored world.lanes who ≡ None → ⊥
+never_gone world now older who reading whole stands asked is none =
+    let of = stands.accepted.1 in
+    let first : 1 ≤ now.line.who = of.own (own_print now.line.verb reading (asks_print now.line.verb reading asked)) in
+    let within = of.who in
+    let count = whole.count in
+    let there = stored_there world.lanes who (omega (arith, first, is)) (omega (arith, within, is, count)) in
+    let no : Some there.0 ≡ None = sym there.1 ∙ none in
+    cc
 
 -- ---- counts
 -- a report is counted

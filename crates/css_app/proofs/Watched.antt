@@ -1,20 +1,20 @@
 -- The tests of a clock pass on lines that show it as the generator does.
-use Rattle.std.proofs.Common.{◌≡◌, ℕ, ◌+◌, ◌-◌, ◌<◌, ◌≤◌, arith, ap, sym, subst, ◌∙◌, refl, Bool, cond}
+use Rattle.std.proofs.Common.{◌≡◌, ℕ, ◌+◌, ◌-◌, ◌<◌, ◌≤◌, arith, ap, sym, subst, ◌∙◌, refl, Bool, true, false, cond}
 use Rattle.std.proofs.Common.{List, [], ◌∷◌}
 use Rattle.std.specs.Prelude.{Option, Some, None, IfSome, Result, Ok, Err, All, pos}
 use Rattle.std.specs.Int.{abs_diff}
 use Rattle.std.specs.Result.{result_and, result_map_both}
 use Rattle.std.proofs.lemmas.Bool.{le-ltb}
 use Rattle.std.proofs.lemmas.List.Elements.{All-nil, All-cons, All-head, All-tail, All-weaker}
-use Rattle.css_moments.specs.Drifts.{Keeps, verdict, last_shown, shown_lately, IsAccepted, IsNext}
+use Rattle.css_moments.specs.Drifts.{Shown, Told, Keeps, verdict, last_shown, shown_lately, IsAccepted, IsNext}
 use Rattle.css_moments.proofs.Pairs.{accepts_exactly}
 use Rattle.css_world.specs.declared.fault.WorldFault.{WorldFault}
 use Rattle.css_world.specs.declared.fault.WorldFault.TheVariants.{Broken}
 use Rattle.css_world.specs.declared.watch.Reading.{Reading}
-use Rattle.css_world.specs.Clocks.{Seen, shown_at, told_by, broken_by, clock_verdict, last_reading}
-use Rattle.css_world.specs.Clocks.{near_verdict, order_verdict, reading_verdict}
+use Rattle.css_world.specs.Clocks.{Seen, shown_at, told_with, told_by, broken_by, clock_verdict, last_reading}
+use Rattle.css_world.specs.Clocks.{near_verdict, least_after, order_verdict, reading_verdict}
 use Rattle.css_gen.specs.Course.{clock}
-use Rattle.css_gen.proofs.Clocks.{clock-keeps, clock-rises}
+use Rattle.css_gen.proofs.Clocks.{clock-keeps, clock-rises, clock-goes_on}
 
 -- What a line tells of a clock: it shows what this clock shows, at a true time no later than this one, and a reading is
 -- what it shows.
@@ -47,15 +47,34 @@ seen_keeps fast earlier now h h' =
     let kept = clock-keeps fast earlier.time now.time h.before in
     rw (h.shows, h'.shows) kept
 
--- so it does from each of them
+-- ---- sleeps
+-- what was shown since a sleep keeps what it kept
+lately-with : (P : Shown → Type 0) (woke : Bool) (told : List Told) → All P (shown_lately told)
+    → All P (shown_lately (told_with woke told))
+lately-with P true told all = All-nil P
+lately-with P false told all = all
+
+-- the last line stays the last one
+last-with : (woke : Bool) (told : List Told) → last_shown (told_with woke told) ≡ last_shown told
+last-with true told = refl
+last-with false told = refl
+
+-- and what was accepted stays so
+accepted-with : (woke : Bool) (told : List Told) → IsAccepted 12800 told → IsAccepted 12800 (told_with woke told)
+accepted-with true told accepted = accepted
+accepted-with false told accepted = accepted
+
+-- ---- clocks
+-- the clock keeps its error from each of them
 all-keep : (fast : Bool) (now : Seen) → IsSeen fast now.time now → (seen : List Seen)
     → All (IsSeen fast now.time) seen
     → All (λ earlier. Keeps 12800 earlier (shown_at now)) (shown_lately (told_by seen))
 all-keep fast now h [] all = All-nil (λ earlier. Keeps 12800 earlier (shown_at now))
 all-keep fast now h (s ∷ seen) all =
-    All-cons (λ earlier. Keeps 12800 earlier (shown_at now)) (shown_at s) (shown_lately (told_by seen))
+    let Kept : Shown → Type 0 = λ earlier. Keeps 12800 earlier (shown_at now) in
+    All-cons Kept (shown_at s) (shown_lately (told_with s.woke (told_by seen)))
     (seen_keeps fast s now (All-head (IsSeen fast now.time) s seen all) h)
-    (all-keep fast now h seen (All-tail (IsSeen fast now.time) s seen all))
+    (lately-with Kept s.woke (told_by seen) (all-keep fast now h seen (All-tail (IsSeen fast now.time) s seen all)))
 
 -- the last line isn't later
 last-before : (fast : Bool) (time : ℕ) (seen : List Seen) → All (IsSeen fast time) seen
@@ -66,10 +85,15 @@ last-before fast time (s ∷ seen) all = (All-head (IsSeen fast time) s seen all
 -- the drift accepts the next line
 drift-ok : (fast : Bool) (now : Seen) → IsSeen fast now.time now → (seen : List Seen)
     → All (IsSeen fast now.time) seen → IsAccepted 12800 (told_by seen)
-    → verdict 12800 (told_by seen) (shown_at now) ≡ Ok tt
+    → verdict 12800 (told_with now.woke (told_by seen)) (shown_at now) ≡ Ok tt
 drift-ok fast now h seen all accepted =
-    (accepts_exactly 12800 (told_by seen) (shown_at now) accepted).1
-    (last-before fast now.time seen all, all-keep fast now h seen all)
+    let told = told_with now.woke (told_by seen) in
+    (accepts_exactly 12800 told (shown_at now) (accepted-with now.woke (told_by seen) accepted)).1
+    (
+      subst (λ (o : Option Shown). IfSome o (λ last. last.time ≤ now.time)) (sym (last-with now.woke (told_by seen)))
+          (last-before fast now.time seen all),
+      lately-with (λ earlier. Keeps 12800 earlier (shown_at now)) now.woke (told_by seen) (all-keep fast now h seen all),
+    )
 
 -- so the world does
 pub clock-ok : (fast : Bool) (time number : ℕ) (seen : List Seen) (now : Seen) → AreSeen fast time number seen
@@ -87,9 +111,10 @@ seen_next fast time number seen now h later is this =
     record {
       each = All-cons (IsSeen fast now.time) now seen this all;
       accepted = (
-        subst (λ n. IsNext (last_shown (told_by seen)) n) (sym is) h.last,
+        subst (λ (o : Option Shown). IsNext o now.number) (sym (last-with now.woke (told_by seen)))
+            (subst (λ n. IsNext (last_shown (told_by seen)) n) (sym is) h.last),
         drift-ok fast now this seen all h.accepted,
-        h.accepted,
+        accepted-with now.woke (told_by seen) h.accepted,
       );
       last = omega (arith, is);
     }
@@ -105,8 +130,7 @@ last-low fast time (s ∷ seen) all =
   where
     by : (reading : Option ℕ) → IfSome reading (λ r. r ≡ s.shown)
         → IfSome (last_reading seen) (λ last. last.value ≤ clock fast time)
-        → IfSome (last_reading (record { number = s.number; time = s.time; shown = s.shown; reading = reading } ∷ seen))
-        (λ last. last.value ≤ clock fast time)
+        → IfSome (last_reading (record s { reading = reading } ∷ seen)) (λ last. last.value ≤ clock fast time)
     by None e older = older
     by (Some reading) e older =
         let h = All-head (IsSeen fast time) s seen all in
@@ -118,31 +142,43 @@ near-ok number precision shown reading e =
     ap (λ b. cond b (Err (Broken number (pos (abs_diff reading shown - precision)))) (Ok tt))
     (le-ltb precision (abs_diff reading shown) (omega (arith, e)))
 
--- and not below the last one
-order-ok : (last : Option Reading) (reading : ℕ) → IfSome last (λ l. l.value ≤ reading)
-    → order_verdict last reading ≡ Ok tt
-order-ok None reading low = refl
-order-ok (Some last) reading low =
-    ap (λ b. cond b (Err (Broken last.line (pos (last.value - reading)))) (Ok tt)) (le-ltb reading last.value low)
+-- above the last one it is in order, also where the end slept between
+least-low : (woken : Bool) (last reading : ℕ) → last < reading → least_after woken last ≤ reading
+least-low true last reading low = omega (arith, low)
+least-low false last reading low = omega (arith, low)
+
+order-ok : (woken : Bool) (last : Option Reading) (reading : ℕ) → IfSome last (λ l. l.value < reading)
+    → order_verdict woken last reading ≡ Ok tt
+order-ok woken None reading low = refl
+order-ok woken (Some last) reading low =
+    ap (λ b. cond b (Err (Broken last.line (pos (least_after woken last.value - reading)))) (Ok tt))
+    (le-ltb reading (least_after woken last.value) (least-low woken last.value reading low))
 
 pub both-ok : (a b : Result (Unit {0}) WorldFault) → a ≡ Ok tt → b ≡ Ok tt → result_and a b ≡ Ok tt
 both-ok a b e e' = ap (λ r. result_and r b) e ∙ e'
 
-reading-by : (number precision shown : ℕ) (last : Option Reading) (reading : Option ℕ)
-    → IfSome last (λ l. l.value ≤ shown) → IfSome reading (λ r. r ≡ shown)
-    → reading_verdict number precision shown last reading ≡ Ok tt
-reading-by number precision shown last None low e = refl
-reading-by number precision shown last (Some reading) low e =
-    both-ok (near_verdict number precision shown reading) (order_verdict last reading)
+reading-by : (number precision shown : ℕ) (woken : Bool) (last : Option Reading) (reading : Option ℕ)
+    → IfSome last (λ l. l.value < shown) → IfSome reading (λ r. r ≡ shown)
+    → reading_verdict number precision shown woken last reading ≡ Ok tt
+reading-by number precision shown woken last None low e = refl
+reading-by number precision shown woken last (Some reading) low e =
+    both-ok (near_verdict number precision shown reading) (order_verdict woken last reading)
     (near-ok number precision shown reading e)
-    (order-ok last reading (subst (λ r. IfSome last (λ l. l.value ≤ r)) (sym e) low))
+    (order-ok woken last reading (subst (λ r. IfSome last (λ l. l.value < r)) (sym e) low))
+
+-- a later value of the clock is above the last reading
+above-last : (last : Option Reading) (low high : ℕ) → low < high → IfSome last (λ l. l.value ≤ low)
+    → IfSome last (λ l. l.value < high)
+above-last None low high above e = tt
+above-last (Some last) low high above e = omega (arith, above, e)
 
 -- a reading of the next line passes
-pub reading-ok : (fast : Bool) (time number : ℕ) (seen : List Seen) (now : Seen) (precision : ℕ)
-    → AreSeen fast time number seen → time ≤ now.time → IsSeen fast now.time now
-    → reading_verdict now.number precision now.shown (last_reading seen) now.reading ≡ Ok tt
-reading-ok fast time number seen now precision h later this =
-    let low = last-low fast now.time seen (all-later fast time now.time later seen h.each) in
-    let low_so : IfSome (last_reading seen) (λ l. l.value ≤ now.shown) =
-    subst (λ v. IfSome (last_reading seen) (λ l. l.value ≤ v)) (sym this.shows) low in
-    reading-by now.number precision now.shown (last_reading seen) now.reading low_so this.reads
+pub reading-ok : (fast : Bool) (time number : ℕ) (seen : List Seen) (now : Seen) (precision : ℕ) (woken : Bool)
+    → AreSeen fast time number seen → time + 30000 ≤ now.time → IsSeen fast now.time now
+    → reading_verdict now.number precision now.shown woken (last_reading seen) now.reading ≡ Ok tt
+reading-ok fast time number seen now precision woken h later this =
+    let low = last-low fast time seen h.each in
+    let above : clock fast time < now.shown =
+    subst (λ (v : ℕ). clock fast time < v) (sym this.shows) (clock-goes_on fast time now.time later) in
+    reading-by now.number precision now.shown woken (last_reading seen) now.reading
+    (above-last (last_reading seen) (clock fast time) now.shown above low) this.reads

@@ -10,7 +10,6 @@ use Rattle.css_span.specs.WallSpans.{span_of}
 use Rattle.css_schedule.specs.declared.header.Header.{Header}
 use Rattle.css_schedule.specs.declared.line.Verb.{Verb}
 use Rattle.css_schedule.specs.declared.line.Verb.TheVariants.{Wall, Print}
-use Rattle.css_schedule.specs.Headers.{header_of}
 use Rattle.css_companion.specs.Meanings.{timing_after}
 use Rattle.css_companion.specs.Printed.{line_of}
 use Rattle.css_companion.specs.Reports.{report_by}
@@ -21,9 +20,8 @@ use Rattle.css_world.specs.Sessions.{setup_of}
 use Rattle.css_world.specs.Happened.{Numbered, history_of}
 use Rattle.css_world.specs.Verdicts.{local_of, report_at, assigned_at}
 use Rattle.css_world.specs.Printed.{wall_line, no_answer_line}
-use Rattle.css_world.specs.Arrived.{IsToldInOrder}
-use Rattle.css_world.specs.Truth.{AreWorld, IsInStepAt}
-use Rattle.css_app.specs.Replayed.{header_in, lines_in}
+use Rattle.css_world.specs.Truth.{AreWorld, AreToldInOrder, AreInStepAt}
+use Rattle.css_app.specs.Replayed.{Running, reached}
 
 -- the responses and follow-ups that the companion of a line has accepted before it, whatever was lost, repeated or
 -- reordered
@@ -85,13 +83,13 @@ IsKept header older now (Print reading) printed =
     AreTrueTicks header older now reading printed ⊎ IsReportedCause header older now reading printed
 IsKept header older now _ printed = printed ≡ []
 
--- A line keeps the promise: so does what is printed for it. After it, the state of the content that its companion was
--- told is one that the television published: after k texts the k-th of its session. Where all texts have come, the
--- position that the companion assigns is the one that the television's published control assigns.
+-- A line keeps the promise: so does what is printed for it. After it, the state of the content that each companion was
+-- told is one that the television published: after k texts the k-th of its session. Where all texts have come to a
+-- companion, the position that it assigns is the one that the television's published control assigns.
 pub record KeepsLine (header : Header) (older : List Numbered) (now : Numbered) (printed : List ℕ) : Type 0 where
   pub kept : IsKept header older now now.line.verb printed
-  pub told : IsToldInOrder now.line.who header (now ∷ older)
-  pub in_step : IsInStepAt header older now
+  pub told : AreToldInOrder header (now ∷ older)
+  pub in_step : AreInStepAt header older now
 
 -- So does what is printed for lines, the newest of which stands first.
 abbrev pub AreKept : Header → List Numbered → List ℕ → Type 0
@@ -100,19 +98,21 @@ AreKept header (now ∷ older) printed =
     (before : List ℕ) × (last : List ℕ) × (printed ≡ before ++ last) × KeepsLine header older now last
     × AreKept header older before
 
--- What was printed is a front part of what is printed for lines of the schedule, from its header on, and for each of
--- these it keeps the promise. The lines are a world that keeps the declared errors and explains what the companion did.
+-- What was printed is a front part of what is printed for lines of the schedule, and for each of these it keeps the
+-- promise. They are the lines after its header, as far as it was read. They are a world that keeps the declared errors
+-- and explains what each companion did.
 pub record PromiseKept (bytes printed : List ℕ) : Type 0 where
-  pub first : List ℕ
   pub texts : List (List ℕ)
   pub rest : List (List ℕ)
-  pub are_lines : lines_of bytes ≡ (first ∷ texts) ++ rest
+  pub are_lines : lines_of bytes ≡ texts ++ rest
   pub header : Header
-  pub is_header : header_in (header_of first) ≡ Some header
-  pub world : AreWorld header (lines_in texts)
+  pub version : ℕ
+  pub lines : List Numbered
+  pub is_read : reached texts ≡ Running header version lines
+  pub world : AreWorld header lines
   pub whole : List ℕ
   pub front : IsPrefix printed whole
-  pub kept : AreKept header (lines_in texts) whole
+  pub kept : AreKept header lines whole
 
 -- Whatever a schedule says, what is printed of it keeps the promise.
 abbrev pub KeepsPromise : List ℕ → List ℕ → Type 0

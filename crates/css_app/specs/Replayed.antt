@@ -1,13 +1,14 @@
 -- What a replay makes of the lines of a schedule.
-use Rattle.std.specs.Prelude.{ℕ, suc, ◌+◌, List, [], ◌∷◌, length, Option, Some, None, Result, Ok, Err}
+use Rattle.std.specs.Prelude.{ℕ, suc, ◌+◌, ◌==◌, if◌then◌else◌, List, [], ◌∷◌, length, Result, Ok, Err}
 use Rattle.css_lines.specs.Meaning.{Meaning}
 use Rattle.css_schedule.specs.declared.fault.LineFault.{LineFault}
+use Rattle.css_schedule.specs.declared.header.CompanionLine.{CompanionLine}
 use Rattle.css_schedule.specs.declared.header.Header.{Header}
 use Rattle.css_schedule.specs.declared.header.Start.{Start}
 use Rattle.css_schedule.specs.declared.header.Start.TheVariants.{One, Two}
 use Rattle.css_schedule.specs.declared.line.Line.{Line}
-use Rattle.css_schedule.specs.Headers.{header_of}
-use Rattle.css_schedule.specs.Lines.{line_of}
+use Rattle.css_schedule.specs.Headers.{header_of, companion_of, with_companion}
+use Rattle.css_schedule.specs.Lines.{line_in}
 use Rattle.css_world.specs.declared.fault.WorldFault.{WorldFault}
 use Rattle.css_world.specs.declared.fault.WorldFault.TheVariants as world
 use Rattle.css_world.specs.Happened.{Numbered}
@@ -15,26 +16,61 @@ use Rattle.css_world.specs.Verdicts.{line_meant}
 use Rattle.css_app.specs.declared.replay.Cause.{Cause}
 use Rattle.css_app.specs.declared.replay.Cause.TheVariants.{Form, Absent, Player, Broken}
 
--- the header that version 1 has
-abbrev pub header_in : Result Start LineFault → Option Header
-header_in (Ok (One header)) = Some header
-header_in (Ok (Two header companions)) = None
-header_in (Err fault) = None
+-- ---- what is read
+-- How far a schedule was read: not at all; the header of version 2, with the companions of the lines so far, of so many
+-- in all; the whole header, the version, and the lines after it, the newest first; or a header that is none.
+pub data Extent : Type 0 where
+  Outset : Extent
+  Opening : (header : Header) → (count : ℕ) → Extent
+  Running : (header : Header) → (version : ℕ) → (lines : List Numbered) → Extent
+  Unread : Extent
+
+-- line 1 is read: version 1 has its one companion in it
+abbrev pub started : Result Start LineFault → Extent
+started (Ok (One header)) = Running header 1 []
+started (Ok (Two header count)) = Opening header count
+started (Err fault) = Unread
+
+-- the header is whole with the last of so many companions
+abbrev pub grown : Header → ℕ → Extent
+grown header count = if length header.companions == count then Running header 2 [] else Opening header count
+
+-- the header has one companion more
+abbrev pub declared : Header → ℕ → Result CompanionLine LineFault → Extent
+declared header count (Ok companion) = grown (with_companion header companion) count
+declared header count (Err fault) = Unread
+
+-- the companion that a text declares after those of a header
+abbrev pub next_companion : Header → List ℕ → Result CompanionLine LineFault
+next_companion header text = companion_of (length header.companions + 1) text
+
+-- the line that a text is after a header of a version
+abbrev pub next_line : Header → ℕ → List ℕ → Result Line LineFault
+next_line header version text = line_in version (length header.companions) text
 
 -- lines, the newest first, with one more of that number, if it was read
 abbrev pub with_line : ℕ → List Numbered → Result Line LineFault → List Numbered
 with_line number older (Ok line) = record { number = number; line = line } ∷ older
 with_line number older (Err fault) = older
 
--- lines with those of texts, the first of which has that number
-abbrev pub lines_after : ℕ → List Numbered → List (List ℕ) → List Numbered
-lines_after number older [] = older
-lines_after number older (text ∷ texts) = lines_after (suc number) (with_line number older (line_of text)) texts
+-- one text more was read, which is the line of that number
+abbrev pub after : ℕ → Extent → List ℕ → Extent
+after number Outset text = started (header_of text)
+after number (Opening header count) text = declared header count (next_companion header text)
+after number (Running header version lines) text =
+    Running header version (with_line number lines (next_line header version text))
+after number Unread text = Unread
 
--- the lines after the header, which is line 1; the newest stands first
-abbrev pub lines_in : List (List ℕ) → List Numbered
-lines_in texts = lines_after 2 [] texts
+-- texts were read, the first of which is the line of that number
+abbrev pub read_from : ℕ → Extent → List (List ℕ) → Extent
+read_from number extent [] = extent
+read_from number extent (text ∷ texts) = read_from (suc number) (after number extent text) texts
 
+-- so far a schedule is read by these texts
+abbrev pub reached : List (List ℕ) → Extent
+reached texts = read_from 1 Outset texts
+
+-- ---- what is meant
 -- what is printed for a line, or why it is refused; want of memory is never meant
 abbrev pub caused : Result (List ℕ) WorldFault → Result (List ℕ) Cause
 caused (Ok printed) = Ok printed
@@ -48,33 +84,43 @@ abbrev pub read_meant : Header → List Numbered → ℕ → Result Line LineFau
 read_meant header older number (Err fault) = Err Form
 read_meant header older number (Ok line) = caused (line_meant header older (record { number = number; line = line }))
 
--- a line is carried out where the header was read
-abbrev pub meant_after : Option Header → List Numbered → ℕ → Result Line LineFault → Result (List ℕ) Cause
-meant_after None older number line = Err Form
-meant_after (Some header) older number line = read_meant header older number line
+-- nothing is printed for a line of the header
+abbrev pub opened : {T : Type 0} → Result T LineFault → Result (List ℕ) Cause
+opened (Ok value) = Ok []
+opened (Err fault) = Err Form
 
--- nothing is printed for a header
-abbrev pub opened : Option Header → Result (List ℕ) Cause
-opened None = Err Form
-opened (Some header) = Ok []
+-- what a text means, as the line of that number
+abbrev pub meant_at : ℕ → Extent → List ℕ → Result (List ℕ) Cause
+meant_at number Outset text = opened (header_of text)
+meant_at number (Opening header count) text = opened (next_companion header text)
+meant_at number (Running header version lines) text = read_meant header lines number (next_line header version text)
+meant_at number Unread text = Err Form
 
--- the first line is the header; each other one is carried out after those before it
-abbrev pub text_meant : List (List ℕ) → List ℕ → Result (List ℕ) Cause
-text_meant [] text = opened (header_in (header_of text))
-text_meant (first ∷ texts) text =
-    meant_after (header_in (header_of first)) (lines_in texts) (length (first ∷ texts) + 1) (line_of text)
+-- an input that ends before its header is whole is refused
+abbrev pub ended_at : Extent → Result (List ℕ) Cause
+ended_at (Running header version lines) = Ok []
+ended_at _ = Err Form
 
--- an input without a header is refused
-abbrev pub finish_meant : List (List ℕ) → Result (List ℕ) Cause
-finish_meant [] = Err Form
-finish_meant (first ∷ texts) = Ok []
+-- the version of the next line; line 1 counts as one of version 1
+abbrev pub version_of : Extent → ℕ
+version_of (Opening header count) = 2
+version_of (Running header version lines) = version
+version_of _ = 1
 
--- what a replay makes of its lines: each has at most 4,096 bytes, and all have at most 67,108,864
+-- the greatest number of bytes of a line
+abbrev pub longest_line : ℕ → ℕ
+longest_line version = if version == 1 then 4096 else 4352
+
+-- and of a schedule
+abbrev pub longest_input : ℕ → ℕ
+longest_input version = if version == 1 then 67108864 else 134217728
+
+-- what a replay makes of its lines
 abbrev pub replayed : Meaning Cause
 replayed =
     record {
-      longest_line = λ before. 4096;
-      longest_input = λ before. 67108864;
-      line = text_meant;
-      finish = finish_meant;
+      longest_line = λ before. longest_line (version_of (reached before));
+      longest_input = λ before. longest_input (version_of (reached before));
+      line = λ before text. meant_at (length before + 1) (reached before) text;
+      finish = λ before. ended_at (reached before);
     }

@@ -1,19 +1,25 @@
 -- How the reader of a replay stands for the lines that it has taken.
-use Rattle.std.specs.Prelude.{ℕ, ◌≡◌, Bool, false, List, [], ◌∷◌, length, Option, Some, None, Result, MatchResult}
-use Rattle.std.specs.Prelude.{is_some}
+use Rattle.std.specs.Prelude.{ℕ, ◌≡◌, ◌<◌, ◌≤◌, ◌==◌, List, [], length, Some, None, Result, Ok, MatchResult}
+use Rattle.css_lines.specs.Answers.{MayFault}
 use Rattle.css_lines.specs.declared.reader.LineFault.{LineFault}
 use Rattle.css_lines.specs.declared.reader.LineFault.TheVariants as faults
 use Rattle.css_schedule.specs.declared.fault.LineFault as schedule
 use Rattle.css_schedule.specs.declared.fault.LineFault.TheVariants as unread
-use Rattle.css_schedule.specs.Headers.{header_of}
+use Rattle.css_schedule.specs.declared.header.Header.{Header}
+use Rattle.css_schedule.specs.declared.header.CompanionLine.{CompanionLine}
+use Rattle.css_schedule.specs.Headers.{max_companions, with_companion}
+use Rattle.css_schedule.specs.Ranges.{IsGoodHeader, IsVersion, FitsFirst}
 use Rattle.css_world.specs.declared.fault.WorldFault.{WorldFault}
 use Rattle.css_world.specs.declared.fault.WorldFault.TheVariants as refused
+use Rattle.css_world.specs.Happened.{Numbered}
 use Rattle.css_world.specs.Standing as worlds
 use Rattle.css_world.specs.Standing.{World}
 use Rattle.css_app.specs.declared.replay.Cause.{Cause}
 use Rattle.css_app.specs.declared.replay.Cause.TheVariants.{Form, Absent, Player, Broken}
+use Rattle.css_app.specs.declared.replay.Format.{Format}
 use Rattle.css_app.specs.declared.replay.Replay.{Replay}
-use Rattle.css_app.specs.Replayed.{header_in, lines_in}
+use Rattle.css_app.specs.Replayed.{Extent, Outset, Opening, Running, Unread, reached, after, next_companion, opened}
+use Rattle.css_app.specs.Replayed.{meant_at}
 
 -- what the engine is told of a line that was not read
 abbrev pub unread_fault : schedule.LineFault → LineFault Cause
@@ -27,29 +33,69 @@ refused_fault refused.Absent = faults.Refused Absent
 refused_fault (refused.Player fault) = faults.Refused (Player fault)
 refused_fault refused.Memory = faults.Memory
 
--- a header is refused only where it is none
-abbrev pub OpensNot : Bool → LineFault Cause → Type 0
-OpensNot opens (faults.Refused Form) = opens ≡ false
-OpensNot opens (faults.Refused _) = ⊥
-OpensNot opens faults.Memory = Unit {0}
+-- ---- how far it has read
+-- the lines of a version with so many companions
+abbrev pub format_of : ℕ → ℕ → Format
+format_of version companions = record { version = version; companions = companions }
 
--- a header opens a world without lines, and anything else is refused
-abbrev pub Opens : List ℕ → Result World (LineFault Cause) → Type 0
-Opens text result =
-    MatchResult result (λ world. (header_in (header_of text) ≡ Some world.header) × worlds.StandsFor world [])
-    (λ fault. OpensNot (is_some (header_in (header_of text))) fault)
+-- Nothing was read yet. Line 1 counts as one of version 1, which has one companion.
+pub record IsNew (replay : Replay) : Type 0 where
+  pub format : replay.format ≡ format_of 1 1
+  pub header : replay.header ≡ None
+  pub world : replay.world ≡ None
 
--- the world that a header opens is kept, and anything else is refused
-abbrev pub Begins : List ℕ → Option World → Result (Unit {0}) (LineFault Cause) → Type 0
-Begins text kept result = MatchResult result
-    (λ _. (world : World) × (kept ≡ Some world) × (header_in (header_of text) ≡ Some world.header)
-    × worlds.StandsFor world [])
-    (λ fault. OpensNot (is_some (header_in (header_of text))) fault)
+-- The header of version 2 has fewer companions than the schedule.
+pub record IsPart (format : Format) (header : Header) : Type 0 where
+  pub version : format.version ≡ 2
+  pub good : IsGoodHeader header
+  pub more : length header.companions < format.companions
+  pub few : format.companions ≤ max_companions
 
--- The reader stands for these texts: it knows how many they are, the first is the header, and its world stands for the
--- others' lines.
-abbrev pub Stands : Replay → List (List ℕ) → Type 0
-Stands replay [] = (replay.last ≡ 0) × (replay.world ≡ None)
-Stands replay (first ∷ texts) = (replay.last ≡ length (first ∷ texts))
-    × ((world : World) × (replay.world ≡ Some world) × (header_in (header_of first) ≡ Some world.header)
-    × worlds.StandsFor world (lines_in texts))
+-- There is such a header, and so many companions in all.
+pub record IsOpening (replay : Replay) (header : Header) (count : ℕ) : Type 0 where
+  pub companions : replay.format.companions ≡ count
+  pub kept : replay.header ≡ Some header
+  pub part : IsPart replay.format header
+  pub world : replay.world ≡ None
+
+-- The header is whole, and its world stands for the lines after it.
+pub record IsRunning (replay : Replay) (header : Header) (version : ℕ) (lines : List Numbered) : Type 0 where
+  pub format : replay.format ≡ format_of version (length header.companions)
+  pub known : IsVersion version
+  pub fits : FitsFirst (version == 1) (length header.companions)
+  pub world : World
+  pub is : replay.world ≡ Some world
+  pub same : world.header ≡ header
+  pub stands : worlds.StandsFor world lines
+
+-- the reader has read a schedule so far
+abbrev pub IsAt : Replay → Extent → Type 0
+IsAt replay Outset = IsNew replay
+IsAt replay (Opening header count) = IsOpening replay header count
+IsAt replay (Running header version lines) = IsRunning replay header version lines
+IsAt replay Unread = ⊥
+
+-- The reader stands for these texts: it knows how many they are, and has read them.
+pub record Stands (replay : Replay) (texts : List (List ℕ)) : Type 0 where
+  pub last : replay.last ≡ length texts
+  pub at : IsAt replay (reached texts)
+
+-- ---- calls
+-- the world of a header was opened, which stands for no lines, or memory ran out
+abbrev pub Starts : Replay → Header → Result (Unit {0}) (LineFault Cause) → Type 0
+Starts replay header result = MatchResult result
+    (λ _. (world : World) × (replay.world ≡ Some world) × (world.header ≡ header) × worlds.StandsFor world [])
+    (λ fault. fault ≡ faults.Memory)
+
+-- the header has one companion more, or it was told why a text declares none
+abbrev pub Declares : Header → Header → List ℕ → Result (Unit {0}) (LineFault Cause) → Type 0
+Declares old new text result =
+    MatchResult result (λ _. (companion : CompanionLine) × (next_companion old text ≡ Ok companion)
+    × (new ≡ with_companion old companion) × IsGoodHeader new)
+    (MayFault (opened (next_companion old text)))
+
+-- one text more of the header was read, or it was told why it is none
+abbrev pub ReadsOn : Replay → Extent → List ℕ → Result (Unit {0}) (LineFault Cause) → Type 0
+ReadsOn replay extent text result = (number : ℕ)
+    → MatchResult result (λ _. (meant_at number extent text ≡ Ok []) × IsAt replay (after number extent text))
+    (MayFault (meant_at number extent text))

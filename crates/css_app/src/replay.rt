@@ -1,13 +1,15 @@
-ghost use Rattle.std.specs.Prelude.{◌≡◌, [], List, OnOk, ℕ};
+ghost use Rattle.std.specs.Prelude.{◌≡◌, ◌<◌, ◌==◌, [], List, Some, None, OnOk, ℕ, length};
 ghost use Rattle.css_lines.specs.Answers.{Answers};
-ghost use Rattle.css_schedule.specs.Lines.{line_of};
+ghost use Rattle.css_schedule.specs.Lines.{line_in};
+ghost use Rattle.css_schedule.specs.Ranges.{IsHeader, IsCount, IsGoodHeader, IsVersion, FitsFirst};
+ghost use Rattle.css_schedule.specs.Headers.{max_companions};
 ghost use Rattle.css_world.specs.Happened.{Numbered};
 ghost use Rattle.css_world.specs.Standing as worlds;
-ghost use Rattle.css_app.specs.Replayed.{read_meant, with_line};
-ghost use Rattle.css_app.specs.Stands.{Begins, Opens, refused_fault, unread_fault};
+ghost use Rattle.css_app.specs.Replayed.{read_meant, with_line, Outset, Opening};
+ghost use Rattle.css_app.specs.Stands.{Declares, Starts, ReadsOn, IsNew, IsPart, refused_fault, unread_fault};
 
 use css_lines::{LineFault, Lines};
-use css_schedule::{PlayerFault, Start, read_header, read_line};
+use css_schedule::{Header, PlayerFault, Start, read_companion, read_header, read_line};
 use css_world::{World, WorldFault};
 use std::alloc::Global;
 
@@ -24,23 +26,70 @@ pub enum Cause {
     Broken { earlier: u64, excess: i128 },
 }
 
-/// Replays a schedule: carries out its lines, and prints the span of the wall clock, or the companion's report, where a
+/// Which lines a schedule has: those of version 1 or 2, with so many companions.
+#[derive(Clone, Copy)]
+struct Format {
+    version: u32,
+    companions: u32,
+}
+
+/// Replays a schedule: carries out its lines, and prints the span of the wall clock, or a companion's report, where a
 /// line asks for it.
 #[derive(Drop)]
 pub struct Replay {
     alloc: Global,
+    /// The lines that are to come. Line 1 counts as one of version 1.
+    format: Format,
+    /// The header of version 2, while lines of its companions are to come.
+    header: Option<Header>,
+    /// The world, once the header is whole.
     world: Option<World>,
     /// The number of the last line that was taken.
     last: u64,
 }
 
-const VERSION: u32 = 1;
+/// Lines of version 1, which has one companion.
+const FIRST: Format = Format {
+    version: 1,
+    companions: 1,
+};
 
-const COMPANIONS: u32 = 1;
+/// The greatest number of bytes of a line, and of a schedule, in version 1.
+const FIRST_LINE: usize = 4096;
 
-const LONGEST_LINE: usize = 4096;
+const FIRST_INPUT: u64 = 67_108_864;
 
-const LONGEST_INPUT: u64 = 67_108_864;
+/// The same in version 2.
+const SECOND_LINE: usize = 4352;
+
+const SECOND_INPUT: u64 = 134_217_728;
+
+impl Format {
+    ghost use Rattle.std.specs.Prelude.{◌≡◌};
+    ghost use Rattle.css_app.specs.Replayed as replayed;
+
+    // The greatest number of bytes of a line.
+    fn longest_line(&self) -> usize
+        ensures { result ≡ replayed.longest_line self.now.version }
+    {
+        if self.version == 1 {
+            FIRST_LINE
+        } else {
+            SECOND_LINE
+        }
+    }
+
+    // The greatest number of bytes of a schedule.
+    fn longest_input(&self) -> u64
+        ensures { result ≡ replayed.longest_input self.now.version }
+    {
+        if self.version == 1 {
+            FIRST_INPUT
+        } else {
+            SECOND_INPUT
+        }
+    }
+}
 
 // What the engine is told of a line that was not read.
 fn unread(fault: css_schedule::LineFault) -> LineFault<Cause>
@@ -66,47 +115,45 @@ fn refused(fault: WorldFault) -> LineFault<Cause>
     }
 }
 
-// Opens the world of a header.
-fn open(alloc: Global, text: &[u8]) -> Result<World, LineFault<Cause>>
-    ensures { Opens text.now result }
+// Reads the line of the next companion, and adds it to the header.
+fn declare(alloc: Global, header: &mut Header, text: &[u8]) -> Result<(), LineFault<Cause>>
+    requires good { IsGoodHeader header.old }
+    requires few { length header.old.companions < max_companions }
+    ensures { Declares header.old header.new text.now result }
 {
-    match read_header(alloc, text) {
-        Ok(Start::One(header)) => match World::new(alloc, header) {
-            Ok(world) => Ok(world),
-            Err(_) => Err(LineFault::Memory),
-        },
-        Ok(Start::Two { .. }) => Err(LineFault::Refused(Cause::Form)),
-        Err(fault) => Err(unread(fault)),
+    let number = header.companions.list().len() as u32 + 1;
+    let companion = match read_companion(alloc, text, number) {
+        Ok(companion) => companion,
+        Err(fault) => return Err(unread(fault)),
+    };
+    match header.add(companion) {
+        Ok(()) => Ok(()),
+        Err(_) => Err(LineFault::Memory),
     }
 }
 
-// Opens the world of a header, and keeps it. A world is large: in a function of its own its room is cleared once, and
-// not at each line.
-#[cold]
-#[inline(never)]
-fn begin(alloc: Global, text: &[u8], kept: &mut Option<World>) -> Result<(), LineFault<Cause>>
-    ensures { Begins text.now kept.new result }
-{
-    *kept = Some(open(alloc, text)?);
-    Ok(())
-}
-
-// Reads a line and carries it out.
+// Reads a line after the header and carries it out.
 fn carry_out(
     alloc: Global,
     world: &mut World,
+    format: Format,
     number: u64,
     text: &[u8],
     out: &mut Vec<u8>,
 ) -> Result<(), LineFault<Cause>>
+    requires version { IsVersion format.version }
+    requires companions { format.companions ≡ length world.old.header.companions }
+    requires count { FitsFirst (format.version == 1) format.companions }
     requires stands { (lines : List Numbered) × worlds.StandsFor world.old lines × worlds.IsNext number lines }
     ensures header { world.new.header ≡ world.old.header }
     ensures answers { (lines : List Numbered) → worlds.StandsFor world.old lines
-        → Answers (read_meant world.old.header lines number (line_of text.now)) out.old.items out.new.items result }
+        → Answers (read_meant world.old.header lines number (line_in format.version format.companions text.now))
+        out.old.items out.new.items result }
     ensures stands { (lines : List Numbered) → worlds.StandsFor world.old lines → worlds.IsNext number lines
-        → OnOk result (worlds.StandsFor world.new (with_line number lines (line_of text.now))) }
+        → OnOk result (worlds.StandsFor world.new
+        (with_line number lines (line_in format.version format.companions text.now))) }
 {
-    let line = match read_line(alloc, text, VERSION, COMPANIONS) {
+    let line = match read_line(alloc, text, format.version, format.companions) {
         Ok(line) => line,
         Err(fault) => return Err(unread(fault)),
     };
@@ -117,8 +164,9 @@ fn carry_out(
 }
 
 impl Replay {
-    ghost use Rattle.std.specs.Prelude.{[]};
-    ghost use Rattle.css_app.specs.Stands.{Stands};
+    ghost use Rattle.std.specs.Prelude.{[], None};
+    ghost use Rattle.css_app.specs.Replayed.{Extent};
+    ghost use Rattle.css_app.specs.Stands.{Stands, IsAt};
 
     /// No line was taken yet.
     pub fn new(alloc: Global) -> Replay
@@ -126,8 +174,76 @@ impl Replay {
     {
         Replay {
             alloc,
+            format: FIRST,
+            header: None,
             world: None,
             last: 0,
+        }
+    }
+
+    // Opens the world of a whole header.
+    fn start(&mut self, header: Header) -> Result<(), LineFault<Cause>>
+        requires { IsHeader header × IsCount (length header.companions) }
+        ensures starts { Starts self.new header result }
+        ensures rest { (self.new.format ≡ self.old.format) × (self.new.last ≡ self.old.last) }
+    {
+        match World::new(self.alloc, header) {
+            Ok(world) => {
+                self.world = Some(world);
+                Ok(())
+            }
+            Err(_) => Err(LineFault::Memory),
+        }
+    }
+
+    // Reads line 1.
+    fn begin(&mut self, text: &[u8]) -> Result<(), LineFault<Cause>>
+        requires { IsNew self.old }
+        ensures reads { ReadsOn self.new Outset text.now result }
+        ensures last { self.new.last ≡ self.old.last }
+    {
+        match read_header(self.alloc, text) {
+            Ok(Start::One(header)) => self.start(header),
+            Ok(Start::Two { header, companions }) => {
+                self.format = Format {
+                    version: 2,
+                    companions,
+                };
+                self.header = Some(header);
+                Ok(())
+            }
+            Err(fault) => Err(unread(fault)),
+        }
+    }
+
+    // Reads the line of the next companion. With the last one the header is whole.
+    fn go_on(&mut self, mut header: Header, text: &[u8]) -> Result<(), LineFault<Cause>>
+        requires part { IsPart self.old.format header }
+        requires world { self.old.world ≡ None }
+        ensures reads { ReadsOn self.new (Opening header self.old.format.companions) text.now result }
+        ensures last { self.new.last ≡ self.old.last }
+    {
+        declare(self.alloc, &mut header, text)?;
+        if header.companions.list().len() as u32 == self.format.companions {
+            return self.start(header);
+        }
+        self.header = Some(header);
+        Ok(())
+    }
+
+    // Reads a line of the header. A world is large: in a function of its own its room is cleared once, and not at each
+    // line.
+    #[cold]
+    #[inline(never)]
+    fn open(&mut self, text: &[u8]) -> Result<(), LineFault<Cause>>
+        requires at { (extent : Extent) × IsAt self.old extent }
+        requires world { self.old.world ≡ None }
+        ensures reads { (extent : Extent) → IsAt self.old extent → ReadsOn self.new extent text.now result }
+        ensures last { self.new.last ≡ self.old.last }
+    {
+        match self.header.take() {
+            Some(header) => self.go_on(header, text),
+            None => self.begin(text),
         }
     }
 }
@@ -144,11 +260,11 @@ impl Lines for Replay {
     ghost stands = { Stands };
 
     fn longest_line(&self) -> usize {
-        LONGEST_LINE
+        self.format.longest_line()
     }
 
     fn longest_input(&self) -> u64 {
-        LONGEST_INPUT
+        self.format.longest_input()
     }
 
     fn line(
@@ -159,11 +275,8 @@ impl Lines for Replay {
     ) -> Result<(), LineFault<Cause>> {
         self.last = number;
         match &mut self.world {
-            Some(world) => carry_out(self.alloc, world, number, text, out),
-            None => {
-                begin(self.alloc, text, &mut self.world)?;
-                Ok(())
-            }
+            Some(world) => carry_out(self.alloc, world, self.format, number, text, out),
+            None => self.open(text),
         }
     }
 

@@ -5,7 +5,6 @@ ghost use Rattle.css_outside.specs.Bytes.{AppendsPrefix};
 ghost use Rattle.css_outside.specs.Faults.{CountsCall};
 ghost use Rattle.css_schedule.specs.Headers.{header_of};
 ghost use Rattle.css_schedule.specs.Lines.{line_of};
-ghost use Rattle.css_schedule.specs.Owners.{is_sleep};
 ghost use Rattle.css_schedule.specs.declared.header.Start.TheVariants.{One};
 ghost use Rattle.css_schedule.specs.declared.line.Line.{Line as Happening};
 ghost use Rattle.css_world.specs.Happened.{Numbered};
@@ -53,8 +52,7 @@ fn open(alloc: Global, text: &[u8]) -> Result<World, Memory>
 // Reads a text that is in the grammar.
 fn read(alloc: Global, text: &[u8]) -> Result<Line, Memory>
     requires { (line : Happening) × (line_of text.now ≡ Ok line) }
-    ensures value { IfOk result (λ line. line_of text.now ≡ Ok line) }
-    ensures awake { IfOk result (λ line. is_sleep line.verb ≡ false) }
+    ensures { IfOk result (λ line. line_of text.now ≡ Ok line) }
 {
     match read_line(alloc, text, 1, 1) {
         Ok(line) => Ok(line),
@@ -63,7 +61,7 @@ fn read(alloc: Global, text: &[u8]) -> Result<Line, Memory>
     }
 }
 
-// The companion's reading, where a report is printed.
+// Its companion's reading, where a report is printed.
 fn asked_at(verb: &Verb) -> Option<u64>
     ensures { result ≡ surveyed.asked_by verb.now }
 {
@@ -80,8 +78,7 @@ fn carry_out(
     line: Line,
     printed: &mut Vec<u8>,
 ) -> Result<(), Memory>
-    requires awake { is_sleep line.verb ≡ false }
-    requires accepted { (older : List Numbered) × worlds.StandsFor world.old older
+    requires { (older : List Numbered) × worlds.StandsFor world.old older
         × worlds.AreAccepted world.old.header (record { number = number; line = line } ∷ older) }
     ensures header { world.new.header ≡ world.old.header }
     ensures stands { (older : List Numbered) → worlds.StandsFor world.old older → worlds.IsNext number older
@@ -96,15 +93,15 @@ fn carry_out(
     }
 }
 
-// The report of the last line, at which the companion's clock was read.
-fn last_report(world: &World, reading: u64) -> Report
+// The report of the last line, at which the clock of this companion was read.
+fn last_report(world: &World, who: u32, reading: u64) -> Report
     requires { (now : Numbered) × (older : List Numbered) × worlds.StandsFor world.now (now ∷ older)
-        × (surveyed.asked_by now.line.verb ≡ Some reading) }
+        × (surveyed.asked_by now.line.verb ≡ Some reading) × (now.line.who ≡ who) }
     ensures { (now : Numbered) (older : List Numbered) → worlds.StandsFor world.now (now ∷ older)
-        → surveyed.asked_by now.line.verb ≡ Some reading
+        → surveyed.asked_by now.line.verb ≡ Some reading → now.line.who ≡ who
         → result ≡ verdicts.report_at now.line.who world.now.header older reading }
 {
-    match world.companion(1) {
+    match world.companion(who) {
         Some(companion) => companion.report(reading),
         None => unreachable!(),
     }
@@ -134,26 +131,27 @@ impl Surveyor {
             → OnOk result (Stands self.new (record { number = number; line = line } ∷ older)) }
     {
         let line = read(alloc, text)?;
+        let who = line.who;
         let asked = asked_at(&line.verb);
         carry_out(&mut self.world, number, line, &mut self.printed)?;
         self.printed.clear();
-        self.count(asked);
+        self.count(who, asked);
         Ok(())
     }
 
-    // Counts the report of the last line, where it asked for one.
-    fn count(&mut self, asked: Option<u64>)
+    // Counts the report of the last line, which is of this companion, where it asked for one.
+    fn count(&mut self, who: u32, asked: Option<u64>)
         requires told { (now : Numbered) × (older : List Numbered) × worlds.StandsFor self.old.world (now ∷ older)
-            × (surveyed.asked_by now.line.verb ≡ asked) }
+            × (surveyed.asked_by now.line.verb ≡ asked) × (now.line.who ≡ who) }
         requires prints { self.old.summary.prints < 2 ^ 32 }
         requires intervals { self.old.summary.intervals < 2 ^ 32 }
         ensures world { self.new.world ≡ self.old.world }
         ensures summary { (now : Numbered) (older : List Numbered) → worlds.StandsFor self.old.world (now ∷ older)
-            → surveyed.asked_by now.line.verb ≡ asked → self.new.summary
+            → surveyed.asked_by now.line.verb ≡ asked → now.line.who ≡ who → self.new.summary
             ≡ surveyed.counted_with (surveyed.told_at self.old.world.header older now) self.old.summary }
     {
         if let Some(reading) = asked {
-            let report = last_report(&self.world, reading);
+            let report = last_report(&self.world, who, reading);
             self.summary.count(&report);
         }
     }

@@ -16,6 +16,8 @@ mod replay_tests;
 #[cfg(test)]
 mod running;
 #[cfg(test)]
+mod second_tests;
+#[cfg(test)]
 mod status_tests;
 #[cfg(test)]
 mod usage_tests;

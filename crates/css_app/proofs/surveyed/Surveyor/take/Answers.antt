@@ -40,4 +40,4 @@ returns-clause-stands c = λ older line stands few taken.
     (record { number = c.args.number; line = c.in_ok-line.line }) stands few c.count.ensures.world stood
     c.in_ok-carry_out.ensures.header
     (c.count.ensures.summary (record { number = c.args.number; line = c.in_ok-line.line }) older stood
-    (sym c.asked_at-asked.ensures)))
+    (sym c.asked_at-asked.ensures) refl))
