@@ -10,8 +10,8 @@ use Rattle.clap.specs.Lexer.{long_of}
 use Rattle.clap.specs.Simple.{built}
 use Rattle.clap.specs.Walk.{nothing_held, walk_from}
 use Rattle.clap.specs.Words.{App, Row, Text, matches_of}
-use Rattle.css_words.specs.Commands.{Agree, Audit, Companion, Generate, Pair, Relay, Replay, Survey, Tv, command_in}
-use Rattle.css_words.specs.Commands.{is_bare_dashes, named, no_options}
+use Rattle.css_words.specs.Commands.{Agree, Audit, Companion, Generate, Migrate, Pair, Relay, Replay, Survey, Tv}
+use Rattle.css_words.specs.Commands.{command_in, is_bare_dashes, named, no_options}
 use Rattle.css_words.specs.Companion.{companion_app, companion_in, companion_options, companion_rows}
 use Rattle.css_words.specs.Generator.{generator_app, generator_in, generator_options, generator_rows}
 use Rattle.css_words.specs.Laws.{UnknownOptionsAreUsage, options_of_command}
@@ -135,7 +135,7 @@ module _ (name : Text) (before after : List Text) (word option : Text) (value : 
   abbrev words : List Text
   words = name ∷ rest
 
-  by_tests : (replay agree audit companion tv pair relay generate survey : Bool)
+  by_tests : (replay agree audit migrate companion tv pair relay generate survey : Bool)
       → list_any (λ known. bytes_eq known option) (if companion then companion_options ++ codes "record" ∷ []
       else if tv then tv_options ++ codes "follow" ∷ []
       else if pair then pair_options ++ codes "follow" ∷ []
@@ -146,6 +146,7 @@ module _ (name : Text) (before after : List Text) (word option : Text) (value : 
       → (if replay then (no_options rest >>= λ _. Ok Replay)
       else if agree then (no_options rest >>= λ _. Ok Agree)
       else if audit then (no_options rest >>= λ _. Ok Audit)
+      else if migrate then (no_options rest >>= λ _. Ok Migrate)
       else if companion then (companion_in words >>= λ asked. Ok (Companion asked))
       else if tv then (tv_in words >>= λ asked. Ok (Tv asked))
       else if pair then (pair_in words >>= λ asked. Ok (Pair asked))
@@ -153,27 +154,35 @@ module _ (name : Text) (before after : List Text) (word option : Text) (value : 
       else if generate then (generator_in words >>= λ asked. Ok (Generate asked))
       else if survey then (generator_in words >>= λ asked. Ok (Survey asked))
       else Err Usage) ≡ Err Usage
-  by_tests true agree audit companion tv pair relay generate survey unknown_name =
+  by_tests true agree audit migrate companion tv pair relay generate survey unknown_name =
       rw (some_options before after word) refl
-  by_tests false true audit companion tv pair relay generate survey unknown_name =
+  by_tests false true audit migrate companion tv pair relay generate survey unknown_name =
       rw (some_options before after word) refl
-  by_tests false false true companion tv pair relay generate survey unknown_name =
+  by_tests false false true migrate companion tv pair relay generate survey unknown_name =
       rw (some_options before after word) refl
-  by_tests false false false true tv pair relay generate survey unknown_name = rw (companion_usage unknown_name) refl
-  by_tests false false false false true pair relay generate survey unknown_name = rw (tv_usage unknown_name) refl
-  by_tests false false false false false true relay generate survey unknown_name = rw (pair_usage unknown_name) refl
-  by_tests false false false false false false true generate survey unknown_name = rw (relay_usage unknown_name) refl
-  by_tests false false false false false false false true survey unknown_name = rw (generator_usage unknown_name) refl
-  by_tests false false false false false false false false true unknown_name = rw (generator_usage unknown_name) refl
-  by_tests false false false false false false false false false unknown_name = refl
+  by_tests false false false true companion tv pair relay generate survey unknown_name =
+      rw (some_options before after word) refl
+  by_tests false false false false true tv pair relay generate survey unknown_name =
+      rw (companion_usage unknown_name) refl
+  by_tests false false false false false true pair relay generate survey unknown_name = rw (tv_usage unknown_name) refl
+  by_tests false false false false false false true relay generate survey unknown_name =
+      rw (pair_usage unknown_name) refl
+  by_tests false false false false false false false true generate survey unknown_name =
+      rw (relay_usage unknown_name) refl
+  by_tests false false false false false false false false true survey unknown_name =
+      rw (generator_usage unknown_name) refl
+  by_tests false false false false false false false false false true unknown_name =
+      rw (generator_usage unknown_name) refl
+  by_tests false false false false false false false false false false unknown_name = refl
 
   named_usage : list_any (λ known. bytes_eq known option) (options_of_command name) ≡ false
       → named name rest words ≡ Err Usage
   unfolding named
   named_usage unknown_name =
       by_tests (bytes_eq name (codes "replay")) (bytes_eq name (codes "agree")) (bytes_eq name (codes "audit"))
-      (bytes_eq name (codes "companion")) (bytes_eq name (codes "tv")) (bytes_eq name (codes "pair"))
-      (bytes_eq name (codes "relay")) (bytes_eq name (codes "generate")) (bytes_eq name (codes "survey")) unknown_name
+      (bytes_eq name (codes "migrate")) (bytes_eq name (codes "companion")) (bytes_eq name (codes "tv"))
+      (bytes_eq name (codes "pair")) (bytes_eq name (codes "relay")) (bytes_eq name (codes "generate"))
+      (bytes_eq name (codes "survey")) unknown_name
 
 pub unknown_usage : UnknownOptionsAreUsage
 unfolding command_in

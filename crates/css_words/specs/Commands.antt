@@ -18,6 +18,7 @@ pub data Asked : Type 0 where
   Replay : Asked
   Agree : Asked
   Audit : Asked
+  Migrate : Asked
   Companion : CompanionAsked → Asked
   Tv : TvAsked → Asked
   Pair : PairAsked → Asked
@@ -29,6 +30,7 @@ abbrev pub asked_of : Command → Asked
 asked_of command.Replay = Replay
 asked_of command.Agree = Agree
 asked_of command.Audit = Audit
+asked_of command.Migrate = Migrate
 asked_of (command.Companion words) = Companion (companion_of words)
 asked_of (command.Tv words) = Tv (tv_of words)
 asked_of (command.Pair words) = Pair (pair_of words)
@@ -51,6 +53,7 @@ named name rest words =
     if bytes_eq name (codes "replay") then (no_options rest >>= λ _. Ok Replay)
     else if bytes_eq name (codes "agree") then (no_options rest >>= λ _. Ok Agree)
     else if bytes_eq name (codes "audit") then (no_options rest >>= λ _. Ok Audit)
+    else if bytes_eq name (codes "migrate") then (no_options rest >>= λ _. Ok Migrate)
     else if bytes_eq name (codes "companion") then (companion_in words >>= λ asked. Ok (Companion asked))
     else if bytes_eq name (codes "tv") then (tv_in words >>= λ asked. Ok (Tv asked))
     else if bytes_eq name (codes "pair") then (pair_in words >>= λ asked. Ok (Pair asked))

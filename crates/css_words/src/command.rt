@@ -23,6 +23,8 @@ pub enum Command {
     Agree,
     /// Checks each report of a companion's record.
     Audit,
+    /// Turns a schedule of version 1 into one of version 2.
+    Migrate,
     /// Is a companion of the television at an address.
     Companion(CompanionWords),
     /// Is a television.
@@ -86,6 +88,10 @@ fn command_named(
             no_options(rest)?;
             Ok(Command::Audit)
         }
+        "migrate" => {
+            no_options(rest)?;
+            Ok(Command::Migrate)
+        }
         "companion" => Ok(Command::Companion(companion_words(alloc, words)?)),
         "tv" => Ok(Command::Tv(tv_words(alloc, words)?)),
         "pair" => Ok(Command::Pair(pair_words(alloc, words)?)),
@@ -102,7 +108,7 @@ fn command_named(
 /// value that begins with `-` needs the second form. A number is in decimal, without zeros before its digits and
 /// without `+`.
 ///
-/// - `replay`, `agree` and `audit` take no options.
+/// - `replay`, `agree`, `audit` and `migrate` take no options.
 /// - `companion` needs `--cii`, a `ws:` address. It takes `--selector`, `--stem`, `--reports`, `--turns`,
 ///   `--report-every`, `--ask-every`, `--local-error`, `--local-precision`, and both `--earliest` and `--latest`. With
 ///   the flag `--record` the selector is a word, and the stem is a word other than `-` or empty, where a word is one

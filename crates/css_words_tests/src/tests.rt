@@ -90,6 +90,7 @@ fn shown(alloc: Global, command: &Command) -> Result<String, Fail> {
         Command::Replay => String::from_str(alloc, "replay")?,
         Command::Agree => String::from_str(alloc, "agree")?,
         Command::Audit => String::from_str(alloc, "audit")?,
+        Command::Migrate => String::from_str(alloc, "migrate")?,
         Command::Companion(words) => {
             let host = shown_text(&words.cii.host);
             let path = shown_text(&words.cii.path);
@@ -144,7 +145,8 @@ fn names_and_words_without_options(rt: HostRuntime) -> Result<(), Fail> {
     let told = "\
 replay => replay
 agree => agree
-audit => audit";
+audit => audit
+migrate => migrate";
     check_told(&rt, rt.alloc(), told)?;
     let usage = "\
 reply
@@ -161,6 +163,10 @@ agree --seed 7
 agree -x
 audit --record
 audit audit
+migrate --version 2
+migrate --
+migrate schedule
+migrates
 --help
 -
 --
