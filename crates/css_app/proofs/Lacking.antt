@@ -106,7 +106,8 @@ migrate_lacks : (left holds : Option (List ℕ)) (r w : ℕ)
     → ByMigrate (source_use left left r r) (sink_use holds holds w w) status.Memory
 migrate_lacks left holds r w = record {
   no_usage = tt;
-  migrates = λ bytes is. inr (record { stop = stops.Memory; ran = ran_none_of migrated left holds bytes is; told = refl });
+  migrates = λ bytes is.
+      inr (record { stop = stops.Memory; ran = ran_none_of migrated left holds bytes is; told = refl });
   complete = λ bytes is accepted read written. tt;
 }
 
