@@ -5,8 +5,8 @@ use Rattle.css_model.specs.History.{Address, History}
 use Rattle.css_follow.specs.Following.{Plan}
 use Rattle.css_follow.specs.declared.sheet.Sheet.{Sheet}
 use Rattle.css_drive.specs.declared.config.DriveConfig.{DriveConfig}
-use Rattle.css_words.specs.Commands.{Asked, Replay, Agree, Audit, Companion, Tv, Pair, Relay, Generate, Survey}
-use Rattle.css_words.specs.Commands.{command_in}
+use Rattle.css_words.specs.Commands.{Asked, Replay, Agree, Audit, Migrate, Companion, Tv, Pair, Relay, Generate}
+use Rattle.css_words.specs.Commands.{Survey, command_in}
 use Rattle.css_words.specs.Companion.{CompanionAsked, OptionsAsked}
 use Rattle.css_words.specs.Pair.{PairAsked}
 use Rattle.css_words.specs.declared.fault.WordsFault.{WordsFault}
@@ -107,6 +107,8 @@ usage_only (Ok Replay) source sink outside spawner followers result did is =
 usage_only (Ok Agree) source sink outside spawner followers result did is =
     absurd (subst IsNoUsage is did.no_usage)
 usage_only (Ok Audit) source sink outside spawner followers result did is =
+    absurd (subst IsNoUsage is did.no_usage)
+usage_only (Ok Migrate) source sink outside spawner followers result did is =
     absurd (subst IsNoUsage is did.no_usage)
 usage_only (Ok (Companion asked)) source sink outside spawner followers result did is =
     absurd (subst IsNoUsage is (either_no_usage asked.recorded asked source sink outside followers result did))

@@ -12,12 +12,15 @@ use Rattle.css_follow.specs.declared.sheet.Sheet.{Sheet}
 use Rattle.css_drive.specs.Listening.{Listener}
 use Rattle.css_agree.specs.Agreeing.{agreeing}
 use Rattle.css_audit.specs.Auditing.{auditing}
-use Rattle.css_words.specs.Commands.{Asked, Replay, Agree, Audit, Companion, Tv, Pair, Relay, Generate, Survey}
+use Rattle.css_migrate.specs.Migrated.{migrated}
+use Rattle.css_words.specs.Commands.{Asked, Replay, Agree, Audit, Migrate, Companion, Tv, Pair, Relay, Generate}
+use Rattle.css_words.specs.Commands.{Survey}
 use Rattle.css_words.specs.Companion.{CompanionAsked}
 use Rattle.css_words.specs.declared.fault.WordsFault.{WordsFault}
 use Rattle.css_words.specs.declared.fault.WordsFault.TheVariants as words
 use Rattle.css_app.specs.declared.status.Status.TheVariants as status
-use Rattle.css_app.specs.Commands.{ByAgree, ByAudit, ByRecord, ByReplay, ByWriting, Does, EitherCompanion}
+use Rattle.css_app.specs.Commands.{ByAgree, ByAudit, ByMigrate, ByRecord, ByReplay, ByWriting, Does}
+use Rattle.css_app.specs.Commands.{EitherCompanion}
 use Rattle.css_app.specs.Devices.{followers_use, sink_use, source_use}
 use Rattle.css_app.specs.Generated.{schedule_text}
 use Rattle.css_app.specs.Pairs.{Children}
@@ -99,6 +102,15 @@ audit_lacks left holds r w = record {
   complete = λ bytes is right read written. tt;
 }
 
+migrate_lacks : (left holds : Option (List ℕ)) (r w : ℕ)
+    → ByMigrate (source_use left left r r) (sink_use holds holds w w) status.Memory
+migrate_lacks left holds r w = record {
+  no_usage = tt;
+  migrates = λ bytes is.
+      inr (record { stop = stops.Memory; ran = ran_none_of migrated left holds bytes is; told = refl });
+  complete = λ bytes is accepted read written. tt;
+}
+
 writing_lacks : (text : List ℕ) (holds : Option (List ℕ)) (w : ℕ)
     → ByWriting text (sink_use holds holds w w) status.Memory
 writing_lacks text holds w = record {
@@ -135,6 +147,7 @@ pub lacks : (asked : Result Asked WordsFault) (left holds : Option (List ℕ)) (
 lacks (Ok Replay) left holds told kids takes heard r w c s = replay_lacks left holds r w
 lacks (Ok Agree) left holds told kids takes heard r w c s = agree_lacks left holds r w
 lacks (Ok Audit) left holds told kids takes heard r w c s = audit_lacks left holds r w
+lacks (Ok Migrate) left holds told kids takes heard r w c s = migrate_lacks left holds r w
 lacks (Ok (Companion asked)) left holds told kids takes heard r w c s =
     companion_lacks asked.recorded asked left holds told takes heard r w c
 lacks (Ok (Tv asked)) left holds told kids takes heard r w c s = record {

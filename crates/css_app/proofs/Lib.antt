@@ -24,4 +24,5 @@ pub mod Quiet
 pub mod Lacking
 pub mod Relays
 pub mod Records
+pub mod Migrations
 pub mod Commands

@@ -9,7 +9,8 @@ use Rattle.css_follow.specs.Sheets.{sheet_in}
 use Rattle.css_follow.specs.declared.sheet.Sheet.{Sheet}
 use Rattle.css_schedule.specs.declared.line.ScriptLine.{ScriptLine}
 use Rattle.css_tv.specs.declared.config.TvConfig.{TvConfig}
-use Rattle.css_words.specs.Commands.{Asked, Replay, Agree, Audit, Companion, Tv, Pair, Relay, Generate, Survey}
+use Rattle.css_words.specs.Commands.{Asked, Replay, Agree, Audit, Migrate, Companion, Tv, Pair, Relay, Generate}
+use Rattle.css_words.specs.Commands.{Survey}
 use Rattle.css_words.specs.Companion.{CompanionAsked, OptionsAsked}
 use Rattle.css_words.specs.Generator.{GeneratorAsked}
 use Rattle.css_words.specs.Pair.{PairAsked}
@@ -26,6 +27,7 @@ use Rattle.css_app.specs.Ended.{IsNoUsage, Replays, Writes}
 use Rattle.css_app.specs.Generated.{schedule_text}
 use Rattle.css_app.specs.Headline.{Promised}
 use Rattle.css_app.specs.Live.{IsAsDue, MakesNoRun, RunsBySheet, Serves, ServesAsDue, Stage}
+use Rattle.css_app.specs.Migrations.{AreAllFirst, Migrates}
 use Rattle.css_app.specs.Pairs.{ArePairedAsDue, Children, PairsByScript, PairsNone, address_at}
 use Rattle.css_app.specs.Records.{MakesNoRecord, MakesRecord}
 use Rattle.css_app.specs.Relays.{RelaysBy, RelaysNone, RelaysAsDue}
@@ -45,6 +47,7 @@ abbrev pub uses_source : Result Asked WordsFault → Bool
 uses_source (Ok Replay) = true
 uses_source (Ok Agree) = true
 uses_source (Ok Audit) = true
+uses_source (Ok Migrate) = true
 uses_source (Ok (Companion asked)) = not asked.recorded
 uses_source (Ok (Tv asked)) = true
 uses_source (Ok (Pair asked)) = true
@@ -54,6 +57,7 @@ abbrev pub uses_sink : Result Asked WordsFault → Bool
 uses_sink (Ok Replay) = true
 uses_sink (Ok Agree) = true
 uses_sink (Ok Audit) = true
+uses_sink (Ok Migrate) = true
 uses_sink (Ok (Companion asked)) = true
 uses_sink (Ok (Pair asked)) = true
 uses_sink (Ok (Generate asked)) = true
@@ -144,6 +148,18 @@ pub record ByAudit (source : SourceUse) (sink : SinkUse) (result : Status) : Typ
   pub right : result ≡ status.Done → SaysRight source.left_old source.left_new
   -- a record that is right is read to its end, over devices that don't fail
   pub complete : (bytes : List ℕ) → source.left_old ≡ Some bytes → AreAllRight bytes
+      → HasNotFailed source.faults_old source.faults_new → HasNotFailed sink.faults_old sink.faults_new
+      → IsDoneUnlessMemory result
+
+-- ---- `migrate`
+-- What each line of a schedule of version 1 becomes in version 2 is written. It is refused at the first line that is
+-- none of version 1.
+pub record ByMigrate (source : SourceUse) (sink : SinkUse) (result : Status) : Type 0 where
+  pub no_usage : IsNoUsage result
+  pub migrates : (bytes : List ℕ) → source.left_old ≡ Some bytes
+      → Migrates bytes source.left_new sink.holds_old sink.holds_new result
+  -- a schedule of version 1 is read to its end, over devices that don't fail
+  pub complete : (bytes : List ℕ) → source.left_old ≡ Some bytes → AreAllFirst bytes
       → HasNotFailed source.faults_old source.faults_new → HasNotFailed sink.faults_old sink.faults_new
       → IsDoneUnlessMemory result
 
@@ -262,6 +278,7 @@ abbrev pub Does :
 Does (Ok Replay) source sink outside spawner followers result = ByReplay source sink result
 Does (Ok Agree) source sink outside spawner followers result = ByAgree source sink result
 Does (Ok Audit) source sink outside spawner followers result = ByAudit source sink result
+Does (Ok Migrate) source sink outside spawner followers result = ByMigrate source sink result
 Does (Ok (Companion asked)) source sink outside spawner followers result =
     EitherCompanion asked.recorded asked source sink outside followers result
 Does (Ok (Tv asked)) source sink outside spawner followers result = ByTv asked source outside result

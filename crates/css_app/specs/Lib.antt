@@ -11,4 +11,5 @@ pub mod Pairs
 pub mod Devices
 pub mod Relays
 pub mod Records
+pub mod Migrations
 pub mod Commands

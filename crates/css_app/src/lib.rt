@@ -13,6 +13,7 @@ mod live_pair;
 mod live_record;
 mod live_relay;
 mod live_tv;
+mod migration;
 mod program;
 mod replay;
 mod script_text;

@@ -8,8 +8,8 @@ ghost use Rattle.css_words.specs.Relay.{RelayAsked};
 ghost use Rattle.css_words.specs.Tv.{TvAsked};
 ghost use Rattle.css_words.specs.Written.{IsWritable};
 ghost use Rattle.css_words.specs.declared.fault.WordsFault.TheVariants as words_fault;
-ghost use Rattle.css_app.specs.Commands.{ByAgree, ByAudit, ByCompanion, ByGenerate, ByPair, ByRecord, ByRelay};
-ghost use Rattle.css_app.specs.Commands.{ByReplay, BySurvey, ByTv, Does};
+ghost use Rattle.css_app.specs.Commands.{ByAgree, ByAudit, ByCompanion, ByGenerate, ByMigrate, ByPair, ByRecord};
+ghost use Rattle.css_app.specs.Commands.{ByRelay, ByReplay, BySurvey, ByTv, Does};
 ghost use Rattle.css_app.specs.Commands.{IsUsageUnlessMemory, uses_followers, uses_outside, uses_sink, uses_source};
 ghost use Rattle.css_app.specs.Commands.{uses_spawner};
 ghost use Rattle.css_app.specs.Devices.{followers_use, outside_use, sink_use, source_use, spawner_use};
@@ -23,6 +23,7 @@ use crate::agreement::agree;
 use crate::audited::audit;
 use crate::by_words::{companion_by, generate_by, pair_by, survey_by, tv_by};
 use crate::live_relay::relay_by;
+use crate::migration::migrate;
 use crate::replay::{Cause, Replay};
 use crate::status::Status;
 use css_drive::Listens;
@@ -117,6 +118,7 @@ fn run_command<S: Source, K: Sink, O: Outside, P: Spawner, F: Listens>(
         Command::Replay => replay(alloc, source, sink),
         Command::Agree => agree(alloc, source, sink),
         Command::Audit => audit(alloc, source, sink),
+        Command::Migrate => migrate(alloc, source, sink),
         Command::Companion(words) => companion_by(alloc, words, source, sink, outside, followers),
         Command::Tv(words) => tv_by(alloc, words, source, outside),
         Command::Pair(words) => pair_by(alloc, words, source, sink, outside, spawner, followers),
@@ -131,6 +133,7 @@ fn run_command<S: Source, K: Sink, O: Outside, P: Spawner, F: Listens>(
 /// - `replay` reads a schedule from the source, and writes what each line gives to the sink before it reads on.
 /// - `agree` reads the answers of a wall clock in the same way, and tells what they say together.
 /// - `audit` reads the record of a companion in the same way, and checks each report of it.
+/// - `migrate` reads a schedule of version 1 in the same way, and writes it as one of version 2.
 /// - `companion` reads a cue sheet from the source, to its end. Then it is a companion of the television at an address:
 ///   it writes its reports to the sink, and the followers are told them. With `--record` it reads no sheet, no one
 ///   follows it, and it writes the record of its run.
@@ -182,6 +185,11 @@ pub fn run<S: Source, K: Sink, O: Outside, P: Spawner, F: Listens>(
     // it, and else the status tells the first line that has a cause, and its first cause.
     ensures audit { command_in (map string_bytes words.now) ≡ Ok commands.Audit
         → ByAudit (source_use (S.left source.old) (S.left source.new) (S.faults source.old) (S.faults source.new))
+        (sink_use (K.holds sink.old) (K.holds sink.new) (K.faults sink.old) (K.faults sink.new)) result }
+
+    // A schedule of version 1: what its lines become in version 2.
+    ensures migrate { command_in (map string_bytes words.now) ≡ Ok commands.Migrate
+        → ByMigrate (source_use (S.left source.old) (S.left source.new) (S.faults source.old) (S.faults source.new))
         (sink_use (K.holds sink.old) (K.holds sink.new) (K.faults sink.old) (K.faults sink.new)) result }
 
     // A companion by its sheet: each report is that of the calls before it, and each interval contains the position

@@ -10,6 +10,8 @@ mod both_ends_tests;
 #[cfg(test)]
 mod generated_tests;
 #[cfg(test)]
+mod migrate_tests;
+#[cfg(test)]
 mod refused_tests;
 #[cfg(test)]
 mod replay_tests;

@@ -25,6 +25,7 @@ replay now
 replay --help
 replay -
 agree --
+migrate now
 --help
 companion --cii ws://127.0.0.1:6677/cii now
 tv now

@@ -1,7 +1,8 @@
 -- What a run promises of its words and its devices, from what its command does.
 use Rattle.std.proofs.Common.{◌∙◌, ap, sym, map}
 use Rattle.std.specs.Prelude.{Ok, Err, string_bytes, true, false}
-use Rattle.css_words.specs.Commands.{Replay, Agree, Audit, Companion, Tv, Pair, Relay, Generate, Survey, asked_of}
+use Rattle.css_words.specs.Commands.{Replay, Agree, Audit, Migrate, Companion, Tv, Pair, Relay, Generate, Survey}
+use Rattle.css_words.specs.Commands.{asked_of}
 use Rattle.css_words.specs.declared.fault.WordsFault.TheVariants as words
 use Rattle.css_app.specs.Commands.{uses_followers, uses_outside, uses_sink, uses_source, uses_spawner}
 use Rattle.css_app.specs.Pairs.{children}
@@ -53,6 +54,11 @@ returns-in-Ok-clause-agree g c is =
 pub returns-in-Ok-clause-audit : goal.returns-in-Ok-clause-audit
 returns-in-Ok-clause-audit g c is =
     does_so (map string_bytes c.args.words.now) (asked_of c.in-Ok.command) (Ok Audit) _ _ _ _ _ _
+    c.in-Ok.ensures.value c.run_command.ensures.does is
+
+pub returns-in-Ok-clause-migrate : goal.returns-in-Ok-clause-migrate
+returns-in-Ok-clause-migrate g c is =
+    does_so (map string_bytes c.args.words.now) (asked_of c.in-Ok.command) (Ok Migrate) _ _ _ _ _ _
     c.in-Ok.ensures.value c.run_command.ensures.does is
 
 pub returns-in-Ok-clause-companion : goal.returns-in-Ok-clause-companion
@@ -107,6 +113,11 @@ returns-in-Err-Usage-clause-agree g c is =
 
 pub returns-in-Err-Usage-clause-audit : goal.returns-in-Err-Usage-clause-audit
 returns-in-Err-Usage-clause-audit g c is =
+    absurd (let none = usage_of (map string_bytes c.args.words.now) _ c.in-Err-Usage.field-0-is
+    c.in-Err-Usage.ensures.value in cc)
+
+pub returns-in-Err-Usage-clause-migrate : goal.returns-in-Err-Usage-clause-migrate
+returns-in-Err-Usage-clause-migrate g c is =
     absurd (let none = usage_of (map string_bytes c.args.words.now) _ c.in-Err-Usage.field-0-is
     c.in-Err-Usage.ensures.value in cc)
 
@@ -168,6 +179,15 @@ returns-in-Err-Memory-clause-agree g c is =
 pub returns-in-Err-Memory-clause-audit : goal.returns-in-Err-Memory-clause-audit
 returns-in-Err-Memory-clause-audit g c is =
     lacks (Ok Audit) (g.S.Source.left c.args.source.now) (g.K.Sink.holds c.args.sink.now)
+    (g.O.Outside.told c.args.outside.now)
+    (children (g.P.Spawner.told c.args.spawner.now) (g.P.Spawner.running c.args.spawner.now))
+    (g.F.Listens.takes c.args.followers.now) (g.F.Listens.heard c.args.followers.now)
+    (g.S.Source.faults c.args.source.now) (g.K.Sink.faults c.args.sink.now)
+    (g.O.Outside.counts c.args.outside.now).faults (g.P.Spawner.faults c.args.spawner.now)
+
+pub returns-in-Err-Memory-clause-migrate : goal.returns-in-Err-Memory-clause-migrate
+returns-in-Err-Memory-clause-migrate g c is =
+    lacks (Ok Migrate) (g.S.Source.left c.args.source.now) (g.K.Sink.holds c.args.sink.now)
     (g.O.Outside.told c.args.outside.now)
     (children (g.P.Spawner.told c.args.spawner.now) (g.P.Spawner.running c.args.spawner.now))
     (g.F.Listens.takes c.args.followers.now) (g.F.Listens.heard c.args.followers.now)

@@ -34,6 +34,17 @@ returns-in-Audit-clause-counted_dials g c =
 pub returns-in-Audit-clause-counted_spawns : goal.returns-in-Audit-clause-counted_spawns
 returns-in-Audit-clause-counted_spawns g c = c.audit.ensures.quiet.spawns (g.P.Spawner.faults c.args.spawner.now)
 
+pub returns-in-Migrate-clause-counted_calls : goal.returns-in-Migrate-clause-counted_calls
+returns-in-Migrate-clause-counted_calls g c =
+    c.migrate.ensures.quiet.calls (g.O.Outside.counts c.args.outside.now).faults
+
+pub returns-in-Migrate-clause-counted_dials : goal.returns-in-Migrate-clause-counted_dials
+returns-in-Migrate-clause-counted_dials g c =
+    c.migrate.ensures.quiet.dials (g.O.Outside.counts c.args.outside.now).dial_faults
+
+pub returns-in-Migrate-clause-counted_spawns : goal.returns-in-Migrate-clause-counted_spawns
+returns-in-Migrate-clause-counted_spawns g c = c.migrate.ensures.quiet.spawns (g.P.Spawner.faults c.args.spawner.now)
+
 -- a companion and a television start no child, and a television writes nothing
 pub returns-in-Companion-clause-counted_spawns : goal.returns-in-Companion-clause-counted_spawns
 returns-in-Companion-clause-counted_spawns g c =
