@@ -1,6 +1,5 @@
 pub mod Faults
 pub mod Options
-pub mod Lines
 pub mod Generator
 pub mod Bounds
 pub mod Tv
