@@ -1,6 +1,6 @@
 -- The reading at a line: what the clocks say of it, and what all lanes then know.
-use Rattle.std.proofs.Common.{◌≡◌, ◌≢◌, ◌≤◌, ◌<◌, ◌+◌, ◌-◌, ◌&&◌, ◌||◌, ℕ, Bool, true, false, List, ◌∷◌}
-use Rattle.std.proofs.Common.{arith, refl, ap, sym, subst, ◌∙◌, ◌⊎◌, inl, inr}
+use Rattle.std.proofs.Common.{◌≡◌, ◌≢◌, ◌≤◌, ◌+◌, ◌-◌, ◌&&◌, ◌||◌, ℕ, Bool, true, false, List, ◌∷◌}
+use Rattle.std.proofs.Common.{arith, refl, ap, sym, subst, ◌∙◌, inl, inr}
 use Rattle.std.specs.Prelude.{Option, Some, None, Result, Ok, Err, OnOk, OnErr, IfSome, slice_set, is_none}
 use Rattle.std.specs.Option.{option_map, option_or}
 use Rattle.std.specs.Result.{result_and}
@@ -12,7 +12,7 @@ use Rattle.css_world.specs.declared.fault.WorldFault.{WorldFault}
 use Rattle.css_world.specs.declared.lane.Lane.{Lane}
 use Rattle.css_world.specs.declared.watch.Reading.{Reading}
 use Rattle.css_world.specs.declared.watch.Watch.{Watch}
-use Rattle.css_world.specs.Clocks.{Seen, last_reading, has_woken, least_after, least_next, read_verdict, reading_verdict}
+use Rattle.css_world.specs.Clocks.{Seen, last_reading, has_woken, least_next, read_verdict, reading_verdict}
 use Rattle.css_world.specs.Happened.{Numbered}
 use Rattle.css_world.specs.Lanes.{IsLaneOf, WasRead}
 use Rattle.css_world.specs.Numbering.{stored}

@@ -15,7 +15,7 @@ use Rattle.css_world.specs.declared.watch.Watch.{Watch}
 use Rattle.css_world.specs.Happened.{Numbered}
 use Rattle.css_world.specs.Numbering.{stored}
 use Rattle.css_world.specs.Lanes.{IsLaneOf}
-use Rattle.css_world.specs.Standing.{World, IsWorld, IsNumber, DriftsStand, KeepsEnds, KeepsReadings, KeepsDrifts}
+use Rattle.css_world.specs.Standing.{World, IsWorld, DriftsStand, KeepsEnds, KeepsReadings, KeepsDrifts}
 use Rattle.css_world.specs.Verdicts.{tv_seen, own_seen, seen_of_tv, seen_of, own_shown_tested, shown_tested, local_of}
 use Rattle.css_world.specs.Verdicts.{IsDeclared}
 use Rattle.css_world.proofs.Numbers.{each_written, stored_within, set_part}

@@ -1,6 +1,6 @@
 -- One lane of a world is written over: what is always true stays so, and no clock is touched.
-use Rattle.std.proofs.Common.{◌≡◌, ◌≤◌, ◌-◌, ◌+◌, ℕ, suc, arith, List, length, refl, ap, sym, subst, ◌∙◌, true, false, length-set}
-use Rattle.std.specs.Prelude.{Some, None, Option, Result, Ok, Err, IfErr, slice_set, map, max}
+use Rattle.std.proofs.Common.{◌≡◌, ◌≤◌, ◌-◌, ◌+◌, ℕ, arith, List, length, refl, ap, sym, subst, ◌∙◌, true, false, length-set}
+use Rattle.std.specs.Prelude.{Some, Result, Ok, Err, IfErr, slice_set, map, max}
 use Rattle.css_model.specs.Numbers.{precision_ns}
 use Rattle.css_client.specs.Clients.{local_of}
 use Rattle.css_companion.specs.Standing as companions
@@ -13,7 +13,6 @@ use Rattle.css_schedule.specs.declared.line.Verb.{Verb}
 use Rattle.css_world.specs.declared.fault.WorldFault.{WorldFault}
 use Rattle.css_world.specs.declared.fault.WorldFault.TheVariants as faults
 use Rattle.css_world.specs.declared.lane.Lane.{Lane}
-use Rattle.css_world.specs.declared.watch.Reading.{Reading}
 use Rattle.css_world.specs.Clocks.{least_next}
 use Rattle.css_schedule.specs.Headers.{max_companions}
 use Rattle.css_world.specs.Lanes.{IsLaneOf, WasRead, KeepsAllButTexts, KeepsTv}

@@ -1,8 +1,7 @@
 -- The reading at a line is tested and kept; at a sleep the companion's next reading has to be greater.
-use Rattle.std.proofs.Common.{◌≡◌, ◌-◌, true, refl, ap, subst, rules}
+use Rattle.std.proofs.Common.{◌-◌, true, refl, ap, subst, rules}
 use Rattle.std.specs.Prelude.{Result, Ok, slice_set}
 use Rattle.css_schedule.specs.Owners.{is_sleep}
-use Rattle.css_schedule.specs.declared.line.Verb.TheVariants as events
 use Rattle.css_world.specs.declared.fault.WorldFault.{WorldFault}
 use Rattle.css_world.specs.Happened.{Numbered}
 use Rattle.css_world.specs.Standing.{World, ReadsBy, ReadTo}

@@ -4,13 +4,13 @@ use Rattle.std.specs.Prelude.{Result, Ok, Err, slice_set}
 use Rattle.std.specs.Option.{ForSome}
 use Rattle.std.proofs.lemmas.Result.{err_from_is_err_and}
 use Rattle.css_world.specs.declared.fault.WorldFault.{WorldFault}
-use Rattle.css_world.specs.Clocks.{told_by, told_with, clock_verdict}
+use Rattle.css_world.specs.Clocks.{told_by, told_with}
 use Rattle.css_world.specs.Happened.{Numbered}
-use Rattle.css_world.specs.Standing.{World, IsWorld, DriftsStand, ShowsBy, ShownTo, AreNext}
-use Rattle.css_world.specs.Verdicts.{local_of, tv_seen, own_seen, seen_of_tv, seen_of, shown_tested}
+use Rattle.css_world.specs.Standing.{World, IsWorld, ShowsBy, ShownTo, AreNext}
+use Rattle.css_world.specs.Verdicts.{local_of, tv_seen, own_seen, seen_of_tv, seen_of}
 use Rattle.css_world.proofs.Inside.{inside_of}
-use Rattle.css_world.proofs.Showing.{clock_told, wall_refused, none_shown, own_shown, drifts_written, drifts_untouched}
-use Rattle.css_world.proofs.Showing.{ends_kept, ends_untouched, readings_kept, readings_untouched}
+use Rattle.css_world.proofs.Showing.{clock_told, wall_refused, own_shown, drifts_untouched}
+use Rattle.css_world.proofs.Showing.{ends_kept, readings_kept}
 use Rattle.css_world.proofs.Showing.{still_timed, shown_lane, still_clocked, drifts_after}
 use Rattle.css_world.proofs.world.World.show.Goals as goal
 
