@@ -11,7 +11,7 @@ use css_num::{Memory, Text};
 use css_schedule::{Line, Verb, print_line};
 use std::alloc::Global;
 
-/// The course of a schedule of several companions.
+/// The course of a schedule of several companions. With one companion only `course` goes on.
 #[derive(Debug, Drop)]
 pub(crate) struct Crowd {
     /// How many companions there are.

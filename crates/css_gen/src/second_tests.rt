@@ -150,13 +150,8 @@ fn the_longest_schedule_of_16_ends(rt: HostRuntime) -> Result<(), Fail> {
 }
 
 /// The line that a text of version 2 is read as, written again.
-fn line_again(
-    rt: &impl Abort,
-    alloc: Global,
-    text: &Text,
-    companions: u32,
-) -> Result<Text, Memory> {
-    match read_line(alloc, text.bytes(), 2, companions) {
+fn line_again(rt: &impl Abort, alloc: Global, text: &Text) -> Result<Text, Memory> {
+    match read_line(alloc, text.bytes(), 2, 16) {
         Ok(line) => print_line(alloc, &line, 2),
         _ => panic!(rt; "no line"),
     }
@@ -178,7 +173,7 @@ fn lines_of_several_are_read_and_written_again(rt: HostRuntime) -> Result<(), Fa
     }
     for _ in 0..56 {
         let text = next(&rt, rt.alloc(), &mut generator)?;
-        let again = line_again(&rt, rt.alloc(), &text, 3)?;
+        let again = line_again(&rt, rt.alloc(), &text)?;
         assert_eq!(rt; again.bytes(), text.bytes());
     }
     Ok(())

@@ -218,14 +218,8 @@ fn each_companion_has_its_own_answers(rt: HostRuntime) -> Result<(), Fail> {
 1800 5600 2 7800 wall 7800
 1800 5600 1 1800 wall 1800
 ";
-    check(
-        &rt,
-        alloc,
-        BOTH,
-        own,
-        "11 wall 5497 6203 at 5600\n12 none NoAnswer\n",
-        None,
-    )?;
+    let printed = "11 wall 5497 6203 at 5600\n12 none NoAnswer\n";
+    check(&rt, alloc, BOTH, own, printed, None)?;
     // The sleep of one leaves the other its answers, and the clock of one isn't that of the other.
     let slept = "\
 1600 5400 1 1600 land 1 1600
