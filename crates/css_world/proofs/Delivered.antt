@@ -1,17 +1,15 @@
 -- What a television tells is in flight to the companion that it is for, and to no other one.
-use Rattle.std.proofs.Common.{◌≡◌, ◌≢◌, ℕ, ◌+◌, ◌*◌, ◌-◌, ◌/◌, ◌%◌, ◌≤◌, arith, Bool, true, false, cond, ◌==◌}
+use Rattle.std.proofs.Common.{◌≡◌, ◌≢◌, ℕ, ◌+◌, ◌-◌, ◌/◌, ◌%◌, ◌≤◌, arith, Bool, cond}
 use Rattle.std.proofs.Common.{List, [], ◌∷◌, ◌++◌, append-nil, length, refl, ap, sym, subst, ◌∙◌, inl, inr, ne_eqb}
 use Rattle.std.specs.Prelude.{Some, map, slice_set, Result, Ok, Err, OnOk}
 use Rattle.std.proofs.lemmas.Bool.Decides.{eqb_tells}
 use Rattle.css_sessions.specs.declared.session.Kind.TheVariants as kind
 use Rattle.css_sessions.specs.declared.session.Said.{Said}
-use Rattle.css_companion.specs.Standing.{Companion}
 use Rattle.css_tv.specs.declared.event.TvOut.{TvOut}
 use Rattle.css_tv.specs.declared.event.TvOut.TheVariants as outs
 use Rattle.css_world.specs.declared.lane.Lane.{Lane}
 use Rattle.css_world.specs.declared.session.Phase.{Phase}
 use Rattle.css_world.specs.declared.session.Phase.TheVariants.{Unopened, Open, Over}
-use Rattle.css_world.specs.declared.watch.Watch.{Watch}
 use Rattle.css_world.specs.Numbering.{stored}
 use Rattle.css_world.specs.Sessions.{peer_of}
 use Rattle.css_world.specs.Flights.{Session, grown, with_news, news_of}

@@ -1,6 +1,6 @@
 -- What an entry of one session tells of it, and of another one.
 use Rattle.std.proofs.Common.{◌≡◌, ℕ, ap, refl, Bool, true, false, cond, not, ◌==◌, List, ◌∷◌}
-use Rattle.std.specs.Prelude.{◌||◌, ◌&&◌, Option, Some, None, is_some}
+use Rattle.std.specs.Prelude.{◌||◌, ◌&&◌, Some, None, is_some}
 use Rattle.std.specs.List.{cons_option}
 use Rattle.std.specs.Option.{option_or}
 use Rattle.std.proofs.lemmas.Bool.{eq-eqb}

@@ -1,5 +1,5 @@
 -- The lanes of a schedule before its first line.
-use Rattle.std.proofs.Common.{◌≡◌, ◌<◌, ◌≤◌, ◌+◌, ℕ, suc, arith, refl, ap, sym, subst, ◌∙◌, inl, inr, List, [], ◌∷◌, ◌++◌}
+use Rattle.std.proofs.Common.{◌≡◌, ◌<◌, ◌+◌, ℕ, suc, arith, refl, ap, sym, subst, ◌∙◌, inl, inr, List, [], ◌∷◌, ◌++◌}
 use Rattle.std.proofs.Common.{length, length-append, get_or}
 use Rattle.std.specs.Prelude.{Some, slice_get}
 use Rattle.std.proofs.lemmas.Option.{slice_get_read}
@@ -19,8 +19,8 @@ none_fresh companions who declared lane at found =
     let within = stored_within {A = Lane} [] who lane found in absurd (omega (arith, within.0, within.1))
 
 -- one lane more
-pub one_fresh : (companions : List CompanionLine) (lanes : List Lane) (place : ℕ) (declared : CompanionLine) (lane : Lane)
-    → length lanes ≡ place → place < length companions → declared ≡ get_or companions place declared
+pub one_fresh : (companions : List CompanionLine) (lanes : List Lane) (place : ℕ) (declared : CompanionLine)
+    (lane : Lane) → length lanes ≡ place → place < length companions → declared ≡ get_or companions place declared
     → IsFresh declared lane → EachFresh companions lanes → EachFresh companions (lanes ++ lane ∷ [])
 one_fresh companions lanes place declared lane count below is fresh each who d x at found =
     elim (stored_pushed lanes lane who x found) [

@@ -1,13 +1,16 @@
 -- A line that was carried out is one more that the world stands for.
-use Rattle.std.proofs.Common.{◌≡◌, ℕ, Bool, true, false, cond, List, [], ◌∷◌, ◌++◌}
+use Rattle.std.proofs.Common.{◌≡◌, ◌<◌, ℕ, Bool, true, false, cond, List, [], ◌∷◌, ◌++◌}
 use Rattle.std.proofs.Common.{append-nil, refl, ap, sym, subst, ◌∙◌, inl, inr}
-use Rattle.std.specs.Prelude.{Option, Some, length, Result, Ok, Err, OnOk, OnErr}
+use Rattle.std.specs.Prelude.{Option, Some, None, IfSome, length, Result, Ok, Err, OnOk, OnErr}
+use Rattle.std.specs.Option.{option_map, ForSome}
 use Rattle.std.specs.Result.{result_and}
 use Rattle.css_server.specs.Tickets.{Ticket}
 use Rattle.css_server.specs.Exchanges as servers
 use Rattle.css_model.specs.Wire.{encoded}
 use Rattle.css_num.specs.Gives.{GivesBy, LeavesBy}
+use Rattle.css_moments.specs.Drifts.{Shown, last_shown}
 use Rattle.css_moments.specs.Standing as drifts
+use Rattle.css_moments.specs.declared.kept.Last.{Last}
 use Rattle.css_moments.specs.Standing.{Drift}
 use Rattle.css_tv.specs.Stages.{Television as Tv}
 use Rattle.css_tv.specs.Standing as tvs
@@ -27,6 +30,7 @@ use Rattle.css_world.specs.Sessions.{peer_of}
 use Rattle.css_world.specs.Happened.{Numbered, requests, askers, tickets, taken_for, datagrams, made_for, events_of}
 use Rattle.css_world.specs.Happened.{history_of}
 use Rattle.css_world.proofs.Numbers.{stored_same, part_kept, parts_kept}
+use Rattle.css_world.proofs.Worlds.{next_own}
 use Rattle.css_world.specs.Verdicts.{IsDeclared, seen_of_tv, seen_of, shown_tested, reading_tested}
 use Rattle.css_world.specs.Verdicts.{can_happen, event_at, played, printed_for, carried_out, line_meant}
 use Rattle.css_world.specs.Flights.{Session, SessionStands}
@@ -35,7 +39,7 @@ use Rattle.css_world.proofs.Truth.{accepted_lines_are_true}
 use Rattle.css_world.specs.Standing.{World, AreStored, request_bytes, owner, open_ticket, EndsStand, IsReady, DriftsStand}
 use Rattle.css_world.specs.Standing.{ReadingsStand, AreAccepted, StandsFor, carried, Carries, CarriesOut}
 use Rattle.css_world.specs.Standing.{PrintsFor, Prints, KeepsEnds, KeepsClocks, KeepsReadings, KeepsDrifts}
-use Rattle.css_world.specs.Standing.{ShowsBy, ShownTo, ReadsBy, ReadTo, Means, GoesOn, appended}
+use Rattle.css_world.specs.Standing.{ShowsBy, ShownTo, ReadsBy, ReadTo, IsNext, AreNext, Means, GoesOn, appended}
 
 -- ---- what isn't touched
 -- each lane keeps its companion and its sessions
@@ -167,6 +171,51 @@ still_ready old shown read lines first second stands = record {
   ends = keeps_ends shown read lines second (keeps_ends old shown lines first stands.ends);
 }
 
+-- no reading was taken where the clocks were shown a line
+kept_readings : (old shown : World) (lines : List Numbered) → KeepsReadings old shown → ReadingsStand old lines
+    → ReadingsStand shown lines
+kept_readings old shown lines kept stand = record {
+  tv = kept.tv ∙ stand.tv;
+  own = λ n lane found.
+      let was = parts_kept (λ (x : Lane). x.clock.last) (λ (x : Lane). x.clock.woken) old.lanes shown.lanes n lane
+      kept.last kept.woken found in
+      let is = stand.own n was.0 was.1 in
+      record { last = sym was.2 ∙ is.last; woken = sym was.3 ∙ is.woken };
+}
+
+-- what a drift was told of last comes before the line
+next-of : (number : ℕ) (told : Option Shown) (last : Option Last) → last ≡ option_map drifts.last_of told
+    → IfSome told (λ shown. shown.line < number) → ForSome last (λ x. x.line < number)
+next-of number None last is next = λ x some. absurd (cc)
+next-of number (Some shown) last is next = λ x some.
+    let equal : Some x ≡ Some (drifts.last_of shown) = sym some ∙ is in
+    let same : drifts.last_of shown ≡ x = cc in
+    subst (λ (l : Last). l.line < number) same next
+
+-- the line comes after the last one that each companion's drift was told of
+pub lines_next : (world : World) (lines : List Numbered) (number : ℕ) → StandsFor world lines → IsNext number lines
+    → AreNext world number
+lines_next world lines number stands next who lane found =
+    next-of number (last_shown (told_by (seen_of who lines))) lane.clock.drift.last (stands.drifts.own who lane found).last
+    (next_own world.header who number lines stands.accepted next)
+
+-- a line whose reading is refused means that
+pub read_refused : (old shown : World) (before : List ℕ) (result : Result (Unit {0}) WorldFault) (fault : WorldFault)
+    (now : Numbered) → result ≡ Err fault → KeepsEnds old shown → KeepsReadings old shown → ShowsBy old (Ok tt) now
+    → ReadsBy shown (Err fault) now → Means old before before result now
+read_refused old shown before result fault now is ends readings shows reads = λ lines stands.
+    let carried : Result (List ℕ) WorldFault = carried_out old.header lines now in
+    let ok : Ok tt ≡ shown_tested old.header lines now = shows lines stands.drifts in
+    let no : Err fault ≡ reading_tested old.header lines now =
+    subst (λ (h : Header). Err fault ≡ reading_tested h lines now) ends.header
+    (reads lines (kept_readings old shown lines readings stands.readings)) in
+    let told : line_meant old.header lines now ≡ Err fault =
+    ap (λ (r : Result (Unit {0}) WorldFault). result_and
+    (result_and r (reading_tested old.header lines now)) carried) (sym ok)
+    ∙ ap (λ (r : Result (Unit {0}) WorldFault). result_and r carried) (sym no) in
+    subst (λ (r : Result (Unit {0}) WorldFault). LeavesBy Memory r before before
+    (appended before (line_meant old.header lines now))) (sym is) (refl, inl (ap (appended before) told))
+
 -- A line is shown to the clocks, then a reading, and then carried out: what each step left, where none was refused.
 pub record Steps (old shown read new : World) (before after : List ℕ) (result : Result (Unit {0}) WorldFault)
     (now : Numbered) : Type 0 where
@@ -188,14 +237,7 @@ module _ {old shown read new : World} {before after : List ℕ}
   -- no reading was taken when the clocks were shown
   shown_readings : (lines : List Numbered) → Steps old shown read new before after result now → StandsFor old lines
       → ReadingsStand shown lines
-  shown_readings lines steps stands = record {
-    tv = steps.shown_readings.tv ∙ stands.readings.tv;
-    own = λ n lane found.
-        let was = parts_kept (λ (x : Lane). x.clock.last) (λ (x : Lane). x.clock.woken) old.lanes shown.lanes n lane
-        steps.shown_readings.last steps.shown_readings.woken found in
-        let is = stands.readings.own n was.0 was.1 in
-        record { last = sym was.2 ∙ is.last; woken = sym was.3 ∙ is.woken };
-  }
+  shown_readings lines steps stands = kept_readings old shown lines steps.shown_readings stands.readings
 
   -- the header is the same
   read_header : Steps old shown read new before after result now → read.header ≡ old.header

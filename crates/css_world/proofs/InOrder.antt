@@ -1,5 +1,5 @@
 -- The k-th text of a session of a companion tells the k-th state or control, and none is refused.
-use Rattle.std.proofs.Common.{◌≡◌, ℕ, ◌+◌, ◌≤◌, refl, ap, ap₂, sym, subst, ◌∙◌, arith}
+use Rattle.std.proofs.Common.{◌≡◌, ℕ, ◌+◌, ◌≤◌, refl, ap, sym, subst, ◌∙◌, arith}
 use Rattle.std.proofs.Common.{Bool, true, cond, List, [], ◌∷◌, ◌++◌, length, length-append}
 use Rattle.std.specs.Prelude.{Option, Some, None, IfSome, is_some, Result, Ok}
 use Rattle.std.specs.Option.{option_or, option_map, option_to_list}
@@ -32,7 +32,7 @@ use Rattle.css_schedule.specs.declared.line.Verb.{Verb}
 use Rattle.css_schedule.specs.declared.line.Verb.TheVariants as verb
 use Rattle.css_world.specs.Arrived.{states_of_lived, states_come, IsToldInOrder}
 use Rattle.css_world.specs.Sessions.{addresses, peer_of, setup_of, is_open, heard_from, told_to, next_down}
-use Rattle.css_world.specs.Happened.{Numbered, datagrams, hearing, event_by, done_by, events_of, history_of}
+use Rattle.css_world.specs.Happened.{Numbered, hearing, event_by, done_by, events_of, history_of}
 use Rattle.css_world.specs.Verdicts.{IsDeclared, can_talk}
 use Rattle.css_world.specs.Standing.{AreAccepted}
 use Rattle.css_world.proofs.Peers.{cii_of, ts_of, cii-ts, ts-cii}

@@ -1,7 +1,7 @@
 -- What lands at accepted lines is truthful.
 use Rattle.std.proofs.Common.{◌≡◌, ℕ, suc, ◌^◌, ◌<◌, ◌≤◌, ◌/◌, ◌%◌, arith, ap, sym, subst, ◌∙◌, refl}
 use Rattle.std.proofs.Common.{Bool, true, false, cond, ◌==◌, List, [], ◌∷◌, ◌++◌, length, inl, inr}
-use Rattle.std.specs.Prelude.{Option, Some, None, IfSome, is_some, Result, Ok, ◌&&◌, pos, int_lt, nat_lt, ◌≢◌}
+use Rattle.std.specs.Prelude.{Option, Some, None, IfSome, Result, Ok, ◌&&◌, pos, int_lt, nat_lt, ◌≢◌}
 use Rattle.std.specs.Option.{option_map, option_and_then}
 use Rattle.std.specs.Result.{result_ok}
 use Rattle.std.proofs.lemmas.Bool.{le-ltb, lt-ltb, eqb-true}

@@ -13,7 +13,7 @@ use Rattle.css_model.specs.declared.WcFault.{WcFault}
 use Rattle.css_model.specs.declared.Why.TheVariants as why
 use Rattle.css_model.specs.Wire.{encoded, decoded, request_at}
 use Rattle.css_model.specs.Numbers.{precision_ns}
-use Rattle.css_model.specs.History.{Entry, History, Clock, Slept, Dialled, Heard, Wrote, Closed, Each, Once, asking_at, sleeps}
+use Rattle.css_model.specs.History.{Entry, History, Clock, Dialled, Heard, Wrote, Closed, Each, Once, asking_at, sleeps}
 use Rattle.css_model.specs.Explains.{IsLawful, IsJustAsked, RisesAt, AsksAt}
 use Rattle.css_wc.proofs.Codec.{decoded-encoded}
 use Rattle.css_schedule.specs.declared.header.Header.{Header}

@@ -34,4 +34,7 @@ pub mod Reporting
 pub mod Inside
 pub mod Written
 pub mod Showing
+pub mod Reading
 pub mod Fresh
+pub mod Began
+pub mod Printing

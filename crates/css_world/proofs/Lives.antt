@@ -15,7 +15,7 @@ use Rattle.css_tsmsg.specs.declared.setup.Setup.{Setup}
 use Rattle.css_sessions.specs.declared.session.Kind.{Kind}
 use Rattle.css_sessions.specs.declared.session.Session.{Session}
 use Rattle.css_sessions.specs.Offsets.{control_for}
-use Rattle.css_sessions.specs.Kept.{Event as SessionsCall, Opened, SetUp, Closed, Kept}
+use Rattle.css_sessions.specs.Kept.{Opened, SetUp, Closed, Kept}
 use Rattle.css_sessions.specs.Kept.{Rising, talk_of, set_up_in}
 use Rattle.css_sessions.specs.Told.{Life, Unset, TsLife, Lived, born, set_life, grown_life, living, ended, life_of}
 use Rattle.css_sessions.specs.Told.{state_of, window_of, sessions_of}

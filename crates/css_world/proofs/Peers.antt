@@ -1,5 +1,5 @@
 -- The peers of companions: no two sessions have the same one.
-use Rattle.std.proofs.Common.{◌≡◌, ◌≢◌, ℕ, ◌+◌, ◌*◌, ◌-◌, ◌≤◌, arith, false, ◌==◌, ne_eqb}
+use Rattle.std.proofs.Common.{◌≡◌, ◌≢◌, ℕ, ◌*◌, ◌≤◌, arith, false, ◌==◌, ne_eqb}
 use Rattle.css_sessions.specs.declared.session.Kind.{Kind}
 use Rattle.css_sessions.specs.declared.session.Kind.TheVariants as kind
 use Rattle.css_world.specs.Sessions.{peer_of}

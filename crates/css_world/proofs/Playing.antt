@@ -26,7 +26,7 @@ use Rattle.css_tsmsg.specs.Controls.{IsInRange}
 use Rattle.css_tsmsg.specs.declared.setup.Setup.{Setup}
 use Rattle.css_sessions.specs.Offsets.{control_for}
 use Rattle.css_sessions.specs.Told.{IsReadable}
-use Rattle.css_sessions.proofs.Ranges.{in_range}
+use Rattle.css_sessions.proofs.Ranges.{published}
 use Rattle.css_tv.specs.States.{published_state}
 use Rattle.css_tv.specs.declared.state.Addresses.{Addresses}
 use Rattle.css_tv.proofs.States.{state_utf8}
@@ -275,7 +275,7 @@ programme_published stem selector s (Some p) ranged good = go (starts_with nat_e
 pub control_in_range : (setup : Setup) (p : Player) → IsPlayable p → IsInRange (control_for setup p)
 unfolding control_for
 control_in_range setup p playable =
-    in_range (control_of setup.stem setup.selector p) (go p.segment playable.segment)
+    (published (control_of setup.stem setup.selector p) (go p.segment playable.segment)).0
   where
     go : (o : Option Segment) → IfSome o IsSegment → IsPublished (control_from setup.stem setup.selector p.programmes o)
     go None ranged = tt

@@ -1,14 +1,12 @@
 -- What an accepted line promises of the sessions and of a report.
-use Rattle.std.proofs.Common.{◌≡◌, ℕ, refl, ap, sym, subst, ◌∙◌, arith, cond, le-ltb, List, ◌∷◌, length}
+use Rattle.std.proofs.Common.{◌≡◌, ℕ, refl, ap, subst, ◌∙◌, arith, cond, le-ltb, List, ◌∷◌, length}
 use Rattle.css_schedule.specs.Owners.{is_own}
-use Rattle.std.specs.Prelude.{Some}
 use Rattle.css_model.specs.declared.Why.TheVariants as why
 use Rattle.css_model.specs.History.{Clock, History}
 use Rattle.css_model.specs.Explains.{Explains, IsLawful}
 use Rattle.css_companion.specs.Reports.{HasTickOf}
 use Rattle.css_companion.proofs.Headline.{headline}
 use Rattle.css_schedule.specs.declared.header.Header.{Header}
-use Rattle.css_world.specs.Arrived.{IsToldInOrder, HasAllCome, IsInStep}
 use Rattle.css_world.specs.Sessions.{setup_of}
 use Rattle.css_world.specs.Happened.{Numbered, datagrams, done_by, events_of, history_of}
 use Rattle.css_world.specs.Verdicts.{IsDeclared, local_of, report_at, assigned_at}

@@ -1,6 +1,6 @@
 -- Accepted lines keep what both ends know of the two sessions of a companion.
-use Rattle.std.proofs.Common.{◌≡◌, ℕ, zero, suc, ◌-◌, ◌*◌, ◌<◌, ◌≤◌, refl, ap, sym, subst, ◌∙◌, arith}
-use Rattle.std.proofs.Common.{Bool, true, false, ◌||◌, ◌==◌, List, [], ◌∷◌, ◌++◌, length}
+use Rattle.std.proofs.Common.{◌≡◌, ℕ, zero, suc, ◌-◌, ◌*◌, ◌≤◌, refl, ap, sym, subst, ◌∙◌, arith}
+use Rattle.std.proofs.Common.{Bool, true, false, ◌||◌, List, [], ◌∷◌, ◌++◌, length}
 use Rattle.std.specs.Prelude.{Option, Some, None, is_some, option_map, unwrap_or, slice_get, All}
 use Rattle.std.specs.Option.{option_to_list}
 use Rattle.std.proofs.lemmas.Bool.{and_parts}
@@ -38,7 +38,6 @@ use Rattle.css_world.proofs.Entries.{dialled-kind, dialled-open, closed-open, wr
 use Rattle.css_world.proofs.Entries.{dialled-kind_apart, dialled-open_apart, closed-open_apart, received_not}
 use Rattle.css_world.proofs.Ends.{events_with}
 use Rattle.css_world.proofs.Entries.{concerns}
-use Rattle.css_world.proofs.Opening.{IsUnknown}
 use Rattle.css_world.proofs.Staging.{AreBelow, IsSound, IsStaging, IsKeptBy, IsKeptApart, one_staged, each_end, not_true}
 use Rattle.css_world.proofs.Lives.{LifeGoesOn, goes_on, shown_after, lived_after, opens_as, closes_as}
 use Rattle.css_world.proofs.Talking.{lived_as, published_addresses, HasCii, IsCiiOpened, HasCiiOf, HasTs, HasTsOf}

@@ -25,7 +25,7 @@ use Rattle.css_model.proofs.Requests.{reading_of-stamp_of}
 use Rattle.css_model.proofs.Wall.{wall_is_true, truth_is_accepted}
 use Rattle.css_server.specs.Exchanges.{greatest_reading, PromisesRise}
 use Rattle.css_server.proofs.Rising.{no_promise_is_repeated}
-use Rattle.css_client.specs.Landings.{landing_of, landing_of_decoded, landing_of_message, verdict}
+use Rattle.css_client.specs.Landings.{landing_of_decoded, landing_of_message, verdict}
 use Rattle.css_client.specs.declared.landing.Landing.{Landing}
 use Rattle.css_client.specs.declared.landing.Landing.TheVariants as landings
 use Rattle.css_span.specs.WallSpans.{span_of, wall_span}
@@ -35,7 +35,7 @@ use Rattle.css_schedule.specs.declared.line.Verb.TheVariants.{Ask, Land, Wall, P
 use Rattle.css_world.specs.Happened.{Numbered, tickets, datagrams, bytes_of, events_of, history_of, peer}
 use Rattle.css_world.specs.Numbering.{numbered}
 use Rattle.css_world.specs.Worlds.{world_of, moment_number, errors_of}
-use Rattle.css_world.specs.Verdicts.{local_of, IsDeclared, span_at, can_exchange}
+use Rattle.css_world.specs.Verdicts.{local_of, IsDeclared, can_exchange}
 use Rattle.css_world.specs.Standing.{AreAccepted}
 use Rattle.css_world.specs.Truth.{IsTrueWall, IsPossibleLanding, AcceptedLinesAreTrue, AcceptedLinesAreWorld}
 use Rattle.css_world.proofs.Worlds.{carried_ok, keeps_errors}

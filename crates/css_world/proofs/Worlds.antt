@@ -1,7 +1,7 @@
 -- Accepted lines are the moments of a world that keeps the declared errors.
 use Rattle.std.proofs.Common.{◌≡◌, ◌≢◌, ℕ, zero, suc, ◌<◌, ◌≤◌, arith, ap, sym, subst, ◌∙◌, refl, Bool, inl, inr}
 use Rattle.std.proofs.Common.{true, false, cond, not, ◌==◌, ltb, List, [], ◌∷◌, map, length, ne_eqb}
-use Rattle.std.specs.Prelude.{◌&&◌, All, Option, Some, None, Result, Ok, Err}
+use Rattle.std.specs.Prelude.{◌&&◌, All, Some, None, Result, Ok, Err}
 use Rattle.std.specs.List.{filter}
 use Rattle.std.specs.Result.{result_and, result_map_both}
 use Rattle.std.proofs.lemmas.Bool.{lt-ltb, le-ltb, ltb-true, ltb-false, eqb-true, eq-eqb}
@@ -13,7 +13,7 @@ use Rattle.css_moments.proofs.Pairs.{accepted_keeps}
 use Rattle.css_schedule.specs.Owners.{is_sleep}
 use Rattle.css_schedule.specs.declared.header.Header.{Header}
 use Rattle.css_world.specs.Happened.{Numbered}
-use Rattle.css_world.specs.Worlds.{world_of, sleeps_of, errors_of, clock_of, moment}
+use Rattle.css_world.specs.Worlds.{world_of, sleeps_of, errors_of, moment}
 use Rattle.css_world.specs.Clocks.{Seen, shown_at, told_with, told_by, broken_by, clock_verdict}
 use Rattle.css_world.specs.Verdicts.{tv_seen, own_seen, seen_of_tv, seen_of, local_of, tested}
 use Rattle.css_world.specs.Verdicts.{own_shown_tested, shown_tested, reading_tested, carried_out, line_meant}
@@ -436,7 +436,7 @@ next_older number last [] next above = tt
 next_older number last (first ∷ older) next above = omega (arith, next, above)
 
 -- it is above that of the last line of a companion
-next_own : (header : Header) (who number : ℕ) (older : List Numbered) → AreAccepted header older → IsNext number older
+pub next_own : (header : Header) (who number : ℕ) (older : List Numbered) → AreAccepted header older → IsNext number older
     → drifts.IsNext (drifts.last_shown (told_by (seen_of who older))) number
 next_own header who number [] accepted next = tt
 next_own header who number (last ∷ older) accepted next = elim (eqb_tells last.line.who who) [

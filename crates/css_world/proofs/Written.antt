@@ -1,6 +1,6 @@
 -- One lane of a world is written over: what is always true stays so, and no clock is touched.
-use Rattle.std.proofs.Common.{◌≡◌, ◌≤◌, ◌-◌, ◌+◌, ℕ, suc, arith, List, length, refl, ap, sym, subst, ◌∙◌, true, false, length-set}
-use Rattle.std.specs.Prelude.{Some, None, Option, Result, Ok, Err, IfErr, slice_set, map, max}
+use Rattle.std.proofs.Common.{◌≡◌, ◌≤◌, ◌-◌, ◌+◌, ℕ, arith, List, length, refl, ap, sym, subst, ◌∙◌, true, false, length-set}
+use Rattle.std.specs.Prelude.{Some, Result, Ok, Err, IfErr, slice_set, map, max}
 use Rattle.css_model.specs.Numbers.{precision_ns}
 use Rattle.css_client.specs.Clients.{local_of}
 use Rattle.css_companion.specs.Standing as companions
@@ -13,7 +13,6 @@ use Rattle.css_schedule.specs.declared.line.Verb.{Verb}
 use Rattle.css_world.specs.declared.fault.WorldFault.{WorldFault}
 use Rattle.css_world.specs.declared.fault.WorldFault.TheVariants as faults
 use Rattle.css_world.specs.declared.lane.Lane.{Lane}
-use Rattle.css_world.specs.declared.watch.Reading.{Reading}
 use Rattle.css_world.specs.Clocks.{least_next}
 use Rattle.css_schedule.specs.Headers.{max_companions}
 use Rattle.css_world.specs.Lanes.{IsLaneOf, WasRead, KeepsAllButTexts, KeepsTv}
@@ -21,7 +20,7 @@ use Rattle.css_world.specs.Numbering.{stored}
 use Rattle.css_world.specs.Standing.{World, IsWorld, IsNumber, HasRead, KeepsClocks, KeepsBoth, KeepsRefused}
 use Rattle.css_world.specs.Verdicts.{IsDeclared}
 use Rattle.css_world.proofs.Delivered.{as_many, kept_in_each}
-use Rattle.css_world.proofs.Numbers.{each_set, set_part}
+use Rattle.css_world.proofs.Numbers.{each_set, set_part, stored_within}
 
 -- ---- what is always true
 -- where the television is as before, and one lane is written over by one that is as the header declares
@@ -237,6 +236,31 @@ clocks_played now old new between view same kept header tv = record {
   own = kept.clocks ∙ same ∙ ap (λ (w : World). map (λ (lane : Lane). lane.clock) w.lanes) view;
 }
 
+-- ---- what a companion then does
+-- what is always true stays so, where the television took in an event and then one companion did
+pub still_attended : (played new : World) (who : ℕ) (before after : Lane) → IsWorld played
+    → stored played.lanes who ≡ Some before → after.companion.client ≡ before.companion.client
+    → after.companion.setup ≡ before.companion.setup → after.clock ≡ before.clock → new.header ≡ played.header
+    → new.tv ≡ played.tv → new.lanes ≡ slice_set played.lanes (who - 1) after → IsWorld new
+still_attended played new who before after was found client setup clock header tv lanes =
+    let within = stored_within played.lanes who before found in
+    still_kept played played new who before after was refl (record { first = within.0; within = within.1 }) found client
+    setup clock header tv lanes
+
+-- no clock is touched then, where none was before
+pub clocks_attended : (now old new : World) (between played : List Lane) (who : ℕ) (before after : Lane) → old ≡ now
+    → map (λ (lane : Lane). lane.clock) between ≡ map (λ (lane : Lane). lane.clock) old.lanes
+    → KeepsAllButTexts between played → stored played who ≡ Some before → after.clock ≡ before.clock
+    → new.header ≡ old.header → new.tv.clock ≡ old.tv.clock → new.lanes ≡ slice_set played (who - 1) after
+    → KeepsClocks now new
+clocks_attended now old new between played who before after view same kept found clock header tv lanes = record {
+  header = header ∙ ap (λ (w : World). w.header) view;
+  tv = tv ∙ ap (λ (w : World). w.tv.clock) view;
+  own = ap (map (λ (lane : Lane). lane.clock)) lanes ∙ clocks_set played who before after found clock ∙ kept.clocks
+      ∙ same ∙ ap (λ (w : World). map (λ (lane : Lane). lane.clock) w.lanes) view;
+}
+
+-- ---- refusals of the player
 -- both ends are as before where the player refuses
 pub refused_played : (now old new : World) (between : List Lane) (fault : WorldFault) → old ≡ now
     → map (λ (lane : Lane). lane.companion) between ≡ map (λ (lane : Lane). lane.companion) old.lanes

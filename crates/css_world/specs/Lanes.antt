@@ -3,6 +3,7 @@ use Rattle.std.specs.Prelude.{◌≡◌, ◌≢◌, ◌≤◌, true, false, ℕ,
 use Rattle.std.specs.Prelude.{Result, Ok, Err, OnOk}
 use Rattle.css_num.specs.Gives.{GivesBy}
 use Rattle.css_model.specs.History.{Entry, History}
+use Rattle.css_model.specs.WallClock.{IsLocal}
 use Rattle.css_sessions.specs.declared.session.Kind.TheVariants as kind
 use Rattle.css_tv.specs.Stages.{Television as Tv}
 use Rattle.css_tv.specs.Standing as tvs
@@ -19,7 +20,6 @@ use Rattle.css_schedule.specs.declared.header.CompanionLine.{CompanionLine}
 use Rattle.css_tsmsg.specs.declared.setup.Setup.{Setup}
 use Rattle.css_schedule.specs.declared.header.Header.{Header}
 use Rattle.css_world.specs.declared.lane.Lane.{Lane}
-use Rattle.css_world.specs.declared.watch.Reading.{Reading}
 use Rattle.css_world.specs.Clocks.{least_next}
 use Rattle.css_world.specs.Numbering.{stored}
 use Rattle.css_world.specs.Sessions.{peer_of, setup_of}
@@ -55,6 +55,7 @@ setup_by declared = record { stem = declared.stem; selector = declared.selector 
 
 -- a lane of a companion that did nothing yet, as its line declares it
 pub record IsFresh (declared : CompanionLine) (lane : Lane) : Type 0 where
+  pub local : IsLocal declared.local
   pub setup : lane.companion.setup ≡ setup_by declared
   pub own : companions.own_of lane.companion ≡ declared.local
   pub floor : lane.companion.client.floor ≡ 0

@@ -21,7 +21,6 @@ use Rattle.css_schedule.specs.declared.line.Verb.TheVariants as verbs
 use Rattle.css_moments.specs.Standing as drifts
 use Rattle.css_world.specs.declared.fault.WorldFault.{WorldFault}
 use Rattle.css_world.specs.declared.fault.WorldFault.TheVariants as faults
-use Rattle.css_world.specs.declared.watch.Reading.{Reading}
 use Rattle.css_world.specs.declared.lane.Lane.{Lane}
 use Rattle.css_world.specs.declared.television.Television.{Television}
 use Rattle.css_world.specs.Numbering.{numbered, stored}

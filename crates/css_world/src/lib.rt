@@ -11,6 +11,7 @@ pub mod laws;
 mod place;
 mod printed;
 mod session;
+mod sessions;
 mod television;
 mod watch;
 mod world;

@@ -1,4 +1,5 @@
-ghost use Rattle.std.specs.Prelude.{◌≡◌, ◌<◌, ◌≤◌, IfErr, ℕ, length, List, [], ◌∷◌, ◌++◌, Some, None, false, Ok, IfOk, OnOk, OnErr};
+ghost use Rattle.std.specs.Prelude.{◌≡◌, ◌<◌, ◌≤◌, IfErr, ℕ, length, List, [], ◌∷◌, ◌++◌, Some, None, false};
+ghost use Rattle.std.specs.Prelude.{Ok, IfOk, OnOk, OnErr};
 ghost use Rattle.css_model.specs.Wire.{decoded, request_at};
 ghost use Rattle.css_model.specs.Wire as wire;
 ghost use Rattle.css_model.specs.Numbers as numbers;

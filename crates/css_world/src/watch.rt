@@ -1,4 +1,5 @@
-ghost use Rattle.std.specs.Prelude.{◌≡◌, ◌≤◌, ◌<◌, ◌-◌, pos, List, [], ◌∷◌, false, None, Some, MatchResult, Ok, Err, OnOk, OnErr};
+ghost use Rattle.std.specs.Prelude.{◌≡◌, ◌≤◌, ◌<◌, ◌-◌, pos, List, [], ◌∷◌, false, None, Some, MatchResult};
+ghost use Rattle.std.specs.Prelude.{Ok, Err, OnOk, OnErr};
 ghost use Rattle.std.specs.Option.{ForSome};
 ghost use Rattle.std.specs.Result.{result_map_both};
 ghost use Rattle.css_moments.specs.Drifts.{Told, Showed, verdict};

@@ -5,16 +5,12 @@ ghost use Rattle.css_schedule.specs.Ranges.{IsHeader, IsLine, IsSecond, IsCount}
 ghost use Rattle.css_schedule.specs.declared.line.Verb.{Verb as Happening};
 ghost use Rattle.css_schedule.specs.declared.line.Verb.TheVariants as events;
 ghost use Rattle.css_companion.specs.Printed.{line_of};
-ghost use Rattle.css_companion.specs.Steps.{window};
-ghost use Rattle.css_sessions.specs.declared.session.Kind.TheVariants as kinds;
-ghost use Rattle.css_tsmsg.specs.Presentations.{IsPresentation};
 ghost use Rattle.css_tv.specs.Standing.{IsEvent};
 ghost use Rattle.css_world.specs.Happened.{Numbered};
 ghost use Rattle.css_world.specs.Asked.{MayBeAsked};
-ghost use Rattle.css_world.specs.Numbering.{stored};
 ghost use Rattle.css_world.specs.Verdicts.{own_reading, span_at, report_at, assigned_at};
 ghost use Rattle.css_world.specs.Printed.{wall_text};
-ghost use Rattle.css_world.specs.Truth.{TellsTruth};
+ghost use Rattle.css_world.specs.Truth.{TellsTruth, IsCompanionOf};
 ghost use Rattle.css_world.specs.declared.fault.WorldFault.TheVariants as faults;
 ghost use Rattle.css_world.specs.Standing.{StandsFor, IsNext, IsReady, Means, GoesOn, CarriesOut, IsAtTv, Prints, Adds};
 ghost use Rattle.css_world.specs.Standing.{ShowsBy, ShownTo, ReadsBy, ReadTo, HasRead, HasWoken, IsNumber, AreNext};
@@ -24,14 +20,11 @@ use crate::fault::WorldFault;
 use crate::lanes::Lanes;
 use crate::place::{item, owner, store};
 use crate::printed::{print_report, print_wall};
-use crate::session::peer_of;
 use crate::television::{Television, play};
-use css_companion::{Companion, CompanionEvent};
+use css_companion::Companion;
 use css_model::LIMIT;
 use css_num::Memory;
 use css_schedule::{Header, Line, Verb};
-use css_sessions::Kind;
-use css_tsmsg::Bound;
 use css_tv::{Tv, TvEvent};
 use std::alloc::Global;
 use std::marker::Model;
@@ -42,10 +35,10 @@ use std::marker::Model;
 /// the texts in flight.
 #[derive(Drop)]
 pub struct World {
-    alloc: Global,
+    pub(crate) alloc: Global,
     header: Header,
-    tv: Television,
-    lanes: Lanes,
+    pub(crate) tv: Television,
+    pub(crate) lanes: Lanes,
     requests: Vec<[u8; 32]>,
     /// The companion that sent each request.
     askers: Vec<u32>,
@@ -119,11 +112,11 @@ impl World {
         self.carry_out(number, line, out)
     }
 
-    /// The companion with this number, counted from 1. It may be asked for a report at the last reading of its clock, or
-    /// above that where it slept since.
+    /// The companion with this number, counted from 1. It may be asked for a report at the last reading of its clock,
+    /// or above that where it slept since.
     pub fn companion(&self, number: u32) -> Option<&Companion>
         ensures some { IfSome result (λ companion. MayBeAsked self.now number companion.now) }
-        ensures none { IfNone result (stored self.now.lanes number ≡ None) }
+        ensures none { IfNone result (IsCompanionOf self.now.header number → ⊥) }
     {
         match self.lanes.get(number) {
             Some(lane) => Some(&lane.companion),
@@ -202,6 +195,8 @@ impl World {
             (record { number = number; line = line }) }
         ensures refused { IfErr result (λ fault. KeepsRefused self.old self.new fault) }
     {
+        // So what always holds of a world is known here.
+        let _ = &self.header;
         let Line { w, who, verb, .. } = line;
         match verb {
             Verb::Ask { reading } => self.ask(who, reading),
@@ -372,179 +367,6 @@ impl World {
         ensures refused { IfErr result (λ fault. KeepsRefused self.old self.new fault) }
     {
         play(self.alloc, &mut self.tv.tv, &mut self.lanes, event)?;
-        Ok(())
-    }
-
-    /// Opens a session at both ends. The companion owes its setup to a TS session at once.
-    fn open(&mut self, who: u32, kind: Kind) -> Result<(), WorldFault>
-        requires who { IsNumber self.old who }
-        requires ready { (lines : List Numbered) × IsReady self.old lines }
-        ensures clocks { KeepsClocks self.old self.new }
-        ensures carries { CarriesOut self.old self.new result who (events.Opening kind) }
-        ensures refused { IfErr result (λ fault. KeepsRefused self.old self.new fault) }
-    {
-        match kind {
-            Kind::Cii => self.open_cii(who),
-            Kind::Ts => self.open_ts(who),
-        }
-    }
-
-    fn open_cii(&mut self, who: u32) -> Result<(), WorldFault>
-        requires who { IsNumber self.old who }
-        requires ready { (lines : List Numbered) × IsReady self.old lines }
-        ensures clocks { KeepsClocks self.old self.new }
-        ensures carries { CarriesOut self.old self.new result who (events.Opening kinds.Cii) }
-        ensures refused { IfErr result (λ fault. KeepsRefused self.old self.new fault) }
-    {
-        let lane = self.lanes.lane(who);
-        lane.cii.open()?;
-        let event = TvEvent::Opened {
-            peer: peer_of(who, Kind::Cii),
-            kind: Kind::Cii,
-        };
-        play(self.alloc, &mut self.tv.tv, &mut self.lanes, event)?;
-        Ok(())
-    }
-
-    fn open_ts(&mut self, who: u32) -> Result<(), WorldFault>
-        requires who { IsNumber self.old who }
-        requires ready { (lines : List Numbered) × IsReady self.old lines }
-        ensures clocks { KeepsClocks self.old self.new }
-        ensures carries { CarriesOut self.old self.new result who (events.Opening kinds.Ts) }
-        ensures refused { IfErr result (λ fault. KeepsRefused self.old self.new fault) }
-    {
-        let lane = self.lanes.lane(who);
-        lane.ts.open()?;
-        let event = TvEvent::Opened {
-            peer: peer_of(who, Kind::Ts),
-            kind: Kind::Ts,
-        };
-        play(self.alloc, &mut self.tv.tv, &mut self.lanes, event)?;
-        let lane = self.lanes.lane(who);
-        lane.attend(CompanionEvent::TsOpened)?;
-        Ok(())
-    }
-
-    /// Brings the next text in flight to the companion.
-    fn bring(&mut self, who: u32, kind: Kind) -> Result<(), WorldFault>
-        requires who { IsNumber self.old who }
-        requires ready { (lines : List Numbered) × IsReady self.old lines }
-        ensures clocks { KeepsClocks self.old self.new }
-        ensures carries { CarriesOut self.old self.new result who (events.Bring kind) }
-        ensures refused { IfErr result (λ fault. KeepsRefused self.old self.new fault) }
-    {
-        match kind {
-            Kind::Cii => self.bring_cii(who),
-            Kind::Ts => self.bring_ts(who),
-        }
-    }
-
-    fn bring_cii(&mut self, who: u32) -> Result<(), WorldFault>
-        requires who { IsNumber self.old who }
-        requires ready { (lines : List Numbered) × IsReady self.old lines }
-        ensures clocks { KeepsClocks self.old self.new }
-        ensures carries { CarriesOut self.old self.new result who (events.Bring kinds.Cii) }
-        ensures refused { IfErr result (λ fault. KeepsRefused self.old self.new fault) }
-    {
-        let lane = self.lanes.lane(who);
-        let text = lane.cii.next_down().ok_or(WorldFault::Absent)?;
-        lane.attend(CompanionEvent::CiiText(text))?;
-        Ok(())
-    }
-
-    fn bring_ts(&mut self, who: u32) -> Result<(), WorldFault>
-        requires who { IsNumber self.old who }
-        requires ready { (lines : List Numbered) × IsReady self.old lines }
-        ensures clocks { KeepsClocks self.old self.new }
-        ensures carries { CarriesOut self.old self.new result who (events.Bring kinds.Ts) }
-        ensures refused { IfErr result (λ fault. KeepsRefused self.old self.new fault) }
-    {
-        let lane = self.lanes.lane(who);
-        let text = lane.ts.next_down().ok_or(WorldFault::Absent)?;
-        lane.attend(CompanionEvent::TsText(text))?;
-        Ok(())
-    }
-
-    /// Brings the companion's next text in flight to the television.
-    fn up(&mut self, who: u32) -> Result<(), WorldFault>
-        requires who { IsNumber self.old who }
-        ensures clocks { KeepsClocks self.old self.new }
-        ensures carries { CarriesOut self.old self.new result who events.Up }
-        ensures refused { IfErr result (λ fault. KeepsRefused self.old self.new fault) }
-    {
-        let lane = self.lanes.lane(who);
-        let text = lane.ts.next_up().ok_or(WorldFault::Absent)?;
-        let event = TvEvent::Heard {
-            peer: peer_of(who, Kind::Ts),
-            text,
-        };
-        play(self.alloc, &mut self.tv.tv, &mut self.lanes, event)?;
-        Ok(())
-    }
-
-    /// The companion sends a presentation.
-    fn present(&mut self, who: u32, earliest: Bound, latest: Bound) -> Result<(), WorldFault>
-        requires who { IsNumber self.old who }
-        requires window { IsPresentation (window earliest latest) }
-        ensures clocks { KeepsClocks self.old self.new }
-        ensures carries { CarriesOut self.old self.new result who (events.Present earliest latest) }
-        ensures refused { IfErr result (λ fault. KeepsRefused self.old self.new fault) }
-    {
-        let lane = self.lanes.lane(who);
-        if !lane.ts.is_open() {
-            return Err(WorldFault::Absent);
-        }
-        lane.attend(CompanionEvent::Present { earliest, latest })?;
-        Ok(())
-    }
-
-    /// Closes a session at both ends.
-    fn close(&mut self, who: u32, kind: Kind) -> Result<(), WorldFault>
-        requires who { IsNumber self.old who }
-        requires ready { (lines : List Numbered) × IsReady self.old lines }
-        ensures clocks { KeepsClocks self.old self.new }
-        ensures carries { CarriesOut self.old self.new result who (events.Close kind) }
-        ensures refused { IfErr result (λ fault. KeepsRefused self.old self.new fault) }
-    {
-        match kind {
-            Kind::Cii => self.close_cii(who),
-            Kind::Ts => self.close_ts(who),
-        }
-    }
-
-    fn close_cii(&mut self, who: u32) -> Result<(), WorldFault>
-        requires who { IsNumber self.old who }
-        requires ready { (lines : List Numbered) × IsReady self.old lines }
-        ensures clocks { KeepsClocks self.old self.new }
-        ensures carries { CarriesOut self.old self.new result who (events.Close kinds.Cii) }
-        ensures refused { IfErr result (λ fault. KeepsRefused self.old self.new fault) }
-    {
-        let lane = self.lanes.lane(who);
-        lane.cii.close()?;
-        let event = TvEvent::Closed {
-            peer: peer_of(who, Kind::Cii),
-        };
-        play(self.alloc, &mut self.tv.tv, &mut self.lanes, event)?;
-        let lane = self.lanes.lane(who);
-        lane.attend(CompanionEvent::CiiClosed)?;
-        Ok(())
-    }
-
-    fn close_ts(&mut self, who: u32) -> Result<(), WorldFault>
-        requires who { IsNumber self.old who }
-        requires ready { (lines : List Numbered) × IsReady self.old lines }
-        ensures clocks { KeepsClocks self.old self.new }
-        ensures carries { CarriesOut self.old self.new result who (events.Close kinds.Ts) }
-        ensures refused { IfErr result (λ fault. KeepsRefused self.old self.new fault) }
-    {
-        let lane = self.lanes.lane(who);
-        lane.ts.close()?;
-        let event = TvEvent::Closed {
-            peer: peer_of(who, Kind::Ts),
-        };
-        play(self.alloc, &mut self.tv.tv, &mut self.lanes, event)?;
-        let lane = self.lanes.lane(who);
-        lane.attend(CompanionEvent::TsClosed)?;
         Ok(())
     }
 }

@@ -1,11 +1,10 @@
 //! Schedules of version 2: several companions, and sleeps.
 
-ghost use Rattle.std.specs.Prelude.{[], ◌≡◌, ◌≤◌, List, length, suc, IfOk, IfNone, OnOk};
+ghost use Rattle.std.specs.Prelude.{[], ◌≡◌, ◌≤◌, length, IfOk, OnOk};
 ghost use Rattle.css_schedule.specs.Ranges.{IsGoodHeader, IsCount};
-ghost use Rattle.css_world.specs.Happened.{Numbered};
-ghost use Rattle.css_world.specs.Standing.{StandsFor, IsNext};
+ghost use Rattle.css_world.specs.Standing.{StandsFor};
 
-use crate::tests::Refused;
+use crate::tests::{Refused, carry_out};
 use css_schedule::{Header, Start, read_companion, read_header, read_line};
 use css_world::{World, WorldFault};
 use std::alloc::Global;
@@ -76,33 +75,42 @@ fn open<'a>(alloc: Global, lines: &'a [&'a str]) -> Result<Opened<'a>, Fail>
     })
 }
 
-/// Carries out the lines of a schedule, up to the first that is refused.
-fn run(alloc: Global, text: &str) -> Result<Ran, Fail> {
-    let mut lines = Vec::new(alloc);
-    for line in text.lines() {
-        lines.push(line)?;
-    }
-    let opened = open(alloc, &lines)?;
-    let mut number = u64::from(opened.companions) + 1;
-    let mut world = World::new(alloc, opened.header)?;
+/// Carries out the lines after those of the companions in a new world, up to the first that is refused.
+fn carry_out_all(
+    alloc: Global,
+    world: &mut World,
+    companions: u32,
+    lines: &[&str],
+) -> Result<Ran, Fail>
+    requires stands { StandsFor world.old [] }
+    requires count { IsCount companions }
+    requires companions { length world.old.header.companions ≡ companions }
+{
     let mut out = Vec::new(alloc);
+    let mut number = u64::from(companions) + 1;
     let mut refused = None;
-    for text in opened.rest.iter() {
+    for text in lines.iter() {
         number += 1;
-        let line = read_line(alloc, text.as_bytes(), 2, opened.companions)?;
-        if let Err(fault) = world.line(number, line, &mut out) {
-            refused = Some(Refused {
-                line: number,
-                fault,
-            });
+        let line = read_line(alloc, text.as_bytes(), 2, companions)?;
+        refused = carry_out(world, number, line, &mut out);
+        if refused.is_some() {
             break;
         }
     }
-    drop(world);
     Ok(Ran {
         printed: String::from_utf8(out).ok().ok_or("no text")?,
         refused,
     })
+}
+
+/// Carries out the lines of a schedule, up to the first that is refused.
+fn run(alloc: Global, text: &str) -> Result<Ran, Fail> {
+    let lines: Vec<&str> = text.lines().collect(alloc)?;
+    let opened = open(alloc, &lines)?;
+    let mut world = World::new(alloc, opened.header)?;
+    let ran = carry_out_all(alloc, &mut world, opened.companions, opened.rest);
+    drop(world);
+    ran
 }
 
 /// Runs over a schedule whose lines begin so and end so, and finds this.
@@ -195,7 +203,8 @@ companion 2 0 0 urn:dvb:css:timeline:pts -
 #[test]
 fn each_companion_has_its_own_answers(rt: HostRuntime) -> Result<(), Fail> {
     let alloc = rt.alloc();
-    let lines = "1600 5400 1 1600 land 1 1600\n1600 5400 2 7600 wall 7600\n1600 5400 1 1600 wall 1600\n";
+    let lines =
+        "1600 5400 1 1600 land 1 1600\n1600 5400 2 7600 wall 7600\n1600 5400 1 1600 wall 1600\n";
     let printed = "9 none NoAnswer\n10 wall 5197 5603 at 5400\n";
     check(&rt, alloc, BOTH, lines, printed, None)?;
     // A datagram that answers another companion isn't there for this one.
@@ -209,7 +218,14 @@ fn each_companion_has_its_own_answers(rt: HostRuntime) -> Result<(), Fail> {
 1800 5600 2 7800 wall 7800
 1800 5600 1 1800 wall 1800
 ";
-    check(&rt, alloc, BOTH, own, "11 wall 5497 6203 at 5600\n12 none NoAnswer\n", None)?;
+    check(
+        &rt,
+        alloc,
+        BOTH,
+        own,
+        "11 wall 5497 6203 at 5600\n12 none NoAnswer\n",
+        None,
+    )?;
     // The sleep of one leaves the other its answers, and the clock of one isn't that of the other.
     let slept = "\
 1600 5400 1 1600 land 1 1600
@@ -220,7 +236,14 @@ fn each_companion_has_its_own_answers(rt: HostRuntime) -> Result<(), Fail> {
     let printed = "10 wall 5197 5603 at 5400\n";
     check(&rt, alloc, BOTH, slept, printed, broken(11, 10, 100))?;
     let drifted = "1600 5400 1 1600 land 1 1600\n1600 5400 2 1600 wall 1600\n";
-    check(&rt, alloc, BOTH, drifted, "", broken(9, 5, 5999 * 256_000_000))
+    check(
+        &rt,
+        alloc,
+        BOTH,
+        drifted,
+        "",
+        broken(9, 5, 5999 * 256_000_000),
+    )
 }
 
 /// Two companions with sessions of their own, while one programme is shown.
@@ -245,7 +268,14 @@ fn each_companion_has_its_own_sessions(rt: HostRuntime) -> Result<(), Fail> {
     check(&rt, alloc, SHOWN, texts, "", None)?;
     check(&rt, alloc, SHOWN, "0 1000 1 0 text ts\n", "", absent(11))?;
     check(&rt, alloc, SHOWN, "0 1000 1 0 up ts\n", "", absent(11))?;
-    check(&rt, alloc, SHOWN, "0 1000 2 0 text cii\n0 1000 2 0 text cii\n", "", absent(12))?;
+    check(
+        &rt,
+        alloc,
+        SHOWN,
+        "0 1000 2 0 text cii\n0 1000 2 0 text cii\n",
+        "",
+        absent(12),
+    )?;
     check(&rt, alloc, SHOWN, "0 1000 1 0 open cii\n", "", absent(11))?;
     // The end of one session leaves the other's texts in flight.
     let closed = "0 1000 1 0 close cii\n0 1000 2 0 text cii\n0 1000 1 0 text cii\n";

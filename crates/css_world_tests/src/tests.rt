@@ -1,9 +1,9 @@
 ghost use Rattle.std.specs.Prelude.{[], ◌≡◌, ◌≤◌, List, length, suc, IfOk, IfNone};
 ghost use Rattle.css_world.specs.Happened.{Numbered};
 ghost use Rattle.css_world.specs.Standing.{StandsFor, IsNext};
-ghost use Rattle.css_schedule.specs.Ranges.{IsHeader};
+ghost use Rattle.css_schedule.specs.Ranges.{IsHeader, IsLine, IsSecond};
 
-use css_schedule::{Header, Start, read_header, read_line};
+use css_schedule::{Header, Line, Start, read_header, read_line};
 use css_world::{World, WorldFault};
 use std::alloc::Global;
 use std::test::Fail;
@@ -52,31 +52,33 @@ pub(crate) struct Refused {
     pub(crate) fault: WorldFault,
 }
 
-/// Carries out the line of a text, and tells why it is refused, if it is.
-fn carry_out(
-    alloc: Global,
+/// Carries out a line, and tells why it is refused, if it is.
+pub(crate) fn carry_out(
     world: &mut World,
     number: u64,
-    text: &str,
+    line: Line,
     out: &mut Vec<u8>,
-) -> Result<Option<Refused>, Fail>
+) -> Option<Refused>
+    requires line { IsLine line }
+    requires of { IsSecond (length world.old.header.companions) line }
     requires stands { (lines : List Numbered) × StandsFor world.old lines × IsNext number lines }
-    ensures stands { IfOk result (λ refused. IfNone refused
-        ((lines : List Numbered) × StandsFor world.new lines × IsNext (suc number) lines)) }
+    ensures header { world.new.header ≡ world.old.header }
+    ensures stands { IfNone result
+        ((lines : List Numbered) × StandsFor world.new lines × IsNext (suc number) lines) }
 {
-    let line = read_line(alloc, text.as_bytes(), 1, 1)?;
     match world.line(number, line, out) {
-        Ok(()) => Ok(None),
-        Err(fault) => Ok(Some(Refused {
+        Ok(()) => None,
+        Err(fault) => Some(Refused {
             line: number,
             fault,
-        })),
+        }),
     }
 }
 
 /// Carries out the lines of a schedule in a new world, up to the first that is refused.
 fn carry_out_all(alloc: Global, world: &mut World, lines: &str) -> Result<Ran, Fail>
-    requires { StandsFor world.old [] }
+    requires stands { StandsFor world.old [] }
+    requires one { length world.old.header.companions ≡ 1 }
 {
     let mut out = Vec::new(alloc);
     let mut number: u64 = 1;
@@ -86,7 +88,8 @@ fn carry_out_all(alloc: Global, world: &mut World, lines: &str) -> Result<Ran, F
             return Err(Fail::from("too many lines"));
         }
         number += 1;
-        refused = carry_out(alloc, world, number, text, &mut out)?;
+        let line = read_line(alloc, text.as_bytes(), 1, 1)?;
+        refused = carry_out(world, number, line, &mut out);
         if refused.is_some() {
             break;
         }

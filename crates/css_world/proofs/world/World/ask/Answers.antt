@@ -5,7 +5,7 @@ use Rattle.css_model.specs.History.{Sent, Clock}
 use Rattle.css_companion.specs.Standing as companions
 use Rattle.css_schedule.specs.declared.line.Verb.TheVariants.{Ask}
 use Rattle.css_world.specs.Happened.{peer, history_of}
-use Rattle.css_world.specs.Standing.{World, IsReady, IsWorld, IsNumber}
+use Rattle.css_world.specs.Standing.{World, IsReady, IsNumber}
 use Rattle.css_world.proofs.Carrying.{at_line, asked}
 use Rattle.css_world.proofs.Inside.{inside_of}
 use Rattle.css_world.proofs.Written.{still_world, clocks_kept, was_read, may_ask, asked_lane}

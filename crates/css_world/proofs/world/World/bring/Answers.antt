@@ -7,10 +7,10 @@ use Rattle.css_world.proofs.world.World.bring.Goals as goal
 
 pub returns-in-Cii-clause-carries : goal.returns-in-Cii-clause-carries
 returns-in-Cii-clause-carries c =
-    subst (λ (k : Kind). CarriesOut c.args.self.now c.bring_cii.new.self c.bring_cii.result (Bring k))
+    subst (λ (k : Kind). CarriesOut c.args.self.now c.bring_cii.new.self c.bring_cii.result c.args.who (Bring k))
     (sym c.in-Cii.is) c.bring_cii.ensures.carries
 
 pub returns-in-Ts-clause-carries : goal.returns-in-Ts-clause-carries
 returns-in-Ts-clause-carries c =
-    subst (λ (k : Kind). CarriesOut c.args.self.now c.bring_ts.new.self c.bring_ts.result (Bring k))
+    subst (λ (k : Kind). CarriesOut c.args.self.now c.bring_ts.new.self c.bring_ts.result c.args.who (Bring k))
     (sym c.in-Ts.is) c.bring_ts.ensures.carries

@@ -13,13 +13,65 @@ use Rattle.css_world.specs.Printed.{wall_text}
 use Rattle.css_world.specs.Verdicts.{span_at, report_at, assigned_at}
 use Rattle.css_world.proofs.Carrying.{at_line}
 use Rattle.css_world.proofs.Verbs.{walls, prints}
+use Rattle.css_world.specs.Standing.{IsWorld}
 use Rattle.css_world.proofs.Going.{prints_nothing, prints_line}
+use Rattle.css_world.proofs.Written.{is_number}
 use Rattle.css_world.proofs.world.World.carry_out.Goals as goal
 
 -- a timeline's base fits its type
 base-fits : (base : ℤ) → unsigned_abs base < 10 ^ 18 → FitsSigned w64 base
 base-fits (pos n) small = record { sfits = omega (arith, small) }
 base-fits (negsuc n) small = record { sfits = omega (arith, small) }
+
+pub ask-requires-clause-who : goal.ask-requires-clause-who
+ask-requires-clause-who c =
+    is_number c.args.self.now c.args.line (Ask c.in-Ask.reading) (subst IsWorld c.self.view_is c.self.invariant) c.requires.of
+    c.in-Ask.is refl
+
+pub land-requires-clause-who : goal.land-requires-clause-who
+land-requires-clause-who c =
+    is_number c.args.self.now c.args.line (Land c.in-Land.datagram c.in-Land.reading) (subst IsWorld c.self.view_is c.self.invariant) c.requires.of
+    c.in-Land.is refl
+
+pub wall-requires-clause-who : goal.wall-requires-clause-who
+wall-requires-clause-who c =
+    is_number c.args.self.now c.args.line (Wall c.in-Wall.reading) (subst IsWorld c.self.view_is c.self.invariant) c.requires.of
+    c.in-Wall.is refl
+
+pub print-requires-clause-who : goal.print-requires-clause-who
+print-requires-clause-who c =
+    is_number c.args.self.now c.args.line (Print c.in-Print.reading) (subst IsWorld c.self.view_is c.self.invariant) c.requires.of
+    c.in-Print.is refl
+
+pub open-requires-clause-who : goal.open-requires-clause-who
+open-requires-clause-who c =
+    is_number c.args.self.now c.args.line (Opening c.in-Opening.kind) (subst IsWorld c.self.view_is c.self.invariant) c.requires.of
+    c.in-Opening.is refl
+
+pub bring-requires-clause-who : goal.bring-requires-clause-who
+bring-requires-clause-who c =
+    is_number c.args.self.now c.args.line (Bring c.in-Bring.kind) (subst IsWorld c.self.view_is c.self.invariant) c.requires.of
+    c.in-Bring.is refl
+
+pub up-requires : goal.up-requires
+up-requires c = record {
+  who = is_number c.args.self.now c.args.line Up (subst IsWorld c.self.view_is c.self.invariant) c.requires.of c.in-Up.is refl;
+}
+
+pub present-requires-clause-who : goal.present-requires-clause-who
+present-requires-clause-who c =
+    is_number c.args.self.now c.args.line (Present c.in-Present.earliest c.in-Present.latest) (subst IsWorld c.self.view_is c.self.invariant) c.requires.of
+    c.in-Present.is refl
+
+pub close-requires-clause-who : goal.close-requires-clause-who
+close-requires-clause-who c =
+    is_number c.args.self.now c.args.line (Close c.in-Close.kind) (subst IsWorld c.self.view_is c.self.invariant) c.requires.of
+    c.in-Close.is refl
+
+pub sleep-requires-clause-who : goal.sleep-requires-clause-who
+sleep-requires-clause-who c =
+    is_number c.args.self.now c.args.line Sleep (subst IsWorld c.self.view_is c.self.invariant) c.requires.of
+    c.in-Sleep.is refl
 
 pub returns-in-Ask-clause-prints : goal.returns-in-Ask-clause-prints
 returns-in-Ask-clause-prints c =

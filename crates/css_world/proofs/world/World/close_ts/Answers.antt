@@ -1,5 +1,5 @@
 -- The TS session closes at both ends.
-use Rattle.std.proofs.Common.{◌≡◌, ◌≤◌, ◌-◌, ℕ, refl, sym, ap, subst, ◌∙◌, inl, length}
+use Rattle.std.proofs.Common.{◌≡◌, ◌-◌, ℕ, refl, sym, ap, subst, ◌∙◌, inl}
 use Rattle.std.specs.Prelude.{Some, slice_set, Result, Ok, Err}
 use Rattle.std.proofs.lemmas.Result.{err_from_is_err_and}
 use Rattle.css_sessions.specs.declared.session.Kind.TheVariants as kind
@@ -14,6 +14,7 @@ use Rattle.css_world.proofs.Inside.{inside_of}
 use Rattle.css_world.proofs.Peers.{ts_of}
 use Rattle.css_world.proofs.Verbs.{WhenPlayed, refuses, carried-when, carried-not, can-close, cannot-close, closes_ts}
 use Rattle.css_world.proofs.Written.{still_kept, clocks_kept, still_played, clocks_played, clocks_set, few}
+use Rattle.css_world.proofs.Written.{still_attended, clocks_attended}
 use Rattle.css_world.proofs.Written.{companions_set, both_kept, refused_kept, refused_as, refused_played}
 use Rattle.css_world.proofs.world.World.close_ts.Goals as goal
 
@@ -133,3 +134,61 @@ returns-in_err-play-clause-refused c =
     refused_as c.args.self.now _ c.from_residual-in_err-play.result c.in_err-play.field-0.0 exit.0 exit.1 exit.2
     (refused_played c.args.self.now old _ (slice_set old.lanes (who - 1) after) c.in_err-play.field-0.0 c.self.view_is
     (companions_set old.lanes who lane after found refl) c.play.ensures.lanes c.in_err-play.ensures.refused)
+
+pub invariant_of-self-in_err-attend : goal.invariant_of-self-in_err-attend
+invariant_of-self-in_err-attend c =
+    let old : World = inside_of c.self.inside in
+    let lane = c.lane-lane.result.now in
+    let who = c.args.who in
+    let found = c.lane-lane.ensures.value in
+    let after = record lane { ts = c.close.new.self } in
+    let between : World = record old { lanes = slice_set old.lanes (who - 1) after } in
+    let was : IsWorld between =
+    still_kept c.args.self.now old between who lane after c.self.invariant c.self.view_is c.requires.who found refl refl
+    refl refl refl refl in
+    let tv = record old.tv { tv = c.play.new.tv } in
+    let told : World = record old { tv = tv; lanes = c.play.new.lanes.list.items } in
+    let then : IsWorld told =
+    still_played between told was refl refl c.play.ensures.tv.0 c.play.ensures.tv.1 c.play.ensures.lanes in
+    still_attended told _ who c.lane-lane-2.result.now c.attend.new.self then c.lane-lane-2.ensures.value
+    c.attend.ensures.client c.attend.ensures.setup c.attend.ensures.rest.0 refl refl refl
+
+pub invariant_of-self-2 : goal.invariant_of-self-2
+invariant_of-self-2 c =
+    let old : World = inside_of c.self.inside in
+    let lane = c.lane-lane.result.now in
+    let who = c.args.who in
+    let found = c.lane-lane.ensures.value in
+    let after = record lane { ts = c.close.new.self } in
+    let between : World = record old { lanes = slice_set old.lanes (who - 1) after } in
+    let was : IsWorld between =
+    still_kept c.args.self.now old between who lane after c.self.invariant c.self.view_is c.requires.who found refl refl
+    refl refl refl refl in
+    let tv = record old.tv { tv = c.play.new.tv } in
+    let told : World = record old { tv = tv; lanes = c.play.new.lanes.list.items } in
+    let then : IsWorld told =
+    still_played between told was refl refl c.play.ensures.tv.0 c.play.ensures.tv.1 c.play.ensures.lanes in
+    still_attended told _ who c.lane-lane-2.result.now c.attend.new.self then c.lane-lane-2.ensures.value
+    c.attend.ensures.client c.attend.ensures.setup c.attend.ensures.rest.0 refl refl refl
+
+pub returns-in_err-attend-clause-clocks : goal.returns-in_err-attend-clause-clocks
+returns-in_err-attend-clause-clocks c =
+    let old : World = inside_of c.self.inside in
+    let lane = c.lane-lane.result.now in
+    let who = c.args.who in
+    let found = c.lane-lane.ensures.value in
+    let after = record lane { ts = c.close.new.self } in
+    clocks_attended c.args.self.now old _ (slice_set old.lanes (who - 1) after) c.play.new.lanes.list.items who
+    c.lane-lane-2.result.now c.attend.new.self c.self.view_is (clocks_set old.lanes who lane after found refl)
+    c.play.ensures.lanes c.lane-lane-2.ensures.value c.attend.ensures.rest.0 refl refl refl
+
+pub returns-clause-clocks : goal.returns-clause-clocks
+returns-clause-clocks c =
+    let old : World = inside_of c.self.inside in
+    let lane = c.lane-lane.result.now in
+    let who = c.args.who in
+    let found = c.lane-lane.ensures.value in
+    let after = record lane { ts = c.close.new.self } in
+    clocks_attended c.args.self.now old _ (slice_set old.lanes (who - 1) after) c.play.new.lanes.list.items who
+    c.lane-lane-2.result.now c.attend.new.self c.self.view_is (clocks_set old.lanes who lane after found refl)
+    c.play.ensures.lanes c.lane-lane-2.ensures.value c.attend.ensures.rest.0 refl refl refl

@@ -1,5 +1,8 @@
 -- A line that was shown, read and carried out is one more.
-use Rattle.css_world.proofs.Going.{Steps, still_ready, line_answers, line_stands, line_true}
+use Rattle.std.proofs.Common.{ap, ◌∙◌}
+use Rattle.std.specs.Prelude.{Err}
+use Rattle.std.proofs.lemmas.Result.{err_from_is_err_and}
+use Rattle.css_world.proofs.Going.{Steps, still_ready, lines_next, read_refused, line_answers, line_stands, line_true}
 use Rattle.css_world.proofs.world.World.line.Goals as goal
 
 -- what each step of the line left
@@ -20,6 +23,17 @@ steps c = record {
   clocks = c.carry_out.ensures.clocks;
   prints = c.carry_out.ensures.prints;
 }
+
+pub show-requires-clause-own_next : goal.show-requires-clause-own_next
+show-requires-clause-own_next c =
+    lines_next c.args.self.now c.requires.stands.0 c.args.number c.requires.stands.1 c.requires.stands.2
+
+pub returns-in_err-read-clause-answers : goal.returns-in_err-read-clause-answers
+returns-in_err-read-clause-answers c =
+    let exit = err_from_is_err_and c.from_residual-in_err-read.result c.from_residual-in_err-read.ensures.1 in
+    read_refused c.args.self.now c.show.new.self c.args.out.now.items c.from_residual-in_err-read.result
+    c.in_err-read.field-0.0 (record { number = c.args.number; line = c.args.line }) (exit.1 ∙ ap Err exit.2)
+    c.in_ok-show.ensures.ends c.in_ok-show.ensures.readings c.in_ok-show.ensures.verdict c.in_err-read.ensures.verdict
 
 pub carry_out-requires-clause-ready : goal.carry_out-requires-clause-ready
 carry_out-requires-clause-ready c =

@@ -1,5 +1,5 @@
 -- The companion writes a presentation.
-use Rattle.std.proofs.Common.{◌≡◌, ◌≤◌, rules, refl, sym, subst, inl, length}
+use Rattle.std.proofs.Common.{◌≡◌, rules, refl, sym, subst, inl}
 use Rattle.std.specs.Prelude.{Some, Result, Ok, Err}
 use Rattle.css_tsmsg.specs.Presentations.{presentation_text}
 use Rattle.css_companion.specs.Steps.{window}

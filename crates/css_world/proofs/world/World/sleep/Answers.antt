@@ -1,5 +1,5 @@
 -- The companion stands for its history with the sleep.
-use Rattle.std.proofs.Common.{◌≤◌, refl, sym, ap, subst, length}
+use Rattle.std.proofs.Common.{refl, sym, ap, subst}
 use Rattle.css_companion.specs.Standing as companions
 use Rattle.css_schedule.specs.declared.line.Verb.TheVariants.{Sleep}
 use Rattle.css_world.specs.Happened.{history_of}

@@ -1,5 +1,5 @@
 -- A text of the companion comes to the television.
-use Rattle.std.proofs.Common.{◌≡◌, ◌≤◌, ◌-◌, ℕ, refl, sym, ap, subst, ◌∙◌, inl, length}
+use Rattle.std.proofs.Common.{◌≡◌, ◌-◌, ℕ, refl, sym, ap, subst, ◌∙◌, inl}
 use Rattle.std.specs.Prelude.{Some, slice_set, Result, Ok, Err}
 use Rattle.std.proofs.lemmas.Result.{err_from_is_err_and}
 use Rattle.css_tv.specs.declared.event.TvEvent.TheVariants as event
