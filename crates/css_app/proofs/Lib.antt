@@ -3,6 +3,7 @@ pub mod Answering
 pub mod Promise
 pub mod Runs
 pub mod Standing
+pub mod Heading
 pub mod Completeness
 pub mod Generating
 pub mod Watched

@@ -122,7 +122,8 @@ after_text : (replay : Replay) (old new : World) (number : ℕ) (text : List ℕ
     → Stands (record replay { world = Some new; last = number }) (before ++ text ∷ [])
 after_text replay old new number text is header goes before e stands =
     let run = runs replay old (reached before) is stands.at in
-    let next = (some_lines replay old number before is stands e).2 in
+    let next : worlds.IsNext number run.lines =
+    subst (λ (n : ℕ). worlds.IsNext n run.lines) (sym e) (is_next before old.header run.version run.lines run.is) in
     let stood = goes run.lines run.stands next in
     let lines = with_line number run.lines (line_in run.version (length old.header.companions) text) in
     let read : worlds.StandsFor new lines =
