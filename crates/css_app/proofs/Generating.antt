@@ -7,14 +7,14 @@ use Rattle.std.proofs.lemmas.Bool.{ltb-true, ltb-false}
 use Rattle.std.proofs.lemmas.List.{append_assoc, append-nil}
 use Rattle.css_outside.proofs.Known.{appends_more}
 use Rattle.css_outside.specs.Bytes.{IsPrefix, AppendsPrefix}
-use Rattle.css_gen.specs.Generated.{Generator, text_numbered, next_text, after_next}
+use Rattle.css_gen.specs.Generated.{Generator, text_numbered, text_in, text_after, next_text, after_next}
 use Rattle.css_app.specs.Generated.{schedule_text}
 
 -- ---- the generator
 -- A generator gave this text: it was the next one, and there was one line more.
 pub record Gave (before after : Generator) (bytes : List ℕ) : Type 0 where
   pub more : before.given < before.lines
-  pub text : bytes ≡ text_numbered before.seed (before.given + 1)
+  pub text : bytes ≡ text_after before
   pub gone : after ≡ record before { given = before.given + 1 }
 
 pub gave : (before after : Generator) (text : List ℕ) → Some text ≡ next_text before → after ≡ after_next before
@@ -22,7 +22,7 @@ pub gave : (before after : Generator) (text : List ℕ) → Some text ≡ next_t
 gave before after text given left = by (ltb before.given before.lines) refl given left
   where
     next : List ℕ
-    next = text_numbered before.seed (before.given + 1)
+    next = text_after before
 
     left_so : Generator
     left_so = record before { given = before.given + 1 }
@@ -31,6 +31,11 @@ gave before after text given left = by (ltb before.given before.lines) refl give
         → after ≡ cond b left_so before → Gave before after text
     by true more is left = record { more = ltb-true before.given before.lines more; text = cc; gone = left }
     by false more is left = absurd (cc)
+
+-- with one companion, it is the next line of version 1
+pub first_text : (before : Generator) → before.companions ≡ 1
+    → text_after before ≡ text_numbered before.seed (before.given + 1)
+first_text before one = ap (λ (n : ℕ). text_in before.seed n (before.given + 1)) one
 
 -- It gave nothing, since there was no line more.
 pub record GaveNone (before after : Generator) : Type 0 where
@@ -42,7 +47,7 @@ pub gave_none : (before after : Generator) → None ≡ next_text before → aft
 gave_none before after given left = by (ltb before.given before.lines) refl given left
   where
     next : List ℕ
-    next = text_numbered before.seed (before.given + 1)
+    next = text_after before
 
     left_so : Generator
     left_so = record before { given = before.given + 1 }

@@ -48,7 +48,7 @@ use Rattle.css_app.specs.declared.surveyed.Surveyor.{Surveyor}
 use Rattle.css_app.specs.Surveyed.{Told, asked_by, told_by, told_at, told_of, told_in, counted, counted_with}
 use Rattle.css_app.specs.Surveyed.{summary_of}
 use Rattle.css_app.specs.Surveys.{Stands, IsTaken, HasTaken}
-use Rattle.css_app.proofs.Generating.{Gave, gave, gave_none}
+use Rattle.css_app.proofs.Generating.{Gave, gave, gave_none, first_text}
 use Rattle.css_app.proofs.Accepting.{generated_accepted}
 
 -- ---- one report
@@ -274,6 +274,7 @@ ready_next survey before after number text has gave is =
     let given = before.given in
     let few : given < 200000 = omega (arith, gave.more, has.few) in
     let read = (generated_read before.seed).others (given + 1) (omega (arith, has.some)) (omega (arith, few)) in
+    let text_is = gave.text ∙ first_text before has.one in
     let taken : AreAccepted opening.header (generated before.seed given) =
     (generated_accepted before.seed given few).accepted in
     let first : AreAccepted opening.header
@@ -285,7 +286,7 @@ ready_next survey before after number text has gave is =
     (record { number = given + 1; line = next_generated before } ∷ lines_before before))
     (sym has.header) first in
     record {
-      read = ap line_of gave.text ∙ read;
+      read = ap line_of text_is ∙ read;
       accepted = subst (λ (n : ℕ). AreAccepted survey.world.header
           (record { number = n; line = next_generated before } ∷ lines_before before)) (sym is) here;
     }
@@ -310,6 +311,7 @@ taken_next old new before after number text has gave is header stands =
     let all : Stands new (generated before.seed (given + 1 - 1)) =
     subst (Stands new) (sym (one-generated before.seed given has.some) ∙ ap (generated before.seed) same) here in
     subst (HasTaken new) (sym gave.gone) (record {
+      one = has.one;
       some = omega arith;
       within = omega (arith, gave.more);
       few = has.few;
@@ -365,13 +367,14 @@ pub taken_still : (survey : Surveyor) (before after : Generator) → HasTaken su
 taken_still survey before after has same = subst (HasTaken survey) (sym same) has
 
 -- a survey that has taken the header has taken what a new generator gave
-pub taken_first : (survey : Surveyor) (before after : Generator) (text : List ℕ) → before.given ≡ 0
-    → before.lines ≤ 200000 → Gave before after text → survey.world.header ≡ opening.header → Stands survey []
+pub taken_first : (survey : Surveyor) (before after : Generator) (text : List ℕ) → before.companions ≡ 1
+    → before.given ≡ 0 → before.lines ≤ 200000 → Gave before after text → survey.world.header ≡ opening.header → Stands survey []
     → HasTaken survey after
 unfolding generated
-taken_first survey before after text none few gave header stands =
+taken_first survey before after text one none few gave header stands =
     let same : 0 ≡ before.given + 1 - 1 = omega (arith, none) in
     subst (HasTaken survey) (sym gave.gone) (record {
+      one = one;
       some = omega arith;
       within = omega (arith, gave.more);
       few = few;
@@ -380,19 +383,20 @@ taken_first survey before after text none few gave header stands =
     })
 
 -- the header is read
-pub reads_header : (before after : Generator) (text : List ℕ) → before.given ≡ 0 → Gave before after text
+pub reads_header : (before after : Generator) (text : List ℕ) → before.companions ≡ 1 → before.given ≡ 0
+    → Gave before after text
     → header_of text ≡ Ok (One opening.header)
-reads_header before after text none gave =
-    ap header_of (gave.text ∙ ap (λ (n : ℕ). text_numbered before.seed (n + 1)) none)
+reads_header before after text one none gave =
+    ap header_of (gave.text ∙ first_text before one ∙ ap (λ (n : ℕ). text_numbered before.seed (n + 1)) none)
     ∙ (generated_read before.seed).first
 
 -- ---- the first call
 -- what the generator answered is the header
-pub can_begin : (before after : Generator) (next : Option (List ℕ)) (text bytes : List ℕ) → before.given ≡ 0
-    → next ≡ Some text → next ≡ next_text before → after ≡ after_next before → bytes ≡ text
+pub can_begin : (before after : Generator) (next : Option (List ℕ)) (text bytes : List ℕ) → before.companions ≡ 1
+    → before.given ≡ 0 → next ≡ Some text → next ≡ next_text before → after ≡ after_next before → bytes ≡ text
     → header_of bytes ≡ Ok (One opening.header)
-can_begin before after next text bytes none some answer left same =
-    ap header_of same ∙ reads_header before after text none (gave before after text (sym some ∙ answer) left)
+can_begin before after next text bytes one none some answer left same =
+    ap header_of same ∙ reads_header before after text one none (gave before after text (sym some ∙ answer) left)
 
 -- there is one
 pub never_none : (before after : Generator) (next : Option (List ℕ)) → before.given ≡ 0 → 1 ≤ before.lines
@@ -410,12 +414,12 @@ gave_header before after next text none some answer left =
 
 -- and the survey that begins with it has taken it
 pub has_begun : {E : Type 0} (begun : Result Surveyor E) (before after : Generator) (next : Option (List ℕ))
-    (text : List ℕ) → before.given ≡ 0 → before.lines ≤ 200000 → next ≡ Some text → next ≡ next_text before
-    → after ≡ after_next before → IfOk begun (λ survey. survey.world.header ≡ opening.header)
+    (text : List ℕ) → before.companions ≡ 1 → before.given ≡ 0 → before.lines ≤ 200000 → next ≡ Some text
+    → next ≡ next_text before → after ≡ after_next before → IfOk begun (λ survey. survey.world.header ≡ opening.header)
     → IfOk begun (λ survey. Stands survey []) → IfOk begun (λ survey. HasTaken survey after)
-has_begun (Ok survey) before after next text none few some answer left header stands =
-    taken_first survey before after text none few (gave before after text (sym some ∙ answer) left) header stands
-has_begun (Err fault) before after next text none few some answer left header stands = tt
+has_begun (Ok survey) before after next text one none few some answer left header stands =
+    taken_first survey before after text one none few (gave before after text (sym some ∙ answer) left) header stands
+has_begun (Err fault) before after next text one none few some answer left header stands = tt
 
 -- ---- all lines
 -- In the end it has counted what is told at all lines.
@@ -431,7 +435,7 @@ all_counted survey generator seed lines has same all none =
     ∙ ap (λ (n : ℕ). summary_of (told_of opening.header (generated seed (n - 1)))) given
 
 pub counted_in_all : (survey : Surveyor) (new begun all : Generator) (seed lines : ℕ)
-    → new ≡ record { seed = seed; lines = lines; given = 0 } → begun ≡ record new { given = 1 }
+    → new ≡ record { seed = seed; lines = lines; companions = 1; given = 0 } → begun ≡ record new { given = 1 }
     → all ≡ record begun { given = begun.lines } → HasTaken survey all
     → survey.summary ≡ summary_of (told_in seed lines)
 counted_in_all survey new begun all seed lines is first last has =

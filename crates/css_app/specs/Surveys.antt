@@ -22,8 +22,9 @@ pub record IsTaken (header : Header) (older : List Numbered) (number : ℕ) (tex
   pub read : line_of text ≡ Ok line
   pub accepted : worlds.AreAccepted header (record { number = number; line = line } ∷ older)
 
--- The survey has taken what the generator gave: the header, and each line after it.
+-- The survey has taken what the generator of one companion gave: the header, and each line after it.
 pub record HasTaken (survey : Surveyor) (generator : Generator) : Type 0 where
+  pub one : generator.companions ≡ 1
   pub some : 1 ≤ generator.given
   pub within : generator.given ≤ generator.lines
   pub few : generator.lines ≤ 200000

@@ -18,7 +18,7 @@ fn write_lines<K: Sink>(alloc: Global, seed: u64, lines: u64, sink: &mut K) -> R
     ensures err { OnErr result (AppendsPrefix (K.holds sink.old) (K.holds sink.new) (schedule_text seed lines)) }
     ensures counted { CountsCall (K.faults sink.old) (K.faults sink.new) result }
 {
-    let mut generator = Generator::new(seed, lines, 1);
+    let mut generator = Generator::new(alloc, seed, lines, 1);
     'lines: while let Some(mut text) = generator.next_line(alloc)? {
         text.push(b"\n")?;
         write_all(sink, text.bytes())?;

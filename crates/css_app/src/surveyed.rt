@@ -159,6 +159,7 @@ impl Surveyor {
 
 // Begins a survey with the header that a new generator gives.
 fn begin(alloc: Global, generator: &mut Generator) -> Result<Surveyor, Memory>
+    requires one { generator.old.companions ≡ 1 }
     requires given { generator.old.given ≡ 0 }
     requires some { 1 ≤ generator.old.lines }
     requires few { generator.old.lines ≤ 200000 }
@@ -215,7 +216,7 @@ fn survey_lines(alloc: Global, seed: u64, lines: u64) -> Result<Summary, Memory>
     requires most { lines ≤ 200000 }
     ensures { IfOk result (λ summary. summary ≡ surveyed.summary_of (surveyed.told_in seed lines)) }
 {
-    let mut generator = Generator::new(seed, lines, 1);
+    let mut generator = Generator::new(alloc, seed, lines, 1);
     let mut survey = begin(alloc, &mut generator)?;
     take_all(alloc, &mut generator, &mut survey)?;
     Ok(survey.summary)

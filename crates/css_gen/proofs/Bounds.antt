@@ -10,13 +10,13 @@ use Rattle.css_gen.specs.declared.course.Course.{Course}
 use Rattle.css_gen.proofs.Draws.{draw-below}
 
 -- true time has grown for one line more
-record IsGrown (lines : ℕ) (course : Course) : Type 0 where
-  time : course.time ≤ 9029999 * suc lines
-  requests : course.requests ≤ lines
-  takes : course.takes ≤ lines
-  answers : course.answers ≤ course.takes
+pub record IsGrown (lines : ℕ) (course : Course) : Type 0 where
+  pub time : course.time ≤ 9029999 * suc lines
+  pub requests : course.requests ≤ lines
+  pub takes : course.takes ≤ lines
+  pub answers : course.answers ≤ course.takes
 
-asked-within : (lines : ℕ) (course : Course) → IsGrown lines course → IsWithin (suc lines) (asked course).course
+pub asked-within : (lines : ℕ) (course : Course) → IsGrown lines course → IsWithin (suc lines) (asked course).course
 asked-within lines course h =
     record { time = h.time; requests = omega arith; takes = omega arith; answers = h.answers }
 
@@ -48,11 +48,11 @@ landed-within lines course h = by (course.answers == 0)
     by true = asked-within lines course h
     by false = record { time = h.time; requests = omega arith; takes = omega arith; answers = h.answers }
 
-printed-within : (lines : ℕ) (course : Course) → IsGrown lines course → IsWithin (suc lines) (printed course).course
+pub printed-within : (lines : ℕ) (course : Course) → IsGrown lines course → IsWithin (suc lines) (printed course).course
 printed-within lines course h =
     record { time = h.time; requests = omega arith; takes = omega arith; answers = h.answers }
 
-chosen-within : (choice lines : ℕ) (course : Course) → IsGrown lines course
+pub chosen-within : (choice lines : ℕ) (course : Course) → IsGrown lines course
     → IsWithin (suc lines) (chosen choice course).course
 unfolding chosen
 chosen-within choice lines course h =
@@ -71,7 +71,7 @@ chosen-within choice lines course h =
     by false false false true = landed-within lines course h
     by false false false false = printed-within lines course h
 
-later-grown : (lines : ℕ) (course : Course) → IsWithin lines course → IsGrown lines (later course)
+pub later-grown : (lines : ℕ) (course : Course) → IsWithin lines course → IsGrown lines (later course)
 unfolding later
 later-grown lines course h =
     let below = draw-below 9000000 course.words (omega arith) in

@@ -1,10 +1,10 @@
--- What a generator gives next, and the course after it.
-use Rattle.std.proofs.Common.{◌≡◌, ℕ, suc, ◌+◌, ◌-◌, ◌<◌, arith, ap, sym, ◌∙◌, refl, Bool, true, false, List}
-use Rattle.std.specs.Prelude.{nat_lt, if◌then◌else◌, Option, Some, None}
-use Rattle.std.proofs.lemmas.Bool.{lt-ltb, ltb-true, ltb-false}
+-- What a generator of one companion gives next, and the course after it.
+use Rattle.std.proofs.Common.{◌≡◌, ℕ, suc, ◌+◌, ◌-◌, arith, ap, ◌∙◌, refl, Bool, true, false}
+use Rattle.std.specs.Prelude.{nat_lt, if◌then◌else◌}
+use Rattle.std.proofs.lemmas.Bool.{ltb-true, ltb-false}
 use Rattle.css_gen.specs.Course.{next_course, course_after}
-use Rattle.css_gen.specs.Generated.{Generator, text_from, text_numbered, next_text}
-use Rattle.css_gen.specs.Bounds.{course_from}
+use Rattle.css_gen.specs.Generated.{text_from, text_numbered}
+use Rattle.css_gen.specs.Standing.{course_from}
 use Rattle.css_gen.specs.declared.course.Course.{Course}
 
 -- the course after a line is the one before the next line
@@ -30,12 +30,3 @@ unfolding text_numbered
 text-is seed given course follows =
     let same : given - 9 ≡ given + 1 - 10 = omega arith in
     ap (λ (c : Course). text_from c (given + 1)) (follows ∙ ap (course_after seed) same)
-
--- so it is what comes next
-pub text-next : (generator : Generator) (course : Course) (text : List ℕ) → generator.given < generator.lines
-    → course ≡ course_after generator.seed (generator.given - 9) → text ≡ text_from course (generator.given + 1)
-    → Some text ≡ next_text generator
-text-next generator course text before follows is =
-    let next : Option (List ℕ) = Some (text_numbered generator.seed (generator.given + 1)) in
-    ap (λ (t : List ℕ). Some t) (is ∙ text-is generator.seed generator.given course follows)
-    ∙ sym (ap (λ b. if b then next else None) (lt-ltb generator.given generator.lines before))

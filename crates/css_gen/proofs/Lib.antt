@@ -5,3 +5,10 @@ pub mod Ranges
 pub mod Awake
 pub mod Going
 pub mod Reading
+pub mod Tuning
+pub mod Landing
+pub mod Crowds
+pub mod CrowdRanges
+pub mod SecondTexts
+pub mod CrowdGoing
+pub mod SecondReading

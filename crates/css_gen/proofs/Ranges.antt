@@ -21,7 +21,7 @@ use Rattle.css_gen.proofs.Clocks.{clock-range}
 use Rattle.css_gen.proofs.Bounds.{course-small}
 
 -- ---- what is drawn
-asked-range : (course : Course) → CanHappen course → IsVerb (asked course).verb
+pub asked-range : (course : Course) → CanHappen course → IsVerb (asked course).verb
 asked-range course h = clock-range course.own_fast course.time h.time
 
 -- a number that is drawn back from the last one
@@ -74,7 +74,7 @@ landed-range course h = by (course.answers == 0) refl
           reading = clock-range course.own_fast course.time h.time;
         }
 
-chosen-range : (choice : ℕ) (course : Course) → CanHappen course → IsVerb (chosen choice course).verb
+pub chosen-range : (choice : ℕ) (course : Course) → CanHappen course → IsVerb (chosen choice course).verb
 unfolding chosen
 chosen-range choice course h = by (nat_lt choice 2) (choice == 2) (choice == 3) (nat_lt choice 6)
   where
@@ -92,7 +92,7 @@ chosen-range choice course h = by (nat_lt choice 2) (choice == 2) (choice == 3) 
     by false false false false = clock-range course.own_fast course.time h.time
 
 -- true time grows by less than 10 milliseconds
-later-can : (course : Course) → IsSmall course → CanHappen (later course)
+pub later-can : (course : Course) → IsSmall course → CanHappen (later course)
 unfolding later
 later-can course h =
     let below = draw-below 9000000 course.words (omega arith) in
@@ -126,7 +126,7 @@ pub stem-utf8 : IsUtf8 (codes "dvb://")
 stem-utf8 = word-utf8 (codes "dvb://") refl
 
 -- ---- the opening
-verb-range : (number : ℕ) → IsVerb (opening_verb number)
+pub verb-range : (number : ℕ) → IsVerb (opening_verb number)
 unfolding opening_verb
 verb-range number =
     by (number == 2) (number == 3) (number == 4) (number == 5) (number == 6) (number == 7) (number == 8)

@@ -1,6 +1,5 @@
 -- How large the numbers of a generator are.
-use Rattle.std.specs.Prelude.{ℕ, ◌≡◌, ◌≤◌, ◌<◌, ◌-◌, ◌*◌, ◌^◌, nat_lt, if◌then◌else◌}
-use Rattle.css_gen.specs.Course.{next_course, course_after}
+use Rattle.std.specs.Prelude.{ℕ, ◌≤◌, ◌<◌, ◌*◌, ◌^◌}
 use Rattle.css_gen.specs.declared.course.Course.{Course}
 
 -- a schedule has at most so many lines
@@ -27,12 +26,3 @@ pub record CanHappen (course : Course) : Type 0 where
   pub requests : course.requests < 2 ^ 24
   pub takes : course.takes < 2 ^ 24
   pub answers : course.answers ≤ course.takes
-
--- the course after the line of that number
-abbrev pub course_from : Course → ℕ → Course
-course_from course number = if nat_lt number 10 then course else next_course course
-
--- the generator has this many lines in all, and its course is that of the seed after those that it has given
-pub record IsGenerator (seed lines given : ℕ) (course : Course) : Type 0 where
-  pub few : lines ≤ most_lines
-  pub follows : course ≡ course_after seed (given - 9)

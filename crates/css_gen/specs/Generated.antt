@@ -5,6 +5,7 @@ use Rattle.css_schedule.specs.Printed.{header_text, line_text}
 use Rattle.css_gen.specs.Course.{next_line, course_after}
 use Rattle.css_gen.specs.declared.course.Course.{Course}
 use Rattle.css_gen.specs.Opening.{header, opening_line}
+use Rattle.css_gen.specs.Second.{second_text}
 
 -- the line of that number, from 2 on, where the lines after the opening have come to this course
 abbrev pub line_from : Course → (number : ℕ) → Line
@@ -26,16 +27,26 @@ line_numbered seed number = line_from (course_before seed number) number
 unfoldable pub text_numbered : (seed : ℕ) → (number : ℕ) → List ℕ
 text_numbered seed number = text_from (course_before seed number) number
 
--- A generator: the seed of its lines, how many lines there are in all, and how many it has given.
+-- the text of the line of that number in the schedule of so many companions; one of them has a schedule of version 1
+abbrev pub text_in : (seed companions number : ℕ) → List ℕ
+text_in seed companions number =
+    if companions == 1 then text_numbered seed number else second_text seed companions number
+
+-- A generator: the seed of its lines, how many lines there are in all and of how many companions, and how many it has
+-- given.
 pub record Generator : Type 0 where
   pub seed : ℕ
   pub lines : ℕ
+  pub companions : ℕ
   pub given : ℕ
+
+-- the text of the line after those that were given
+abbrev pub text_after : Generator → List ℕ
+text_after generator = text_in generator.seed generator.companions (generator.given + 1)
 
 -- the text that comes next, and None after the last one
 abbrev pub next_text : Generator → Option (List ℕ)
-next_text generator =
-    if nat_lt generator.given generator.lines then Some (text_numbered generator.seed (generator.given + 1)) else None
+next_text generator = if nat_lt generator.given generator.lines then Some (text_after generator) else None
 
 -- the generator after that
 abbrev pub after_next : Generator → Generator

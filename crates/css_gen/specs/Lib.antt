@@ -1,6 +1,9 @@
 pub mod Draws
 pub mod Course
+pub mod Crowd
 pub mod Opening
+pub mod Second
 pub mod Generated
 pub mod Bounds
+pub mod Standing
 pub mod Readable

@@ -10,7 +10,7 @@ use rand_pcg::Lcg64Xsh32;
 
 /// The next word modulo `below`.
 #[tactic(auto, unfolding(crate::specs::Draws::draw))]
-fn draw(words: &mut Lcg64Xsh32, below: u32) -> u32
+pub(crate) fn draw(words: &mut Lcg64Xsh32, below: u32) -> u32
     requires { 0 < below }
     ensures number { result ≡ (draws.draw below words.old).number }
     ensures left { words.new ≡ (draws.draw below words.old).left }
@@ -36,19 +36,19 @@ fn clock(fast: bool, time: u64) -> u64
 /// Where the lines after the opening have come to, and the words that the next ones are drawn from.
 #[derive(Clone, Debug, Drop)]
 pub(crate) struct Course {
-    words: Lcg64Xsh32,
+    pub(crate) words: Lcg64Xsh32,
     /// Whether the television's oscillator runs fast.
     tv_fast: bool,
     /// Whether the companion's does.
-    own_fast: bool,
+    pub(crate) own_fast: bool,
     /// True time, in nanoseconds.
-    time: u64,
+    pub(crate) time: u64,
     /// How many requests were sent.
     requests: u32,
     /// How many requests were received.
     takes: u32,
     /// How many of these were answered: the first ones.
-    answers: u32,
+    pub(crate) answers: u32,
 }
 
 impl Course {
@@ -89,7 +89,7 @@ impl Course {
 
     /// True time passes: 30 microseconds, and up to 9 milliseconds more.
     #[tactic(auto, unfolding(crate::specs::Course::later))]
-    fn pass(&mut self)
+    pub(crate) fn pass(&mut self)
         requires { IsSmall self.old }
         ensures course { self.new ≡ courses.later self.old }
         ensures can { CanHappen self.new }
@@ -111,7 +111,7 @@ impl Course {
 
     /// What happens by a choice of 0 to 7.
     #[tactic(auto, unfolding(crate::specs::Course::chosen))]
-    fn choose(&mut self, choice: u32) -> Verb
+    pub(crate) fn choose(&mut self, choice: u32) -> Verb
         requires { CanHappen self.old }
         ensures verb { result ≡ (courses.chosen choice self.old).verb }
         ensures course { self.new ≡ (courses.chosen choice self.old).course }
@@ -132,7 +132,7 @@ impl Course {
     }
 
     /// The companion sends its next request.
-    fn ask(&mut self) -> Verb
+    pub(crate) fn ask(&mut self) -> Verb
         requires { CanHappen self.old }
         ensures verb { result ≡ (courses.asked self.old).verb }
         ensures course { self.new ≡ (courses.asked self.old).course }
@@ -195,7 +195,7 @@ impl Course {
     }
 
     /// The television's wall clock.
-    fn tv_clock(&self) -> u64
+    pub(crate) fn tv_clock(&self) -> u64
         requires { self.now.time < 2 ^ 43 }
         ensures { result ≡ courses.tv_clock self.now }
     {
@@ -203,7 +203,7 @@ impl Course {
     }
 
     /// The companion's clock.
-    fn own_clock(&self) -> u64
+    pub(crate) fn own_clock(&self) -> u64
         requires { self.now.time < 2 ^ 43 }
         ensures { result ≡ courses.own_clock self.now }
     {

@@ -1,12 +1,16 @@
-ghost use Rattle.std.specs.Prelude.{◌≡◌, ◌≤◌, IfOk, OnOk, OnErr};
+ghost use Rattle.std.specs.Prelude.{◌≡◌, ◌≤◌, ◌==◌, IfOk, OnOk, OnErr};
 ghost use Rattle.css_schedule.specs.Printed as printed;
 ghost use Rattle.css_gen.specs.Course.{next_line, next_course};
 ghost use Rattle.css_gen.specs.Opening as opening;
 ghost use Rattle.css_gen.specs.Generated.{text_from, next_text, after_next};
-ghost use Rattle.css_gen.specs.Bounds.{IsSmall, course_from};
+ghost use Rattle.css_gen.specs.Bounds.{IsSmall};
+ghost use Rattle.css_gen.specs.Second.{least_lines};
+ghost use Rattle.css_gen.specs.Standing.{course_from, CanGive, text_with, crowd_with};
 
 use crate::course::Course;
+use crate::crowd::Crowd;
 use crate::opening::{header, opening_line};
+use crate::second::second_text;
 use css_num::{Memory, Text};
 use css_schedule::{print_header, print_line};
 use std::alloc::Global;
@@ -16,42 +20,45 @@ use std::marker::Model;
 const OPENING: u64 = 9;
 
 /// The lines of a schedule that is made of a seed, one after another. It keeps none of them: it knows how many it has
-/// given, and how many requests, takes and answers there were among these.
+/// given, and how many requests, takes and answers there were among these. Of several companions it also knows who sent
+/// each request.
 ///
-/// Contracts see the seed, the number of lines in all, and how many it has given.
+/// Contracts see the seed, the number of lines in all, how many companions there are, and how many lines it has given.
 #[derive(Debug, Drop)]
 pub struct Generator {
     seed: u64,
     lines: u64,
     given: u64,
-    course: Course,
+    crowd: Crowd,
 }
 
 impl Model for Generator {
-    ghost use Rattle.css_gen.specs.Bounds.{IsGenerator};
+    ghost use Rattle.css_gen.specs.Standing.{IsGenerator};
     ghost use Rattle.css_gen.specs.Generated.{Generator as Known};
 
     ghost Value = { Known };
 
-    ghost view = { λ g. record { seed = g.seed; lines = g.lines; given = g.given } };
+    ghost view = { λ g. record { seed = g.seed; lines = g.lines; companions = g.crowd.companions; given = g.given } };
 
-    ghost invariant = { λ g. IsGenerator g.seed g.lines g.given g.course };
+    ghost invariant = { λ g. IsGenerator g.seed g.lines g.given g.crowd };
 }
 
 impl Generator {
-    /// The lines of a seed: 9 to 200,000 of them in all, of one companion.
-    #[tactic(auto, unfolding(crate::specs::Course::course_after))]
-    pub fn new(seed: u64, lines: u64, companions: u32) -> Generator
-        requires least { 9 ≤ lines }
+    /// The lines of a seed, of 1 to 16 companions: at most 200,000 of them in all, and at least those that open the
+    /// schedule. One companion has a schedule of version 1, which 9 lines open. Several have one of version 2, which
+    /// 4 lines and 6 for each companion open.
+    pub fn new(alloc: Global, seed: u64, lines: u64, companions: u32) -> Generator
+        requires least { least_lines companions ≤ lines }
         requires most { lines ≤ 200000 }
-        requires one { companions ≡ 1 }
-        ensures { result ≡ record { seed = seed; lines = lines; given = 0 } }
+        requires some { 1 ≤ companions }
+        requires few { companions ≤ 16 }
+        ensures { result ≡ record { seed = seed; lines = lines; companions = companions; given = 0 } }
     {
         Generator {
             seed,
             lines,
             given: 0,
-            course: Course::start(seed),
+            crowd: Crowd::start(alloc, seed, companions),
         }
     }
 
@@ -65,9 +72,24 @@ impl Generator {
         if self.given >= self.lines {
             return Ok(None);
         }
-        let text = text_of(alloc, &mut self.course, self.given + 1)?;
+        let text = text_in(alloc, &mut self.crowd, self.given + 1)?;
         self.given += 1;
         Ok(Some(text))
+    }
+}
+
+/// The text of the line of that number, from 1 on, where the lines after the opening have come to this crowd.
+fn text_in(alloc: Global, crowd: &mut Crowd, number: u64) -> Result<Text, Memory>
+    requires number { 1 ≤ number }
+    requires ready { CanGive (crowd.old.companions == 1) crowd.old }
+    ensures text { IfOk result (λ text. text ≡ text_with crowd.old number) }
+    ensures crowd { OnOk result (crowd.new ≡ crowd_with crowd.old number) }
+    ensures refused { OnErr result (crowd.new ≡ crowd.old) }
+{
+    if crowd.companions == 1 {
+        text_of(alloc, &mut crowd.course, number)
+    } else {
+        second_text(alloc, crowd, number)
     }
 }
 

@@ -3,9 +3,14 @@
 #![tactic(auto)]
 
 mod course;
+mod crowd;
 mod generator;
 pub mod laws;
 mod opening;
+mod second;
+#[cfg(test)]
+mod second_tests;
+mod senders;
 #[cfg(test)]
 mod tests;
 

@@ -65,7 +65,7 @@ fn timeline(alloc: Global) -> Result<Verb, Memory>
 
 /// What happens at the line of that number, 2 to 9.
 #[tactic(auto, unfolding(crate::specs::Opening::opening_verb))]
-fn opening_verb(alloc: Global, number: u64) -> Result<Verb, Memory>
+pub(crate) fn opening_verb(alloc: Global, number: u64) -> Result<Verb, Memory>
     ensures { IfOk result (λ verb. verb ≡ opening.opening_verb number) }
 {
     match number {

@@ -69,13 +69,17 @@ const LINES: [(u64, &str); 6] = [
 ];
 
 /// The next line, which there is.
-fn next(rt: &impl Abort, alloc: Global, generator: &mut Generator) -> Result<Text, Memory> {
+pub(crate) fn next(
+    rt: &impl Abort,
+    alloc: Global,
+    generator: &mut Generator,
+) -> Result<Text, Memory> {
     let text = generator.next_line(alloc)?;
     Ok(text.expect(rt, "there is a line more"))
 }
 
 /// Passes over so many lines.
-fn skip(alloc: Global, generator: &mut Generator, lines: u64) -> Result<(), Memory> {
+pub(crate) fn skip(alloc: Global, generator: &mut Generator, lines: u64) -> Result<(), Memory> {
     for _ in 0..lines {
         let _ = generator.next_line(alloc)?;
     }
@@ -84,7 +88,7 @@ fn skip(alloc: Global, generator: &mut Generator, lines: u64) -> Result<(), Memo
 
 #[test]
 fn the_shortest_schedule_is_its_opening(rt: HostRuntime) -> Result<(), Fail> {
-    let mut generator = Generator::new(1, 9, 1);
+    let mut generator = Generator::new(rt.alloc(), 1, 9, 1);
     for expected in OPENING {
         let text = next(&rt, rt.alloc(), &mut generator)?;
         assert_eq!(rt; text.bytes(), expected.as_bytes());
@@ -97,7 +101,7 @@ fn the_shortest_schedule_is_its_opening(rt: HostRuntime) -> Result<(), Fail> {
 #[test]
 fn seeds_have_their_lines(rt: HostRuntime) -> Result<(), Fail> {
     for (seed, lines) in SEEDS {
-        let mut generator = Generator::new(seed, 12, 1);
+        let mut generator = Generator::new(rt.alloc(), seed, 12, 1);
         skip(rt.alloc(), &mut generator, 9)?;
         for expected in lines {
             let text = next(&rt, rt.alloc(), &mut generator)?;
@@ -110,7 +114,7 @@ fn seeds_have_their_lines(rt: HostRuntime) -> Result<(), Fail> {
 
 #[test]
 fn each_verb_comes(rt: HostRuntime) -> Result<(), Fail> {
-    let mut generator = Generator::new(1, 100_000, 1);
+    let mut generator = Generator::new(rt.alloc(), 1, 100_000, 1);
     for (before, expected) in LINES {
         skip(rt.alloc(), &mut generator, before)?;
         let text = next(&rt, rt.alloc(), &mut generator)?;
@@ -121,7 +125,7 @@ fn each_verb_comes(rt: HostRuntime) -> Result<(), Fail> {
 
 #[test]
 fn the_longest_schedule_ends(rt: HostRuntime) -> Result<(), Fail> {
-    let mut generator = Generator::new(1, 200_000, 1);
+    let mut generator = Generator::new(rt.alloc(), 1, 200_000, 1);
     skip(rt.alloc(), &mut generator, 199_999)?;
     let text = next(&rt, rt.alloc(), &mut generator)?;
     let last = "902836863662 903882005505 903882005505 give 24667 903882005505";
@@ -148,7 +152,7 @@ fn line_again(rt: &impl Abort, alloc: Global, text: &Text) -> Result<Text, Memor
 
 #[test]
 fn lines_are_read_and_written_again(rt: HostRuntime) -> Result<(), Fail> {
-    let mut generator = Generator::new(1, 40, 1);
+    let mut generator = Generator::new(rt.alloc(), 1, 40, 1);
     let first = next(&rt, rt.alloc(), &mut generator)?;
     let again = header_again(&rt, rt.alloc(), &first)?;
     assert_eq!(rt; again.bytes(), first.bytes());

@@ -5,7 +5,7 @@ use Rattle.css_outside.specs.Bytes.{AppendsPrefix}
 use Rattle.css_outside.proofs.Known.{on_err_from}
 use Rattle.css_gen.specs.Generated.{Generator, text_numbered}
 use Rattle.css_app.specs.Generated.{schedule_text}
-use Rattle.css_app.proofs.Generating.{gave, one_more, stops_before, stops_within}
+use Rattle.css_app.proofs.Generating.{gave, first_text, one_more, stops_before, stops_within}
 use Rattle.css_app.proofs.generated.write_lines.Goals as goal
 
 pub returns-in_err-text-clause-err : goal.returns-in_err-text-clause-err
@@ -25,7 +25,8 @@ returns-in_err-write_all-clause-err g c =
     (sym c.in-Some.is ∙ c.in_ok-text.ensures.text) c.in_ok-text.ensures.given in
     let line : c.bytes.result.now ≡ text_numbered c.args.seed (given + 1) ++ 10 ∷ [] =
     c.bytes.ensures ∙ c.in_ok-push.ensures.ok
-    ∙ ap (λ (t : List ℕ). t ++ 10 ∷ []) (step.text ∙ ap (λ (s : ℕ). text_numbered s (given + 1)) c.lines.invariant.seed)
+    ∙ ap (λ (t : List ℕ). t ++ 10 ∷ []) (step.text ∙ first_text c.lines.generator c.lines.invariant.one
+    ∙ ap (λ (s : ℕ). text_numbered s (given + 1)) c.lines.invariant.seed)
     in
     let more : given < c.args.lines = omega (arith, step.more, c.lines.invariant.lines) in
     on_err_from _
@@ -42,13 +43,15 @@ lines-preserved g c =
     (sym c.in-Some.is ∙ c.in_ok-text.ensures.text) c.in_ok-text.ensures.given in
     let line : c.bytes.result.now ≡ text_numbered c.args.seed (given + 1) ++ 10 ∷ [] =
     c.bytes.ensures ∙ c.in_ok-push.ensures.ok
-    ∙ ap (λ (t : List ℕ). t ++ 10 ∷ []) (step.text ∙ ap (λ (s : ℕ). text_numbered s (given + 1)) was.seed) in
+    ∙ ap (λ (t : List ℕ). t ++ 10 ∷ []) (step.text ∙ first_text c.lines.generator was.one
+    ∙ ap (λ (s : ℕ). text_numbered s (given + 1)) was.seed) in
     let next : c.next_line.new.self.given ≡ given + 1 = ap (λ (x : Generator). x.given) step.gone in
     let wrote : Appends (g.K.Sink.holds c.lines.sink) (g.K.Sink.holds c.write_all.new.sink)
     (text_numbered c.args.seed (given + 1) ++ 10 ∷ []) =
     subst (λ (l : List ℕ). Appends (g.K.Sink.holds c.lines.sink) (g.K.Sink.holds c.write_all.new.sink) l) line
     c.in_ok-write_all.ensures.ok in
     record {
+      one = ap (λ (x : Generator). x.companions) step.gone ∙ was.one;
       seed = ap (λ (x : Generator). x.seed) step.gone ∙ was.seed;
       lines = ap (λ (x : Generator). x.lines) step.gone ∙ was.lines;
       within = omega (arith, next, step.more, was.lines);

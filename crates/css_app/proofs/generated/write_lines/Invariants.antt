@@ -6,6 +6,7 @@ use Rattle.css_app.proofs.generated.write_lines.Given as goal
 -- the lines that were given were written
 abbrev pub invariant-lines : goal.invariant-lines
 invariant-lines g l = record {
+  one : l.generator.companions ≡ 1;
   seed : l.generator.seed ≡ l.seed;
   lines : l.generator.lines ≡ l.lines;
   within : l.generator.given ≤ l.lines;

@@ -6,7 +6,7 @@ use Rattle.css_app.proofs.surveyed.begin.Goals as goal
 pub begin-requires : goal.begin-requires
 begin-requires c =
     can_begin c.args.generator.now c.next_line.new.self c.in_ok-next.next c.in-Some.text c.bytes.result.now
-    c.requires.given c.in-Some.is c.in_ok-next.ensures.text c.in_ok-next.ensures.given c.bytes.ensures
+    c.requires.one c.requires.given c.in-Some.is c.in_ok-next.ensures.text c.in_ok-next.ensures.given c.bytes.ensures
 
 pub unreachable-requires : goal.unreachable-requires
 unreachable-requires c =
@@ -22,7 +22,7 @@ returns-clause-generator c =
 pub returns-clause-taken : goal.returns-clause-taken
 returns-clause-taken c =
     has_begun c.begin.result c.args.generator.now c.next_line.new.self c.in_ok-next.next c.in-Some.text
-    c.requires.given c.requires.few c.in-Some.is c.in_ok-next.ensures.text c.in_ok-next.ensures.given
+    c.requires.one c.requires.given c.requires.few c.in-Some.is c.in_ok-next.ensures.text c.in_ok-next.ensures.given
     c.begin.ensures.header c.begin.ensures.stands
 
 pub returns-in_err-next-clause-generator : goal.returns-in_err-next-clause-generator

@@ -1,5 +1,5 @@
 -- The header is taken, then each further line, and in the end all lines are counted.
-use Rattle.std.proofs.Common.{ℕ, ◌≤◌, arith, ap, refl, sym, subst}
+use Rattle.std.proofs.Common.{ℕ, ◌≤◌, arith, ap, sym, subst}
 use Rattle.css_gen.specs.Generated.{Generator}
 use Rattle.css_app.proofs.Surveying.{counted_in_all, no_ok_at_err}
 use Rattle.css_app.proofs.surveyed.survey_lines.Goals as goal
@@ -10,8 +10,14 @@ new-generator-requires-clause-least c = c.requires.least
 pub new-generator-requires-clause-most : goal.new-generator-requires-clause-most
 new-generator-requires-clause-most c = c.requires.most
 
-pub new-generator-requires-clause-one : goal.new-generator-requires-clause-one
-new-generator-requires-clause-one c = refl
+pub new-generator-requires-clause-some : goal.new-generator-requires-clause-some
+new-generator-requires-clause-some c = omega arith
+
+pub new-generator-requires-clause-few : goal.new-generator-requires-clause-few
+new-generator-requires-clause-few c = omega arith
+
+pub begin-requires-clause-one : goal.begin-requires-clause-one
+begin-requires-clause-one c = ap (λ (g : Generator). g.companions) c.new-generator.ensures
 
 pub begin-requires-clause-given : goal.begin-requires-clause-given
 begin-requires-clause-given c = ap (λ (g : Generator). g.given) c.new-generator.ensures

@@ -7,6 +7,7 @@ abbrev pub invariant-lines : goal.invariant-lines
 invariant-lines l = record {
   seed : l.generator.seed ≡ l.fn.generator.seed;
   lines : l.generator.lines ≡ l.fn.generator.lines;
+  companions : l.generator.companions ≡ l.fn.generator.companions;
   number : l.number ≡ l.generator.given + 1;
   taken : HasTaken l.survey l.generator;
 }
