@@ -93,15 +93,15 @@ IsOne who = who ≡ 1
 -- datagrams. No take had a greater reading than this one. All of it is of companion 1.
 pub record AreExchanged (asked taken given shown : ℕ) (lines : List Numbered) : Type 0 where
   pub requests : length (requests lines) ≡ asked
-  pub askers : length (askers lines) ≡ asked
+  pub asked_by : length (askers lines) ≡ asked
   pub ask_ones : All IsOne (askers lines)
   pub takes : length (tickets header lines) ≡ taken
   pub tickets : All (IsTicket shown) (tickets header lines)
-  pub taken_for : length (taken_for lines) ≡ taken
+  pub taken_by : length (taken_for lines) ≡ taken
   pub take_ones : All IsOne (taken_for lines)
   pub answers : given ≤ taken
   pub none_ahead : (take : ℕ) → given < take → is_given take lines ≡ false
-  pub made_for : length (made_for header lines) ≡ 2 * given
+  pub made_by : length (made_for header lines) ≡ 2 * given
   pub made_ones : All IsOne (made_for header lines)
 
 -- a line with these numbers
@@ -122,15 +122,15 @@ ask-done asked taken given shown number t w l reading lines h later = record {
   carried = refl;
   after = record {
     requests = omega (arith, h.requests);
-    askers = omega (arith, h.askers);
+    asked_by = omega (arith, h.asked_by);
     ask_ones = All-cons IsOne 1 (askers lines) refl h.ask_ones;
     takes = h.takes;
     tickets = tickets-later shown w (omega (arith, later)) (tickets header lines) h.tickets;
-    taken_for = h.taken_for;
+    taken_by = h.taken_by;
     take_ones = h.take_ones;
     answers = h.answers;
     none_ahead = h.none_ahead;
-    made_for = h.made_for;
+    made_by = h.made_by;
     made_ones = h.made_ones;
   };
 }
@@ -143,15 +143,15 @@ print-done asked taken given shown number t w l reading lines h later = record {
   carried = refl;
   after = record {
     requests = h.requests;
-    askers = h.askers;
+    asked_by = h.asked_by;
     ask_ones = h.ask_ones;
     takes = h.takes;
     tickets = tickets-later shown w (omega (arith, later)) (tickets header lines) h.tickets;
-    taken_for = h.taken_for;
+    taken_by = h.taken_by;
     take_ones = h.take_ones;
     answers = h.answers;
     none_ahead = h.none_ahead;
-    made_for = h.made_for;
+    made_by = h.made_by;
     made_ones = h.made_ones;
   };
 }
@@ -168,22 +168,22 @@ pub land-done : (asked taken given shown number t w l datagram reading : ℕ) (l
     → AreExchanged asked taken given shown lines → shown < w → 1 ≤ datagram → datagram ≤ 2 * given
     → IsDone asked taken given w lines (at number t w l (Land datagram reading))
 land-done asked taken given shown number t w l datagram reading lines h later low high =
-    let there = item-there IsOne datagram (made_for header lines) low (omega (arith, high, h.made_for)) h.made_ones in
+    let there = item-there IsOne datagram (made_for header lines) low (omega (arith, high, h.made_by)) h.made_ones in
     let meant : Bool → Result (List ℕ) WorldFault = λ b. cond (b && true) (Ok []) (Err Absent) in
     record {
       printed = [];
       carried = ap (λ (o : Option ℕ). meant (is_for 1 o)) there.is ∙ ap (λ (n : ℕ). meant (n == 1)) there.holds;
       after = record {
         requests = h.requests;
-        askers = h.askers;
+        asked_by = h.asked_by;
         ask_ones = h.ask_ones;
         takes = h.takes;
         tickets = tickets-later shown w (omega (arith, later)) (tickets header lines) h.tickets;
-        taken_for = h.taken_for;
+        taken_by = h.taken_by;
         take_ones = h.take_ones;
         answers = h.answers;
         none_ahead = h.none_ahead;
-        made_for = h.made_for;
+        made_by = h.made_by;
         made_ones = h.made_ones;
       };
     }
@@ -203,7 +203,7 @@ pub take-done : (asked taken given shown number t w l request : ℕ) (lines : Li
 take-done asked taken given shown number t w l request lines h later low high =
     let there = item-there {A = ℕ} Any request (requests lines) low
     (omega (arith, high, h.requests)) (all-any (requests lines)) in
-    let asker = item-there IsOne request (askers lines) low (omega (arith, high, h.askers)) h.ask_ones in
+    let asker = item-there IsOne request (askers lines) low (omega (arith, high, h.asked_by)) h.ask_ones in
     let all = tickets-later shown w (omega (arith, later)) (tickets header lines) h.tickets in
     let new : Ticket = ticket_at header (tickets header lines) w there.item in
     let is : with_take lines w (numbered request (requests lines)) ≡ new ∷ tickets header lines =
@@ -220,15 +220,15 @@ take-done asked taken given shown number t w l request lines h later low high =
       carried = ap (λ (o : Option ℕ). cond (is_some o && true) (Ok []) (Err Absent)) there.is;
       after = record {
         requests = h.requests;
-        askers = h.askers;
+        asked_by = h.asked_by;
         ask_ones = h.ask_ones;
         takes = ap (λ (ts : List Ticket). length ts) is ∙ omega (arith, h.takes);
         tickets = subst (All (IsTicket w)) (sym is) (All-cons (IsTicket w) new (tickets header lines) this all);
-        taken_for = ap (λ (ws : List ℕ). length ws) whose ∙ omega (arith, h.taken_for);
+        taken_by = ap (λ (ws : List ℕ). length ws) whose ∙ omega (arith, h.taken_by);
         take_ones = subst (All IsOne) (sym whose) (All-cons IsOne asker.item (taken_for lines) asker.holds h.take_ones);
         answers = omega (arith, h.answers);
         none_ahead = h.none_ahead;
-        made_for = h.made_for;
+        made_by = h.made_by;
         made_ones = h.made_ones;
       };
     }
@@ -254,7 +254,7 @@ pub give-done : (asked taken given shown number t w l : ℕ) (lines : List Numbe
 give-done asked taken given shown number t w l lines h later high =
     let there = item-there (IsTicket shown) (given + 1) (tickets header lines) (omega arith)
     (omega (arith, high, h.takes)) h.tickets in
-    let owner = item-there IsOne (given + 1) (taken_for lines) (omega arith) (omega (arith, high, h.taken_for))
+    let owner = item-there IsOne (given + 1) (taken_for lines) (omega arith) (omega (arith, high, h.taken_by))
     h.take_ones in
     let meant : Bool → Result (List ℕ) WorldFault = λ b. cond b (Ok []) (Err Absent) in
     let is : made_for header (at number t w l (Give (given + 1) w) ∷ lines)
@@ -269,17 +269,17 @@ give-done asked taken given shown number t w l lines h later high =
           ∙ ap (λ b. meant ((true && not b) && true)) (h.none_ahead (given + 1) (omega arith));
       after = record {
         requests = h.requests;
-        askers = h.askers;
+        asked_by = h.asked_by;
         ask_ones = h.ask_ones;
         takes = h.takes;
         tickets = tickets-later shown w (omega (arith, later)) (tickets header lines) h.tickets;
-        taken_for = h.taken_for;
+        taken_by = h.taken_by;
         take_ones = h.take_ones;
         answers = omega (arith, high);
         none_ahead = λ take ahead.
             ap (λ b. b || is_given take lines) (ne_eqb (given + 1) take (λ e. omega (arith, e, ahead)))
             ∙ h.none_ahead take (omega (arith, ahead));
-        made_for = ap (λ (ws : List ℕ). length ws) is ∙ omega (arith, h.made_for);
+        made_by = ap (λ (ws : List ℕ). length ws) is ∙ omega (arith, h.made_by);
         made_ones = subst (All IsOne) (sym is)
             (All-cons IsOne owner.item (owner.item ∷ made_for header lines) owner.holds
             (All-cons IsOne owner.item (made_for header lines) owner.holds h.made_ones));

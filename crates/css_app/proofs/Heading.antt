@@ -1,6 +1,6 @@
 -- The reader of a replay reads the lines of a header.
 use Rattle.std.proofs.Common.{◌≡◌, ℕ, ◌+◌, ◌<◌, ◌≤◌, ◌==◌, arith, ap, sym, subst, ◌∙◌, refl, inl, inr, ◌⊎◌}
-use Rattle.std.proofs.Common.{Bool, true, false, cond, eqb, List, [], ◌∷◌, ◌++◌, length}
+use Rattle.std.proofs.Common.{Bool, true, false, cond, List, [], ◌∷◌, ◌++◌, length}
 use Rattle.std.specs.Prelude.{Option, Some, None, Result, Ok, Err}
 use Rattle.std.proofs.lemmas.Bool.{eq-eqb, ne_eqb}
 use Rattle.std.proofs.lemmas.List.{length-append}
@@ -12,54 +12,67 @@ use Rattle.css_schedule.specs.declared.header.CompanionLine.{CompanionLine}
 use Rattle.css_schedule.specs.declared.header.Header.{Header}
 use Rattle.css_schedule.specs.declared.header.Start.{Start}
 use Rattle.css_schedule.specs.declared.header.Start.TheVariants.{One, Two}
-use Rattle.css_schedule.specs.Headers.{header_of, with_companion}
-use Rattle.css_schedule.specs.Ranges.{IsStart, IsGoodHeader, IsHeader, IsCount}
+use Rattle.css_schedule.specs.Headers.{header_of, companion_of, with_companion}
+use Rattle.css_schedule.specs.Ranges.{IsStart, IsGoodHeader, IsGoodCompanion, IsHeader, IsCount}
 use Rattle.css_app.specs.declared.replay.Cause.{Cause}
 use Rattle.css_app.specs.declared.replay.Format.{Format}
 use Rattle.css_app.specs.declared.replay.Replay.{Replay}
 use Rattle.css_app.specs.Replayed.{Extent, Outset, Opening, Running, Unread, started, grown, declared, next_companion}
 use Rattle.css_app.specs.Replayed.{opened}
-use Rattle.css_app.specs.Stands.{format_of, unread_fault, IsNew, IsPart, IsAt, Starts, ReadsOn}
+use Rattle.css_app.specs.Stands.{format_of, unread_fault, IsNew, IsPart, IsGrown, IsAt, Starts, Declares}
+use Rattle.css_app.specs.Stands.{Grows, ReadsOn}
 use Rattle.css_app.proofs.Answering.{unread-fault}
 
 -- ---- line 1
+-- the header of version 1 can have a world
+pub can-start : (start : Start) (header : Header) → start ≡ One header → IsStart start
+    → IsHeader header × IsCount (length header.companions)
+can-start start header is range =
+    let known : IsStart (One header) = subst IsStart is range in
+    let one = known.1 in (known.0, record { low = omega (arith, one); high = omega (arith, one) })
+
 -- version 1 opens its world
 pub reads-one : (result : Result (Unit {0}) (engine.LineFault Cause)) (old new : Replay) (text : List ℕ)
-    (header : Header) → IsNew old → header_of text ≡ Ok (One header) → length header.companions ≡ 1
-    → Starts new header result → new.format ≡ old.format → ReadsOn new Outset text result
-reads-one (Ok done) old new text header is read one starts same = λ number. (
-  ap (opened {T = Start}) read,
-  subst (IsAt new) (sym (ap started read))
-      (record {
-        format = same ∙ is.format ∙ ap (format_of 1) (sym one);
-        known = (omega arith, omega arith);
-        fits = one;
-        world = starts.0;
-        is = starts.1;
-        same = starts.2;
-        stands = starts.3;
-      }),
-)
-reads-one (Err fault) old new text header is read one starts same = λ number.
+    (start : Start) (header : Header) → IsNew old → start ≡ One header → header_of text ≡ Ok start → IsStart start
+    → Starts new.world header result → new.format ≡ old.format → ReadsOn new Outset text result
+reads-one (Ok done) old new text start header is one read range starts same = λ number.
+    let known : IsStart (One header) = subst IsStart one range in
+    let path = read ∙ ap (λ (s : Start). Ok s) one in (
+      ap (opened {T = Start}) path,
+      subst (IsAt new) (sym (ap started path))
+          (record {
+            format = same ∙ is.format ∙ ap (format_of 1) (sym known.1);
+            known = (omega arith, omega arith);
+            fits = known.1;
+            world = starts.0;
+            is = starts.1;
+            same = starts.2;
+            stands = starts.3;
+          }),
+    )
+reads-one (Err fault) old new text start header is one read range starts same = λ number.
     subst (MayFault (opened (header_of text))) (sym starts) tt
 
 -- version 2 waits for its companions
-pub reads-two : (new : Replay) (text : List ℕ) (header : Header) (count : ℕ) → header_of text ≡ Ok (Two header count)
-    → IsStart (Two header count) → new.format ≡ format_of 2 count → new.header ≡ Some header → new.world ≡ None
+pub reads-two : (new : Replay) (text : List ℕ) (start : Start) (header : Header) (count : ℕ)
+    → start ≡ Two header count → header_of text ≡ Ok start → IsStart start
+    → new.format ≡ format_of 2 count → new.header ≡ Some header → new.world ≡ None
     → ReadsOn new Outset text (Ok tt)
-reads-two new text header count read range same kept none = λ number.
+reads-two new text start header count two read range same kept none = λ number.
+    let known : IsStart (Two header count) = subst IsStart two range in
+    let path = read ∙ ap (λ (s : Start). Ok s) two in
     let companions : new.format.companions ≡ count = ap (λ (f : Format). f.companions) same in
-    let empty : length header.companions ≡ 0 = ap length range.1 in
-    let low = range.2.low in
-    let high = range.2.high in (
-      ap (opened {T = Start}) read,
-      subst (IsAt new) (sym (ap started read))
+    let empty : length header.companions ≡ 0 = ap length known.1 in
+    let low = known.2.low in
+    let high = known.2.high in (
+      ap (opened {T = Start}) path,
+      subst (IsAt new) (sym (ap started path))
           (record {
             companions = companions;
             kept = kept;
             part = record {
               version = ap (λ (f : Format). f.version) same;
-              good = range.0;
+              good = known.0;
               more = omega (arith, companions, empty, low);
               few = omega (arith, companions, high);
             };
@@ -82,76 +95,116 @@ one-more header more companion is =
     ap (λ (h : Header). length h.companions) is
     ∙ omega (arith, length-append header.companions (companion ∷ []))
 
--- such a header can have a world
-pub whole-count : (format : Format) (header more : Header) (companion : CompanionLine) → IsPart format header
-    → more ≡ with_companion header companion → length more.companions ≡ format.companions
-    → IsCount (length more.companions)
-whole-count format header more companion part is same =
-    let longer = one-more header more companion is in
+-- a text declares no companion
+pub declares-none : (header new : Header) (text : List ℕ) (number : ℕ) (fault : LineFault)
+    (told : engine.LineFault Cause) → number ≡ length header.companions + 1
+    → (companion_of number text ≡ Err fault) ⊎ (fault ≡ unreads.Memory) → told ≡ unread_fault fault
+    → Declares header new text (Err told)
+declares-none header new text number fault told is read same =
+    unread-fault (next_companion header text) (opened (next_companion header text)) fault told
+    (ap (opened {T = CompanionLine}))
+    (subst (λ (n : ℕ). (companion_of n text ≡ Err fault) ⊎ (fault ≡ unreads.Memory)) is read) same
+
+-- it declares the next one
+pub declares-one : (header new : Header) (text : List ℕ) (number : ℕ) (companion : CompanionLine)
+    → number ≡ length header.companions + 1 → companion_of number text ≡ Ok companion → IsGoodCompanion companion
+    → new ≡ with_companion header companion
+    → (IsGoodHeader header → IsGoodCompanion companion → IsGoodHeader new) → IsGoodHeader header
+    → Declares header new text (Ok tt)
+declares-one header new text number companion is read good added keeps known = (
+  companion,
+  subst (λ (n : ℕ). companion_of n text ≡ Ok companion) is read,
+  added,
+  keeps known good,
+)
+
+-- the header may be kept
+pub can-grow : (format : Format) (header more : Header) (text : List ℕ) → IsPart format header
+    → (companion : CompanionLine) × (next_companion header text ≡ Ok companion)
+    × (more ≡ with_companion header companion) × IsGoodHeader more
+    → IsGrown format more
+can-grow format header more text part declares =
+    let longer = one-more header more declares.0 declares.2 in
+    let less = part.more in
+    record {
+      version = part.version;
+      good = declares.3;
+      some = omega (arith, longer);
+      within = omega (arith, longer, less);
+      few = part.few;
+    }
+
+-- so it is read
+pub reads-next : (result : Result (Unit {0}) (engine.LineFault Cause)) (new : Replay) (header more : Header) (count : ℕ)
+    (text : List ℕ)
+    → (companion : CompanionLine) × (next_companion header text ≡ Ok companion)
+    × (more ≡ with_companion header companion) × IsGoodHeader more
+    → Grows new more count result → ReadsOn new (Opening header count) text result
+reads-next (Ok done) new header more count text declares grows = λ number. (
+  ap (opened {T = CompanionLine}) declares.1,
+  subst (IsAt new)
+      (sym (ap (declared header count) declares.1 ∙ ap (λ (h : Header). grown h count) (sym declares.2))) grows,
+)
+reads-next (Err fault) new header more count text declares grows = λ number.
+    subst (MayFault (opened (next_companion header text))) (sym grows) tt
+
+-- ---- a header with one companion more
+-- it may be whole
+pub whole-count : (format : Format) (header : Header) → IsGrown format header
+    → IsHeader header × IsCount (length header.companions)
+whole-count format header part =
+    let some = part.some in
+    let within = part.within in
     let few = part.few in
-    record { low = omega (arith, longer); high = omega (arith, same, few) }
+    (part.good.0, record { low = omega (arith, some); high = omega (arith, within, few) })
 
--- how far a schedule is read with this companion
-grown-by : (header more : Header) (count : ℕ) (text : List ℕ) (companion : CompanionLine)
-    → next_companion header text ≡ Ok companion → more ≡ with_companion header companion
-    → (b : Bool) → eqb (length more.companions) count ≡ b
-    → declared header count (next_companion header text) ≡ cond b (Running more 2 []) (Opening more count)
-grown-by header more count text companion read is b test =
-    ap (declared header count) read ∙ ap (λ (h : Header). grown h count) (sym is)
-    ∙ ap (λ (x : Bool). cond x (Running more 2 []) (Opening more count)) test
-
--- with the last companion the world is opened
-pub reads-last : (result : Result (Unit {0}) (engine.LineFault Cause)) (old new : Replay) (header more : Header)
-    (text : List ℕ) (companion : CompanionLine) → IsPart old.format header
-    → next_companion header text ≡ Ok companion → more ≡ with_companion header companion
-    → length more.companions ≡ old.format.companions → Starts new more result → new.format ≡ old.format
-    → ReadsOn new (Opening header old.format.companions) text result
-reads-last (Ok done) old new header more text companion part read is whole starts same = λ number.
+-- with the last companion its world is opened
+pub grows-whole : (result : Result (Unit {0}) (engine.LineFault Cause)) (old new : Replay) (header : Header)
+    → IsGrown old.format header → length header.companions ≡ old.format.companions
+    → Starts new.world header result → new.format ≡ old.format → Grows new header old.format.companions result
+grows-whole (Ok done) old new header part whole starts same =
     let count = old.format.companions in
-    let path = grown-by header more count text companion read is true (eq-eqb (length more.companions) count whole) in
-    let format : old.format ≡ format_of 2 (length more.companions) =
-    ap (λ (v : ℕ). format_of v count) part.version ∙ ap (format_of 2) (sym whole) in (
-      ap (opened {T = CompanionLine}) read,
-      subst (IsAt new) (sym path)
-          (record {
-            format = same ∙ format;
-            known = (omega arith, omega arith);
-            fits = whole-count old.format header more companion part is whole;
-            world = starts.0;
-            is = starts.1;
-            same = starts.2;
-            stands = starts.3;
-          }),
-    )
-reads-last (Err fault) old new header more text companion part read is whole starts same = λ number.
-    subst (MayFault (opened (next_companion header text))) (sym starts) tt
+    let path : grown header count ≡ Running header 2 [] =
+    ap (λ (b : Bool). cond b (Running header 2 []) (Opening header count))
+    (eq-eqb (length header.companions) count whole) in
+    let format : old.format ≡ format_of 2 (length header.companions) =
+    ap (λ (v : ℕ). format_of v count) part.version ∙ ap (format_of 2) (sym whole) in
+    subst (IsAt new) (sym path)
+    (record {
+      format = same ∙ format;
+      known = (omega arith, omega arith);
+      fits = (whole-count old.format header part).1;
+      world = starts.0;
+      is = starts.1;
+      same = starts.2;
+      stands = starts.3;
+    })
+grows-whole (Err fault) old new header part whole starts same = starts
 
--- with any other the header has one more
-pub reads-more : (old new : Replay) (header more : Header) (text : List ℕ) (companion : CompanionLine)
-    → IsPart old.format header → next_companion header text ≡ Ok companion → more ≡ with_companion header companion
-    → IsGoodHeader more → (length more.companions ≡ old.format.companions → ⊥)
-    → new.format ≡ old.format → new.header ≡ Some more → new.world ≡ None
-    → ReadsOn new (Opening header old.format.companions) text (Ok tt)
-reads-more old new header more text companion part read is good apart same kept none = λ number.
+-- with any other it is kept
+pub grows-more : (old new : Replay) (header : Header) → IsGrown old.format header
+    → (length header.companions ≡ old.format.companions → ⊥)
+    → new.format ≡ old.format → new.header ≡ Some header → new.world ≡ None
+    → Grows new header old.format.companions (Ok tt)
+grows-more old new header part apart same kept none =
     let count = old.format.companions in
-    let path = grown-by header more count text companion read is false (ne_eqb (length more.companions) count apart) in
-    let longer = one-more header more companion is in
-    let less = part.more in (
-      ap (opened {T = CompanionLine}) read,
-      subst (IsAt new) (sym path)
+    let path : grown header count ≡ Opening header count =
+    ap (λ (b : Bool). cond b (Running header 2 []) (Opening header count))
+    (ne_eqb (length header.companions) count apart) in
+    let within = part.within in
+    subst (IsAt new) (sym path)
+    (record {
+      companions = ap (λ (f : Format). f.companions) same;
+      kept = kept;
+      part = subst (λ (f : Format). IsPart f header) (sym same)
           (record {
-            companions = ap (λ (f : Format). f.companions) same;
-            kept = kept;
-            part = subst (λ (f : Format). IsPart f more) (sym same)
-                (record {
-                  version = part.version;
-                  good = good;
-                  more = omega (arith, longer, less, apart);
-                  few = part.few;
-                });
-            world = none;
-          }),
-    )
+            version = part.version;
+            good = part.good;
+            more = omega (arith, within, apart);
+            few = part.few;
+          });
+      world = none;
+    })
 
 -- ---- how far it has read
 -- equal values that are there are equal

@@ -113,15 +113,15 @@ pub opening-exchanged : AreExchanged 0 0 0 1000000000 to_9
 unfolding opening_verb
 opening-exchanged = record {
   requests = refl;
-  askers = refl;
+  asked_by = refl;
   ask_ones = All-nil IsOne;
   takes = refl;
   tickets = All-nil (IsTicket 1000000000);
-  taken_for = refl;
+  taken_by = refl;
   take_ones = All-nil IsOne;
   answers = omega arith;
   none_ahead = λ take ahead. refl;
-  made_for = refl;
+  made_by = refl;
   made_ones = All-nil IsOne;
 }
 

@@ -276,8 +276,9 @@ caused-ok (Err (Player fault)) printed e = absurd (cc)
 caused-ok (Err Memory) printed e = absurd (cc)
 
 -- nothing is printed for a line of the header
-nothing : (sofar printed : List ℕ) → sofar ≡ [] → Ok {E = Cause} [] ≡ Ok printed → sofar ++ printed ≡ []
-nothing sofar printed none e = ap (λ (s : List ℕ). s ++ printed) none ∙ same
+nothing : (sofar printed : List ℕ) (meant : Result (List ℕ) Cause) → sofar ≡ [] → meant ≡ Ok [] → meant ≡ Ok printed
+    → sofar ++ printed ≡ []
+nothing sofar printed meant none silent e = ap (λ (s : List ℕ). s ++ printed) none ∙ same
   where
     same : printed ≡ []
     same = cc
@@ -294,7 +295,7 @@ taken-start text sofar printed (Ok (One header)) is none e =
           (record { low = omega (arith, one); high = omega (arith, one) });
       fits = one;
       accepted = tt;
-      kept = nothing sofar printed none e;
+      kept = nothing sofar printed (Ok []) none refl e;
     }
 taken-start text sofar printed (Ok (Two header count)) is none e =
     let range : IsStart (Two header count) = start_in_range text (Ok (Two header count)) is in
@@ -304,7 +305,7 @@ taken-start text sofar printed (Ok (Two header count)) is none e =
       good = range.0;
       more = omega (arith, empty, low);
       few = range.2.high;
-      none = nothing sofar printed none e;
+      none = nothing sofar printed (Ok []) none refl e;
     }
 
 -- a header with one companion more
@@ -332,7 +333,7 @@ taken-companion header count text sofar printed (Ok companion) is taken e =
     let longer = length-append header.companions (companion ∷ []) in
     let less = taken.more in
     taken-grown more count (sofar ++ printed) (more_companions header companion taken.good range)
-    (omega (arith, longer)) (omega (arith, longer, less)) taken.few (nothing sofar printed taken.none e)
+    (omega (arith, longer)) (omega (arith, longer, less)) taken.few (nothing sofar printed (Ok []) taken.none refl e)
 
 -- a line after the header
 taken-line : (header : Header) (version number : ℕ) (lines : List Numbered) (text sofar printed : List ℕ)

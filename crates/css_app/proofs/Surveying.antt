@@ -32,13 +32,12 @@ use Rattle.css_world.specs.Asked.{MayBeAsked}
 use Rattle.css_world.specs.declared.fault.WorldFault.{WorldFault}
 use Rattle.css_world.specs.declared.fault.WorldFault.TheVariants as faults
 use Rattle.css_world.specs.Clocks.{Seen, last_reading, has_woken, least_next}
-use Rattle.css_world.specs.Numbering.{stored}
 use Rattle.css_world.specs.Sessions.{setup_of}
 use Rattle.css_world.specs.Standing as worlds
-use Rattle.css_world.specs.Standing.{World, IsWorld, AreAccepted}
+use Rattle.css_world.specs.Standing.{World, AreAccepted}
+use Rattle.css_world.specs.Truth.{IsCompanionOf}
 use Rattle.css_world.specs.Verdicts.{local_of, own_reading, own_seen, seen_of, report_at}
 use Rattle.css_world.proofs.Ends.{history_now}
-use Rattle.css_world.proofs.Numbers.{stored_there}
 use Rattle.css_world.proofs.Worlds.{seen_own}
 use Rattle.css_app.specs.Generated.{generated}
 use Rattle.css_gen.specs.Generated.{Generator, text_numbered, line_numbered, next_text, after_next}
@@ -129,17 +128,14 @@ own_print : (verb : Verb) (reading : ℕ) → verb ≡ Print reading → is_own 
 own_print verb reading is = ap is_own is
 
 -- the companion of a line that asks for a report is there
-pub never_gone : (world : World) (now : Numbered) (older : List Numbered) (who reading : ℕ) → IsWorld world
+pub never_gone : (world : World) (now : Numbered) (older : List Numbered) (who reading : ℕ)
     → worlds.StandsFor world (now ∷ older) → asked_by now.line.verb ≡ Some reading → now.line.who ≡ who
-    → stored world.lanes who ≡ None → ⊥
-never_gone world now older who reading whole stands asked is none =
+    → (IsCompanionOf world.header who → ⊥) → ⊥
+never_gone world now older who reading stands asked is none =
     let of = stands.accepted.1 in
     let first : 1 ≤ now.line.who = of.own (own_print now.line.verb reading (asks_print now.line.verb reading asked)) in
     let within = of.who in
-    let count = whole.count in
-    let there = stored_there world.lanes who (omega (arith, first, is)) (omega (arith, within, is, count)) in
-    let no : Some there.0 ≡ None = sym there.1 ∙ none in
-    cc
+    none (record { first = omega (arith, first, is); within = omega (arith, within, is) })
 
 -- ---- counts
 -- a report is counted

@@ -1,5 +1,6 @@
 -- How the reader of a replay stands for the lines that it has taken.
-use Rattle.std.specs.Prelude.{ℕ, ◌≡◌, ◌<◌, ◌≤◌, ◌==◌, List, [], length, Some, None, Result, Ok, MatchResult}
+use Rattle.std.specs.Prelude.{ℕ, ◌≡◌, ◌<◌, ◌≤◌, ◌==◌, List, [], length, Option, Some, None, Result, Ok}
+use Rattle.std.specs.Prelude.{MatchResult}
 use Rattle.css_lines.specs.Answers.{MayFault}
 use Rattle.css_lines.specs.declared.reader.LineFault.{LineFault}
 use Rattle.css_lines.specs.declared.reader.LineFault.TheVariants as faults
@@ -18,8 +19,8 @@ use Rattle.css_app.specs.declared.replay.Cause.{Cause}
 use Rattle.css_app.specs.declared.replay.Cause.TheVariants.{Form, Absent, Player, Broken}
 use Rattle.css_app.specs.declared.replay.Format.{Format}
 use Rattle.css_app.specs.declared.replay.Replay.{Replay}
-use Rattle.css_app.specs.Replayed.{Extent, Outset, Opening, Running, Unread, reached, after, next_companion, opened}
-use Rattle.css_app.specs.Replayed.{meant_at}
+use Rattle.css_app.specs.Replayed.{Extent, Outset, Opening, Running, Unread, grown, reached, after, next_companion}
+use Rattle.css_app.specs.Replayed.{opened, meant_at}
 
 -- what the engine is told of a line that was not read
 abbrev pub unread_fault : schedule.LineFault → LineFault Cause
@@ -51,7 +52,15 @@ pub record IsPart (format : Format) (header : Header) : Type 0 where
   pub more : length header.companions < format.companions
   pub few : format.companions ≤ max_companions
 
--- There is such a header, and so many companions in all.
+-- Or it has one more than that, and may be whole.
+pub record IsGrown (format : Format) (header : Header) : Type 0 where
+  pub version : format.version ≡ 2
+  pub good : IsGoodHeader header
+  pub some : 1 ≤ length header.companions
+  pub within : length header.companions ≤ format.companions
+  pub few : format.companions ≤ max_companions
+
+-- There is a part of a header, and so many companions in all.
 pub record IsOpening (replay : Replay) (header : Header) (count : ℕ) : Type 0 where
   pub companions : replay.format.companions ≡ count
   pub kept : replay.header ≡ Some header
@@ -82,10 +91,20 @@ pub record Stands (replay : Replay) (texts : List (List ℕ)) : Type 0 where
 
 -- ---- calls
 -- the world of a header was opened, which stands for no lines, or memory ran out
-abbrev pub Starts : Replay → Header → Result (Unit {0}) (LineFault Cause) → Type 0
-Starts replay header result = MatchResult result
-    (λ _. (world : World) × (replay.world ≡ Some world) × (world.header ≡ header) × worlds.StandsFor world [])
+abbrev pub Opens : Header → Result World (LineFault Cause) → Type 0
+Opens header result = MatchResult result (λ world. (world.header ≡ header) × worlds.StandsFor world [])
     (λ fault. fault ≡ faults.Memory)
+
+-- such a world is kept
+abbrev pub Starts : Option World → Header → Result (Unit {0}) (LineFault Cause) → Type 0
+Starts kept header result = MatchResult result
+    (λ _. (world : World) × (kept ≡ Some world) × (world.header ≡ header) × worlds.StandsFor world [])
+    (λ fault. fault ≡ faults.Memory)
+
+-- a header is kept, or with the last of so many companions its world
+abbrev pub Grows : Replay → Header → ℕ → Result (Unit {0}) (LineFault Cause) → Type 0
+Grows replay header companions result =
+    MatchResult result (λ _. IsAt replay (grown header companions)) (λ fault. fault ≡ faults.Memory)
 
 -- the header has one companion more, or it was told why a text declares none
 abbrev pub Declares : Header → Header → List ℕ → Result (Unit {0}) (LineFault Cause) → Type 0

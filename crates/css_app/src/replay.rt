@@ -1,4 +1,4 @@
-ghost use Rattle.std.specs.Prelude.{◌≡◌, ◌<◌, ◌==◌, [], List, Some, None, OnOk, ℕ, length};
+ghost use Rattle.std.specs.Prelude.{◌≡◌, ◌<◌, ◌≤◌, ◌==◌, [], List, Some, None, OnOk, ℕ, length};
 ghost use Rattle.css_lines.specs.Answers.{Answers};
 ghost use Rattle.css_schedule.specs.Lines.{line_in};
 ghost use Rattle.css_schedule.specs.Ranges.{IsHeader, IsCount, IsGoodHeader, IsVersion, FitsFirst};
@@ -6,7 +6,8 @@ ghost use Rattle.css_schedule.specs.Headers.{max_companions};
 ghost use Rattle.css_world.specs.Happened.{Numbered};
 ghost use Rattle.css_world.specs.Standing as worlds;
 ghost use Rattle.css_app.specs.Replayed.{read_meant, with_line, Outset, Opening};
-ghost use Rattle.css_app.specs.Stands.{Declares, Starts, ReadsOn, IsNew, IsPart, refused_fault, unread_fault};
+ghost use Rattle.css_app.specs.Stands.{refused_fault, unread_fault};
+ghost use Rattle.css_app.specs.Stands.{Opens, Starts, Declares, Grows, ReadsOn, IsNew, IsPart, IsGrown};
 
 use css_lines::{LineFault, Lines};
 use css_schedule::{Header, PlayerFault, Start, read_companion, read_header, read_line};
@@ -115,13 +116,48 @@ fn refused(fault: WorldFault) -> LineFault<Cause>
     }
 }
 
+// Opens the world of a whole header.
+fn open_world(alloc: Global, header: Header) -> Result<World, LineFault<Cause>>
+    requires { IsHeader header × IsCount (length header.companions) }
+    ensures { Opens header result }
+{
+    match World::new(alloc, header) {
+        Ok(world) => Ok(world),
+        Err(_) => Err(LineFault::Memory),
+    }
+}
+
+// Opens the world of a whole header, and keeps it. A world is large: in a function of its own its room is cleared once,
+// and not at each line.
+#[cold]
+#[inline(never)]
+fn start(
+    alloc: Global,
+    header: Header,
+    kept: &mut Option<World>,
+) -> Result<(), LineFault<Cause>>
+    requires { IsHeader header × IsCount (length header.companions) }
+    ensures { Starts kept.new header result }
+{
+    *kept = Some(open_world(alloc, header)?);
+    Ok(())
+}
+
+// How many companions a header has.
+fn count(header: &Header) -> u32
+    requires { length header.now.companions ≤ max_companions }
+    ensures { result ≡ length header.now.companions }
+{
+    header.companions.list().len() as u32
+}
+
 // Reads the line of the next companion, and adds it to the header.
 fn declare(alloc: Global, header: &mut Header, text: &[u8]) -> Result<(), LineFault<Cause>>
     requires good { IsGoodHeader header.old }
     requires few { length header.old.companions < max_companions }
     ensures { Declares header.old header.new text.now result }
 {
-    let number = header.companions.list().len() as u32 + 1;
+    let number = count(header) + 1;
     let companion = match read_companion(alloc, text, number) {
         Ok(companion) => companion,
         Err(fault) => return Err(unread(fault)),
@@ -181,21 +217,6 @@ impl Replay {
         }
     }
 
-    // Opens the world of a whole header.
-    fn start(&mut self, header: Header) -> Result<(), LineFault<Cause>>
-        requires { IsHeader header × IsCount (length header.companions) }
-        ensures starts { Starts self.new header result }
-        ensures rest { (self.new.format ≡ self.old.format) × (self.new.last ≡ self.old.last) }
-    {
-        match World::new(self.alloc, header) {
-            Ok(world) => {
-                self.world = Some(world);
-                Ok(())
-            }
-            Err(_) => Err(LineFault::Memory),
-        }
-    }
-
     // Reads line 1.
     fn begin(&mut self, text: &[u8]) -> Result<(), LineFault<Cause>>
         requires { IsNew self.old }
@@ -203,7 +224,7 @@ impl Replay {
         ensures last { self.new.last ≡ self.old.last }
     {
         match read_header(self.alloc, text) {
-            Ok(Start::One(header)) => self.start(header),
+            Ok(Start::One(header)) => start(self.alloc, header, &mut self.world),
             Ok(Start::Two { header, companions }) => {
                 self.format = Format {
                     version: 2,
@@ -216,25 +237,35 @@ impl Replay {
         }
     }
 
-    // Reads the line of the next companion. With the last one the header is whole.
+    // Keeps a header with one companion more. With the last companion it is whole.
+    fn grow(&mut self, header: Header) -> Result<(), LineFault<Cause>>
+        requires part { IsGrown self.old.format header }
+        requires world { self.old.world ≡ None }
+        ensures grows { Grows self.new header self.old.format.companions result }
+        ensures last { self.new.last ≡ self.old.last }
+    {
+        let companions = count(&header);
+        if companions == self.format.companions {
+            return start(self.alloc, header, &mut self.world);
+        }
+        self.header = Some(header);
+        Ok(())
+    }
+
+    // Reads the line of the next companion.
     fn go_on(&mut self, mut header: Header, text: &[u8]) -> Result<(), LineFault<Cause>>
         requires part { IsPart self.old.format header }
         requires world { self.old.world ≡ None }
         ensures reads { ReadsOn self.new (Opening header self.old.format.companions) text.now result }
         ensures last { self.new.last ≡ self.old.last }
     {
-        declare(self.alloc, &mut header, text)?;
-        if header.companions.list().len() as u32 == self.format.companions {
-            return self.start(header);
+        match declare(self.alloc, &mut header, text) {
+            Ok(()) => self.grow(header),
+            Err(fault) => Err(fault),
         }
-        self.header = Some(header);
-        Ok(())
     }
 
-    // Reads a line of the header. A world is large: in a function of its own its room is cleared once, and not at each
-    // line.
-    #[cold]
-    #[inline(never)]
+    // Reads a line of the header.
     fn open(&mut self, text: &[u8]) -> Result<(), LineFault<Cause>>
         requires at { (extent : Extent) × IsAt self.old extent }
         requires world { self.old.world ≡ None }

@@ -8,7 +8,7 @@ report-requires-clause-floor c =
 
 pub unreachable-requires : goal.unreachable-requires
 unreachable-requires c =
-    absurd (never_gone c.args.world.now c.requires.0 c.requires.1 c.args.who c.args.reading c.type_inv.world
+    absurd (never_gone c.args.world.now c.requires.0 c.requires.1 c.args.who c.args.reading
     c.requires.2 c.requires.3 c.requires.4 c.in-None.ensures)
 
 pub returns : goal.returns

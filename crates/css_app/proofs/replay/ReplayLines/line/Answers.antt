@@ -21,3 +21,18 @@ returns-in-Some-clause-stands c =
     stands-after c.carry_out.result c.args.self.now c.in-Some.world c.carry_out.new.world c.args.number c.args.text.now
     c.in-Some.is c.carry_out.ensures.header c.carry_out.ensures.stands
     (λ other stood. next-number c.args.self.now c.args.number c.requires.0 other c.requires.1 c.requires.2 stood)
+
+pub open-requires-clause-at : goal.open-requires-clause-at
+open-requires-clause-at c =
+    (reached c.requires.0, at-last c.args.self.now c.args.number (reached c.requires.0) c.requires.1.at)
+
+pub returns-in-None-clause-answers : goal.returns-in-None-clause-answers
+returns-in-None-clause-answers c = λ before stands is.
+    answers-header c.open.result c.args.self.now c.open.new.self c.args.number c.args.text.now c.args.out.now.items
+    c.open.ensures.reads before stands
+
+pub returns-in-None-clause-stands : goal.returns-in-None-clause-stands
+returns-in-None-clause-stands c =
+    stands-header c.open.result c.args.self.now c.open.new.self c.args.number c.args.text.now c.open.ensures.reads
+    c.open.ensures.last
+    (λ other stood. next-number c.args.self.now c.args.number c.requires.0 other c.requires.1 c.requires.2 stood)
