@@ -117,15 +117,15 @@ step-holds course number lines range h =
       later = clock-goes_on course.tv_fast course.time (later course).time (omega arith);
     } in
     let step = happening-step lines number (tv_clock course) (later course) before in
-    let later : course.time + 30000 ≤ now.line.t = omega arith in
-    let time : course.time ≤ now.line.t = omega (arith, later) in
+    let grown : course.time + 30000 ≤ now.line.t = omega arith in
+    let time : course.time ≤ now.line.t = omega (arith, grown) in
     let tv : IsSeen course.tv_fast now.line.t (tv_seen now) =
     record { before = omega arith; shows = refl; reads = step.tv_reads } in
     let own : IsSeen course.own_fast now.line.t (own_seen now) =
     record { before = omega arith; shows = refl; reads = step.own_reads } in
     let passes : tested header lines now ≡ Ok tt =
     both-ok (shown_tested header lines now) (reading_tested header lines now)
-    (shown-ok course number lines now h refl time tv own) (readings-ok course number lines now h refl later tv own) in
+    (shown-ok course number lines now h refl time tv own) (readings-ok course number lines now h refl grown tv own) in
     let meant : line_meant header lines now ≡ Ok step.done.printed =
     ap (λ (r : Result (Unit {0}) WorldFault). result_and r (carried_out header lines now)) passes ∙ step.done.carried in
     let shown : tv_clock (next_course course) ≡ tv_clock (later course) =

@@ -131,11 +131,7 @@ fn open_world(alloc: Global, header: Header) -> Result<World, LineFault<Cause>>
 // and not at each line.
 #[cold]
 #[inline(never)]
-fn start(
-    alloc: Global,
-    header: Header,
-    kept: &mut Option<World>,
-) -> Result<(), LineFault<Cause>>
+fn start(alloc: Global, header: Header, kept: &mut Option<World>) -> Result<(), LineFault<Cause>>
     requires { IsHeader header × IsCount (length header.companions) }
     ensures { Starts kept.new header result }
 {
