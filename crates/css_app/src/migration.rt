@@ -1,8 +1,9 @@
 ghost use Rattle.std.specs.Prelude.{◌≡◌};
 ghost use Rattle.css_app.specs.Commands.{ByMigrate};
 ghost use Rattle.css_app.specs.Devices.{sink_use, source_use};
-ghost use Rattle.css_app.specs.Ended.{CountsReads, CountsWrites, migrate_status_of};
+ghost use Rattle.css_app.specs.Ended.{CountsReads, CountsWrites};
 ghost use Rattle.css_app.specs.Live.{TellsNoLive};
+ghost use Rattle.css_app.specs.Migrations.{migrate_status_of};
 
 use crate::status::Status;
 use css_lines::{Refusal, Stop, drive};
