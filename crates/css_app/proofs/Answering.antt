@@ -1,5 +1,5 @@
 -- What a line of the world answers, told to the line engine.
-use Rattle.std.proofs.Common.{◌≡◌, ℕ, ◌⊎◌, inl, inr, ap, sym, subst, refl, List, ◌++◌}
+use Rattle.std.proofs.Common.{◌≡◌, ℕ, ◌==◌, ◌⊎◌, inl, inr, arith, ap, sym, subst, refl, Bool, true, false, List, ◌++◌}
 use Rattle.std.specs.Prelude.{Result, Ok, Err}
 use Rattle.css_lines.specs.Answers.{MayFault, Answers}
 use Rattle.css_lines.specs.declared.reader.LineFault as engine
@@ -7,6 +7,7 @@ use Rattle.css_schedule.specs.declared.fault.LineFault.{LineFault}
 use Rattle.css_schedule.specs.declared.fault.LineFault.TheVariants as unreads
 use Rattle.css_schedule.specs.declared.header.Header.{Header}
 use Rattle.css_schedule.specs.declared.line.Line.{Line}
+use Rattle.css_schedule.specs.Ranges.{IsSecond, IsOf, FitsFirst}
 use Rattle.css_world.specs.Happened.{Numbered}
 use Rattle.css_world.specs.Verdicts.{line_meant}
 use Rattle.css_app.specs.declared.replay.Cause.{Cause}
@@ -97,3 +98,20 @@ answers-unread header lines number read old fault told is same = record {
     refl,
   );
 }
+
+-- ---- whose a line is
+-- a line of either version is one of so many companions, or the television's alone
+pub of-second : (version companions count : ℕ) (line : Line) → FitsFirst (version == 1) companions
+    → companions ≡ count → IsOf (version == 1) companions line → IsSecond count line
+of-second version companions count line fits same of =
+    subst (λ (n : ℕ). IsSecond n line) same (by (version == 1) fits of)
+  where
+    by : (b : Bool) → FitsFirst b companions → IsOf b companions line → IsSecond companions line
+    by true one first =
+        let who = first.who in
+        record {
+          who = omega (arith, one, who);
+          own = λ own. omega (arith, who);
+          none = λ zero. absurd (omega (arith, who, zero));
+        }
+    by false some second = second

@@ -234,3 +234,15 @@ ended-early replay before none stands = by (reached before) stands.at
 pub ended-whole : (replay : Replay) (world : World) (before : List (List ℕ)) → replay.world ≡ Some world
     → Stands replay before → ended_at (reached before) ≡ Ok []
 ended-whole replay world before is stands = ap ended_at (runs replay world (reached before) is stands.at).is
+
+-- so the end is answered
+pub finishes-early : (replay : Replay) (before : List (List ℕ)) (out : List ℕ) → replay.world ≡ None
+    → Stands replay before
+    → Answers {T = Unit {0}} (ended_at (reached before)) out out (Err (faults.Refused Form))
+finishes-early replay before out none stands = record { cases = (ended-early replay before none stands, refl) }
+
+pub finishes-whole : (replay : Replay) (world : World) (before : List (List ℕ)) (out : List ℕ)
+    → replay.world ≡ Some world → Stands replay before
+    → Answers {T = Unit {0}} (ended_at (reached before)) out out (Ok tt)
+finishes-whole replay world before out is stands =
+    record { cases = ([], ended-whole replay world before is stands, sym (append-nil out)) }

@@ -308,9 +308,9 @@ impl Lines for Replay {
     }
 
     fn finish(&mut self, _out: &mut Vec<u8>) -> Result<(), LineFault<Cause>> {
-        if self.world.is_none() {
-            return Err(LineFault::Refused(Cause::Form));
+        match &self.world {
+            Some(_) => Ok(()),
+            None => Err(LineFault::Refused(Cause::Form)),
         }
-        Ok(())
     }
 }

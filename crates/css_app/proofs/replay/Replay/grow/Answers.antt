@@ -1,7 +1,13 @@
-use Rattle.std.proofs.Common.{refl, sym, ◌∙◌}
+use Rattle.std.proofs.Common.{arith, refl, sym, ◌∙◌}
 use Rattle.std.specs.Prelude.{Some}
 use Rattle.css_app.proofs.Heading.{whole-count, grows-whole, grows-more}
 use Rattle.css_app.proofs.replay.Replay.grow.Goals as goal
+
+pub count-companions-requires : goal.count-companions-requires
+count-companions-requires c =
+    let within = c.requires.part.within in
+    let few = c.requires.part.few in
+    omega (arith, within, few)
 
 pub start-requires : goal.start-requires
 start-requires c = whole-count c.args.self.now.format c.args.header c.requires.part
