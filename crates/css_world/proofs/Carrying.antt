@@ -1,5 +1,6 @@
 -- What the ends do at a line: they stand for the lines with it.
-use Rattle.std.proofs.Common.{◌≡◌, ◌≢◌, ℕ, suc, ◌-◌, ◌==◌, cond, append_assoc, ◌<◌, ◌≤◌, ◌/◌, ◌%◌, ◌^◌, arith, rules, Bool, true, false, not}
+use Rattle.std.proofs.Common.{◌≡◌, ◌≢◌, ℕ, suc, ◌-◌, ◌==◌, cond, append_assoc, ◌<◌, ◌≤◌, ◌/◌, ◌%◌, ◌^◌, arith, rules}
+use Rattle.std.proofs.Common.{Bool, true, false, not}
 use Rattle.std.proofs.Common.{List, [], ◌∷◌, ◌++◌, length, refl, ap, sym, subst, ◌∙◌, inl, inr, eq-eqb, ne_eqb}
 use Rattle.std.specs.Prelude.{◌&&◌, map, unwrap_or, slice_set, Option, Some, None, is_some, option_to_list, Ok}
 use Rattle.std.specs.Option.{option_map, option_flatten}
@@ -133,7 +134,8 @@ one_lane header lines number t w who l verb lanes lane none first within stand h
     (done_by header who (datagrams header lines) (events_of header lines) verb (history_of who header lines)) same)
     (sym none)
     (subst (λ (x : Lane). LaneStands who (events_of header lines)
-    (done_by header who (datagrams header lines) (events_of header lines) verb (history_of who header lines)) x) is here))
+    (done_by header who (datagrams header lines) (events_of header lines) verb (history_of who header lines)) x) is
+    here))
 
 -- ---- a request
 pub asked : (old : World) (lines : List Numbered) (number t w who l reading : ℕ) (lane : Lane)
@@ -403,8 +405,10 @@ owners_stored : (items : List ℕ) (older : List ℕ) (asker : ℕ) (response : 
     (map (λ (m : Message). asker) (option_to_list follow_up ++ response ∷ []) ++ older)
 owners_stored items older asker response None are = pushed owner items older asker asker are refl
 owners_stored items older asker response (Some message) are =
-    subst (λ (kept : List ℕ). AreStored owner kept (asker ∷ asker ∷ older)) (append_assoc items (asker ∷ []) (asker ∷ []))
-    (pushed owner (items ++ asker ∷ []) (asker ∷ older) asker asker (pushed owner items older asker asker are refl) refl)
+    subst (λ (kept : List ℕ). AreStored owner kept (asker ∷ asker ∷ older))
+    (append_assoc items (asker ∷ []) (asker ∷ []))
+    (pushed owner (items ++ asker ∷ []) (asker ∷ older) asker asker (pushed owner items older asker asker are refl)
+    refl)
 
 -- of a response with no follow-up there is one
 pub alone_owned : (asker : ℕ) (bytes : Option (List ℕ)) (follow_up : Option Message) (items made : List ℕ)
@@ -445,9 +449,11 @@ given old lines number t w who l take reading asker ticket tv made owners ends f
     let same_made : datagrams old.header (now ∷ lines) ≡ answers_to (server_of old.header) reading (Some ticket)
     ++ datagrams old.header lines =
     ap (λ (o : Option Ticket). answers_to (server_of old.header) reading o ++ datagrams old.header lines) was_taken in
-    let asked_for = owner_stored (numbered take (taken_for lines)) take asker (sym (ends.taken_for.each take) ∙ whose) in
+    let asked_for = owner_stored (numbered take (taken_for lines)) take asker (sym (ends.taken_for.each take) ∙ whose)
+    in
     let same_owners : made_for old.header (now ∷ lines)
-    ≡ map (λ (m : Message). asker) (answers_to (server_of old.header) reading (Some ticket)) ++ made_for old.header lines =
+    ≡ map (λ (m : Message). asker) (answers_to (server_of old.header) reading (Some ticket)) ++ made_for old.header
+    lines =
     ap (λ (o : Option Ticket). map (λ (m : Message). unwrap_or (numbered take (taken_for lines)) 0)
     (answers_to (server_of old.header) reading o) ++ made_for old.header lines) was_taken
     ∙ ap (λ (o : Option ℕ). map (λ (m : Message). unwrap_or o 0)
@@ -460,7 +466,8 @@ given old lines number t w who l take reading asker ticket tv made owners ends f
     let ahead : (n : ℕ) → length before < n → is_given n (now ∷ lines) ≡ false = λ n above.
     let differs : take ≢ n = omega arith in rw (ne_eqb take n differs) (ends.none_ahead n above) in
     let owned : AreStored owner (old.made_for ++ owners_of asker (follow_up_for (server_of old.header) ticket reading))
-    (map (λ (m : Message). asker) (answers_to (server_of old.header) reading (Some ticket)) ++ made_for old.header lines) =
+    (map (λ (m : Message). asker) (answers_to (server_of old.header) reading (Some ticket)) ++ made_for old.header
+    lines) =
     owners_stored old.made_for (made_for old.header lines) asker (response_to (server_of old.header) ticket reading)
     (follow_up_for (server_of old.header) ticket reading) ends.made_for in (
       can,
@@ -479,7 +486,8 @@ given old lines number t w who l take reading asker ticket tv made owners ends f
         datagrams = subst (λ (ms : List Message). AreDatagrams made ms) (sym same_made) are;
         made_for = subst (λ (xs : List ℕ). AreStored owner owners xs) (sym same_owners)
             (subst (λ (kept : List ℕ). AreStored owner kept (map (λ (m : Message). asker)
-            (answers_to (server_of old.header) reading (Some ticket)) ++ made_for old.header lines)) (sym put_too) owned);
+            (answers_to (server_of old.header) reading (Some ticket)) ++ made_for old.header lines)) (sym put_too)
+            owned);
       },
     )
 
@@ -493,7 +501,8 @@ pub landed : (old : World) (lines : List Numbered) (number t w who l datagram re
     → (is_for who (numbered datagram (made_for old.header lines)) ≡ true)
     × EndsStand (record old { lanes = slice_set old.lanes (who - 1) lane })
     (own_line number t w who l (Land datagram reading) ∷ lines)
-landed old lines number t w who l datagram reading bytes before lane ends first within is_lane found whose stands same_cii
+landed old lines number t w who l datagram reading bytes before lane ends first within is_lane found whose stands
+    same_cii
     same_ts =
     let made : List Message = datagrams old.header lines in
     let events = events_of old.header lines in
@@ -503,9 +512,11 @@ landed old lines number t w who l datagram reading bytes before lane ends first 
     let same : bytes_of (numbered datagram made) ≡ bytes = ap bytes_of came.1 ∙ came.2 in
     let mine = owner_stored (numbered datagram (made_for old.header lines)) datagram who
     (sym (ends.made_for.each datagram) ∙ whose) in
-    let stand : LaneStands who events (Clock why.Land reading ∷ Took peer (bytes_of (numbered datagram made)) ∷ own) lane =
+    let stand : LaneStands who events (Clock why.Land reading ∷ Took peer (bytes_of (numbered datagram made)) ∷ own)
+    lane =
     record {
-      companion = subst (λ (b : List ℕ). companions.StandsFor lane.companion (Clock why.Land reading ∷ Took peer b ∷ own))
+      companion = subst (λ (b : List ℕ). companions.StandsFor lane.companion
+          (Clock why.Land reading ∷ Took peer b ∷ own))
           (sym same) stands;
       cii = subst (λ (s : Session). SessionStands (peer_of who kind.Cii) events own s) (sym same_cii) was.cii;
       ts = subst (λ (s : Session). SessionStands (peer_of who kind.Ts) events own s) (sym same_ts) was.ts;

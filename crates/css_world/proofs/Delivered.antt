@@ -15,7 +15,8 @@ use Rattle.css_world.specs.Sessions.{peer_of}
 use Rattle.css_world.specs.Flights.{Session, grown, with_news, news_of}
 use Rattle.css_world.specs.Lanes.{IsFor, TakesUp, AllTakeUp, KeepsAllButTexts}
 use Rattle.css_world.proofs.News.{told-next}
-use Rattle.css_world.proofs.Numbers.{stored_within, stored_same, set_there, set_others, set_part, parts_kept, count_kept}
+use Rattle.css_world.proofs.Numbers.{stored_within, stored_same, set_there, set_others, set_part, parts_kept}
+use Rattle.css_world.proofs.Numbers.{count_kept}
 
 -- ---- nothing is told
 -- a queue without more texts
@@ -40,7 +41,8 @@ none_yet lanes who lane found =
 -- a text of another peer isn't told to this one
 told_other : (peer other : ℕ) (text : List ℕ) → other ≢ peer → news_of peer (outs.Say other text ∷ []) ≡ []
 told_other peer other text differs =
-    let one : Bool → List (List ℕ) = λ b. map (λ (s : Said). s.text) (cond b (record { peer = other; text = text } ∷ []) []) in
+    let one : Bool → List (List ℕ) = λ b. map (λ (s : Said). s.text) (cond b (record { peer = other; text = text } ∷ [])
+    []) in
     ap one (ne_eqb other peer differs)
 
 -- peers 2K - 1 and 2K are those of companion K

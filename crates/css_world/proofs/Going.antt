@@ -36,7 +36,8 @@ use Rattle.css_world.specs.Verdicts.{can_happen, event_at, played, printed_for, 
 use Rattle.css_world.specs.Flights.{Session, SessionStands}
 use Rattle.css_world.specs.Truth.{TellsTruth}
 use Rattle.css_world.proofs.Truth.{accepted_lines_are_true}
-use Rattle.css_world.specs.Standing.{World, AreStored, request_bytes, owner, open_ticket, EndsStand, IsReady, DriftsStand}
+use Rattle.css_world.specs.Standing.{World, AreStored, request_bytes, owner, open_ticket, EndsStand, IsReady}
+use Rattle.css_world.specs.Standing.{DriftsStand}
 use Rattle.css_world.specs.Standing.{ReadingsStand, AreAccepted, StandsFor, carried, Carries, CarriesOut}
 use Rattle.css_world.specs.Standing.{PrintsFor, Prints, KeepsEnds, KeepsClocks, KeepsReadings, KeepsDrifts}
 use Rattle.css_world.specs.Standing.{ShowsBy, ShownTo, ReadsBy, ReadTo, IsNext, AreNext, Means, GoesOn, appended}
@@ -77,7 +78,8 @@ keeps_ends old new lines kept ends =
       askers = subst (λ (items : List ℕ). AreStored owner items (askers lines)) (sym kept.askers) ends.askers;
       takes = subst (λ (items : List (Option Ticket)). AreStored (open_ticket lines) items (tickets old.header lines))
           (sym kept.takes) ends.takes;
-      taken_for = subst (λ (items : List ℕ). AreStored owner items (taken_for lines)) (sym kept.taken_for) ends.taken_for;
+      taken_for = subst (λ (items : List ℕ). AreStored owner items (taken_for lines)) (sym kept.taken_for)
+          ends.taken_for;
       datagrams = subst (λ (items : List (List ℕ)). AreStored (λ number. encoded) items (datagrams old.header lines))
           (sym kept.datagrams) ends.datagrams;
       made_for = subst (λ (items : List ℕ). AreStored owner items (made_for old.header lines)) (sym kept.made_for)
@@ -92,7 +94,8 @@ carried-out : (header : Header) (lines : List Numbered) (now : Numbered) (verb :
     ≡ result_and (carried header lines now.line.who verb) (Ok (printed_for header lines now verb))
 carried-out header lines now verb is =
     let who = now.line.who in
-    ap meant is ∙ by (can_happen header lines who verb) (played (events_of header lines) (event_at header lines who verb))
+    ap meant is ∙ by (can_happen header lines who verb)
+    (played (events_of header lines) (event_at header lines who verb))
   where
     meant : Verb → Result (List ℕ) WorldFault
     meant v = cond (can_happen header lines now.line.who v)
@@ -196,7 +199,8 @@ next-of number (Some shown) last is next = λ x some.
 pub lines_next : (world : World) (lines : List Numbered) (number : ℕ) → StandsFor world lines → IsNext number lines
     → AreNext world number
 lines_next world lines number stands next who lane found =
-    next-of number (last_shown (told_by (seen_of who lines))) lane.clock.drift.last (stands.drifts.own who lane found).last
+    next-of number (last_shown (told_by (seen_of who lines))) lane.clock.drift.last
+    (stands.drifts.own who lane found).last
     (next_own world.header who number lines stands.accepted next)
 
 -- a line whose reading is refused means that

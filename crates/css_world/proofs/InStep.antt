@@ -113,10 +113,12 @@ module _ (header : Header) (who : ℕ) (first : 1 ≤ who) (events : List TvEven
       opened.is ∙ ap (lived_as opened.life) live ∙ ap (λ (l : Life). lived_as l true) set.2 in
       let reads : ReadsAsControls wanted p ps = subst AreReadBack lived (back header who first events own talked ts) in
       let many : length (told_to ts events) ≡ length (controls_after who events) =
-      as_many ReadsAs (told_to ts events) (controls_after who events) (controls_said header who first events own talked) in
+      as_many ReadsAs (told_to ts events) (controls_after who events) (controls_said header who first events own talked)
+      in
       let flies = none_flies (told_to ts events) (heard_from ts own) none in
       let all : come (heard_from ts own) (controls_after who events) ≡ ts_controls wanted p ps =
-      all_come (heard_from ts own) (controls_after who events) (omega (arith, many, flies)) ∙ ap controls_of_lived lived in
+      all_come (heard_from ts own) (controls_after who events) (omega (arith, many, flies))
+      ∙ ap controls_of_lived lived in
       let last = control_for wanted (latest_of p ps) in
       let current : last ≡ control_for wanted shown = subst (Shows shown) lived talked.shows refl in
       order.hearing.control ∙ ap newest all ∙ newest_is (ts_controls wanted p ps) last reads.newest
@@ -135,7 +137,8 @@ module _ (header : Header) (who : ℕ) (first : 1 ≤ who) (events : List TvEven
       opened.is ∙ ap (lived_as (CiiLife s ss)) live in
       let reads : ReadsAsStates s ss = subst AreReadBack lived (back header who first events own order.talked cii) in
       let many : length (told_to cii events) ≡ length (states_after who events) =
-      as_many TellsAfter (told_to cii events) (states_after who events) (states_said header who first events own order.talked) in
+      as_many TellsAfter (told_to cii events) (states_after who events)
+      (states_said header who first events own order.talked) in
       let flies = none_flies (told_to cii events) (heard_from cii own) none in
       let all : come (heard_from cii own) (states_after who events) ≡ cii_states s ss =
       all_come (heard_from cii own) (states_after who events) (omega (arith, many, flies)) ∙ ap states_of_lived lived in
@@ -151,7 +154,8 @@ module _ (header : Header) (who : ℕ) (first : 1 ≤ who) (events : List TvEven
 
   -- so the companion assigns what is published
   assigned_is : (wall : ℕ) → is_open cii own ≡ true → is_open ts own ≡ true → received_from ts events ≢ []
-      → in_flight (told_to cii events) (heard_from cii own) ≡ [] → in_flight (told_to ts events) (heard_from ts own) ≡ []
+      → in_flight (told_to cii events) (heard_from cii own) ≡ [] → in_flight (told_to ts events) (heard_from ts own)
+      ≡ []
       → assigned_after wanted.selector own wall ≡ published_tick wanted shown wall
   assigned_is wall cii_open ts_open set_up states controls =
       let assigned : Option (Result Control TsFault) → Bool → Option (List Timeline) → Option ℤ =
@@ -197,7 +201,8 @@ in_step header lines who wall first declared accepted all =
     let own = history_of who header lines in
     let order = in_order header lines who first declared accepted in
     let playable = order.talked.staging.staged.playable in
-    let is = assigned_is header who first events own order wall all.cii_open all.ts_open all.set_up all.states all.controls in
+    let is = assigned_is header who first events own order wall all.cii_open all.ts_open all.set_up all.states
+    all.controls in
     let tick = assigned_at who header lines wall in
     record {
       published = is;

@@ -22,7 +22,8 @@ use Rattle.css_wc.proofs.Codec.{IsStamp, decoded-encoded}
 use Rattle.css_server.specs.Tickets.{Ticket, answer_message}
 use Rattle.css_schedule.specs.declared.header.Header.{Header}
 use Rattle.css_schedule.specs.declared.line.Verb.{Verb}
-use Rattle.css_schedule.specs.declared.line.Verb.TheVariants.{Ask, Land, Wall, Print, Opening, Bring, Present, Close, Sleep}
+use Rattle.css_schedule.specs.declared.line.Verb.TheVariants.{Ask, Land, Wall, Print, Opening, Bring, Present, Close}
+use Rattle.css_schedule.specs.declared.line.Verb.TheVariants.{Sleep}
 use Rattle.css_world.specs.Happened.{Numbered, server_of, datagrams, made_for, bytes_of, events_of, history_of, peer}
 use Rattle.css_world.specs.Numbering.{numbered}
 use Rattle.css_world.specs.Verdicts.{is_for, can_exchange}
@@ -280,7 +281,8 @@ module _ (world : World) (moment_of : ℕ → ℕ) (header : Header) (who : ℕ)
   came_each [] accepted agreed = tt
   came_each (now ∷ older) accepted agreed =
       let before = each-map (CameAt header who older moment_of) (CameAt header who (now ∷ older) moment_of)
-      (history_of who header older) (came-longer header who now older moment_of) (came_each older accepted.4 agreed.2) in
+      (history_of who header older) (came-longer header who now older moment_of) (came_each older accepted.4 agreed.2)
+      in
       let can = can-exchange header older now.line.who now.line.verb
       (can-happen header older now accepted.3.0 (carried_ok header older now accepted.3.0 accepted.3.1)) in
       let CameNow : History → Type 0 = λ h. Each (CameAt header who (now ∷ older) moment_of) h in

@@ -18,7 +18,8 @@ use Rattle.css_model.specs.Explains.{IsLawful, IsJustAsked, RisesAt, AsksAt}
 use Rattle.css_wc.proofs.Codec.{decoded-encoded}
 use Rattle.css_schedule.specs.declared.header.Header.{Header}
 use Rattle.css_schedule.specs.declared.line.Verb.{Verb}
-use Rattle.css_schedule.specs.declared.line.Verb.TheVariants.{Ask, Land, Wall, Print, Opening, Bring, Present, Close, Sleep}
+use Rattle.css_schedule.specs.declared.line.Verb.TheVariants.{Ask, Land, Wall, Print, Opening, Bring, Present, Close}
+use Rattle.css_schedule.specs.declared.line.Verb.TheVariants.{Sleep}
 use Rattle.css_schedule.specs.Owners.{is_sleep}
 use Rattle.css_sessions.specs.declared.session.Kind.TheVariants as kind
 use Rattle.css_tv.specs.declared.event.TvEvent.{TvEvent}
@@ -142,12 +143,14 @@ sleeps-by header who made events (Bring kind) older =
 sleeps-by header who made events _ older = refl
 
 -- a companion slept as often as its lines say
-pub sleeps_are : (header : Header) (who : ℕ) (lines : List Numbered) → sleeps (history_of who header lines) ≡ sleeps_of who lines
+pub sleeps_are : (header : Header) (who : ℕ) (lines : List Numbered) → sleeps (history_of who header lines)
+    ≡ sleeps_of who lines
 sleeps_are header who [] = refl
 sleeps_are header who (now ∷ older) = elim (eqb_tells now.line.who who) [
   | inl own ↦
       ap sleeps (history_now header now older who own.1)
-      ∙ sleeps-by header who (datagrams header older) (events_of header older) now.line.verb (history_of who header older)
+      ∙ sleeps-by header who (datagrams header older) (events_of header older) now.line.verb
+      (history_of who header older)
       ∙ by own.1 (sleeps_are header who older) (is_sleep now.line.verb) refl
   | inr other ↦
       ap sleeps (history_other header now older who other.1) ∙ sleeps_are header who older
@@ -256,7 +259,8 @@ abbrev woken_by : Verb → Bool → Bool
 woken_by verb woken = is_none (own_reading verb) && (is_sleep verb || woken)
 
 abbrev last_by : ℕ → Verb → Option Reading → Option Reading
-last_by number verb last = option_or (option_map (λ value. record { line = number; value = value }) (own_reading verb)) last
+last_by number verb last = option_or (option_map (λ value. record { line = number; value = value }) (own_reading verb))
+    last
 
 -- what was asked, with these readings
 abbrev HasAsked : Bool → Option Reading → History → Type 0
@@ -309,15 +313,19 @@ asked_below header who (now ∷ older) accepted =
       | inl own ↦
           let least = own_order header older now who own.1 (tested_ok header older now accepted.3.0 accepted.3.1) in
           let next = below_by header who now.number (datagrams header older) (events_of header older) now.line.verb
-          (has_woken (seen_of who older)) (last_reading (seen_of who older)) (history_of who header older) least before in
-          let at_line : HasAsked (has_woken (own_seen now ∷ seen_of who older)) (last_reading (own_seen now ∷ seen_of who
+          (has_woken (seen_of who older)) (last_reading (seen_of who older)) (history_of who header older) least before
+          in
+          let at_line : HasAsked (has_woken (own_seen now ∷ seen_of who older))
+          (last_reading (own_seen now ∷ seen_of who
           older)) (done_at header older who now.line.verb) = next in
-          subst (λ (seen : List Seen). HasAsked (has_woken seen) (last_reading seen) (history_of who header (now ∷ older)))
+          subst (λ (seen : List Seen). HasAsked (has_woken seen) (last_reading seen)
+          (history_of who header (now ∷ older)))
           (sym (seen_own now older who own.1))
           (subst (λ (h : History). HasAsked (has_woken (own_seen now ∷ seen_of who older))
           (last_reading (own_seen now ∷ seen_of who older)) h) (sym (history_now header now older who own.1)) at_line)
       | inr other ↦
-          subst (λ (seen : List Seen). HasAsked (has_woken seen) (last_reading seen) (history_of who header (now ∷ older)))
+          subst (λ (seen : List Seen). HasAsked (has_woken seen) (last_reading seen)
+          (history_of who header (now ∷ older)))
           (sym (seen_other now older who other.1))
           (subst (λ (h : History). HasAsked (has_woken (seen_of who older)) (last_reading (seen_of who older)) h)
           (sym (history_other header now older who other.1)) before)

@@ -191,7 +191,8 @@ numbered-map part number (x ∷ xs) =
     ∙ by (number == suc (length xs)) (numbered-map part number xs)
   where
     by : (b : Bool) → numbered number (map part xs) ≡ option_map part (numbered number xs)
-        → cond b (Some (part x)) (numbered number (map part xs)) ≡ option_map part (cond b (Some x) (numbered number xs))
+        → cond b (Some (part x)) (numbered number (map part xs))
+        ≡ option_map part (cond b (Some x) (numbered number xs))
     by true older = refl
     by false older = older
 
@@ -346,7 +347,8 @@ made_by-line world moment_of header who now older d (Give take reading) is first
     owner = unwrap_or (numbered take (taken_for older)) 0
 
     by : (o : Option Ticket) → numbered take (tickets header older) ≡ o
-        → IsIn d (made_to header (length older) take owner reading o) → IsMade world moment_of header who (now ∷ older) d
+        → IsIn d (made_to header (length older) take owner reading o) → IsMade world moment_of header who (now ∷ older)
+        d
     by None e p = absurd p
     by (Some ticket) e p =
         let known = tells_of header (length older) take owner reading ticket d p in
@@ -424,7 +426,8 @@ given_before : (header : Header) (lines : List Numbered) (d : Made) → IsIn d (
     → is_given d.take lines ≡ true
 given_before header [] d h = absurd h
 given_before header (now ∷ older) d h =
-    elim (in-append (made_by header (length older) (tickets header older) (taken_for older) now.line.verb) (made header older) d h) [
+    elim (in-append (made_by header (length older) (tickets header older) (taken_for older) now.line.verb)
+    (made header older) d h) [
       | inl p ↦ by now.line.verb p
       | inr q ↦ or_right (gives d.take now.line.verb) (is_given d.take older) (given_before header older d q)
     ]
@@ -467,7 +470,8 @@ one_giving header (now ∷ older) a b accepted p q e =
     by : IsIn a here ⊎ IsIn a rest → IsIn b here ⊎ IsIn b rest → (IsIn a rest → IsIn b rest → a.given_at ≡ b.given_at)
         → a.given_at ≡ b.given_at
     by (inl u) (inl v) next =
-        (given_now header older now.line.who a now.line.verb can u).at ∙ sym (given_now header older now.line.who b now.line.verb can v).at
+        (given_now header older now.line.who a now.line.verb can u).at
+        ∙ sym (given_now header older now.line.who b now.line.verb can v).at
     by (inl u) (inr v) next = absurd (false≢true (sym (given_now header older now.line.who a now.line.verb can u).fresh
         ∙ ap (λ (k : ℕ). is_given k older) e ∙ given_before header older b v))
     by (inr u) (inl v) next = absurd (false≢true (sym (given_now header older now.line.who b now.line.verb can v).fresh

@@ -13,7 +13,8 @@ use Rattle.css_model.specs.History.{Entry, History, Dialled, Heard, Wrote, Close
 use Rattle.css_model.specs.Explains.{HappensIn, ReadsAt}
 use Rattle.css_schedule.specs.declared.header.Header.{Header}
 use Rattle.css_schedule.specs.declared.line.Verb.{Verb}
-use Rattle.css_schedule.specs.declared.line.Verb.TheVariants.{Ask, Land, Wall, Print, Opening, Bring, Present, Close, Sleep}
+use Rattle.css_schedule.specs.declared.line.Verb.TheVariants.{Ask, Land, Wall, Print, Opening, Bring, Present, Close}
+use Rattle.css_schedule.specs.declared.line.Verb.TheVariants.{Sleep}
 use Rattle.css_sessions.specs.declared.session.Kind.TheVariants as kind
 use Rattle.css_tv.specs.declared.event.TvEvent.{TvEvent}
 use Rattle.css_world.specs.declared.fault.WorldFault.{WorldFault}

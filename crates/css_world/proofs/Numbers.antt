@@ -19,7 +19,8 @@ stored_within items (suc place) item is =
     (omega arith, omega (arith, within))
 
 -- each of these numbers has an item
-there : {A : Type 0} (items : List A) (place : ℕ) → place < length items → (item : A) × (slice_get items place ≡ Some item)
+there : {A : Type 0} (items : List A) (place : ℕ) → place < length items → (item : A)
+    × (slice_get items place ≡ Some item)
 there [] place below = absurd (omega arith)
 there (x ∷ items) zero below = (x, refl)
 there (x ∷ items) (suc place) below = there items place (omega arith)
@@ -56,7 +57,8 @@ mapped_none f (Some x) is = absurd (cc)
 -- ---- one more
 -- what was put at the end has the next number, and each other item is as before
 pub stored_pushed : {A : Type 0} (items : List A) (new : A) (who : ℕ) (item : A)
-    → stored (items ++ new ∷ []) who ≡ Some item → ((who ≡ suc (length items)) × (item ≡ new)) ⊎ (stored items who ≡ Some item)
+    → stored (items ++ new ∷ []) who ≡ Some item → ((who ≡ suc (length items)) × (item ≡ new))
+    ⊎ (stored items who ≡ Some item)
 stored_pushed items new zero item is = absurd (cc)
 stored_pushed items new (suc place) item is = elim (eqb_tells place (length items)) [
   | inl same ↦

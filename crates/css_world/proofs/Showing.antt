@@ -76,7 +76,8 @@ pub clock_told : (error declared : ℕ) (earlier : List Seen) (now : Seen) (resu
     → result ≡ result_map_both (λ x. x) broken_by (verdict error (told_with now.woke (told_by earlier)) (shown_at now))
     → result ≡ clock_verdict declared earlier now
 clock_told error declared earlier now result same is =
-    is ∙ ap (λ e. result_map_both (λ x. x) broken_by (verdict e (told_with now.woke (told_by earlier)) (shown_at now))) same
+    is ∙ ap (λ e. result_map_both (λ x. x) broken_by (verdict e (told_with now.woke (told_by earlier)) (shown_at now)))
+    same
 
 -- where the wall clock is refused, so is the line
 pub wall_refused : (header : Header) (lines : List Numbered) (now : Numbered) (fault : WorldFault)
@@ -119,7 +120,8 @@ drifts_written old new lines now lane stand first within tv lanes own =
     let who = now.line.who in record {
       tv = tv;
       own = λ n x found.
-          each_written (λ n x. drifts.StandsFor x.clock.drift (told_by (seen_of n (now ∷ lines)))) old.lanes who lane first
+          each_written (λ n x. drifts.StandsFor x.clock.drift (told_by (seen_of n (now ∷ lines)))) old.lanes who lane
+          first
           within
           (λ n x differs at.
           subst (λ (seen : List Seen). drifts.StandsFor x.clock.drift (told_by seen))

@@ -27,7 +27,8 @@ option_map-constant f g y (Some x) h = ap Some (sym (h x))
 
 -- ---- lists
 -- what was put at the end is there
-pub slice_get-pushed : {A : Type 0} (items : List A) (item : A) → slice_get (items ++ item ∷ []) (length items) ≡ Some item
+pub slice_get-pushed : {A : Type 0} (items : List A) (item : A) → slice_get (items ++ item ∷ []) (length items)
+    ≡ Some item
 slice_get-pushed [] item = refl
 slice_get-pushed (x ∷ items) item = slice_get-pushed items item
 

@@ -38,7 +38,8 @@ use Rattle.css_world.proofs.Entries.{dialled-kind, dialled-open, closed-open, wr
 use Rattle.css_world.proofs.Entries.{dialled-kind_apart, dialled-open_apart, closed-open_apart, received_not}
 use Rattle.css_world.proofs.Ends.{events_with}
 use Rattle.css_world.proofs.Entries.{concerns}
-use Rattle.css_world.proofs.Staging.{AreBelow, IsSound, IsStaging, IsKeptBy, IsKeptApart, one_staged, each_end, not_true}
+use Rattle.css_world.proofs.Staging.{AreBelow, IsSound, IsStaging, IsKeptBy, IsKeptApart, one_staged, each_end}
+use Rattle.css_world.proofs.Staging.{not_true}
 use Rattle.css_world.proofs.Lives.{LifeGoesOn, goes_on, shown_after, lived_after, opens_as, closes_as}
 use Rattle.css_world.proofs.Talking.{lived_as, published_addresses, HasCii, IsCiiOpened, HasCiiOf, HasTs, HasTsOf}
 use Rattle.css_world.proofs.Talking.{IsLifeOf, IsOpened}
@@ -76,7 +77,8 @@ module _ (header : Header) (who : ℕ) (first : 1 ≤ who) (events : List TvEven
       → HasTsOf header who (e ∷ events) own (exchanged who events own)
   ts_on e on = ts_goes header who events own before (e ∷ events) on
 
-  shows_on : (e : TvEvent) → LifeGoesOn ts events (e ∷ events) → Shows (shown_after (e ∷ events)) (lived_after ts (e ∷ events))
+  shows_on : (e : TvEvent) → LifeGoesOn ts events (e ∷ events) → Shows (shown_after (e ∷ events))
+      (lived_after ts (e ∷ events))
   shows_on e on = shows_goes header who events own before (e ∷ events) on
 
   -- an event that is of neither session
@@ -173,7 +175,8 @@ module _ (header : Header) (who : ℕ) (first : 1 ≤ who) (events : List TvEven
       let opens = opens_as ts kind.Ts events 32 before.staging.staged (omega arith) few in
       let one = goes cii e (before.staging.unknown kind.Ts never).life other in
       let was = ts_never header who events own before never in
-      let writes : written_to ts after ≡ setup_text setup ∷ written_to ts own = wrote-one ts (setup_text setup) dialled in
+      let writes : written_to ts after ≡ setup_text setup ∷ written_to ts own = wrote-one ts (setup_text setup) dialled
+      in
       let opened : IsOpened setup (lived_after ts new) true (exchanged who new after) = record {
         life = Unset;
         is = opens.life;
@@ -230,7 +233,8 @@ module _ (header : Header) (who : ℕ) (first : 1 ≤ who) (events : List TvEven
 
   -- the companion writes a presentation
   ts_writes : (q : Presentation) → is_open ts own ≡ true → IsPresentation q
-      → let after = Wrote ts (presentation_text q) ∷ own in IsStaging who events after → HasTalked header who events after
+      → let after = Wrote ts (presentation_text q) ∷ own in IsStaging who events after → HasTalked header who events
+      after
   ts_writes q live ranged staging =
       let after = Wrote ts (presentation_text q) ∷ own in
       let was = (ts_live header who events own before live).1 in
@@ -291,7 +295,8 @@ module _ (header : Header) (who : ℕ) (first : 1 ≤ who) (events : List TvEven
   -- the same of both sessions: one opens
   opens_talked : (k : Kind) (made : List Message) → AreFew events → IsUtf8Setup setup
       → was_opened (peer_of who k) own ≡ false
-      → IsStaging who (events_with who events own (verb.Opening k)) (done_by header who made events (verb.Opening k) own)
+      → IsStaging who (events_with who events own (verb.Opening k))
+      (done_by header who made events (verb.Opening k) own)
       → HasTalked header who (events_with who events own (verb.Opening k))
       (done_by header who made events (verb.Opening k) own)
   opens_talked kind.Cii made few utf8 never staging = cii_opens few never staging

@@ -282,7 +282,11 @@ shows_over p (Some l) = λ on. absurd (let no : true ≡ false = on in cc)
 -- ---- both ends
 -- what both ends know of companion `who`'s session of CSS-TS
 abbrev pub exchanged : ℕ → List TvEvent → History → Exchanged
-exchanged who events own = record { written = written_to (ts_of who) own; received = received_from (ts_of who) events; closed = is_closed own }
+exchanged who events own = record {
+  written = written_to (ts_of who) own;
+  received = received_from (ts_of who) events;
+  closed = is_closed own;
+}
 
 -- the session of CSS-CII of companion `who`
 abbrev pub HasCiiOf : ℕ → List TvEvent → History → Type 0
@@ -290,7 +294,8 @@ HasCiiOf who events own = HasCii (kind_of (cii_of who) own) (is_open (cii_of who
 
 -- and that of CSS-TS, where this was exchanged
 abbrev pub HasTsOf : Header → ℕ → List TvEvent → History → Exchanged → Type 0
-HasTsOf header who events own x = HasTs (setup_of who header) (kind_of (ts_of who) own) (is_open (ts_of who) own) (lived_after (ts_of who) events) x
+HasTsOf header who events own x = HasTs (setup_of who header) (kind_of (ts_of who) own) (is_open (ts_of who) own)
+    (lived_after (ts_of who) events) x
 
 -- Both sessions of companion `who` are as both ends know them.
 pub record HasTalked (header : Header) (who : ℕ) (events : List TvEvent) (own : History) : Type 0 where
@@ -305,39 +310,51 @@ module _ (header : Header) (who : ℕ) (events : List TvEvent) (own : History)
   -- the session of CSS-CII goes on
   pub cii_goes : (new : List TvEvent) → LifeGoesOn (cii_of who) events new → HasCiiOf who new own
   cii_goes new on =
-      cii_on (kind_of (cii_of who) own) (is_open (cii_of who) own) (shown_after events) (shown_after new) (lived_after (cii_of who) events)
+      cii_on (kind_of (cii_of who) own) (is_open (cii_of who) own) (shown_after events) (shown_after new)
+      (lived_after (cii_of who) events)
       (lived_after (cii_of who) new) on talked.cii
 
   -- so does that of CSS-TS
-  pub ts_goes : (new : List TvEvent) → LifeGoesOn (ts_of who) events new → HasTsOf header who new own (exchanged who events own)
+  pub ts_goes : (new : List TvEvent) → LifeGoesOn (ts_of who) events new
+      → HasTsOf header who new own (exchanged who events own)
   ts_goes new on =
-      ts_on (setup_of who header) (kind_of (ts_of who) own) (is_open (ts_of who) own) (shown_after events) (shown_after new)
+      ts_on (setup_of who header) (kind_of (ts_of who) own) (is_open (ts_of who) own) (shown_after events)
+      (shown_after new)
       (lived_after (ts_of who) events) (lived_after (ts_of who) new) (exchanged who events own) on talked.ts
 
   -- with what it was told
-  pub shows_goes : (new : List TvEvent) → LifeGoesOn (ts_of who) events new → Shows (shown_after new) (lived_after (ts_of who) new)
+  pub shows_goes : (new : List TvEvent) → LifeGoesOn (ts_of who) events new
+      → Shows (shown_after new) (lived_after (ts_of who) new)
   shows_goes new on =
-      shows_on (shown_after events) (shown_after new) (lived_after (ts_of who) events) (lived_after (ts_of who) new) on talked.shows
+      shows_on (shown_after events) (shown_after new) (lived_after (ts_of who) events) (lived_after (ts_of who) new) on
+      talked.shows
 
   -- an open session of CSS-CII has its states
   pub cii_live : is_open (cii_of who) own ≡ true
-      → (kind_of (cii_of who) own ≡ Some session.Cii) × IsCiiOpened (lived_after (cii_of who) events) (is_open (cii_of who) own)
-  cii_live live = cii_opened (kind_of (cii_of who) own) (is_open (cii_of who) own) (lived_after (cii_of who) events) live talked.cii
+      → (kind_of (cii_of who) own ≡ Some session.Cii) × IsCiiOpened (lived_after (cii_of who) events)
+      (is_open (cii_of who) own)
+  cii_live live = cii_opened (kind_of (cii_of who) own) (is_open (cii_of who) own) (lived_after (cii_of who) events)
+      live talked.cii
 
   -- and is over where it closes
-  pub cii_ends : is_open (cii_of who) own ≡ true → HasCii (kind_of (cii_of who) own) false (option_map ended (lived_after (cii_of who) events))
-  cii_ends live = cii_over (kind_of (cii_of who) own) (is_open (cii_of who) own) (lived_after (cii_of who) events) live talked.cii
+  pub cii_ends : is_open (cii_of who) own ≡ true → HasCii (kind_of (cii_of who) own) false
+      (option_map ended (lived_after (cii_of who) events))
+  cii_ends live = cii_over (kind_of (cii_of who) own) (is_open (cii_of who) own) (lived_after (cii_of who) events) live
+      talked.cii
 
   -- its end doesn't close a session of CSS-TS
   pub cii_apart : is_ts (kind_of (cii_of who) own) ≡ false
-  cii_apart = cii_not_ts (kind_of (cii_of who) own) (is_open (cii_of who) own) (lived_after (cii_of who) events) talked.cii
+  cii_apart = cii_not_ts (kind_of (cii_of who) own) (is_open (cii_of who) own) (lived_after (cii_of who) events)
+      talked.cii
 
   -- an open session of CSS-TS has its life
   pub ts_live : is_open (ts_of who) own ≡ true
       → (kind_of (ts_of who) own ≡ Some session.Ts)
-      × IsOpened (setup_of who header) (lived_after (ts_of who) events) (is_open (ts_of who) own) (exchanged who events own)
+      × IsOpened (setup_of who header) (lived_after (ts_of who) events) (is_open (ts_of who) own)
+      (exchanged who events own)
   ts_live live =
-      ts_opened (setup_of who header) (kind_of (ts_of who) own) (is_open (ts_of who) own) (lived_after (ts_of who) events) (exchanged who events own) live
+      ts_opened (setup_of who header) (kind_of (ts_of who) own) (is_open (ts_of who) own)
+      (lived_after (ts_of who) events) (exchanged who events own) live
       talked.ts
 
   -- and is then as it is opened
@@ -351,7 +368,8 @@ module _ (header : Header) (who : ℕ) (events : List TvEvent) (own : History)
   pub ts_never : is_some (kind_of (ts_of who) own) ≡ false
       → IsUnopened (lived_after (ts_of who) events) (is_open (ts_of who) own) (exchanged who events own)
   ts_never never =
-      ts_unopened (setup_of who header) (kind_of (ts_of who) own) (is_open (ts_of who) own) (lived_after (ts_of who) events) (exchanged who events own)
+      ts_unopened (setup_of who header) (kind_of (ts_of who) own) (is_open (ts_of who) own)
+      (lived_after (ts_of who) events) (exchanged who events own)
       never talked.ts
 
 -- ---- a text that comes to the television
@@ -364,7 +382,8 @@ pub record TextComes (peer : ℕ) (setup : Setup) (received : List (List ℕ)) (
   pub shows : Shows (shown_after after) (lived_after peer after)
 
 -- with a presentation its life goes on
-presentation_comes : (peer : ℕ) (setup : Setup) (received : List (List ℕ)) (bytes : List ℕ) (p : Player) (ps : List Player)
+presentation_comes : (peer : ℕ) (setup : Setup) (received : List (List ℕ)) (bytes : List ℕ) (p : Player)
+    (ps : List Player)
     (after : List TvEvent) → Shows (shown_after after) (lived_after peer after)
     → (lived_after peer after ≡ lived_as (TsLife setup p ps) true)
     ⊎ (lived_after peer after ≡ lived_as (TsLife setup p (shown_after after ∷ ps)) true)
@@ -376,10 +395,12 @@ presentation_comes peer setup received bytes p ps after shows (inr grown) =
     record { life = TsLife setup p more; is = grown; of = (p, more, refl); shows = shows }
 
 -- A text that its companion wrote comes to an open session.
-pub text_comes : (peer : ℕ) (setup : Setup) (received : List (List ℕ)) (life : Life) (bytes : List ℕ) (events : List TvEvent)
+pub text_comes : (peer : ℕ) (setup : Setup) (received : List (List ℕ)) (life : Life) (bytes : List ℕ)
+    (events : List TvEvent)
     → IsStaged addresses (calls_of addresses events) → lived_after peer events ≡ lived_as life true
     → IsLifeOf setup received life → IsWrittenAt setup bytes (length received)
-    → Shows (shown_after events) (lived_after peer events) → TextComes peer setup received bytes (event.Heard peer bytes ∷ events)
+    → Shows (shown_after events) (lived_after peer events) → TextComes peer setup received bytes
+    (event.Heard peer bytes ∷ events)
 text_comes peer setup [] life bytes events staged is of written shows =
     let after = event.Heard peer bytes ∷ events in
     let unset = is ∙ ap (λ (l : Life). lived_as l true) of in

@@ -116,7 +116,8 @@ takes_count header (now ∷ older) = by now.line.verb (takes_count header older)
     both : (reading : ℕ) (o w : Option ℕ) → is_some o ≡ is_some w
         → length (taken_for older) ≡ length (tickets header older)
         → length (option_to_list w ++ taken_for older)
-        ≡ length (option_to_list (option_map (ticket_at header (tickets header older) reading) o) ++ tickets header older)
+        ≡ length (option_to_list (option_map (ticket_at header (tickets header older) reading) o) ++ tickets header
+        older)
     both reading None None same counts = counts
     both reading (Some asked) (Some who) same counts = ap suc counts
     both reading None (Some who) same counts = absurd (cc)
@@ -140,7 +141,8 @@ pub record IsSent (moment_of : ℕ → ℕ) (header : Header) (who : ℕ) (lines
 
 -- what was asked stays so
 pub was-longer : (header : Header) (who : ℕ) (now : Numbered) (older : List Numbered) (originate : Stamp) (ask : ℕ)
-    → WasAsked originate ask (history_of who header older) → WasAsked originate ask (history_of who header (now ∷ older))
+    → WasAsked originate ask (history_of who header older)
+    → WasAsked originate ask (history_of who header (now ∷ older))
 was-longer header who now older originate ask h =
     let P : Entry → History → Type 0 = λ entry before. (request_by entry ≡ Some originate)
     × (asked : IsJustAsked originate before) × (ask ≡ length asked.before) in
@@ -149,7 +151,8 @@ was-longer header who now older originate ask h =
           subst (λ (x : History). WasAsked originate ask x) (sym (history_now header now older who own.1))
           (once_by P header who (datagrams header older) (events_of header older) now.line.verb
           (history_of who header older) h)
-      | inr other ↦ subst (λ (x : History). WasAsked originate ask x) (sym (history_other header now older who other.1)) h
+      | inr other ↦ subst (λ (x : History). WasAsked originate ask x) (sym (history_other header now older who other.1))
+          h
     ]
 
 -- what was sent stays so
@@ -237,7 +240,8 @@ sent_each world moment_of header who (now ∷ older) number reading accepted agr
         count : (number == suc (length (requests older))) ≡ (number == suc (length (askers older)))
         count = ap (λ n. number == suc n) (sym (askers_count older))
 
-        at : (b : Bool) → (number == suc (length (requests older))) ≡ b → IsSent moment_of header who (now ∷ older) reading
+        at : (b : Bool) → (number == suc (length (requests older))) ≡ b
+            → IsSent moment_of header who (now ∷ older) reading
         at true newest =
             let same = numbered-newest number asked (requests older) reading newest p in
             let own = numbered-newest number now.line.who (askers older) who (sym count ∙ newest) q in
@@ -311,7 +315,8 @@ pub taken_each : (world : World) (moment_of : ℕ → ℕ) (header : Header) (wh
     → IsTaken world moment_of header who lines ticket
 taken_each world moment_of header who [] number ticket accepted agreed p q = absurd (cc)
 taken_each world moment_of header who (now ∷ older) number ticket accepted agreed p q =
-    by now.line.verb accepted.0.verb (tv_near header older now (tested_ok header older now accepted.3.0 accepted.3.1)) p q
+    by now.line.verb accepted.0.verb (tv_near header older now (tested_ok header older now accepted.3.0 accepted.3.1)) p
+    q
     (λ u v. taken_each world moment_of header who older number ticket accepted.4 agreed.2 u v)
   where
     -- what was taken before stays so
@@ -356,7 +361,8 @@ taken_each world moment_of header who (now ∷ older) number ticket accepted agr
                 let own = numbered-newest number w (taken_for older) who (sym count ∙ newest) q in
                 let sent = sent_each world moment_of header who older request asked accepted.4 agreed.2 is
                 (whose ∙ ap Some own) in
-                taken-now world moment_of header who now older ticket reading asked range.reading agreed.0 near sent same
+                taken-now world moment_of header who now older ticket reading asked range.reading agreed.0 near sent
+                same
             at false older_one =
                 longer (earlier (numbered-older number new (tickets header older) ticket older_one p)
                 (numbered-older number w (taken_for older) who (sym count ∙ older_one) q))

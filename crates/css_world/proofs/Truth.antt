@@ -31,7 +31,8 @@ use Rattle.css_client.specs.declared.landing.Landing.TheVariants as landings
 use Rattle.css_span.specs.WallSpans.{span_of, wall_span}
 use Rattle.css_schedule.specs.declared.header.Header.{Header}
 use Rattle.css_schedule.specs.declared.line.Verb.{Verb}
-use Rattle.css_schedule.specs.declared.line.Verb.TheVariants.{Ask, Land, Wall, Print, Opening, Bring, Present, Close, Sleep}
+use Rattle.css_schedule.specs.declared.line.Verb.TheVariants.{Ask, Land, Wall, Print, Opening, Bring, Present, Close}
+use Rattle.css_schedule.specs.declared.line.Verb.TheVariants.{Sleep}
 use Rattle.css_world.specs.Happened.{Numbered, tickets, datagrams, bytes_of, events_of, history_of, peer}
 use Rattle.css_world.specs.Numbering.{numbered}
 use Rattle.css_world.specs.Worlds.{world_of, moment_number, errors_of}

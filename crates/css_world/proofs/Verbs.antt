@@ -209,7 +209,8 @@ module _ (header : Header) (lines : List Numbered) (who : ℕ) where
 
   -- one that doesn't can't
   pub cannot-open : (k : Kind) (old : Session) (fault : WorldFault)
-      → SessionStands (peer_of who k) (events_of header lines) (history_of who header lines) old → opened old ≡ Err fault
+      → SessionStands (peer_of who k) (events_of header lines) (history_of who header lines) old → opened old
+      ≡ Err fault
       → (can_happen header lines who (Opening k) ≡ false) × (fault ≡ Absent)
   cannot-open k old fault stands err =
       let own = history_of who header lines in
@@ -228,7 +229,8 @@ module _ (header : Header) (lines : List Numbered) (who : ℕ) where
       → SessionStands (peer_of who k) (events_of header lines) (history_of who header lines) old → opened old ≡ Ok new
       → SessionCarries new true true (told_to (peer_of who k) (events_of header lines))
       (heard_from (peer_of who k) (history_of who header lines))
-      (written_to (peer_of who k) (history_of who header lines)) (received_from (peer_of who k) (events_of header lines))
+      (written_to (peer_of who k) (history_of who header lines))
+      (received_from (peer_of who k) (events_of header lines))
   opens k old new first accepted stands ok =
       let events = events_of header lines in
       let own = history_of who header lines in
@@ -256,7 +258,8 @@ module _ (header : Header) (lines : List Numbered) (who : ℕ) where
 
   -- one that doesn't isn't
   pub cannot-close : (k : Kind) (old : Session) (fault : WorldFault)
-      → SessionStands (peer_of who k) (events_of header lines) (history_of who header lines) old → closed old ≡ Err fault
+      → SessionStands (peer_of who k) (events_of header lines) (history_of who header lines) old → closed old
+      ≡ Err fault
       → (can_happen header lines who (Close k) ≡ false) × (fault ≡ Absent)
   cannot-close k old fault stands err =
       let own = history_of who header lines in
@@ -267,7 +270,8 @@ module _ (header : Header) (lines : List Numbered) (who : ℕ) where
       → SessionStands (peer_of who k) (events_of header lines) (history_of who header lines) old → closed old ≡ Ok new
       → SessionCarries new false (was_opened (peer_of who k) (history_of who header lines))
       (told_to (peer_of who k) (events_of header lines))
-      (heard_from (peer_of who k) (history_of who header lines)) (written_to (peer_of who k) (history_of who header lines))
+      (heard_from (peer_of who k) (history_of who header lines))
+      (written_to (peer_of who k) (history_of who header lines))
       (received_from (peer_of who k) (events_of header lines))
   closes k old new stands ok =
       let events = events_of header lines in
@@ -308,7 +312,8 @@ module _ (header : Header) (lines : List Numbered) (who : ℕ) where
 
   -- so it is of the companion's texts
   pub can-raise : (old : Session) (text : List ℕ)
-      → SessionStands (ts_of who) (events_of header lines) (history_of who header lines) old → first_in old.phase old.up ≡ Some text
+      → SessionStands (ts_of who) (events_of header lines) (history_of who header lines) old → first_in old.phase old.up
+      ≡ Some text
       → (is_open (ts_of who) (history_of who header lines) ≡ true)
       × (next_up who (events_of header lines) (history_of who header lines) ≡ Some text)
       × (can_happen header lines who Up ≡ true)
@@ -319,10 +324,12 @@ module _ (header : Header) (lines : List Numbered) (who : ℕ) where
 
   -- where none is, none goes up
   pub cannot-raise : (old : Session)
-      → SessionStands (ts_of who) (events_of header lines) (history_of who header lines) old → first_in old.phase old.up ≡ None
+      → SessionStands (ts_of who) (events_of header lines) (history_of who header lines) old → first_in old.phase old.up
+      ≡ None
       → can_happen header lines who Up ≡ false
   cannot-raise old stands is =
-      no-text (is_open (ts_of who) (history_of who header lines)) (next_up who (events_of header lines) (history_of who header lines))
+      no-text (is_open (ts_of who) (history_of who header lines))
+      (next_up who (events_of header lines) (history_of who header lines))
       (sym (first-up stands) ∙ is)
 
   -- the next text of the companion is what happens at the television
@@ -515,14 +522,16 @@ module _ (old : World) (lines : List Numbered) (number t w who l : ℕ) where
       → AllArePlayed (events_of old.header lines) e tv (slice_set old.lanes (who - 1) between) played
       → KeepsAllButTexts (slice_set old.lanes (who - 1) between) played
       → (n : ℕ) (lane : Lane) → stored played n ≡ Some lane → n ≢ who
-      → LaneStands n (events_of old.header (own_line number t w who l verb ∷ lines)) (history_of n old.header lines) lane
+      → LaneStands n (events_of old.header (own_line number t w who l verb ∷ lines)) (history_of n old.header lines)
+      lane
   others_played verb e tv between played ends first is apart all kept n lane found differs =
       let events = events_of old.header lines in
       let was = was_before n events e tv (slice_set old.lanes (who - 1) between) played lane all kept found in
       let there = sym (set_others old.lanes who n between first differs) ∙ was.found in
       subst (λ (es : List TvEvent). LaneStands n es (history_of n old.header lines) lane) (sym is)
       (other_played n events e (history_of n old.header lines) was.lane lane
-      (λ k. apart n k (stored_within played n lane found).0 differs) (ends.lanes n was.lane there) was.done was.companion)
+      (λ k. apart n k (stored_within played n lane found).0 differs) (ends.lanes n was.lane there) was.done
+      was.companion)
 
   -- all lanes, where the own one isn't changed after that
   event_lanes : (verb : Verb) (e : TvEvent) (tv : Tv) (between : Lane) (played : List Lane) → EndsStand old lines

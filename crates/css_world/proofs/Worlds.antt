@@ -116,14 +116,16 @@ reading-ok header older now e = second_ok (shown_tested header older now) (readi
 pub seen_own : (now : Numbered) (older : List Numbered) (who : ℕ) → now.line.who ≡ who
     → seen_of who (now ∷ older) ≡ own_seen now ∷ seen_of who older
 seen_own now older who is =
-    ap (λ b. map own_seen (cond b (now ∷ filter (λ n. n.line.who == who) older) (filter (λ n. n.line.who == who) older)))
+    ap (λ b. map own_seen (cond b (now ∷ filter (λ n. n.line.who == who) older)
+    (filter (λ n. n.line.who == who) older)))
     (eq-eqb now.line.who who is)
 
 -- and at one of another companion
 pub seen_other : (now : Numbered) (older : List Numbered) (who : ℕ) → now.line.who ≢ who
     → seen_of who (now ∷ older) ≡ seen_of who older
 seen_other now older who other =
-    ap (λ b. map own_seen (cond b (now ∷ filter (λ n. n.line.who == who) older) (filter (λ n. n.line.who == who) older)))
+    ap (λ b. map own_seen (cond b (now ∷ filter (λ n. n.line.who == who) older)
+    (filter (λ n. n.line.who == who) older)))
     (ne_eqb now.line.who who other)
 
 -- how often it slept, by whether the newest line is a sleep of its own
@@ -134,7 +136,8 @@ sleeps-now now older who b is =
     let slept = filter (λ n. is_sleep n.line.verb && (n.line.who == who)) older in
     ap (λ c. length (cond c (now ∷ slept) slept)) is ∙ by b slept
   where
-    by : (b : Bool) (slept : List Numbered) → length (cond b (now ∷ slept) slept) ≡ cond b (suc (length slept)) (length slept)
+    by : (b : Bool) (slept : List Numbered)
+        → length (cond b (now ∷ slept) slept) ≡ cond b (suc (length slept)) (length slept)
     by true slept = refl
     by false slept = refl
 
@@ -230,7 +233,8 @@ sleeps_order who (now ∷ older) i j a b le p q =
     (sym (ap (λ (m : Moment). m.companion who) (world-older now older i first)) ∙ p)
     (sym (ap (λ (m : Moment). m.companion who) (world-older now older j below)) ∙ q))
     (λ above.
-    let later = clock-is who b older now (sym (ap (λ (m : Moment). m.companion who) (world-now now older j above)) ∙ q) in
+    let later = clock-is who b older now (sym (ap (λ (m : Moment). m.companion who) (world-now now older j above)) ∙ q)
+    in
     omega (arith, clock_sleeps who (now ∷ older) i a p, later.sleeps))
 
 -- ---- what is told
@@ -259,7 +263,8 @@ lately_at who P (now ∷ older) i a each e same = elim (eqb_tells now.line.who w
       let at : (world_of (now ∷ older) i) ≡ world_of older i = world-older now older i below in
       let before : (world_of older i).companion who ≡ Some a = sym (ap (λ (m : Moment). m.companion who) at) ∙ e in
       subst (λ (m : Moment). P m.time a.value) (sym at)
-      (by (is_sleep now.line.verb) refl own.1 before (all-tail Q shown (drifts.shown_lately (ToldNow who now older)) here)
+      (by (is_sleep now.line.verb) refl own.1 before (all-tail Q shown (drifts.shown_lately (ToldNow who now older))
+      here)
       (λ rest e slept. lately_at who P older i a rest e slept)))
       (λ above.
       let at = world-now now older i above in
@@ -269,7 +274,8 @@ lately_at who P (now ∷ older) i a each e same = elim (eqb_tells now.line.who w
   | inr other ↦
       let Q : Shown → Type 0 = λ s. P s.time s.value in
       let rest : All Q (drifts.shown_lately (told_by (seen_of who older))) =
-      subst (λ (seen : List Seen). All Q (drifts.shown_lately (told_by seen))) (seen_other now older who other.1) each in
+      subst (λ (seen : List Seen). All Q (drifts.shown_lately (told_by seen))) (seen_other now older who other.1) each
+      in
       place i (length older)
       (λ below.
       let at = world-older now older i below in
@@ -277,14 +283,16 @@ lately_at who P (now ∷ older) i a each e same = elim (eqb_tells now.line.who w
       (lately_at who P older i a rest (sym (ap (λ (m : Moment). m.companion who) at) ∙ e)
       (same ∙ sleeps_other now older who other.1)))
       (λ above.
-      let is = clock-is who a older now (sym (ap (λ (m : Moment). m.companion who) (world-now now older i above)) ∙ e) in
+      let is = clock-is who a older now (sym (ap (λ (m : Moment). m.companion who) (world-now now older i above)) ∙ e)
+      in
       absurd (other.1 is.of_line))
 ]
   where
     by : (woke : Bool) → is_sleep now.line.verb ≡ woke → now.line.who ≡ who → (world_of older i).companion who ≡ Some a
         → All (λ (s : Shown). P s.time s.value) (drifts.shown_lately (told_with woke (told_by (seen_of who older))))
         → (All (λ (s : Shown). P s.time s.value) (drifts.shown_lately (told_by (seen_of who older)))
-        → (world_of older i).companion who ≡ Some a → a.sleeps ≡ sleeps_of who older → P (world_of older i).time a.value)
+        → (world_of older i).companion who ≡ Some a → a.sleeps ≡ sleeps_of who older
+        → P (world_of older i).time a.value)
         → P (world_of older i).time a.value
     by true woke own before rest earlier =
         absurd (omega (arith, clock_sleeps who older i a before, same, sleeps_woke now older who own woke))
@@ -321,7 +329,8 @@ own_two who error (now ∷ older) i j a b pairs le p q same =
     before : EachPair error (told_by (seen_of who older))
     before = elim (eqb_tells now.line.who who) [
       | inl own ↦
-          let whole = subst (λ (seen : List Seen). EachPair error (told_by seen)) (seen_own now older who own.1) pairs in
+          let whole = subst (λ (seen : List Seen). EachPair error (told_by seen)) (seen_own now older who own.1) pairs
+          in
           pairs_older error (is_sleep now.line.verb) (told_by (seen_of who older)) whole.2
       | inr other ↦ subst (λ (seen : List Seen). EachPair error (told_by seen)) (seen_other now older who other.1) pairs
     ]
@@ -393,7 +402,8 @@ tv_two error (now ∷ older) i j pairs le =
     place j (length older)
     (λ below.
     let first : i < length older = omega (arith, le, below) in
-    both (sym (world-older now older i first)) (sym (world-older now older j below)) (tv_two error older i j pairs.2 le))
+    both (sym (world-older now older i first)) (sym (world-older now older j below))
+    (tv_two error older i j pairs.2 le))
     (λ above.
     place i (length older)
     (λ below. both (sym (world-older now older i below)) (sym (world-now now older j above)) (
@@ -436,7 +446,8 @@ next_older number last [] next above = tt
 next_older number last (first ∷ older) next above = omega (arith, next, above)
 
 -- it is above that of the last line of a companion
-pub next_own : (header : Header) (who number : ℕ) (older : List Numbered) → AreAccepted header older → IsNext number older
+pub next_own : (header : Header) (who number : ℕ) (older : List Numbered) → AreAccepted header older
+    → IsNext number older
     → drifts.IsNext (drifts.last_shown (told_by (seen_of who older))) number
 next_own header who number [] accepted next = tt
 next_own header who number (last ∷ older) accepted next = elim (eqb_tells last.line.who who) [
@@ -481,7 +492,8 @@ own_accepted header who (now ∷ older) first accepted = elim (eqb_tells now.lin
 
 -- ---- the world
 -- a moment gives the clock of no companion with the number 0
-first_of : (who : ℕ) (lines : List Numbered) (i : ℕ) (a : OwnClock) → (world_of lines i).companion who ≡ Some a → 1 ≤ who
+first_of : (who : ℕ) (lines : List Numbered) (i : ℕ) (a : OwnClock) → (world_of lines i).companion who ≡ Some a
+    → 1 ≤ who
 first_of who [] i a e = absurd (cc)
 first_of who (now ∷ older) i a e =
     place i (length older)

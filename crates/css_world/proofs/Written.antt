@@ -1,5 +1,6 @@
 -- One lane of a world is written over: what is always true stays so, and no clock is touched.
-use Rattle.std.proofs.Common.{◌≡◌, ◌≤◌, ◌-◌, ◌+◌, ℕ, arith, List, length, refl, ap, sym, subst, ◌∙◌, true, false, length-set}
+use Rattle.std.proofs.Common.{◌≡◌, ◌≤◌, ◌-◌, ◌+◌, ℕ, arith, List, length, refl, ap, sym, subst, ◌∙◌, true, false}
+use Rattle.std.proofs.Common.{length-set}
 use Rattle.std.specs.Prelude.{Some, Result, Ok, Err, IfErr, slice_set, map, max}
 use Rattle.css_model.specs.Numbers.{precision_ns}
 use Rattle.css_client.specs.Clients.{local_of}

@@ -9,9 +9,9 @@ use Rattle.css_world.specs.Standing.{World}
 use Rattle.css_world.specs.Truth.{IsCompanionOf}
 use Rattle.css_world.specs.declared.lane.Lane.{Lane}
 
--- This is companion `who` of the world, which the header has. It takes its own clock for what the header declares of it, and asks the
--- television for what is wanted there. It may be asked for a report at the last reading of its clock and at each later
--- one; where it slept since, above that reading.
+-- This is companion `who` of the world, which the header has. It takes its own clock for what the header declares of
+-- it, and asks the television for what is wanted there. It may be asked for a report at the last reading of its clock
+-- and at each later one; where it slept since, above that reading.
 pub record MayBeAsked (world : World) (who : ℕ) (companion : Companion) : Type 0 where
   pub number : IsCompanionOf world.header who
   pub lane : Lane

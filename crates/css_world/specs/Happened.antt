@@ -1,5 +1,6 @@
 -- What the lines of a schedule say that its ends did. In each list the newest stands first.
-use Rattle.std.specs.Prelude.{ℕ, ◌==◌, ◌&&◌, Bool, false, if◌then◌else◌, List, [], ◌∷◌, ◌++◌, Option, Some, None, map, unwrap_or}
+use Rattle.std.specs.Prelude.{ℕ, ◌==◌, ◌&&◌, Bool, false, if◌then◌else◌, List, [], ◌∷◌, ◌++◌, Option, Some, None, map}
+use Rattle.std.specs.Prelude.{unwrap_or}
 use Rattle.std.specs.Option.{option_map, option_to_list}
 use Rattle.std.specs.List.{list_any}
 use Rattle.css_model.specs.declared.Message.{Message}

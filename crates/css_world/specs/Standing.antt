@@ -180,8 +180,8 @@ abbrev pub IsNext : ℕ → List Numbered → Type 0
 IsNext number [] = Unit {0}
 IsNext number (last ∷ older) = last.number < number
 
--- Each line was accepted after those before it: it is in range, of one of the companions or of the television alone, and
--- printed.
+-- Each line was accepted after those before it: it is in range, of one of the companions or of the television alone,
+-- and printed.
 abbrev pub AreAccepted : Header → List Numbered → Type 0
 AreAccepted header [] = Unit {0}
 AreAccepted header (now ∷ older) =

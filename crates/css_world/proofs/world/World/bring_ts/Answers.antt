@@ -56,7 +56,8 @@ pub returns-in_err-text-clause-clocks : goal.returns-in_err-text-clause-clocks
 returns-in_err-text-clause-clocks c =
     let old : World = inside_of c.self.inside in
     let lane = c.lane-lane.result.now in
-    clocks_kept c.args.self.now old _ c.args.who lane (record lane { ts = c.next_down.new.self }) c.self.view_is c.lane-lane.ensures.value
+    clocks_kept c.args.self.now old _ c.args.who lane (record lane { ts = c.next_down.new.self }) c.self.view_is
+    c.lane-lane.ensures.value
     refl refl refl refl
 
 pub returns-clause-clocks : goal.returns-clause-clocks
@@ -72,7 +73,8 @@ invariant_of-self c =
     let lane = c.lane-lane.result.now in
     let who = c.args.who in
     let found = c.lane-lane.ensures.value in
-    still_kept c.args.self.now old _ who lane (record lane { ts = c.next_down.new.self }) c.self.invariant c.self.view_is
+    still_kept c.args.self.now old _ who lane (record lane { ts = c.next_down.new.self }) c.self.invariant
+    c.self.view_is
     c.requires.who found refl refl refl refl refl refl
 
 pub invariant_of-self-in_err-attend : goal.invariant_of-self-in_err-attend
@@ -100,7 +102,8 @@ returns-in_err-text-clause-refused c =
     let who = c.args.who in
     let found = c.lane-lane.ensures.value in
     refused_kept c.args.self.now _ c.from_residual.result
-    (both_kept c.args.self.now old _ who lane (record lane { ts = c.next_down.new.self }) c.self.view_is found refl refl refl)
+    (both_kept c.args.self.now old _ who lane (record lane { ts = c.next_down.new.self }) c.self.view_is found refl refl
+    refl)
 
 pub returns-in_err-attend-clause-clocks : goal.returns-in_err-attend-clause-clocks
 returns-in_err-attend-clause-clocks c =

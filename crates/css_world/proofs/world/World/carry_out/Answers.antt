@@ -5,7 +5,8 @@ use Rattle.std.specs.Int.{w64}
 use Rattle.std.proofs.lemmas.Int.{to_z-of_z}
 use Rattle.css_tv.specs.declared.event.TvEvent.TheVariants as event
 use Rattle.css_schedule.specs.declared.line.Verb.TheVariants.{Ask, Take, Give, Land, Wall, Print, Programme}
-use Rattle.css_schedule.specs.declared.line.Verb.TheVariants.{Timeline, Viewer, Opening, Bring, Up, Present, Close, Sleep}
+use Rattle.css_schedule.specs.declared.line.Verb.TheVariants.{Timeline, Viewer, Opening, Bring, Up, Present, Close}
+use Rattle.css_schedule.specs.declared.line.Verb.TheVariants.{Sleep}
 use Rattle.css_schedule.specs.Ranges.{IsVerb}
 use Rattle.css_companion.specs.Printed.{line_of}
 use Rattle.css_world.specs.Happened.{Numbered}
@@ -25,47 +26,56 @@ base-fits (negsuc n) small = record { sfits = omega (arith, small) }
 
 pub ask-requires-clause-who : goal.ask-requires-clause-who
 ask-requires-clause-who c =
-    is_number c.args.self.now c.args.line (Ask c.in-Ask.reading) (subst IsWorld c.self.view_is c.self.invariant) c.requires.of
+    is_number c.args.self.now c.args.line (Ask c.in-Ask.reading) (subst IsWorld c.self.view_is c.self.invariant)
+    c.requires.of
     c.in-Ask.is refl
 
 pub land-requires-clause-who : goal.land-requires-clause-who
 land-requires-clause-who c =
-    is_number c.args.self.now c.args.line (Land c.in-Land.datagram c.in-Land.reading) (subst IsWorld c.self.view_is c.self.invariant) c.requires.of
+    is_number c.args.self.now c.args.line (Land c.in-Land.datagram c.in-Land.reading)
+    (subst IsWorld c.self.view_is c.self.invariant) c.requires.of
     c.in-Land.is refl
 
 pub wall-requires-clause-who : goal.wall-requires-clause-who
 wall-requires-clause-who c =
-    is_number c.args.self.now c.args.line (Wall c.in-Wall.reading) (subst IsWorld c.self.view_is c.self.invariant) c.requires.of
+    is_number c.args.self.now c.args.line (Wall c.in-Wall.reading) (subst IsWorld c.self.view_is c.self.invariant)
+    c.requires.of
     c.in-Wall.is refl
 
 pub print-requires-clause-who : goal.print-requires-clause-who
 print-requires-clause-who c =
-    is_number c.args.self.now c.args.line (Print c.in-Print.reading) (subst IsWorld c.self.view_is c.self.invariant) c.requires.of
+    is_number c.args.self.now c.args.line (Print c.in-Print.reading) (subst IsWorld c.self.view_is c.self.invariant)
+    c.requires.of
     c.in-Print.is refl
 
 pub open-requires-clause-who : goal.open-requires-clause-who
 open-requires-clause-who c =
-    is_number c.args.self.now c.args.line (Opening c.in-Opening.kind) (subst IsWorld c.self.view_is c.self.invariant) c.requires.of
+    is_number c.args.self.now c.args.line (Opening c.in-Opening.kind) (subst IsWorld c.self.view_is c.self.invariant)
+    c.requires.of
     c.in-Opening.is refl
 
 pub bring-requires-clause-who : goal.bring-requires-clause-who
 bring-requires-clause-who c =
-    is_number c.args.self.now c.args.line (Bring c.in-Bring.kind) (subst IsWorld c.self.view_is c.self.invariant) c.requires.of
+    is_number c.args.self.now c.args.line (Bring c.in-Bring.kind) (subst IsWorld c.self.view_is c.self.invariant)
+    c.requires.of
     c.in-Bring.is refl
 
 pub up-requires : goal.up-requires
 up-requires c = record {
-  who = is_number c.args.self.now c.args.line Up (subst IsWorld c.self.view_is c.self.invariant) c.requires.of c.in-Up.is refl;
+  who = is_number c.args.self.now c.args.line Up (subst IsWorld c.self.view_is c.self.invariant) c.requires.of
+      c.in-Up.is refl;
 }
 
 pub present-requires-clause-who : goal.present-requires-clause-who
 present-requires-clause-who c =
-    is_number c.args.self.now c.args.line (Present c.in-Present.earliest c.in-Present.latest) (subst IsWorld c.self.view_is c.self.invariant) c.requires.of
+    is_number c.args.self.now c.args.line (Present c.in-Present.earliest c.in-Present.latest)
+    (subst IsWorld c.self.view_is c.self.invariant) c.requires.of
     c.in-Present.is refl
 
 pub close-requires-clause-who : goal.close-requires-clause-who
 close-requires-clause-who c =
-    is_number c.args.self.now c.args.line (Close c.in-Close.kind) (subst IsWorld c.self.view_is c.self.invariant) c.requires.of
+    is_number c.args.self.now c.args.line (Close c.in-Close.kind) (subst IsWorld c.self.view_is c.self.invariant)
+    c.requires.of
     c.in-Close.is refl
 
 pub sleep-requires-clause-who : goal.sleep-requires-clause-who
@@ -109,7 +119,8 @@ returns-in-Timeline-clause-prints c =
     prints_nothing c.args.self.now c.happen-in-Timeline.new.self c.args.out.now.items c.happen-in-Timeline.result
     (record { number = c.args.number; line = c.args.line })
     (Timeline c.in-Timeline.programme c.in-Timeline.selector c.in-Timeline.rate c.in-Timeline.base) c.in-Timeline.is
-    (λ lines. refl) (c.happen-in-Timeline.ensures.carries c.args.line.who (Timeline c.in-Timeline.programme c.in-Timeline.selector
+    (λ lines. refl) (c.happen-in-Timeline.ensures.carries c.args.line.who
+    (Timeline c.in-Timeline.programme c.in-Timeline.selector
     c.in-Timeline.rate c.in-Timeline.base)
     (ap (λ base. event.AddTimeline c.in-Timeline.programme c.in-Timeline.selector c.in-Timeline.rate base)
     (to_z-of_z w64 c.in-Timeline.base
@@ -120,7 +131,8 @@ returns-in-Viewer-clause-prints c =
     prints_nothing c.args.self.now c.happen-in-Viewer.new.self c.args.out.now.items c.happen-in-Viewer.result
     (record { number = c.args.number; line = c.args.line })
     (Viewer c.in-Viewer.reading c.in-Viewer.command) c.in-Viewer.is
-    (λ lines. refl) (c.happen-in-Viewer.ensures.carries c.args.line.who (Viewer c.in-Viewer.reading c.in-Viewer.command) refl)
+    (λ lines. refl) (c.happen-in-Viewer.ensures.carries c.args.line.who (Viewer c.in-Viewer.reading c.in-Viewer.command)
+    refl)
 
 pub returns-in-Opening-clause-prints : goal.returns-in-Opening-clause-prints
 returns-in-Opening-clause-prints c =

@@ -52,14 +52,16 @@ returns-in_ok-store-2-clause-carries c = λ who lines now own is ready.
     ap (λ (items : List ℕ). stored items c.args.take) (sym c.deref.ensures.value) ∙ sym c.owner.ensures
     ∙ c.in_ok-asker.ensures.ok_part in
     let done = given old lines now.number now.line.t now.line.w who now.line.l c.args.take c.args.reading
-    c.in_ok-asker.asker was.0 c.give.new.self c.store-in-Some.new.datagrams.items c.store-in-Some.new.owners.items stood.ends was.1 whose
+    c.in_ok-asker.asker was.0 c.give.new.self c.store-in-Some.new.datagrams.items c.store-in-Some.new.owners.items
+    stood.ends was.1 whose
     c.give.ensures.rest.1 c.give.ensures.takes
     (both_made old.header was.0 c.args.reading c.in_ok-answered.answered c.in-Some.follow_up old.datagrams
     c.store.new.datagrams.items c.store-in-Some.new.datagrams.items (datagrams old.header lines) answer c.in-Some.is
     c.in_ok-store.ensures.datagrams c.in_ok-store-2.ensures.datagrams stood.ends.datagrams)
     (both_owned c.in_ok-asker.asker c.in_ok-answered.answered.follow_up c.in-Some.follow_up
     (follow_up_for (server_of old.header) was.0 c.args.reading) old.made_for c.store.new.owners.items
-    c.store-in-Some.new.owners.items answer.follow_up c.in-Some.is c.in_ok-store.ensures.owners c.in_ok-store-2.ensures.owners) in
+    c.store-in-Some.new.owners.items answer.follow_up c.in-Some.is c.in_ok-store.ensures.owners
+    c.in_ok-store-2.ensures.owners) in
     let ok : Result (Unit {0}) WorldFault = Ok tt in
     record {
       answer = subst (λ (w : World). carried w.header lines who (Give c.args.take c.args.reading) ≡ ok) c.self.view_is
@@ -79,7 +81,8 @@ returns-in_default-clause-carries c = λ who lines now own is ready.
     ap (λ (items : List ℕ). stored items c.args.take) (sym c.deref.ensures.value) ∙ sym c.owner.ensures
     ∙ c.in_ok-asker.ensures.ok_part in
     let done = given old lines now.number now.line.t now.line.w who now.line.l c.args.take c.args.reading
-    c.in_ok-asker.asker was.0 c.give.new.self c.store.new.datagrams.items c.store.new.owners.items stood.ends was.1 whose
+    c.in_ok-asker.asker was.0 c.give.new.self c.store.new.datagrams.items c.store.new.owners.items stood.ends was.1
+    whose
     c.give.ensures.rest.1 c.give.ensures.takes
     (alone_made old.header was.0 c.args.reading c.in_ok-answered.answered old.datagrams
     c.store.new.datagrams.items (datagrams old.header lines) answer c.in_default.is

@@ -120,7 +120,8 @@ returns-in_err-open-clause-clocks c =
     let lane = c.lane-lane.result.now in
     let who = c.args.who in
     let found = c.lane-lane.ensures.value in
-    clocks_kept c.args.self.now old _ who lane (record lane { ts = c.open.new.self }) c.self.view_is found refl refl refl refl
+    clocks_kept c.args.self.now old _ who lane (record lane { ts = c.open.new.self }) c.self.view_is found refl refl
+    refl refl
 
 pub returns-in_err-play-clause-clocks : goal.returns-in_err-play-clause-clocks
 returns-in_err-play-clause-clocks c =
@@ -139,7 +140,8 @@ returns-in_err-open-clause-refused c =
     let who = c.args.who in
     let found = c.lane-lane.ensures.value in
     refused_kept c.args.self.now _ c.from_residual.result
-    (both_kept c.args.self.now old _ who lane (record lane { ts = c.open.new.self }) c.self.view_is found refl refl refl)
+    (both_kept c.args.self.now old _ who lane (record lane { ts = c.open.new.self }) c.self.view_is found refl refl
+    refl)
 
 pub returns-in_err-play-clause-refused : goal.returns-in_err-play-clause-refused
 returns-in_err-play-clause-refused c =

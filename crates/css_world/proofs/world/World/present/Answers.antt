@@ -27,7 +27,8 @@ returns-clause-carries c = λ lines now own is ready.
     let found = c.lane-lane.ensures.value in
     let ok : Result (Unit {0}) WorldFault = Ok tt in
     let live : lane.ts.phase ≡ phases.Open = search rules in
-    let can = can-present old.header lines who c.args.earliest c.args.latest lane.ts (stood.ends.lanes who lane found).ts
+    let can = can-present old.header lines who c.args.earliest c.args.latest lane.ts
+    (stood.ends.lanes who lane found).ts
     live in
     record {
       answer = subst (λ (w : World). carried w.header lines who (Present c.args.earliest c.args.latest) ≡ ok)

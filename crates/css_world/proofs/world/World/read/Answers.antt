@@ -10,7 +10,8 @@ use Rattle.css_world.proofs.Delivered.{ok_then}
 use Rattle.css_world.proofs.Inside.{inside_of}
 use Rattle.css_world.proofs.Showing.{still_clocked, ends_kept, drifts_kept}
 use Rattle.css_world.proofs.Reading.{own_read, read_lane, woken_lane, knows_read, knows_slept}
-use Rattle.css_world.proofs.Reading.{readings_tv, readings_none, readings_own, on_both, has_read, has_woken_now, reads_own}
+use Rattle.css_world.proofs.Reading.{readings_tv, readings_none, readings_own, on_both, has_read, has_woken_now}
+use Rattle.css_world.proofs.Reading.{reads_own}
 use Rattle.css_world.proofs.world.World.read.Goals as goal
 
 pub invariant_of-self : goal.invariant_of-self
@@ -131,7 +132,8 @@ pub returns-in-Sleep-clause-ends : goal.returns-in-Sleep-clause-ends
 returns-in-Sleep-clause-ends c =
     let old : World = inside_of c.self.inside in
     let lane = c.lane-lane.result.now in
-    ends_kept c.args.self.now old _ c.args.line.now.who lane (record lane { clock = record lane.clock { woken = true } })
+    ends_kept c.args.self.now old _ c.args.line.now.who lane
+    (record lane { clock = record lane.clock { woken = true } })
     c.self.view_is c.lane-lane.ensures.value refl refl refl refl refl refl refl refl refl refl refl refl
 
 pub returns-in-Sleep-clause-drifts : goal.returns-in-Sleep-clause-drifts

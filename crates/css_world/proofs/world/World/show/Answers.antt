@@ -81,7 +81,8 @@ invariant_of-self-2 c =
     let tv = record old.tv { clock = c.show.new.self } in
     let shown : World = record old { tv = tv } in
     let was : IsWorld shown =
-    still_timed old shown c.self.invariant refl c.show.ensures.rest.0 c.show.ensures.rest.1 c.show.ensures.rest.3 refl refl
+    still_timed old shown c.self.invariant refl c.show.ensures.rest.0 c.show.ensures.rest.1 c.show.ensures.rest.3 refl
+    refl
     in
     still_clocked shown _ who lane c.show-2.new.self was found refl refl refl
     (shown_lane old.header who lane c.show-2.new.self (c.self.invariant.lanes who lane found)

@@ -68,7 +68,8 @@ returns-in_err-request-clause-carries c = λ who lines now own is ready.
     let told : carried old.header lines who (Take c.args.request c.args.reading) ≡ Err exit.0 =
     carried-not old.header lines who (Take c.args.request c.args.reading)
     (none-sent old lines who c.args.request c.args.reading stood.ends missing) ∙ ap Err (sym (exit.2 ∙ none.1)) in
-    refuses c.args.self.now _ c.from_residual-in_err-request.result lines now who (Take c.args.request c.args.reading) exit.0 exit.1
+    refuses c.args.self.now _ c.from_residual-in_err-request.result lines now who (Take c.args.request c.args.reading)
+    exit.0 exit.1
     (inl (subst (λ (w : World). carried w.header lines who (Take c.args.request c.args.reading) ≡ Err exit.0)
     c.self.view_is told))
 
