@@ -20,7 +20,7 @@ use Rattle.css_world.proofs.Ends.{events_with}
 use Rattle.css_world.specs.Standing.{AreAccepted}
 use Rattle.css_world.proofs.Peers.{cii_of, ts_of, cii-ts, ts-cii}
 use Rattle.css_world.proofs.Entries.{dialled-kind, dialled-was, dialled-kind_apart, dialled-was_apart, wrote-apart}
-use Rattle.css_world.proofs.Staging.{IsKeptBy, each_end, never_opened}
+use Rattle.css_world.proofs.Staged.{IsKeptBy, each_end, never_opened}
 use Rattle.css_tsmsg.specs.Presentations.{presentation_text}
 use Rattle.css_tsmsg.specs.Setups.{setup_text}
 use Rattle.css_companion.specs.Steps.{window}

@@ -30,7 +30,7 @@ use Rattle.css_world.specs.Sessions.{peer_of}
 use Rattle.css_world.specs.Happened.{Numbered, requests, askers, tickets, taken_for, datagrams, made_for, events_of}
 use Rattle.css_world.specs.Happened.{history_of}
 use Rattle.css_world.proofs.Numbers.{stored_same, part_kept, parts_kept}
-use Rattle.css_world.proofs.Worlds.{next_own}
+use Rattle.css_world.proofs.Accepting.{next_own}
 use Rattle.css_world.specs.Verdicts.{IsDeclared, seen_of_tv, seen_of, shown_tested, reading_tested}
 use Rattle.css_world.specs.Verdicts.{can_happen, event_at, played, printed_for, carried_out, line_meant}
 use Rattle.css_world.specs.Flights.{Session, SessionStands}

@@ -28,7 +28,8 @@ use Rattle.css_schedule.specs.declared.header.Header.{Header}
 use Rattle.css_world.specs.Sessions.{addresses, told_to}
 use Rattle.css_world.specs.Happened.{Numbered, event_by, events_of, history_of}
 use Rattle.css_world.specs.Standing.{AreAccepted}
-use Rattle.css_world.proofs.Staging.{IsStaged, IsSound, stage_by, staged_event, sound_now, staging}
+use Rattle.css_world.proofs.Staging.{IsStaged, IsSound, stage_by, staged_event}
+use Rattle.css_world.proofs.Staged.{sound_now, staging}
 
 -- ---- lists
 -- the newest stand first, and what was there before stays

@@ -38,7 +38,8 @@ use Rattle.css_world.specs.Standing.{AreAccepted}
 use Rattle.css_world.proofs.Peers.{cii_of, ts_of, cii-ts, ts-cii}
 use Rattle.css_world.proofs.Entries.{heard-one, heard-apart}
 use Rattle.css_world.proofs.Ends.{events_with}
-use Rattle.css_world.proofs.Staging.{IsStaged, IsSound, IsKeptBy, IsKeptApart, sound_by, each_end}
+use Rattle.css_world.proofs.Staging.{IsStaged, IsSound, sound_by}
+use Rattle.css_world.proofs.Staged.{IsKeptBy, IsKeptApart, each_end}
 use Rattle.css_world.proofs.Growing.{controls_of_life, controls_of_lived, LifeGrows, some_grows}
 use Rattle.css_world.proofs.Lives.{lived_after}
 use Rattle.css_world.proofs.Talking.{HasCii, HasTs, Exchanged, exchanged, IsLifeOf, HasTalked, cii_live, ts_live}

@@ -1,6 +1,7 @@
 pub mod Peers
 pub mod Ends
 pub mod Worlds
+pub mod Accepting
 pub mod Lawful
 pub mod Moments
 pub mod Tickets
@@ -14,13 +15,17 @@ pub mod Dialled
 pub mod News
 pub mod Delivered
 pub mod Carrying
+pub mod Answering
 pub mod Verbs
+pub mod AtTelevision
+pub mod AtSessions
 pub mod Going
 pub mod Appending
 pub mod Entries
 pub mod Opening
 pub mod Playing
 pub mod Staging
+pub mod Staged
 pub mod Growing
 pub mod Lives
 pub mod Talking

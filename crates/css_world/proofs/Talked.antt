@@ -38,7 +38,8 @@ use Rattle.css_world.proofs.Entries.{dialled-kind, dialled-open, closed-open, wr
 use Rattle.css_world.proofs.Entries.{dialled-kind_apart, dialled-open_apart, closed-open_apart, received_not}
 use Rattle.css_world.proofs.Ends.{events_with}
 use Rattle.css_world.proofs.Entries.{concerns}
-use Rattle.css_world.proofs.Staging.{AreBelow, IsSound, IsStaging, IsKeptBy, IsKeptApart, one_staged, each_end}
+use Rattle.css_world.proofs.Staging.{AreBelow, IsSound, IsStaging}
+use Rattle.css_world.proofs.Staged.{IsKeptBy, IsKeptApart, one_staged, each_end}
 use Rattle.css_world.proofs.Staging.{not_true}
 use Rattle.css_world.proofs.Lives.{LifeGoesOn, goes_on, shown_after, lived_after, opens_as, closes_as}
 use Rattle.css_world.proofs.Talking.{lived_as, published_addresses, HasCii, IsCiiOpened, HasCiiOf, HasTs, HasTsOf}

@@ -39,7 +39,8 @@ use Rattle.css_world.specs.Worlds.{world_of, moment_number, errors_of}
 use Rattle.css_world.specs.Verdicts.{local_of, IsDeclared, can_exchange}
 use Rattle.css_world.specs.Standing.{AreAccepted}
 use Rattle.css_world.specs.Truth.{IsTrueWall, IsPossibleLanding, AcceptedLinesAreTrue, AcceptedLinesAreWorld}
-use Rattle.css_world.proofs.Worlds.{carried_ok, keeps_errors}
+use Rattle.css_world.proofs.Worlds.{carried_ok}
+use Rattle.css_world.proofs.Accepting.{keeps_errors}
 use Rattle.css_world.proofs.Lawful.{done_at, IsTalk, each_talk, is_lawful}
 use Rattle.css_world.proofs.Ends.{history_now, history_other}
 use Rattle.css_world.proofs.Tickets.{AreHere}

@@ -6,19 +6,17 @@ use Rattle.std.specs.List.{filter}
 use Rattle.std.specs.Result.{result_and, result_map_both}
 use Rattle.std.proofs.lemmas.Bool.{lt-ltb, le-ltb, ltb-true, ltb-false, eqb-true, eq-eqb}
 use Rattle.std.proofs.lemmas.Bool.Decides.{eqb_tells}
-use Rattle.css_model.specs.World.{Moment, OwnClock, KeepsErrors, RunsWithin}
+use Rattle.css_model.specs.World.{Moment, OwnClock, RunsWithin}
 use Rattle.css_moments.specs.Drifts as drifts
 use Rattle.css_moments.specs.Drifts.{Shown, Told, Showed, Slept, EachPair}
-use Rattle.css_moments.proofs.Pairs.{accepted_keeps}
 use Rattle.css_schedule.specs.Owners.{is_sleep}
 use Rattle.css_schedule.specs.declared.header.Header.{Header}
 use Rattle.css_world.specs.Happened.{Numbered}
-use Rattle.css_world.specs.Worlds.{world_of, sleeps_of, errors_of, moment}
+use Rattle.css_world.specs.Worlds.{world_of, sleeps_of, moment}
 use Rattle.css_world.specs.Clocks.{Seen, shown_at, told_with, told_by, broken_by, clock_verdict}
 use Rattle.css_world.specs.Verdicts.{tv_seen, own_seen, seen_of_tv, seen_of, local_of, tested}
 use Rattle.css_world.specs.Verdicts.{own_shown_tested, shown_tested, reading_tested, carried_out, line_meant}
 use Rattle.css_world.specs.declared.fault.WorldFault.{WorldFault}
-use Rattle.css_world.specs.Standing.{AreAccepted, IsNext}
 
 -- ---- lists
 pub all-head : {A : Type 0} (P : A → Type 0) (x : A) (xs : List A) → All P (x ∷ xs) → P x
@@ -79,7 +77,7 @@ pub carried_ok : (header : Header) (older : List Numbered) (now : Numbered) (pri
 carried_ok header older now printed e = second_ok (tested header older now) (carried_out header older now) printed e
 
 -- what the wall clock shows at an accepted line is accepted
-tv_shown-ok : (header : Header) (older : List Numbered) (now : Numbered) → tested header older now ≡ Ok tt
+pub tv_shown-ok : (header : Header) (older : List Numbered) (now : Numbered) → tested header older now ≡ Ok tt
     → drifts.verdict header.tv_error (told_by (seen_of_tv older)) (shown_at (tv_seen now)) ≡ Ok tt
 tv_shown-ok header older now e =
     let shown = first_ok (shown_tested header older now) (reading_tested header older now) tt e in
@@ -89,7 +87,7 @@ tv_shown-ok header older now e =
     (drifts.verdict header.tv_error (told_by (seen_of_tv older)) (shown_at (tv_seen now))) wall.0 wall.1
 
 -- so is what its companion's clock shows
-own_shown-ok : (header : Header) (older : List Numbered) (now : Numbered) (who : ℕ) → 1 ≤ who → now.line.who ≡ who
+pub own_shown-ok : (header : Header) (older : List Numbered) (now : Numbered) (who : ℕ) → 1 ≤ who → now.line.who ≡ who
     → tested header older now ≡ Ok tt
     → drifts.verdict (local_of who header).error (told_with (is_sleep now.line.verb) (told_by (seen_of who older)))
     (shown_at (own_seen now)) ≡ Ok tt
@@ -176,13 +174,13 @@ sleeps_rise now older who =
 
 -- ---- the clock of one companion
 -- the newest line gives the clock of its companion
-record IsClock (who : ℕ) (clock : OwnClock) (older : List Numbered) (now : Numbered) : Type 0 where
-  of_line : now.line.who ≡ who
-  first : 1 ≤ who
-  value : now.line.l ≡ clock.value
-  sleeps : clock.sleeps ≡ sleeps_of who (now ∷ older)
+pub record IsClock (who : ℕ) (clock : OwnClock) (older : List Numbered) (now : Numbered) : Type 0 where
+  pub of_line : now.line.who ≡ who
+  pub first : 1 ≤ who
+  pub value : now.line.l ≡ clock.value
+  pub sleeps : clock.sleeps ≡ sleeps_of who (now ∷ older)
 
-clock-is : (who : ℕ) (clock : OwnClock) (older : List Numbered) (now : Numbered)
+pub clock-is : (who : ℕ) (clock : OwnClock) (older : List Numbered) (now : Numbered)
     → (moment older now).companion who ≡ Some clock → IsClock who clock older now
 clock-is who clock older now e = by (who == 0) (now.line.who == who) refl refl e
   where
@@ -222,7 +220,7 @@ clock_sleeps who (now ∷ older) i a e =
     omega (arith, is.sleeps))
 
 -- later it slept no less often
-sleeps_order : (who : ℕ) (lines : List Numbered) (i j : ℕ) (a b : OwnClock) → i ≤ j
+pub sleeps_order : (who : ℕ) (lines : List Numbered) (i j : ℕ) (a b : OwnClock) → i ≤ j
     → (world_of lines i).companion who ≡ Some a → (world_of lines j).companion who ≡ Some b → a.sleeps ≤ b.sleeps
 sleeps_order who [] i j a b le p q = absurd (cc)
 sleeps_order who (now ∷ older) i j a b le p q =
@@ -304,7 +302,7 @@ keeps-itself : (error time value : ℕ) → RunsWithin error time value time val
 keeps-itself error time value = (omega arith, omega arith)
 
 -- between two moments of one companion with no sleep between its clock keeps its error
-own_two : (who error : ℕ) (lines : List Numbered) (i j : ℕ) (a b : OwnClock)
+pub own_two : (who error : ℕ) (lines : List Numbered) (i j : ℕ) (a b : OwnClock)
     → EachPair error (told_by (seen_of who lines)) → i ≤ j
     → (world_of lines i).companion who ≡ Some a → (world_of lines j).companion who ≡ Some b → a.sleeps ≡ b.sleeps
     → RunsWithin error (world_of lines i).time a.value (world_of lines j).time b.value
@@ -394,7 +392,7 @@ tv_at P (now ∷ older) i each within =
     (drifts.all_shown (told_by (seen_of_tv older))) each))
 
 -- between two moments true time doesn't fall, and the wall clock keeps its error
-tv_two : (error : ℕ) (lines : List Numbered) (i j : ℕ) → EachPair error (told_by (seen_of_tv lines)) → i ≤ j
+pub tv_two : (error : ℕ) (lines : List Numbered) (i j : ℕ) → EachPair error (told_by (seen_of_tv lines)) → i ≤ j
     → ((world_of lines i).time ≤ (world_of lines j).time)
     × RunsWithin error (world_of lines i).time (world_of lines i).wall (world_of lines j).time (world_of lines j).wall
 tv_two error [] i j pairs le = (omega arith, (omega arith, omega arith))
@@ -421,99 +419,3 @@ tv_two error (now ∷ older) i j pairs le =
     both {m} {m'} {n} {n'} p q is =
         subst (λ (x : Moment). (x.time ≤ n'.time) × RunsWithin error x.time x.wall n'.time n'.wall) p
         (subst (λ (y : Moment). (m.time ≤ y.time) × RunsWithin error m.time m.wall y.time y.wall) q is)
-
--- ---- drifts accept the lines
--- the line's number is above that of the last one shown
-next_tv : (number : ℕ) (older : List Numbered) → IsNext number older
-    → drifts.IsNext (drifts.last_shown (told_by (seen_of_tv older))) number
-next_tv number [] next = tt
-next_tv number (last ∷ older) next = next
-
--- the drift of the wall clock accepts them
-tv_accepted : (header : Header) (lines : List Numbered) → AreAccepted header lines
-    → drifts.IsAccepted header.tv_error (told_by (seen_of_tv lines))
-tv_accepted header [] accepted = tt
-tv_accepted header (now ∷ older) accepted = (
-  next_tv now.number older accepted.2,
-  tv_shown-ok header older now (tested_ok header older now accepted.3.0 accepted.3.1),
-  tv_accepted header older accepted.4,
-)
-
--- a number that is next after a line is next after those before it
-next_older : (number : ℕ) (last : Numbered) (older : List Numbered) → IsNext last.number older → last.number < number
-    → IsNext number older
-next_older number last [] next above = tt
-next_older number last (first ∷ older) next above = omega (arith, next, above)
-
--- it is above that of the last line of a companion
-pub next_own : (header : Header) (who number : ℕ) (older : List Numbered) → AreAccepted header older
-    → IsNext number older
-    → drifts.IsNext (drifts.last_shown (told_by (seen_of who older))) number
-next_own header who number [] accepted next = tt
-next_own header who number (last ∷ older) accepted next = elim (eqb_tells last.line.who who) [
-  | inl own ↦
-      subst (λ (seen : List Seen). drifts.IsNext (drifts.last_shown (told_by seen)) number)
-      (sym (seen_own last older who own.1)) next
-  | inr other ↦
-      subst (λ (seen : List Seen). drifts.IsNext (drifts.last_shown (told_by seen)) number)
-      (sym (seen_other last older who other.1))
-      (next_own header who number older accepted.4 (next_older number last older accepted.2 next))
-]
-
--- a sleep before it changes neither
-asleep_next : (woke : Bool) (told : List Told) (number : ℕ) → drifts.IsNext (drifts.last_shown told) number
-    → drifts.IsNext (drifts.last_shown (told_with woke told)) number
-asleep_next true told number next = next
-asleep_next false told number next = next
-
-asleep_accepted : (error : ℕ) (woke : Bool) (told : List Told) → drifts.IsAccepted error told
-    → drifts.IsAccepted error (told_with woke told)
-asleep_accepted error true told accepted = accepted
-asleep_accepted error false told accepted = accepted
-
--- the drift of a companion's clock accepts its lines
-own_accepted : (header : Header) (who : ℕ) (lines : List Numbered) → 1 ≤ who → AreAccepted header lines
-    → drifts.IsAccepted (local_of who header).error (told_by (seen_of who lines))
-own_accepted header who [] first accepted = tt
-own_accepted header who (now ∷ older) first accepted = elim (eqb_tells now.line.who who) [
-  | inl own ↦
-      let error = (local_of who header).error in
-      let told = told_by (seen_of who older) in
-      let woke = is_sleep now.line.verb in
-      subst (λ (seen : List Seen). drifts.IsAccepted error (told_by seen)) (sym (seen_own now older who own.1)) (
-        asleep_next woke told now.number (next_own header who now.number older accepted.4 accepted.2),
-        own_shown-ok header older now who first own.1 (tested_ok header older now accepted.3.0 accepted.3.1),
-        asleep_accepted error woke told (own_accepted header who older first accepted.4),
-      )
-  | inr other ↦
-      subst (λ (seen : List Seen). drifts.IsAccepted (local_of who header).error (told_by seen))
-      (sym (seen_other now older who other.1)) (own_accepted header who older first accepted.4)
-]
-
--- ---- the world
--- a moment gives the clock of no companion with the number 0
-first_of : (who : ℕ) (lines : List Numbered) (i : ℕ) (a : OwnClock) → (world_of lines i).companion who ≡ Some a
-    → 1 ≤ who
-first_of who [] i a e = absurd (cc)
-first_of who (now ∷ older) i a e =
-    place i (length older)
-    (λ below. first_of who older i a (sym (ap (λ (m : Moment). m.companion who) (world-older now older i below)) ∙ e))
-    (λ above.
-    (clock-is who a older now (sym (ap (λ (m : Moment). m.companion who) (world-now now older i above)) ∙ e)).first)
-
--- the world of accepted lines keeps the declared errors
-pub keeps_errors : (header : Header) (lines : List Numbered) → AreAccepted header lines
-    → KeepsErrors (errors_of header) (world_of lines)
-keeps_errors header lines accepted =
-    let pairs = accepted_keeps header.tv_error (told_by (seen_of_tv lines)) (tv_accepted header lines accepted) in
-    record {
-      order = λ i j le. (tv_two header.tv_error lines i j pairs le).0;
-      tv = λ i j le. (tv_two header.tv_error lines i j pairs le).1;
-      sleeps = λ who i j earlier later le p q. sleeps_order who lines i j earlier later le p q;
-      companion = λ who i j earlier later le p q same.
-          let first = first_of who lines i earlier p in
-          let error = (local_of who header).error in
-          let own =
-          accepted_keeps error (told_by (seen_of who lines)) (own_accepted header who lines first accepted) in
-          own_two who error lines i j earlier later own le p q same;
-    }

@@ -19,11 +19,13 @@ struct Opened<'a> {
     rest: &'a [&'a str],
 }
 
-/// What a schedule printed, and the line that was refused.
+/// What a schedule printed, the line that was refused, and how many answers the companions with the numbers 0 to 3 then
+/// kept, where there are such companions.
 #[derive(Drop)]
 struct Ran {
     printed: String,
     refused: Option<Refused>,
+    kept: [Option<usize>; 4],
 }
 
 fn start(alloc: Global, line: &str) -> Result<(Header, u32), Fail>
@@ -100,7 +102,12 @@ fn carry_out_all(
     Ok(Ran {
         printed: String::from_utf8(out).ok().ok_or("no text")?,
         refused,
+        kept: kept(world),
     })
+}
+
+fn kept(world: &World) -> [Option<usize>; 4] {
+    [0, 1, 2, 3].map(|number| world.companion(number).map(|companion| companion.kept()))
 }
 
 /// Carries out the lines of a schedule, up to the first that is refused.
@@ -238,6 +245,16 @@ fn each_companion_has_its_own_answers(rt: HostRuntime) -> Result<(), Fail> {
         "",
         broken(9, 5, 5999 * 256_000_000),
     )
+}
+
+#[test]
+fn each_number_is_that_of_one_companion(rt: HostRuntime) -> Result<(), Fail> {
+    let alloc = rt.alloc();
+    let landed = format!(in alloc; "{BOTH}1600 5400 1 1600 land 1 1600\n")?;
+    assert_eq!(rt; run(alloc, &landed)?.kept, [None, Some(1), Some(0), None]);
+    let slept = format!(in alloc; "{landed}1700 5500 1 1700 sleep\n")?;
+    assert_eq!(rt; run(alloc, &slept)?.kept, [None, Some(0), Some(0), None]);
+    Ok(())
 }
 
 /// Two companions with sessions of their own, while one programme is shown.

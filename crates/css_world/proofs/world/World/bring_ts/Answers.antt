@@ -10,7 +10,8 @@ use Rattle.css_world.specs.Standing.{World, IsReady, IsNumber, carried}
 use Rattle.css_world.proofs.Carrying.{at_line}
 use Rattle.css_world.proofs.Inside.{inside_of}
 use Rattle.css_world.proofs.Verbs.{refuses, absent, carried-when, carried-not}
-use Rattle.css_world.proofs.Verbs.{can-bring, cannot-bring, brings_ts}
+use Rattle.css_world.proofs.Verbs.{can-bring, cannot-bring}
+use Rattle.css_world.proofs.AtSessions.{brings_ts}
 use Rattle.css_world.proofs.Written.{still_kept, clocks_kept, both_kept, refused_kept}
 use Rattle.css_world.proofs.world.World.bring_ts.Goals as goal
 

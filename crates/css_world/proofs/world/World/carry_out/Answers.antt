@@ -13,7 +13,7 @@ use Rattle.css_world.specs.Happened.{Numbered}
 use Rattle.css_world.specs.Printed.{wall_text}
 use Rattle.css_world.specs.Verdicts.{span_at, report_at, assigned_at}
 use Rattle.css_world.proofs.Carrying.{at_line}
-use Rattle.css_world.proofs.Verbs.{walls, prints}
+use Rattle.css_world.proofs.AtTelevision.{walls, prints}
 use Rattle.css_world.specs.Standing.{IsWorld}
 use Rattle.css_world.proofs.Going.{prints_nothing, prints_line}
 use Rattle.css_world.proofs.Written.{is_number}

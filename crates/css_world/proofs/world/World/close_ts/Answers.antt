@@ -12,7 +12,8 @@ use Rattle.css_world.specs.Standing.{World, IsWorld, IsReady, IsNumber, carried}
 use Rattle.css_world.proofs.Carrying.{at_line}
 use Rattle.css_world.proofs.Inside.{inside_of}
 use Rattle.css_world.proofs.Peers.{ts_of}
-use Rattle.css_world.proofs.Verbs.{WhenPlayed, refuses, carried-when, carried-not, can-close, cannot-close, closes_ts}
+use Rattle.css_world.proofs.Verbs.{WhenPlayed, refuses, carried-when, carried-not, can-close, cannot-close}
+use Rattle.css_world.proofs.AtSessions.{closes_ts}
 use Rattle.css_world.proofs.Written.{still_kept, clocks_kept, still_played, clocks_played, clocks_set, few}
 use Rattle.css_world.proofs.Written.{still_attended, clocks_attended}
 use Rattle.css_world.proofs.Written.{companions_set, both_kept, refused_kept, refused_as, refused_played}

@@ -11,8 +11,9 @@ use Rattle.css_world.specs.Happened.{tickets, datagrams, server_of, is_given}
 use Rattle.css_world.specs.Numbering.{numbered, stored}
 use Rattle.css_world.specs.Standing.{World, IsReady, open_ticket, carried}
 use Rattle.css_world.specs.Verdicts.{can_happen}
-use Rattle.css_world.proofs.Carrying.{at_line, given, answered_is, answer_same, alone_made, both_made}
-use Rattle.css_world.proofs.Carrying.{alone_owned, both_owned}
+use Rattle.css_world.proofs.Carrying.{at_line}
+use Rattle.css_world.proofs.Answering.{given, answered_is, answer_same, alone_made, both_made}
+use Rattle.css_world.proofs.Answering.{alone_owned, both_owned}
 use Rattle.css_world.proofs.Inside.{inside_of}
 use Rattle.css_world.proofs.Numbers.{stored_none, mapped_none}
 use Rattle.css_world.proofs.Tickets.{takes_count}

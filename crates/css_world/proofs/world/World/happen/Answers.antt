@@ -6,7 +6,8 @@ use Rattle.css_world.specs.Happened.{events_of}
 use Rattle.css_world.specs.Standing.{World, IsReady, carried}
 use Rattle.css_world.proofs.Carrying.{at_line}
 use Rattle.css_world.proofs.Inside.{inside_of}
-use Rattle.css_world.proofs.Verbs.{carried-at-tv, happens}
+use Rattle.css_world.proofs.Verbs.{carried-at-tv}
+use Rattle.css_world.proofs.AtTelevision.{happens}
 use Rattle.css_world.proofs.Written.{few, still_played, clocks_played}
 use Rattle.css_world.proofs.world.World.happen.Goals as goal
 

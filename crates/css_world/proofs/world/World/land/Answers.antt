@@ -7,7 +7,8 @@ use Rattle.css_world.specs.declared.fault.WorldFault.TheVariants.{Absent}
 use Rattle.css_world.specs.Happened.{peer, history_of}
 use Rattle.css_world.specs.Numbering.{stored}
 use Rattle.css_world.specs.Standing.{World, IsReady, IsNumber, carried}
-use Rattle.css_world.proofs.Carrying.{at_line, landed}
+use Rattle.css_world.proofs.Carrying.{at_line}
+use Rattle.css_world.proofs.Answering.{landed}
 use Rattle.css_world.proofs.Inside.{inside_of}
 use Rattle.css_world.proofs.Made.{made_count}
 use Rattle.css_world.proofs.Numbers.{stored_none}

@@ -13,7 +13,8 @@ use Rattle.css_world.proofs.Carrying.{at_line}
 use Rattle.css_world.proofs.Inside.{inside_of}
 use Rattle.css_world.proofs.Peers.{cii_of}
 use Rattle.css_world.proofs.Verbs.{WhenPlayed, refuses, carried-when, carried-not}
-use Rattle.css_world.proofs.Verbs.{can-open, cannot-open, no-session, opens_cii}
+use Rattle.css_world.proofs.Verbs.{can-open, cannot-open}
+use Rattle.css_world.proofs.AtSessions.{no-session, opens_cii}
 use Rattle.css_world.proofs.Written.{still_kept, clocks_kept, still_played, clocks_played, clocks_set, few}
 use Rattle.css_world.proofs.Written.{companions_set, both_kept, refused_kept, refused_as, refused_played}
 use Rattle.css_world.proofs.world.World.open_cii.Goals as goal

@@ -14,7 +14,8 @@ use Rattle.css_world.proofs.Carrying.{at_line}
 use Rattle.css_world.proofs.Inside.{inside_of}
 use Rattle.css_world.proofs.Peers.{ts_of}
 use Rattle.css_world.proofs.Verbs.{WhenPlayed, refuses, carried-when, carried-not}
-use Rattle.css_world.proofs.Verbs.{can-open, cannot-open, no-session, opens_ts}
+use Rattle.css_world.proofs.Verbs.{can-open, cannot-open}
+use Rattle.css_world.proofs.AtSessions.{no-session, opens_ts}
 use Rattle.css_world.proofs.Written.{still_kept, clocks_kept, still_played, clocks_played, clocks_set, few}
 use Rattle.css_world.proofs.Written.{still_attended, clocks_attended}
 use Rattle.css_world.proofs.Written.{companions_set, both_kept, refused_kept, refused_as, refused_played}

@@ -10,7 +10,8 @@ use Rattle.css_world.specs.declared.session.Phase.TheVariants as phases
 use Rattle.css_world.specs.Standing.{World, IsReady, IsNumber, carried}
 use Rattle.css_world.proofs.Carrying.{at_line}
 use Rattle.css_world.proofs.Inside.{inside_of}
-use Rattle.css_world.proofs.Verbs.{refuses, carried-when, carried-not, can-present, cannot-present, presents}
+use Rattle.css_world.proofs.Verbs.{refuses, carried-when, carried-not, can-present, cannot-present}
+use Rattle.css_world.proofs.AtSessions.{presents}
 use Rattle.css_world.proofs.Written.{still_kept, clocks_kept, both_kept}
 use Rattle.css_world.proofs.world.World.present.Goals as goal
 

@@ -6,7 +6,7 @@ use Rattle.css_world.specs.Happened.{history_of}
 use Rattle.css_world.specs.Standing.{World, IsReady, IsNumber, HasWoken}
 use Rattle.css_world.proofs.Carrying.{at_line}
 use Rattle.css_world.proofs.Inside.{inside_of}
-use Rattle.css_world.proofs.Verbs.{sleeps}
+use Rattle.css_world.proofs.AtTelevision.{sleeps}
 use Rattle.css_world.proofs.Written.{still_world, clocks_kept, slept_lane}
 use Rattle.css_world.proofs.world.World.sleep.Goals as goal
 

@@ -12,7 +12,8 @@ use Rattle.css_world.specs.Happened.{Numbered, requests, askers, tickets, ticket
 use Rattle.css_world.specs.Numbering.{numbered, stored}
 use Rattle.css_world.specs.Standing.{World, IsReady, EndsStand, request_bytes, carried}
 use Rattle.css_world.specs.Verdicts.{can_happen}
-use Rattle.css_world.proofs.Carrying.{at_line, stored_request, taken, ticket_same, owner_stored}
+use Rattle.css_world.proofs.Carrying.{at_line, stored_request, taken, ticket_same}
+use Rattle.css_world.proofs.Answering.{owner_stored}
 use Rattle.css_world.proofs.Inside.{inside_of}
 use Rattle.css_world.proofs.Numbers.{stored_none, mapped_none}
 use Rattle.css_world.proofs.Tickets.{askers_count}

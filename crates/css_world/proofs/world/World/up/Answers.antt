@@ -13,7 +13,8 @@ use Rattle.css_world.proofs.Carrying.{at_line}
 use Rattle.css_world.proofs.Inside.{inside_of}
 use Rattle.css_world.proofs.Peers.{ts_of}
 use Rattle.css_world.proofs.Verbs.{WhenPlayed, refuses, absent, carried-when, carried-not}
-use Rattle.css_world.proofs.Verbs.{can-raise, cannot-raise, up-event, raises}
+use Rattle.css_world.proofs.Verbs.{can-raise, cannot-raise, up-event}
+use Rattle.css_world.proofs.AtSessions.{raises}
 use Rattle.css_world.proofs.Written.{still_kept, clocks_kept, still_played, clocks_played, clocks_set, few}
 use Rattle.css_world.proofs.Written.{companions_set, both_kept, refused_kept, refused_as, refused_played}
 use Rattle.css_world.proofs.world.World.up.Goals as goal

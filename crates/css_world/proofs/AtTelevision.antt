@@ -1,0 +1,239 @@
+-- What happens at the television is carried out, or at the companion alone: both ends stand for the line too.
+use Rattle.std.proofs.Common.{◌≡◌, ◌≢◌, ◌≤◌, ◌-◌, ℕ, false, List, ◌∷◌, length}
+use Rattle.std.proofs.Common.{refl, ap, sym, subst, ◌∙◌}
+use Rattle.std.specs.Prelude.{slice_set, Some}
+use Rattle.css_model.specs.declared.Why.TheVariants as why
+use Rattle.css_model.specs.History.{History, Clock, Slept}
+use Rattle.css_sessions.specs.declared.session.Kind.{Kind}
+use Rattle.css_sessions.specs.declared.session.Kind.TheVariants as kind
+use Rattle.css_tv.specs.Stages.{Television as Tv}
+use Rattle.css_tv.specs.declared.event.TvEvent.{TvEvent}
+use Rattle.css_tv.specs.declared.event.TvEvent.TheVariants as event
+use Rattle.css_companion.specs.Standing as companions
+use Rattle.css_companion.specs.Standing.{Companion}
+use Rattle.css_schedule.specs.declared.line.Verb.{Verb}
+use Rattle.css_schedule.specs.declared.line.Verb.TheVariants.{Wall, Print}
+use Rattle.css_schedule.specs.declared.line.Verb.TheVariants.{Programme, Timeline, Viewer}
+use Rattle.css_schedule.specs.declared.line.Verb.TheVariants.{Sleep}
+use Rattle.css_world.specs.declared.lane.Lane.{Lane}
+use Rattle.css_world.specs.Sessions.{peer_of}
+use Rattle.css_world.specs.Happened.{Numbered, datagrams, done_by, events_of, history_of}
+use Rattle.css_world.specs.Numbering.{stored}
+use Rattle.css_world.specs.Verdicts.{played}
+use Rattle.css_world.specs.Lanes.{LaneStands, LanesStand, IsPlayed, AllArePlayed, KeepsAllButTexts}
+use Rattle.css_world.specs.Standing.{World, EndsStand, IsAtTv}
+use Rattle.css_world.proofs.Carrying.{own_line, histories, all_lanes, own_lanes, one_lane}
+use Rattle.css_world.proofs.Delivered.{kept_in_each}
+use Rattle.css_world.proofs.Numbers.{stored_within, stored_same, set_there, set_others}
+use Rattle.css_world.proofs.Peers.{cii_of, ts_of}
+use Rattle.css_world.proofs.Entries.{concerns, received_not}
+use Rattle.css_world.proofs.Verbs.{quiet, session-played, aside, turn-aside, WhenPlayed, session_as}
+
+-- ---- an event of the television
+-- by an event that isn't of it a lane stands for what happened
+other_played : (n : ℕ) (events : List TvEvent) (e : TvEvent) (own : History) (before after : Lane)
+    → ((k : Kind) → concerns (peer_of n k) e ≡ false) → LaneStands n events own before
+    → IsPlayed n events e before after → after.companion ≡ before.companion → LaneStands n (e ∷ events) own after
+other_played n events e own before after apart stands done same =
+    let cii = cii_of n in
+    let ts = ts_of n in
+    record {
+      companion = subst (λ (c : Companion). companions.StandsFor c own) (sym same) stands.companion;
+      cii = session_as after.cii cii (e ∷ events) own _ _ _ _ _ refl refl refl refl
+          (received_not cii e events (apart kind.Cii)) (session-played done.cii stands.cii);
+      ts = session_as after.ts ts (e ∷ events) own _ _ _ _ _ refl refl refl refl
+          (received_not ts e events (apart kind.Ts)) (session-played done.ts stands.ts);
+    }
+
+-- What a lane was before an event.
+record WasBefore (n : ℕ) (events : List TvEvent) (e : TvEvent) (between : List Lane) (after : Lane) : Type 0 where
+  lane : Lane
+  found : stored between n ≡ Some lane
+  done : IsPlayed n events e lane after
+  companion : after.companion ≡ lane.companion
+
+was_before : (n : ℕ) (events : List TvEvent) (e : TvEvent) (tv : Tv) (between played : List Lane) (after : Lane)
+    → AllArePlayed events e tv between played → KeepsAllButTexts between played → stored played n ≡ Some after
+    → WasBefore n events e between after
+was_before n events e tv between played after all kept found =
+    let was = kept_in_each between played n after kept found in
+    let is = all.each n was.0 was.1 in
+    let same : is.0 ≡ after = stored_same played n is.0 after is.1 found in
+    record {
+      lane = was.0;
+      found = was.1;
+      done = subst (λ (x : Lane). IsPlayed n events e was.0 x) same is.2;
+      companion = sym was.3;
+    }
+
+module _ (old : World) (lines : List Numbered) (number t w who l : ℕ) where
+  -- ---- the television alone
+  -- what was played at the television alone is in flight to all
+  alone : (e : TvEvent) (tv : Tv) (lanes : List Lane) → ((peer : ℕ) → concerns peer e ≡ false)
+      → AllArePlayed (events_of old.header lines) e tv old.lanes lanes → KeepsAllButTexts old.lanes lanes
+      → EndsStand old lines
+      → LanesStand (e ∷ events_of old.header lines) (histories old.header lines) lanes
+  alone e tv lanes apart done kept ends n after found =
+      let events = events_of old.header lines in
+      let was = was_before n events e tv old.lanes lanes after done kept found in
+      other_played n events e (history_of n old.header lines) was.lane after (λ k. apart (peer_of n k))
+      (ends.lanes n was.lane was.found) was.done was.companion
+
+  -- what happens at the television alone
+  pub happens : (verb : Verb) (e : TvEvent) (tv : Tv) (lanes : List Lane) → IsAtTv verb e
+      → EndsStand old lines → WhenPlayed e old.tv.tv tv old.lanes lanes → tv.server ≡ old.tv.tv.server
+      → KeepsAllButTexts old.lanes lanes
+      → EndsStand (record old { tv = record old.tv { tv = tv }; lanes = lanes })
+      (own_line number t w who l verb ∷ lines)
+  happens (Programme content_id) e tv lanes is ends plays same kept =
+      let done =
+      subst (λ x. WhenPlayed x old.tv.tv tv old.lanes lanes) is plays (events_of old.header lines) ends.stage tt in
+      quiet old lines number t w who l (Programme content_id) tv lanes tt ends same done.stage
+      (all_lanes old.header lines number t w who l (Programme content_id) lanes (λ n. refl)
+      (alone (event.Programme content_id) tv lanes (λ peer. refl) done kept ends))
+  happens (Timeline programme selector rate base) e tv lanes is ends plays same kept =
+      let done =
+      subst (λ x. WhenPlayed x old.tv.tv tv old.lanes lanes) is plays (events_of old.header lines) ends.stage tt in
+      quiet old lines number t w who l (Timeline programme selector rate base) tv lanes tt ends same done.stage
+      (all_lanes old.header lines number t w who l (Timeline programme selector rate base) lanes (λ n. refl)
+      (alone (event.AddTimeline programme selector rate base) tv lanes (λ peer. refl) done kept ends))
+  happens (Viewer reading command) e tv lanes is ends plays same kept =
+      let done =
+      subst (λ x. WhenPlayed x old.tv.tv tv old.lanes lanes) is plays (events_of old.header lines) ends.stage tt in
+      quiet old lines number t w who l (Viewer reading command) tv lanes tt ends same done.stage
+      (all_lanes old.header lines number t w who l (Viewer reading command) lanes (λ n. refl)
+      (alone (event.Viewer command reading) tv lanes (λ peer. refl) done kept ends))
+  happens _ e tv lanes is ends plays same kept = absurd is
+
+  -- ---- the companion's reports
+  -- all lanes, where the own one has an entry more that tells it nothing
+  turned : (reading : ℕ) (verb : Verb) → EndsStand old lines
+      → events_of old.header (own_line number t w who l verb ∷ lines) ≡ events_of old.header lines
+      → done_by old.header who (datagrams old.header lines) (events_of old.header lines) verb
+      (history_of who old.header lines) ≡ Clock why.Turn reading ∷ history_of who old.header lines
+      → LanesStand (events_of old.header (own_line number t w who l verb ∷ lines))
+      (histories old.header (own_line number t w who l verb ∷ lines)) old.lanes
+  turned reading verb ends none entry =
+      let events = events_of old.header lines in
+      let own = history_of who old.header lines in
+      own_lanes old.header lines number t w who l verb old.lanes
+      (λ n lane found differs. subst (λ (es : List TvEvent). LaneStands n es (history_of n old.header lines) lane)
+      (sym none) (ends.lanes n lane found))
+      (λ lane found.
+      let before = ends.lanes who lane found in
+      let stands : LaneStands who events (Clock why.Turn reading ∷ own) lane = record {
+        companion = aside lane.companion (Clock why.Turn reading) own (turn-aside reading own) before.companion;
+        cii = before.cii;
+        ts = before.ts;
+      } in
+      subst (λ (es : List TvEvent). LaneStands who es (done_by old.header who (datagrams old.header lines) events verb
+      own) lane) (sym none)
+      (subst (λ (h : History). LaneStands who events h lane) (sym entry) stands))
+
+  -- where the span is printed
+  pub walls : (reading : ℕ) → EndsStand old lines → EndsStand old (own_line number t w who l (Wall reading) ∷ lines)
+  walls reading ends =
+      quiet old lines number t w who l (Wall reading) old.tv.tv old.lanes tt ends refl ends.stage
+      (turned reading (Wall reading) ends refl refl)
+
+  -- where the report is
+  pub prints : (reading : ℕ) → EndsStand old lines → EndsStand old (own_line number t w who l (Print reading) ∷ lines)
+  prints reading ends =
+      quiet old lines number t w who l (Print reading) old.tv.tv old.lanes tt ends refl ends.stage
+      (turned reading (Print reading) ends refl refl)
+
+  -- ---- sleeps
+  -- the companion slept
+  pub sleeps : (lane : Lane) (companion : Companion) → EndsStand old lines → 1 ≤ who → who ≤ length old.lanes
+      → stored old.lanes who ≡ Some lane
+      → companions.StandsFor companion (Slept ∷ history_of who old.header lines)
+      → EndsStand (record old { lanes = slice_set old.lanes (who - 1) (record lane { companion = companion }) })
+      (own_line number t w who l Sleep ∷ lines)
+  sleeps lane companion ends first within found stands =
+      let before = ends.lanes who lane found in
+      let own = history_of who old.header lines in
+      let slept : LaneStands who (events_of old.header lines) (Slept ∷ own) (record lane { companion = companion }) =
+      record { companion = stands; cii = before.cii; ts = before.ts } in
+      quiet old lines number t w who l Sleep old.tv.tv (slice_set old.lanes (who - 1) (record lane {
+        companion = companion;
+      })) tt ends refl ends.stage
+      (one_lane old.header lines number t w who l Sleep old.lanes (record lane { companion = companion }) refl first
+      within ends.lanes slept)
+
+  -- ---- an event of the companion
+  -- the lanes of the others, where the own one was changed before the event was played
+  others_played : (verb : Verb) (e : TvEvent) (tv : Tv) (between : Lane) (played : List Lane) → EndsStand old lines
+      → 1 ≤ who
+      → events_of old.header (own_line number t w who l verb ∷ lines) ≡ e ∷ events_of old.header lines
+      → ((n : ℕ) (k : Kind) → 1 ≤ n → n ≢ who → concerns (peer_of n k) e ≡ false)
+      → AllArePlayed (events_of old.header lines) e tv (slice_set old.lanes (who - 1) between) played
+      → KeepsAllButTexts (slice_set old.lanes (who - 1) between) played
+      → (n : ℕ) (lane : Lane) → stored played n ≡ Some lane → n ≢ who
+      → LaneStands n (events_of old.header (own_line number t w who l verb ∷ lines)) (history_of n old.header lines)
+      lane
+  others_played verb e tv between played ends first is apart all kept n lane found differs =
+      let events = events_of old.header lines in
+      let was = was_before n events e tv (slice_set old.lanes (who - 1) between) played lane all kept found in
+      let there = sym (set_others old.lanes who n between first differs) ∙ was.found in
+      subst (λ (es : List TvEvent). LaneStands n es (history_of n old.header lines) lane) (sym is)
+      (other_played n events e (history_of n old.header lines) was.lane lane
+      (λ k. apart n k (stored_within played n lane found).0 differs) (ends.lanes n was.lane there) was.done
+      was.companion)
+
+  -- all lanes, where the own one isn't changed after that
+  pub event_lanes : (verb : Verb) (e : TvEvent) (tv : Tv) (between : Lane) (played : List Lane) → EndsStand old lines
+      → 1 ≤ who → who ≤ length old.lanes
+      → events_of old.header (own_line number t w who l verb ∷ lines) ≡ e ∷ events_of old.header lines
+      → ((n : ℕ) (k : Kind) → 1 ≤ n → n ≢ who → concerns (peer_of n k) e ≡ false)
+      → AllArePlayed (events_of old.header lines) e tv (slice_set old.lanes (who - 1) between) played
+      → KeepsAllButTexts (slice_set old.lanes (who - 1) between) played
+      → ((after : Lane) → IsPlayed who (events_of old.header lines) e between after
+      → after.companion ≡ between.companion → LaneStands who (e ∷ events_of old.header lines)
+      (done_by old.header who (datagrams old.header lines) (events_of old.header lines) verb
+      (history_of who old.header lines)) after)
+      → LanesStand (events_of old.header (own_line number t w who l verb ∷ lines))
+      (histories old.header (own_line number t w who l verb ∷ lines)) played
+  event_lanes verb e tv between played ends first within is apart all kept own =
+      let events = events_of old.header lines in
+      let done = done_by old.header who (datagrams old.header lines) events verb (history_of who old.header lines) in
+      own_lanes old.header lines number t w who l verb played
+      (others_played verb e tv between played ends first is apart all kept)
+      (λ lane found.
+      let was = was_before who events e tv (slice_set old.lanes (who - 1) between) played lane all kept found in
+      let same : was.lane ≡ between = stored_same (slice_set old.lanes (who - 1) between) who was.lane between was.found
+      (set_there old.lanes who between first within) in
+      subst (λ (es : List TvEvent). LaneStands who es done lane) (sym is)
+      (own lane (subst (λ (x : Lane). IsPlayed who events e x lane) same was.done)
+      (was.companion ∙ ap (λ (x : Lane). x.companion) same)))
+
+  -- and where it is
+  pub attended_lanes : (verb : Verb) (e : TvEvent) (tv : Tv) (between mid final : Lane) (played : List Lane)
+      → EndsStand old lines → 1 ≤ who → who ≤ length old.lanes
+      → events_of old.header (own_line number t w who l verb ∷ lines) ≡ e ∷ events_of old.header lines
+      → ((n : ℕ) (k : Kind) → 1 ≤ n → n ≢ who → concerns (peer_of n k) e ≡ false)
+      → AllArePlayed (events_of old.header lines) e tv (slice_set old.lanes (who - 1) between) played
+      → KeepsAllButTexts (slice_set old.lanes (who - 1) between) played → stored played who ≡ Some mid
+      → (IsPlayed who (events_of old.header lines) e between mid
+      → mid.companion ≡ between.companion → LaneStands who (e ∷ events_of old.header lines)
+      (done_by old.header who (datagrams old.header lines) (events_of old.header lines) verb
+      (history_of who old.header lines)) final)
+      → LanesStand (events_of old.header (own_line number t w who l verb ∷ lines))
+      (histories old.header (own_line number t w who l verb ∷ lines)) (slice_set played (who - 1) final)
+  attended_lanes verb e tv between mid final played ends first within is apart all kept found own =
+      let events = events_of old.header lines in
+      let done = done_by old.header who (datagrams old.header lines) events verb (history_of who old.header lines) in
+      let was = was_before who events e tv (slice_set old.lanes (who - 1) between) played mid all kept found in
+      let same : was.lane ≡ between = stored_same (slice_set old.lanes (who - 1) between) who was.lane between was.found
+      (set_there old.lanes who between first within) in
+      let stands : LaneStands who (e ∷ events) done final =
+      own (subst (λ (x : Lane). IsPlayed who events e x mid) same was.done)
+      (was.companion ∙ ap (λ (x : Lane). x.companion) same) in
+      own_lanes old.header lines number t w who l verb (slice_set played (who - 1) final)
+      (λ n lane at differs.
+      others_played verb e tv between played ends first is apart all kept n lane
+      (sym (set_others played who n final first differs) ∙ at) differs)
+      (λ lane at.
+      let last : final ≡ lane = stored_same (slice_set played (who - 1) final) who final lane
+      (set_there played who final first (stored_within played who mid found).1) at in
+      subst (λ (es : List TvEvent). LaneStands who es done lane) (sym is)
+      (subst (λ (x : Lane). LaneStands who (e ∷ events) done x) last stands))
