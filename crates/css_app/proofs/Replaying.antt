@@ -10,7 +10,8 @@ use Rattle.css_lines.specs.Lines.{whole_lines, last_part}
 use Rattle.css_lines.specs.Meaning.{Outcome, outcome_so_far, accepted, followed_by, reader_outcome, line_outcome}
 use Rattle.css_lines.specs.Meaning.{outcome_from, end_outcome, offset, refused_at}
 use Rattle.css_lines.specs.declared.reader.Refusal.TheVariants.{Long}
-use Rattle.css_lines.proofs.Cut.{whole_lines_is, last_part_is, whole_lines_feed, whole_lines_free, last_part_feed, last_part_free}
+use Rattle.css_lines.proofs.Cut.{whole_lines_is, last_part_is, whole_lines_feed, whole_lines_free, last_part_feed}
+use Rattle.css_lines.proofs.Cut.{last_part_free}
 use Rattle.css_lines.proofs.Meant.{outcome_at_end, so_far_free, so_far_feed}
 use Rattle.css_schedule.specs.declared.fault.LineFault.{LineFault}
 use Rattle.css_schedule.specs.declared.header.Header.{Header}
@@ -168,7 +169,8 @@ reads_on bytes texts so_far text printed read first plain few meant =
     let whole : whole_lines line ≡ texts = whole_lines_free bytes text plain.free ∙ read.whole in
     let last : last_part line ≡ text =
     last_part_free bytes text plain.free ∙ ap (λ (l : List ℕ). l ++ text) read.last in
-    let before : outcome_so_far replayed line ≡ accepted so_far = so_far_free replayed bytes text plain.free ∙ read.so_far in
+    let before : outcome_so_far replayed line ≡ accepted so_far =
+    so_far_free replayed bytes text plain.free ∙ read.so_far in
     record {
       so_far = ap (outcome_so_far replayed) joined ∙ so_far_feed replayed line 10 refl
           ∙ ap (λ (o : Outcome Cause). followed_by o (line_outcome replayed (whole_lines line) (last_part line)

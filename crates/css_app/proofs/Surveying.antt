@@ -368,7 +368,8 @@ taken_still survey before after has same = subst (HasTaken survey) (sym same) ha
 
 -- a survey that has taken the header has taken what a new generator gave
 pub taken_first : (survey : Surveyor) (before after : Generator) (text : List ℕ) → before.companions ≡ 1
-    → before.given ≡ 0 → before.lines ≤ 200000 → Gave before after text → survey.world.header ≡ opening.header → Stands survey []
+    → before.given ≡ 0 → before.lines ≤ 200000 → Gave before after text → survey.world.header ≡ opening.header
+    → Stands survey []
     → HasTaken survey after
 unfolding generated
 taken_first survey before after text one none few gave header stands =

@@ -91,7 +91,8 @@ drift-ok fast now h seen all accepted =
     (accepts_exactly 12800 told (shown_at now) (accepted-with now.woke (told_by seen) accepted)).1 (
       subst (λ (o : Option Shown). IfSome o (λ last. last.time ≤ now.time)) (sym (last-with now.woke (told_by seen)))
           (last-before fast now.time seen all),
-      lately-with (λ earlier. Keeps 12800 earlier (shown_at now)) now.woke (told_by seen) (all-keep fast now h seen all),
+      lately-with (λ earlier. Keeps 12800 earlier (shown_at now)) now.woke (told_by seen)
+          (all-keep fast now h seen all),
     )
 
 -- so the world does
