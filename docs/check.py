@@ -2,12 +2,11 @@
 """Checks the pages: the sessions that they show, the contracts that they name, their tables and their links.
 
     docs/check.py          runs ./css, which proves and builds the program where it is old
-    docs/check.py --try    runs ./css --try, without proofs; each command builds the program anew
 
 A session is a block of README.md or docs/*.md in which a line begins with "$ ". The lines behind it are what the
 command writes: those that begin with "css: " on standard error, and all others on standard output. In a block that
 begins with "```text live" numbers differ from run to run, so only the words are compared; a line that begins with
-"television$ " is a command that runs beside those after it, to the end of the block. --try leaves these blocks out.
+"television$ " is a command that runs beside those after it, to the end of the block.
 A block that begins with "```rust FILE" is a part of this file. The status is 1 where a page shows something else than
 what comes.
 """
@@ -50,12 +49,10 @@ def sessions(lines, first):
         yield command
 
 
-def run(command, unproved):
+def run(command):
     """What a command writes on its two streams, as lines."""
-    words = command.replace("./css", "./css --try") if unproved else command
-    done = subprocess.run(["bash", "-c", words], cwd=sources.TOP, capture_output=True, text=True, check=False)
-    errors = [line for line in done.stderr.splitlines() if line.startswith("css: ") or not unproved]
-    return done.stdout.splitlines(), errors
+    done = subprocess.run(["bash", "-c", command], cwd=sources.TOP, capture_output=True, text=True, check=False)
+    return done.stdout.splitlines(), done.stderr.splitlines()
 
 
 def build():
@@ -79,14 +76,12 @@ def television(lines):
     return None
 
 
-def session_faults(page, unproved):
+def session_faults(page):
     for live, first, lines in blocks(page.read_text()):
-        if live and unproved:
-            continue
         beside = television(lines) if live else None
         seen = without_numbers if live else list
         for number, command, shown in sessions(lines, first):
-            out, errors = run(command, unproved)
+            out, errors = run(command)
             told = [line for line in shown if line.startswith("css: ")]
             if seen(out) != seen(line for line in shown if line not in told) or errors != told:
                 yield f"line {number}: $ {command}\n" + "\n".join(out + errors)
@@ -118,14 +113,13 @@ def quote_faults(page):
 
 
 def main(words):
-    if words not in ([], ["--try"]):
+    if words:
         print(__doc__)
         return 2
     bad = claims.main() + trusted.main(["--check"])
-    if "--try" not in words:
-        build()
+    build()
     for page in PAGES:
-        for fault in [*link_faults(page), *quote_faults(page), *session_faults(page, "--try" in words)]:
+        for fault in [*link_faults(page), *quote_faults(page), *session_faults(page)]:
             print(f"{page.relative_to(sources.TOP)}, {fault}")
             bad += 1
     return 1 if bad else 0
