@@ -1,7 +1,7 @@
 #!/usr/bin/env python3
 """Draws a run as a picture: each report's interval over time, how wide it is, what was lost, and where the truth is.
 
-    ./css replay < SCHEDULE | docs/plot.py SCHEDULE > PICTURE.svg        a replay
+    ./css replay < SCHEDULE | docs/plot.py SCHEDULE > PICTURE.svg        a replay; --companion K, where there are several
     ./css companion .. | docs/plot.py > PICTURE.svg                      a live run, with a report each second
     ./css companion .. | docs/plot.py --every NS > PICTURE.svg           .. and with a report each NS nanoseconds
 
@@ -66,7 +66,7 @@ def read_reports(lines, time_of):
     for words in map(str.split, lines):
         if words[:1] == ["cue"] and len(words) == 3:
             cues.append((time, f"{words[1]} {words[2]}"))
-        elif len(words) > 2 and words[0].isdigit():
+        elif len(words) > 2 and words[0].isdigit() and time_of(int(words[0])) is not None:
             time = time_of(int(words[0]))
             report = report_of(words, time)
             if report:
@@ -77,16 +77,17 @@ def read_reports(lines, time_of):
 
 
 class Traffic:
-    """The datagrams of a schedule: requests, takes and answers by their numbers, and when each answer first landed."""
+    """The datagrams of a schedule: requests, takes and answers by their numbers, each request and answer with its time
+    and its companion, and when each answer of one companion first landed."""
 
-    def __init__(self, follows):
-        self.follows, self.latest = follows, -1
+    def __init__(self, follows, who):
+        self.follows, self.who, self.latest = follows, who, -1
         self.asked, self.takes, self.given = [], [], []
         self.answered, self.landed = set(), {}
 
-    def line(self, time, verb, numbers):
+    def line(self, time, owner, verb, numbers):
         if verb == "ask":
-            self.asked.append(time)
+            self.asked.append((time, owner))
         elif verb == "take":
             promised = self.follows and numbers[1] > self.latest
             self.latest = max(self.latest, numbers[1])
@@ -94,27 +95,41 @@ class Traffic:
         elif verb == "give":
             request, promised = self.takes[numbers[0] - 1]
             self.answered.add(request)
-            self.given += [time] * (2 if promised else 1)
-        elif verb == "land":
+            self.given += [(time, self.asked[request - 1][1])] * (2 if promised else 1)
+        elif verb == "land" and owner == self.who:
             self.landed.setdefault(numbers[0], time)
 
     def came(self):
         return list(self.landed.values())
 
+    def missing(self, sent, seen):
+        """When the companion's own were sent that weren't seen."""
+        return [time for number, (time, owner) in enumerate(sent, 1) if owner == self.who and number not in seen]
+
     def lost(self):
         """When each request was sent that got no answer, and each answer that didn't land."""
-        requests = [time for number, time in enumerate(self.asked, 1) if number not in self.answered]
-        return requests + [time for number, time in enumerate(self.given, 1) if number not in self.landed]
+        return self.missing(self.asked, self.answered) + self.missing(self.given, self.landed)
 
 
-def read_schedule(lines):
-    """The time of each line, and the datagrams."""
-    traffic = Traffic(lines[0].split()[2] == "follow")
+def owned(words, version):
+    """The companion of a line, and its words without the companion's number."""
+    return (1, words) if version == 1 else (int(words[2]), words[:2] + words[3:])
+
+
+def read_schedule(lines, who):
+    """The time of each line of a companion, and the datagrams."""
+    header = lines[0].split()
+    version = int(header[1])
+    opening = 1 if version == 1 else 1 + int(header[5])
+    traffic = Traffic(header[2] == "follow", who)
     times = {}
-    for number, words in enumerate(map(str.split, lines[1:]), 2):
-        times[number] = int(words[0]) / SECOND
+    for number, line in enumerate(lines[opening:], opening + 1):
+        owner, words = owned(line.split(), version)
+        time = int(words[0]) / SECOND
+        if owner == who:
+            times[number] = time
         if words[3] in ("ask", "take", "give", "land"):
-            traffic.line(times[number], words[3], [int(word) for word in words[4:]])
+            traffic.line(time, owner, words[3], [int(word) for word in words[4:]])
     return times, traffic
 
 
@@ -123,8 +138,8 @@ def read_run(options, lines):
         reports, cues, unit = read_reports(lines, lambda number: number * options.every / SECOND)
         return Run(reports, [], [], cues, unit)
     with open(options.schedule, encoding="ascii") as file:
-        times, traffic = read_schedule(file.read().splitlines())
-    reports, cues, unit = read_reports(lines, times.__getitem__)
+        times, traffic = read_schedule(file.read().splitlines(), options.companion)
+    reports, cues, unit = read_reports(lines, times.get)
     return Run(reports, traffic.came(), traffic.lost(), cues, unit)
 
 
@@ -321,6 +336,7 @@ def main():
     parser = argparse.ArgumentParser(description=__doc__, formatter_class=argparse.RawDescriptionHelpFormatter)
     parser.add_argument("schedule", nargs="?")
     parser.add_argument("--every", type=int, default=SECOND, help="nanoseconds between two reports of a live run")
+    parser.add_argument("--companion", type=int, default=1, help="whose reports of a replay are drawn")
     parser.add_argument("--title", help="what stands above the picture")
     options = parser.parse_args()
     run = read_run(options, sys.stdin)
