@@ -1,7 +1,7 @@
 #!/usr/bin/env python3
 """Draws a run as a picture: each report's interval over time, how wide it is, what was lost, and where the truth is.
 
-    ./css replay < SCHEDULE | docs/plot.py SCHEDULE > PICTURE.svg        a replay; --companion K, where there are several
+    ./css replay < SCHEDULE | docs/plot.py SCHEDULE > PICTURE.svg    a replay; --companion K, where there are several
     ./css companion .. | docs/plot.py > PICTURE.svg                      a live run, with a report each second
     ./css companion .. | docs/plot.py --every NS > PICTURE.svg           .. and with a report each NS nanoseconds
 
