@@ -241,10 +241,6 @@ outset-is replay (Running h version lines) is none at =
     absurd (let no : Some at.world ≡ None = sym at.is ∙ none in cc)
 outset-is replay Unread is none at = absurd at
 
--- so it is where its header is taken out
-pub still-new : (replay : Replay) → IsNew replay → IsNew (record replay { header = None })
-still-new replay new = record { format = new.format; header = refl; world = new.world }
-
 -- what is read at an extent is read at an equal one
 pub reads-at : (new : Replay) (one other : Extent) (text : List ℕ)
     (result : Result (Unit {0}) (engine.LineFault Cause)) → other ≡ one → ReadsOn new one text result

@@ -1,5 +1,5 @@
 -- The survey stands for one line more.
-use Rattle.std.proofs.Common.{◌≡◌, ◌∷◌, arith, ap, sym, subst}
+use Rattle.std.proofs.Common.{◌≡◌, ◌∷◌, arith, ap, refl, sym, subst}
 use Rattle.css_schedule.specs.Lines.{line_of}
 use Rattle.css_schedule.specs.declared.line.Line.{Line}
 use Rattle.css_world.specs.Standing as worlds
