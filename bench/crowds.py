@@ -298,8 +298,10 @@ class CrowdDrawer:
         if self.draw.random() < 0.3:
             self.line(who, f"wall {own}")
             self.line(who, "sleep")
-        words = self.draw.choice([f"wall {own}", f"land {self.made + 1} {own}", f"take {self.asked + 1} {self.clock(0)}", "text cii",
-                                  f"print {own + 1001}", "open ts", f"give {self.taken + 1} {self.clock(0)}"])
+        words = self.draw.choice([
+            f"wall {own}", f"print {own + 1001}", f"land {self.made + 1} {own}", "text cii", "open ts",
+            f"take {self.asked + 1} {self.clock(0)}", f"give {self.taken + 1} {self.clock(0)}",
+        ])
         self.line(0 if words.startswith(("take", "give")) else who, words)
 
     def schedule(self, count):
