@@ -259,18 +259,36 @@ fn what_is_outside_the_grammar_is_refused(rt: HostRuntime) -> Result<(), Fail> {
     replay_each(&rt, rt.alloc(), &FORMS)
 }
 
-/// What a schedule begins with, a line and the rest of the schedule, and in which line the next byte is too many.
-const LONG: [(&str, &str, &str, &str); 3] = [
-    ("", "css-schedule 2 plain 0 -30 1", "", "line 1: long"),
+/// What a schedule begins with, a line and the length to which it is filled up, the rest of the schedule, and how a
+/// replay of it ends.
+const LONG: [(&str, &str, usize, &str, &str); 6] = [
+    ("", "css-schedule 2 plain 0 -30 1", 4096, "", "line 1: form"),
+    ("", "css-schedule 2 plain 0 -30 1", 4097, "", "line 1: long"),
     (
         "css-schedule 2 plain 0 -30 1\n",
         "companion 1 0 0 urn:x ",
+        4352,
+        "",
+        "done",
+    ),
+    (
+        "css-schedule 2 plain 0 -30 1\n",
+        "companion 1 0 0 urn:x ",
+        4353,
         "",
         "line 2: long",
     ),
     (
         "css-schedule 2 plain 0 -30 1\ncompanion 1 0 0 urn:x -\n",
         "0 0 0 0 programme dvb://",
+        4352,
+        "0 0 1 0 open cii\n",
+        "done",
+    ),
+    (
+        "css-schedule 2 plain 0 -30 1\ncompanion 1 0 0 urn:x -\n",
+        "0 0 0 0 programme dvb://",
+        4353,
         "0 0 1 0 open cii\n",
         "line 3: long",
     ),
@@ -296,19 +314,11 @@ fn filled(
 
 #[test]
 fn a_line_has_at_most_4352_bytes_after_the_first(rt: HostRuntime) -> Result<(), Fail> {
-    for (before, line, after, ended) in LONG {
-        let most = if before.is_empty() { 4096 } else { 4352 };
-        for (length, is_long) in [(most, false), (most + 1, true)] {
-            let text = filled(rt.alloc(), before, line, length, after)?;
-            let ended = match (is_long, before.is_empty()) {
-                (true, _) => ended,
-                (false, true) => "line 1: form",
-                (false, false) => "done",
-            };
-            for devices in [WHOLE, BYTES] {
-                let ran = run_over(rt.alloc(), "replay", text.as_bytes(), &devices)?;
-                assert_ran(&rt, rt.alloc(), &ran, ended, b"")?;
-            }
+    for (before, line, length, after, ended) in LONG {
+        let text = filled(rt.alloc(), before, line, length, after)?;
+        for devices in [WHOLE, BYTES] {
+            let ran = run_over(rt.alloc(), "replay", text.as_bytes(), &devices)?;
+            assert_ran(&rt, rt.alloc(), &ran, ended, b"")?;
         }
     }
     Ok(())
