@@ -4,8 +4,7 @@
     bench/audit.py [PROGRAM]       crates/css/out/proved/css, which ./css builds, where none is given
 
 The record has a paused programme. Each turn makes a report, asks the wall clock, and takes an answer. Printed are the
-processor time for a megabyte and the peak of resident memory. A megabyte must take at most 50 ms, and the memory must
-not grow with the record.
+processor time for a megabyte and the peak of resident memory. A megabyte must take at most 50 ms.
 """
 
 import os
