@@ -1,6 +1,6 @@
--- Every seed and every number of lines can be told.
-use Rattle.std.proofs.Common.{◌≡◌, ◌∙◌, ◌<◌, ◌≤◌, ◌-◌, ◌^◌, ℕ, ap, ap₂}
-use Rattle.std.proofs.Common.{arith, refl, List, [], ◌∷◌, ◌++◌, Option, Some, Result, Ok}
+-- Every seed and every number of lines can be told, and every number of companions.
+use Rattle.std.proofs.Common.{◌≡◌, ◌∙◌, ◌<◌, ◌≤◌, ◌+◌, ◌-◌, ◌*◌, ◌^◌, ℕ, ap, ap₂}
+use Rattle.std.proofs.Common.{arith, refl, List, [], ◌∷◌, ◌++◌, Option, Some, None, Result, Ok}
 use Rattle.std.proofs.Common.{codes}
 use Rattle.std.proofs.lemmas.Bool.Decides.{nat_tests}
 use Rattle.std.specs.Fmt.{decimal}
@@ -11,45 +11,67 @@ use Rattle.clap.specs.Words.{Row, Text, first_of, matches_of}
 use Rattle.css_num.proofs.Spellings.{whole_number_of-spelling}
 use Rattle.css_words.specs.Commands.{Generate, command_in, named}
 use Rattle.css_words.specs.Generator.{GeneratorAsked, generator_app, generator_in, generator_rows}
-use Rattle.css_words.specs.Laws.{SchedulesCanBeTold}
+use Rattle.css_words.specs.Generator.{companions_given}
+use Rattle.css_words.specs.Laws.{CompanionsCanBeTold, SchedulesCanBeTold}
+use Rattle.css_words.specs.Lines.{least_lines}
 use Rattle.css_words.specs.Options.{◌>>=◌, given, number_in, or_usage, rows_in, unless_refused, within}
 use Rattle.css_words.specs.declared.fault.WordsFault.{WordsFault}
 
+-- ---- what is told
 abbrev words : Text → Text → List Text
 words seed lines = codes "generate" ∷ (codes "--seed=" ++ seed) ∷ (codes "--lines=" ++ lines) ∷ []
 
-nothing_refused : (seed lines : Text) → fault_of generator_app (words seed lines) ≡ []
-unfolding clap_on_literals
-nothing_refused seed lines = refl
+abbrev more_words : Text → Text → Text → List Text
+more_words seed lines companions =
+    codes "generate" ∷ (codes "--seed=" ++ seed) ∷ (codes "--lines=" ++ lines)
+    ∷ (codes "--companions=" ++ companions) ∷ []
 
-seed_told : (seed lines : Text) → first_of (codes "seed") (matches_of generator_app (words seed lines)) ≡ Some seed
-unfolding clap_on_literals
-seed_told seed lines = refl
+-- no parse refuses these words, and this is what they tell
+record Tells (words : List Text) (seed lines companions : Option Text) : Type 0 where
+  refused : fault_of generator_app words ≡ []
+  seed_so : first_of (codes "seed") (matches_of generator_app words) ≡ seed
+  lines_so : first_of (codes "lines") (matches_of generator_app words) ≡ lines
+  companions_so : first_of (codes "companions") (matches_of generator_app words) ≡ companions
 
-lines_told : (seed lines : Text) → first_of (codes "lines") (matches_of generator_app (words seed lines)) ≡ Some lines
+words_tell : (seed lines : Text) → Tells (words seed lines) (Some seed) (Some lines) None
 unfolding clap_on_literals
-lines_told seed lines = refl
+words_tell seed lines = record { refused = refl; seed_so = refl; lines_so = refl; companions_so = refl }
 
-rows_told : (seed lines : Text)
-    → rows_in generator_app (words seed lines) ≡ Ok (matches_of generator_app (words seed lines))
+more_words_tell : (seed lines companions : Text)
+    → Tells (more_words seed lines companions) (Some seed) (Some lines) (Some companions)
+unfolding clap_on_literals
+more_words_tell seed lines companions =
+    record { refused = refl; seed_so = refl; lines_so = refl; companions_so = refl }
+
+-- ---- what is asked for
+rows_told : (words : List Text) → fault_of generator_app words ≡ []
+    → rows_in generator_app words ≡ Ok (matches_of generator_app words)
 unfolding rows_in
-rows_told seed lines =
-    ap (λ (kinds : Kinds). unless_refused kinds (matches_of generator_app (words seed lines)))
-    (nothing_refused seed lines)
+rows_told words refused = ap (λ (kinds : Kinds). unless_refused kinds (matches_of generator_app words)) refused
 
--- what the two texts say
-abbrev read : Option Text → Option Text → Result GeneratorAsked WordsFault
-read seed lines =
+-- what these texts ask for
+abbrev read : Option Text → Option Text → Option Text → Result GeneratorAsked WordsFault
+read seed lines companions =
     given (number_in 0 9223372036854775807) seed >>= λ seed.
-    given (number_in 9 200000) lines >>= λ lines. Ok (record { seed = seed; lines = lines })
+    companions_given companions >>= λ companions.
+    given (number_in (least_lines companions) 200000) lines >>= λ lines.
+    Ok (record { seed = seed; lines = lines; companions = companions })
 
-asked : (seed lines : Text) → generator_in (words seed lines) ≡ read (Some seed) (Some lines)
+abbrev read_rows : List Row → Result GeneratorAsked WordsFault
+read_rows rows =
+    read (first_of (codes "seed") rows) (first_of (codes "lines") rows) (first_of (codes "companions") rows)
+
+asked : (words : List Text) (seed lines companions : Option Text) → Tells words seed lines companions
+    → generator_in words ≡ read seed lines companions
 unfolding generator_in generator_rows
-asked seed lines =
-    ap (λ (rows : Result (List Row) WordsFault). rows >>= λ rows.
-    read (first_of (codes "seed") rows) (first_of (codes "lines") rows)) (rows_told seed lines)
-    ∙ ap₂ read (seed_told seed lines) (lines_told seed lines)
+asked words seed lines companions tells =
+    let rows : List Row = matches_of generator_app words in
+    ap (λ (r : Result (List Row) WordsFault). r >>= read_rows) (rows_told words tells.refused)
+    ∙ ap (λ (s : Option Text). read s (first_of (codes "lines") rows) (first_of (codes "companions") rows))
+    tells.seed_so
+    ∙ ap₂ (λ (l c : Option Text). read seed l c) tells.lines_so tells.companions_so
 
+-- ---- numbers
 in_range : (least most number : ℕ) → least ≤ number → number ≤ most → within least most number ≡ Ok number
 in_range least most number low high = grind (arith, nat_tests)
 
@@ -61,17 +83,39 @@ number_told least most number low high small =
     (record { spelling = refl; small = small }) in
     ap (λ (o : Option ℕ). or_usage o >>= within least most) spelled ∙ in_range least most number low high
 
+-- ---- the laws
 both_told : (seed lines : ℕ) → seed < 2 ^ 63 → 9 ≤ lines → lines ≤ 200000
-    → generator_in (words (decimal seed) (decimal lines)) ≡ Ok (record { seed = seed; lines = lines })
+    → generator_in (words (decimal seed) (decimal lines))
+    ≡ Ok (record { seed = seed; lines = lines; companions = None })
 both_told seed lines small some few =
     let first = number_told 0 9223372036854775807 seed (omega arith) (omega arith) (omega arith) in
     let second = number_told 9 200000 lines some few (omega arith) in
-    asked (decimal seed) (decimal lines)
-    ∙ ap₂ (λ (s l : Result ℕ WordsFault). s >>= λ seed. l >>= λ lines. Ok (record { seed = seed; lines = lines }))
-    first second
+    asked _ _ _ _ (words_tell (decimal seed) (decimal lines))
+    ∙ ap₂ (λ (s l : Result ℕ WordsFault). s >>= λ seed. l >>= λ lines.
+    Ok (record { seed = seed; lines = lines; companions = None })) first second
 
-pub can_be_told : SchedulesCanBeTold
+all_told : (seed lines count : ℕ) → seed < 2 ^ 63 → 2 ≤ count → count ≤ 16 → 4 + 6 * count ≤ lines → lines ≤ 200000
+    → generator_in (more_words (decimal seed) (decimal lines) (decimal count))
+    ≡ Ok (record { seed = seed; lines = lines; companions = Some count })
+all_told seed lines count small two sixteen some few =
+    let first = number_told 0 9223372036854775807 seed (omega arith) (omega arith) (omega arith) in
+    let second = number_told 2 16 count two sixteen (omega arith) in
+    let third = number_told (4 + 6 * count) 200000 lines some few (omega arith) in
+    asked _ _ _ _ (more_words_tell (decimal seed) (decimal lines) (decimal count))
+    ∙ ap₂ (λ (s c : Result ℕ WordsFault). s >>= λ seed. (c >>= λ count. Ok (Some count)) >>= λ companions.
+    number_in (least_lines companions) 200000 (decimal lines) >>= λ lines.
+    Ok (record { seed = seed; lines = lines; companions = companions })) first second
+    ∙ ap (λ (l : Result ℕ WordsFault). l >>= λ lines.
+    Ok (record { seed = seed; lines = lines; companions = Some count })) third
+
+pub schedules_told : SchedulesCanBeTold
 unfolding command_in named
-can_be_told seed lines small some few =
+schedules_told seed lines small some few =
     ap (λ (r : Result GeneratorAsked WordsFault). r >>= λ asked. Ok (Generate asked))
     (both_told seed lines small some few)
+
+pub companions_told : CompanionsCanBeTold
+unfolding command_in named
+companions_told seed lines count small two sixteen some few =
+    ap (λ (r : Result GeneratorAsked WordsFault). r >>= λ asked. Ok (Generate asked))
+    (all_told seed lines count small two sixteen some few)

@@ -1,6 +1,6 @@
 -- Laws of command lines, in a reader's words.
-use Rattle.std.specs.Prelude.{◌≡◌, ◌<◌, ◌≤◌, ◌^◌, ℕ, Bool, false, if◌then◌else◌, bytes_eq, List, [], ◌∷◌, ◌++◌}
-use Rattle.std.specs.Prelude.{codes, decimal, Option, Some, Ok, Err}
+use Rattle.std.specs.Prelude.{◌≡◌, ◌<◌, ◌≤◌, ◌^◌, ◌+◌, ◌*◌, ℕ, Bool, false, if◌then◌else◌, bytes_eq}
+use Rattle.std.specs.Prelude.{List, [], ◌∷◌, ◌++◌, codes, decimal, Option, Some, None, Ok, Err}
 use Rattle.std.specs.List.{list_any}
 use Rattle.clap.specs.Lexer.{long_of}
 use Rattle.clap.specs.Words.{Text}
@@ -40,4 +40,12 @@ abbrev pub SchedulesCanBeTold : Type 0
 SchedulesCanBeTold =
     (seed lines : ℕ) → seed < 2 ^ 63 → 9 ≤ lines → lines ≤ 200000
     → command_in (codes "generate" ∷ (codes "--seed=" ++ decimal seed) ∷ (codes "--lines=" ++ decimal lines) ∷ [])
-    ≡ Ok (Generate (record { seed = seed; lines = lines }))
+    ≡ Ok (Generate (record { seed = seed; lines = lines; companions = None }))
+
+-- and with them every number of companions, where the lines suffice for it
+abbrev pub CompanionsCanBeTold : Type 0
+CompanionsCanBeTold =
+    (seed lines count : ℕ) → seed < 2 ^ 63 → 2 ≤ count → count ≤ 16 → 4 + 6 * count ≤ lines → lines ≤ 200000
+    → command_in (codes "generate" ∷ (codes "--seed=" ++ decimal seed) ∷ (codes "--lines=" ++ decimal lines)
+    ∷ (codes "--companions=" ++ decimal count) ∷ [])
+    ≡ Ok (Generate (record { seed = seed; lines = lines; companions = Some count }))

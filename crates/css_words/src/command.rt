@@ -117,7 +117,8 @@ fn command_named(
 /// - `pair` takes what both take, without an address and a host.
 /// - `relay` needs `--cii`. It takes `--port`, `--turns`, `--ask-every`, `--local-error`, `--local-precision` and
 ///   `--host`.
-/// - `generate` and `survey` need `--seed`, 0 to 2^63 - 1, and `--lines`, 9 to 200,000.
+/// - `generate` and `survey` need `--seed`, 0 to 2^63 - 1, and `--lines`, 9 to 200,000. They take `--companions`, 2 to
+///   16; then there are at least 4 lines, and 6 for each companion.
 ///
 /// `Usage` comes exactly where the words are those of no command: another name or none, an option that the command
 /// hasn't, one that is given twice, has no value or a value out of its range, a required one that is missing, a word

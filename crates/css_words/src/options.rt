@@ -91,9 +91,9 @@ pub fn is_set(matches: &ArgMatches<'_>, name: &str) -> bool
     matches!(text_given(matches, name), Some("true"))
 }
 
-// The number from `least` to `most` that a text spells.
+/// The number from `least` to `most` that a text spells.
 #[tactic(auto, unfolding(crate::specs::Options::number_in))]
-fn number_in(text: &str, least: u64, most: u64) -> Result<u64, WordsFault>
+pub fn number_in(text: &str, least: u64, most: u64) -> Result<u64, WordsFault>
     ensures value { result ≡ options.number_in least most text.now }
     ensures least { IfOk result (λ number. least ≤ number) }
     ensures most { IfOk result (λ number. number ≤ most) }

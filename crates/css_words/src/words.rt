@@ -1,4 +1,5 @@
-ghost use Rattle.std.specs.Prelude.{◌≤◌, ◌<◌, ◌^◌, pos, ◌≤ℤ◌};
+ghost use Rattle.std.specs.Prelude.{◌≤◌, ◌<◌, ◌^◌, unwrap_or, pos, ◌≤ℤ◌};
+ghost use Rattle.css_words.specs.Lines.{least_lines};
 
 use css_address::Address;
 use css_num::Text;
@@ -9,11 +10,17 @@ use css_tsmsg::Bound;
 pub struct GeneratorWords {
     /// The seed: 0 to 2^63 - 1.
     pub seed: u64,
-    /// How many lines it has, its header included: 9 to 200,000.
+    /// How many lines it has, its header included: 9 to 200,000, and where the companions are told, at least 4 and 6
+    /// for each of them.
     pub lines: u64,
+    /// How many companions it has: 2 to 16. With `None` it has one, and is of version 1.
+    pub companions: Option<u32>,
     pub ghost small_seed: { seed < 2 ^ 63 },
     pub ghost some_lines: { 9 ≤ lines },
     pub ghost few_lines: { lines ≤ 200000 },
+    pub ghost some_companions: { 2 ≤ unwrap_or companions 2 },
+    pub ghost few_companions: { unwrap_or companions 2 ≤ 16 },
+    pub ghost lines_suffice: { least_lines companions ≤ lines },
 }
 
 /// What a television is started with.

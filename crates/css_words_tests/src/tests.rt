@@ -21,7 +21,10 @@ fn shown_text(text: &Text) -> &str {
 }
 
 fn shown_generator(alloc: Global, words: &GeneratorWords) -> Result<String, Fail> {
-    Ok(format!(in alloc; "{} {}", words.seed, words.lines)?)
+    Ok(match words.companions {
+        None => format!(in alloc; "{} {}", words.seed, words.lines)?,
+        Some(count) => format!(in alloc; "{} {} {count}", words.seed, words.lines)?,
+    })
 }
 
 fn shown_tv(alloc: Global, words: &TvWords) -> Result<String, Fail> {
@@ -183,7 +186,11 @@ help";
 const SCHEDULES: &str = "\
 generate --seed 7 --lines 9 => generate 7 9
 survey --lines=200000 --seed=9223372036854775807 => survey 9223372036854775807 200000
-generate --seed 0 --lines=10 => generate 0 10";
+generate --seed 0 --lines=10 => generate 0 10
+generate --seed 1 --lines 16 --companions 2 => generate 1 16 2
+survey --companions=16 --lines=100 --seed=1 => survey 1 100 16
+generate --companions 16 --seed 7 --lines 200000 => generate 7 200000 16
+survey --lines 22 --companions 3 --seed 0 => survey 0 22 3";
 
 /// Command lines of `generate` and `survey` that are refused.
 const NO_SCHEDULES: &str = "\
@@ -222,10 +229,36 @@ generate --=7 --seed 7 --lines 9
 survey --seed 7
 survey --seed 7 --lines 8";
 
+/// Command lines with `--companions` that are refused.
+const NO_CROWDS: &str = "\
+generate --seed 7 --lines 9 --companions 2
+generate --seed 7 --lines 15 --companions 2
+generate --seed 7 --lines 99 --companions 16
+generate --seed 7 --lines 200001 --companions 16
+generate --seed 7 --lines 200 --companions 0
+generate --seed 7 --lines 200 --companions 1
+generate --seed 7 --lines 200 --companions 17
+generate --seed 7 --lines 200 --companions 4294967298
+generate --seed 7 --lines 200 --companions
+generate --seed 7 --lines 200 --companions=
+generate --seed 7 --lines 200 --companions 02
+generate --seed 7 --lines 200 --companions +2
+generate --seed 7 --lines 200 --companions=-2
+generate --seed 7 --lines 200 --companions 2 --companions 2
+generate --seed 7 --lines 200 --companion 2
+generate --seed 7 --companions 2
+generate --lines 200 --companions 2
+survey --seed 7 --lines 15 --companions 2
+survey --seed 7 --lines 200 --companions 17
+replay --companions 2
+migrate --companions 2
+companion --cii ws://h --companions 2";
+
 #[test]
 fn schedules_to_generate(rt: HostRuntime) -> Result<(), Fail> {
     check_told(&rt, rt.alloc(), SCHEDULES)?;
-    check_usage(&rt, rt.alloc(), NO_SCHEDULES)
+    check_usage(&rt, rt.alloc(), NO_SCHEDULES)?;
+    check_usage(&rt, rt.alloc(), NO_CROWDS)
 }
 
 #[test]

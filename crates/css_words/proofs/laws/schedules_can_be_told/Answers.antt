@@ -1,5 +1,5 @@
-use Rattle.css_words.proofs.Told.{can_be_told}
+use Rattle.css_words.proofs.Told.{schedules_told}
 use Rattle.css_words.proofs.laws.schedules_can_be_told.Goals as goal
 
 pub returns : goal.returns
-returns c = can_be_told
+returns c = schedules_told
