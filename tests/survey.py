@@ -12,10 +12,15 @@ import sys
 
 HERE = os.path.dirname(os.path.abspath(__file__))
 PROGRAM = sys.argv[1:] or [os.path.join(HERE, "..", "css")]
+# By the number of lines, and of companions.
 SURVEYS = {
-    9: b"lines 9 prints 0 intervals 0 widest 0\n",
-    2000: b"lines 2000 prints 512 intervals 508 widest 2295\n",
-    200000: b"lines 200000 prints 50114 intervals 50110 widest 8178\n",
+    (9, 1): b"lines 9 prints 0 intervals 0 widest 0\n",
+    (2000, 1): b"lines 2000 prints 512 intervals 508 widest 2295\n",
+    (200000, 1): b"lines 200000 prints 50114 intervals 50110 widest 8178\n",
+    (16, 2): b"lines 16 prints 0 intervals 0 widest 0\n",
+    (2000, 2): b"lines 2000 prints 438 intervals 0 widest 0\n",
+    (200000, 2): b"lines 200000 prints 44614 intervals 54 widest 30175\n",
+    (200000, 16): b"lines 200000 prints 44585 intervals 429 widest 143468\n",
 }
 OPENING = b"""css-schedule 1 follow 12800 -20 12800 1000 urn:dvb:css:timeline:pts dvb://
 0 1000000000 1000000000 programme dvb://1.2.3
@@ -27,7 +32,22 @@ OPENING = b"""css-schedule 1 follow 12800 -20 12800 1000 urn:dvb:css:timeline:pt
 0 1000000000 1000000000 up ts
 0 1000000000 1000000000 text ts
 """
+PTS = "urn:dvb:css:timeline:pts"
 failed = []
+
+
+def opening_of(companions):
+    """The lines that open a schedule of so many companions."""
+    if companions == 1:
+        return OPENING
+    lines = [f"css-schedule 2 follow 12800 -20 {companions}"]
+    lines += [f"companion {who} 12800 1000 {PTS} dvb://" for who in range(1, companions + 1)]
+    television = ("programme dvb://1.2.3", f"timeline 1 {PTS} 1 90000 0", "change 1000000000 1")
+    lines += ["0 1000000000 0 0 " + words for words in television]
+    for who in range(1, companions + 1):
+        sessions = ("open cii", "text cii", "open ts", "up ts", "text ts")
+        lines += [f"0 1000000000 {who} 1000000000 {words}" for words in sessions]
+    return "".join(line + "\n" for line in lines).encode()
 
 
 def check(name, holds, told=""):
@@ -42,8 +62,9 @@ def run(words, given=b"", sink=subprocess.PIPE):
     return done.returncode, done.stdout, done.stderr
 
 
-def words(command, lines):
-    return [command, "--seed", "1", "--lines", str(lines)]
+def words(command, lines, companions=1):
+    several = ["--companions", str(companions)] if companions > 1 else []
+    return [command, "--seed", "1", "--lines", str(lines), *several]
 
 
 def counted(lines, printed):
@@ -53,18 +74,24 @@ def counted(lines, printed):
     return b"lines %d prints %d intervals %d widest %d\n" % (lines, len(reports), len(widths), max(widths, default=0))
 
 
+def survey_and_replay(lines, companions, survey):
+    ended = run(words("survey", lines, companions))
+    check(f"survey of {lines} lines, companions: {companions}", ended == (0, survey, b""), ended[1].decode().strip())
+    ended, schedule, told = run(words("generate", lines, companions))
+    check("so many lines are generated", (ended, told) == (0, b"") and schedule.count(b"\n") == lines)
+    check("with the opening", schedule.startswith(opening_of(companions)))
+    check("and again", run(words("generate", lines, companions)) == (0, schedule, b""))
+    ended, printed, told = run(["replay"], schedule)
+    check("a replay prints what is counted", (ended, counted(lines, printed), told) == (0, survey, b""))
+
+
 def main():
-    for lines, survey in SURVEYS.items():
-        ended = run(words("survey", lines))
-        check(f"survey of {lines} lines", ended == (0, survey, b""), ended[1].decode().strip())
-        ended, schedule, told = run(words("generate", lines))
-        check(f"{lines} lines are generated", (ended, told) == (0, b"") and schedule.count(b"\n") == lines)
-        check("with the opening", schedule.startswith(OPENING))
-        check("and again", run(words("generate", lines)) == (0, schedule, b""))
-        ended, printed, told = run(["replay"], schedule)
-        check("a replay prints what is counted", (ended, counted(lines, printed), told) == (0, survey, b""))
+    for (lines, companions), survey in SURVEYS.items():
+        survey_and_replay(lines, companions, survey)
     for command in ("generate", "survey"):
         check(f"{command} of too few lines", run(words(command, 8)) == (1, b"", b"css: usage\n"))
+        check(f"{command} of too few for 2 companions", run(words(command, 15, 2)) == (1, b"", b"css: usage\n"))
+        check(f"{command} of 17 companions", run(words(command, 200, 17)) == (1, b"", b"css: usage\n"))
         with open("/dev/full", "wb") as full:
             ended, _, told = run(words(command, 9), sink=full)
         check(f"{command} on a full disk", (ended, told) == (5, b"css: write fault\n"))
