@@ -13,8 +13,8 @@ use Rattle.css_audit.specs.declared.fault.AuditFault.{AuditFault}
 use Rattle.css_app.specs.declared.replay.Cause.{Cause}
 use Rattle.css_app.specs.Replayed.{replayed}
 use Rattle.css_app.specs.declared.replay.Cause.TheVariants as causes
-use Rattle.css_app.specs.Ended.{IsAccepted, AreAllRead, AreAllRight, HasNotFailed, IsDoneUnlessMemory, Replays, status_of}
-use Rattle.css_app.specs.Ended.{agree_status_of, audit_status_of}
+use Rattle.css_app.specs.Ended.{IsAccepted, AreAllRead, AreAllRight, HasNotFailed, IsDoneUnlessMemory, Replays}
+use Rattle.css_app.specs.Ended.{status_of, agree_status_of, audit_status_of}
 
 pub completes : (bytes : List ℕ) (left holds_old holds_new : Option (List ℕ)) (stop : Stop Cause)
     (reads reads_new writes writes_new : ℕ)

@@ -13,6 +13,9 @@ pub mod Stepped
 pub mod Accepting
 pub mod Surveying
 pub mod Plain
+pub mod PlainFirst
+pub mod PlainSecond
+pub mod GeneratedTexts
 pub mod Replaying
 pub mod ScriptsTaken
 pub mod SheetsTaken

@@ -2,6 +2,7 @@ pub mod Replayed
 pub mod Stands
 pub mod Ended
 pub mod Headline
+pub mod Generations
 pub mod Generated
 pub mod Surveyed
 pub mod Surveys
