@@ -31,14 +31,14 @@ use Rattle.css_gen.specs.Standing.{AreSome}
 use Rattle.css_survey.specs.Generated.{schedule_text, header_for, heading, version_for, line_for, numbered_for}
 use Rattle.css_survey.specs.Generated.{generated}
 use Rattle.css_survey.specs.Surveyed.{Told, asked_by, told_by, told_at, told_of, told_text, told_in}
-use Rattle.css_survey.proofs.Accepting.{generated_accepted}
+use Rattle.css_survey.proofs.Accepted.{generated_accepted}
 use Rattle.css_app.specs.declared.replay.Cause.{Cause}
-use Rattle.css_app.specs.Generations.{GeneratedSchedulesAreReplayed}
+use Rattle.css_laws.specs.Generations.{GeneratedSchedulesAreReplayed}
 use Rattle.css_app.specs.Replayed.{Running, caused, read_meant, reached, ended_at, version_of, longest_line}
 use Rattle.css_app.specs.Replayed.{longest_input, replayed}
-use Rattle.css_app.proofs.GeneratedTexts.{line_short, line_text, line_read, header_short, header_silent, texts_of}
-use Rattle.css_app.proofs.GeneratedTexts.{text_meant, text-meant, lines-read}
-use Rattle.css_app.proofs.Plain.{IsShort, IsLineText, line-plain}
+use Rattle.css_laws.proofs.GeneratedTexts.{line_short, line_text, line_read, header_short, header_silent, texts_of}
+use Rattle.css_laws.proofs.GeneratedTexts.{text_meant, text-meant, lines-read}
+use Rattle.css_laws.proofs.Plain.{IsShort, IsLineText, line-plain}
 use Rattle.css_app.proofs.Promise.{printed_is}
 
 -- ---- what is printed

@@ -16,8 +16,8 @@ use Rattle.css_gen.specs.Standing.{AreSome}
 use Rattle.css_gen.specs.declared.course.Course.{Course}
 use Rattle.css_gen.specs.declared.crowd.Crowd.{Crowd}
 use Rattle.css_gen.proofs.Crowds.{crowd-companions}
-use Rattle.css_app.proofs.Plain.{ArePlain, IsShort, IsLineText, plain-by, number-plain, words-text}
-use Rattle.css_app.proofs.PlainFirst.{chosen-short, opening-short, companion-plain, declared-plain}
+use Rattle.css_laws.proofs.Plain.{ArePlain, IsShort, IsLineText, plain-by, number-plain, words-text}
+use Rattle.css_laws.proofs.PlainFirst.{chosen-short, opening-short, companion-plain, declared-plain}
 
 -- ---- what happens
 landed_of-short : (made : List ℕ) (course : Course) → IsShort (landed_of made course).verb

@@ -22,9 +22,9 @@ use Rattle.css_survey.specs.Generated.{header_for, heading, version_for, line_fo
 use Rattle.css_app.specs.declared.replay.Cause.{Cause}
 use Rattle.css_app.specs.Replayed.{Extent, Outset, Opening, Running, started, grown, declared, next_companion}
 use Rattle.css_app.specs.Replayed.{with_line, after, reached, opened, meant_at}
-use Rattle.css_app.proofs.Plain.{IsShort, IsLineText}
-use Rattle.css_app.proofs.PlainFirst.{first-short, first-header, first-text}
-use Rattle.css_app.proofs.PlainSecond.{second-short, second-header, second-text}
+use Rattle.css_laws.proofs.Plain.{IsShort, IsLineText}
+use Rattle.css_laws.proofs.PlainFirst.{first-short, first-header, first-text}
+use Rattle.css_laws.proofs.PlainSecond.{second-short, second-header, second-text}
 use Rattle.css_app.proofs.Texts.{reached-push}
 
 -- ---- one text

@@ -12,8 +12,8 @@ use Rattle.css_gen.specs.Course.{chosen, later, happening, next_line}
 use Rattle.css_gen.specs.Opening.{header, companion, pts, opening_verb, opening_line}
 use Rattle.css_gen.specs.Generated.{course_before, line_numbered, text_numbered}
 use Rattle.css_gen.specs.declared.course.Course.{Course}
-use Rattle.css_app.proofs.Plain.{ArePlain, IsShort, IsLineText, plain-by, number-plain, negative-plain, two}
-use Rattle.css_app.proofs.Plain.{words-text}
+use Rattle.css_laws.proofs.Plain.{ArePlain, IsShort, IsLineText, plain-by, number-plain, negative-plain, two}
+use Rattle.css_laws.proofs.Plain.{words-text}
 
 -- ---- what happens
 taken-short : (course : Course) → IsShort (taken course).verb

@@ -1,5 +1,0 @@
-use Rattle.css_app.proofs.Replaying.{generated_replayed}
-use Rattle.css_app.proofs.laws.generated_schedules_are_replayed.Goals as goal
-
-pub returns : goal.returns
-returns c = generated_replayed
