@@ -29,7 +29,7 @@ use Rattle.css_gen.proofs.Ranges.{next-range, opening-range, pts-utf8, stem-utf8
 use Rattle.css_survey.proofs.Watched.{IsSeen, AreSeen, clock-ok, seen_next, reading-ok, both-ok}
 use Rattle.css_survey.proofs.Exchanged.{AreExchanged, at}
 use Rattle.css_survey.proofs.Openings.{to_9, of-one, opening-accepted, opening-exchanged, opening-tv, opening-own}
-use Rattle.css_survey.proofs.Stepped.{IsBefore, happening-step}
+use Rattle.css_survey.proofs.Stepped.{ones, IsBefore, happening-step}
 
 -- the opening, and so many lines after it
 further : (seed : ℕ) → (lines : ℕ) → List Numbered
@@ -43,7 +43,7 @@ record Holds (course : Course) (number : ℕ) (lines : List Numbered) : Type 0 w
   tv : AreSeen course.tv_fast course.time number (seen_of_tv lines)
   own : AreSeen course.own_fast course.time number (map own_seen lines)
   alone : seen_of 1 lines ≡ map own_seen lines
-  exchanged : AreExchanged course.requests course.takes course.answers (tv_clock course) lines
+  exchanged : AreExchanged 1 (ones course.requests) (ones course.takes) course.answers (tv_clock course) lines
   last : IsNext number lines
 
 -- the opening is
@@ -56,7 +56,7 @@ opening-holds seed =
       tv = opening-tv (started seed).tv_fast;
       own = opening-own (started seed).own_fast;
       alone = refl;
-      exchanged = subst (λ n. AreExchanged 0 0 0 n to_9) (sym shown) opening-exchanged;
+      exchanged = subst (λ n. AreExchanged 1 [] [] 0 n to_9) (sym shown) opening-exchanged;
       last = omega arith;
     }
 
@@ -64,7 +64,8 @@ opening-holds seed =
 -- a line with these numbers, after such lines
 abbrev line_at : Course → ℕ → Numbered
 line_at course number =
-    at number (later course).time (tv_clock (later course)) (own_clock (later course)) (happening (later course)).verb
+    at number (later course).time (tv_clock (later course)) 1 (own_clock (later course))
+    (happening (later course)).verb
 
 -- what the two clocks show passes their tests
 shown-ok : (course : Course) (number : ℕ) (lines : List Numbered) (now : Numbered) → Holds course number lines
@@ -147,8 +148,8 @@ step-holds course number lines range h =
           (map own_seen (now ∷ lines)) step.own_fast step.time refl
           (seen_next course.own_fast course.time number (map own_seen lines) (own_seen now) h.own time refl own);
       alone = ap (λ (s : List Seen). own_seen now ∷ s) h.alone;
-      exchanged = subst (λ n. AreExchanged next.requests next.takes next.answers n (now ∷ lines)) (sym shown)
-          step.done.after;
+      exchanged = subst (λ n. AreExchanged 1 (ones next.requests) (ones next.takes) next.answers n (now ∷ lines))
+          (sym shown) step.done.after;
       last = omega arith;
     }
 

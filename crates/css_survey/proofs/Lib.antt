@@ -1,7 +1,9 @@
 pub mod Giving
 pub mod Watched
+pub mod MadeOf
 pub mod Exchanged
 pub mod Openings
 pub mod Stepped
+pub mod CrowdStepped
 pub mod Accepting
 pub mod Surveying

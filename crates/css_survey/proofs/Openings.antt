@@ -14,7 +14,8 @@ use Rattle.css_world.specs.Standing.{AreAccepted}
 use Rattle.css_gen.specs.Course.{clock}
 use Rattle.css_gen.specs.Opening.{pts, header, opening_line, opening_verb}
 use Rattle.css_gen.proofs.Clocks.{clock-start}
-use Rattle.css_survey.proofs.Exchanged.{AreExchanged, IsTicket, IsOne}
+use Rattle.css_survey.proofs.MadeOf.{made_of}
+use Rattle.css_survey.proofs.Exchanged.{AreExchanged, IsTicket}
 use Rattle.css_survey.proofs.Watched.{IsSeen, AreSeen, seen_next}
 
 -- a line of the opening
@@ -109,20 +110,17 @@ opening-accepted range utf8 =
 
 -- ---- what the next line finds
 -- nothing was exchanged
-pub opening-exchanged : AreExchanged 0 0 0 1000000000 to_9
-unfolding opening_verb
+pub opening-exchanged : AreExchanged 1 [] [] 0 1000000000 to_9
+unfolding opening_verb made_of
 opening-exchanged = record {
   requests = refl;
   asked_by = refl;
-  ask_ones = All-nil IsOne;
   takes = refl;
   tickets = All-nil (IsTicket 1000000000);
   taken_by = refl;
-  take_ones = All-nil IsOne;
   answers = omega arith;
   none_ahead = λ take ahead. refl;
   made_by = refl;
-  made_ones = All-nil IsOne;
 }
 
 -- both clocks show one second at true time 0
