@@ -1,4 +1,4 @@
--- Each generated line is accepted after those before it.
+-- Each generated line of one companion is accepted after those before it.
 use Rattle.std.proofs.Common.{◌≡◌, ℕ, suc, zero, ◌+◌, ◌-◌, ◌≤◌, arith, ap, sym, subst, ◌∙◌, refl}
 use Rattle.std.proofs.Common.{Bool, false, cond, List, [], ◌∷◌}
 use Rattle.std.specs.Prelude.{map, slice_get, unwrap_or, Result, Ok}
@@ -21,7 +21,7 @@ use Rattle.css_gen.specs.Course.{clock, tv_clock, own_clock, started, later, hap
 use Rattle.css_gen.specs.Course.{course_after}
 use Rattle.css_gen.specs.Opening.{header, companion, opening_line}
 use Rattle.css_gen.specs.Generated.{line_numbered}
-use Rattle.css_survey.specs.Generated.{generated, GeneratedLinesAreAccepted}
+use Rattle.css_survey.specs.Generated.{header_for, generated}
 use Rattle.css_gen.specs.declared.course.Course.{Course}
 use Rattle.css_gen.proofs.Bounds.{course-small}
 use Rattle.css_gen.proofs.Clocks.{clock-start, clock-goes_on}
@@ -177,55 +177,22 @@ line-late seed number lines e =
     ∙ ap (λ (n : ℕ). next_line (course_after seed n)) rest
 
 -- these are the generated lines
-further-is : (seed lines : ℕ) → generated seed (lines + 8) ≡ further seed lines
+further-is : (seed lines : ℕ) → generated seed 1 (lines + 8) ≡ further seed lines
 unfolding further line_numbered generated
 further-is seed zero = refl
 further-is seed (suc lines) =
     let count : suc lines + 8 ≡ suc (lines + 8) = omega arith in
-    let number : lines + 8 + 2 ≡ lines + 10 = omega arith in
-    let same : line_numbered seed (lines + 8 + 2) ≡ next_line (course_after seed lines) =
-    line-late seed (lines + 8 + 2) lines number in
-    let rest = generated seed (lines + 8) in
-    ap (generated seed) count
-    ∙ ap (λ (n : ℕ). record { number = n; line = line_numbered seed (lines + 8 + 2) } ∷ rest) number
+    let given = 1 + suc (lines + 8) in
+    let number : given ≡ lines + 10 = omega arith in
+    let same : line_numbered seed given ≡ next_line (course_after seed lines) = line-late seed given lines number in
+    let rest = generated seed 1 (lines + 8) in
+    ap (generated seed 1) count
+    ∙ ap (λ (n : ℕ). record { number = n; line = line_numbered seed given } ∷ rest) number
     ∙ ap (λ (l : Line). record { number = lines + 10; line = l } ∷ rest) same
     ∙ ap (λ (ls : List Numbered). record { number = lines + 10; line = next_line (course_after seed lines) } ∷ ls)
     (further-is seed lines)
 
--- the first lines of accepted ones are accepted
-front-accepted : (seed count more : ℕ) → AreAccepted header (generated seed (count + more))
-    → AreAccepted header (generated seed count)
-unfolding generated
-front-accepted seed count zero h =
-    let same : count + 0 ≡ count = omega arith in subst (λ n. AreAccepted header (generated seed n)) same h
-front-accepted seed count (suc more) h =
-    let same : count + suc more ≡ suc (count + more) = omega arith in
-    let longer : AreAccepted header (generated seed (suc (count + more))) =
-    subst (λ n. AreAccepted header (generated seed n)) same h in
-    front-accepted seed count more longer.4
-
--- the clock of the one companion is in range, and so is that of a number that none has
-local-ok : (place : ℕ) → IsLocal (unwrap_or (option_map (λ c. c.local) (slice_get header.companions place))
-    (record { error = 0; precision = 0 }))
-local-ok zero = record { error = omega arith; precision = omega arith }
-local-ok (suc place) = record { error = omega arith; precision = omega arith }
-
-header-declared : IsDeclared header
-header-declared = record {
-  tv = record {
-    tv_error = omega arith;
-    tv_precision = omega (arith, ints);
-    companions = All-cons IsCompanion companion [] (record { selector = pts-utf8; stem = stem-utf8 })
-        (All-nil IsCompanion);
-  };
-  companions = record { low = omega arith; high = omega arith };
-  exponent = record { sfits = omega (arith, ints) };
-  local = λ who. local-ok (who - 1);
-}
-
-pub generated_accepted : GeneratedLinesAreAccepted
-generated_accepted seed count few = record {
-  declared = header-declared;
-  accepted = front-accepted seed count 8
-      (subst (AreAccepted header) (sym (further-is seed count)) (all-hold seed count (omega (arith, few))).accepted);
-}
+-- so all of them are accepted
+pub one_accepted : (seed count : ℕ) → count ≤ 200000 → AreAccepted (header_for 1) (generated seed 1 (count + 8))
+one_accepted seed count few =
+    subst (AreAccepted (header_for 1)) (sym (further-is seed count)) (all-hold seed count few).accepted

@@ -6,4 +6,10 @@ pub mod Openings
 pub mod Stepped
 pub mod CrowdStepped
 pub mod Accepting
+pub mod CrowdSessions
+pub mod CrowdVerbs
+pub mod CrowdOpenings
+pub mod CrowdSeen
+pub mod CrowdAccepting
+pub mod Accepted
 pub mod Surveying
