@@ -1,10 +1,11 @@
 -- Each generated line of several companions is accepted after those before it.
 use Rattle.std.proofs.Common.{◌≡◌, ◌≢◌, ℕ, suc, zero, ◌+◌, ◌-◌, ◌*◌, ◌<◌, ◌≤◌, arith, ap, sym, subst, ◌∙◌, refl}
 use Rattle.std.proofs.Common.{Bool, false, List, [], ◌∷◌, length, ne_eqb}
-use Rattle.std.specs.Prelude.{Result, Ok, slice_index_or, nat_le, if◌then◌else◌}
+use Rattle.std.specs.Prelude.{All, Result, Ok, slice_index_or, nat_le, if◌then◌else◌}
 use Rattle.std.specs.Result.{result_and}
 use Rattle.std.proofs.lemmas.Bool.{le-leb, lt-leb}
 use Rattle.std.proofs.lemmas.List.{length-replicate}
+use Rattle.std.proofs.lemmas.List.Elements.{All-nil}
 use Rattle.css_schedule.specs.Owners.{is_own}
 use Rattle.css_schedule.specs.Ranges.{IsSecond}
 use Rattle.css_schedule.specs.declared.line.Line.{Line}
@@ -26,10 +27,12 @@ use Rattle.css_gen.proofs.Draws.{draw-below}
 use Rattle.css_gen.proofs.Crowds.{crowd-ready, crowd-companions, turn-can}
 use Rattle.css_gen.proofs.CrowdRanges.{next-range_of, next-second, next-few}
 use Rattle.css_survey.specs.Generated.{header_for, heading, numbered_for, generated}
-use Rattle.css_survey.proofs.CrowdOpenings.{placed, opened_to, opening_accepted, opening_tv, opening_own, opening_quiet}
+use Rattle.css_survey.proofs.CrowdOpenings.{placed, opened_to, opening_accepted, opening_tv, opening_own}
+use Rattle.css_survey.proofs.CrowdOpenings.{AreQuiet, opening_quiet}
 use Rattle.css_survey.proofs.CrowdSeen.{AllSeen, IsShown, Oscillators, tests-ok, all-after}
 use Rattle.css_survey.proofs.CrowdStepped.{IsBeforeTurn, IsTurnStep, turn-step}
-use Rattle.css_survey.proofs.Exchanged.{AreExchanged}
+use Rattle.css_survey.proofs.Exchanged.{AreExchanged, IsTicket}
+use Rattle.css_survey.proofs.MadeOf.{made_of}
 use Rattle.css_survey.proofs.Watched.{AreSeen}
 
 -- ---- what holds after lines
@@ -151,6 +154,21 @@ last-opened : (companions count : ℕ) → IsNext (companions + count + 2) (open
 unfolding opened_to
 last-opened companions zero = tt
 last-opened companions (suc count) = omega arith
+
+-- nothing was exchanged
+nothing-exchanged : (companions shown : ℕ) (lines : List Numbered) → AreQuiet companions lines
+    → AreExchanged companions [] [] 0 shown lines
+unfolding made_of
+nothing-exchanged companions shown lines quiet = record {
+  requests = ap length quiet.requests;
+  asked_by = quiet.askers;
+  takes = ap length quiet.tickets;
+  tickets = subst (All (IsTicket shown)) (sym quiet.tickets) (All-nil (IsTicket shown));
+  taken_by = quiet.taken_for;
+  answers = omega arith;
+  none_ahead = λ take ahead. quiet.is_given take;
+  made_by = quiet.made_for;
+}
 
 -- the opening is accepted
 opening-holds : (seed companions : ℕ) → AreSome companions
