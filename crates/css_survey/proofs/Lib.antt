@@ -2,6 +2,9 @@ pub mod Giving
 pub mod Watched
 pub mod Exchanged
 pub mod Openings
+pub mod CrowdVerbs
+pub mod CrowdSessions
+pub mod CrowdOpenings
 pub mod Stepped
 pub mod Accepting
 pub mod Surveying
