@@ -1,12 +1,12 @@
 -- The opening of a generated schedule is accepted, whatever the number of its companions.
-use Rattle.std.proofs.Common.{◌≡◌, ◌≢◌, ℕ, suc, zero, ◌+◌, ◌-◌, ◌*◌, ◌/◌, ◌%◌, ◌<◌, ◌≤◌, arith, ap, sym, subst, ◌∙◌}
+use Rattle.std.proofs.Common.{◌≡◌, ◌≢◌, ℕ, suc, zero, ◌+◌, ◌-◌, ◌*◌, ◌<◌, ◌≤◌, arith, ap, sym, subst, ◌∙◌}
 use Rattle.std.proofs.Common.{refl, Bool, true, false, cond, List, [], ◌∷◌, ◌++◌, length, replicate}
-use Rattle.std.specs.Prelude.{Option, Some, None, IfSome, unwrap_or, slice_get, map, Result, Ok, codes, ◌==◌, nat_lt}
-use Rattle.std.specs.Prelude.{◌||◌, if◌then◌else◌}
+use Rattle.std.specs.Prelude.{Option, Some, None, IfSome, unwrap_or, slice_get, map, Result, Ok, codes, ◌==◌, nat_le}
+use Rattle.std.specs.Prelude.{◌||◌}
 use Rattle.std.specs.List.{filter}
 use Rattle.std.specs.Option.{option_map, option_to_list}
 use Rattle.std.specs.Result.{result_and}
-use Rattle.std.proofs.lemmas.Bool.{le-ltb, ne_eqb, eqb-true}
+use Rattle.std.proofs.lemmas.Bool.{le-leb, ne_eqb, eqb-true}
 use Rattle.std.proofs.lemmas.List.{length-replicate}
 use Rattle.std.proofs.lemmas.List.Elements.{All-nil}
 use Rattle.css_model.specs.Numbers.{precision_ns}
@@ -31,14 +31,17 @@ use Rattle.css_world.specs.Standing.{AreAccepted, IsNext}
 use Rattle.css_world.proofs.Ends.{history_other}
 use Rattle.css_gen.specs.Course.{clock}
 use Rattle.css_gen.specs.Opening.{pts, companion, opening_verb}
-use Rattle.css_gen.specs.Second.{clock_line, line_placed}
+use Rattle.css_gen.specs.Second.{line_placed, openings, crowd_before, second_line}
+use Rattle.css_gen.specs.Crowd.{next_line_of}
+use Rattle.css_gen.specs.Generated.{line_numbered}
 use Rattle.css_gen.specs.Standing.{AreSome}
 use Rattle.css_gen.proofs.Clocks.{clock-start}
+use Rattle.css_gen.proofs.Crowds.{crowd-companions}
 use Rattle.css_gen.proofs.Ranges.{pts-utf8, stem-utf8}
 use Rattle.css_gen.proofs.CrowdRanges.{placed-range, placed-second}
-use Rattle.css_survey.specs.Generated.{header_for}
+use Rattle.css_survey.specs.Generated.{header_for, heading, line_for, numbered_for, generated}
 use Rattle.css_survey.proofs.Watched.{IsSeen, AreSeen, seen_next, clock-ok, both-ok}
-use Rattle.css_survey.proofs.CrowdVerbs.{own-unread, tv-read, IsIdle, verb-idle}
+use Rattle.css_survey.proofs.CrowdVerbs.{placed-line, placed-start, placed-idle}
 use Rattle.css_survey.proofs.CrowdSessions.{list_of, own_line, own_1, own_2, own_3, own_4, IsUnheard}
 use Rattle.css_survey.proofs.CrowdSessions.{carried-1, carried-2, carried-3, carried-4, carried-5}
 use Rattle.css_survey.proofs.CrowdSessions.{more-open, still-unheard}
@@ -53,47 +56,8 @@ unfoldable pub opened_to : (companions count : ℕ) → List Numbered
 opened_to companions zero = []
 opened_to companions (suc count) = placed companions (count + 2) ∷ opened_to companions count
 
--- Five lines of companion `who` are at the places from 5 * who on.
-placed-line : (place who i : ℕ) → place ≡ 5 * who + i → 1 ≤ who → i < 5
-    → line_placed place ≡ clock_line who 1000000000 (5 + i)
-placed-line place who i is first few =
-    let quotient : place / 5 ≡ who = omega (arith, is, few) in
-    let rest : place % 5 ≡ i = omega (arith, is, few) in
-    ap (λ b. cond b (clock_line 0 0 place) (clock_line (place / 5) 1000000000 (5 + place % 5)))
-    (le-ltb place 5 (omega (arith, is, first)))
-    ∙ ap (λ q. clock_line q 1000000000 (5 + place % 5)) quotient
-    ∙ ap (λ r. clock_line who 1000000000 (5 + r)) rest
-
 -- ---- the clocks
--- At a line of the opening each clock shows one second, at true time 0.
-record IsAtStart (line : Line) : Type 0 where
-  time : line.t ≡ 0
-  wall : line.w ≡ 1000000000
-  own : 1 ≤ line.who → line.l ≡ 1000000000
-  tv_reads : IfSome (tv_reading line.verb) (λ reading. reading ≡ 1000000000)
-  own_reads : own_reading line.verb ≡ None
-
-placed-start : (place : ℕ) → IsAtStart (line_placed place)
-placed-start place = by (nat_lt place 5)
-  where
-    by : (b : Bool)
-        → IsAtStart (if b then clock_line 0 0 place else clock_line (place / 5) 1000000000 (5 + place % 5))
-    by true = record {
-      time = refl;
-      wall = refl;
-      own = λ first. absurd (omega (arith, first));
-      tv_reads = tv-read place;
-      own_reads = own-unread place;
-    }
-    by false = record {
-      time = refl;
-      wall = refl;
-      own = λ first. refl;
-      tv_reads = tv-read (5 + place % 5);
-      own_reads = own-unread (5 + place % 5);
-    }
-
--- both clocks show that at true time 0
+-- a clock that shows one second at true time 0 is seen so
 seen-start : (fast : Bool) (seen : Seen) → seen.time ≡ 0 → seen.shown ≡ 1000000000
     → IfSome seen.reading (λ reading. reading ≡ seen.shown) → IsSeen fast seen.time seen
 seen-start fast seen time shown reads = record {
@@ -390,15 +354,6 @@ pub record AreQuiet (companions : ℕ) (lines : List Numbered) : Type 0 where
   pub made_for : made_for (header_for companions) lines ≡ []
   pub is_given : (take : ℕ) → is_given take lines ≡ false
 
--- the verb of each line of the opening exchanges nothing
-placed-idle : (place : ℕ) → IsIdle (line_placed place).verb
-placed-idle place = by (nat_lt place 5)
-  where
-    by : (b : Bool)
-        → IsIdle (if b then clock_line 0 0 place else clock_line (place / 5) 1000000000 (5 + place % 5)).verb
-    by true = verb-idle place
-    by false = verb-idle (5 + place % 5)
-
 -- so the opening does
 pub opening_quiet : (companions count : ℕ) → AreQuiet companions (opened_to companions count)
 unfolding opened_to
@@ -428,3 +383,37 @@ opening_quiet companions (suc count) =
           (idle.owners header (tickets header older) (taken_for older)) ∙ before.made_for;
       is_given = λ take. ap (λ b. b || is_given take older) (idle.given take) ∙ before.is_given take;
     }
+
+-- ---- by their numbers
+-- the generated line of a number of the opening
+second-placed : (seed companions number : ℕ) → number ≤ openings companions
+    → second_line seed companions number ≡ line_placed (number - companions)
+unfolding second_line
+second-placed seed companions number early =
+    let crowd = crowd_before seed companions number in
+    let next = next_line_of crowd in
+    ap (λ n. cond (nat_le number (openings n)) (line_placed (number - n)) next)
+    (crowd-companions seed companions (number - (openings companions + 1)))
+    ∙ ap (λ b. cond b (line_placed (number - companions)) next) (le-leb number (openings companions) early)
+
+-- The opening is the first generated lines of several companions.
+pub opening_generated : (seed companions count : ℕ) → 2 ≤ companions → count ≤ 3 + 5 * companions
+    → generated seed companions count ≡ opened_to companions count
+unfolding generated opened_to
+opening_generated seed companions zero some few = refl
+opening_generated seed companions (suc count) some few =
+    let several : (companions == 1) ≡ false = ne_eqb companions 1 (λ one. omega (arith, some, one)) in
+    let place = count + 2 in
+    let number : heading companions + suc count ≡ companions + place =
+    ap (λ b. cond b 1 (companions + 1) + suc count) several ∙ omega arith in
+    let rest : companions + place - companions ≡ place = omega arith in
+    let line : line_for seed companions (companions + place) ≡ line_placed place =
+    ap (λ b. cond b (line_numbered seed (companions + place)) (second_line seed companions (companions + place)))
+    several
+    ∙ second-placed seed companions (companions + place) (omega (arith, few)) ∙ ap line_placed rest in
+    let now : numbered_for seed companions (heading companions + suc count) ≡ placed companions place =
+    ap (numbered_for seed companions) number
+    ∙ ap (λ (l : Line). record { number = companions + place; line = l }) line in
+    ap (λ (n : Numbered). n ∷ generated seed companions count) now
+    ∙ ap (λ (ns : List Numbered). placed companions place ∷ ns)
+    (opening_generated seed companions count some (omega (arith, few)))
