@@ -3,6 +3,9 @@ pub mod Watched
 pub mod MadeOf
 pub mod Exchanged
 pub mod Openings
+pub mod CrowdVerbs
+pub mod CrowdSessions
+pub mod CrowdOpenings
 pub mod Stepped
 pub mod CrowdStepped
 pub mod Accepting
