@@ -29,7 +29,7 @@ pub(crate) struct Crowd {
 
 /// Whose turn it is.
 #[derive(Debug, Drop)]
-pub(crate) struct Turn {
+struct Turn {
     /// The companion's number.
     who: u32,
     /// The course, with this companion's clock.

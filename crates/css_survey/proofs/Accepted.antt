@@ -71,11 +71,13 @@ lines-accepted seed companions count some few = by (companions == 1) refl
         subst (λ (n : ℕ). AreAccepted (header_for n) (generated seed n count)) (sym (eqb-true companions 1 e))
         (front-accepted (header_for 1) seed 1 count 8 (one_accepted seed count (omega (arith, few))))
     by false e =
+        let apart = eqb-false companions 1 e in
+        let low = some.low in
         let whole = 3 + 5 * companions in
         let same : whole + count ≡ count + whole = omega arith in
         let longer : AreAccepted (header_for companions) (generated seed companions (count + whole)) =
         subst (λ (n : ℕ). AreAccepted (header_for companions) (generated seed companions n)) same
-        (several_accepted seed companions count some (eqb-false companions 1 e) (omega (arith, few))) in
+        (several_accepted seed companions count some (omega (arith, apart, low)) (omega (arith, few))) in
         front-accepted (header_for companions) seed companions count whole longer
 
 pub generated_accepted : GeneratedLinesAreAccepted

@@ -21,16 +21,15 @@ use Rattle.css_gen.specs.Second.{openings, line_placed, crowd_before, second_lin
 use Rattle.css_gen.specs.Standing.{AreSome, IsReady}
 use Rattle.css_gen.specs.declared.course.Course.{Course}
 use Rattle.css_gen.specs.declared.crowd.Crowd.{Crowd}
-use Rattle.css_gen.specs.declared.crowd.Turn.{Turn}
 use Rattle.css_gen.proofs.Clocks.{clock-goes_on}
 use Rattle.css_gen.proofs.Draws.{draw-below}
 use Rattle.css_gen.proofs.Crowds.{crowd-ready, crowd-companions, turn-can}
 use Rattle.css_gen.proofs.CrowdRanges.{next-range_of, next-second, next-few}
 use Rattle.css_survey.specs.Generated.{header_for, heading, numbered_for, generated}
-use Rattle.css_survey.proofs.CrowdOpenings.{placed, opened_to, opening_accepted, opening_tv, opening_own}
-use Rattle.css_survey.proofs.CrowdOpenings.{AreQuiet, opening_quiet}
+use Rattle.css_survey.proofs.CrowdOpenings.{opened_to, opening_accepted, opening_tv, opening_own, opening_next}
+use Rattle.css_survey.proofs.CrowdOpenings.{AreQuiet, opening_quiet, opening_generated}
 use Rattle.css_survey.proofs.CrowdSeen.{AllSeen, IsShown, Oscillators, tests-ok, all-after}
-use Rattle.css_survey.proofs.CrowdStepped.{IsBeforeTurn, IsTurnStep, turn-step}
+use Rattle.css_survey.proofs.CrowdStepped.{Turn, IsBeforeTurn, turn-step}
 use Rattle.css_survey.proofs.Exchanged.{AreExchanged, IsTicket}
 use Rattle.css_survey.proofs.MadeOf.{made_of}
 use Rattle.css_survey.proofs.Watched.{AreSeen}
@@ -150,11 +149,6 @@ step-holds companions crowd number lines ready same h =
     }
 
 -- ---- all lines
-last-opened : (companions count : ℕ) → IsNext (companions + count + 2) (opened_to companions count)
-unfolding opened_to
-last-opened companions zero = tt
-last-opened companions (suc count) = omega arith
-
 -- nothing was exchanged
 nothing-exchanged : (companions shown : ℕ) (lines : List Numbered) → AreQuiet companions lines
     → AreExchanged companions [] [] 0 shown lines
@@ -190,7 +184,7 @@ opening-holds seed companions some =
             (opening_own (fast_of crowd who) companions whole who first);
       };
       exchanged = nothing-exchanged companions (tv_clock crowd.course) (opened_to companions whole) quiet;
-      last = subst (λ (n : ℕ). IsNext n (opened_to companions whole)) number (last-opened companions whole);
+      last = opening_next companions whole (openings companions + 1) (omega arith);
     }
 
 -- the opening, and so many lines after it
@@ -219,19 +213,7 @@ all-hold seed companions (suc lines) some few =
     (all-hold seed companions lines some fewer))
 
 -- ---- by their numbers
--- a line of the opening
-line-early : (seed companions number : ℕ) → number ≤ openings companions
-    → second_line seed companions number ≡ line_placed (number - companions)
-unfolding second_line
-line-early seed companions number within =
-    let crowd = crowd_before seed companions number in
-    let line = next_line_of crowd in
-    ap (λ (n : ℕ). if nat_le number (openings n) then line_placed (number - n) else line)
-    (crowd-companions seed companions (number - (openings companions + 1)))
-    ∙ ap (λ (b : Bool). if b then line_placed (number - companions) else line)
-    (le-leb number (openings companions) within)
-
--- and one after it
+-- a line after the opening
 line-late : (seed companions number lines : ℕ) → number ≡ openings companions + 1 + lines
     → second_line seed companions number ≡ next_line_of (crowd_after seed companions lines)
 unfolding second_line
@@ -246,40 +228,25 @@ line-late seed companions number lines is =
     ∙ ap (λ (n : ℕ). next_line_of (crowd_after seed companions n)) rest
 
 -- with several companions, each of them has a line of the header
-after-heading : (seed companions count number : ℕ) → companions ≢ 1 → number ≡ companions + 1 + suc count
+after-heading : (seed companions count number : ℕ) → 2 ≤ companions → number ≡ companions + 1 + suc count
     → numbered_for seed companions (heading companions + suc count)
     ≡ record { number = number; line = second_line seed companions number }
 after-heading seed companions count number several is =
     ap (λ (b : Bool). numbered_for seed companions ((if b then 1 else companions + 1) + suc count))
-    (ne_eqb companions 1 several)
+    (ne_eqb companions 1 (λ e. omega (arith, e, several)))
     ∙ ap (numbered_for seed companions) (sym is)
     ∙ ap (λ (b : Bool). record {
       number = number;
       line = if b then line_numbered seed number else second_line seed companions number;
-    }) (ne_eqb companions 1 several)
-
-opened-is : (seed companions count : ℕ) → companions ≢ 1 → count ≤ 3 + 5 * companions
-    → generated seed companions count ≡ opened_to companions count
-unfolding opened_to generated
-opened-is seed companions zero several within = refl
-opened-is seed companions (suc count) several within =
-    let number = companions + (count + 2) in
-    let place : number - companions ≡ count + 2 = omega arith in
-    let older = generated seed companions count in
-    ap (λ (now : Numbered). now ∷ older)
-    (after-heading seed companions count number several (omega arith)
-    ∙ ap (λ (line : Line). record { number = number; line = line })
-    (line-early seed companions number (omega (arith, within)) ∙ ap line_placed place))
-    ∙ ap (λ (lines : List Numbered). placed companions (count + 2) ∷ lines)
-    (opened-is seed companions count several (omega (arith, within)))
+    }) (ne_eqb companions 1 (λ e. omega (arith, e, several)))
 
 -- these are the generated lines
-further-is : (seed companions lines : ℕ) → companions ≢ 1
+further-is : (seed companions lines : ℕ) → 2 ≤ companions
     → generated seed companions (3 + 5 * companions + lines) ≡ further seed companions lines
 unfolding further generated
 further-is seed companions zero several =
     let same : 3 + 5 * companions + 0 ≡ 3 + 5 * companions = omega arith in
-    ap (generated seed companions) same ∙ opened-is seed companions (3 + 5 * companions) several (omega arith)
+    ap (generated seed companions) same ∙ opening_generated seed companions (3 + 5 * companions) several (omega arith)
 further-is seed companions (suc lines) several =
     let count = 3 + 5 * companions + lines in
     let number = openings companions + 1 + lines in
@@ -293,7 +260,7 @@ further-is seed companions (suc lines) several =
     (further-is seed companions lines several)
 
 -- so all of them are accepted
-pub several_accepted : (seed companions count : ℕ) → AreSome companions → companions ≢ 1 → count ≤ 200000
+pub several_accepted : (seed companions count : ℕ) → AreSome companions → 2 ≤ companions → count ≤ 200000
     → AreAccepted (header_for companions) (generated seed companions (3 + 5 * companions + count))
 several_accepted seed companions count some several few =
     subst (AreAccepted (header_for companions)) (sym (further-is seed companions count several))

@@ -25,6 +25,7 @@ use Rattle.css_gen.specs.Course.{clock}
 use Rattle.css_gen.specs.Crowd.{line_at}
 use Rattle.css_gen.specs.Opening.{companion}
 use Rattle.css_survey.specs.Generated.{header_for}
+use Rattle.css_survey.proofs.CrowdOpenings.{local-for}
 use Rattle.css_survey.proofs.Watched.{IsSeen, AreSeen, all-later, clock-ok, seen_next, reading-ok, both-ok}
 
 -- ---- later
@@ -41,19 +42,6 @@ seen-later fast time time' number number' seen later after h = record {
   accepted = h.accepted;
   last = last-later (last_shown (told_by seen)) number number' after h.last;
 }
-
--- ---- what a companion declares
-get-replicate : {A : Type 0} (a : A) (count place : ℕ) → place < count → slice_get (replicate count a) place ≡ Some a
-get-replicate a zero place below = absurd (omega (arith, below))
-get-replicate a (suc count) zero below = refl
-get-replicate a (suc count) (suc place) below = get-replicate a count place (omega (arith, below))
-
--- all companions declare the same
-pub local-same : (companions who : ℕ) → 1 ≤ who → who ≤ companions
-    → local_of who (header_for companions) ≡ record { error = 12800; precision = 1000 }
-local-same companions who some few =
-    ap (λ (o : Option CompanionLine). unwrap_or (option_map (λ c. c.local) o) (record { error = 0; precision = 0 }))
-    (get-replicate companion companions (who - 1) (omega (arith, some, few)))
 
 -- ---- the next line
 -- a reading is a companion's only where it takes part
@@ -126,7 +114,7 @@ own-shown-ok true companions tv_fast fast time number lines t w who l verb h lat
     let verdict : ℕ → Result (Unit {0}) WorldFault = λ error. clock_verdict error (seen_of who lines) (own_seen now) in
     ap (λ (b : Bool). cond b (Ok tt) (verdict (local_of who (header_for companions)).error))
     (ne_eqb who 0 (λ e. omega (arith, e, some)))
-    ∙ ap (λ (own : Local). verdict own.error) (local-same companions who some few)
+    ∙ ap (λ (own : Local). verdict own.error) (local-for companions who some few)
     ∙ clock-ok (fast who) time number (seen_of who lines) (own_seen now) (h.own who some) later
     (mine-seen tv_fast (fast who) number t w who l verb shown)
 
@@ -144,7 +132,7 @@ own-reads-ok true companions tv_fast fast time number lines t w who l verb mine 
     let now = whose_line true number t w who l verb in
     let seen = seen_of who lines in
     ap (λ (own : Local). reading_verdict number own.precision l (has_woken seen) (last_reading seen) (own_reading verb))
-    (local-same companions who some few)
+    (local-for companions who some few)
     ∙ reading-ok (fast who) time number seen (own_seen now) 1000 (has_woken seen) (h.own who some) later
     (mine-seen tv_fast (fast who) number t w who l verb shown)
 

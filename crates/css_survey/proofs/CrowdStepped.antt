@@ -8,16 +8,23 @@ use Rattle.css_world.specs.Verdicts.{tv_reading, own_reading, carried_out}
 use Rattle.css_gen.specs.Draws.{draw}
 use Rattle.css_gen.specs.Course.{Happening, asked, taken, taken_back, given, given_next, landed, printed, chosen}
 use Rattle.css_gen.specs.Course.{tv_clock, own_clock}
-use Rattle.css_gen.specs.Crowd.{datagrams, landed_from, landed_of, slept, chosen_of, happening_of, line_of_turn}
+use Rattle.css_gen.specs.Crowd.{turn, datagrams, landed_from, landed_of, slept, chosen_of, happening_of, line_of_turn}
 use Rattle.css_gen.specs.Crowd.{senders_after, askers_after}
 use Rattle.css_gen.specs.declared.course.Course.{Course}
 use Rattle.css_gen.specs.declared.crowd.Crowd.{Crowd}
-use Rattle.css_gen.specs.declared.crowd.Turn.{Turn}
 use Rattle.css_gen.proofs.Draws.{draw-below}
 use Rattle.css_survey.specs.Generated.{header_for}
 use Rattle.css_survey.proofs.MadeOf.{IsFor, datagrams-for}
 use Rattle.css_survey.proofs.Exchanged.{AreExchanged}
 use Rattle.css_survey.proofs.Exchanged.{ask-done, print-done, land-done, take-done, give-done, sleep-done}
+
+-- what comes of a crowd
+abbrev Becomes : {A : Type 0} → (Crowd → A) → Type 0
+Becomes {A = A} next = A
+
+-- Whose turn it is. The generator's crate exports no name for that.
+abbrev pub Turn : Type 0
+Turn = Becomes turn
 
 -- what was exchanged before, and the wall clock has gone on since
 pub record IsBeforeTurn (companions : ℕ) (lines : List Numbered) (shown : ℕ) (crowd : Crowd) (turn : Turn)

@@ -3,14 +3,11 @@ pub mod Watched
 pub mod MadeOf
 pub mod Exchanged
 pub mod Openings
-pub mod CrowdVerbs
-pub mod CrowdSessions
-pub mod CrowdOpenings
 pub mod Stepped
 pub mod CrowdStepped
 pub mod Accepting
-pub mod CrowdSessions
 pub mod CrowdVerbs
+pub mod CrowdSessions
 pub mod CrowdOpenings
 pub mod CrowdSeen
 pub mod CrowdAccepting

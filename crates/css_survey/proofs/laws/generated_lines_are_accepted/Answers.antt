@@ -1,4 +1,4 @@
-use Rattle.css_survey.proofs.Accepting.{generated_accepted}
+use Rattle.css_survey.proofs.Accepted.{generated_accepted}
 use Rattle.css_survey.proofs.laws.generated_lines_are_accepted.Goals as goal
 
 pub returns : goal.returns
