@@ -1,5 +1,5 @@
 -- Each generated line is accepted after those before it, with one companion and with several.
-use Rattle.std.proofs.Common.{◌≡◌, ℕ, suc, zero, ◌+◌, ◌-◌, ◌*◌, ◌<◌, ◌≤◌, ◌==◌, arith, sym, subst}
+use Rattle.std.proofs.Common.{◌≡◌, ℕ, suc, zero, ◌+◌, ◌-◌, ◌*◌, ◌<◌, ◌≤◌, ◌==◌, arith, sym, subst, refl}
 use Rattle.std.proofs.Common.{Bool, true, false, List, [], ◌∷◌, length}
 use Rattle.std.specs.Prelude.{All, slice_get, unwrap_or, replicate}
 use Rattle.std.specs.Option.{option_map}
