@@ -4,4 +4,5 @@ pub mod Exchanged
 pub mod Openings
 pub mod Stepped
 pub mod Accepting
+pub mod Headed
 pub mod Surveying
