@@ -12,4 +12,5 @@ pub mod CrowdOpenings
 pub mod CrowdSeen
 pub mod CrowdAccepting
 pub mod Accepted
+pub mod Headed
 pub mod Surveying

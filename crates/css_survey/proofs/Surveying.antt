@@ -3,23 +3,19 @@ use Rattle.std.proofs.Common.{◌≡◌, ℕ, suc, zero, ◌+◌, ◌-◌, ◌<�
 use Rattle.std.proofs.Common.{Bool, true, ltb, List, [], ◌∷◌, ◌++◌, length}
 use Rattle.std.proofs.lemmas.Bool.{lt-ltb}
 use Rattle.std.proofs.lemmas.List.{append_assoc}
-use Rattle.std.proofs.Common.{◌⊎◌, inl, inr}
 use Rattle.std.specs.Prelude.{Option, Some, None, Result, Ok, Err, IfOk, OnOk, IsErrAnd}
-use Rattle.std.specs.Option.{option_map, option_to_list}
+use Rattle.std.specs.Option.{option_to_list}
 use Rattle.css_model.specs.History.{History}
 use Rattle.css_model.specs.WallClock.{Local}
-use Rattle.css_model.specs.declared.TheConstants.{LIMIT}
 use Rattle.css_companion.specs.Meanings.{report_after}
 use Rattle.css_companion.specs.Standing as companions
 use Rattle.css_companion.specs.Standing.{Companion, own_of}
 use Rattle.css_companion.specs.declared.report.Report.{Report}
 use Rattle.css_companion.specs.declared.report.Report.TheVariants as reports
 use Rattle.css_schedule.specs.Owners.{is_own}
-use Rattle.css_schedule.specs.Ranges.{IsVerb, IsLine}
+use Rattle.css_schedule.specs.Ranges.{IsHeader, IsCount}
 use Rattle.css_schedule.specs.declared.header.Header.{Header}
-use Rattle.css_schedule.specs.declared.header.Start.TheVariants.{One}
-use Rattle.css_schedule.specs.Headers.{header_of}
-use Rattle.css_schedule.specs.Lines.{line_of}
+use Rattle.css_schedule.specs.Lines.{line_in}
 use Rattle.css_schedule.specs.declared.fault.LineFault.{LineFault}
 use Rattle.css_schedule.specs.declared.line.Line.{Line}
 use Rattle.css_schedule.specs.declared.line.Verb.{Verb}
@@ -29,8 +25,6 @@ use Rattle.css_schedule.specs.declared.line.Verb.TheVariants.{Opening, Bring, Up
 use Rattle.css_world.specs.Happened.{Numbered, datagrams, done_by, events_of, history_of}
 use Rattle.css_tsmsg.specs.declared.setup.Setup.{Setup}
 use Rattle.css_world.specs.Asked.{MayBeAsked}
-use Rattle.css_world.specs.declared.fault.WorldFault.{WorldFault}
-use Rattle.css_world.specs.declared.fault.WorldFault.TheVariants as faults
 use Rattle.css_world.specs.Clocks.{Seen, last_reading, has_woken, least_next}
 use Rattle.css_world.specs.Sessions.{setup_of}
 use Rattle.css_world.specs.Standing as worlds
@@ -39,17 +33,16 @@ use Rattle.css_world.specs.Truth.{IsCompanionOf}
 use Rattle.css_world.specs.Verdicts.{local_of, own_reading, own_seen, seen_of, report_at}
 use Rattle.css_world.proofs.Ends.{history_now}
 use Rattle.css_world.proofs.Worlds.{seen_own}
-use Rattle.css_survey.specs.Generated.{generated}
-use Rattle.css_gen.specs.Generated.{Generator, text_numbered, line_numbered, next_text, after_next}
-use Rattle.css_gen.proofs.Reading.{generated_read}
-use Rattle.css_gen.specs.Opening as opening
-use Rattle.css_survey.specs.declared.summary.Summary.{Summary}
+use Rattle.css_gen.specs.Generated.{Generator, next_text, after_next}
+use Rattle.css_gen.specs.Standing.{AreSome}
+use Rattle.css_survey.specs.Generated.{header_for, heading, version_for, line_for, numbered_for, generated}
 use Rattle.css_survey.specs.declared.surveyor.Surveyor.{Surveyor}
-use Rattle.css_survey.specs.Surveyed.{Told, asked_by, told_by, told_at, told_of, told_in, counted, counted_with}
-use Rattle.css_survey.specs.Surveyed.{summary_of}
+use Rattle.css_survey.specs.Surveyed.{Told, asked_by, told_at, told_of, told_in, counted, counted_with}
+use Rattle.css_survey.specs.Surveyed.{none_told, summary_of}
 use Rattle.css_survey.specs.Surveys.{Stands, IsTaken, HasTaken}
-use Rattle.css_survey.proofs.Giving.{Gave, gave, gave_none, first_text}
-use Rattle.css_survey.proofs.Accepting.{generated_accepted}
+use Rattle.css_survey.proofs.Accepted.{generated_accepted}
+use Rattle.css_survey.proofs.Giving.{Gave, gave}
+use Rattle.css_survey.proofs.Headed.{heading_some, reads_line}
 
 -- ---- one report
 -- only `print` asks for a report
@@ -92,11 +85,6 @@ read_last now older who reading is verb =
     (has_woken (record (own_seen now) { reading = own_reading v } ∷ seen_of who older))
     (last_reading (record (own_seen now) { reading = own_reading v } ∷ seen_of who older))) verb
 
--- and the reading is one of a clock
-pub reads_clock : (now : Numbered) (reading : ℕ) → IsLine now.line → asked_by now.line.verb ≡ Some reading
-    → reading < LIMIT
-reads_clock now reading range asked = subst IsVerb (asks_print now.line.verb reading asked) range.verb
-
 -- the companion may be asked there
 pub reads_on : (world : World) (companion : Companion) (now : Numbered) (older : List Numbered) (who reading : ℕ)
     → MayBeAsked world who companion → worlds.StandsFor world (now ∷ older) → asked_by now.line.verb ≡ Some reading
@@ -138,21 +126,6 @@ never_gone world now older who reading stands asked is none =
     none (record { first = omega (arith, first, is); within = omega (arith, within, is) })
 
 -- ---- counts
--- a report is counted
-pub counts_told : (header : Header) (older : List Numbered) (now : Numbered) (reading : ℕ) (report : Report)
-    (before after : Summary) → asked_by now.line.verb ≡ Some reading
-    → report ≡ report_at now.line.who header older reading → after ≡ counted report before
-    → after ≡ counted_with (told_at header older now) before
-counts_told header older now reading report before after asked is counts =
-    counts ∙ ap (λ (r : Report). counted r before) is
-    ∙ ap (λ (o : Option ℕ). counted_with (option_map (told_by header older now) o) before) (sym asked)
-
--- where none is told, nothing is
-pub counts_none : (header : Header) (older : List Numbered) (now : Numbered) (before : Summary)
-    → asked_by now.line.verb ≡ None → before ≡ counted_with (told_at header older now) before
-counts_none header older now before asked =
-    ap (λ (o : Option ℕ). counted_with (option_map (told_by header older now) o) before) (sym asked)
-
 -- one report more, if there is one
 pub counts_on : (told : Option Told) (older : List Told)
     → counted_with told (summary_of older) ≡ summary_of (option_to_list told ++ older)
@@ -191,14 +164,6 @@ pub few_intervals : (header : Header) (lines : List Numbered)
 few_intervals header lines = omega (arith, (few_counted (told_of header lines)).1, few_told header lines)
 
 -- ---- one line more
--- a line that a world takes isn't refused
-pub never_refused : (meant : Result (List ℕ) WorldFault) (printed before after : List ℕ) (fault : WorldFault)
-    → meant ≡ Ok printed
-    → (after ≡ before) × ((worlds.appended before meant ≡ Err fault) ⊎ (fault ≡ faults.Memory)) → fault ≡ faults.Memory
-never_refused (Err other) printed before after fault is told = absurd (cc)
-never_refused (Ok text) printed before after fault is (same, inl e) = absurd (cc)
-never_refused (Ok text) printed before after fault is (same, inr e) = e
-
 -- the survey stands for it too
 pub takes : (old new : Surveyor) (older : List Numbered) (now : Numbered) → Stands old older → length older < 200000
     → worlds.StandsFor new.world (now ∷ older) → new.world.header ≡ old.world.header
@@ -236,57 +201,55 @@ pub no_on_ok_at_err : {A E : Type 0} (Q : E → Type 0) (P : Type 0) (r : Result
 no_on_ok_at_err Q P (Ok x) h = absurd h
 no_on_ok_at_err Q P (Err e) h = tt
 
--- what holds anyway holds of a success
-pub on_ok_from : {A E P : Type 0} (r : Result A E) → P → OnOk r P
-on_ok_from (Ok x) p = p
-on_ok_from (Err e) p = tt
-
 -- ---- generated lines
 -- one line more
-one-generated : (seed number : ℕ) → 1 ≤ number → generated seed number
-    ≡ record { number = number + 1; line = line_numbered seed (number + 1) } ∷ generated seed (number - 1)
+one-generated : (seed companions number : ℕ) → heading companions ≤ number
+    → generated seed companions (number - heading companions + 1)
+    ≡ numbered_for seed companions (number + 1) ∷ generated seed companions (number - heading companions)
 unfolding generated
-one-generated seed zero some = absurd (omega (arith, some))
-one-generated seed (suc count) some =
-    let number : count + 2 ≡ suc count + 1 = omega arith in
-    let rest : count ≡ suc count - 1 = omega arith in
-    ap (λ (n : ℕ). record { number = n; line = line_numbered seed n } ∷ generated seed count) number
-    ∙ ap (λ (n : ℕ). record { number = suc count + 1; line = line_numbered seed (suc count + 1) } ∷ generated seed n)
-    rest
+one-generated seed companions number some =
+    let count = number - heading companions in
+    let suc_so : count + 1 ≡ suc count = omega arith in
+    let next : heading companions + suc count ≡ number + 1 = omega (arith, some) in
+    ap (generated seed companions) suc_so
+    ∙ ap (λ (n : ℕ). numbered_for seed companions n ∷ generated seed companions count) next
 
 -- there are so many
-generated-count : (seed count : ℕ) → length (generated seed count) ≡ count
+generated-count : (seed companions count : ℕ) → length (generated seed companions count) ≡ count
 unfolding generated
-generated-count seed zero = refl
-generated-count seed (suc count) = ap suc (generated-count seed count)
+generated-count seed companions zero = refl
+generated-count seed companions (suc count) = ap suc (generated-count seed companions count)
 
 -- the lines that were taken, and the one that comes next
 abbrev pub lines_before : Generator → List Numbered
-lines_before generator = generated generator.seed (generator.given - 1)
+lines_before generator =
+    generated generator.seed generator.companions (generator.given - heading generator.companions)
 
 abbrev pub next_generated : Generator → Line
-next_generated generator = line_numbered generator.seed (generator.given + 1)
+next_generated generator = line_for generator.seed generator.companions (generator.given + 1)
 
 pub ready_next : (survey : Surveyor) (before after : Generator) (number : ℕ) (text : List ℕ) → HasTaken survey before
     → Gave before after text → number ≡ before.given + 1
-    → IsTaken survey.world.header (lines_before before) number text (next_generated before)
+    → IsTaken survey.companions survey.world.header (lines_before before) number text (next_generated before)
 ready_next survey before after number text has gave is =
+    let seed = before.seed in
+    let companions = before.companions in
     let given = before.given in
-    let few : given < 200000 = omega (arith, gave.more, has.few) in
-    let read = (generated_read before.seed).others (given + 1) (omega (arith, has.some)) (omega (arith, few)) in
-    let text_is = gave.text ∙ first_text before has.one in
-    let taken : AreAccepted opening.header (generated before.seed given) =
-    (generated_accepted before.seed given few).accepted in
-    let first : AreAccepted opening.header
-    (record { number = given + 1; line = next_generated before } ∷ lines_before before) =
-    subst (AreAccepted opening.header) (one-generated before.seed given has.some) taken in
-    let here : AreAccepted survey.world.header
-    (record { number = given + 1; line = next_generated before } ∷ lines_before before) =
-    subst (λ (h : Header). AreAccepted h
-    (record { number = given + 1; line = next_generated before } ∷ lines_before before))
+    let of = has.given in
+    let some = heading_some companions in
+    let few : given < 200000 = omega (arith, gave.more, of.few) in
+    let read : line_in (version_for companions) companions text ≡ Ok (next_generated before) =
+    ap (line_in (version_for companions) companions) gave.text
+    ∙ reads_line seed companions (given + 1) of.some (omega (arith, of.header)) (omega (arith, few)) in
+    let taken : AreAccepted (header_for companions) (generated seed companions (given - heading companions + 1)) =
+    (generated_accepted seed companions (given - heading companions + 1) of.some (omega (arith, few, some))).accepted in
+    let first : AreAccepted (header_for companions) (numbered_for seed companions (given + 1) ∷ lines_before before) =
+    subst (AreAccepted (header_for companions)) (one-generated seed companions given of.header) taken in
+    let here : AreAccepted survey.world.header (numbered_for seed companions (given + 1) ∷ lines_before before) =
+    subst (λ (h : Header). AreAccepted h (numbered_for seed companions (given + 1) ∷ lines_before before))
     (sym has.header) first in
     record {
-      read = ap line_of text_is ∙ read;
+      read = subst (λ (n : ℕ). line_in (version_for n) n text ≡ Ok (next_generated before)) (sym has.companions) read;
       accepted = subst (λ (n : ℕ). AreAccepted survey.world.header
           (record { number = n; line = next_generated before } ∷ lines_before before)) (sym is) here;
     }
@@ -295,26 +258,40 @@ ready_next survey before after number text has gave is =
 pub few_before : (survey : Surveyor) (before after : Generator) (text : List ℕ) → HasTaken survey before
     → Gave before after text → length (lines_before before) < 200000
 few_before survey before after text has gave =
-    omega (arith, generated-count before.seed (before.given - 1), has.few, gave.more)
+    let few = has.given.few in
+    omega (
+      arith,
+      generated-count before.seed before.companions (before.given - heading before.companions),
+      few,
+      gave.more,
+    )
 
 -- the survey has taken it too
 pub taken_next : (old new : Surveyor) (before after : Generator) (number : ℕ) (text : List ℕ) → HasTaken old before
-    → Gave before after text → number ≡ before.given + 1 → new.world.header ≡ old.world.header
+    → Gave before after text → number ≡ before.given + 1 → new.companions ≡ old.companions
+    → new.world.header ≡ old.world.header
     → Stands new (record { number = number; line = next_generated before } ∷ lines_before before)
     → HasTaken new after
-taken_next old new before after number text has gave is header stands =
+taken_next old new before after number text has gave is companions header stands =
+    let seed = before.seed in
+    let count = before.companions in
     let given = before.given in
-    let here : Stands new (record { number = given + 1; line = next_generated before } ∷ lines_before before) =
+    let of = has.given in
+    let within = of.header in
+    let here : Stands new (numbered_for seed count (given + 1) ∷ lines_before before) =
     subst (λ (n : ℕ). Stands new (record { number = n; line = next_generated before } ∷ lines_before before))
     is stands in
-    let same : given ≡ given + 1 - 1 = omega arith in
-    let all : Stands new (generated before.seed (given + 1 - 1)) =
-    subst (Stands new) (sym (one-generated before.seed given has.some) ∙ ap (generated before.seed) same) here in
+    let same : given - heading count + 1 ≡ given + 1 - heading count = omega (arith, within) in
+    let all : Stands new (generated seed count (given + 1 - heading count)) =
+    subst (Stands new) (sym (one-generated seed count given within) ∙ ap (generated seed count) same) here in
     subst (HasTaken new) (sym gave.gone) (record {
-      one = has.one;
-      some = omega arith;
-      within = omega (arith, gave.more);
-      few = has.few;
+      given = record {
+        some = of.some;
+        header = omega (arith, within);
+        within = omega (arith, gave.more);
+        few = of.few;
+      };
+      companions = companions ∙ has.companions;
       header = header ∙ has.header;
       stands = all;
     })
@@ -326,7 +303,7 @@ pub can_take : (survey : Surveyor) (before after : Generator) (number : ℕ) (ne
     → HasTaken survey before → number ≡ before.given + 1 → next ≡ Some text → next ≡ next_text before
     → after ≡ after_next before → bytes ≡ text
     → (older : List Numbered) × (line : Line) × Stands survey older × (length older < 200000)
-    × IsTaken survey.world.header older number bytes line
+    × IsTaken survey.companions survey.world.header older number bytes line
 can_take survey before after number next text bytes has is some answer left same =
     let step = gave before after text (sym some ∙ answer) left in
     let ready = ready_next survey before after number text has step is in (
@@ -334,25 +311,27 @@ can_take survey before after number next text bytes has is some answer left same
       next_generated before,
       has.stands,
       few_before survey before after text has step,
-      subst (λ (t : List ℕ). IsTaken survey.world.header (lines_before before) number t (next_generated before))
-          (sym same) ready,
+      subst (λ (t : List ℕ). IsTaken survey.companions survey.world.header (lines_before before) number t
+          (next_generated before)) (sym same) ready,
     )
 
 -- so it has taken it
 pub has_taken : (old new : Surveyor) (before after : Generator) (number : ℕ) (next : Option (List ℕ))
     (text bytes : List ℕ)
     → HasTaken old before → number ≡ before.given + 1 → next ≡ Some text → next ≡ next_text before
-    → after ≡ after_next before → bytes ≡ text → new.world.header ≡ old.world.header
+    → after ≡ after_next before → bytes ≡ text → new.companions ≡ old.companions
+    → new.world.header ≡ old.world.header
     → ((older : List Numbered) (line : Line) → Stands old older → length older < 200000
-    → IsTaken old.world.header older number bytes line → Stands new (record { number = number; line = line } ∷ older))
+    → IsTaken old.companions old.world.header older number bytes line
+    → Stands new (record { number = number; line = line } ∷ older))
     → HasTaken new after
-has_taken old new before after number next text bytes has is some answer left same header stands =
+has_taken old new before after number next text bytes has is some answer left same companions header stands =
     let step = gave before after text (sym some ∙ answer) left in
     let ready = ready_next old before after number text has step is in
-    let taken : IsTaken old.world.header (lines_before before) number bytes (next_generated before) =
-    subst (λ (t : List ℕ). IsTaken old.world.header (lines_before before) number t (next_generated before))
-    (sym same) ready in
-    taken_next old new before after number text has step is header
+    let taken : IsTaken old.companions old.world.header (lines_before before) number bytes (next_generated before) =
+    subst (λ (t : List ℕ). IsTaken old.companions old.world.header (lines_before before) number t
+    (next_generated before)) (sym same) ready in
+    taken_next old new before after number text has step is companions header
     (stands (lines_before before) (next_generated before) has.stands (few_before old before after text has step) taken)
 
 -- there was a line more
@@ -366,87 +345,56 @@ pub taken_still : (survey : Surveyor) (before after : Generator) → HasTaken su
     → HasTaken survey after
 taken_still survey before after has same = subst (HasTaken survey) (sym same) has
 
+-- ---- the header
+-- the world of the header can be opened
+pub can_open : (companions : ℕ) (header : Header) → AreSome companions → header ≡ header_for companions
+    → IsHeader header × IsCount (length header.companions)
+can_open companions header some is =
+    let of = (generated_accepted 0 companions 0 some (omega arith)).declared in
+    subst (λ (h : Header). IsHeader h × IsCount (length h.companions)) (sym is) (of.tv, of.companions)
+
 -- a survey that has taken the header has taken what a new generator gave
-pub taken_first : (survey : Surveyor) (before after : Generator) (text : List ℕ) → before.companions ≡ 1
-    → before.given ≡ 0 → before.lines ≤ 200000 → Gave before after text → survey.world.header ≡ opening.header
-    → Stands survey []
-    → HasTaken survey after
+pub taken_first : (survey : Surveyor) (before after : Generator) → AreSome before.companions
+    → heading before.companions ≤ before.lines → before.lines ≤ 200000
+    → after ≡ record before { given = heading before.companions } → survey.companions ≡ before.companions
+    → survey.world.header ≡ header_for before.companions → worlds.StandsFor survey.world []
+    → survey.summary ≡ none_told → HasTaken survey after
 unfolding generated
-taken_first survey before after text one none few gave header stands =
-    let same : 0 ≡ before.given + 1 - 1 = omega (arith, none) in
-    subst (HasTaken survey) (sym gave.gone) (record {
-      one = one;
-      some = omega arith;
-      within = omega (arith, gave.more);
-      few = few;
+taken_first survey before after some lines few given companions header world none =
+    let first : 0 ≡ heading before.companions - heading before.companions = omega arith in
+    let stands : Stands survey [] = record { world = world; summary = none; few = omega arith } in
+    subst (HasTaken survey) (sym given) (record {
+      given = record { some = some; header = omega arith; within = lines; few = few };
+      companions = companions;
       header = header;
-      stands = subst (λ (n : ℕ). Stands survey (generated before.seed n)) same stands;
+      stands = subst (λ (n : ℕ). Stands survey (generated before.seed before.companions n)) first stands;
     })
-
--- the header is read
-pub reads_header : (before after : Generator) (text : List ℕ) → before.companions ≡ 1 → before.given ≡ 0
-    → Gave before after text
-    → header_of text ≡ Ok (One opening.header)
-reads_header before after text one none gave =
-    ap header_of (gave.text ∙ first_text before one ∙ ap (λ (n : ℕ). text_numbered before.seed (n + 1)) none)
-    ∙ (generated_read before.seed).first
-
--- ---- the first call
--- what the generator answered is the header
-pub can_begin : (before after : Generator) (next : Option (List ℕ)) (text bytes : List ℕ) → before.companions ≡ 1
-    → before.given ≡ 0 → next ≡ Some text → next ≡ next_text before → after ≡ after_next before → bytes ≡ text
-    → header_of bytes ≡ Ok (One opening.header)
-can_begin before after next text bytes one none some answer left same =
-    ap header_of same ∙ reads_header before after text one none (gave before after text (sym some ∙ answer) left)
-
--- there is one
-pub never_none : (before after : Generator) (next : Option (List ℕ)) → before.given ≡ 0 → 1 ≤ before.lines
-    → next ≡ None → next ≡ next_text before → after ≡ after_next before → ⊥
-never_none before after next none some gone answer left =
-    let all = (gave_none before after (sym gone ∙ answer) left).none in
-    omega (arith, all, some, none)
-
--- so it was given
-pub gave_header : (before after : Generator) (next : Option (List ℕ)) (text : List ℕ) → before.given ≡ 0
-    → next ≡ Some text → next ≡ next_text before → after ≡ after_next before → after ≡ record before { given = 1 }
-gave_header before after next text none some answer left =
-    (gave before after text (sym some ∙ answer) left).gone
-    ∙ ap (λ (n : ℕ). record before { given = n + 1 }) none
-
--- and the survey that begins with it has taken it
-pub has_begun : {E : Type 0} (begun : Result Surveyor E) (before after : Generator) (next : Option (List ℕ))
-    (text : List ℕ) → before.companions ≡ 1 → before.given ≡ 0 → before.lines ≤ 200000 → next ≡ Some text
-    → next ≡ next_text before → after ≡ after_next before → IfOk begun (λ survey. survey.world.header ≡ opening.header)
-    → IfOk begun (λ survey. Stands survey []) → IfOk begun (λ survey. HasTaken survey after)
-has_begun (Ok survey) before after next text one none few some answer left header stands =
-    taken_first survey before after text one none few (gave before after text (sym some ∙ answer) left) header stands
-has_begun (Err fault) before after next text one none few some answer left header stands = tt
 
 -- ---- all lines
 -- In the end it has counted what is told at all lines.
-pub all_counted : (survey : Surveyor) (generator : Generator) (seed lines : ℕ) → HasTaken survey generator
-    → generator.seed ≡ seed → generator.lines ≡ lines → generator.lines ≤ generator.given
-    → survey.summary ≡ summary_of (told_in seed lines)
+pub all_counted : (survey : Surveyor) (generator : Generator) (seed companions lines : ℕ) → HasTaken survey generator
+    → generator.seed ≡ seed → generator.companions ≡ companions → generator.given ≡ lines
+    → survey.summary ≡ summary_of (told_in seed companions lines)
 unfolding told_in
-all_counted survey generator seed lines has same all none =
-    let given : generator.given ≡ lines = omega (arith, has.within, all, none) in
+all_counted survey generator seed companions lines has of count given =
+    let told : (header : Header) (seed companions given : ℕ) → List Told =
+    λ header seed companions given. told_of header (generated seed companions (given - heading companions)) in
     has.stands.summary
-    ∙ ap (λ (h : Header). summary_of (told_of h (generated generator.seed (generator.given - 1)))) has.header
-    ∙ ap (λ (s : ℕ). summary_of (told_of opening.header (generated s (generator.given - 1)))) same
-    ∙ ap (λ (n : ℕ). summary_of (told_of opening.header (generated seed (n - 1)))) given
+    ∙ ap (λ (h : Header). summary_of (told h generator.seed generator.companions generator.given)) has.header
+    ∙ ap (λ (s : ℕ). summary_of (told (header_for generator.companions) s generator.companions generator.given)) of
+    ∙ ap (λ (n : ℕ). summary_of (told (header_for n) seed n generator.given)) count
+    ∙ ap (λ (n : ℕ). summary_of (told (header_for companions) seed companions n)) given
 
-pub counted_in_all : (survey : Surveyor) (new begun all : Generator) (seed lines : ℕ)
-    → new ≡ record { seed = seed; lines = lines; companions = 1; given = 0 } → begun ≡ record new { given = 1 }
-    → all ≡ record begun { given = begun.lines } → HasTaken survey all
-    → survey.summary ≡ summary_of (told_in seed lines)
-counted_in_all survey new begun all seed lines is first last has =
-    let of : all.seed ≡ seed =
-    ap (λ (g : Generator). g.seed) last ∙ ap (λ (g : Generator). g.seed) first ∙ ap (λ (g : Generator). g.seed) is in
-    let same : all.lines ≡ lines =
-    ap (λ (g : Generator). g.lines) last ∙ ap (λ (g : Generator). g.lines) first ∙ ap (λ (g : Generator). g.lines) is in
-    let given : all.given ≡ begun.lines = ap (λ (g : Generator). g.given) last in
-    let few : all.lines ≡ begun.lines = ap (λ (g : Generator). g.lines) last in
-    all_counted survey all seed lines has of same (omega (arith, given, few))
+pub counted_in_all : (survey : Surveyor) (new begun all : Generator) (seed companions lines : ℕ)
+    → new ≡ record { seed = seed; lines = lines; companions = companions; given = 0 }
+    → begun ≡ record new { given = heading new.companions } → all ≡ record begun { given = begun.lines }
+    → HasTaken survey all → survey.summary ≡ summary_of (told_in seed companions lines)
+counted_in_all survey new begun all seed companions lines is first last has =
+    let same : all ≡ record { seed = seed; lines = lines; companions = companions; given = lines } =
+    last ∙ ap (λ (g : Generator). record g { given = g.lines }) first
+    ∙ ap (λ (g : Generator). record g { given = g.lines }) is in
+    all_counted survey all seed companions lines has (ap (λ (g : Generator). g.seed) same)
+    (ap (λ (g : Generator). g.companions) same) (ap (λ (g : Generator). g.given) same)
 
 -- ---- the line
 -- the pieces of a line, one after another

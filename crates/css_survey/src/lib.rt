@@ -1,7 +1,8 @@
-//! A survey of a generated schedule: a replay of its lines, of which only the reports are counted. A world takes each of
-//! these lines, whatever the seed.
+//! A survey of a generated schedule: a replay of its lines, of which only the reports are counted. A world takes each
+//! of these lines, whatever the seed.
 #![tactic(auto)]
 
+mod heading;
 pub mod laws;
 mod summary;
 mod surveyor;

@@ -7,13 +7,13 @@ use std::alloc::Global;
 
 /// The reports that a replay printed, counted.
 #[derive(Clone, Copy, Debug, PartialEq, Eq)]
-pub(crate) struct Summary {
+pub struct Summary {
     /// How many there are.
-    pub(crate) prints: u64,
+    pub prints: u64,
     /// How many of them are intervals.
-    pub(crate) intervals: u64,
+    pub intervals: u64,
     /// The greatest width of an interval, in ticks, and 0 where there is none.
-    pub(crate) widest: u128,
+    pub widest: u128,
 }
 
 impl Summary {
@@ -42,7 +42,7 @@ impl Summary {
     }
 
     /// The line that tells it, of a schedule of so many lines.
-    pub(crate) fn line(&self, alloc: Global, lines: u64) -> Result<String, Memory>
+    pub fn line(&self, alloc: Global, lines: u64) -> Result<String, Memory>
         ensures { IfOk result (λ text. string_bytes text ≡ surveyed.summary_line lines self.now) }
     {
         let Summary {

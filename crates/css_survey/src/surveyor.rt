@@ -1,60 +1,51 @@
-ghost use Rattle.std.specs.Prelude.{◌≡◌, ◌≤◌, ◌<◌, ◌+◌, ◌^◌, nat_lt, ℕ, List, [], ◌∷◌, length, string_bytes};
-ghost use Rattle.std.specs.Prelude.{Ok, Some, IfOk, OnOk, OnErr};
-ghost use Rattle.std.specs.Io.KnownBytes.{Appends};
-ghost use Rattle.css_outside.specs.Bytes.{AppendsPrefix};
-ghost use Rattle.css_outside.specs.Faults.{CountsCall};
-ghost use Rattle.css_schedule.specs.Headers.{header_of};
-ghost use Rattle.css_schedule.specs.Lines.{line_of};
-ghost use Rattle.css_schedule.specs.declared.header.Start.TheVariants.{One};
+ghost use Rattle.std.specs.Prelude.{◌≡◌, ◌≤◌, ◌<◌, ◌+◌, ◌^◌, nat_lt, List, ◌∷◌, length};
+ghost use Rattle.std.specs.Prelude.{Ok, Some, IfOk, OnOk};
+ghost use Rattle.css_schedule.specs.Lines.{line_in};
 ghost use Rattle.css_schedule.specs.declared.line.Line.{Line as Happening};
 ghost use Rattle.css_world.specs.Happened.{Numbered};
 ghost use Rattle.css_world.specs.Standing as worlds;
 ghost use Rattle.css_world.specs.Verdicts as verdicts;
-ghost use Rattle.css_gen.specs.Opening as opening;
 ghost use Rattle.css_gen.specs.Generated.{after_next};
-ghost use Rattle.css_app.specs.Ended.{Writes, CountsWrites, HasNotFailed, IsDoneUnlessMemory};
+ghost use Rattle.css_gen.specs.Second.{least_lines};
+ghost use Rattle.css_gen.specs.Standing.{AreSome};
+ghost use Rattle.css_survey.specs.Generated as generated;
+ghost use Rattle.css_survey.specs.Generated.{version_for};
 ghost use Rattle.css_survey.specs.Surveyed as surveyed;
-ghost use Rattle.css_survey.specs.Surveyed.{survey_text};
 ghost use Rattle.css_survey.specs.Surveys.{Stands, IsTaken, HasTaken};
 
-use crate::status::Status;
+use crate::heading::{heading, whole_header};
 use crate::summary::Summary;
 use css_companion::Report;
 use css_gen::Generator;
 use css_num::Memory;
-use css_outside::{OutFault, Sink, write_all};
-use css_schedule::{Line, LineFault, Start, Verb, read_header, read_line};
+use css_schedule::{Line, LineFault, Verb, read_line};
 use css_world::{World, WorldFault};
 use std::alloc::Global;
 
 /// A replay of lines that a world takes, of which only the reports are counted.
 #[derive(Drop)]
 pub(crate) struct Surveyor {
+    /// How many companions the schedule has.
+    companions: u32,
     world: World,
     /// What is printed for a line. It is counted, and kept no longer.
     printed: Vec<u8>,
     summary: Summary,
 }
 
-// Opens the world of the header that is generated.
-fn open(alloc: Global, text: &[u8]) -> Result<World, Memory>
-    requires { header_of text.now ≡ Ok (One opening.header) }
-    ensures header { IfOk result (λ world. world.header ≡ opening.header) }
-    ensures stands { IfOk result (λ world. worlds.StandsFor world []) }
+// The version of a schedule of so many companions.
+fn version(companions: u32) -> u32
+    ensures { result ≡ version_for companions }
 {
-    match read_header(alloc, text) {
-        Ok(Start::One(header)) => World::new(alloc, header),
-        Err(LineFault::Memory) => Err(Memory),
-        Ok(Start::Two { .. }) | Err(LineFault::Form) => unreachable!(),
-    }
+    if companions == 1 { 1 } else { 2 }
 }
 
 // Reads a text that is in the grammar.
-fn read(alloc: Global, text: &[u8]) -> Result<Line, Memory>
-    requires { (line : Happening) × (line_of text.now ≡ Ok line) }
-    ensures { IfOk result (λ line. line_of text.now ≡ Ok line) }
+fn read(alloc: Global, companions: u32, text: &[u8]) -> Result<Line, Memory>
+    requires { (line : Happening) × (line_in (version_for companions) companions text.now ≡ Ok line) }
+    ensures { IfOk result (λ line. line_in (version_for companions) companions text.now ≡ Ok line) }
 {
-    match read_line(alloc, text, 1, 1) {
+    match read_line(alloc, text, version(companions), companions) {
         Ok(line) => Ok(line),
         Err(LineFault::Memory) => Err(Memory),
         Err(LineFault::Form) => unreachable!(),
@@ -108,29 +99,18 @@ fn last_report(world: &World, who: u32, reading: u64) -> Report
 }
 
 impl Surveyor {
-    // The survey before its first line.
-    fn begin(alloc: Global, text: &[u8]) -> Result<Surveyor, Memory>
-        requires { header_of text.now ≡ Ok (One opening.header) }
-        ensures header { IfOk result (λ survey. survey.world.header ≡ opening.header) }
-        ensures stands { IfOk result (λ survey. Stands survey []) }
-    {
-        Ok(Surveyor {
-            world: open(alloc, text)?,
-            printed: Vec::new(alloc),
-            summary: Summary::new(),
-        })
-    }
-
     // Takes the line of that number.
     fn take(&mut self, alloc: Global, number: u64, text: &[u8]) -> Result<(), Memory>
         requires { (older : List Numbered) × (line : Happening) × Stands self.old older
-            × (length older < 200000) × IsTaken self.old.world.header older number text.now line }
+            × (length older < 200000)
+            × IsTaken self.old.companions self.old.world.header older number text.now line }
+        ensures companions { self.new.companions ≡ self.old.companions }
         ensures header { self.new.world.header ≡ self.old.world.header }
         ensures stands { (older : List Numbered) (line : Happening) → Stands self.old older → length older < 200000
-            → IsTaken self.old.world.header older number text.now line
+            → IsTaken self.old.companions self.old.world.header older number text.now line
             → OnOk result (Stands self.new (record { number = number; line = line } ∷ older)) }
     {
-        let line = read(alloc, text)?;
+        let line = read(alloc, self.companions, text)?;
         let who = line.who;
         let asked = asked_at(&line.verb);
         carry_out(&mut self.world, number, line, &mut self.printed)?;
@@ -145,6 +125,7 @@ impl Surveyor {
             × (surveyed.asked_by now.line.verb ≡ asked) × (now.line.who ≡ who) }
         requires prints { self.old.summary.prints < 2 ^ 32 }
         requires intervals { self.old.summary.intervals < 2 ^ 32 }
+        ensures companions { self.new.companions ≡ self.old.companions }
         ensures world { self.new.world ≡ self.old.world }
         ensures summary { (now : Numbered) (older : List Numbered) → worlds.StandsFor self.old.world (now ∷ older)
             → surveyed.asked_by now.line.verb ≡ asked → now.line.who ≡ who → self.new.summary
@@ -158,19 +139,23 @@ impl Surveyor {
 }
 
 // Begins a survey with the header that a new generator gives.
-fn begin(alloc: Global, generator: &mut Generator) -> Result<Surveyor, Memory>
-    requires one { generator.old.companions ≡ 1 }
+fn begin(alloc: Global, companions: u32, generator: &mut Generator) -> Result<Surveyor, Memory>
+    requires same { companions ≡ generator.old.companions }
+    requires some { AreSome generator.old.companions }
+    requires lines { generated.heading generator.old.companions ≤ generator.old.lines }
+    requires most { generator.old.lines ≤ 200000 }
     requires given { generator.old.given ≡ 0 }
-    requires some { 1 ≤ generator.old.lines }
-    requires few { generator.old.lines ≤ 200000 }
-    ensures generator { OnOk result (generator.new ≡ record generator.old { given = 1 }) }
+    ensures generator { OnOk result
+        (generator.new ≡ record generator.old { given = generated.heading generator.old.companions }) }
     ensures taken { IfOk result (λ survey. HasTaken survey generator.new) }
 {
-    let next = generator.next_line(alloc)?;
-    match next {
-        Some(text) => Surveyor::begin(alloc, text.bytes()),
-        None => unreachable!(),
-    }
+    let header = whole_header(alloc, generator)?;
+    Ok(Surveyor {
+        companions,
+        world: World::new(alloc, header)?,
+        printed: Vec::new(alloc),
+        summary: Summary::new(),
+    })
 }
 
 // Takes the next line that is generated, which has that number, and tells whether there was one.
@@ -196,68 +181,38 @@ fn take_next(
     }
 }
 
-// Takes each further line that is generated.
-fn take_all(alloc: Global, generator: &mut Generator, survey: &mut Surveyor) -> Result<(), Memory>
-    requires given { generator.old.given ≡ 1 }
+// Takes each further line that is generated, the first of which has that number.
+fn take_all(
+    alloc: Global,
+    first: u64,
+    generator: &mut Generator,
+    survey: &mut Surveyor,
+) -> Result<(), Memory>
+    requires first { first ≡ generator.old.given + 1 }
     requires taken { HasTaken survey.old generator.old }
     ensures generator { OnOk result (generator.new ≡ record generator.old { given = generator.old.lines }) }
     ensures taken { OnOk result (HasTaken survey.new generator.new) }
 {
-    let mut number = 2;
+    let mut number = first;
     'lines: while take_next(alloc, number, generator, survey)? {
         number += 1;
     }
     Ok(())
 }
 
-// Surveys the schedule of so many lines that is generated of the seed.
-fn survey_lines(alloc: Global, seed: u64, lines: u64) -> Result<Summary, Memory>
-    requires least { 9 ≤ lines }
+/// Replays the schedule that is generated of the seed, and counts the reports that are printed for its lines. It has so
+/// many lines, at most 200,000, and so many companions, 1 to 16. With one companion it has at least 9 lines. With
+/// several it has 4 lines, and 6 for each companion, at least. No line is kept longer than it is replayed.
+pub fn survey(alloc: Global, seed: u64, lines: u64, companions: u32) -> Result<Summary, Memory>
+    requires some { 1 ≤ companions }
+    requires few { companions ≤ 16 }
+    requires least { least_lines companions ≤ lines }
     requires most { lines ≤ 200000 }
-    ensures { IfOk result (λ summary. summary ≡ surveyed.summary_of (surveyed.told_in seed lines)) }
+    ensures { IfOk result
+        (λ summary. summary ≡ surveyed.summary_of (surveyed.told_in seed companions lines)) }
 {
-    let mut generator = Generator::new(alloc, seed, lines, 1);
-    let mut survey = begin(alloc, &mut generator)?;
-    take_all(alloc, &mut generator, &mut survey)?;
+    let mut generator = Generator::new(alloc, seed, lines, companions);
+    let mut survey = begin(alloc, companions, &mut generator)?;
+    take_all(alloc, heading(companions) + 1, &mut generator, &mut survey)?;
     Ok(survey.summary)
-}
-
-// The line of a survey.
-fn survey_line(alloc: Global, seed: u64, lines: u64) -> Result<String, Memory>
-    requires least { 9 ≤ lines }
-    requires most { lines ≤ 200000 }
-    ensures { IfOk result (λ line. string_bytes line ≡ survey_text seed lines) }
-{
-    let summary = survey_lines(alloc, seed, lines)?;
-    summary.line(alloc, lines)
-}
-
-fn write_survey<K: Sink>(alloc: Global, seed: u64, lines: u64, sink: &mut K) -> Result<(), OutFault>
-    requires least { 9 ≤ lines }
-    requires most { lines ≤ 200000 }
-    ensures ok { OnOk result (Appends (K.holds sink.old) (K.holds sink.new) (survey_text seed lines)) }
-    ensures err { OnErr result (AppendsPrefix (K.holds sink.old) (K.holds sink.new) (survey_text seed lines)) }
-    ensures counted { CountsCall (K.faults sink.old) (K.faults sink.new) result }
-{
-    match survey_line(alloc, seed, lines) {
-        Ok(line) => write_all(sink, line.as_bytes()),
-        Err(Memory) => Err(OutFault::Memory),
-    }
-}
-
-/// Replays the schedule of so many lines, 9 to 200,000, that is generated of the seed, and writes one line: how many
-/// lines there are, how many reports are printed for them, how many of these are intervals, and the greatest width of
-/// an interval. No line is kept longer than it is replayed.
-pub fn survey<K: Sink>(alloc: Global, seed: u64, lines: u64, sink: &mut K) -> Status
-    requires least { 9 ≤ lines }
-    requires most { lines ≤ 200000 }
-    ensures writes { Writes (survey_text seed lines) (K.holds sink.old) (K.holds sink.new) result }
-    ensures complete { HasNotFailed (K.faults sink.old) (K.faults sink.new) → IsDoneUnlessMemory result }
-    ensures counted_writes { CountsWrites (K.faults sink.old) (K.faults sink.new) result }
-{
-    match write_survey(alloc, seed, lines, sink) {
-        Ok(()) => Status::Done,
-        Err(OutFault::Failed) => Status::WriteFault,
-        Err(OutFault::Memory) => Status::Memory,
-    }
 }

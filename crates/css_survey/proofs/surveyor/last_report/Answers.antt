@@ -1,4 +1,4 @@
-use Rattle.css_survey.proofs.Surveying.{reads_on, reads_clock, tells_report, never_gone}
+use Rattle.css_survey.proofs.Surveying.{reads_on, tells_report, never_gone}
 use Rattle.css_survey.proofs.surveyor.last_report.Goals as goal
 
 pub report-requires-clause-floor : goal.report-requires-clause-floor

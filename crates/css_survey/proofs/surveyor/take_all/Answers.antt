@@ -5,6 +5,6 @@ use Rattle.css_survey.proofs.surveyor.take_all.Goals as goal
 pub overflow_add-number : goal.overflow_add-number
 overflow_add-number c =
     let number = c.lines.invariant.number in
-    let within = c.lines.invariant.taken.within in
-    let few = c.lines.invariant.taken.few in
+    let within = c.lines.invariant.taken.given.within in
+    let few = c.lines.invariant.taken.given.few in
     omega (arith, number, within, few)

@@ -19,8 +19,9 @@ returns-in_ok-take-in-Some-clause-more c =
 pub returns-in_ok-take-in-Some-clause-taken : goal.returns-in_ok-take-in-Some-clause-taken
 returns-in_ok-take-in-Some-clause-taken c =
     has_taken c.args.survey.now c.take.new.self c.args.generator.now c.next_line.new.self c.args.number
-    c.in_ok-next.next c.in-Some.text c.bytes.result.now c.requires.taken c.requires.number c.in-Some.is c.in_ok-next.ensures.text
-    c.in_ok-next.ensures.given c.bytes.ensures c.in_ok-take-in-Some.ensures.header c.in_ok-take-in-Some.ensures.stands
+    c.in_ok-next.next c.in-Some.text c.bytes.result.now c.requires.taken c.requires.number c.in-Some.is
+    c.in_ok-next.ensures.text c.in_ok-next.ensures.given c.bytes.ensures c.in_ok-take-in-Some.ensures.companions
+    c.in_ok-take-in-Some.ensures.header c.in_ok-take-in-Some.ensures.stands
 
 pub returns-in-None-clause-more : goal.returns-in-None-clause-more
 returns-in-None-clause-more c =

@@ -1,9 +1,10 @@
 -- The survey stands for one line more.
 use Rattle.std.proofs.Common.{◌≡◌, ◌∷◌, arith, ap, refl, sym, subst}
-use Rattle.css_schedule.specs.Lines.{line_of}
+use Rattle.css_schedule.specs.Lines.{line_in}
 use Rattle.css_schedule.specs.declared.line.Line.{Line}
 use Rattle.css_world.specs.Standing as worlds
 use Rattle.css_survey.specs.declared.summary.Summary.{Summary}
+use Rattle.css_survey.specs.Generated.{version_for}
 use Rattle.css_survey.specs.Surveys.{Stands}
 use Rattle.css_survey.proofs.Surveying.{few_prints, few_intervals, takes_by, same_line}
 use Rattle.css_survey.proofs.surveyor.Surveyor.take.Goals as goal
@@ -11,7 +12,9 @@ use Rattle.css_survey.proofs.surveyor.Surveyor.take.Goals as goal
 pub carry_out-requires : goal.carry_out-requires
 carry_out-requires c =
     let same : c.requires.1 ≡ c.in_ok-line.line =
-    same_line (line_of c.args.text.now) c.requires.1 c.in_ok-line.line c.requires.4.read c.in_ok-line.ensures in (
+    same_line
+    (line_in (version_for c.args.self.now.companions) c.args.self.now.companions c.args.text.now) c.requires.1
+    c.in_ok-line.line c.requires.4.read c.in_ok-line.ensures in (
       c.requires.0,
       c.requires.2.world,
       subst (λ (l : Line). worlds.AreAccepted c.args.self.now.world.header
@@ -33,7 +36,9 @@ count-requires-clause-intervals c =
 pub returns-clause-stands : goal.returns-clause-stands
 returns-clause-stands c = λ older line stands few taken.
     let same : line ≡ c.in_ok-line.line =
-    same_line (line_of c.args.text.now) line c.in_ok-line.line taken.read c.in_ok-line.ensures in
+    same_line
+    (line_in (version_for c.args.self.now.companions) c.args.self.now.companions c.args.text.now) line
+    c.in_ok-line.line taken.read c.in_ok-line.ensures in
     let stood = c.in_ok-carry_out.ensures.stands older stands.world taken.accepted.2 in
     subst (λ (l : Line). Stands c.count.new.self (record { number = c.args.number; line = l } ∷ older)) (sym same)
     (takes_by c.args.self.now c.count.new.self c.carry_out.new.world older
