@@ -1,6 +1,6 @@
 -- Each generated line is accepted after those before it, with one companion and with several.
-use Rattle.std.proofs.Common.{◌≡◌, ℕ, suc, zero, ◌+◌, ◌-◌, ◌*◌, ◌<◌, ◌≤◌, ◌==◌, arith, sym, subst, refl}
-use Rattle.std.proofs.Common.{Bool, true, false, List, [], ◌∷◌, length}
+use Rattle.std.proofs.Common.{◌≡◌, ℕ, suc, zero, ◌+◌, ◌-◌, ◌*◌, ◌<◌, ◌==◌, arith, sym, subst, refl}
+use Rattle.std.proofs.Common.{Bool, true, false}
 use Rattle.std.specs.Prelude.{All, slice_get, unwrap_or, replicate}
 use Rattle.std.specs.Option.{option_map}
 use Rattle.std.proofs.lemmas.Bool.{eqb-true, eqb-false}
@@ -9,7 +9,6 @@ use Rattle.std.proofs.lemmas.List.{length-replicate}
 use Rattle.std.proofs.lemmas.List.Elements.{All-nil, All-cons}
 use Rattle.css_model.specs.WallClock.{IsLocal}
 use Rattle.css_schedule.specs.Ranges.{IsCompanion, IsCount}
-use Rattle.css_schedule.specs.declared.header.CompanionLine.{CompanionLine}
 use Rattle.css_schedule.specs.declared.header.Header.{Header}
 use Rattle.css_world.specs.Verdicts.{IsDeclared}
 use Rattle.css_world.specs.Standing.{AreAccepted}

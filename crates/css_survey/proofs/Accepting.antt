@@ -1,25 +1,21 @@
 -- Each generated line of one companion is accepted after those before it.
 use Rattle.std.proofs.Common.{◌≡◌, ℕ, suc, zero, ◌+◌, ◌-◌, ◌≤◌, arith, ap, sym, subst, ◌∙◌, refl}
 use Rattle.std.proofs.Common.{Bool, false, cond, List, [], ◌∷◌}
-use Rattle.std.specs.Prelude.{map, slice_get, unwrap_or, Result, Ok}
-use Rattle.std.specs.Option.{option_map}
+use Rattle.std.specs.Prelude.{map, Result, Ok}
 use Rattle.std.specs.Result.{result_and}
 use Rattle.std.proofs.lemmas.Bool.{le-ltb}
-use Rattle.std.proofs.lemmas.Int.{ints}
-use Rattle.std.proofs.lemmas.List.Elements.{All-nil, All-cons}
 use Rattle.css_model.specs.Numbers.{precision_ns}
-use Rattle.css_model.specs.WallClock.{IsLocal}
-use Rattle.css_schedule.specs.Ranges.{IsLine, IsCompanion}
+use Rattle.css_schedule.specs.Ranges.{IsLine}
 use Rattle.css_schedule.specs.declared.line.Line.{Line}
 use Rattle.css_world.specs.declared.fault.WorldFault.{WorldFault}
 use Rattle.css_world.specs.Clocks.{Seen, clock_verdict, last_reading, has_woken, reading_verdict}
 use Rattle.css_world.specs.Happened.{Numbered}
-use Rattle.css_world.specs.Verdicts.{IsDeclared, tv_seen, own_seen, seen_of_tv, seen_of, tv_reading, own_reading}
+use Rattle.css_world.specs.Verdicts.{tv_seen, own_seen, seen_of_tv, seen_of, tv_reading, own_reading}
 use Rattle.css_world.specs.Verdicts.{shown_tested, reading_tested, tested, carried_out, line_meant}
 use Rattle.css_world.specs.Standing.{AreAccepted, IsNext}
 use Rattle.css_gen.specs.Course.{clock, tv_clock, own_clock, started, later, happening, next_line, next_course}
 use Rattle.css_gen.specs.Course.{course_after}
-use Rattle.css_gen.specs.Opening.{header, companion, opening_line}
+use Rattle.css_gen.specs.Opening.{header, opening_line}
 use Rattle.css_gen.specs.Generated.{line_numbered}
 use Rattle.css_survey.specs.Generated.{header_for, generated}
 use Rattle.css_gen.specs.declared.course.Course.{Course}

@@ -1,9 +1,9 @@
 -- Each generated line of several companions is accepted after those before it.
-use Rattle.std.proofs.Common.{◌≡◌, ◌≢◌, ℕ, suc, zero, ◌+◌, ◌-◌, ◌*◌, ◌<◌, ◌≤◌, arith, ap, sym, subst, ◌∙◌, refl}
+use Rattle.std.proofs.Common.{◌≡◌, ℕ, suc, zero, ◌+◌, ◌-◌, ◌*◌, ◌<◌, ◌≤◌, arith, ap, sym, subst, ◌∙◌, refl}
 use Rattle.std.proofs.Common.{Bool, false, List, [], ◌∷◌, length, ne_eqb}
 use Rattle.std.specs.Prelude.{All, Result, Ok, slice_index_or, nat_le, if◌then◌else◌}
 use Rattle.std.specs.Result.{result_and}
-use Rattle.std.proofs.lemmas.Bool.{le-leb, lt-leb}
+use Rattle.std.proofs.lemmas.Bool.{lt-leb}
 use Rattle.std.proofs.lemmas.List.{length-replicate}
 use Rattle.std.proofs.lemmas.List.Elements.{All-nil}
 use Rattle.css_schedule.specs.Owners.{is_own}
@@ -19,7 +19,6 @@ use Rattle.css_gen.specs.Generated.{line_numbered}
 use Rattle.css_gen.specs.Opening.{companion}
 use Rattle.css_gen.specs.Second.{openings, line_placed, crowd_before, second_line}
 use Rattle.css_gen.specs.Standing.{AreSome, IsReady}
-use Rattle.css_gen.specs.declared.course.Course.{Course}
 use Rattle.css_gen.specs.declared.crowd.Crowd.{Crowd}
 use Rattle.css_gen.proofs.Clocks.{clock-goes_on}
 use Rattle.css_gen.proofs.Draws.{draw-below}

@@ -1,16 +1,13 @@
 -- The tests of all clocks pass on the lines of several companions.
-use Rattle.std.proofs.Common.{◌≡◌, ◌≢◌, ℕ, suc, zero, ◌+◌, ◌-◌, ◌<◌, ◌≤◌, arith, ap, sym, subst, ◌∙◌, refl}
-use Rattle.std.proofs.Common.{Bool, true, false, cond, List, [], ◌∷◌, ne_eqb, ◌==◌}
-use Rattle.std.specs.Prelude.{Option, Some, None, IfSome, Result, Ok, unwrap_or, slice_get, replicate}
+use Rattle.std.proofs.Common.{◌≡◌, ℕ, ◌+◌, ◌<◌, ◌≤◌, arith, ap, sym, subst, ◌∙◌, refl}
+use Rattle.std.proofs.Common.{Bool, true, false, cond, List, ◌∷◌, ne_eqb, ◌==◌}
+use Rattle.std.specs.Prelude.{Option, Some, None, IfSome, Result, Ok}
 use Rattle.std.specs.Prelude.{if◌then◌else◌}
-use Rattle.std.specs.Option.{option_map}
 use Rattle.std.proofs.lemmas.Bool.{eqb-true, eqb-false}
 use Rattle.css_model.specs.Numbers.{precision_ns}
 use Rattle.css_model.specs.WallClock.{Local}
 use Rattle.css_moments.specs.Drifts.{Shown, last_shown}
 use Rattle.css_schedule.specs.Owners.{is_own}
-use Rattle.css_schedule.specs.declared.header.CompanionLine.{CompanionLine}
-use Rattle.css_schedule.specs.declared.line.Line.{Line}
 use Rattle.css_schedule.specs.declared.line.Verb.{Verb}
 use Rattle.css_schedule.specs.declared.line.Verb.TheVariants.{Ask, Take, Give, Land, Wall, Print}
 use Rattle.css_schedule.specs.declared.line.Verb.TheVariants.{Programme, Timeline, Viewer}
@@ -22,8 +19,6 @@ use Rattle.css_world.specs.Verdicts.{local_of, tv_seen, own_seen, seen_of_tv, se
 use Rattle.css_world.specs.Verdicts.{own_shown_tested, shown_tested, reading_tested, tested}
 use Rattle.css_world.proofs.Worlds.{seen_own, seen_other}
 use Rattle.css_gen.specs.Course.{clock}
-use Rattle.css_gen.specs.Crowd.{line_at}
-use Rattle.css_gen.specs.Opening.{companion}
 use Rattle.css_survey.specs.Generated.{header_for}
 use Rattle.css_survey.proofs.CrowdOpenings.{local-for}
 use Rattle.css_survey.proofs.Watched.{IsSeen, AreSeen, all-later, clock-ok, seen_next, reading-ok, both-ok}
