@@ -6,12 +6,6 @@ pub mod Standing
 pub mod Heading
 pub mod Completeness
 pub mod Generating
-pub mod Watched
-pub mod Exchanged
-pub mod Openings
-pub mod Stepped
-pub mod Accepting
-pub mod Surveying
 pub mod Plain
 pub mod Replaying
 pub mod ScriptsTaken

@@ -20,7 +20,6 @@ mod script_text;
 mod scripts;
 mod sheets;
 mod status;
-mod summary;
 mod surveyed;
 mod told;
 
