@@ -1,6 +1,6 @@
 -- What a run did, by the words of its command line.
 use Rattle.std.proofs.Common.{◌≡◌, ◌∙◌, ℕ, List, ap, refl, sym, subst, inl, inr}
-use Rattle.std.specs.Prelude.{◌⊎◌, Bool, true, false, Option, Result, Ok, Err}
+use Rattle.std.specs.Prelude.{◌⊎◌, Bool, true, false, Option, unwrap_or, Result, Ok, Err}
 use Rattle.css_model.specs.History.{Address, History}
 use Rattle.css_follow.specs.Following.{Plan}
 use Rattle.css_follow.specs.declared.sheet.Sheet.{Sheet}
@@ -11,6 +11,8 @@ use Rattle.css_words.specs.Companion.{CompanionAsked, OptionsAsked}
 use Rattle.css_words.specs.Pair.{PairAsked}
 use Rattle.css_words.specs.declared.fault.WordsFault.{WordsFault}
 use Rattle.css_words.specs.declared.fault.WordsFault.TheVariants as words
+use Rattle.css_survey.specs.Generated.{schedule_text}
+use Rattle.css_survey.specs.Surveyed.{survey_text}
 use Rattle.css_app.specs.declared.child.Child.{Child}
 use Rattle.css_app.specs.declared.status.Status.{Status}
 use Rattle.css_app.specs.declared.status.Status.TheVariants as status
@@ -20,8 +22,6 @@ use Rattle.css_app.specs.Devices.{FollowersUse, OutsideUse, SinkUse, SourceUse, 
 use Rattle.css_app.specs.Ended.{IsNoUsage}
 use Rattle.css_app.specs.Live.{Companions, EndsAsDue, Stage}
 use Rattle.css_app.specs.Pairs.{Children, Pairs, PairsAsDue, PairsByScript, address_at}
-use Rattle.css_app.specs.Generated.{schedule_text}
-use Rattle.css_app.specs.Surveyed.{survey_text}
 use Rattle.css_app.proofs.Relays.{relays_no_usage}
 use Rattle.css_app.proofs.Quiet.{companions_no_child, driven_no_child, pairs_no_usage, script_no_dial}
 use Rattle.css_app.proofs.Quiet.{serves_no_dial, sheet_no_child, writes_no_usage}
@@ -121,11 +121,11 @@ usage_only (Ok (Pair asked)) source sink outside spawner followers result did is
 usage_only (Ok (Relay asked)) source sink outside spawner followers result did is =
     absurd (subst IsNoUsage is (relays_no_usage asked outside.told_old outside.told_new result did.ran))
 usage_only (Ok (Generate asked)) source sink outside spawner followers result did is =
-    absurd (subst IsNoUsage is (writes_no_usage (schedule_text asked.seed asked.lines) sink.holds_old sink.holds_new
-    result did.writes))
+    absurd (subst IsNoUsage is (writes_no_usage (schedule_text asked.seed (unwrap_or asked.companions 1) asked.lines)
+    sink.holds_old sink.holds_new result did.writes))
 usage_only (Ok (Survey asked)) source sink outside spawner followers result did is =
-    absurd (subst IsNoUsage is (writes_no_usage (survey_text asked.seed asked.lines) sink.holds_old sink.holds_new
-    result did.writes))
+    absurd (subst IsNoUsage is (writes_no_usage (survey_text asked.seed (unwrap_or asked.companions 1) asked.lines)
+    sink.holds_old sink.holds_new result did.writes))
 usage_only (Err words.Usage) source sink outside spawner followers result did is = refl
 usage_only (Err words.Memory) source sink outside spawner followers result did is = absurd (cc)
 

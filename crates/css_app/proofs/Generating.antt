@@ -1,145 +1,93 @@
 -- What is written of generated lines, one after another, is a front part of the schedule.
-use Rattle.std.proofs.Common.{◌≡◌, ℕ, suc, zero, ◌+◌, ◌-◌, ◌<◌, ◌≤◌, arith, ap, sym, subst, ◌∙◌, refl}
-use Rattle.std.proofs.Common.{Bool, true, false, cond, ltb, List, [], ◌∷◌, ◌++◌}
-use Rattle.std.specs.Prelude.{Option, Some, None}
+use Rattle.std.proofs.Common.{◌≡◌, ℕ, suc, zero, ◌+◌, ◌-◌, ◌<◌, ◌≤◌, arith, ap, sym, subst, ◌∙◌}
+use Rattle.std.proofs.Common.{Bool, cond, List, [], ◌∷◌, ◌++◌}
+use Rattle.std.specs.Prelude.{Option, Some, None, unwrap_or}
 use Rattle.std.specs.Io.KnownBytes.{Appends}
-use Rattle.std.proofs.lemmas.Bool.{ltb-true, ltb-false}
+use Rattle.std.proofs.lemmas.Bool.{ne_eqb}
 use Rattle.std.proofs.lemmas.List.{append_assoc, append-nil}
 use Rattle.css_outside.proofs.Known.{appends_more}
 use Rattle.css_outside.specs.Bytes.{IsPrefix, AppendsPrefix}
-use Rattle.css_gen.specs.Generated.{Generator, text_numbered, text_in, text_after, next_text, after_next}
-use Rattle.css_app.specs.Generated.{schedule_text}
+use Rattle.css_words.specs.Lines as asked
+use Rattle.css_gen.specs.Generated.{text_in}
+use Rattle.css_gen.specs.Second.{openings, least_lines}
+use Rattle.css_survey.specs.Generated.{schedule_text}
 
--- ---- the generator
--- A generator gave this text: it was the next one, and there was one line more.
-pub record Gave (before after : Generator) (bytes : List ℕ) : Type 0 where
-  pub more : before.given < before.lines
-  pub text : bytes ≡ text_after before
-  pub gone : after ≡ record before { given = before.given + 1 }
+-- ---- what is asked for
+-- where no companions are told, there is one
+pub some_asked : (told : Option ℕ) → 2 ≤ unwrap_or told 2 → 1 ≤ unwrap_or told 1
+some_asked None some = omega arith
+some_asked (Some count) some = omega (arith, some)
 
-pub gave : (before after : Generator) (text : List ℕ) → Some text ≡ next_text before → after ≡ after_next before
-    → Gave before after text
-gave before after text given left = by (ltb before.given before.lines) refl given left
-  where
-    next : List ℕ
-    next = text_after before
+pub few_asked : (told : Option ℕ) → unwrap_or told 2 ≤ 16 → unwrap_or told 1 ≤ 16
+few_asked None few = omega arith
+few_asked (Some count) few = few
 
-    left_so : Generator
-    left_so = record before { given = before.given + 1 }
-
-    by : (b : Bool) → ltb before.given before.lines ≡ b → Some text ≡ cond b (Some next) None
-        → after ≡ cond b left_so before → Gave before after text
-    by true more is left = record { more = ltb-true before.given before.lines more; text = cc; gone = left }
-    by false more is left = absurd (cc)
-
--- with one companion, it is the next line of version 1
-pub first_text : (before : Generator) → before.companions ≡ 1
-    → text_after before ≡ text_numbered before.seed (before.given + 1)
-first_text before one = ap (λ (n : ℕ). text_in before.seed n (before.given + 1)) one
-
--- It gave nothing, since there was no line more.
-pub record GaveNone (before after : Generator) : Type 0 where
-  pub none : before.lines ≤ before.given
-  pub same : after ≡ before
-
-pub gave_none : (before after : Generator) → None ≡ next_text before → after ≡ after_next before
-    → GaveNone before after
-gave_none before after given left = by (ltb before.given before.lines) refl given left
-  where
-    next : List ℕ
-    next = text_after before
-
-    left_so : Generator
-    left_so = record before { given = before.given + 1 }
-
-    by : (b : Bool) → ltb before.given before.lines ≡ b → None ≡ cond b (Some next) None
-        → after ≡ cond b left_so before → GaveNone before after
-    by true more is left = absurd (cc)
-    by false more is left = record { none = ltb-false before.given before.lines more; same = left }
-
--- ---- whether there was a line more
--- There was one.
-pub record WentOn (before after : Generator) : Type 0 where
-  pub more : before.given < before.lines
-  pub seed : after.seed ≡ before.seed
-  pub lines : after.lines ≡ before.lines
-  pub given : after.given ≡ before.given + 1
-
-pub went_on : (before after : Generator) (more : Bool) → more ≡ ltb before.given before.lines → more ≡ true
-    → after ≡ after_next before → WentOn before after
-went_on before after more is there left =
-    let left_so : Generator = record before { given = before.given + 1 } in
-    let fewer : ltb before.given before.lines ≡ true = sym is ∙ there in
-    let same : after ≡ left_so = left ∙ ap (λ (b : Bool). cond b left_so before) fewer in
-    record {
-      more = ltb-true before.given before.lines fewer;
-      seed = ap (λ (x : Generator). x.seed) same;
-      lines = ap (λ (x : Generator). x.lines) same;
-      given = ap (λ (x : Generator). x.given) same;
-    }
-
--- There was none.
-pub stayed : (before after : Generator) (more : Bool) → more ≡ ltb before.given before.lines → more ≡ false
-    → after ≡ after_next before → GaveNone before after
-stayed before after more is gone left =
-    let left_so : Generator = record before { given = before.given + 1 } in
-    let none : ltb before.given before.lines ≡ false = sym is ∙ gone in
-    record {
-      none = ltb-false before.given before.lines none;
-      same = left ∙ ap (λ (b : Bool). cond b left_so before) none;
-    }
+-- so many lines suffice for them
+pub lines_asked : (told : Option ℕ) (lines : ℕ) → 2 ≤ unwrap_or told 2 → asked.least_lines told ≤ lines
+    → least_lines (unwrap_or told 1) ≤ lines
+lines_asked None lines some least = least
+lines_asked (Some count) lines some least =
+    subst (λ (b : Bool). cond b 9 (openings count) ≤ lines) (sym (ne_eqb count 1 (λ e. omega (arith, e, some))))
+    (omega (arith, least))
 
 -- ---- the schedule
 -- it begins with its first lines
-schedule-front : (seed given more : ℕ) → IsPrefix (schedule_text seed given) (schedule_text seed (given + more))
-schedule-front seed given zero =
+schedule-front : (seed companions given more : ℕ)
+    → IsPrefix (schedule_text seed companions given) (schedule_text seed companions (given + more))
+schedule-front seed companions given zero =
     let same : given + 0 ≡ given = omega arith in
-    ([], ap (schedule_text seed) same ∙ sym (append-nil (schedule_text seed given)))
-schedule-front seed given (suc more) =
+    ([], ap (schedule_text seed companions) same ∙ sym (append-nil (schedule_text seed companions given)))
+schedule-front seed companions given (suc more) =
     let same : given + suc more ≡ suc (given + more) = omega arith in
-    let line = text_numbered seed (suc (given + more)) ++ 10 ∷ [] in
-    let front = schedule-front seed given more in (
+    let line = text_in seed companions (suc (given + more)) ++ 10 ∷ [] in
+    let front = schedule-front seed companions given more in (
       front.0 ++ line,
-      ap (schedule_text seed) same ∙ ap (λ (l : List ℕ). l ++ line) front.1
-          ∙ append_assoc (schedule_text seed given) front.0 line,
+      ap (schedule_text seed companions) same ∙ ap (λ (l : List ℕ). l ++ line) front.1
+          ∙ append_assoc (schedule_text seed companions given) front.0 line,
     )
 
-schedule-begins : (seed given lines : ℕ) → given ≤ lines
-    → IsPrefix (schedule_text seed given) (schedule_text seed lines)
-schedule-begins seed given lines fewer =
+schedule-begins : (seed companions given lines : ℕ) → given ≤ lines
+    → IsPrefix (schedule_text seed companions given) (schedule_text seed companions lines)
+schedule-begins seed companions given lines fewer =
     let same : given + (lines - given) ≡ lines = omega (arith, fewer) in
-    subst (λ (n : ℕ). IsPrefix (schedule_text seed given) (schedule_text seed n)) same
-    (schedule-front seed given (lines - given))
+    subst (λ (n : ℕ). IsPrefix (schedule_text seed companions given) (schedule_text seed companions n)) same
+    (schedule-front seed companions given (lines - given))
 
 -- one line more was written
-pub one_more : (seed given : ℕ) (start held holds : Option (List ℕ)) → Appends start held (schedule_text seed given)
-    → Appends held holds (text_numbered seed (given + 1) ++ 10 ∷ [])
-    → Appends start holds (schedule_text seed (given + 1))
-one_more seed given start held holds grew line =
+pub one_more : (seed companions given : ℕ) (start held holds : Option (List ℕ))
+    → Appends start held (schedule_text seed companions given)
+    → Appends held holds (text_in seed companions (given + 1) ++ 10 ∷ [])
+    → Appends start holds (schedule_text seed companions (given + 1))
+one_more seed companions given start held holds grew line =
     let more : suc given ≡ given + 1 = omega arith in
-    let wrote : Appends held holds (text_numbered seed (suc given) ++ 10 ∷ []) =
-    subst (λ (n : ℕ). Appends held holds (text_numbered seed n ++ 10 ∷ [])) (sym more) line in
-    subst (λ (n : ℕ). Appends start holds (schedule_text seed n)) more
-    (appends_more start held holds (schedule_text seed given) (text_numbered seed (suc given) ++ 10 ∷ []) grew wrote)
+    let wrote : Appends held holds (text_in seed companions (suc given) ++ 10 ∷ []) =
+    subst (λ (n : ℕ). Appends held holds (text_in seed companions n ++ 10 ∷ [])) (sym more) line in
+    subst (λ (n : ℕ). Appends start holds (schedule_text seed companions n)) more
+    (appends_more start held holds (schedule_text seed companions given)
+    (text_in seed companions (suc given) ++ 10 ∷ []) grew wrote)
 
 -- no line more was written
-pub stops_before : (seed given lines : ℕ) (start holds : Option (List ℕ)) → given ≤ lines
-    → Appends start holds (schedule_text seed given) → AppendsPrefix start holds (schedule_text seed lines)
-stops_before seed given lines start holds fewer grew =
-    record { front = schedule_text seed given; of = schedule-begins seed given lines fewer; grew = grew }
+pub stops_before : (seed companions given lines : ℕ) (start holds : Option (List ℕ)) → given ≤ lines
+    → Appends start holds (schedule_text seed companions given)
+    → AppendsPrefix start holds (schedule_text seed companions lines)
+stops_before seed companions given lines start holds fewer grew = record {
+  front = schedule_text seed companions given;
+  of = schedule-begins seed companions given lines fewer;
+  grew = grew;
+}
 
 -- a part of the next line was written
-pub stops_within : (seed given lines : ℕ) (start held holds : Option (List ℕ)) → given < lines
-    → Appends start held (schedule_text seed given)
-    → AppendsPrefix held holds (text_numbered seed (given + 1) ++ 10 ∷ [])
-    → AppendsPrefix start holds (schedule_text seed lines)
-stops_within seed given lines start held holds fewer grew part =
-    let begun = schedule_text seed given in
+pub stops_within : (seed companions given lines : ℕ) (start held holds : Option (List ℕ)) → given < lines
+    → Appends start held (schedule_text seed companions given)
+    → AppendsPrefix held holds (text_in seed companions (given + 1) ++ 10 ∷ [])
+    → AppendsPrefix start holds (schedule_text seed companions lines)
+stops_within seed companions given lines start held holds fewer grew part =
+    let begun = schedule_text seed companions given in
     let more : suc given ≡ given + 1 = omega arith in
-    let rest = schedule-begins seed (suc given) lines (omega (arith, fewer)) in
-    let line : text_numbered seed (suc given) ++ 10 ∷ [] ≡ part.front ++ part.of.0 =
-    ap (λ (n : ℕ). text_numbered seed n ++ 10 ∷ []) more ∙ part.of.1 in
-    let whole : schedule_text seed lines ≡ (begun ++ part.front) ++ (part.of.0 ++ rest.0) =
+    let rest = schedule-begins seed companions (suc given) lines (omega (arith, fewer)) in
+    let line : text_in seed companions (suc given) ++ 10 ∷ [] ≡ part.front ++ part.of.0 =
+    ap (λ (n : ℕ). text_in seed companions n ++ 10 ∷ []) more ∙ part.of.1 in
+    let whole : schedule_text seed companions lines ≡ (begun ++ part.front) ++ (part.of.0 ++ rest.0) =
     rest.1 ∙ ap (λ (l : List ℕ). (begun ++ l) ++ rest.0) line
     ∙ append_assoc begun (part.front ++ part.of.0) rest.0
     ∙ ap (λ (l : List ℕ). begun ++ l) (append_assoc part.front part.of.0 rest.0)

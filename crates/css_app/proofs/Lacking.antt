@@ -1,6 +1,6 @@
 -- A run that lacked memory before it began left every device as it was.
 use Rattle.std.proofs.Common.{◌≡◌, ℕ, List, [], refl, sym, subst, arith, inl, inr}
-use Rattle.std.specs.Prelude.{Bool, true, false, Option, Some, Result, Ok, Err}
+use Rattle.std.specs.Prelude.{Bool, true, false, Option, Some, unwrap_or, Result, Ok, Err}
 use Rattle.css_outside.proofs.Known.{appends_none, consumes_none}
 use Rattle.css_model.specs.History.{History}
 use Rattle.css_lines.specs.declared.ending.Stop.TheVariants as stops
@@ -18,14 +18,14 @@ use Rattle.css_words.specs.Commands.{Survey}
 use Rattle.css_words.specs.Companion.{CompanionAsked}
 use Rattle.css_words.specs.declared.fault.WordsFault.{WordsFault}
 use Rattle.css_words.specs.declared.fault.WordsFault.TheVariants as words
+use Rattle.css_survey.specs.Generated.{schedule_text}
+use Rattle.css_survey.specs.Surveyed.{survey_text}
 use Rattle.css_app.specs.declared.status.Status.TheVariants as status
 use Rattle.css_app.specs.Commands.{ByAgree, ByAudit, ByMigrate, ByRecord, ByReplay, ByWriting, Does}
 use Rattle.css_app.specs.Commands.{EitherCompanion}
 use Rattle.css_app.specs.Devices.{followers_use, sink_use, source_use}
-use Rattle.css_app.specs.Generated.{schedule_text}
 use Rattle.css_app.specs.Pairs.{Children}
 use Rattle.css_app.specs.Replayed.{replayed}
-use Rattle.css_app.specs.Surveyed.{survey_text}
 
 module _ {Cause : Type 0} (meaning : Meaning Cause) where
   nothing_sound : IsSound meaning []
@@ -163,8 +163,8 @@ lacks (Ok (Relay asked)) left holds told kids takes heard r w c s = record {
   complete = λ called. inl refl;
 }
 lacks (Ok (Generate asked)) left holds told kids takes heard r w c s =
-    writing_lacks (schedule_text asked.seed asked.lines) holds w
+    writing_lacks (schedule_text asked.seed (unwrap_or asked.companions 1) asked.lines) holds w
 lacks (Ok (Survey asked)) left holds told kids takes heard r w c s =
-    writing_lacks (survey_text asked.seed asked.lines) holds w
+    writing_lacks (survey_text asked.seed (unwrap_or asked.companions 1) asked.lines) holds w
 lacks (Err words.Usage) left holds told kids takes heard r w c s = tt
 lacks (Err words.Memory) left holds told kids takes heard r w c s = refl

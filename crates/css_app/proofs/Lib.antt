@@ -6,17 +6,6 @@ pub mod Standing
 pub mod Heading
 pub mod Completeness
 pub mod Generating
-pub mod Watched
-pub mod Exchanged
-pub mod Openings
-pub mod Stepped
-pub mod Accepting
-pub mod Surveying
-pub mod Plain
-pub mod PlainFirst
-pub mod PlainSecond
-pub mod GeneratedTexts
-pub mod Replaying
 pub mod ScriptsTaken
 pub mod SheetsTaken
 pub mod Live

@@ -1,5 +1,5 @@
 -- What each command of a command line does to its devices.
-use Rattle.std.specs.Prelude.{◌≡◌, ◌⊎◌, ℕ, Bool, true, false, not, List, Option, Some, Result, Ok, Err}
+use Rattle.std.specs.Prelude.{◌≡◌, ◌⊎◌, ℕ, Bool, true, false, not, List, Option, Some, unwrap_or, Result, Ok, Err}
 use Rattle.css_model.specs.History.{Address, History}
 use Rattle.css_agree.specs.Promise as agree
 use Rattle.css_audit.specs.Promise.{SaysRight}
@@ -8,6 +8,8 @@ use Rattle.css_follow.specs.Following.{Plan}
 use Rattle.css_follow.specs.Sheets.{sheet_in}
 use Rattle.css_follow.specs.declared.sheet.Sheet.{Sheet}
 use Rattle.css_schedule.specs.declared.line.ScriptLine.{ScriptLine}
+use Rattle.css_survey.specs.Generated.{schedule_text}
+use Rattle.css_survey.specs.Surveyed.{survey_text}
 use Rattle.css_tv.specs.declared.config.TvConfig.{TvConfig}
 use Rattle.css_words.specs.Commands.{Asked, Replay, Agree, Audit, Migrate, Companion, Tv, Pair, Relay, Generate}
 use Rattle.css_words.specs.Commands.{Survey}
@@ -24,7 +26,6 @@ use Rattle.css_app.specs.declared.status.Status.TheVariants as status
 use Rattle.css_app.specs.Devices.{SourceUse, SinkUse, OutsideUse, SpawnerUse, FollowersUse, stage_before, stage_after}
 use Rattle.css_app.specs.Ended.{Agrees, AreAllRead, AreAllRight, Audits, HasNotFailed, IsAccepted, IsDoneUnlessMemory}
 use Rattle.css_app.specs.Ended.{IsNoUsage, Replays, Writes}
-use Rattle.css_app.specs.Generated.{schedule_text}
 use Rattle.css_app.specs.Headline.{Promised}
 use Rattle.css_app.specs.Live.{IsAsDue, MakesNoRun, RunsBySheet, Serves, ServesAsDue, Stage}
 use Rattle.css_app.specs.Migrations.{AreAllFirst, Migrates}
@@ -32,7 +33,6 @@ use Rattle.css_app.specs.Pairs.{ArePairedAsDue, Children, PairsByScript, PairsNo
 use Rattle.css_app.specs.Records.{MakesNoRecord, MakesRecord}
 use Rattle.css_app.specs.Relays.{RelaysBy, RelaysNone, RelaysAsDue}
 use Rattle.css_app.specs.Scripts.{script_in}
-use Rattle.css_app.specs.Surveyed.{survey_text}
 
 -- ---- refused words
 -- the words are those of no command, or memory ran out before that was known
@@ -263,13 +263,15 @@ pub record ByWriting (text : List ℕ) (sink : SinkUse) (result : Status) : Type
   -- over a sink that doesn't fail it is the whole text
   pub complete : HasNotFailed sink.faults_old sink.faults_new → IsDoneUnlessMemory result
 
--- the text is the schedule of so many lines that is generated of the seed
+-- The text is the schedule that is generated of the seed, of so many lines. Where no companions are told, it has one.
 abbrev pub ByGenerate : GeneratorAsked → SinkUse → Status → Type 0
-ByGenerate asked sink result = ByWriting (schedule_text asked.seed asked.lines) sink result
+ByGenerate asked sink result =
+    ByWriting (schedule_text asked.seed (unwrap_or asked.companions 1) asked.lines) sink result
 
 -- the text is the line that counts the reports which a replay of this schedule prints
 abbrev pub BySurvey : GeneratorAsked → SinkUse → Status → Type 0
-BySurvey asked sink result = ByWriting (survey_text asked.seed asked.lines) sink result
+BySurvey asked sink result =
+    ByWriting (survey_text asked.seed (unwrap_or asked.companions 1) asked.lines) sink result
 
 -- ---- all commands
 -- what a command does to the devices that it uses, or words that are those of none

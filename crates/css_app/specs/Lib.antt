@@ -2,10 +2,6 @@ pub mod Replayed
 pub mod Stands
 pub mod Ended
 pub mod Headline
-pub mod Generations
-pub mod Generated
-pub mod Surveyed
-pub mod Surveys
 pub mod Scripts
 pub mod Live
 pub mod Pairs

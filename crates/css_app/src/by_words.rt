@@ -235,7 +235,8 @@ pub(crate) fn generate_by<K: Sink>(alloc: Global, words: GeneratorWords, sink: &
     ensures reads { (count : ℕ) → CountsReads count count result }
     ensures counted_writes { CountsWrites (K.faults sink.old) (K.faults sink.new) result }
 {
-    generate(alloc, words.seed, words.lines, sink)
+    let companions = words.companions.unwrap_or(1);
+    generate(alloc, words.seed, words.lines, companions, sink)
 }
 
 /// The command `survey` with these words.
@@ -246,5 +247,6 @@ pub(crate) fn survey_by<K: Sink>(alloc: Global, words: GeneratorWords, sink: &mu
     ensures reads { (count : ℕ) → CountsReads count count result }
     ensures counted_writes { CountsWrites (K.faults sink.old) (K.faults sink.new) result }
 {
-    survey(alloc, words.seed, words.lines, sink)
+    let companions = words.companions.unwrap_or(1);
+    survey(alloc, words.seed, words.lines, companions, sink)
 }

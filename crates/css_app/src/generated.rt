@@ -2,8 +2,9 @@ ghost use Rattle.std.specs.Prelude.{◌≤◌, OnOk, OnErr};
 ghost use Rattle.std.specs.Io.KnownBytes.{Appends};
 ghost use Rattle.css_outside.specs.Bytes.{AppendsPrefix};
 ghost use Rattle.css_outside.specs.Faults.{CountsCall};
+ghost use Rattle.css_gen.specs.Second.{least_lines};
+ghost use Rattle.css_survey.specs.Generated.{schedule_text};
 ghost use Rattle.css_app.specs.Ended.{Writes, CountsWrites, HasNotFailed, IsDoneUnlessMemory};
-ghost use Rattle.css_app.specs.Generated.{schedule_text};
 
 use crate::status::Status;
 use css_gen::Generator;
@@ -11,14 +12,24 @@ use css_outside::{OutFault, Sink, write_all};
 use std::alloc::Global;
 
 // Writes the generated lines one by one, each with its line feed.
-fn write_lines<K: Sink>(alloc: Global, seed: u64, lines: u64, sink: &mut K) -> Result<(), OutFault>
-    requires least { 9 ≤ lines }
+fn write_lines<K: Sink>(
+    alloc: Global,
+    seed: u64,
+    lines: u64,
+    companions: u32,
+    sink: &mut K,
+) -> Result<(), OutFault>
+    requires some { 1 ≤ companions }
+    requires few { companions ≤ 16 }
+    requires least { least_lines companions ≤ lines }
     requires most { lines ≤ 200000 }
-    ensures ok { OnOk result (Appends (K.holds sink.old) (K.holds sink.new) (schedule_text seed lines)) }
-    ensures err { OnErr result (AppendsPrefix (K.holds sink.old) (K.holds sink.new) (schedule_text seed lines)) }
+    ensures ok { OnOk result
+        (Appends (K.holds sink.old) (K.holds sink.new) (schedule_text seed companions lines)) }
+    ensures err { OnErr result
+        (AppendsPrefix (K.holds sink.old) (K.holds sink.new) (schedule_text seed companions lines)) }
     ensures counted { CountsCall (K.faults sink.old) (K.faults sink.new) result }
 {
-    let mut generator = Generator::new(alloc, seed, lines, 1);
+    let mut generator = Generator::new(alloc, seed, lines, companions);
     'lines: while let Some(mut text) = generator.next_line(alloc)? {
         text.push(b"\n")?;
         write_all(sink, text.bytes())?;
@@ -26,15 +37,25 @@ fn write_lines<K: Sink>(alloc: Global, seed: u64, lines: u64, sink: &mut K) -> R
     Ok(())
 }
 
-/// Writes the schedule of so many lines, 9 to 200,000, that is generated of the seed.
-pub fn generate<K: Sink>(alloc: Global, seed: u64, lines: u64, sink: &mut K) -> Status
-    requires least { 9 ≤ lines }
+/// Writes the schedule that is generated of the seed. It has so many lines, at most 200,000. With one companion it is
+/// of version 1, and has at least 9 lines. With 2 to 16 companions it is of version 2, and has at least 4 lines and 6
+/// for each companion.
+pub fn generate<K: Sink>(
+    alloc: Global,
+    seed: u64,
+    lines: u64,
+    companions: u32,
+    sink: &mut K,
+) -> Status
+    requires some { 1 ≤ companions }
+    requires few { companions ≤ 16 }
+    requires least { least_lines companions ≤ lines }
     requires most { lines ≤ 200000 }
-    ensures writes { Writes (schedule_text seed lines) (K.holds sink.old) (K.holds sink.new) result }
+    ensures writes { Writes (schedule_text seed companions lines) (K.holds sink.old) (K.holds sink.new) result }
     ensures complete { HasNotFailed (K.faults sink.old) (K.faults sink.new) → IsDoneUnlessMemory result }
     ensures counted_writes { CountsWrites (K.faults sink.old) (K.faults sink.new) result }
 {
-    match write_lines(alloc, seed, lines, sink) {
+    match write_lines(alloc, seed, lines, companions, sink) {
         Ok(()) => Status::Done,
         Err(OutFault::Failed) => Status::WriteFault,
         Err(OutFault::Memory) => Status::Memory,

@@ -7,7 +7,6 @@ mod by_words;
 mod child;
 mod driven;
 mod generated;
-pub mod laws;
 mod live_companion;
 mod live_pair;
 mod live_record;
@@ -20,7 +19,6 @@ mod script_text;
 mod scripts;
 mod sheets;
 mod status;
-mod summary;
 mod surveyed;
 mod told;
 

@@ -48,23 +48,23 @@ const SCHEDULES: [(u64, u64); 5] = [
     (9_223_372_036_854_775_807, 500),
 ];
 
-/// Generates lines of a seed. The writes of these numbers fail.
+/// Generates lines of a seed and one companion. The writes of these numbers fail.
 fn generated(alloc: Global, seed: u64, lines: u64, fails: &[u64]) -> Result<Ran, Fail>
     requires least { 9 ≤ lines }
     requires most { lines ≤ 200000 }
 {
     let mut sink = MemorySink::new(alloc, 4096, fails)?;
-    let status = generate(alloc, seed, lines, &mut sink);
+    let status = generate(alloc, seed, lines, 1, &mut sink);
     Ok(Ran { status, sink })
 }
 
-/// Surveys lines of a seed.
+/// Surveys lines of a seed and one companion.
 fn surveyed(alloc: Global, seed: u64, lines: u64) -> Result<Ran, Fail>
     requires least { 9 ≤ lines }
     requires most { lines ≤ 200000 }
 {
     let mut sink = MemorySink::new(alloc, 4096, &[])?;
-    let status = survey(alloc, seed, lines, &mut sink);
+    let status = survey(alloc, seed, lines, 1, &mut sink);
     Ok(Ran { status, sink })
 }
 
@@ -102,7 +102,7 @@ fn a_survey_that_is_not_written_is_a_write_fault(rt: HostRuntime) -> Result<(), 
     for (piece, write, expected) in FAILS {
         if piece > 0 {
             let mut sink = MemorySink::new(rt.alloc(), piece, &[write])?;
-            let status = survey(rt.alloc(), 1, 9, &mut sink);
+            let status = survey(rt.alloc(), 1, 9, 1, &mut sink);
             assert_eq!(rt; status, Status::WriteFault);
             assert_eq!(rt; sink.bytes(), expected.as_bytes());
         }
@@ -185,6 +185,106 @@ const COMMANDS: [(&str, &[u8]); 4] = [
 #[test]
 fn both_are_commands_of_the_program(rt: HostRuntime) -> Result<(), Fail> {
     for (line, expected) in COMMANDS {
+        let ran = run_over(rt.alloc(), line, b"", &WHOLE)?;
+        assert_ran(&rt, rt.alloc(), &ran, "done", expected)?;
+    }
+    Ok(())
+}
+
+/// What each schedule of two companions begins with. It is of version 2.
+const SECOND: &[u8] = b"css-schedule 2 follow 12800 -20 2
+companion 1 12800 1000 urn:dvb:css:timeline:pts dvb://
+companion 2 12800 1000 urn:dvb:css:timeline:pts dvb://
+0 1000000000 0 0 programme dvb://1.2.3
+0 1000000000 0 0 timeline 1 urn:dvb:css:timeline:pts 1 90000 0
+0 1000000000 0 0 change 1000000000 1
+0 1000000000 1 1000000000 open cii
+0 1000000000 1 1000000000 text cii
+0 1000000000 1 1000000000 open ts
+0 1000000000 1 1000000000 up ts
+0 1000000000 1 1000000000 text ts
+0 1000000000 2 1000000000 open cii
+0 1000000000 2 1000000000 text cii
+0 1000000000 2 1000000000 open ts
+0 1000000000 2 1000000000 up ts
+0 1000000000 2 1000000000 text ts
+";
+
+/// Command lines that generate schedules of two companions.
+const SECONDS: [&str; 2] = [
+    "generate --seed 1 --lines 16 --companions 2",
+    "generate --companions=2 --lines=2000 --seed=7",
+];
+
+#[test]
+fn a_schedule_of_two_companions_is_generated(rt: HostRuntime) -> Result<(), Fail> {
+    for line in SECONDS {
+        let ran = run_over(rt.alloc(), line, b"", &WHOLE)?;
+        assert_eq!(rt; ran.status, Status::Done);
+        assert!(rt; ran.sink.bytes().starts_with(SECOND));
+    }
+    Ok(())
+}
+
+/// Command lines that survey schedules of several companions, and what each of them writes.
+const SECOND_SURVEYS: [(&str, &[u8]); 2] = [
+    (
+        "survey --seed 1 --lines 2000 --companions 2",
+        b"lines 2000 prints 438 intervals 0 widest 0\n",
+    ),
+    (
+        "survey --companions=2 --lines=2000 --seed=1",
+        b"lines 2000 prints 438 intervals 0 widest 0\n",
+    ),
+];
+
+#[test]
+fn lines_of_several_companions_are_surveyed(rt: HostRuntime) -> Result<(), Fail> {
+    for (line, expected) in SECOND_SURVEYS {
+        let ran = run_over(rt.alloc(), line, b"", &WHOLE)?;
+        assert_ran(&rt, rt.alloc(), &ran, "done", expected)?;
+    }
+    Ok(())
+}
+
+/// Command lines that ask for one line too few: 2, 3 and 16 companions have at least 16, 22 and 100 lines.
+const TOO_FEW: [&str; 6] = [
+    "generate --seed 1 --lines 15 --companions 2",
+    "survey --seed 1 --lines 15 --companions 2",
+    "generate --seed 1 --lines 21 --companions 3",
+    "survey --seed 1 --lines 21 --companions 3",
+    "generate --seed 1 --lines 99 --companions 16",
+    "survey --seed 1 --lines 99 --companions 16",
+];
+
+#[test]
+fn fewer_lines_than_open_a_schedule_are_refused(rt: HostRuntime) -> Result<(), Fail> {
+    for line in TOO_FEW {
+        let ran = run_over(rt.alloc(), line, b"", &WHOLE)?;
+        assert_ran(&rt, rt.alloc(), &ran, "usage", b"")?;
+    }
+    Ok(())
+}
+
+/// Surveys of so many lines, and what each of them writes: no report is printed for the lines that open a schedule.
+const LEAST: [(&str, &[u8]); 3] = [
+    (
+        "survey --seed 1 --lines 16 --companions 2",
+        b"lines 16 prints 0 intervals 0 widest 0\n",
+    ),
+    (
+        "survey --seed 1 --lines 22 --companions 3",
+        b"lines 22 prints 0 intervals 0 widest 0\n",
+    ),
+    (
+        "survey --seed 1 --lines 100 --companions 16",
+        b"lines 100 prints 0 intervals 0 widest 0\n",
+    ),
+];
+
+#[test]
+fn the_lines_that_open_a_schedule_suffice(rt: HostRuntime) -> Result<(), Fail> {
+    for (line, expected) in LEAST {
         let ran = run_over(rt.alloc(), line, b"", &WHOLE)?;
         assert_ran(&rt, rt.alloc(), &ran, "done", expected)?;
     }

@@ -1,16 +1,40 @@
-use Rattle.css_app.specs.Generated.{schedule_text}
+use Rattle.std.proofs.Common.{ℕ, ◌≤◌, subst, sym}
+use Rattle.css_gen.specs.Second.{least_lines}
+use Rattle.css_survey.specs.Generated.{schedule_text}
+use Rattle.css_app.specs.Commands.{ByWriting}
+use Rattle.css_app.specs.Devices.{sink_use}
+use Rattle.css_app.proofs.Generating.{some_asked, few_asked, lines_asked}
 use Rattle.css_app.proofs.Quiet.{writes_no_read, writes_quiet}
 use Rattle.css_app.proofs.by_words.generate_by.Goals as goal
 
+pub generate-requires-clause-some : goal.generate-requires-clause-some
+generate-requires-clause-some g c =
+    subst (λ (n : ℕ). 1 ≤ n) (sym c.unwrap_or-companions.ensures)
+    (some_asked c.args.words.companions c.args.words.some_companions)
+
+pub generate-requires-clause-few : goal.generate-requires-clause-few
+generate-requires-clause-few g c =
+    subst (λ (n : ℕ). n ≤ 16) (sym c.unwrap_or-companions.ensures)
+    (few_asked c.args.words.companions c.args.words.few_companions)
+
+pub generate-requires-clause-least : goal.generate-requires-clause-least
+generate-requires-clause-least g c =
+    subst (λ (n : ℕ). least_lines n ≤ c.args.words.lines) (sym c.unwrap_or-companions.ensures)
+    (lines_asked c.args.words.companions c.args.words.lines c.args.words.some_companions c.args.words.lines_suffice)
+
 pub returns-clause-does : goal.returns-clause-does
-returns-clause-does g c = record { writes = c.generate.ensures.writes; complete = c.generate.ensures.complete }
+returns-clause-does g c =
+    subst (λ (n : ℕ). ByWriting (schedule_text c.args.words.seed n c.args.words.lines)
+    (sink_use (g.K.Sink.holds c.args.sink.now) (g.K.Sink.holds c.generate.new.sink) (g.K.Sink.faults c.args.sink.now)
+    (g.K.Sink.faults c.generate.new.sink)) c.generate.result) c.unwrap_or-companions.ensures
+    (record { writes = c.generate.ensures.writes; complete = c.generate.ensures.complete })
 
 pub returns-clause-quiet : goal.returns-clause-quiet
 returns-clause-quiet g c =
-    writes_quiet (schedule_text c.args.words.seed c.args.words.lines) (g.K.Sink.holds c.args.sink.now)
-    (g.K.Sink.holds c.generate.new.sink) c.generate.result c.generate.ensures.writes
+    writes_quiet (schedule_text c.args.words.seed c.unwrap_or-companions.result c.args.words.lines)
+    (g.K.Sink.holds c.args.sink.now) (g.K.Sink.holds c.generate.new.sink) c.generate.result c.generate.ensures.writes
 
 pub returns-clause-reads : goal.returns-clause-reads
 returns-clause-reads g c =
-    writes_no_read (schedule_text c.args.words.seed c.args.words.lines) (g.K.Sink.holds c.args.sink.now)
-    (g.K.Sink.holds c.generate.new.sink) c.generate.result c.generate.ensures.writes
+    writes_no_read (schedule_text c.args.words.seed c.unwrap_or-companions.result c.args.words.lines)
+    (g.K.Sink.holds c.args.sink.now) (g.K.Sink.holds c.generate.new.sink) c.generate.result c.generate.ensures.writes

@@ -1,16 +1,40 @@
-use Rattle.css_app.specs.Surveyed.{survey_text}
+use Rattle.std.proofs.Common.{ℕ, ◌≤◌, subst, sym}
+use Rattle.css_gen.specs.Second.{least_lines}
+use Rattle.css_survey.specs.Surveyed.{survey_text}
+use Rattle.css_app.specs.Commands.{ByWriting}
+use Rattle.css_app.specs.Devices.{sink_use}
+use Rattle.css_app.proofs.Generating.{some_asked, few_asked, lines_asked}
 use Rattle.css_app.proofs.Quiet.{writes_no_read, writes_quiet}
 use Rattle.css_app.proofs.by_words.survey_by.Goals as goal
 
+pub survey-requires-clause-some : goal.survey-requires-clause-some
+survey-requires-clause-some g c =
+    subst (λ (n : ℕ). 1 ≤ n) (sym c.unwrap_or-companions.ensures)
+    (some_asked c.args.words.companions c.args.words.some_companions)
+
+pub survey-requires-clause-few : goal.survey-requires-clause-few
+survey-requires-clause-few g c =
+    subst (λ (n : ℕ). n ≤ 16) (sym c.unwrap_or-companions.ensures)
+    (few_asked c.args.words.companions c.args.words.few_companions)
+
+pub survey-requires-clause-least : goal.survey-requires-clause-least
+survey-requires-clause-least g c =
+    subst (λ (n : ℕ). least_lines n ≤ c.args.words.lines) (sym c.unwrap_or-companions.ensures)
+    (lines_asked c.args.words.companions c.args.words.lines c.args.words.some_companions c.args.words.lines_suffice)
+
 pub returns-clause-does : goal.returns-clause-does
-returns-clause-does g c = record { writes = c.survey.ensures.writes; complete = c.survey.ensures.complete }
+returns-clause-does g c =
+    subst (λ (n : ℕ). ByWriting (survey_text c.args.words.seed n c.args.words.lines)
+    (sink_use (g.K.Sink.holds c.args.sink.now) (g.K.Sink.holds c.survey.new.sink) (g.K.Sink.faults c.args.sink.now)
+    (g.K.Sink.faults c.survey.new.sink)) c.survey.result) c.unwrap_or-companions.ensures
+    (record { writes = c.survey.ensures.writes; complete = c.survey.ensures.complete })
 
 pub returns-clause-quiet : goal.returns-clause-quiet
 returns-clause-quiet g c =
-    writes_quiet (survey_text c.args.words.seed c.args.words.lines) (g.K.Sink.holds c.args.sink.now)
-    (g.K.Sink.holds c.survey.new.sink) c.survey.result c.survey.ensures.writes
+    writes_quiet (survey_text c.args.words.seed c.unwrap_or-companions.result c.args.words.lines)
+    (g.K.Sink.holds c.args.sink.now) (g.K.Sink.holds c.survey.new.sink) c.survey.result c.survey.ensures.writes
 
 pub returns-clause-reads : goal.returns-clause-reads
 returns-clause-reads g c =
-    writes_no_read (survey_text c.args.words.seed c.args.words.lines) (g.K.Sink.holds c.args.sink.now)
-    (g.K.Sink.holds c.survey.new.sink) c.survey.result c.survey.ensures.writes
+    writes_no_read (survey_text c.args.words.seed c.unwrap_or-companions.result c.args.words.lines)
+    (g.K.Sink.holds c.args.sink.now) (g.K.Sink.holds c.survey.new.sink) c.survey.result c.survey.ensures.writes

@@ -3,35 +3,37 @@ use Rattle.std.proofs.Common.{◌≡◌, ◌+◌, ◌<◌, ◌++◌, ◌∷◌, 
 use Rattle.std.specs.Io.KnownBytes.{Appends}
 use Rattle.css_outside.specs.Bytes.{AppendsPrefix}
 use Rattle.css_outside.proofs.Known.{on_err_from}
-use Rattle.css_gen.specs.Generated.{Generator, text_numbered}
-use Rattle.css_app.specs.Generated.{schedule_text}
-use Rattle.css_app.proofs.Generating.{gave, first_text, one_more, stops_before, stops_within}
+use Rattle.css_gen.specs.Generated.{Generator, text_in}
+use Rattle.css_survey.specs.Generated.{schedule_text}
+use Rattle.css_survey.proofs.Giving.{gave}
+use Rattle.css_app.proofs.Generating.{one_more, stops_before, stops_within}
 use Rattle.css_app.proofs.generated.write_lines.Goals as goal
 
 pub returns-in_err-text-clause-err : goal.returns-in_err-text-clause-err
 returns-in_err-text-clause-err g c = on_err_from _
-    (stops_before c.args.seed c.lines.generator.given c.args.lines (g.K.Sink.holds c.args.sink.now)
-    (g.K.Sink.holds c.lines.sink) c.lines.invariant.within c.lines.invariant.grew)
+    (stops_before c.args.seed c.args.companions c.lines.generator.given c.args.lines
+    (g.K.Sink.holds c.args.sink.now) (g.K.Sink.holds c.lines.sink) c.lines.invariant.within c.lines.invariant.grew)
 
 pub returns-in_err-push-clause-err : goal.returns-in_err-push-clause-err
 returns-in_err-push-clause-err g c = on_err_from _
-    (stops_before c.args.seed c.lines.generator.given c.args.lines (g.K.Sink.holds c.args.sink.now)
-    (g.K.Sink.holds c.lines.sink) c.lines.invariant.within c.lines.invariant.grew)
+    (stops_before c.args.seed c.args.companions c.lines.generator.given c.args.lines
+    (g.K.Sink.holds c.args.sink.now) (g.K.Sink.holds c.lines.sink) c.lines.invariant.within c.lines.invariant.grew)
 
 pub returns-in_err-write_all-clause-err : goal.returns-in_err-write_all-clause-err
 returns-in_err-write_all-clause-err g c =
     let given = c.lines.generator.given in
     let step = gave c.lines.generator c.next_line.new.self c.in-Some.text
     (sym c.in-Some.is ∙ c.in_ok-text.ensures.text) c.in_ok-text.ensures.given in
-    let line : c.bytes.result.now ≡ text_numbered c.args.seed (given + 1) ++ 10 ∷ [] =
+    let line : c.bytes.result.now ≡ text_in c.args.seed c.args.companions (given + 1) ++ 10 ∷ [] =
     c.bytes.ensures ∙ c.in_ok-push.ensures.ok
-    ∙ ap (λ (t : List ℕ). t ++ 10 ∷ []) (step.text ∙ first_text c.lines.generator c.lines.invariant.one
-    ∙ ap (λ (s : ℕ). text_numbered s (given + 1)) c.lines.invariant.seed)
+    ∙ ap (λ (t : List ℕ). t ++ 10 ∷ []) (step.text
+    ∙ ap (λ (n : ℕ). text_in c.lines.generator.seed n (given + 1)) c.lines.invariant.companions
+    ∙ ap (λ (s : ℕ). text_in s c.args.companions (given + 1)) c.lines.invariant.seed)
     in
     let more : given < c.args.lines = omega (arith, step.more, c.lines.invariant.lines) in
     on_err_from _
-    (stops_within c.args.seed given c.args.lines (g.K.Sink.holds c.args.sink.now) (g.K.Sink.holds c.lines.sink)
-    (g.K.Sink.holds c.write_all.new.sink) more c.lines.invariant.grew
+    (stops_within c.args.seed c.args.companions given c.args.lines (g.K.Sink.holds c.args.sink.now)
+    (g.K.Sink.holds c.lines.sink) (g.K.Sink.holds c.write_all.new.sink) more c.lines.invariant.grew
     (subst (λ (l : List ℕ). AppendsPrefix (g.K.Sink.holds c.lines.sink) (g.K.Sink.holds c.write_all.new.sink) l) line
     c.in_err-write_all.ensures.err))
 
@@ -41,23 +43,24 @@ lines-preserved g c =
     let was = c.lines.invariant in
     let step = gave c.lines.generator c.next_line.new.self c.in-Some.text
     (sym c.in-Some.is ∙ c.in_ok-text.ensures.text) c.in_ok-text.ensures.given in
-    let line : c.bytes.result.now ≡ text_numbered c.args.seed (given + 1) ++ 10 ∷ [] =
+    let line : c.bytes.result.now ≡ text_in c.args.seed c.args.companions (given + 1) ++ 10 ∷ [] =
     c.bytes.ensures ∙ c.in_ok-push.ensures.ok
-    ∙ ap (λ (t : List ℕ). t ++ 10 ∷ []) (step.text ∙ first_text c.lines.generator was.one
-    ∙ ap (λ (s : ℕ). text_numbered s (given + 1)) was.seed) in
+    ∙ ap (λ (t : List ℕ). t ++ 10 ∷ []) (step.text
+    ∙ ap (λ (n : ℕ). text_in c.lines.generator.seed n (given + 1)) was.companions
+    ∙ ap (λ (s : ℕ). text_in s c.args.companions (given + 1)) was.seed) in
     let next : c.next_line.new.self.given ≡ given + 1 = ap (λ (x : Generator). x.given) step.gone in
     let wrote : Appends (g.K.Sink.holds c.lines.sink) (g.K.Sink.holds c.write_all.new.sink)
-    (text_numbered c.args.seed (given + 1) ++ 10 ∷ []) =
+    (text_in c.args.seed c.args.companions (given + 1) ++ 10 ∷ []) =
     subst (λ (l : List ℕ). Appends (g.K.Sink.holds c.lines.sink) (g.K.Sink.holds c.write_all.new.sink) l) line
     c.in_ok-write_all.ensures.ok in
     record {
-      one = ap (λ (x : Generator). x.companions) step.gone ∙ was.one;
+      companions = ap (λ (x : Generator). x.companions) step.gone ∙ was.companions;
       seed = ap (λ (x : Generator). x.seed) step.gone ∙ was.seed;
       lines = ap (λ (x : Generator). x.lines) step.gone ∙ was.lines;
       within = omega (arith, next, step.more, was.lines);
       grew = subst (λ (n : ℕ). Appends (g.K.Sink.holds c.args.sink.now) (g.K.Sink.holds c.write_all.new.sink)
-          (schedule_text c.args.seed n)) (sym next)
-          (one_more c.args.seed given (g.K.Sink.holds c.args.sink.now) (g.K.Sink.holds c.lines.sink)
+          (schedule_text c.args.seed c.args.companions n)) (sym next)
+          (one_more c.args.seed c.args.companions given (g.K.Sink.holds c.args.sink.now) (g.K.Sink.holds c.lines.sink)
           (g.K.Sink.holds c.write_all.new.sink) was.grew wrote);
       counted = c.in_ok-write_all.ensures.counted ∙ was.counted;
     }

@@ -4,8 +4,14 @@ use Rattle.std.specs.Prelude.{OnErr, OnOk}
 use Rattle.std.specs.Io.KnownBytes.{Appends}
 use Rattle.css_outside.specs.Bytes.{AppendsPrefix}
 use Rattle.css_outside.proofs.Known.{appends_none}
-use Rattle.css_app.specs.Surveyed.{survey_text}
+use Rattle.css_survey.specs.Surveyed.{survey_text}
 use Rattle.css_app.proofs.surveyed.write_survey.Goals as goal
+
+pub survey_line-requires-clause-some : goal.survey_line-requires-clause-some
+survey_line-requires-clause-some g c = c.requires.some
+
+pub survey_line-requires-clause-few : goal.survey_line-requires-clause-few
+survey_line-requires-clause-few g c = c.requires.few
 
 pub survey_line-requires-clause-least : goal.survey_line-requires-clause-least
 survey_line-requires-clause-least g c = c.requires.least
@@ -31,7 +37,7 @@ returns-in-Ok-clause-counted g c = c.write_all.ensures.counted
 pub returns-in-Err-clause-err : goal.returns-in-Err-clause-err
 returns-in-Err-clause-err g c = record {
   front = [];
-  of = (survey_text c.args.seed c.args.lines, refl);
+  of = (survey_text c.args.seed c.args.companions c.args.lines, refl);
   grew = appends_none (g.K.Sink.holds c.args.sink.now);
 }
 
