@@ -1,0 +1,4 @@
+pub mod Doings
+pub mod Readings
+pub mod Printing
+pub mod Raising
