@@ -2,3 +2,12 @@ pub mod Doings
 pub mod Readings
 pub mod Printing
 pub mod Raising
+pub mod Runs
+pub mod Fed
+pub mod Turned
+pub mod Heading
+pub mod Alike
+pub mod Spelled
+pub mod SpelledLines
+pub mod Lengths
+pub mod SpelledHeaders

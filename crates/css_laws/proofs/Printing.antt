@@ -181,7 +181,7 @@ wall-numbered span w =
     (numbered-more (λ n. decimal n ++ codes " wall ") lo (signed-free span.lo)
     (numbered-first (codes "wall ") (free-by (codes "wall ") refl))))))
 
-none_line : (n : ℕ) → decimal n ++ (codes " none NoAnswer" ++ 10 ∷ []) ≡ (decimal n ++ codes " none NoAnswer") ++ 10 ∷ []
+pub none_line : (n : ℕ) → decimal n ++ (codes " none NoAnswer" ++ 10 ∷ []) ≡ (decimal n ++ codes " none NoAnswer") ++ 10 ∷ []
 none_line n = sym (append_assoc (decimal n) (codes " none NoAnswer") (10 ∷ []))
 
 pub wall_text-raised : (n : ℕ) (span : Option Interval) (w : ℕ) → n < 2 ^ 63

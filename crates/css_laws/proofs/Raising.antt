@@ -139,7 +139,7 @@ exchange-raised header older who (Close k) = refl
 exchange-raised header older who Sleep = refl
 
 -- ---- what is printed
-abbrev printed_with : Header → Ends → ℕ → Line → Verb → List ℕ
+abbrev pub printed_with : Header → Ends → ℕ → Line → Verb → List ℕ
 printed_with header ends number line (Wall reading) =
     wall_text number (wall_span (local_of line.who header) reading
     (accepted_answers (local_of line.who header) (ends.own line.who))) line.w
@@ -190,7 +190,7 @@ printed_with-raised header ends n line Sleep small = sym raised_print-nil
 
 -- ---- the line
 -- what is printed for a line that can be exchanged, after what the ends did
-abbrev carried_with : Ends → ℕ → Verb → (exchange : Bool) → (printed : List ℕ) → Result (List ℕ) WorldFault
+abbrev pub carried_with : Ends → ℕ → Verb → (exchange : Bool) → (printed : List ℕ) → Result (List ℕ) WorldFault
 carried_with ends who verb exchange printed =
     cond (exchange && can_talk who ends.tv (ends.own who) verb)
     (result_and (played ends.tv (event_by who ends.tv (ends.own who) verb)) (Ok printed)) (Err Absent)
@@ -222,7 +222,7 @@ carried_with-raised ends who verb exchange printed = by (exchange && can_talk wh
     by true = played-raised ends.tv event printed
     by false = refl
 
-carried-with : (header : Header) (older : List Numbered) (now : Numbered)
+pub carried-with : (header : Header) (older : List Numbered) (now : Numbered)
     → carried_out header older now ≡ carried_with (ends_of header older) now.line.who now.line.verb
     (can_exchange header older now.line.who now.line.verb)
     (printed_with header (ends_of header older) now.number now.line now.line.verb)
