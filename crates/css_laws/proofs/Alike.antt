@@ -1,7 +1,7 @@
 -- A replay of a migrated schedule says the same as one of the schedule, line after line.
-use Rattle.std.proofs.Common.{◌≡◌, ℕ, suc, ◌+◌, ◌*◌, ◌^◌, ◌<◌, ◌≤◌, arith, ap, sym, subst, ◌∙◌, refl, Bool, true, false}
+use Rattle.std.proofs.Common.{◌≡◌, ℕ, ◌+◌, ◌*◌, ◌≤◌, arith, ap, sym, subst, ◌∙◌, refl}
 use Rattle.std.proofs.Common.{ltb, List, [], ◌∷◌, ◌++◌, length, map, append_assoc}
-use Rattle.std.specs.Prelude.{Option, Some, None, Result, Ok, Err, ◌||◌}
+use Rattle.std.specs.Prelude.{None, Result, Ok, ◌||◌}
 use Rattle.std.proofs.lemmas.List.{length-append}
 use Rattle.css_lines.specs.Lines.{whole_lines, last_part}
 use Rattle.css_lines.specs.Meaning.{Outcome, accepted, followed_by, offset, reader_outcome, line_outcome}
@@ -15,18 +15,18 @@ use Rattle.css_schedule.specs.declared.line.Line.{Line}
 use Rattle.css_schedule.specs.Headers.{header_of}
 use Rattle.css_schedule.specs.Lines.{line_of, line_in}
 use Rattle.css_schedule.specs.Printed.{line_text_in}
-use Rattle.css_migrate.specs.Migrated.{fed, line_becomes, text_becomes, end_becomes, migrated}
+use Rattle.css_migrate.specs.Migrated.{fed, line_becomes, text_becomes, migrated}
 use Rattle.css_migrate.specs.declared.migrate.NoLine.{NoLine}
 use Rattle.css_world.specs.Happened.{Numbered}
 use Rattle.css_world.specs.Verdicts.{line_meant}
 use Rattle.css_world.specs.declared.fault.WorldFault.{WorldFault}
 use Rattle.css_app.specs.declared.replay.Cause.{Cause}
-use Rattle.css_app.specs.Replayed.{Extent, Outset, Opening, Running, started, after, reached, with_line, caused, opened}
-use Rattle.css_app.specs.Replayed.{meant_at, ended_at, version_of, longest_line, longest_input, next_companion, replayed}
+use Rattle.css_app.specs.Replayed.{Extent, Running, started, after, with_line, caused, opened}
+use Rattle.css_app.specs.Replayed.{meant_at, ended_at, version_of, longest_line, longest_input, replayed}
 use Rattle.css_app.proofs.Texts.{reached-push}
-use Rattle.css_laws.specs.Numbers.{raised_line, raised_lines, raised_result}
+use Rattle.css_laws.specs.Numbers.{raised_lines}
 use Rattle.css_laws.specs.Raised.{raised, MigratedSchedulesAreReplayedAlike}
-use Rattle.css_laws.proofs.Fed.{IsWhole, nothing-whole, meant-whole}
+use Rattle.css_laws.proofs.Fed.{IsWhole, meant-whole}
 use Rattle.css_laws.proofs.Raising.{numbers_raised}
 use Rattle.css_laws.proofs.Runs.{with_feed, steps_of, ran, outcome-ran, joined, AreFree, joined-ran, both-accepted}
 use Rattle.css_laws.proofs.Runs.{IsTaken, line-taken, short-line}
@@ -93,7 +93,8 @@ end-alike before turns header lines at e = record {
 -- one line
 record LineIsAlike (before turns : List (List ℕ)) (text out : List ℕ) (end : ℕ) : Type 0 where
   whole : IsWhole (line_outcome replayed before text end).printed
-  alike : line_outcome replayed turns out (offset turns + length out + 1) ≡ raised (line_outcome replayed before text end)
+  alike : line_outcome replayed turns out (offset turns + length out + 1)
+      ≡ raised (line_outcome replayed before text end)
 
 line-alike : (before turns : List (List ℕ)) (header : Header) (lines : List Numbered) (text : List ℕ) (feeds : ℕ)
     → Follows before turns header lines
@@ -157,7 +158,8 @@ steps-alike grow before turns header lines (step ∷ steps) at e =
       alike = ap (λ (o : Outcome Cause). followed_by o (ran replayed (turns ++ out ∷ []) (map with_feed more.texts)))
           line.alike
           ∙ ap (followed_by (raised (line_outcome replayed before text end))) more.alike
-          ∙ raised-followed (line_outcome replayed before text end) (ran replayed (before ++ text ∷ []) steps) line.whole;
+          ∙ raised-followed (line_outcome replayed before text end) (ran replayed (before ++ text ∷ []) steps)
+          line.whole;
     }
 
 -- ---- line 1
@@ -222,6 +224,38 @@ header-follows text printed head grows =
         omega (arith, none, offset-push [] line, offset-push (line ∷ []) next)
 
 -- ---- the whole
+-- nothing is printed for the header, neither for line 1 nor for the two lines that it becomes
+header-alike : (text printed : List ℕ) (end : ℕ) (head : IsOpened text printed) (rest over : Outcome Cause)
+    → HeaderGrowsLittle text (first_text head.header) (companion_text head.companion)
+    → length text ≤ 4096 → end ≤ 67108864 → over ≡ raised rest
+    → followed_by (line_outcome replayed [] (first_text head.header) (offset [] + length (first_text head.header) + 1))
+    (followed_by (line_outcome replayed (first_text head.header ∷ []) (companion_text head.companion)
+    (offset (first_text head.header ∷ []) + length (companion_text head.companion) + 1)) over)
+    ≡ raised (followed_by (line_outcome replayed [] text end) rest)
+header-alike text printed end head rest over grows fits inside more =
+    let a = first_text head.header in
+    let b = companion_text head.companion in
+    let one : length head.header.companions ≡ 1 = ap (λ (l : List CompanionLine). length l) head.alone in
+    let none : offset [] ≡ 0 = refl in
+    let first_fits = grows.one_fits in
+    let second_fits = grows.two_fits in
+    let second = line_outcome replayed (a ∷ []) b (offset (a ∷ []) + length b + 1) in
+    ap (λ (o : Outcome Cause). followed_by o (followed_by second over))
+    (one-nothing head.header a b (offset [] + length a + 1) head.back (omega (arith, first_fits, fits))
+    (omega (arith, first_fits, fits, none)))
+    ∙ ap (λ (o : Outcome Cause). followed_by (accepted []) (followed_by o over))
+    (two-nothing head.header a b (offset (a ∷ []) + length b + 1) head.back one (omega (arith, second_fits, fits))
+    (omega (arith, first_fits, second_fits, fits, none, offset-push [] a)))
+    ∙ more
+    ∙ ap (λ (o : Outcome Cause). raised (followed_by o rest))
+    (sym (first-nothing text head.header end fits inside head.read))
+
+joined-two : (a b : List ℕ) (more : List (List ℕ)) → joined (a ∷ b ∷ []) ++ joined more ≡ joined (a ∷ b ∷ more)
+joined-two a b more =
+    append_assoc (a ++ 10 ∷ []) ((b ++ 10 ∷ []) ++ []) (joined more)
+    ∙ ap (λ (t : List ℕ). (a ++ 10 ∷ []) ++ t) (append_assoc (b ++ 10 ∷ []) [] (joined more))
+
+-- line 1 and all lines after it
 all-alike : LinesGrowLittle → HeadersGrowLittle → (steps : List (List ℕ × ℕ)) → (ran migrated [] steps).verdict ≡ None
     → AreAlike [] [] steps
 all-alike grow grow_header [] e = absurd (cc)
@@ -235,15 +269,10 @@ all-alike grow grow_header (step ∷ steps) e =
     let head = opened-by text taken.printed taken.meant in
     let a = first_text head.header in
     let b = companion_text head.companion in
-    let one : length head.header.companions ≡ 1 = ap (λ (l : List CompanionLine). length l) head.alone in
     let grows = grow_header text head.header head.companion head.read head.alone in
     let limits = within 4096 67108864 (length text) end taken.short in
-    let none : offset [] ≡ 0 = refl in
     let more = steps-alike grow (text ∷ []) (a ∷ b ∷ []) head.header [] steps
     (header-follows text taken.printed head grows) parts.1 in
-    let over = ran replayed (a ∷ b ∷ []) (map with_feed more.texts) in
-    let fits_first = grows.one_fits in
-    let fits_second = grows.two_fits in
     record {
       texts = a ∷ b ∷ more.texts;
       free = (head.first, (head.second, more.free));
@@ -251,24 +280,11 @@ all-alike grow grow_header (step ∷ steps) e =
           ∙ ap (λ (p : List ℕ). p ++ rest.printed) head.becomes
           ∙ ap (λ (p : List ℕ). joined (a ∷ b ∷ []) ++ p) more.printed
           ∙ joined-two a b more.texts;
-      alike = ap (λ (o : Outcome Cause). followed_by o (followed_by (line_outcome replayed (a ∷ []) b
-          (offset (a ∷ []) + length b + 1)) over))
-          (one-nothing head.header a b (offset [] + length a + 1) head.back (omega (arith, fits_first, limits.0))
-          (omega (arith, fits_first, limits.0, none)))
-          ∙ ap (λ (o : Outcome Cause). followed_by (accepted []) (followed_by o over))
-          (two-nothing head.header a b (offset (a ∷ []) + length b + 1) head.back one
-          (omega (arith, fits_second, limits.0))
-          (omega (arith, fits_first, fits_second, limits.0, none, offset-push [] a)))
-          ∙ more.alike
-          ∙ ap (λ (o : Outcome Cause). raised (followed_by o (ran replayed (text ∷ []) steps)))
-          (sym (first-nothing text head.header end limits.0 limits.1 head.read));
+      alike = header-alike text taken.printed end head (ran replayed (text ∷ []) steps)
+          (ran replayed (a ∷ b ∷ []) (map with_feed more.texts)) grows limits.0 limits.1 more.alike;
     }
-  where
-    joined-two : (a b : List ℕ) (more : List (List ℕ)) → joined (a ∷ b ∷ []) ++ joined more ≡ joined (a ∷ b ∷ more)
-    joined-two a b more =
-        append_assoc (a ++ 10 ∷ []) ((b ++ 10 ∷ []) ++ []) (joined more)
-        ∙ ap (λ (t : List ℕ). (a ++ 10 ∷ []) ++ t) (append_assoc (b ++ 10 ∷ []) [] (joined more))
 
+-- the law, where lines and headers become little longer
 pub replayed_alike : LinesGrowLittle → HeadersGrowLittle → MigratedSchedulesAreReplayedAlike
 replayed_alike grow grow_header bytes e =
     let steps = steps_of (whole_lines bytes) (last_part bytes) in

@@ -1,6 +1,6 @@
 -- What lines say that the ends did depends on no line's number.
-use Rattle.std.proofs.Common.{◌≡◌, ℕ, ap, sym, ◌∙◌, refl, Bool, true, false, cond, List, [], ◌∷◌, ◌++◌}
-use Rattle.std.specs.Prelude.{Option, ◌||◌, map}
+use Rattle.std.proofs.Common.{◌≡◌, ℕ, ap, ◌∙◌, refl, Bool, List, [], ◌∷◌, ◌++◌}
+use Rattle.std.specs.Prelude.{◌||◌}
 use Rattle.std.specs.Option.{option_to_list}
 use Rattle.css_model.specs.declared.Message.{Message}
 use Rattle.css_server.specs.Tickets.{Ticket}
@@ -8,7 +8,7 @@ use Rattle.css_schedule.specs.declared.header.Header.{Header}
 use Rattle.css_world.specs.Happened.{Numbered, asked_by, requests, asker_of, askers, ticket_by, tickets, asker_by}
 use Rattle.css_world.specs.Happened.{taken_for, answers_by, datagrams, owners_by, made_for, gives, is_given}
 use Rattle.css_world.specs.Happened.{Ends, after_line, ends_of}
-use Rattle.css_laws.specs.Numbers.{raised_line, raised_lines}
+use Rattle.css_laws.specs.Numbers.{raised_lines}
 
 -- the requests
 pub requests-raised : (lines : List Numbered) → requests (raised_lines lines) ≡ requests lines

@@ -1,9 +1,8 @@
 -- Line 1 of a schedule and the two lines that it becomes.
-use Rattle.std.proofs.Common.{◌≡◌, ℕ, ◌+◌, ◌^◌, ◌<◌, ◌≤◌, arith, ap, sym, subst, ◌∙◌, refl, Bool, true, false}
+use Rattle.std.proofs.Common.{◌≡◌, ℕ, ◌+◌, ◌^◌, ◌<◌, arith, ap, sym, subst, ◌∙◌, refl, Bool, true, false}
 use Rattle.std.proofs.Common.{cond, List, [], ◌∷◌, ◌++◌, length, append_assoc, append-nil, ne_eqb, All}
 use Rattle.std.specs.Prelude.{◌==◌, ◌||◌, ◌&&◌, not, if◌then◌else◌, negsuc, pos, ℤ, ◌≤ℤ◌, unsigned_abs}
 use Rattle.std.specs.Prelude.{Result, Ok, Err, bytes_eq, codes, decimal}
-use Rattle.std.specs.Fmt.{signed_decimal}
 use Rattle.std.proofs.lemmas.Bool.{eqb-true, eq-eqb}
 use Rattle.std.proofs.lemmas.Int.{ints}
 use Rattle.std.proofs.lemmas.List.{length-append}
@@ -22,13 +21,13 @@ use Rattle.css_schedule.specs.Headers.{whole_header_of}
 use Rattle.css_schedule.specs.Printed.{with_words, mode_word, stem_word, companion_words, second_words, with_companions}
 use Rattle.css_schedule.specs.Printed.{second_text}
 use Rattle.css_schedule.specs.Ranges.{is_stem, IsPrintableCompanion, IsPrintable, IsCount}
-use Rattle.css_schedule.proofs.HeadersInRange.{IsReadHeader, headers_are_in_range}
+use Rattle.css_schedule.proofs.HeadersInRange.{headers_are_in_range}
 use Rattle.css_schedule.proofs.HeadersBack.{header_back_in}
-use Rattle.css_schedule.proofs.Spaced.{Solid, AllSolid, between, with_words-after, line-free, lines_of-between}
+use Rattle.css_schedule.proofs.Spaced.{Solid, with_words-after, line-free, lines_of-between}
 use Rattle.css_schedule.proofs.Spaced.{graphic-solid, word-solid, decimal-solid, signed-solid}
 use Rattle.css_migrate.specs.Migrated.{fed, header_becomes}
 use Rattle.css_app.specs.Replayed.{Opening, Running, started, grown, declared, next_companion, after, reached}
-use Rattle.css_laws.proofs.Runs.{joined, AreFree}
+use Rattle.css_laws.proofs.Runs.{joined}
 
 -- ---- the two lines
 abbrev pub first_text : Header → List ℕ

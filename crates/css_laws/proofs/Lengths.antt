@@ -1,21 +1,18 @@
 -- What a schedule's lines become is little longer than they are.
-use Rattle.std.proofs.Common.{◌≡◌, ℕ, ◌+◌, ◌*◌, ◌^◌, ◌<◌, ◌≤◌, arith, ap, sym, subst, ◌∙◌, refl, Bool, true, false, List}
+use Rattle.std.proofs.Common.{◌≡◌, ℕ, ◌+◌, ◌≤◌, arith, ap, sym, ◌∙◌, refl, List}
 use Rattle.std.proofs.Common.{[], ◌∷◌, ◌++◌, length}
-use Rattle.std.specs.Prelude.{Result, Ok, Err, codes, decimal}
-use Rattle.std.specs.List.{join_with_byte, slice_split}
+use Rattle.std.specs.Prelude.{decimal}
+use Rattle.std.specs.List.{join_with_byte}
 use Rattle.std.proofs.lemmas.Fmt.{decimal_nonempty, decimal_digit}
 use Rattle.std.proofs.lemmas.List.{length-append}
 use Rattle.std.proofs.lemmas.List.Sums.{sum_by-cons}
 use Rattle.std.proofs.lemmas.List.Splits.{join_with_byte-slice_split}
 use Rattle.css_lines.specs.Meaning.{offset}
-use Rattle.css_schedule.specs.declared.line.Line.{Line}
-use Rattle.css_schedule.specs.Words.{is_space, words_of}
-use Rattle.css_schedule.specs.Lines.{line_of}
+use Rattle.css_schedule.specs.Words.{words_of}
 use Rattle.css_schedule.specs.Printed.{with_words, verb_words, line_text_in}
-use Rattle.css_schedule.specs.Ranges.{IsLine}
 use Rattle.css_schedule.proofs.InRange.{lines_are_in_range}
-use Rattle.css_laws.proofs.Turned.{GrowsLittle, LinesGrowLittle}
-use Rattle.css_laws.proofs.SpelledLines.{first_line_words, line-spelled}
+use Rattle.css_laws.proofs.Turned.{LinesGrowLittle}
+use Rattle.css_laws.proofs.SpelledLines.{line-spelled}
 
 -- ---- words
 -- one word more

@@ -92,12 +92,12 @@ from_space-is (byte ∷ bytes) rest plain =
     ap (λ (b : Bool). cond b (byte ∷ (bytes ++ 32 ∷ rest)) (from_space (bytes ++ 32 ∷ rest))) first.0
     ∙ from_space-is bytes rest (All-tail IsPlain byte bytes plain)
 
-leading_number-is : (n : ℕ) (rest : List ℕ) → n < 2 ^ 63 → leading_number (decimal n ++ 32 ∷ rest) ≡ n
+leading_number-is : (n : ℕ) (rest : List ℕ) → n < 2 ^ 64 → leading_number (decimal n ++ 32 ∷ rest) ≡ n
 leading_number-is n rest small =
     ap (λ (l : List ℕ). unwrap_or (number_of l) 0) (before_space-is (decimal n) rest (decimal-plain n))
     ∙ ap (λ (o : Option ℕ). unwrap_or o 0) (number_of-decimal n (omega (arith, small)))
 
-raised_text-is : (n : ℕ) (rest : List ℕ) → n < 2 ^ 63
+raised_text-is : (n : ℕ) (rest : List ℕ) → n < 2 ^ 64
     → raised_text (decimal n ++ 32 ∷ rest) ≡ (decimal (n + 1) ++ 32 ∷ rest) ++ 10 ∷ []
 raised_text-is n rest small =
     ap (λ (m : ℕ). (decimal (m + 1) ++ from_space (decimal n ++ 32 ∷ rest)) ++ 10 ∷ []) (leading_number-is n rest small)
@@ -141,7 +141,7 @@ numbered-free text n line =
     (All-cons (λ byte. is_feed byte ≡ false) 32 line.words refl line.free))
 
 -- it is printed with its line feed, and raised
-pub raised_print-line : (text : ℕ → List ℕ) (n : ℕ) → n < 2 ^ 63 → IsNumbered text
+pub raised_print-line : (text : ℕ → List ℕ) (n : ℕ) → n < 2 ^ 64 → IsNumbered text
     → text (n + 1) ++ 10 ∷ [] ≡ raised_print (text n ++ 10 ∷ [])
 unfolding raised_print
 raised_print-line text n small line =
@@ -181,10 +181,12 @@ wall-numbered span w =
     (numbered-more (λ n. decimal n ++ codes " wall ") lo (signed-free span.lo)
     (numbered-first (codes "wall ") (free-by (codes "wall ") refl))))))
 
-pub none_line : (n : ℕ) → decimal n ++ (codes " none NoAnswer" ++ 10 ∷ []) ≡ (decimal n ++ codes " none NoAnswer") ++ 10 ∷ []
+-- where no answer came
+pub none_line : (n : ℕ)
+    → decimal n ++ (codes " none NoAnswer" ++ 10 ∷ []) ≡ (decimal n ++ codes " none NoAnswer") ++ 10 ∷ []
 none_line n = sym (append_assoc (decimal n) (codes " none NoAnswer") (10 ∷ []))
 
-pub wall_text-raised : (n : ℕ) (span : Option Interval) (w : ℕ) → n < 2 ^ 63
+pub wall_text-raised : (n : ℕ) (span : Option Interval) (w : ℕ) → n < 2 ^ 64
     → wall_text (n + 1) span w ≡ raised_print (wall_text n span w)
 wall_text-raised n None w small =
     none_line (n + 1)
@@ -246,7 +248,7 @@ report-numbered (report.None c) assigned =
     numbered-first (codes "none " ++ cause_words c)
     (join-free (codes "none ") (cause_words c) (free-by (codes "none ") refl) (cause-free c))
 
-pub line_of-raised : (n : ℕ) (r : Report) (assigned : Option ℤ) → n < 2 ^ 63
+pub line_of-raised : (n : ℕ) (r : Report) (assigned : Option ℤ) → n < 2 ^ 64
     → line_of (n + 1) r assigned ≡ raised_print (line_of n r assigned)
 line_of-raised n r assigned small =
     raised_print-line (λ m. decimal m ++ report_words r assigned) n small (report-numbered r assigned)

@@ -1,10 +1,10 @@
 -- What becomes of a line depends on lines' numbers only where it names them.
-use Rattle.std.proofs.Common.{◌≡◌, ℕ, ◌+◌, ◌^◌, ◌<◌, arith, ap, sym, ◌∙◌, refl, Bool, true, false, cond, List, [], ◌∷◌}
-use Rattle.std.specs.Prelude.{◌==◌, ◌&&◌, not, map, Option, Some, None, is_some, Result, Ok, Err}
+use Rattle.std.proofs.Common.{◌≡◌, ℕ, ◌+◌, ◌^◌, ◌<◌, ap, sym, ◌∙◌, refl, Bool, true, false, cond, List, []}
+use Rattle.std.specs.Prelude.{◌==◌, ◌&&◌, not, Option, Some, None, is_some, Result, Ok, Err}
 use Rattle.std.specs.Option.{option_map}
-use Rattle.std.specs.Result.{result_and, result_map_both}
+use Rattle.std.specs.Result.{result_and}
 use Rattle.css_model.specs.Numbers.{precision_ns}
-use Rattle.css_model.specs.History.{History, accepted_answers}
+use Rattle.css_model.specs.History.{accepted_answers}
 use Rattle.css_span.specs.WallSpans.{wall_span}
 use Rattle.css_server.specs.Tickets.{Ticket}
 use Rattle.css_tv.specs.Outcomes.{Outcome}
@@ -24,12 +24,12 @@ use Rattle.css_world.specs.declared.fault.WorldFault.TheVariants.{Absent}
 use Rattle.css_world.specs.declared.watch.Reading.{Reading}
 use Rattle.css_world.specs.Numbering.{numbered}
 use Rattle.css_world.specs.Sessions.{setup_of}
-use Rattle.css_world.specs.Happened.{Numbered, requests, tickets, made_for, is_given, event_by, Ends, ends_of}
+use Rattle.css_world.specs.Happened.{Numbered, tickets, is_given, event_by, Ends, ends_of}
 use Rattle.css_world.specs.Clocks.{Seen, clock_verdict, last_reading, has_woken, reading_verdict}
 use Rattle.css_world.specs.Printed.{wall_text}
 use Rattle.css_world.specs.Verdicts.{local_of, tv_seen, own_seen, seen_of_tv, seen_of, tv_reading, own_reading}
 use Rattle.css_world.specs.Verdicts.{own_shown_tested, shown_tested, reading_tested, tested, is_for, can_exchange}
-use Rattle.css_world.specs.Verdicts.{can_talk, refused_by, outcome_after, played, printed_for, carried_out, line_meant}
+use Rattle.css_world.specs.Verdicts.{can_talk, refused_by, outcome_after, played, printed_for, carried_out}
 use Rattle.css_laws.specs.Numbers.{raised_line, raised_lines, raised_print, raised_fault, raised_result}
 use Rattle.css_laws.specs.Numbers.{NumbersDontMatter}
 use Rattle.css_laws.proofs.Doings.{requests-raised, tickets-raised, made_for-raised, is_given-raised, ends-raised}
@@ -166,7 +166,7 @@ printed-with header older now (Present a b) = refl
 printed-with header older now (Close k) = refl
 printed-with header older now Sleep = refl
 
-printed_with-raised : (header : Header) (ends : Ends) (n : ℕ) (line : Line) (verb : Verb) → n < 2 ^ 63
+printed_with-raised : (header : Header) (ends : Ends) (n : ℕ) (line : Line) (verb : Verb) → n < 2 ^ 64
     → printed_with header ends (n + 1) line verb ≡ raised_print (printed_with header ends n line verb)
 printed_with-raised header ends n line (Wall r) small =
     wall_text-raised n (wall_span (local_of line.who header) r
@@ -230,7 +230,7 @@ carried-with header older now =
     ap (λ (p : List ℕ). carried_with (ends_of header older) now.line.who now.line.verb
     (can_exchange header older now.line.who now.line.verb) p) (printed-with header older now now.line.verb)
 
-carried-raised : (header : Header) (older : List Numbered) (now : Numbered) → now.number < 2 ^ 63
+carried-raised : (header : Header) (older : List Numbered) (now : Numbered) → now.number < 2 ^ 64
     → carried_out header (raised_lines older) (raised_line now) ≡ raised_result (carried_out header older now)
 carried-raised header older now small =
     let who = now.line.who in

@@ -1,5 +1,5 @@
 -- What lines tell of a clock, with their numbers raised by one.
-use Rattle.std.proofs.Common.{◌≡◌, ℕ, ◌+◌, ◌-◌, ap, sym, ◌∙◌, refl, Bool, true, false, cond, List, [], ◌∷◌, ◌++◌}
+use Rattle.std.proofs.Common.{◌≡◌, ℕ, ◌+◌, ◌-◌, ap, ◌∙◌, refl, Bool, true, false, cond, List, [], ◌∷◌}
 use Rattle.std.specs.Prelude.{Option, Some, None, ◌==◌, ◌&&◌, ◌||◌, map, is_none, nat_lt, int_lt, pos, ℤ, neg_ℤ}
 use Rattle.std.specs.Prelude.{Result, Ok, Err}
 use Rattle.std.specs.Int.{abs_diff}
@@ -13,7 +13,7 @@ use Rattle.css_moments.specs.declared.fault.DriftFault.{DriftFault}
 use Rattle.css_moments.specs.declared.fault.DriftFault.TheVariants as drifts
 use Rattle.css_world.specs.Happened.{Numbered}
 use Rattle.css_world.specs.Clocks.{Seen, shown_at, told_with, told_by, broken_by, clock_verdict, last_reading}
-use Rattle.css_world.specs.Clocks.{has_woken, reading_at, near_verdict, order_verdict, read_verdict, reading_verdict}
+use Rattle.css_world.specs.Clocks.{has_woken, reading_at, near_verdict, order_verdict, reading_verdict}
 use Rattle.css_world.specs.Clocks.{least_after}
 use Rattle.css_world.specs.Verdicts.{tv_seen, own_seen, seen_of_tv, seen_of}
 use Rattle.css_world.specs.declared.watch.Reading.{Reading}
@@ -240,7 +240,8 @@ reading_verdict-raised number precision shown woken last (Some reading) =
     ap (λ (r : Result (Unit {0}) WorldFault). result_and r
     (order_verdict woken (option_map raised_reading last) reading))
     (near_verdict-raised number precision shown reading)
-    ∙ ap (λ (r : Result (Unit {0}) WorldFault). result_and (raised_test (near_verdict number precision shown reading)) r)
+    ∙ ap (λ (r : Result (Unit {0}) WorldFault).
+    result_and (raised_test (near_verdict number precision shown reading)) r)
     (order_verdict-raised woken last reading)
     ∙ both-raised raised_fault (λ x. x) (λ x. x) (near_verdict number precision shown reading)
     (order_verdict woken last reading)

@@ -1,16 +1,16 @@
 -- An input as steps: each line with the number of its line feeds, which the last line may lack.
-use Rattle.std.proofs.Common.{◌≡◌, ℕ, ◌+◌, ap, sym, ◌∙◌, refl, Bool, true, false, cond, List, [], ◌∷◌, ◌++◌, length, map}
+use Rattle.std.proofs.Common.{◌≡◌, ℕ, ◌+◌, ap, sym, ◌∙◌, refl, Bool, true, false, cond, List, [], ◌∷◌}
+use Rattle.std.proofs.Common.{◌++◌, length, map}
 use Rattle.std.proofs.Common.{append_assoc, append-nil, arith}
 use Rattle.std.specs.Prelude.{Option, Some, None, Result, Ok, Err}
-use Rattle.std.specs.Option.{option_map}
 use Rattle.std.specs.List.{flat_map}
-use Rattle.css_lines.specs.Lines.{is_feed, whole_lines, last_part}
+use Rattle.css_lines.specs.Lines.{whole_lines, last_part}
 use Rattle.css_lines.specs.Progress.{HasNoFeed}
-use Rattle.css_lines.specs.Meaning.{Meaning, Outcome, accepted, refused_at, followed_from, followed_by, offset, is_long}
+use Rattle.css_lines.specs.Meaning.{Meaning, Outcome, refused_at, followed_from, followed_by, offset, is_long}
 use Rattle.css_lines.specs.Meaning.{reader_outcome, line_outcome, outcome_from, finish_outcome, end_outcome, outcome}
 use Rattle.css_lines.specs.declared.reader.Refusal.{Refusal}
-use Rattle.css_lines.specs.declared.reader.Refusal.TheVariants.{Long, Refused}
-use Rattle.css_lines.proofs.Cut.{whole_lines_is, last_part_is, whole_lines-append, last_part-append, whole_from}
+use Rattle.css_lines.specs.declared.reader.Refusal.TheVariants.{Long}
+use Rattle.css_lines.proofs.Cut.{whole_lines_is, last_part_is, whole_from}
 use Rattle.css_lines.proofs.Cut.{last_from, whole_from-free, last_from-free}
 use Rattle.css_lines.proofs.Meant.{followed_by-assoc}
 
@@ -125,7 +125,8 @@ line-taken {C = C} meaning before line end e =
   where
     by : (long : Bool) → is_long meaning before line end ≡ long
         → (answer : Result (List ℕ) C) → meaning.line before line ≡ answer
-        → (cond long (refused_at [] (length before + 1) Long) (reader_outcome (length before + 1) answer)).verdict ≡ None
+        → (cond long (refused_at [] (length before + 1) Long) (reader_outcome (length before + 1) answer)).verdict
+        ≡ None
         → IsTaken meaning before line end
     by true is answer same v = absurd (cc)
     by false is (Ok printed) same v = record { printed = printed; short = is; meant = same }

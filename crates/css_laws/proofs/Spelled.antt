@@ -1,30 +1,24 @@
 -- What is read of words is spelled by them: the words are those that are printed for it.
-use Rattle.std.proofs.Common.{◌≡◌, ℕ, ◌+◌, ◌^◌, ◌<◌, ◌≤◌, arith, ap, sym, subst, ◌∙◌, refl, Bool, true, false, List}
-use Rattle.std.proofs.Common.{[], ◌∷◌, ◌++◌, append-nil}
-use Rattle.std.specs.Prelude.{if◌then◌else◌, ◌==◌, ◌&&◌, ℤ, Option, Some, None, IfSome, Result, Ok, Err, IfOk, bytes_eq}
+use Rattle.std.proofs.Common.{◌≡◌, ℕ, ◌^◌, ◌≤◌, arith, ap, ◌∙◌, refl, Bool, true, false, List}
+use Rattle.std.proofs.Common.{[], ◌∷◌, ◌++◌}
+use Rattle.std.specs.Prelude.{if◌then◌else◌, ◌==◌, ℤ, Option, Some, None, Result, Ok, Err, IfOk, bytes_eq}
 use Rattle.std.specs.Prelude.{codes, decimal}
 use Rattle.std.specs.Fmt.{signed_decimal}
 use Rattle.std.proofs.lemmas.Slice.Eq.{bytes_eq-Decides}
-use Rattle.css_num.specs.Rates.{TickRate, is_rate_part, rate_of}
 use Rattle.css_num.specs.Words.{whole_number_of, signed_number_of}
 use Rattle.css_num.proofs.Spellings.{SpellsBelow-answer, SpellsWithin-signed_number_of}
 use Rattle.css_model.specs.declared.TheConstants.{LIMIT}
 use Rattle.css_player.specs.declared.command.Command.{Command}
-use Rattle.css_sessions.specs.declared.session.Kind.{Kind}
 use Rattle.css_tsmsg.specs.declared.bound.Bound.{Bound}
 use Rattle.css_tsmsg.specs.Presentations.{content_text, wall_text}
-use Rattle.css_schedule.proofs.Steps.{Front, after_whole, either, where_true, where_false}
+use Rattle.css_schedule.proofs.Steps.{Front, after_whole, where_true, where_false}
 use Rattle.css_schedule.specs.declared.fault.LineFault.{LineFault}
-use Rattle.css_schedule.specs.declared.fault.LineFault.TheVariants.{Form}
-use Rattle.css_schedule.specs.declared.line.Line.{Line}
 use Rattle.css_schedule.specs.declared.line.Verb.{Verb}
 use Rattle.css_schedule.specs.Words.{◌>>=◌, or_form, is_word, word_at, number_at, ordinal_at, integer_at, text_at}
-use Rattle.css_schedule.specs.Words.{after_word, all_read}
+use Rattle.css_schedule.specs.Words.{after_word}
 use Rattle.css_schedule.specs.Lines.{time_at, position_at, kind_of, kind_at, finite_at, wall_time_at, earliest_of}
 use Rattle.css_schedule.specs.Lines.{latest_of, earliest_at, latest_at, change_at, speed_at, seek_at, command_at}
-use Rattle.css_schedule.specs.Lines.{ask_at, take_at, give_at, land_at, wall_at, print_at, programme_at, timeline_at}
-use Rattle.css_schedule.specs.Lines.{viewer_at, opening_at, bring_at, up_at, present_at, close_at, session_at}
-use Rattle.css_schedule.specs.Lines.{timelines_at, operands_at, verb_at, line_of_words}
+use Rattle.css_schedule.specs.Lines.{ask_at, take_at, give_at, land_at, wall_at, print_at, programme_at}
 use Rattle.css_schedule.specs.Printed.{kind_word, command_name, command_word, verb_words}
 
 -- ---- one word

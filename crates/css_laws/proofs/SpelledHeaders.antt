@@ -1,7 +1,7 @@
 -- A header that is read is spelled by its words, and what it becomes is little longer.
-use Rattle.std.proofs.Common.{◌≡◌, ℕ, ◌+◌, ◌*◌, ◌^◌, ◌<◌, ◌≤◌, arith, ap, sym, subst, ◌∙◌, refl, Bool, true, false, List}
-use Rattle.std.proofs.Common.{cond, [], ◌∷◌, ◌++◌, length}
-use Rattle.std.specs.Prelude.{if◌then◌else◌, ◌==◌, ◌&&◌, not, ℤ, pos, negsuc, int_lt, Result, Ok, Err, IfOk, bytes_eq}
+use Rattle.std.proofs.Common.{◌≡◌, ℕ, ◌+◌, arith, ap, sym, ◌∙◌, refl, Bool, true, false, List}
+use Rattle.std.proofs.Common.{cond, [], ◌∷◌, length}
+use Rattle.std.specs.Prelude.{◌==◌, ℤ, pos, negsuc, int_lt, Result, Ok, Err, IfOk, bytes_eq}
 use Rattle.std.specs.Prelude.{codes, decimal}
 use Rattle.std.specs.Fmt.{signed_decimal}
 use Rattle.std.proofs.lemmas.Bool.{ne_eqb}
@@ -9,18 +9,17 @@ use Rattle.css_lines.specs.Meaning.{offset}
 use Rattle.css_model.specs.Numbers.{max_error, max_local_error, max_local_precision}
 use Rattle.css_schedule.proofs.Steps.{Front, pass, after_whole, where_true, where_false, ok-range}
 use Rattle.css_schedule.specs.declared.fault.LineFault.{LineFault}
-use Rattle.css_schedule.specs.declared.fault.LineFault.TheVariants.{Form}
 use Rattle.css_schedule.specs.declared.header.CompanionLine.{CompanionLine}
 use Rattle.css_schedule.specs.declared.header.Header.{Header}
 use Rattle.css_schedule.specs.declared.header.Start.{Start}
 use Rattle.css_schedule.specs.declared.header.Start.TheVariants.{One, Two}
-use Rattle.css_schedule.specs.Words.{◌>>=◌, is_word, word_at, number_at, signed_at, integer_at, text_at, after_word}
+use Rattle.css_schedule.specs.Words.{is_word, word_at, number_at, signed_at, integer_at, text_at, after_word}
 use Rattle.css_schedule.specs.Words.{all_read, words_of}
 use Rattle.css_schedule.specs.Headers.{stem_of, mode_of, mode_at, declared_at, local_at, companion_of_words, count_at}
 use Rattle.css_schedule.specs.Headers.{first_of_words, second_of_words, start_of, header_of_words, header_of}
 use Rattle.css_schedule.specs.Printed.{mode_word, stem_word, companion_words, first_words, declared_words, header_words}
 use Rattle.css_laws.proofs.Heading.{first_text, companion_text}
-use Rattle.css_laws.proofs.Alike.{HeaderGrowsLittle, HeadersGrowLittle}
+use Rattle.css_laws.proofs.Alike.{HeadersGrowLittle}
 use Rattle.css_laws.proofs.Spelled.{IsThen, IsTextThen, one_of, same_word, word-spelled, number-spelled}
 use Rattle.css_laws.proofs.Spelled.{integer-spelled, text-spelled, after_word-spelled}
 use Rattle.css_laws.proofs.SpelledLines.{none-left}

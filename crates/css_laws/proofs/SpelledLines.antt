@@ -1,23 +1,23 @@
 -- A line that is read is spelled by its words.
-use Rattle.std.proofs.Common.{◌≡◌, ℕ, ◌+◌, ap, sym, subst, ◌∙◌, refl, Bool, true, false, List}
+use Rattle.std.proofs.Common.{◌≡◌, ℕ, ap, ◌∙◌, refl, Bool, true, false, List}
 use Rattle.std.proofs.Common.{[], ◌∷◌, ◌++◌, append-nil}
-use Rattle.std.specs.Prelude.{if◌then◌else◌, ◌==◌, ◌&&◌, Option, Some, None, IfSome, Result, Ok, Err, IfOk, bytes_eq}
+use Rattle.std.specs.Prelude.{if◌then◌else◌, ◌&&◌, Option, Some, None, IfSome, Result, Ok, Err, IfOk, bytes_eq}
 use Rattle.std.specs.Prelude.{codes, decimal}
 use Rattle.std.specs.Fmt.{signed_decimal}
 use Rattle.css_num.specs.Rates.{TickRate, is_rate_part, rate_of}
 use Rattle.css_tsmsg.specs.Presentations.{content_text, wall_text}
-use Rattle.css_schedule.proofs.Steps.{Front, after_whole, after_some, where_true, ok-range}
+use Rattle.css_schedule.proofs.Steps.{Front, after_whole, after_some, ok-range}
 use Rattle.css_schedule.specs.declared.fault.LineFault.{LineFault}
 use Rattle.css_schedule.specs.declared.line.Line.{Line}
 use Rattle.css_schedule.specs.declared.line.Verb.{Verb}
-use Rattle.css_schedule.specs.Words.{◌>>=◌, word_at, ordinal_at, text_at, after_word, all_read, words_of}
+use Rattle.css_schedule.specs.Words.{word_at, ordinal_at, text_at, after_word, all_read, words_of}
 use Rattle.css_schedule.specs.Lines.{time_at, position_at, kind_at, earliest_at, latest_at, command_at}
-use Rattle.css_schedule.specs.Lines.{ask_at, take_at, give_at, land_at, wall_at, print_at, programme_at, timeline_at}
+use Rattle.css_schedule.specs.Lines.{timeline_at}
 use Rattle.css_schedule.specs.Lines.{viewer_at, opening_at, bring_at, up_at, present_at, close_at, session_at}
 use Rattle.css_schedule.specs.Lines.{timelines_at, operands_at, verb_at, line_of_words, line_of}
-use Rattle.css_schedule.specs.Printed.{kind_word, command_name, command_word, verb_words}
+use Rattle.css_schedule.specs.Printed.{kind_word, command_name, verb_words}
 use Rattle.css_laws.proofs.Spelled.{IsThen, IsTextThen, IsBoundThen, IsCommandThen, IsVerbThen, named, one_of}
-use Rattle.css_laws.proofs.Spelled.{same_word, word-spelled, time-spelled, ordinal-spelled, position-spelled}
+use Rattle.css_laws.proofs.Spelled.{word-spelled, time-spelled, ordinal-spelled, position-spelled}
 use Rattle.css_laws.proofs.Spelled.{text-spelled, after_word-spelled, kind-spelled, earliest-spelled, latest-spelled}
 use Rattle.css_laws.proofs.Spelled.{command-spelled, ask-spelled, wall-spelled, print-spelled, take-spelled}
 use Rattle.css_laws.proofs.Spelled.{give-spelled, land-spelled, programme-spelled}
@@ -40,8 +40,8 @@ rate-parts a b = by (is_rate_part a && is_rate_part b)
 timeline-spelled : (words : List (List ℕ)) → IfOk (timeline_at words) (IsVerbThen (codes "timeline") words)
 unfolding timeline_at
 timeline-spelled words =
-    after_whole (IsThen decimal words) (IsVerbThen (codes "timeline") words) (ordinal_at words) _ (ordinal-spelled words)
-    (λ n hn.
+    after_whole (IsThen decimal words) (IsVerbThen (codes "timeline") words) (ordinal_at words) _
+    (ordinal-spelled words) (λ n hn.
     after_whole (IsTextThen n.1) (IsVerbThen (codes "timeline") words) (text_at n.1) _ (text-spelled n.1) (λ s hs.
     after_whole (IsThen decimal s.1) (IsVerbThen (codes "timeline") words) (ordinal_at s.1) _ (ordinal-spelled s.1)
     (λ a ha.

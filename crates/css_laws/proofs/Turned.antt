@@ -1,44 +1,40 @@
 -- One line of a schedule and what it becomes: a replay reads both as the same line.
-use Rattle.std.proofs.Common.{◌≡◌, ℕ, suc, ◌+◌, ◌*◌, ◌^◌, ◌<◌, ◌≤◌, arith, ap, sym, subst, ◌∙◌, refl, Bool, true, false}
-use Rattle.std.proofs.Common.{cond, ltb, List, [], ◌∷◌, ◌++◌, length, map, All}
-use Rattle.std.specs.Prelude.{Option, Some, None, Result, Ok, Err, ◌||◌, codes, decimal}
+use Rattle.std.proofs.Common.{◌≡◌, ℕ, ◌+◌, ◌*◌, ◌≤◌, arith, ap, sym, ◌∙◌, refl, Bool, true, false}
+use Rattle.std.proofs.Common.{ltb, List, [], ◌∷◌, ◌++◌, length}
+use Rattle.std.specs.Prelude.{Option, Some, None, Result, Ok, Err, ◌||◌, decimal}
 use Rattle.std.specs.Option.{option_map}
 use Rattle.std.proofs.lemmas.Bool.{le-ltb, ltb-false}
-use Rattle.std.proofs.lemmas.List.{length-append}
 use Rattle.std.proofs.lemmas.List.Sums.{sum_by-append, sum_by-cons}
-use Rattle.css_lines.specs.Meaning.{Meaning, Outcome, accepted, refused_at, followed_from, followed_by, offset, is_long}
+use Rattle.css_lines.specs.Meaning.{Outcome, accepted, refused_at, followed_from, followed_by, offset, is_long}
 use Rattle.css_lines.specs.Meaning.{reader_outcome, line_outcome}
 use Rattle.css_lines.specs.Progress.{HasNoFeed}
 use Rattle.css_lines.specs.declared.reader.Refusal.{Refusal}
-use Rattle.css_lines.specs.declared.reader.Refusal.TheVariants.{Long, Refused}
+use Rattle.css_lines.specs.declared.reader.Refusal.TheVariants.{Refused}
 use Rattle.css_schedule.specs.declared.fault.LineFault.{LineFault}
 use Rattle.css_schedule.specs.declared.header.Header.{Header}
 use Rattle.css_schedule.specs.declared.line.Line.{Line}
 use Rattle.css_schedule.specs.Headers.{max_companions}
 use Rattle.css_schedule.specs.Lines.{line_of, line_in}
 use Rattle.css_schedule.specs.Printed.{verb_words, line_text_in}
-use Rattle.css_schedule.specs.Ranges.{IsLine, IsFirst, IsSecond}
-use Rattle.css_schedule.proofs.InRange.{IsFirstLine, lines_are_in_range}
+use Rattle.css_schedule.specs.Ranges.{IsLine, IsSecond}
+use Rattle.css_schedule.proofs.InRange.{lines_are_in_range}
 use Rattle.css_schedule.proofs.ReadBack.{line_back_in}
-use Rattle.css_schedule.proofs.Spaced.{AllSolid, line-free, decimal-solid}
+use Rattle.css_schedule.proofs.Spaced.{line-free, decimal-solid}
 use Rattle.css_schedule.proofs.VerbsBack.{reading-solid, verb-solid}
 use Rattle.css_migrate.specs.Migrated.{fed, line_becomes, migrated}
-use Rattle.css_migrate.specs.declared.migrate.NoLine.{NoLine}
 use Rattle.css_world.specs.Happened.{Numbered}
 use Rattle.css_world.specs.Verdicts.{line_meant}
 use Rattle.css_world.specs.declared.fault.WorldFault.{WorldFault}
 use Rattle.css_world.specs.declared.fault.WorldFault.TheVariants as world
 use Rattle.css_app.specs.declared.replay.Cause.{Cause}
 use Rattle.css_app.specs.declared.replay.Cause.TheVariants.{Form, Absent, Player, Broken}
-use Rattle.css_app.specs.Replayed.{Extent, Running, after, reached, with_line, caused, read_meant, meant_at, version_of}
+use Rattle.css_app.specs.Replayed.{Extent, Running, after, reached, caused, read_meant, meant_at, version_of}
 use Rattle.css_app.specs.Replayed.{longest_line, longest_input, replayed}
-use Rattle.css_app.proofs.Texts.{reached-push}
-use Rattle.css_laws.specs.Numbers.{raised_line, raised_lines, raised_print, raised_fault, raised_result}
-use Rattle.css_laws.specs.Raised.{raised_cause, raised_refusal, raised_verdict, raised}
-use Rattle.css_laws.proofs.Fed.{IsWhole, PrintsWhole, nothing-whole, meant-whole, raised_print-append}
-use Rattle.css_laws.proofs.Raising.{numbers_raised}
+use Rattle.css_laws.specs.Numbers.{raised_lines, raised_print, raised_result}
+use Rattle.css_laws.specs.Raised.{raised_verdict, raised}
+use Rattle.css_laws.proofs.Fed.{IsWhole, PrintsWhole, nothing-whole, raised_print-append}
 use Rattle.css_laws.proofs.Printing.{raised_print-nil}
-use Rattle.css_laws.proofs.Runs.{IsTaken, short-line}
+use Rattle.css_laws.proofs.Runs.{short-line}
 
 -- ---- outcomes
 -- one outcome after another
@@ -64,10 +60,12 @@ pub caused-raised : (number : ℕ) (result : Result (List ℕ) WorldFault)
 caused-raised number (Ok printed) = refl
 caused-raised number (Err (world.Broken earlier excess)) =
     ap (λ (p : List ℕ). refused_at p (number + 1) (Refused (Broken (earlier + 1) excess))) (sym raised_print-nil)
-caused-raised number (Err world.Absent) = ap (λ (p : List ℕ). refused_at p (number + 1) (Refused Absent)) (sym raised_print-nil)
+caused-raised number (Err world.Absent) =
+    ap (λ (p : List ℕ). refused_at p (number + 1) (Refused Absent)) (sym raised_print-nil)
 caused-raised number (Err (world.Player fault)) =
     ap (λ (p : List ℕ). refused_at p (number + 1) (Refused (Player fault))) (sym raised_print-nil)
-caused-raised number (Err world.Memory) = ap (λ (p : List ℕ). refused_at p (number + 1) (Refused Form)) (sym raised_print-nil)
+caused-raised number (Err world.Memory) =
+    ap (λ (p : List ℕ). refused_at p (number + 1) (Refused Form)) (sym raised_print-nil)
 
 pub caused-whole : (number : ℕ) (result : Result (List ℕ) WorldFault) → PrintsWhole result
     → IsWhole (reader_outcome number (caused result)).printed
@@ -88,7 +86,8 @@ pub record Follows (before after : List (List ℕ)) (header : Header) (lines : L
   pub small : offset after ≤ 2 * offset before
   pub rest : (text : List ℕ) → migrated.line before text ≡ line_becomes (line_of text)
 
--- a text of version 2 is at most twice as long as that of version 1, and at most 256 bytes longer; both with a line feed
+-- A text of version 2 is little longer than that of version 1: at most 256 bytes longer, and at most twice as long,
+-- each with its line feed.
 pub record GrowsLittle (before after : ℕ) : Type 0 where
   pub twice : after + 1 ≤ 2 * before
   pub most : after ≤ before + 256

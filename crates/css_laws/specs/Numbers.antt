@@ -57,7 +57,8 @@ abbrev pub raised_result : Result (List ℕ) WorldFault → Result (List ℕ) Wo
 raised_result result = result_map_both raised_print raised_fault result
 
 -- ---- the law
--- Lines with their numbers raised by one mean the same as the lines, but for the numbers that are named.
+-- Lines with their numbers raised by one mean the same as the lines, but for the numbers that are named. A line's
+-- number has at most 64 bits.
 abbrev pub NumbersDontMatter : Type 0
-NumbersDontMatter = (header : Header) (older : List Numbered) (now : Numbered) → now.number < 2 ^ 63
+NumbersDontMatter = (header : Header) (older : List Numbered) (now : Numbered) → now.number < 2 ^ 64
     → line_meant header (raised_lines older) (raised_line now) ≡ raised_result (line_meant header older now)

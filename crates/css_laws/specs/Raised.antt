@@ -1,6 +1,6 @@
 -- What becomes of a schedule and of its migration: line 1 becomes two lines, so the number of each line is raised by
 -- one.
-use Rattle.std.specs.Prelude.{ℕ, ◌+◌, ◌≡◌, List, Option, None}
+use Rattle.std.specs.Prelude.{ℕ, ◌+◌, ◌≡◌, List, None}
 use Rattle.std.specs.Option.{option_map}
 use Rattle.css_lines.specs.Meaning.{Outcome, outcome}
 use Rattle.css_lines.specs.declared.reader.Refusal.{Refusal}
@@ -33,8 +33,8 @@ raised outcome = record {
   verdict = option_map raised_verdict outcome.verdict;
 }
 
--- Where a schedule of version 1 is migrated, a replay of what it becomes says the same as a replay of the schedule, with
--- the number of each line raised by one.
+-- Where a schedule of version 1 is migrated, a replay of what it becomes says the same as a replay of the schedule,
+-- with the number of each line raised by one.
 abbrev pub MigratedSchedulesAreReplayedAlike : Type 0
 MigratedSchedulesAreReplayedAlike = (bytes : List ℕ) → (outcome migrated bytes).verdict ≡ None
     → outcome replayed (outcome migrated bytes).printed ≡ raised (outcome replayed bytes)

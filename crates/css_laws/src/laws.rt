@@ -10,8 +10,8 @@ pub fn numbers_dont_matter()
     ensures { NumbersDontMatter }
 {}
 
-/// A replay of a migrated schedule says the same as a replay of the schedule, with the number of each line raised by one:
-/// what is printed, the line that is refused, and why.
+/// A replay of a migrated schedule says the same as a replay of the schedule, with the number of each line raised by
+/// one: what is printed, the line that is refused, and why.
 pub fn migrated_schedules_are_replayed_alike()
     ensures { MigratedSchedulesAreReplayedAlike }
 {}
