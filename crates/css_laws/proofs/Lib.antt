@@ -1,3 +1,16 @@
+pub mod Doings
+pub mod Readings
+pub mod Printing
+pub mod Raising
+pub mod Runs
+pub mod Fed
+pub mod Turned
+pub mod Heading
+pub mod Alike
+pub mod Spelled
+pub mod SpelledLines
+pub mod Lengths
+pub mod SpelledHeaders
 pub mod Plain
 pub mod PlainFirst
 pub mod PlainSecond

@@ -1,1 +1,3 @@
+pub mod Numbers
+pub mod Raised
 pub mod Generations

@@ -1,0 +1,141 @@
+-- An input as steps: each line with the number of its line feeds, which the last line may lack.
+use Rattle.std.proofs.Common.{◌≡◌, ℕ, ◌+◌, ap, sym, ◌∙◌, refl, Bool, true, false, cond, List, [], ◌∷◌}
+use Rattle.std.proofs.Common.{◌++◌, length, map}
+use Rattle.std.proofs.Common.{append_assoc, append-nil, arith}
+use Rattle.std.specs.Prelude.{Option, Some, None, Result, Ok, Err}
+use Rattle.std.specs.List.{flat_map}
+use Rattle.css_lines.specs.Lines.{whole_lines, last_part}
+use Rattle.css_lines.specs.Progress.{HasNoFeed}
+use Rattle.css_lines.specs.Meaning.{Meaning, Outcome, refused_at, followed_from, followed_by, offset, is_long}
+use Rattle.css_lines.specs.Meaning.{reader_outcome, line_outcome, outcome_from, finish_outcome, end_outcome, outcome}
+use Rattle.css_lines.specs.declared.reader.Refusal.{Refusal}
+use Rattle.css_lines.specs.declared.reader.Refusal.TheVariants.{Long}
+use Rattle.css_lines.proofs.Cut.{whole_lines_is, last_part_is, whole_from}
+use Rattle.css_lines.proofs.Cut.{last_from, whole_from-free, last_from-free}
+use Rattle.css_lines.proofs.Meant.{followed_by-assoc}
+
+-- ---- steps
+-- a line with its line feed
+abbrev pub with_feed : List ℕ → List ℕ × ℕ
+with_feed line = (line, 1)
+
+-- the last line, which lacks its line feed, where it has a byte
+abbrev pub unfed : List ℕ → List (List ℕ × ℕ)
+unfed [] = []
+unfed (byte ∷ bytes) = (byte ∷ bytes, 0) ∷ []
+
+-- lines with their line feeds, and a last one without
+abbrev pub steps_of : List (List ℕ) → List ℕ → List (List ℕ × ℕ)
+steps_of [] last = unfed last
+steps_of (line ∷ lines) last = with_feed line ∷ steps_of lines last
+
+-- what becomes of these after the lines before them
+abbrev pub ran : {C : Type 0} → Meaning C → List (List ℕ) → List (List ℕ × ℕ) → Outcome C
+ran meaning before [] = finish_outcome meaning before
+ran meaning before (step ∷ steps) =
+    followed_by (line_outcome meaning before step.0 (offset before + length step.0 + step.1))
+    (ran meaning (before ++ step.0 ∷ []) steps)
+
+-- the last line
+end-ran : {C : Type 0} (meaning : Meaning C) (before : List (List ℕ)) (last : List ℕ)
+    → end_outcome meaning before last ≡ ran meaning before (unfed last)
+end-ran meaning before [] = refl
+end-ran meaning before (byte ∷ bytes) =
+    let line = byte ∷ bytes in
+    ap (λ (e : ℕ). followed_by (line_outcome meaning before line e) (finish_outcome meaning (before ++ line ∷ [])))
+    (sym (plus_none (offset before + length line)))
+  where
+    plus_none : (n : ℕ) → n + 0 ≡ n
+    plus_none n = omega arith
+
+run-ran : {C : Type 0} (meaning : Meaning C) (before lines : List (List ℕ)) (last : List ℕ)
+    → followed_by (outcome_from meaning before lines) (end_outcome meaning (before ++ lines) last)
+    ≡ ran meaning before (steps_of lines last)
+run-ran meaning before [] last =
+    ap (λ (b : List (List ℕ)). end_outcome meaning b last) (append-nil before) ∙ end-ran meaning before last
+run-ran meaning before (line ∷ lines) last =
+    let first = line_outcome meaning before line (offset before + length line + 1) in
+    followed_by-assoc first (outcome_from meaning (before ++ line ∷ []) lines)
+    (end_outcome meaning (before ++ line ∷ lines) last)
+    ∙ ap (λ (b : List (List ℕ)). followed_by first (followed_by (outcome_from meaning (before ++ line ∷ []) lines)
+    (end_outcome meaning b last))) (sym (append_assoc before (line ∷ []) lines))
+    ∙ ap (followed_by first) (run-ran meaning (before ++ line ∷ []) lines last)
+
+-- an input is its steps
+pub outcome-ran : {C : Type 0} (meaning : Meaning C) (bytes : List ℕ)
+    → outcome meaning bytes ≡ ran meaning [] (steps_of (whole_lines bytes) (last_part bytes))
+unfolding outcome
+outcome-ran meaning bytes = run-ran meaning [] (whole_lines bytes) (last_part bytes)
+
+-- ---- lines joined
+-- these lines, each with its line feed
+abbrev pub joined : List (List ℕ) → List ℕ
+joined lines = flat_map (λ line. line ++ 10 ∷ []) lines
+
+-- no line feed stands in them
+abbrev pub AreFree : List (List ℕ) → Type 0
+AreFree [] = Unit {0}
+AreFree (line ∷ lines) = HasNoFeed line × AreFree lines
+
+joined-whole : (lines : List (List ℕ)) → AreFree lines → whole_from [] (joined lines) ≡ lines
+joined-whole [] free = refl
+joined-whole (line ∷ lines) free =
+    ap (whole_from []) (append_assoc line (10 ∷ []) (joined lines))
+    ∙ whole_from-free [] line (10 ∷ joined lines) free.0
+    ∙ ap (λ (l : List (List ℕ)). line ∷ l) (joined-whole lines free.1)
+
+joined-last : (lines : List (List ℕ)) → AreFree lines → last_from [] (joined lines) ≡ []
+joined-last [] free = refl
+joined-last (line ∷ lines) free =
+    ap (last_from []) (append_assoc line (10 ∷ []) (joined lines))
+    ∙ last_from-free [] line (10 ∷ joined lines) free.0
+    ∙ joined-last lines free.1
+
+steps-fed : (lines : List (List ℕ)) → steps_of lines [] ≡ map with_feed lines
+steps-fed [] = refl
+steps-fed (line ∷ lines) = ap (λ (s : List (List ℕ × ℕ)). with_feed line ∷ s) (steps-fed lines)
+
+-- what becomes of them
+pub joined-ran : {C : Type 0} (meaning : Meaning C) (lines : List (List ℕ)) → AreFree lines
+    → outcome meaning (joined lines) ≡ ran meaning [] (map with_feed lines)
+joined-ran meaning lines free =
+    outcome-ran meaning (joined lines)
+    ∙ ap (λ (w : List (List ℕ)). ran meaning [] (steps_of w (last_part (joined lines))))
+    (whole_lines_is (joined lines) ∙ joined-whole lines free)
+    ∙ ap (λ (l : List ℕ). ran meaning [] (steps_of lines l)) (last_part_is (joined lines) ∙ joined-last lines free)
+    ∙ ap (ran meaning []) (steps-fed lines)
+
+-- ---- what is accepted
+-- where nothing is refused of one outcome after another, nothing is of both
+pub both-accepted : {C : Type 0} (printed : List ℕ) (verdict : Option (ℕ × Refusal C)) (next : Outcome C)
+    → (followed_from printed verdict next).verdict ≡ None → (verdict ≡ None) × (next.verdict ≡ None)
+both-accepted printed None next e = (refl, e)
+both-accepted printed (Some v) next e = absurd (cc)
+
+-- this is printed for a line, which isn't too long
+pub record IsTaken {C : Type 0} (meaning : Meaning C) (before : List (List ℕ)) (line : List ℕ) (end : ℕ) : Type 0 where
+  pub printed : List ℕ
+  pub short : is_long meaning before line end ≡ false
+  pub meant : meaning.line before line ≡ Ok printed
+
+pub line-taken : {C : Type 0} (meaning : Meaning C) (before : List (List ℕ)) (line : List ℕ) (end : ℕ)
+    → (line_outcome meaning before line end).verdict ≡ None → IsTaken meaning before line end
+line-taken {C = C} meaning before line end e =
+    by (is_long meaning before line end) refl (meaning.line before line) refl e
+  where
+    by : (long : Bool) → is_long meaning before line end ≡ long
+        → (answer : Result (List ℕ) C) → meaning.line before line ≡ answer
+        → (cond long (refused_at [] (length before + 1) Long) (reader_outcome (length before + 1) answer)).verdict
+        ≡ None
+        → IsTaken meaning before line end
+    by true is answer same v = absurd (cc)
+    by false is (Ok printed) same v = record { printed = printed; short = is; meant = same }
+    by false is (Err cause) same v = absurd (cc)
+
+-- what becomes of a line that isn't too long
+pub short-line : {C : Type 0} (meaning : Meaning C) (before : List (List ℕ)) (line : List ℕ) (end : ℕ)
+    → is_long meaning before line end ≡ false
+    → line_outcome meaning before line end ≡ reader_outcome (length before + 1) (meaning.line before line)
+short-line meaning before line end short =
+    ap (λ (b : Bool). cond b (refused_at [] (length before + 1) Long)
+    (reader_outcome (length before + 1) (meaning.line before line))) short

@@ -1,0 +1,40 @@
+-- What becomes of a schedule and of its migration: line 1 becomes two lines, so the number of each line is raised by
+-- one.
+use Rattle.std.specs.Prelude.{ℕ, ◌+◌, ◌≡◌, List, None}
+use Rattle.std.specs.Option.{option_map}
+use Rattle.css_lines.specs.Meaning.{Outcome, outcome}
+use Rattle.css_lines.specs.declared.reader.Refusal.{Refusal}
+use Rattle.css_lines.specs.declared.reader.Refusal.TheVariants.{Long, Refused}
+use Rattle.css_migrate.specs.Migrated.{migrated}
+use Rattle.css_app.specs.Replayed.{replayed}
+use Rattle.css_app.specs.declared.replay.Cause.{Cause}
+use Rattle.css_app.specs.declared.replay.Cause.TheVariants.{Form, Absent, Player, Broken}
+use Rattle.css_laws.specs.Numbers.{raised_print}
+
+-- the earlier line that a cause names has its number raised by one
+abbrev pub raised_cause : Cause → Cause
+raised_cause Form = Form
+raised_cause Absent = Absent
+raised_cause (Player fault) = Player fault
+raised_cause (Broken earlier excess) = Broken (earlier + 1) excess
+
+abbrev pub raised_refusal : Refusal Cause → Refusal Cause
+raised_refusal Long = Long
+raised_refusal (Refused cause) = Refused (raised_cause cause)
+
+-- so has the line that is refused
+abbrev pub raised_verdict : ℕ × Refusal Cause → ℕ × Refusal Cause
+raised_verdict verdict = (verdict.0 + 1, raised_refusal verdict.1)
+
+-- an outcome with the number of each line that is printed or told raised by one
+abbrev pub raised : Outcome Cause → Outcome Cause
+raised outcome = record {
+  printed = raised_print outcome.printed;
+  verdict = option_map raised_verdict outcome.verdict;
+}
+
+-- Where a schedule of version 1 is migrated, a replay of what it becomes says the same as a replay of the schedule,
+-- with the number of each line raised by one.
+abbrev pub MigratedSchedulesAreReplayedAlike : Type 0
+MigratedSchedulesAreReplayedAlike = (bytes : List ℕ) → (outcome migrated bytes).verdict ≡ None
+    → outcome replayed (outcome migrated bytes).printed ≡ raised (outcome replayed bytes)
