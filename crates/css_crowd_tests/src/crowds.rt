@@ -7,13 +7,15 @@ use rand_core::utils::NextWord;
 use rand_pcg::Lcg64Xsh32;
 use std::alloc::{AllocError, Global};
 
-/// What a schedule is drawn by. `drawn` is the number of its lines after the opening.
+/// What a schedule is drawn by: of eight turns how many ask anew, and how many turns there are after the opening. A turn
+/// adds a line at most.
 #[derive(Clone, Copy)]
 pub(crate) struct Plan {
     pub(crate) seed: u64,
     pub(crate) companions: u32,
     pub(crate) follow: bool,
-    pub(crate) drawn: u32,
+    pub(crate) asks: u32,
+    pub(crate) turns: u32,
 }
 
 /// What the opening says of each companion.
@@ -27,8 +29,9 @@ struct Phone {
     request: Option<u64>,
     /// The newest take of its requests, unless that was answered, and how many datagrams answer it.
     take: Option<(u64, u64)>,
-    /// The datagrams that may land yet.
+    /// The datagrams that may land yet, and those that were lost, or come late.
     datagrams: Vec<u64>,
+    late: Vec<u64>,
 }
 
 /// A schedule that is being drawn.
@@ -36,6 +39,7 @@ struct Phone {
 pub(crate) struct Crowd {
     words: Lcg64Xsh32,
     schedule: Schedule,
+    asks: u32,
     time: u64,
     television: Clock,
     phones: Vec<Phone>,
@@ -52,7 +56,7 @@ impl Crowd {
     pub(crate) fn schedule(alloc: Global, plan: &Plan) -> Result<Schedule, AllocError> {
         let mut crowd = Crowd::new(alloc, plan)?;
         crowd.open()?;
-        for _ in 0..plan.drawn {
+        for _ in 0..plan.turns {
             crowd.next()?;
         }
         Ok(crowd.schedule)
@@ -68,6 +72,7 @@ impl Crowd {
                 request: None,
                 take: None,
                 datagrams: Vec::new(alloc),
+                late: Vec::new(alloc),
             })?;
         }
         Ok(Crowd {
@@ -77,6 +82,7 @@ impl Crowd {
                 follow: plan.follow,
                 lines: Vec::new(alloc),
             },
+            asks: plan.asks,
             time: 0,
             television,
             phones,
@@ -111,10 +117,10 @@ impl Crowd {
 
     /// Some time passes, and something happens to a companion: a sleep once in a hundred times, a print in 27.
     fn next(&mut self) -> Result<(), AllocError> {
-        let longest = [10_000, 1_000_000, 10_000_000, 100_000_000];
+        let longest = [100, 10_000, 1_000_000, 100_000_000];
         let choice = draw(&mut self.words, 4) as usize;
         let passed = draw(&mut self.words, longest[choice]);
-        self.time = self.time.wrapping_add(1000).wrapping_add(u64::from(passed));
+        self.time = self.time.wrapping_add(2).wrapping_add(u64::from(passed));
         let who = draw(&mut self.words, self.schedule.companions).wrapping_add(1);
         match draw(&mut self.words, 100) {
             0 => self.sleep(who),
@@ -131,8 +137,11 @@ impl Crowd {
             return Ok(());
         };
         let (request, take, lands) = (phone.request, phone.take, !phone.datagrams.is_empty());
-        if draw(&mut self.words, 8) == 0 {
+        if draw(&mut self.words, 8) < self.asks {
             return self.ask(who);
+        }
+        if draw(&mut self.words, 8) == 0 {
+            return self.land_late(who);
         }
         if lands && draw(&mut self.words, 4) > 0 {
             return self.land(who);
@@ -184,7 +193,7 @@ impl Crowd {
         self.line(0, Happening::Give { take, reading })
     }
 
-    /// One of the datagrams lands. One in eight is lost, and one in eight may land again.
+    /// One of the datagrams lands. One in four doesn't now, and one in four may land again.
     fn land(&mut self, who: u32) -> Result<(), AllocError> {
         let Some(phone) = self.phones.get_mut(place(who)) else {
             return Ok(());
@@ -193,13 +202,27 @@ impl Crowd {
         let Some(datagram) = phone.datagrams.get(index).copied() else {
             return Ok(());
         };
-        let luck = draw(&mut self.words, 8);
+        let luck = draw(&mut self.words, 4);
         if luck > 0 && index < phone.datagrams.len() {
             let _ = phone.datagrams.remove(index);
         }
         if luck == 1 {
+            phone.late.push(datagram)?;
             return Ok(());
         }
+        let reading = self.read_own(who);
+        self.line(who, Happening::Land { datagram, reading })
+    }
+
+    /// One of the late datagrams lands, if there is one.
+    fn land_late(&mut self, who: u32) -> Result<(), AllocError> {
+        let Some(phone) = self.phones.get(place(who)) else {
+            return Ok(());
+        };
+        let index = draw(&mut self.words, phone.late.len() as u32) as usize;
+        let Some(datagram) = phone.late.get(index).copied() else {
+            return Ok(());
+        };
         let reading = self.read_own(who);
         self.line(who, Happening::Land { datagram, reading })
     }

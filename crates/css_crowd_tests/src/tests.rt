@@ -16,25 +16,29 @@ const PLANS: [Plan; 4] = [
         seed: 1,
         companions: 16,
         follow: true,
-        drawn: 400,
+        asks: 1,
+        turns: 400,
     },
     Plan {
-        seed: 2,
+        seed: 1,
         companions: 16,
         follow: true,
-        drawn: 400,
+        asks: 2,
+        turns: 400,
     },
     Plan {
-        seed: 3,
-        companions: 3,
-        follow: true,
-        drawn: 400,
-    },
-    Plan {
-        seed: 4,
+        seed: 8,
         companions: 2,
+        follow: true,
+        asks: 5,
+        turns: 600,
+    },
+    Plan {
+        seed: 1,
+        companions: 3,
         follow: false,
-        drawn: 400,
+        asks: 1,
+        turns: 400,
     },
 ];
 
@@ -135,7 +139,7 @@ fn compare(rt: &impl Abort, alloc: Global, plan: &Plan) -> Result<u64, Fail> {
     );
     assert!(rt; computed.prints > 0, "seed {}", plan.seed);
     assert!(rt;
-        computed.intervals >= computed.prints / 2,
+        computed.intervals.wrapping_mul(2) >= computed.prints,
         "seed {}",
         plan.seed
     );
