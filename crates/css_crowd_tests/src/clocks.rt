@@ -8,6 +8,11 @@ pub(crate) fn draw(words: &mut Lcg64Xsh32, below: u32) -> u32 {
     words.next_word() % below.max(1)
 }
 
+/// A place in a list of so many, or 0 where there is none.
+pub(crate) fn pick(words: &mut Lcg64Xsh32, count: usize) -> usize {
+    words.next_word() as usize % count.max(1)
+}
+
 /// A clock that showed `start` at a true time, and since then runs fast or slow by `wrong` of 256,000,000 parts.
 #[derive(Clone, Copy)]
 pub(crate) struct Clock {

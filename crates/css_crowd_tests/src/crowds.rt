@@ -1,14 +1,14 @@
 //! Drawn schedules of a television and several companions.
 
-use crate::clocks::{Clock, draw};
+use crate::clocks::{Clock, draw, pick};
 use crate::lines::{Happening, Line, Schedule};
 use rand_core::SeedableRng;
 use rand_core::utils::NextWord;
 use rand_pcg::Lcg64Xsh32;
 use std::alloc::{AllocError, Global};
 
-/// What a schedule is drawn by: of eight turns how many ask anew, and how many turns there are after the opening. A turn
-/// adds a line at most.
+/// What a schedule is drawn by. Of eight turns so many ask anew. There are so many turns after the opening, and each adds
+/// a line at most.
 #[derive(Clone, Copy)]
 pub(crate) struct Plan {
     pub(crate) seed: u64,
@@ -198,7 +198,7 @@ impl Crowd {
         let Some(phone) = self.phones.get_mut(place(who)) else {
             return Ok(());
         };
-        let index = draw(&mut self.words, phone.datagrams.len() as u32) as usize;
+        let index = pick(&mut self.words, phone.datagrams.len());
         let Some(datagram) = phone.datagrams.get(index).copied() else {
             return Ok(());
         };
@@ -219,7 +219,7 @@ impl Crowd {
         let Some(phone) = self.phones.get(place(who)) else {
             return Ok(());
         };
-        let index = draw(&mut self.words, phone.late.len() as u32) as usize;
+        let index = pick(&mut self.words, phone.late.len());
         let Some(datagram) = phone.late.get(index).copied() else {
             return Ok(());
         };
