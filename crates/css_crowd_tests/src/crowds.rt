@@ -7,8 +7,8 @@ use rand_core::utils::NextWord;
 use rand_pcg::Lcg64Xsh32;
 use std::alloc::{AllocError, Global};
 
-/// What a schedule is drawn by: how many of eight turns ask anew, and how many turns come after the opening. Each adds a
-/// line at most.
+/// What a schedule is drawn by: how many of eight turns ask anew, and how many turns come after the opening. Each adds
+/// a line at most.
 #[derive(Clone, Copy)]
 pub(crate) struct Plan {
     pub(crate) seed: u64,
