@@ -7,7 +7,7 @@ use rand_core::utils::NextWord;
 use rand_pcg::Lcg64Xsh32;
 use std::alloc::{AllocError, Global};
 
-/// What a schedule is drawn by. Of eight turns so many ask anew. There are so many turns after the opening, and each adds
+/// What a schedule is drawn by: how many of eight turns ask anew, and how many turns come after the opening. Each adds
 /// a line at most.
 #[derive(Clone, Copy)]
 pub(crate) struct Plan {
@@ -117,9 +117,13 @@ impl Crowd {
 
     /// Some time passes, and something happens to a companion: a sleep once in a hundred times, a print in 27.
     fn next(&mut self) -> Result<(), AllocError> {
-        let longest = [100, 10_000, 1_000_000, 100_000_000];
-        let choice = draw(&mut self.words, 4) as usize;
-        let passed = draw(&mut self.words, longest[choice]);
+        let longest = match draw(&mut self.words, 4) {
+            0 => 100,
+            1 => 10_000,
+            2 => 1_000_000,
+            _ => 100_000_000,
+        };
+        let passed = draw(&mut self.words, longest);
         self.time = self.time.wrapping_add(2).wrapping_add(u64::from(passed));
         let who = draw(&mut self.words, self.schedule.companions).wrapping_add(1);
         match draw(&mut self.words, 100) {
