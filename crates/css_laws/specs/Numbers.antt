@@ -36,11 +36,12 @@ from_space (byte ∷ bytes) = if is_space byte then byte ∷ bytes else from_spa
 abbrev pub leading_number : List ℕ → ℕ
 leading_number text = unwrap_or (number_of (before_space text)) 0
 
--- a printed line with the number before its first space raised by one
+-- a printed line with the number before its first space raised by one, and with its line feed
 abbrev pub raised_text : List ℕ → List ℕ
 raised_text text = decimal (leading_number text + 1) ++ from_space text ++ 10 ∷ []
 
--- what is printed, with the number of each of its lines raised by one
+-- What is printed, with the number of each of its lines raised by one. What is printed for a line ends with a line
+-- feed, or is nothing at all.
 unfoldable pub raised_print : List ℕ → List ℕ
 raised_print printed = flat_map raised_text (whole_lines printed)
 
