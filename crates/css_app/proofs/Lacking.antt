@@ -82,7 +82,8 @@ agree_lacks : (left holds : Option (List ℕ)) (r w : ℕ)
     → ByAgree (source_use left left r r) (sink_use holds holds w w) status.Memory
 agree_lacks left holds r w = record {
   no_usage = tt;
-  agrees = λ bytes is. inr (record { stop = stops.Memory; ran = ran_none_of agreeing left holds bytes is; told = refl });
+  agrees = λ bytes is.
+      inr (record { stop = stops.Memory; ran = ran_none_of agreeing left holds bytes is; told = refl });
   promise = record {
     read = [];
     printed = [];
@@ -97,7 +98,8 @@ audit_lacks : (left holds : Option (List ℕ)) (r w : ℕ)
     → ByAudit (source_use left left r r) (sink_use holds holds w w) status.Memory
 audit_lacks left holds r w = record {
   no_usage = tt;
-  audits = λ bytes is. inr (record { stop = stops.Memory; ran = ran_none_of auditing left holds bytes is; told = refl });
+  audits = λ bytes is.
+      inr (record { stop = stops.Memory; ran = ran_none_of auditing left holds bytes is; told = refl });
   right = λ done. absurd (cc);
   complete = λ bytes is right read written. tt;
 }

@@ -1,6 +1,6 @@
 -- How a companion's run ends that is recorded.
-use Rattle.std.proofs.Common.{◌≡◌, ap, inl, inr, subst, sym, refl, ℕ, List}
-use Rattle.std.specs.Prelude.{◌⊎◌, Option, Bool, true, false}
+use Rattle.std.proofs.Common.{◌≡◌, ap, inl, inr, refl, ℕ, List}
+use Rattle.std.specs.Prelude.{◌⊎◌, Option}
 use Rattle.css_model.specs.History.{History}
 use Rattle.css_drive.specs.CompanionDue as companion
 use Rattle.css_drive.specs.Ends.{CountsNetFault, CountsWriteFault}

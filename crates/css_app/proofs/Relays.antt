@@ -14,7 +14,6 @@ use Rattle.css_app.specs.Ended.{HasNotFailed, IsNoUsage}
 use Rattle.css_app.specs.Live.{driven_status}
 use Rattle.css_app.specs.Relays.{IsAskedRelay, RelaysAsDue, RelaysBy, RelaysNone}
 use Rattle.css_app.specs.declared.status.Status.{Status}
-use Rattle.css_app.specs.declared.status.Status.TheVariants as status
 use Rattle.css_app.proofs.Live.{driven-calls, driven-no_writes, due_or_memory}
 use Rattle.css_app.proofs.Quiet.{driven_no_child}
 

@@ -1,14 +1,13 @@
 -- The reader of a replay stands for one text more.
-use Rattle.std.proofs.Common.{◌≡◌, ℕ, ◌+◌, ◌≤◌, ◌<◌, ◌==◌, arith, ap, sym, subst, ◌∙◌, refl, inl, inr, ◌⊎◌}
-use Rattle.std.proofs.Common.{Bool, true, false, cond, List, [], ◌∷◌, ◌++◌, length}
-use Rattle.std.specs.Prelude.{Option, Some, None, Result, Ok, Err, OnOk, MatchResult}
+use Rattle.std.proofs.Common.{◌≡◌, ℕ, ◌+◌, ◌==◌, arith, ap, sym, subst, ◌∙◌, refl}
+use Rattle.std.proofs.Common.{List, [], ◌∷◌, ◌++◌, length}
+use Rattle.std.specs.Prelude.{Some, None, Result, Ok, Err, OnOk, MatchResult}
 use Rattle.std.proofs.lemmas.List.{append-nil, length-append}
 use Rattle.css_lines.specs.Answers.{Answers, MayFault}
 use Rattle.css_lines.specs.declared.reader.LineFault as engine
 use Rattle.css_lines.specs.declared.reader.LineFault.TheVariants as faults
 use Rattle.css_schedule.specs.declared.fault.LineFault.{LineFault}
 use Rattle.css_schedule.specs.declared.header.Header.{Header}
-use Rattle.css_schedule.specs.declared.line.Line.{Line}
 use Rattle.css_schedule.specs.Lines.{line_in}
 use Rattle.css_schedule.specs.Ranges.{IsVersion, FitsFirst}
 use Rattle.css_world.specs.Happened.{Numbered}
@@ -20,7 +19,7 @@ use Rattle.css_app.specs.declared.replay.Format.{Format}
 use Rattle.css_app.specs.declared.replay.Replay.{Replay}
 use Rattle.css_app.specs.Replayed.{Extent, Outset, Opening, Running, Unread, after, reached, with_line, read_meant}
 use Rattle.css_app.specs.Replayed.{meant_at, ended_at, version_of}
-use Rattle.css_app.specs.Stands.{format_of, IsNew, IsOpening, IsRunning, IsAt, Stands, ReadsOn}
+use Rattle.css_app.specs.Stands.{format_of, IsAt, Stands, ReadsOn}
 use Rattle.css_app.proofs.Texts.{reached-push, is_next}
 
 -- equal values that are there are equal

@@ -1,5 +1,5 @@
 //! Schedules that are made of a seed: the same seed gives the same lines. Requests and datagrams come late, twice or
-//! never, and the companion reports between them. `css_app` has the law that a replay takes each of these lines.
+//! never, and the companion reports between them. `css_survey` has the law that a world takes each of these lines.
 #![tactic(auto)]
 
 mod course;

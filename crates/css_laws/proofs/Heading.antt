@@ -17,7 +17,6 @@ use Rattle.css_schedule.specs.declared.header.Start.TheVariants.{One, Two}
 use Rattle.css_schedule.specs.Words.{is_word, lines_of, ◌>>=◌}
 use Rattle.css_schedule.specs.Headers as headers
 use Rattle.css_schedule.specs.Headers.{header_of, companion_of, with_companion, with_lines, whole_header_in}
-use Rattle.css_schedule.specs.Headers.{whole_header_of}
 use Rattle.css_schedule.specs.Printed.{with_words, mode_word, stem_word, companion_words, second_words, with_companions}
 use Rattle.css_schedule.specs.Printed.{second_text}
 use Rattle.css_schedule.specs.Ranges.{is_stem, IsPrintableCompanion, IsPrintable, IsCount}

@@ -3,7 +3,6 @@ use Rattle.std.proofs.Common.{inl, inr, subst, sym, refl, arith}
 use Rattle.css_audit.proofs.Promise.{says_right}
 use Rattle.css_app.specs.Ended.{IsDoneUnlessMemory, IsNoUsage}
 use Rattle.css_app.specs.Live.{TellsNoLive}
-use Rattle.css_app.specs.declared.status.Status.TheVariants as status
 use Rattle.css_app.proofs.Completeness.{record_complete}
 use Rattle.css_app.proofs.Quiet.{audit_no_usage, audit_quiet, never_done}
 use Rattle.css_app.proofs.audited.audit.Goals as goal

@@ -1,7 +1,7 @@
 -- What a run promises of its words and its devices, from what its command does.
 use Rattle.std.proofs.Common.{◌∙◌, ap, sym, map}
 use Rattle.std.specs.Prelude.{Ok, Err, string_bytes, true, false}
-use Rattle.css_words.specs.Commands.{Replay, Agree, Audit, Migrate, Companion, Tv, Pair, Relay, Generate, Survey}
+use Rattle.css_words.specs.Commands.{Replay, Agree, Audit, Migrate, Tv, Pair, Relay, Generate, Survey}
 use Rattle.css_words.specs.Commands.{asked_of}
 use Rattle.css_words.specs.declared.fault.WordsFault.TheVariants as words
 use Rattle.css_app.specs.Commands.{uses_followers, uses_outside, uses_sink, uses_source, uses_spawner}
