@@ -1,11 +1,12 @@
 #!/usr/bin/env python3
-"""Times `css survey` and `css generate` of the longest schedule, of seed 1 and 200,000 lines.
+"""Times `css survey`, `css generate` and `css replay` of the longest schedules, of seed 1 and 200,000 lines.
 
     bench/survey.py [PROGRAM]       crates/css/out/proved/css, which ./css builds, where none is given
 
-Printed are the line of the survey, and of both commands the processor time and the peak of resident memory. The survey
-must be the line below, which another program found, and the same twice. It must take less than a second of processor
-time and less than 16 MB. What is generated must be the same twice, and a replay of it must print what was counted.
+Printed are, for 1, 2 and 16 companions, the line of the survey, and of each command the processor time and the peak of
+resident memory. The survey must be the line below, which another program found, and the same twice. A survey and a
+generation must take less than a second of processor time and less than 16 MB. What is generated must be the same twice,
+and a replay of it must print what was counted.
 """
 
 import os
@@ -16,7 +17,11 @@ import tempfile
 HERE = os.path.dirname(os.path.dirname(os.path.abspath(__file__)))
 PROGRAM = sys.argv[1] if len(sys.argv) > 1 else os.path.join(HERE, "crates", "css", "out", "proved", "css")
 WORDS = ["--seed", "1", "--lines", "200000"]
-SURVEY = b"lines 200000 prints 50114 intervals 50110 widest 8178\n"
+SURVEYS = {
+    1: b"lines 200000 prints 50114 intervals 50110 widest 8178\n",
+    2: b"lines 200000 prints 44614 intervals 54 widest 30175\n",
+    16: b"lines 200000 prints 44585 intervals 429 widest 143468\n",
+}
 SECONDS = 1.0
 MEGABYTES = 16.0
 
@@ -41,27 +46,35 @@ def counted(printed):
 
 
 def replayed(schedule):
-    """What a replay of a schedule prints."""
+    """What a replay of a schedule prints, its processor seconds, and its peak in megabytes."""
     with tempfile.TemporaryFile() as given:
         given.write(schedule)
         given.seek(0)
-        return run(["replay"], given)[0]
+        return run(["replay"], given)
+
+
+def measured(words):
+    """What a command of these words writes, within the limits and the same twice."""
+    written, seconds, megabytes = run(words)
+    print(f"{words[0]}: {seconds:.2f} s, {megabytes:.1f} MB")
+    if seconds >= SECONDS or megabytes >= MEGABYTES:
+        sys.exit("this is too much")
+    if run(words)[0] != written:
+        sys.exit("this differs from run to run")
+    return written
 
 
 def main():
-    told, seconds, megabytes = run(["survey", *WORDS])
-    print(told.decode(), end="")
-    print(f"survey: {seconds:.2f} s, {megabytes:.1f} MB")
-    if told != SURVEY or run(["survey", *WORDS])[0] != SURVEY:
-        sys.exit("this isn't the survey")
-    if seconds >= SECONDS or megabytes >= MEGABYTES:
-        sys.exit("this is too much")
-    schedule, seconds, megabytes = run(["generate", *WORDS])
-    print(f"generate: {seconds:.2f} s, {megabytes:.1f} MB, {len(schedule)} bytes")
-    if run(["generate", *WORDS])[0] != schedule:
-        sys.exit("what is generated differs")
-    if counted(replayed(schedule)) != SURVEY:
-        sys.exit("a replay prints other reports than were counted")
+    for companions, survey in SURVEYS.items():
+        words = WORDS + (["--companions", str(companions)] if companions > 1 else [])
+        print(f"companions: {companions}")
+        if measured(["survey", *words]) != survey:
+            sys.exit("this isn't the survey")
+        schedule = measured(["generate", *words])
+        printed, seconds, megabytes = replayed(schedule)
+        print(f"replay of {len(schedule)} bytes: {seconds:.2f} s, {megabytes:.1f} MB")
+        if counted(printed) != survey:
+            sys.exit("a replay prints other reports than were counted")
 
 
 if __name__ == "__main__":
