@@ -4,9 +4,8 @@
     bench/survey.py [PROGRAM]       crates/css/out/proved/css, which ./css builds, where none is given
 
 Printed are, for 1, 2 and 16 companions, the line of the survey, and of each command the processor time and the peak of
-resident memory. The survey must be the line below, which another program found, and the same twice. A survey and a
-generation must take less than a second of processor time and less than 16 MB. What is generated must be the same twice,
-and a replay of it must print what was counted.
+resident memory: less than a second, and less than 16 MB. The survey must be the line below, which another program
+found. What is surveyed and generated must be the same twice, and a replay of it must print what was counted.
 """
 
 import os
@@ -27,39 +26,46 @@ MEGABYTES = 16.0
 
 
 def run(words, given=None):
-    """What the program writes, its processor seconds, and its peak in megabytes."""
-    with tempfile.TemporaryFile() as written:
-        child = subprocess.Popen([PROGRAM, *words], stdin=given or subprocess.DEVNULL, stdout=written)
-        _, status, used = os.wait4(child.pid, 0)
-        child.returncode = os.waitstatus_to_exitcode(status)
-        if child.returncode != 0:
-            sys.exit(f"{' '.join(words)} ended with {child.returncode}")
-        written.seek(0)
-        return written.read(), used.ru_utime + used.ru_stime, used.ru_maxrss / 1024
+    """A file with what the program writes, its processor seconds, and its peak in megabytes."""
+    written = tempfile.TemporaryFile()
+    child = subprocess.Popen([PROGRAM, *words], stdin=given or subprocess.DEVNULL, stdout=written)
+    _, status, used = os.wait4(child.pid, 0)
+    child.returncode = os.waitstatus_to_exitcode(status)
+    if child.returncode != 0:
+        sys.exit(f"{' '.join(words)} ended with {child.returncode}")
+    written.seek(0)
+    return written, used.ru_utime + used.ru_stime, used.ru_maxrss / 1024
+
+
+def same(one, other):
+    """Whether two files are alike. No more than a part is held, since a child's peak has what its parent holds."""
+    alike = True
+    while alike and (part := one.read(1 << 16)):
+        alike = part == other.read(1 << 16)
+    alike = alike and not other.read(1)
+    one.seek(0)
+    return alike
 
 
 def counted(printed):
     """What a survey tells of lines for which this was printed."""
-    reports = [line.split() for line in printed.splitlines()]
-    widths = [int(words[3]) - int(words[2]) for words in reports if words[1] == b"ticks"]
-    return b"lines 200000 prints %d intervals %d widest %d\n" % (len(reports), len(widths), max(widths, default=0))
+    prints = intervals = widest = 0
+    for line in printed:
+        words = line.split()
+        prints += 1
+        if words[1] == b"ticks":
+            intervals += 1
+            widest = max(widest, int(words[3]) - int(words[2]))
+    return b"lines 200000 prints %d intervals %d widest %d\n" % (prints, intervals, widest)
 
 
-def replayed(schedule):
-    """What a replay of a schedule prints, its processor seconds, and its peak in megabytes."""
-    with tempfile.TemporaryFile() as given:
-        given.write(schedule)
-        given.seek(0)
-        return run(["replay"], given)
-
-
-def measured(words):
-    """What a command of these words writes, within the limits and the same twice."""
-    written, seconds, megabytes = run(words)
+def measured(words, given=None):
+    """What a command of these words writes, within the limits and, where it reads nothing, the same twice."""
+    written, seconds, megabytes = run(words, given)
     print(f"{words[0]}: {seconds:.2f} s, {megabytes:.1f} MB")
     if seconds >= SECONDS or megabytes >= MEGABYTES:
         sys.exit("this is too much")
-    if run(words)[0] != written:
+    if given is None and not same(written, run(words)[0]):
         sys.exit("this differs from run to run")
     return written
 
@@ -68,12 +74,10 @@ def main():
     for companions, survey in SURVEYS.items():
         words = WORDS + (["--companions", str(companions)] if companions > 1 else [])
         print(f"companions: {companions}")
-        if measured(["survey", *words]) != survey:
+        if measured(["survey", *words]).read() != survey:
             sys.exit("this isn't the survey")
         schedule = measured(["generate", *words])
-        printed, seconds, megabytes = replayed(schedule)
-        print(f"replay of {len(schedule)} bytes: {seconds:.2f} s, {megabytes:.1f} MB")
-        if counted(printed) != survey:
+        if counted(measured(["replay"], schedule)) != survey:
             sys.exit("a replay prints other reports than were counted")
 
 
