@@ -20,7 +20,7 @@ import tempfile
 import refusals
 from programs import build
 
-LIBRARIES = ["css_num", "css_outside", "css_client", "css_tsmsg", "css_companion", "css_schedule", "css_tv", "css_drive"]
+LIBRARIES = ["css_num", "css_outside", "css_memory", "css_client", "css_tsmsg", "css_companion", "css_schedule", "css_tv", "css_drive"]
 
 PROGRAM = r"""//! Makes the run of its first word: of a companion, of a television, or of one that has quiet sessions alone, in as many
 //! turns as its second word says.
@@ -28,7 +28,7 @@ PROGRAM = r"""//! Makes the run of its first word: of a companion, of a televisi
 
 ghost use Rattle.std.specs.Prelude.{◌≡◌, ◌≤◌, IfOk, IsTrue, All, negsuc, false, true, [], None};
 ghost use Rattle.std.specs.Str.{IsUtf8};
-ghost use Rattle.css_outside.specs.Scripts.{are_readings, are_sessions};
+ghost use Rattle.css_memory.specs.Scripts.{are_readings, are_sessions};
 ghost use Rattle.css_schedule.specs.Ranges.{IsScriptLine};
 ghost use Rattle.css_drive.specs.Configs.{IsWritable};
 
@@ -36,10 +36,8 @@ use css_client::Local;
 use css_companion::CompanionConfig;
 use css_drive::{DriveConfig, Driven, Nobody, drive_companion, drive_tv};
 use css_num::{Memory, Text};
-use css_outside::{
-    Address, Clocked, Datagram, Heard, Kind, MemoryOutside, OutFault, Outside, OutsideScript, SessionHeard, Sink, Why,
-    Wrote,
-};
+use css_memory::{Datagram, MemoryOutside, OutsideScript, SessionHeard};
+use css_outside::{Address, Clocked, Heard, Kind, OutFault, Outside, Sink, Why, Wrote};
 use css_schedule::{ScriptLine, read_script};
 use css_tv::TvConfig;
 use std::alloc::Global;
@@ -105,7 +103,7 @@ impl<W: Write> Telling<W> {
 
 impl<W: Write> Outside for Telling<W> {
     ghost use Rattle.std.specs.Prelude.{None};
-    ghost use Rattle.css_outside.specs.Scripts.{counts_of};
+    ghost use Rattle.css_memory.specs.Scripts.{counts_of};
 
     ghost told = { λ telling. None };
 

@@ -8,6 +8,3 @@ pub use css_num::Memory;
 pub use css_outside::{Address, Kind};
 pub use fault::AddressFault;
 pub use reading::{LONGEST_ADDRESS, address};
-
-#[cfg(test)]
-mod tests;

@@ -1,4 +1,4 @@
-ghost use Rattle.std.specs.Prelude.{◌≡◌, ◌++◌, pos, IfOk, OnOk};
+ghost use Rattle.std.specs.Prelude.{◌≡◌, ◌++◌, ◌∷◌, [], pos, IfOk, OnOk};
 ghost use Rattle.css_app.specs.Pairs as pairs;
 
 use css_num::{Memory, Text};
@@ -29,13 +29,14 @@ pub fn address_at(alloc: Global, port: u16) -> Result<Address, Memory>
     })
 }
 
-// An option with a number.
-fn option_word(alloc: Global, name: &[u8], value: i128) -> Result<Text, Memory>
-    ensures { IfOk result (λ word. word ≡ pairs.option_word name.now value) }
+// Adds an option with a number.
+fn add_option(alloc: Global, words: &mut Vec<Text>, name: &[u8], value: i128) -> Result<(), Memory>
+    ensures { OnOk result (words.new.items ≡ words.old.items ++ pairs.option_word name.now value ∷ []) }
 {
     let mut word = Text::of(alloc, name)?;
     word.push_number(value)?;
-    Ok(word)
+    words.push(word)?;
+    Ok(())
 }
 
 // Adds the word that asks for follow-ups, where they are promised.
@@ -52,13 +53,17 @@ fn add_follow(alloc: Global, words: &mut Vec<Text>, follow: bool) -> Result<(), 
 pub(crate) fn child_words(alloc: Global, child: &Child, turns: u64) -> Result<Vec<Text>, Memory>
     ensures { IfOk result (λ words. words.items ≡ pairs.child_words child.now turns) }
 {
-    let mut words = vec![in alloc;
-        Text::of(alloc, b"tv")?,
-        option_word(alloc, b"--port=", i128::from(child.port))?,
-        option_word(alloc, b"--turns=", i128::from(turns))?,
-        option_word(alloc, b"--precision=", i128::from(child.precision))?,
-        option_word(alloc, b"--error=", i128::from(child.error))?,
-    ]?;
+    let mut words = Vec::new(alloc);
+    words.push(Text::of(alloc, b"tv")?)?;
+    add_option(alloc, &mut words, b"--port=", i128::from(child.port))?;
+    add_option(alloc, &mut words, b"--turns=", i128::from(turns))?;
+    add_option(
+        alloc,
+        &mut words,
+        b"--precision=",
+        i128::from(child.precision),
+    )?;
+    add_option(alloc, &mut words, b"--error=", i128::from(child.error))?;
     add_follow(alloc, &mut words, child.follow)?;
     Ok(words)
 }

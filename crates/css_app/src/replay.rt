@@ -15,7 +15,7 @@ use css_world::{World, WorldFault};
 use std::alloc::Global;
 
 /// Why a line of a schedule is refused.
-#[derive(Clone, Copy, Debug, PartialEq, Eq)]
+#[derive(Clone, Copy)]
 pub enum Cause {
     /// It is outside the grammar, or a number is outside its range.
     Form,

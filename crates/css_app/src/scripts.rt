@@ -18,7 +18,7 @@ const LONGEST_LINE: usize = 4096;
 const LONGEST_INPUT: u64 = 67_108_864;
 
 /// A line is outside the grammar of a script.
-#[derive(Clone, Copy, Debug, PartialEq, Eq)]
+#[derive(Clone, Copy)]
 pub struct NoLine;
 
 /// Reads a television's script line by line.

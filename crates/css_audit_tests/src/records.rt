@@ -1,7 +1,7 @@
 use css_audit::{AuditFault, Auditing};
 use css_lines::{Refusal, Stop, drive};
+use css_memory::{MemorySink, MemorySource};
 use css_num::Memory;
-use css_outside::{MemorySink, MemorySource};
 use std::alloc::{AllocError, Global};
 use std::process::Abort;
 use std::test::Fail;

@@ -2,6 +2,8 @@ ghost use Rattle.std.specs.Prelude.{◌≡◌, ◌↔◌, IsTrue, bytes_eq};
 ghost use Rattle.css_num.specs.Timelines.{timelines_eq};
 ghost use Rattle.css_cii.specs.States as states;
 
+use crate::merging::{set_timelines, set_words};
+use crate::state::State;
 use css_num::{Text, Timelines};
 
 /// What a message says of one property.
@@ -23,7 +25,7 @@ impl<T> Told<T> {
 }
 
 /// What a message says of the nine properties of a [`State`](crate::State).
-#[derive(Debug, Drop, PartialEq, Eq)]
+#[derive(Debug, PartialEq, Eq)]
 pub struct Change {
     pub protocol_version: Told<Text>,
     pub mrs_url: Told<Text>,
@@ -36,7 +38,65 @@ pub struct Change {
     pub timelines: Told<Timelines>,
 }
 
+impl Drop for Change {
+    fn drop(self) {
+        let Change {
+            protocol_version: _,
+            mrs_url: _,
+            content_id: _,
+            content_id_status: _,
+            presentation_status: _,
+            wc_url: _,
+            ts_url: _,
+            te_url: _,
+            timelines: _,
+        } = self;
+    }
+}
+
 impl Change {
+    /// Sets each property to what is said of it.
+    #[tactic(auto, unfolding(crate::specs::States::applied))]
+    pub(crate) fn set(self, state: &mut State)
+        ensures { state.new ≡ states.applied state.old self }
+    {
+        let Change {
+            protocol_version,
+            mrs_url,
+            content_id,
+            content_id_status,
+            presentation_status,
+            wc_url,
+            ts_url,
+            te_url,
+            timelines,
+        } = self;
+        set_words(&mut state.protocol_version, protocol_version);
+        set_words(&mut state.mrs_url, mrs_url);
+        set_words(&mut state.content_id, content_id);
+        set_words(&mut state.content_id_status, content_id_status);
+        set_words(&mut state.presentation_status, presentation_status);
+        set_words(&mut state.wc_url, wc_url);
+        set_words(&mut state.ts_url, ts_url);
+        set_words(&mut state.te_url, te_url);
+        set_timelines(&mut state.timelines, timelines);
+    }
+
+    /// Says nothing of any property.
+    pub(crate) fn nothing() -> Change {
+        Change {
+            protocol_version: Told::Unsaid,
+            mrs_url: Told::Unsaid,
+            content_id: Told::Unsaid,
+            content_id_status: Told::Unsaid,
+            presentation_status: Told::Unsaid,
+            wc_url: Told::Unsaid,
+            ts_url: Told::Unsaid,
+            te_url: Told::Unsaid,
+            timelines: Told::Unsaid,
+        }
+    }
+
     /// Whether nothing is said of any property.
     pub fn is_empty(&self) -> bool
         ensures { result ≡ states.is_empty self.now }

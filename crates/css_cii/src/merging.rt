@@ -31,22 +31,66 @@ fn timelines_after(
     }
 }
 
-/// Each property after a message.
+/// Sets a property to what it is after a message.
+fn set_words_after(
+    property: &mut Option<Text>,
+    old: &Option<Text>,
+    told: &Told<Text>,
+) -> Result<(), Memory>
+    ensures { IfOk result (λ done. property.new ≡ states.after old.now told.now) }
+{
+    *property = words_after(old, told)?;
+    Ok(())
+}
+
+/// Sets the timelines to what they are after a message.
+fn set_timelines_after(
+    property: &mut Option<Timelines>,
+    old: &Option<Timelines>,
+    told: &Told<Timelines>,
+) -> Result<(), Memory>
+    ensures { IfOk result (λ done. property.new ≡ states.after old.now told.now) }
+{
+    *property = timelines_after(old, told)?;
+    Ok(())
+}
+
+/// Sets each property to what it is after a message.
 #[tactic(auto, unfolding(crate::specs::States::applied))]
+fn set_properties_after(new: &mut State, state: &State, change: &Change) -> Result<(), Memory>
+    ensures { IfOk result (λ done. new.new ≡ states.applied state.now change.now) }
+{
+    set_words_after(
+        &mut new.protocol_version,
+        &state.protocol_version,
+        &change.protocol_version,
+    )?;
+    set_words_after(&mut new.mrs_url, &state.mrs_url, &change.mrs_url)?;
+    set_words_after(&mut new.content_id, &state.content_id, &change.content_id)?;
+    set_words_after(
+        &mut new.content_id_status,
+        &state.content_id_status,
+        &change.content_id_status,
+    )?;
+    set_words_after(
+        &mut new.presentation_status,
+        &state.presentation_status,
+        &change.presentation_status,
+    )?;
+    set_words_after(&mut new.wc_url, &state.wc_url, &change.wc_url)?;
+    set_words_after(&mut new.ts_url, &state.ts_url, &change.ts_url)?;
+    set_words_after(&mut new.te_url, &state.te_url, &change.te_url)?;
+    set_timelines_after(&mut new.timelines, &state.timelines, &change.timelines)?;
+    Ok(())
+}
+
+/// Each property after a message.
 fn properties_after(state: &State, change: &Change) -> Result<State, Memory>
     ensures { IfOk result (λ new. new ≡ states.applied state.now change.now) }
 {
-    Ok(State {
-        protocol_version: words_after(&state.protocol_version, &change.protocol_version)?,
-        mrs_url: words_after(&state.mrs_url, &change.mrs_url)?,
-        content_id: words_after(&state.content_id, &change.content_id)?,
-        content_id_status: words_after(&state.content_id_status, &change.content_id_status)?,
-        presentation_status: words_after(&state.presentation_status, &change.presentation_status)?,
-        wc_url: words_after(&state.wc_url, &change.wc_url)?,
-        ts_url: words_after(&state.ts_url, &change.ts_url)?,
-        te_url: words_after(&state.te_url, &change.te_url)?,
-        timelines: timelines_after(&state.timelines, &change.timelines)?,
-    })
+    let mut new = State::empty();
+    set_properties_after(&mut new, state, change)?;
+    Ok(new)
 }
 
 /// The state after a message: what the message says is set, and the rest stays.
@@ -59,7 +103,7 @@ pub fn apply(state: &State, change: &Change) -> Result<State, Memory>
 }
 
 /// Sets a property to what a message says of it.
-fn set_words(property: &mut Option<Text>, told: Told<Text>)
+pub(crate) fn set_words(property: &mut Option<Text>, told: Told<Text>)
     ensures { property.new ≡ states.after property.old told }
 {
     if let Told::Said(value) = told {
@@ -68,7 +112,7 @@ fn set_words(property: &mut Option<Text>, told: Told<Text>)
 }
 
 /// Sets the timelines to what a message says of them.
-fn set_timelines(property: &mut Option<Timelines>, told: Told<Timelines>)
+pub(crate) fn set_timelines(property: &mut Option<Timelines>, told: Told<Timelines>)
     ensures { property.new ≡ states.after property.old told }
 {
     if let Told::Said(value) = told {
@@ -82,23 +126,7 @@ pub fn apply_to(state: &mut State, change: Change)
     ensures value { state.new ≡ states.applied state.old change }
     ensures utf8 { IsUtf8State state.old → IsUtf8Change change → IsUtf8State state.new }
 {
-    set_properties(state, change);
-}
-
-/// Sets each property to what a message says of it.
-#[tactic(auto, unfolding(crate::specs::States::applied))]
-fn set_properties(state: &mut State, change: Change)
-    ensures { state.new ≡ states.applied state.old change }
-{
-    set_words(&mut state.protocol_version, change.protocol_version);
-    set_words(&mut state.mrs_url, change.mrs_url);
-    set_words(&mut state.content_id, change.content_id);
-    set_words(&mut state.content_id_status, change.content_id_status);
-    set_words(&mut state.presentation_status, change.presentation_status);
-    set_words(&mut state.wc_url, change.wc_url);
-    set_words(&mut state.ts_url, change.ts_url);
-    set_words(&mut state.te_url, change.te_url);
-    set_timelines(&mut state.timelines, change.timelines);
+    change.set(state);
 }
 
 /// The state after the messages of a connection so far.
@@ -144,22 +172,62 @@ fn timelines_told(
     }
 }
 
-/// What is said of each property.
+/// Says of a property what is new.
+fn tell_words(told: &mut Told<Text>, old: &Option<Text>, new: &Option<Text>) -> Result<(), Memory>
+    ensures { IfOk result (λ done. told.new ≡ states.words_told old.now new.now) }
+{
+    *told = words_told(old, new)?;
+    Ok(())
+}
+
+/// Says of the timelines what is new.
+fn tell_timelines(
+    told: &mut Told<Timelines>,
+    old: &Option<Timelines>,
+    new: &Option<Timelines>,
+) -> Result<(), Memory>
+    ensures { IfOk result (λ done. told.new ≡ states.timelines_told old.now new.now) }
+{
+    *told = timelines_told(old, new)?;
+    Ok(())
+}
+
+/// Says of each property what is new.
 #[tactic(auto, unfolding(crate::specs::States::difference))]
+fn tell_difference(change: &mut Change, old: &State, new: &State) -> Result<(), Memory>
+    ensures { IfOk result (λ done. change.new ≡ states.difference old.now new.now) }
+{
+    tell_words(
+        &mut change.protocol_version,
+        &old.protocol_version,
+        &new.protocol_version,
+    )?;
+    tell_words(&mut change.mrs_url, &old.mrs_url, &new.mrs_url)?;
+    tell_words(&mut change.content_id, &old.content_id, &new.content_id)?;
+    tell_words(
+        &mut change.content_id_status,
+        &old.content_id_status,
+        &new.content_id_status,
+    )?;
+    tell_words(
+        &mut change.presentation_status,
+        &old.presentation_status,
+        &new.presentation_status,
+    )?;
+    tell_words(&mut change.wc_url, &old.wc_url, &new.wc_url)?;
+    tell_words(&mut change.ts_url, &old.ts_url, &new.ts_url)?;
+    tell_words(&mut change.te_url, &old.te_url, &new.te_url)?;
+    tell_timelines(&mut change.timelines, &old.timelines, &new.timelines)?;
+    Ok(())
+}
+
+/// What is said of each property.
 fn difference(old: &State, new: &State) -> Result<Change, Memory>
     ensures { IfOk result (λ change. change ≡ states.difference old.now new.now) }
 {
-    Ok(Change {
-        protocol_version: words_told(&old.protocol_version, &new.protocol_version)?,
-        mrs_url: words_told(&old.mrs_url, &new.mrs_url)?,
-        content_id: words_told(&old.content_id, &new.content_id)?,
-        content_id_status: words_told(&old.content_id_status, &new.content_id_status)?,
-        presentation_status: words_told(&old.presentation_status, &new.presentation_status)?,
-        wc_url: words_told(&old.wc_url, &new.wc_url)?,
-        ts_url: words_told(&old.ts_url, &new.ts_url)?,
-        te_url: words_told(&old.te_url, &new.te_url)?,
-        timelines: timelines_told(&old.timelines, &new.timelines)?,
-    })
+    let mut change = Change::nothing();
+    tell_difference(&mut change, old, new)?;
+    Ok(change)
 }
 
 /// The change from one state to another: exactly the properties that differ,
@@ -174,36 +242,46 @@ pub fn diff(old: &State, new: &State) -> Result<Change, Memory>
     difference(old, new)
 }
 
-/// The value of a property, said.
-fn words_said(value: &Option<Text>) -> Result<Told<Text>, Memory>
-    ensures { IfOk result (λ told. told ≡ said value.now) }
+/// Says the value of a property.
+fn say_words(told: &mut Told<Text>, value: &Option<Text>) -> Result<(), Memory>
+    ensures { IfOk result (λ done. told.new ≡ said value.now) }
 {
-    Ok(Told::Said(value.clone()?))
+    *told = Told::Said(value.clone()?);
+    Ok(())
 }
 
-/// The timelines, said.
-fn timelines_said(value: &Option<Timelines>) -> Result<Told<Timelines>, Memory>
-    ensures { IfOk result (λ told. told ≡ said value.now) }
+/// Says the timelines.
+fn say_timelines(told: &mut Told<Timelines>, value: &Option<Timelines>) -> Result<(), Memory>
+    ensures { IfOk result (λ done. told.new ≡ said value.now) }
 {
-    Ok(Told::Said(value.clone()?))
+    *told = Told::Said(value.clone()?);
+    Ok(())
+}
+
+/// Says each property of a state.
+#[tactic(auto, unfolding(crate::specs::States::full_change))]
+fn say_all(change: &mut Change, state: &State) -> Result<(), Memory>
+    ensures { IfOk result (λ done. change.new ≡ states.full_change state.now) }
+{
+    say_words(&mut change.protocol_version, &state.protocol_version)?;
+    say_words(&mut change.mrs_url, &state.mrs_url)?;
+    say_words(&mut change.content_id, &state.content_id)?;
+    say_words(&mut change.content_id_status, &state.content_id_status)?;
+    say_words(&mut change.presentation_status, &state.presentation_status)?;
+    say_words(&mut change.wc_url, &state.wc_url)?;
+    say_words(&mut change.ts_url, &state.ts_url)?;
+    say_words(&mut change.te_url, &state.te_url)?;
+    say_timelines(&mut change.timelines, &state.timelines)?;
+    Ok(())
 }
 
 /// What is said of a state in whole.
-#[tactic(auto, unfolding(crate::specs::States::full_change))]
 fn all_said(state: &State) -> Result<Change, Memory>
     ensures { IfOk result (λ change. change ≡ states.full_change state.now) }
 {
-    Ok(Change {
-        protocol_version: words_said(&state.protocol_version)?,
-        mrs_url: words_said(&state.mrs_url)?,
-        content_id: words_said(&state.content_id)?,
-        content_id_status: words_said(&state.content_id_status)?,
-        presentation_status: words_said(&state.presentation_status)?,
-        wc_url: words_said(&state.wc_url)?,
-        ts_url: words_said(&state.ts_url)?,
-        te_url: words_said(&state.te_url)?,
-        timelines: timelines_said(&state.timelines)?,
-    })
+    let mut change = Change::nothing();
+    say_all(&mut change, state)?;
+    Ok(change)
 }
 
 /// The change that says all nine properties of a state, as the first message of

@@ -62,24 +62,64 @@ fn timelines_told(alloc: Global, map: &Map) -> Result<Told<Timelines>, CiiFault>
     }
 }
 
-/// What an object says of the nine properties.
+/// Says of a property that is a text what an object says of it.
+fn read_words(
+    told: &mut Told<Text>,
+    alloc: Global,
+    map: &Map,
+    property: CiiName,
+) -> Result<(), CiiFault>
+    ensures value { GivesBy
+        (λ done. told.new) faults.Memory result (messages.words_in property (members_view map.now.entries)) }
+    ensures utf8 { IfOk result (λ done. texts.EachOf IsUtf8 told.new) }
+{
+    *told = words_in(alloc, map, property)?;
+    Ok(())
+}
+
+/// Says of the nine properties what an object says of them.
 #[tactic(auto, unfolding(crate::specs::Messages::change_in))]
+fn read_change(change: &mut Change, alloc: Global, map: &Map) -> Result<(), CiiFault>
+    ensures value { GivesBy
+        (λ done. change.new) faults.Memory result (messages.change_in (members_view map.now.entries)) }
+    ensures utf8 { IfOk result (λ done. texts.IsUtf8Change change.new) }
+{
+    read_words(
+        &mut change.protocol_version,
+        alloc,
+        map,
+        CiiName::ProtocolVersion,
+    )?;
+    read_words(&mut change.mrs_url, alloc, map, CiiName::MrsUrl)?;
+    read_words(&mut change.content_id, alloc, map, CiiName::ContentId)?;
+    read_words(
+        &mut change.content_id_status,
+        alloc,
+        map,
+        CiiName::ContentIdStatus,
+    )?;
+    read_words(
+        &mut change.presentation_status,
+        alloc,
+        map,
+        CiiName::PresentationStatus,
+    )?;
+    read_words(&mut change.wc_url, alloc, map, CiiName::WcUrl)?;
+    read_words(&mut change.ts_url, alloc, map, CiiName::TsUrl)?;
+    read_words(&mut change.te_url, alloc, map, CiiName::TeUrl)?;
+    change.timelines = timelines_told(alloc, map)?;
+    Ok(())
+}
+
+/// What an object says of the nine properties.
 fn change_in(alloc: Global, map: &Map) -> Result<Change, CiiFault>
     ensures value { GivesBy
         (λ change. change) faults.Memory result (messages.change_in (members_view map.now.entries)) }
     ensures utf8 { IfOk result texts.IsUtf8Change }
 {
-    Ok(Change {
-        protocol_version: words_in(alloc, map, CiiName::ProtocolVersion)?,
-        mrs_url: words_in(alloc, map, CiiName::MrsUrl)?,
-        content_id: words_in(alloc, map, CiiName::ContentId)?,
-        content_id_status: words_in(alloc, map, CiiName::ContentIdStatus)?,
-        presentation_status: words_in(alloc, map, CiiName::PresentationStatus)?,
-        wc_url: words_in(alloc, map, CiiName::WcUrl)?,
-        ts_url: words_in(alloc, map, CiiName::TsUrl)?,
-        te_url: words_in(alloc, map, CiiName::TeUrl)?,
-        timelines: timelines_told(alloc, map)?,
-    })
+    let mut change = Change::nothing();
+    read_change(&mut change, alloc, map)?;
+    Ok(change)
 }
 
 /// Reads a message of CSS-CII (ETSI TS 103 286-2): a JSON object. Other members than the nine properties are passed

@@ -8,7 +8,7 @@ use std::alloc::AllocError;
 
 /// What a television tells its companions (ETSI TS 103 286-2, CSS-CII): nine
 /// properties, each a value or null.
-#[derive(Debug, Drop, PartialEq, Eq)]
+#[derive(Debug, PartialEq, Eq)]
 pub struct State {
     /// The version of the protocol.
     pub protocol_version: Option<Text>,
@@ -29,6 +29,22 @@ pub struct State {
     pub te_url: Option<Text>,
     /// The timelines that may be asked for.
     pub timelines: Option<Timelines>,
+}
+
+impl Drop for State {
+    fn drop(self) {
+        let State {
+            protocol_version: _,
+            mrs_url: _,
+            content_id: _,
+            content_id_status: _,
+            presentation_status: _,
+            wc_url: _,
+            ts_url: _,
+            te_url: _,
+            timelines: _,
+        } = self;
+    }
 }
 
 impl State {
@@ -60,35 +76,48 @@ impl State {
     }
 }
 
-/// A copy of a property that is a text. It has a contract of its own, since a clone's only says that it is a clone.
-fn words_copied(words: &Option<Text>) -> Result<Option<Text>, AllocError>
-    ensures { IfOk result (λ copy. copy ≡ words.now) }
+/// Copies a property that is a text. It has a contract of its own, since a clone's only says that it is a clone.
+fn copy_words(copy: &mut Option<Text>, words: &Option<Text>) -> Result<(), AllocError>
+    ensures { IfOk result (λ done. copy.new ≡ words.now) }
 {
-    Ok(words.clone()?)
+    *copy = words.clone()?;
+    Ok(())
 }
 
-/// A copy of the timelines.
-fn timelines_copied(timelines: &Option<Timelines>) -> Result<Option<Timelines>, AllocError>
-    ensures { IfOk result (λ copy. copy ≡ timelines.now) }
+/// Copies the timelines.
+fn copy_timelines(
+    copy: &mut Option<Timelines>,
+    timelines: &Option<Timelines>,
+) -> Result<(), AllocError>
+    ensures { IfOk result (λ done. copy.new ≡ timelines.now) }
 {
-    Ok(timelines.clone()?)
+    *copy = timelines.clone()?;
+    Ok(())
+}
+
+/// Copies each property of a state.
+fn copy_state(copy: &mut State, state: &State) -> Result<(), AllocError>
+    ensures { IfOk result (λ done. copy.new ≡ state.now) }
+{
+    copy_words(&mut copy.protocol_version, &state.protocol_version)?;
+    copy_words(&mut copy.mrs_url, &state.mrs_url)?;
+    copy_words(&mut copy.content_id, &state.content_id)?;
+    copy_words(&mut copy.content_id_status, &state.content_id_status)?;
+    copy_words(&mut copy.presentation_status, &state.presentation_status)?;
+    copy_words(&mut copy.wc_url, &state.wc_url)?;
+    copy_words(&mut copy.ts_url, &state.ts_url)?;
+    copy_words(&mut copy.te_url, &state.te_url)?;
+    copy_timelines(&mut copy.timelines, &state.timelines)?;
+    Ok(())
 }
 
 /// A copy of a state, which is equal to it.
 fn state_copied(state: &State) -> Result<State, AllocError>
     ensures { IfOk result (λ copy. copy ≡ state.now) }
 {
-    Ok(State {
-        protocol_version: words_copied(&state.protocol_version)?,
-        mrs_url: words_copied(&state.mrs_url)?,
-        content_id: words_copied(&state.content_id)?,
-        content_id_status: words_copied(&state.content_id_status)?,
-        presentation_status: words_copied(&state.presentation_status)?,
-        wc_url: words_copied(&state.wc_url)?,
-        ts_url: words_copied(&state.ts_url)?,
-        te_url: words_copied(&state.te_url)?,
-        timelines: timelines_copied(&state.timelines)?,
-    })
+    let mut copy = State::empty();
+    copy_state(&mut copy, state)?;
+    Ok(copy)
 }
 
 impl Clone for State {

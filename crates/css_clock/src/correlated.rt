@@ -9,7 +9,7 @@ use css_num::{Rate, Span, fits};
 /// Where the parent reads `parent_ticks` it reads `child_ticks`. From there it goes at `speed` times its tick rate, in
 /// whole ticks, rounded down. A speed is whole, -64 to 64: 0 where the clock is stopped, below 0 where it goes
 /// backward.
-#[derive(Debug, Drop)]
+#[derive(Drop)]
 pub struct Correlated<P: Tick> {
     /// The clock that it goes by.
     pub parent: P,

@@ -3,19 +3,9 @@
 //! correlation with its parent.
 #![tactic(auto)]
 
-mod conversion;
 mod correlated;
-mod fault;
-pub mod laws;
-mod lineage;
-mod node;
-mod outward;
-mod readings;
-mod steps;
+pub mod steps;
 mod tick;
-mod tree;
 
 pub use correlated::Correlated;
-pub use fault::ClockFault;
 pub use tick::{Root, Tick};
-pub use tree::Tree;

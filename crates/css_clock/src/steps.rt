@@ -1,36 +1,27 @@
-ghost use Rattle.std.specs.Prelude.{◌≡◌, ◌≢◌, ◌≤◌, ◌<◌, ◌+◌, ◌*◌, ◌^◌, pos, ◌<ℤ◌, ◌-ℤ◌, ◌+ℤ◌, unsigned_abs};
+//! The arithmetic of one step from a clock to its child.
+
+ghost use Rattle.std.specs.Prelude.{◌≡◌, ◌≤◌, ◌<◌, ◌+◌, ◌*◌, ◌^◌, pos, ◌<ℤ◌, ◌-ℤ◌, ◌+ℤ◌, unsigned_abs};
 ghost use Rattle.css_num.specs.Spans.{ProductsFit, image_of};
 ghost use Rattle.css_clock.specs.Ticks as ticks;
-ghost use Rattle.css_clock.specs.Conversions.{magnitude_of};
 
 use css_num::{Rate, Span, image};
 
 /// The product of a part of one rate and a part of another.
-fn parts(own: u32, parent: u32) -> u64
+pub fn parts(own: u32, parent: u32) -> u64
     ensures { result ≡ own * parent }
 {
     u64::from(own) * u64::from(parent)
 }
 
 /// What the ticks of the parent are multiplied by.
-pub(crate) fn factor(rate: Rate, parent: Rate, speed: i32) -> i128
+pub fn factor(rate: Rate, parent: Rate, speed: i32) -> i128
     ensures { result ≡ ticks.factor_of rate parent speed }
 {
     i128::from(parts(rate.units_per_second, parent.units_per_tick)) * i128::from(speed)
 }
 
-/// The absolute value of the factor.
-pub(crate) fn magnitude(rate: Rate, parent: Rate, speed: i32) -> i128
-    requires { speed ≢ pos 0 }
-    ensures value { result ≡ pos (magnitude_of rate parent speed) }
-    ensures positive { pos 0 <ℤ result }
-{
-    let units = parts(rate.units_per_second, parent.units_per_tick);
-    i128::from(units) * i128::from(speed.unsigned_abs())
-}
-
 /// What the product is divided by.
-pub(crate) fn divisor(rate: Rate, parent: Rate) -> i128
+pub fn divisor(rate: Rate, parent: Rate) -> i128
     ensures value { result ≡ pos (ticks.divisor_of rate parent) }
     ensures positive { pos 0 <ℤ result }
     ensures small { unsigned_abs result ≤ 1000000000000000000 }
@@ -39,7 +30,7 @@ pub(crate) fn divisor(rate: Rate, parent: Rate) -> i128
 }
 
 /// A number less a number of ticks.
-pub(crate) fn less(number: i128, ticks: i64) -> i128
+pub fn less(number: i128, ticks: i64) -> i128
     requires { unsigned_abs number ≤ 2 ^ 126 + 2 ^ 63 }
     ensures { result ≡ number -ℤ ticks }
 {
@@ -47,7 +38,7 @@ pub(crate) fn less(number: i128, ticks: i64) -> i128
 }
 
 /// A number and a number of ticks more.
-pub(crate) fn more(number: i128, ticks: i64) -> i128
+pub fn more(number: i128, ticks: i64) -> i128
     requires { unsigned_abs number ≤ 2 ^ 126 }
     ensures value { result ≡ ticks +ℤ number }
     ensures near { unsigned_abs result ≤ 2 ^ 126 + 2 ^ 63 }
@@ -56,7 +47,7 @@ pub(crate) fn more(number: i128, ticks: i64) -> i128
 }
 
 /// The ticks of a parent's span since its tick of the correlation.
-pub(crate) fn since(span: Span, parent_ticks: i64) -> Span
+pub fn since(span: Span, parent_ticks: i64) -> Span
     requires lo { unsigned_abs span.lo ≤ 2 ^ 126 + 2 ^ 63 }
     requires hi { unsigned_abs span.hi ≤ 2 ^ 126 + 2 ^ 63 }
     ensures { result ≡ ticks.since_of span parent_ticks }
@@ -68,7 +59,7 @@ pub(crate) fn since(span: Span, parent_ticks: i64) -> Span
 }
 
 /// The span of a clock whose parent went so many ticks since the correlation.
-pub(crate) fn child_span(since: Span, factor: i128, divisor: i128, child_ticks: i64) -> Span
+pub fn child_span(since: Span, factor: i128, divisor: i128, child_ticks: i64) -> Span
     requires positive { pos 0 <ℤ divisor }
     requires fits { ProductsFit since factor }
     ensures value { result ≡ ticks.shifted_by (image_of since factor (unsigned_abs divisor)) child_ticks }

@@ -2,7 +2,7 @@
 use Rattle.std.proofs.Common.{◌≡◌, Bool, true, false, List, [], ◌∷◌, ◌++◌, refl}
 use Rattle.std.specs.Prelude.{◌&&◌, IsTrue, Option}
 use Rattle.css_model.specs.declared.Kind.{Kind}
-use Rattle.css_outside.specs.Scripts.{is_session, are_sessions}
+use Rattle.css_memory.specs.Scripts.{is_session, are_sessions}
 
 both : (a b : Bool) → a ≡ true → b ≡ true → (a && b) ≡ true
 both true b p q = q

@@ -1,6 +1,6 @@
 //! A companion's runs over an outside in memory: each fault, each refusal and each end is a row.
 ghost use Rattle.std.specs.Prelude.{◌≡◌, ◌≤◌, [], IfOk, IfSome, IsTrue};
-ghost use Rattle.css_outside.specs.Scripts.{are_readings};
+ghost use Rattle.css_memory.specs.Scripts.{are_readings};
 ghost use Rattle.css_drive.specs.Configs.{IsWindow, IsWritable};
 
 use crate::companion_tables::{Amounts, Case, Ended, FAILING, K, ROWS, Times};
@@ -8,7 +8,8 @@ use crate::scripted::{asleep, awake, datagrams_of, text, texts_of};
 use css_client::Local;
 use css_companion::CompanionConfig;
 use css_drive::{DriveConfig, Driven, Nobody, drive_companion};
-use css_outside::{Address, Clocked, MemoryOutside, MemorySink, OutsideScript};
+use css_memory::{MemoryOutside, MemorySink, OutsideScript};
+use css_outside::{Address, Clocked};
 use css_tsmsg::Bound;
 use std::alloc::Global;
 use std::process::Abort;

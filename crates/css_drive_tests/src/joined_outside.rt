@@ -1,6 +1,7 @@
 //! What joins the outsides of two ends: what is sent over one is kept, and a network brings it to the other.
+use css_memory::MemoryOutside;
 use css_num::{Memory, Text};
-use css_outside::{Address, Clocked, Heard, Kind, MemoryOutside, OutFault, Outside, Why, Wrote};
+use css_outside::{Address, Clocked, Heard, Kind, OutFault, Outside, Why, Wrote};
 use rand_core::SeedableRng;
 use rand_core::utils::NextWord;
 use rand_pcg::Lcg64Xsh32;
@@ -41,7 +42,7 @@ pub struct Keeping {
 
 impl Outside for Keeping {
     ghost use Rattle.std.specs.Prelude.{None};
-    ghost use Rattle.css_outside.specs.Scripts.{counts_of};
+    ghost use Rattle.css_memory.specs.Scripts.{counts_of};
 
     ghost told = { λ keeping. None };
 

@@ -5,7 +5,7 @@
 //! and then the companion's runs over what the television sent. What the companion sent is then compared with those.
 ghost use Rattle.std.specs.Prelude.{◌≡◌, negsuc, IfOk, IsTrue, [], false, true};
 ghost use Rattle.std.specs.Str.{IsUtf8};
-ghost use Rattle.css_outside.specs.Scripts.{are_readings};
+ghost use Rattle.css_memory.specs.Scripts.{are_readings};
 ghost use Rattle.css_drive.specs.Configs.{IsWritable};
 
 use crate::joined_outside::{Keeping, Network, Sending, keep};
@@ -15,11 +15,10 @@ use css_client::Local;
 use css_companion::{CompanionConfig, Report};
 use css_drive::{DriveConfig, Driven, Listens, drive_companion, drive_tv};
 use css_follow::Sheet;
+use css_memory::{Datagram, MemoryOutside, MemorySink, OutsideScript, SessionHeard};
 use css_model::LIMIT;
 use css_num::{Memory, Text};
-use css_outside::{
-    Address, Clocked, Datagram, Heard, Kind, MemoryOutside, MemorySink, OutsideScript, SessionHeard,
-};
+use css_outside::{Address, Clocked, Heard, Kind};
 use css_tv::TvConfig;
 use std::alloc::Global;
 use std::process::Abort;

@@ -1,6 +1,6 @@
 //! A relay's runs over an outside in memory: each fault, each refusal and each end is a row.
 ghost use Rattle.std.specs.Prelude.{◌≡◌, ◌≤◌, IfOk, IsTrue};
-ghost use Rattle.css_outside.specs.Scripts.{are_readings, are_sessions};
+ghost use Rattle.css_memory.specs.Scripts.{are_readings, are_sessions};
 ghost use Rattle.css_drive_relay.specs.Ran.{IsWritable};
 
 use crate::companion_tables::Ended;
@@ -11,8 +11,9 @@ use crate::tv_noted::Noted;
 use crate::tv_tests::openings_of;
 use css_client::Local;
 use css_drive_relay::{CompanionConfig, Driven, RelayRun, drive_relay};
+use css_memory::{Datagram, MemoryOutside, OutsideScript};
 use css_num::Text;
-use css_outside::{Address, Clocked, Datagram, Kind, MemoryOutside, OutsideScript};
+use css_outside::{Address, Clocked, Kind};
 use std::alloc::Global;
 use std::process::Abort;
 use std::test::Fail;

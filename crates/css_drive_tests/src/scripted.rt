@@ -2,8 +2,9 @@
 ghost use Rattle.std.specs.Prelude.{◌≡◌, false, true};
 ghost use Rattle.std.specs.Str.{IsUtf8};
 
+use css_memory::{Datagram, SessionHeard};
 use css_num::Text;
-use css_outside::{Clocked, Datagram, Heard, SessionHeard};
+use css_outside::{Clocked, Heard};
 use std::alloc::Global;
 use std::process::Abort;
 use std::test::Fail;

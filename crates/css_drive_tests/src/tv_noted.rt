@@ -1,6 +1,7 @@
 //! An outside in memory that notes its calls.
+use css_memory::MemoryOutside;
 use css_num::{Memory, Text};
-use css_outside::{Address, Clocked, Heard, Kind, MemoryOutside, OutFault, Outside, Why, Wrote};
+use css_outside::{Address, Clocked, Heard, Kind, OutFault, Outside, Why, Wrote};
 
 /// Each call has a line of its own.
 #[derive(Drop)]
@@ -59,7 +60,7 @@ fn note_datagram(notes: &mut Option<Text>, peer: u32, bytes: &[u8; 32]) -> Resul
 
 impl Outside for Noted {
     ghost use Rattle.std.specs.Prelude.{None};
-    ghost use Rattle.css_outside.specs.Scripts.{counts_of};
+    ghost use Rattle.css_memory.specs.Scripts.{counts_of};
 
     ghost told = { λ noted. None };
 

@@ -1,15 +1,16 @@
 //! A television's runs over an outside in memory: each fault, each refusal and each end is a row.
 ghost use Rattle.std.specs.Prelude.{◌≡◌, negsuc, All, IfOk, OnOk, IsTrue};
 ghost use Rattle.std.specs.Str.{IsUtf8};
-ghost use Rattle.css_outside.specs.Scripts.{are_readings, are_sessions};
+ghost use Rattle.css_memory.specs.Scripts.{are_readings, are_sessions};
 ghost use Rattle.css_schedule.specs.Ranges.{IsScriptLine};
 
 use crate::scripted::{asleep, awake, datagrams_of, text, texts_of};
 use crate::tv_noted::Noted;
 use crate::tv_tables::{QUIET, ROWS, Row, Times, TvEnded};
 use css_drive::{Driven, drive_tv};
+use css_memory::{MemoryOutside, OutsideScript};
 use css_num::Text;
-use css_outside::{Clocked, Kind, MemoryOutside, OutsideScript};
+use css_outside::{Clocked, Kind};
 use css_schedule::{LineWhy, ScriptLine, read_script};
 use css_tv::TvConfig;
 use std::alloc::Global;

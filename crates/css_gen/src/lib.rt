@@ -8,11 +8,7 @@ mod generator;
 pub mod laws;
 mod opening;
 mod second;
-#[cfg(test)]
-mod second_tests;
 mod senders;
-#[cfg(test)]
-mod tests;
 
 pub use css_num::{Memory, Text};
 pub use generator::Generator;

@@ -7,9 +7,10 @@ ghost use Rattle.std.specs.Prelude.{◌≡◌, ◌+◌, OnOk};
 
 use css_app::{run, tell};
 use css_drive::Nobody;
+use css_memory::{MemorySink, MemorySource};
 use css_net::{ChildSpawner, NetOutside, StdSink, StdSource};
 use css_num::{Memory, Text};
-use css_outside::{MemorySink, MemorySource, OutFault, Outside, Spawner};
+use css_outside::{OutFault, Outside, Spawner};
 use std::alloc::Global;
 use std::env::Env;
 use std::process::ExitCode;

@@ -5,7 +5,5 @@
 #![tactic(auto)]
 
 mod migrate;
-#[cfg(test)]
-mod tests;
 
 pub use migrate::{Migrate, NoLine};

@@ -17,7 +17,7 @@ use std::alloc::Global;
 pub struct NoLine;
 
 /// Writes for each line of a schedule of version 1 what it becomes in version 2. It reads each line before it writes.
-#[derive(Debug, Drop)]
+#[derive(Drop)]
 pub struct Migrate {
     alloc: Global,
     /// Whether the header was taken.

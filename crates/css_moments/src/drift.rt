@@ -14,7 +14,7 @@ use std::marker::Model;
 /// there are.
 ///
 /// Contracts see the oscillator's error, the last line, and the least lead and lag since the last sleep.
-#[derive(Clone, Debug, Drop, PartialEq, Eq)]
+#[derive(Drop)]
 pub struct Drift {
     error: u32,
     last: Option<Last>,

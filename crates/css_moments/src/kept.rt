@@ -6,14 +6,14 @@ use crate::numbers::{excess, lag, lead};
 use css_model::LIMIT;
 
 /// The last line of a schedule, with true time in nanoseconds.
-#[derive(Clone, Copy, Debug, PartialEq, Eq)]
+#[derive(Clone, Copy)]
 pub(crate) struct Last {
     pub line: u64,
     pub time: u64,
 }
 
 /// The smallest value so far, and the first line that had it.
-#[derive(Clone, Copy, Debug, PartialEq, Eq)]
+#[derive(Clone, Copy)]
 pub(crate) struct Least {
     pub line: u64,
     pub value: i128,
@@ -49,7 +49,7 @@ impl Least {
 }
 
 /// The smallest lead and the smallest lag of a clock so far.
-#[derive(Clone, Copy, Debug, PartialEq, Eq)]
+#[derive(Clone, Copy)]
 pub(crate) struct Extremes {
     pub lead: Least,
     pub lag: Least,

@@ -7,8 +7,6 @@ mod fault;
 mod kept;
 pub mod laws;
 mod numbers;
-#[cfg(test)]
-mod tests;
 
 pub use drift::Drift;
 pub use fault::DriftFault;

@@ -12,7 +12,7 @@ pub(crate) fn lead(error: u32, time: u64, value: u64) -> i128
     ensures value { result ≡ numbers.lead error time value }
     ensures small { unsigned_abs result < 2 ^ 92 }
 {
-    scaled(value, time) - allowed(error, time)
+    scaled(difference(value, time)) - allowed(error, time)
 }
 
 /// How far a clock is behind true time, less what its oscillator may have lost by then, in the same units.
@@ -23,17 +23,26 @@ pub(crate) fn lag(error: u32, time: u64, value: u64) -> i128
     ensures value { result ≡ numbers.lag error time value }
     ensures small { unsigned_abs result < 2 ^ 92 }
 {
-    scaled(time, value) - allowed(error, time)
+    scaled(difference(time, value)) - allowed(error, time)
 }
 
-/// A difference of nanoseconds in 1/256,000,000 nanoseconds.
-fn scaled(a: u64, b: u64) -> i128
+/// A difference of nanoseconds.
+fn difference(a: u64, b: u64) -> i128
     requires a { a < LIMIT }
     requires b { b < LIMIT }
-    ensures value { result ≡ (pos a -ℤ pos b) *ℤ pos 256000000 }
+    ensures value { result ≡ pos a -ℤ pos b }
+    ensures small { unsigned_abs result < LIMIT }
+{
+    i128::from(a) - i128::from(b)
+}
+
+/// Nanoseconds in 1/256,000,000 nanoseconds.
+fn scaled(difference: i128) -> i128
+    requires { unsigned_abs difference < LIMIT }
+    ensures value { result ≡ difference *ℤ pos 256000000 }
     ensures small { unsigned_abs result < 2 ^ 91 }
 {
-    (i128::from(a) - i128::from(b)) * i128::from(F)
+    difference * i128::from(F)
 }
 
 /// What an oscillator may gain or lose in a time, in 1/256,000,000 nanoseconds.

@@ -1,11 +1,11 @@
-ghost use Rattle.std.specs.Prelude.{IfOk};
+ghost use Rattle.std.specs.Prelude.{◌≤◌, IfOk, IfSome};
 ghost use Rattle.css_outside.specs.Outsides.{FitsRoom};
 
-use crate::names::any_port;
+use crate::names::{addresses_of, any_port};
 use crate::watch::Watch;
 use css_devices::FIRST_SENDER;
 use css_devices::faults::{fault_of, no_room};
-use css_outside::OutFault;
+use css_outside::{Address, OutFault};
 use mio::net::UdpSocket;
 use std::alloc::Global;
 use std::io;
@@ -88,6 +88,21 @@ fn send_through(
     Ok(())
 }
 
+/// The next datagram of a socket, where one has come. An error says that nothing came, or what the network told of an
+/// earlier datagram.
+fn received(
+    socket: &UdpSocket,
+    into: &mut [u8; 64],
+) -> Result<Option<(SocketAddr, usize)>, OutFault>
+    ensures room { IfOk result (λ came. IfSome came (λ datagram. datagram.1 ≤ 64)) }
+{
+    match socket.recv_from(into.as_mut_slice()) {
+        Ok((count, from)) => Ok(Some((from, count))),
+        Err(error) if error.kind() == ErrorKind::OutOfMemory => Err(OutFault::Memory),
+        Err(_) => Ok(None),
+    }
+}
+
 /// A socket that hears anyone, as a television does.
 #[derive(Drop)]
 pub(crate) struct Listener {
@@ -100,14 +115,12 @@ impl Listener {
     fn take(&mut self, into: &mut [u8; 64]) -> Result<Option<(u32, usize)>, OutFault>
         ensures room { IfOk result FitsRoom }
     {
-        match self.socket.recv_from(into.as_mut_slice()) {
-            Ok((count, address)) => {
-                if address.port() == 0 {
-                    return Ok(None);
-                }
-                Ok(Some((self.senders.peer_of(address)?, count)))
+        match received(&self.socket, into)? {
+            Some((from, count)) if from.port() != 0 => {
+                let peer = self.senders.peer_of(from)?;
+                Ok(Some((peer, count)))
             }
-            Err(error) => nothing_came(&error),
+            _ => Ok(None),
         }
     }
 
@@ -117,6 +130,13 @@ impl Listener {
             None => Err(OutFault::Failed),
         }
     }
+}
+
+/// A socket for the datagrams of one address.
+fn linked_socket<R: Net>(rt: &R, address: SocketAddr) -> io::Result<UdpSocket> {
+    let socket = UdpSocket::bind(rt, any_port(address))?;
+    socket.connect(address)?;
+    Ok(socket)
 }
 
 /// A socket for the datagrams of one peer, as a companion has.
@@ -131,9 +151,9 @@ impl Link {
     fn take(&mut self, into: &mut [u8; 64]) -> Result<Option<(u32, usize)>, OutFault>
         ensures room { IfOk result FitsRoom }
     {
-        match self.socket.recv_from(into.as_mut_slice()) {
-            Ok((count, _)) => Ok(Some((self.peer, count))),
-            Err(error) => nothing_came(&error),
+        match received(&self.socket, into)? {
+            Some((_, count)) => Ok(Some((self.peer, count))),
+            None => Ok(None),
         }
     }
 
@@ -174,8 +194,8 @@ impl Datagrams {
 
     /// A socket that listens at an address. It is heard once it is handed to `listen`.
     pub(crate) fn listener<R: Net>(&mut self, rt: &R, address: SocketAddr) -> io::Result<Listener> {
-        let mut socket = UdpSocket::bind(rt, address)?;
-        self.watch.add(rt, &mut socket, LISTENER)?;
+        let socket = UdpSocket::bind(rt, address)?;
+        let socket = self.watch.add(rt, socket, LISTENER)?;
         Ok(Listener {
             socket,
             senders: Senders::new(self.alloc),
@@ -188,17 +208,28 @@ impl Datagrams {
     }
 
     /// Opens a socket for the datagrams of one peer, in the place of the last such one.
-    pub(crate) fn link<R: Net>(
-        &mut self,
-        rt: &R,
-        address: SocketAddr,
-        peer: u32,
-    ) -> io::Result<()> {
-        let mut socket = UdpSocket::bind(rt, any_port(address))?;
-        socket.connect(address)?;
-        self.watch.add(rt, &mut socket, LINK)?;
-        self.link = Some(Link { socket, peer });
+    fn link<R: Net>(&mut self, rt: &R, address: SocketAddr, peer: u32) -> io::Result<()> {
+        let socket = linked_socket(rt, address)?;
+        let socket = self.watch.add(rt, socket, LINK)?;
+        self.set_link(Link { socket, peer });
         Ok(())
+    }
+
+    fn set_link(&mut self, link: Link) {
+        self.link = Some(link);
+    }
+
+    /// Opens a socket for the datagrams of one peer, at the first address of its host that can be used.
+    pub(crate) fn dial<R: Net>(&mut self, rt: &R, to: &Address, peer: u32) -> Result<(), OutFault> {
+        let addresses = addresses_of(self.alloc, rt, &to.host, to.port).map_err(fault_of)?;
+        let mut last = OutFault::Failed;
+        for address in &addresses {
+            match self.link(rt, *address, peer) {
+                Ok(()) => return Ok(()),
+                Err(error) => last = fault_of(error),
+            }
+        }
+        Err(last)
     }
 
     /// Waits until a datagram comes, or the pause is over.
@@ -242,14 +273,4 @@ impl Datagrams {
             None => Err(OutFault::Failed),
         }
     }
-}
-
-/// An error of a read says that nothing came, or what the network told of an earlier datagram.
-fn nothing_came(error: &io::Error) -> Result<Option<(u32, usize)>, OutFault>
-    ensures room { IfOk result FitsRoom }
-{
-    if error.kind() == ErrorKind::OutOfMemory {
-        return Err(OutFault::Memory);
-    }
-    Ok(None)
 }

@@ -3,12 +3,11 @@
 //! A socket that is closed while something that came is unread resets its connection, and a peer may then lose the
 //! close frame that says why. So what waits is written out, and what still comes is read past for a short time.
 
-use crate::session::Line;
+use crate::session::{Line, Stop};
 use crate::sockets::NetRuntime;
-use css_devices::faults::{no_room, would_wait};
+use css_devices::faults::no_room;
 use css_outside::OutFault;
 use std::alloc::Global;
-use tungstenite::Error;
 
 /// How long a session may part, in nanoseconds.
 const LONGEST_PARTING: u64 = 1_000_000_000;
@@ -38,7 +37,7 @@ impl<R: NetRuntime> Parting<R> {
                 self.told = true;
                 self.over = self.line.metered().end_writing().is_err();
             }
-            Err(Error::Io(error)) if would_wait(error.kind()) => {}
+            Err(Stop::Waits) => {}
             Err(_) => self.over = true,
         }
     }
@@ -52,9 +51,9 @@ impl<R: NetRuntime> Parting<R> {
                     return;
                 }
                 Ok(_) => {}
-                Err(error) => {
+                Err(stop) => {
                     self.named = false;
-                    self.over = !would_wait(error.kind());
+                    self.over = !matches!(stop, Stop::Waits);
                     return;
                 }
             }
@@ -85,11 +84,16 @@ impl<R: NetRuntime> Partings<R> {
         }
     }
 
-    /// Adds a session.
-    pub(crate) fn add(&mut self, peer: u32, line: Line<R>, since: u64) -> Result<(), OutFault> {
+    /// Cuts off the oldest session, where as many part as may.
+    fn make_room(&mut self) {
         if self.list.len() >= MOST_PARTING {
             drop(self.list.remove(0));
         }
+    }
+
+    /// Adds a session.
+    pub(crate) fn add(&mut self, peer: u32, line: Line<R>, since: u64) -> Result<(), OutFault> {
+        self.make_room();
         let parting = Parting {
             peer,
             line,

@@ -63,6 +63,44 @@ pub(crate) enum Put {
     Gone,
 }
 
+/// Why a call on a session gave nothing.
+#[derive(Clone, Copy)]
+pub(crate) enum Stop {
+    /// Memory is short.
+    Memory,
+    /// The stream gives or takes nothing for now.
+    Waits,
+    /// The peer broke a rule, and is told so by this code.
+    Refuses(CloseCode),
+    /// The session is over.
+    Over,
+}
+
+fn stop_of(error: &Error) -> Stop {
+    match error {
+        Error::OutOfMemory => Stop::Memory,
+        Error::Io(error) if would_wait(error.kind()) => Stop::Waits,
+        Error::Capacity(_) => Stop::Refuses(CloseCode::Size),
+        Error::Protocol(_) => Stop::Refuses(CloseCode::Protocol),
+        Error::Utf8 => Stop::Refuses(CloseCode::Invalid),
+        _ => Stop::Over,
+    }
+}
+
+/// What an error of a session means. The error itself, with all that it may hold, ends here.
+pub(crate) fn stop_by(error: Error) -> Stop {
+    stop_of(&error)
+}
+
+/// What an error of a stream means.
+fn stop_by_io(error: io::Error) -> Stop {
+    if would_wait(error.kind()) {
+        Stop::Waits
+    } else {
+        Stop::Over
+    }
+}
+
 /// The stream of a session, at the one end or the other.
 #[derive(Drop)]
 pub(crate) enum Line<R: NetRuntime> {
@@ -96,19 +134,19 @@ impl<R: NetRuntime> Line<R> {
     }
 
     /// Writes out what waits.
-    pub(crate) fn flush(&mut self) -> Result<(), Error> {
+    pub(crate) fn flush(&mut self) -> Result<(), Stop> {
         match self {
-            Line::Served(socket) => socket.flush(),
-            Line::Dialled(socket) => socket.flush(),
+            Line::Served(socket) => flush(socket),
+            Line::Dialled(socket) => flush(socket),
         }
     }
 
     /// Reads past what comes, and tells how much it was: 0 is the end.
-    pub(crate) fn skip(&mut self) -> io::Result<usize> {
+    pub(crate) fn skip(&mut self) -> Result<usize, Stop> {
         let mut piece = [0u8; READ_SIZE];
         let stream = self.metered();
         stream.begin_turn(1);
-        stream.read(&mut piece)
+        stream.read(&mut piece).map_err(stop_by_io)
     }
 
     /// Whether the last turn was cut for want of reads.
@@ -133,40 +171,21 @@ impl<R: NetRuntime> Line<R> {
     }
 }
 
-// A peer that doesn't take what it was sent is not read: its pings would have more and more wait for it.
-fn hear<K: MaskKeys + Drop>(
-    alloc: Global,
-    socket: &mut WebSocket<Metered, K>,
-) -> Result<Came, Memory> {
-    socket.get_mut().begin_turn(READS);
-    if let Err(error) = socket.flush() {
-        return hear_nothing(socket, error);
-    }
-    match socket.read() {
-        Ok(Message::Text(text)) => Ok(Came::Text(Text::of(alloc, text.as_str().as_bytes())?)),
-        Ok(Message::Close(_)) => {
-            let _ = socket.flush();
-            Ok(Came::End)
-        }
-        Ok(_) => Ok(Came::Other),
-        Err(error) => hear_nothing(socket, error),
-    }
+// Each call of a socket stands in a function of its own: what it promises is long, and no caller here rests on it.
+
+fn flush<K: MaskKeys + Drop>(socket: &mut WebSocket<Metered, K>) -> Result<(), Stop> {
+    socket.flush().map_err(stop_by)
 }
 
-fn hear_nothing<K: MaskKeys + Drop>(
+fn read<K: MaskKeys + Drop>(socket: &mut WebSocket<Metered, K>) -> Result<Message, Stop> {
+    socket.read().map_err(stop_by)
+}
+
+fn send<K: MaskKeys + Drop>(
     socket: &mut WebSocket<Metered, K>,
-    error: Error,
-) -> Result<Came, Memory> {
-    let code = match error {
-        Error::OutOfMemory => return Err(Memory),
-        Error::Io(error) if would_wait(error.kind()) => return Ok(Came::Nothing),
-        Error::Capacity(_) => CloseCode::Size,
-        Error::Protocol(_) => CloseCode::Protocol,
-        Error::Utf8 => CloseCode::Invalid,
-        _ => return Ok(Came::End),
-    };
-    close(socket, code);
-    Ok(Came::End)
+    message: Message,
+) -> Result<(), Stop> {
+    socket.send(message).map_err(stop_by)
 }
 
 fn close<K: MaskKeys + Drop>(socket: &mut WebSocket<Metered, K>, code: CloseCode) {
@@ -177,16 +196,69 @@ fn close<K: MaskKeys + Drop>(socket: &mut WebSocket<Metered, K>, code: CloseCode
     let _ = socket.close(Some(frame));
 }
 
+/// What a message comes to.
+fn came_by(alloc: Global, message: &Message) -> Result<Came, Stop> {
+    match message {
+        Message::Text(text) => match Text::of(alloc, text.as_str().as_bytes()) {
+            Ok(text) => Ok(Came::Text(text)),
+            Err(Memory) => Err(Stop::Memory),
+        },
+        Message::Close(_) => Ok(Came::End),
+        _ => Ok(Came::Other),
+    }
+}
+
+// A peer that doesn't take what it was sent is not read: its pings would have more and more wait for it.
+fn next<K: MaskKeys + Drop>(
+    alloc: Global,
+    socket: &mut WebSocket<Metered, K>,
+) -> Result<Came, Stop> {
+    flush(socket)?;
+    let message = read(socket)?;
+    came_by(alloc, &message)
+}
+
+fn hear<K: MaskKeys + Drop>(
+    alloc: Global,
+    socket: &mut WebSocket<Metered, K>,
+) -> Result<Came, Memory> {
+    socket.get_mut().begin_turn(READS);
+    match next(alloc, socket) {
+        Ok(Came::End) => {
+            // The answer to the peer's close.
+            let _ = flush(socket);
+            Ok(Came::End)
+        }
+        Ok(came) => Ok(came),
+        Err(stop) => hear_nothing(socket, stop),
+    }
+}
+
+fn hear_nothing<K: MaskKeys + Drop>(
+    socket: &mut WebSocket<Metered, K>,
+    stop: Stop,
+) -> Result<Came, Memory> {
+    match stop {
+        Stop::Memory => Err(Memory),
+        Stop::Waits => Ok(Came::Nothing),
+        Stop::Refuses(code) => {
+            close(socket, code);
+            Ok(Came::End)
+        }
+        Stop::Over => Ok(Came::End),
+    }
+}
+
 fn say<K: MaskKeys + Drop>(
     alloc: Global,
     socket: &mut WebSocket<Metered, K>,
     text: &str,
 ) -> Result<Put, OutFault> {
     let message = Message::text(alloc, text).map_err(no_memory)?;
-    match socket.send(message) {
+    match send(socket, message) {
         Ok(()) => Ok(Put::Written),
-        Err(Error::Io(error)) if would_wait(error.kind()) => Ok(Put::Waits),
-        Err(Error::OutOfMemory) => Err(OutFault::Memory),
+        Err(Stop::Waits) => Ok(Put::Waits),
+        Err(Stop::Memory) => Err(OutFault::Memory),
         Err(_) => Ok(Put::Gone),
     }
 }

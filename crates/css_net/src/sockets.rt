@@ -6,9 +6,9 @@ use crate::datagrams::Datagrams;
 use crate::dials::Dials;
 use crate::names::addresses_of;
 use crate::partings::Partings;
-use crate::session::Line;
+use crate::session::{Line, ServedSocket};
 use crate::sessions::Sessions;
-use crate::upgrades::{FIRST_UPGRADE, Listener, Service, Upgrades};
+use crate::upgrades::{FIRST_UPGRADE, Service, Upgrades};
 use crate::watch::{NOBODY, Watch};
 use css_devices::faults::fault_of;
 use css_devices::monotone;
@@ -17,8 +17,8 @@ use css_outside::{Address, Heard, Kind, OutFault, Wrote};
 use std::alloc::Global;
 use std::net::{Net, SocketAddr};
 use std::random::RandomSource;
-use std::str;
 use std::time::{Clock, Duration};
+use std::{io, str};
 use tungstenite::CloseCode;
 
 /// How long a pause is. The system may end it a little later.
@@ -46,9 +46,30 @@ pub(crate) struct Sockets<R: NetRuntime> {
     partings: Partings<R>,
 }
 
+fn time<R: NetRuntime>(rt: &R) -> u64 {
+    monotone(rt).unwrap_or(0)
+}
+
 /// The name under which a session is watched.
 fn name_of(peer: u32) -> usize {
     FIRST_SESSION + peer as usize
+}
+
+/// Listens at an address, and for sessions of CSS-TS at the next port.
+fn listen_at<R: NetRuntime>(
+    rt: &R,
+    watch: &mut Watch,
+    datagrams: &mut Datagrams,
+    upgrades: &mut Upgrades,
+    address: SocketAddr,
+    next_port: u16,
+) -> Result<(), OutFault> {
+    let mut next = address;
+    next.set_port(next_port);
+    let listener = datagrams.listener(rt, address).map_err(fault_of)?;
+    upgrades.listen(rt, watch, address, next)?;
+    datagrams.listen(listener);
+    Ok(())
 }
 
 impl<R: NetRuntime> Sockets<R> {
@@ -65,10 +86,6 @@ impl<R: NetRuntime> Sockets<R> {
             sessions: Sessions::new(alloc),
             partings: Partings::new(alloc),
         }
-    }
-
-    fn time(&self) -> u64 {
-        monotone(&self.rt).unwrap_or(0)
     }
 
     // ---- what has come
@@ -94,7 +111,7 @@ impl<R: NetRuntime> Sockets<R> {
             self.mark(name);
         }
         if !self.partings.is_empty() {
-            let now = self.time();
+            let now = time(&self.rt);
             self.partings.turn(now);
         }
         Ok(())
@@ -119,23 +136,6 @@ impl<R: NetRuntime> Sockets<R> {
 
     // ---- a television's sockets
 
-    fn listener(&mut self, service: Service, address: SocketAddr) -> Result<Listener, OutFault> {
-        Listener::new(&self.rt, &mut self.watch, service, address).map_err(fault_of)
-    }
-
-    fn listen_at(&mut self, address: SocketAddr, next_port: u16) -> Result<(), OutFault> {
-        let mut next = address;
-        next.set_port(next_port);
-        let datagrams = self.datagrams.listener(&self.rt, address);
-        let datagrams = datagrams.map_err(fault_of)?;
-        let cii = self.listener(Service::Cii, address)?;
-        let ts = self.listener(Service::Ts, next)?;
-        self.upgrades.listen(cii)?;
-        self.upgrades.listen(ts)?;
-        self.datagrams.listen(datagrams);
-        Ok(())
-    }
-
     /// Listens at the first address of the host that is free.
     pub(crate) fn listen(&mut self, host: &Text, port: u16) -> Result<(), OutFault> {
         let Some(next_port) = port.checked_add(1) else {
@@ -144,7 +144,15 @@ impl<R: NetRuntime> Sockets<R> {
         let addresses = addresses_of(self.alloc, &self.rt, host, port).map_err(fault_of)?;
         let mut last = OutFault::Failed;
         for address in &addresses {
-            match self.listen_at(*address, next_port) {
+            let (watch, datagrams) = (&mut self.watch, &mut self.datagrams);
+            match listen_at(
+                &self.rt,
+                watch,
+                datagrams,
+                &mut self.upgrades,
+                *address,
+                next_port,
+            ) {
                 Ok(()) => return Ok(()),
                 Err(fault) => last = fault,
             }
@@ -152,57 +160,52 @@ impl<R: NetRuntime> Sockets<R> {
         Err(last)
     }
 
-    /// The next session that a peer opened. It becomes this peer's.
-    pub(crate) fn accept(&mut self, peer: u32) -> Result<Option<Kind>, OutFault>
-        ensures { IfOk result (λ came. IfSome came IsSession) }
-    {
+    /// The stream of a session, watched under its peer's name from now on.
+    fn renamed(&mut self, mut line: Line<R>, peer: u32) -> io::Result<Line<R>> {
+        self.watch.rename(line.stream(), name_of(peer))?;
+        Ok(line)
+    }
+
+    /// The next handshake that a peer began and that is done.
+    fn next_upgrade(&mut self) -> Result<Option<(Service, ServedSocket)>, OutFault> {
         self.look()?;
         if self.upgrades.is_idle() {
             return Ok(None);
         }
-        let now = self.time();
+        let now = time(&self.rt);
         self.upgrades.connect(&self.rt, &mut self.watch, now)?;
-        let Some((service, socket)) = self.upgrades.turn(now) else {
+        Ok(self.upgrades.turn(now))
+    }
+
+    /// The next session that a peer opened. It becomes this peer's.
+    pub(crate) fn accept(&mut self, peer: u32) -> Result<Option<Kind>, OutFault>
+        ensures { IfOk result (λ came. IfSome came IsSession) }
+    {
+        let Some((service, socket)) = self.next_upgrade()? else {
             return Ok(None);
         };
-        let mut line = Line::Served(socket);
-        if self.watch.rename(line.stream(), name_of(peer)).is_err() {
+        let Ok(line) = self.renamed(Line::Served(socket), peer) else {
             return Ok(None);
-        }
+        };
         self.sessions.open(peer, line)?;
         Ok(Some(service.kind()))
     }
 
     // ---- a companion's sockets
 
-    fn link(&mut self, to: &Address, peer: u32) -> Result<(), OutFault> {
-        let addresses = addresses_of(self.alloc, &self.rt, &to.host, to.port).map_err(fault_of)?;
-        let mut last = OutFault::Failed;
-        for address in &addresses {
-            match self.datagrams.link(&self.rt, *address, peer) {
-                Ok(()) => return Ok(()),
-                Err(error) => last = fault_of(error),
-            }
-        }
-        Err(last)
-    }
-
     fn call(&mut self, kind: Kind, to: &Address, peer: u32) -> Result<(), OutFault> {
-        let now = self.time();
+        let now = time(&self.rt);
         let Some(socket) = self.dials.go_on(self.rt, &mut self.watch, kind, to, now)? else {
             return Err(OutFault::Failed);
         };
-        let mut line = Line::Dialled(socket);
-        self.watch
-            .rename(line.stream(), name_of(peer))
-            .map_err(fault_of)?;
+        let line = self.renamed(Line::Dialled(socket), peer).map_err(fault_of)?;
         self.sessions.open(peer, line)
     }
 
     /// Opens a session, or the socket of datagrams, for this peer. A dial that isn't done goes on at the next.
     pub(crate) fn dial(&mut self, kind: Kind, to: &Address, peer: u32) -> Result<(), OutFault> {
         let dialled = match kind {
-            Kind::Wc => self.link(to, peer),
+            Kind::Wc => self.datagrams.dial(&self.rt, to, peer),
             Kind::Cii | Kind::Ts => self.call(kind, to, peer),
         };
         if dialled.is_err() {
@@ -235,10 +238,19 @@ impl<R: NetRuntime> Sockets<R> {
     // ---- sessions
 
     fn part(&mut self, peer: u32) -> Result<(), OutFault> {
-        let now = self.time();
+        let now = time(&self.rt);
         match self.sessions.part(peer) {
             Some(line) => self.partings.add(peer, line, now),
             None => Ok(()),
+        }
+    }
+
+    /// Parts with a session that is closed. Where one is quiet, and no datagram is waited for, there is a pause.
+    fn follow(&mut self, peer: u32, heard: &Heard) -> Result<(), OutFault> {
+        match heard {
+            Heard::Closed => self.part(peer),
+            Heard::Quiet if self.datagrams.is_none() => self.rest(),
+            _ => Ok(()),
         }
     }
 
@@ -246,11 +258,7 @@ impl<R: NetRuntime> Sockets<R> {
     pub(crate) fn take_text(&mut self, peer: u32) -> Result<Heard, OutFault> {
         self.look()?;
         let heard = self.sessions.hear(peer)?;
-        match &heard {
-            Heard::Closed => self.part(peer)?,
-            Heard::Quiet if self.datagrams.is_none() => self.rest()?,
-            _ => {}
-        }
+        self.follow(peer, &heard)?;
         Ok(heard)
     }
 
@@ -268,7 +276,7 @@ impl<R: NetRuntime> Sockets<R> {
 
     /// Closes a session, if it is open.
     pub(crate) fn hang_up(&mut self, peer: u32) -> Result<(), OutFault> {
-        let now = self.time();
+        let now = time(&self.rt);
         match self.sessions.part(peer) {
             Some(mut line) => {
                 line.close(CloseCode::Normal);

@@ -5,7 +5,7 @@ ghost use Rattle.css_outside.specs.Outsides.{IsSession};
 use crate::metered::Metered;
 use crate::session::{ServedSocket, limits};
 use crate::watch::Watch;
-use css_devices::faults::no_room;
+use css_devices::faults::{fault_of, no_room};
 use css_outside::{Kind, OutFault};
 use http::{Request, Response, StatusCode};
 use mio::net::{TcpListener, TcpStream};
@@ -100,15 +100,8 @@ struct Upgrade {
 }
 
 /// A connection that is watched under a name, where that can be done.
-fn watched<R: Net>(
-    rt: &R,
-    watch: &mut Watch,
-    mut stream: TcpStream,
-    name: usize,
-) -> Option<Metered> {
-    if watch.add(rt, &mut stream, name).is_err() {
-        return None;
-    }
+fn watched<R: Net>(rt: &R, watch: &mut Watch, stream: TcpStream, name: usize) -> Option<Metered> {
+    let stream = watch.add(rt, stream, name).ok()?;
     Metered::new(stream).ok()
 }
 
@@ -134,12 +127,18 @@ impl Upgrade {
         handshake.get_mut().begin_turn(READS);
         match handshake.handshake() {
             Ok(socket) => Some(socket),
-            Err(HandshakeError::Interrupted(rest)) => {
-                self.named = rest.get_ref().was_cut();
-                self.handshake = Some(rest);
+            Err(unfinished) => {
+                self.keep(unfinished);
                 None
             }
-            Err(HandshakeError::Failure(_)) => None,
+        }
+    }
+
+    /// Keeps a handshake that isn't done. One that failed is dropped.
+    fn keep(&mut self, unfinished: HandshakeError<ServerHandshake<Metered, PathCheck>>) {
+        if let HandshakeError::Interrupted(rest) = unfinished {
+            self.named = rest.get_ref().was_cut();
+            self.handshake = Some(rest);
         }
     }
 
@@ -150,7 +149,7 @@ impl Upgrade {
 
 /// A socket on which peers connect.
 #[derive(Drop)]
-pub(crate) struct Listener {
+struct Listener {
     service: Service,
     socket: TcpListener,
     /// Connections may wait that were not taken yet.
@@ -159,14 +158,14 @@ pub(crate) struct Listener {
 
 impl Listener {
     /// Listens for one service at an address.
-    pub(crate) fn new<R: Net>(
+    fn new<R: Net>(
         rt: &R,
         watch: &mut Watch,
         service: Service,
         address: SocketAddr,
     ) -> io::Result<Listener> {
-        let mut socket = TcpListener::bind(rt, address)?;
-        watch.add(rt, &mut socket, service.listener_name())?;
+        let socket = TcpListener::bind(rt, address)?;
+        let socket = watch.add(rt, socket, service.listener_name())?;
         Ok(Listener {
             service,
             socket,
@@ -208,9 +207,22 @@ impl Upgrades {
         }
     }
 
-    /// Adds a listener.
-    pub(crate) fn listen(&mut self, listener: Listener) -> Result<(), OutFault> {
+    fn add(&mut self, listener: Listener) -> Result<(), OutFault> {
         self.listeners.push(listener).map_err(no_room)
+    }
+
+    /// Listens for the sessions of both services at their addresses.
+    pub(crate) fn listen<R: Net>(
+        &mut self,
+        rt: &R,
+        watch: &mut Watch,
+        cii: SocketAddr,
+        ts: SocketAddr,
+    ) -> Result<(), OutFault> {
+        let cii = Listener::new(rt, watch, Service::Cii, cii).map_err(fault_of)?;
+        let ts = Listener::new(rt, watch, Service::Ts, ts).map_err(fault_of)?;
+        self.add(cii)?;
+        self.add(ts)
     }
 
     /// Something has come on the socket of this name.
@@ -232,6 +244,13 @@ impl Upgrades {
         self.list.is_empty() && !self.listeners.iter().any(|listener| listener.named)
     }
 
+    /// Drops the oldest handshake, where as many stand as may.
+    fn make_room(&mut self) {
+        if self.list.len() >= MOST_UPGRADES {
+            drop(self.list.remove(0));
+        }
+    }
+
     /// Begins a handshake. A connection that can't be watched is dropped.
     fn begin<R: Net>(
         &mut self,
@@ -246,9 +265,7 @@ impl Upgrades {
         let Some(stream) = watched(rt, watch, stream, name) else {
             return Ok(());
         };
-        if self.list.len() >= MOST_UPGRADES {
-            drop(self.list.remove(0));
-        }
+        self.make_room();
         let upgrade = Upgrade::new(self.alloc, service, name, since, stream);
         self.list.push(upgrade).map_err(no_room)
     }
@@ -281,19 +298,23 @@ impl Upgrades {
         Ok(())
     }
 
-    /// The handshakes go on, until one is done. Those that failed or took too long are dropped.
-    pub(crate) fn turn(&mut self, now: u64) -> Option<(Service, ServedSocket)> {
-        let mut done = None;
+    /// The handshakes go on, until one is done.
+    fn go_on(&mut self) -> Option<(Service, ServedSocket)> {
         let mut turns = 0;
         for upgrade in self.list.iter_mut() {
             if upgrade.named && turns < MOST_TURNS {
                 turns += 1;
                 if let Some(socket) = upgrade.turn() {
-                    done = Some((upgrade.service, socket));
-                    break;
+                    return Some((upgrade.service, socket));
                 }
             }
         }
+        None
+    }
+
+    /// The handshakes go on, until one is done. Those that failed or took too long are dropped.
+    pub(crate) fn turn(&mut self, now: u64) -> Option<(Service, ServedSocket)> {
+        let done = self.go_on();
         self.list.retain(|upgrade| upgrade.stays(now));
         done
     }

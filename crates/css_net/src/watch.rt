@@ -28,6 +28,18 @@ impl Set {
         })
     }
 
+    fn add<S: Source>(&self, socket: &mut S, name: usize) -> io::Result<()> {
+        let interests = Interest::READABLE | Interest::WRITABLE;
+        let registry = self.poll.registry();
+        registry.register(socket, Token(name), interests)
+    }
+
+    fn rename<S: Source>(&self, socket: &mut S, name: usize) -> io::Result<()> {
+        let interests = Interest::READABLE | Interest::WRITABLE;
+        let registry = self.poll.registry();
+        registry.reregister(socket, Token(name), interests)
+    }
+
     fn wait(&mut self, pause: Duration) -> io::Result<Named> {
         self.poll.poll(&mut self.events, Some(pause))?;
         let mut named = [NOBODY; MOST_NAMED];
@@ -51,33 +63,35 @@ impl Watch {
         Watch { alloc, set: None }
     }
 
+    fn begin<R: Net>(&mut self, rt: &R) -> io::Result<()> {
+        if self.set.is_none() {
+            self.set = Some(Set::new(self.alloc, rt)?);
+        }
+        Ok(())
+    }
+
+    fn set(&self) -> io::Result<&Set> {
+        match &self.set {
+            Some(set) => Ok(set),
+            None => Err(io::Error::from(io::ErrorKind::NotFound)),
+        }
+    }
+
     /// Watches a socket under a name. It is named once for each change: until its calls would wait it must be asked.
-    pub(crate) fn add<R: Net, S: Source>(
+    pub(crate) fn add<R: Net, S: Source + Drop>(
         &mut self,
         rt: &R,
-        socket: &mut S,
+        mut socket: S,
         name: usize,
-    ) -> io::Result<()> {
-        let set = match self.set.take() {
-            Some(set) => set,
-            None => Set::new(self.alloc, rt)?,
-        };
-        let interests = Interest::READABLE | Interest::WRITABLE;
-        let added = set.poll.registry().register(socket, Token(name), interests);
-        self.set = Some(set);
-        added
+    ) -> io::Result<S> {
+        self.begin(rt)?;
+        self.set()?.add(&mut socket, name)?;
+        Ok(socket)
     }
 
     /// Gives a watched socket another name.
-    pub(crate) fn rename<S: Source>(&mut self, socket: &mut S, name: usize) -> io::Result<()> {
-        let interests = Interest::READABLE | Interest::WRITABLE;
-        match &self.set {
-            Some(set) => set
-                .poll
-                .registry()
-                .reregister(socket, Token(name), interests),
-            None => Err(io::Error::from(io::ErrorKind::NotFound)),
-        }
+    pub(crate) fn rename<S: Source>(&self, socket: &mut S, name: usize) -> io::Result<()> {
+        self.set()?.rename(socket, name)
     }
 
     /// Waits until something comes, or the pause is over.

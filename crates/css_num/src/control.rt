@@ -50,38 +50,3 @@ impl Eq for Control {
 
     ghost laws = { Prim.search (comparing, rules) depth 9 };
 }
-
-#[cfg(test)]
-mod tests {
-    use super::*;
-
-    const PLAYING: Control = Control::Available {
-        content: -90_000,
-        wall: 7,
-        speed: 1,
-    };
-
-    fn control(content: i64, wall: u64, speed: i32) -> Control {
-        Control::Available {
-            content,
-            wall,
-            speed,
-        }
-    }
-
-    #[test]
-    fn equal_controls_agree_in_all_three_numbers(rt: HostRuntime) {
-        let rows: [(Control, bool); 5] = [
-            (control(-90_000, 7, 1), true),
-            (control(90_000, 7, 1), false),
-            (control(-90_000, 8, 1), false),
-            (control(-90_000, 7, -1), false),
-            (Control::Unavailable, false),
-        ];
-        for (other, equal) in rows {
-            assert_eq!(rt; PLAYING == other, equal);
-            assert_eq!(rt; other == PLAYING, equal);
-        }
-        assert!(rt; Control::Unavailable == Control::Unavailable);
-    }
-}

@@ -54,34 +54,3 @@ impl Rate {
         }
     }
 }
-
-#[cfg(test)]
-mod tests {
-    use super::*;
-
-    #[test]
-    fn both_parts_are_to_be_in_range(rt: HostRuntime) {
-        let rows: [(u32, u32, bool); 8] = [
-            (1, 90_000, true),
-            (1, 1, true),
-            (1_000_000_000, 1_000_000_000, true),
-            (0, 1, false),
-            (1, 0, false),
-            (1_000_000_001, 1, false),
-            (1, 1_000_000_001, false),
-            (u32::MAX, u32::MAX, false),
-        ];
-        for (units_per_tick, units_per_second, in_range) in rows {
-            let rate = Rate::of(units_per_tick, units_per_second);
-            assert_eq!(rt;
-                rate.is_some(),
-                in_range,
-                "{units_per_tick}, {units_per_second}"
-            );
-            if let Some(rate) = rate {
-                assert_eq!(rt; rate.units_per_tick, units_per_tick);
-                assert_eq!(rt; rate.units_per_second, units_per_second);
-            }
-        }
-    }
-}

@@ -1,12 +1,7 @@
 -- What a spawner was asked, and how its children ended.
-use Rattle.std.specs.Prelude.{◌≡◌, ℕ, ◌+◌, ◌-◌, ℤ, pos, List, [], ◌∷◌, fold, Option}
-use Rattle.std.specs.Prelude.{Result, MatchResult, ◌↔◌, IsErrOf, Contains}
+use Rattle.std.specs.Prelude.{◌≡◌, ℕ, ℤ, List, ◌∷◌, Option, Result, MatchResult}
 use Rattle.std.specs.Option.{option_map}
-use Rattle.css_outside.specs.Devices.{Failures, next_count}
 use Rattle.css_outside.specs.declared.fault.OutFault.{OutFault}
-use Rattle.css_outside.specs.declared.fault.OutFault.TheVariants as fault
-use Rattle.css_outside.specs.declared.memory_spawner.SpawnNote.{SpawnNote}
-use Rattle.css_outside.specs.declared.memory_spawner.SpawnNote.TheVariants as note
 
 -- a child was started with these words and this standard input, or one ended with this status
 pub data Spawned : Type 0 where
@@ -18,33 +13,3 @@ abbrev pub TellsSpawned : {T : Type 0} → Option (List Spawned) → Option (Lis
     → Result T OutFault → (T → Spawned) → Type 0
 TellsSpawned before now result did =
     MatchResult result (λ answer. now ≡ option_map (λ told. did answer ∷ told) before) (λ _. now ≡ before)
-
--- ---- a spawner in memory
--- how many children were started and haven't ended
-abbrev pub running_of : List Spawned → ℕ
-running_of [] = 0
-running_of (Started words input ∷ told) = running_of told + 1
-running_of (Finished status ∷ told) = running_of told - 1
-
-abbrev pub spawned_by : SpawnNote → Spawned
-spawned_by (note.Started words input) = Started words.items input
-spawned_by (note.Finished status) = Finished status
-
--- what the calls did, the newest first; the notes of them have the oldest first
-abbrev pub spawned_of : List SpawnNote → List Spawned
-spawned_of notes = fold (λ told made. spawned_by made ∷ told) [] notes
-
--- the statuses that are still to be given, and what was done
-pub record Spawning : Type 0 where
-  pub statuses : List ℤ
-  pub told : List Spawned
-  pub failing : Failures
-
--- the next status: past the end of the list 0
-abbrev pub next_status : List ℤ → ℤ
-next_status [] = pos 0
-next_status (status ∷ later) = status
-
--- a call fails exactly where its number stands in the list of those that do
-abbrev pub SpawnFailsWhereTold : {T : Type 0} → Failures → Result T OutFault → Type 0
-SpawnFailsWhereTold failing result = IsErrOf result fault.Failed ↔ Contains failing.fails (next_count failing.calls)

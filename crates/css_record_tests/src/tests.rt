@@ -1,17 +1,16 @@
 //! Recorded runs over an outside in memory, and their audit.
 ghost use Rattle.std.specs.Prelude.{◌≡◌, [], IfOk, IsTrue, false, true};
 ghost use Rattle.std.specs.Str.{IsUtf8};
-ghost use Rattle.css_outside.specs.Scripts.{are_readings};
+ghost use Rattle.css_memory.specs.Scripts.{are_readings};
 ghost use Rattle.css_drive.specs.Configs.{IsWritable};
 
 use crate::tables::{Case, Ended, FAILING, K, RESPONSE, ROWS, Said, Times};
 use css_audit::Audit;
 use css_client::Local;
 use css_companion::CompanionConfig;
+use css_memory::{Datagram, MemoryOutside, MemorySink, OutsideScript, SessionHeard};
 use css_num::Text;
-use css_outside::{
-    Address, Clocked, Datagram, Heard, MemoryOutside, MemorySink, OutsideScript, SessionHeard,
-};
+use css_outside::{Address, Clocked, Heard};
 use css_record::{DriveConfig, Driven, drive_record};
 use std::alloc::Global;
 use std::process::Abort;

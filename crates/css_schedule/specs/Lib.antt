@@ -1,7 +1,6 @@
 pub mod Words
 pub mod Owners
 pub mod Lines
-pub mod ClockVerbs
 pub mod Headers
 pub mod Printed
 pub mod Ranges

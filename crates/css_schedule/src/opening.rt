@@ -136,7 +136,9 @@ fn companion(alloc: Global, words: Words<'_>) -> Result<CompanionLine, LineFault
 fn only(alloc: Global, companion: CompanionLine) -> Result<Companions, Memory>
     ensures { IfOk result (λ companions. companions ≡ companion ∷ []) }
 {
-    Ok(Companions::of(vec![in alloc; companion]?))
+    let mut list = Vec::new(alloc);
+    list.push(companion)?;
+    Ok(Companions::of(list))
 }
 
 // The header of a television and these companions.

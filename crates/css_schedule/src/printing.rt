@@ -1,5 +1,6 @@
 ghost use Rattle.std.specs.Prelude.{◌≡◌, ◌≤◌, ◌==◌, ◌++◌, ◌∷◌, [], ℕ, length, decimal, IfOk, OnOk};
 ghost use Rattle.std.specs.Fmt.{signed_decimal};
+ghost use Rattle.css_tsmsg.specs.Presentations.{content_text, wall_text};
 ghost use Rattle.css_schedule.specs.Headers.{max_companions, header_of, whole_header_of};
 ghost use Rattle.css_schedule.specs.Lines.{line_in};
 ghost use Rattle.css_schedule.specs.Printed as printed;
@@ -126,23 +127,31 @@ fn add_session(text: &mut Text, name: &[u8], kind: Kind) -> Result<(), Memory>
     add_word(text, kind_word(kind))
 }
 
+fn content(bound: Bound) -> i64
+    ensures { signed_decimal result ≡ content_text bound }
+{
+    match bound {
+        Bound::At { content, .. } => content,
+        Bound::MinusInfinity { content } => content,
+        Bound::PlusInfinity { content } => content,
+    }
+}
+
+fn add_wall_time(text: &mut Text, bound: Bound) -> Result<(), Memory>
+    ensures { OnOk result (text.new ≡ with_words text.old (wall_text bound ∷ [])) }
+{
+    match bound {
+        Bound::At { wall, .. } => add_number(text, wall),
+        Bound::MinusInfinity { .. } => add_word(text, b"minusinfinity"),
+        Bound::PlusInfinity { .. } => add_word(text, b"plusinfinity"),
+    }
+}
+
 fn add_bound(text: &mut Text, bound: Bound) -> Result<(), Memory>
     ensures { OnOk result (text.new ≡ with_words text.old (printed.bound_words bound)) }
 {
-    match bound {
-        Bound::At { content, wall } => {
-            add_signed(text, content)?;
-            add_number(text, wall)
-        }
-        Bound::MinusInfinity { content } => {
-            add_signed(text, content)?;
-            add_word(text, b"minusinfinity")
-        }
-        Bound::PlusInfinity { content } => {
-            add_signed(text, content)?;
-            add_word(text, b"plusinfinity")
-        }
-    }
+    add_signed(text, content(bound))?;
+    add_wall_time(text, bound)
 }
 
 fn add_window(text: &mut Text, earliest: Bound, latest: Bound) -> Result<(), Memory>

@@ -1,7 +1,6 @@
 ghost use Rattle.std.specs.Prelude.{◌≡◌, ◌==◌, IfOk};
 ghost use Rattle.css_num.specs.Gives.{GivesBy};
 ghost use Rattle.css_schedule.specs.Words.{words_left, Reads};
-ghost use Rattle.css_schedule.specs.ClockVerbs.{clock_verb_of};
 ghost use Rattle.css_schedule.specs.Lines as lines;
 ghost use Rattle.css_schedule.specs.Owners.{is_own, is_named};
 ghost use Rattle.css_schedule.specs.Ranges.{IsVersion, IsLine, IsOf, IsScriptLine};
@@ -183,32 +182,8 @@ fn timelines<'a>(
     }
 }
 
-// The verbs of the wall clock. Most lines have one of them, so they are found by one match on the name.
-#[derive(Clone, Copy)]
-enum ClockVerb {
-    Ask,
-    Take,
-    Give,
-    Land,
-    Wall,
-}
-
-// The verb of the wall clock with this name.
-fn clock_verb(name: &[u8]) -> Option<ClockVerb>
-    ensures { result ≡ clock_verb_of name.now }
-{
-    match name {
-        b"ask" => Some(ClockVerb::Ask),
-        b"take" => Some(ClockVerb::Take),
-        b"give" => Some(ClockVerb::Give),
-        b"land" => Some(ClockVerb::Land),
-        b"wall" => Some(ClockVerb::Wall),
-        _ => None,
-    }
-}
-
-// The operands of the verb with this name.
-#[tactic(auto, using(crate::proofs::Dispatch::by_clock_verb))]
+// The operands of the verb with this name. Most lines have one of the wall clock, so these stand first.
+#[tactic(auto, unfolding(crate::specs::Lines::operands_at))]
 fn operands<'a>(
     alloc: Global,
     name: &[u8],
@@ -216,13 +191,18 @@ fn operands<'a>(
 ) -> Result<(Verb, Words<'a>), LineFault>
     ensures { Reads result (lines.operands_at name.now (words_left words.entry)) }
 {
-    match clock_verb(name) {
-        Some(ClockVerb::Ask) => ask(words),
-        Some(ClockVerb::Take) => take(words),
-        Some(ClockVerb::Give) => give(words),
-        Some(ClockVerb::Land) => land(words),
-        Some(ClockVerb::Wall) => wall(words),
-        None => timelines(alloc, name, words),
+    if name == b"ask".as_slice() {
+        ask(words)
+    } else if name == b"take".as_slice() {
+        take(words)
+    } else if name == b"give".as_slice() {
+        give(words)
+    } else if name == b"land".as_slice() {
+        land(words)
+    } else if name == b"wall".as_slice() {
+        wall(words)
+    } else {
+        timelines(alloc, name, words)
     }
 }
 

@@ -21,7 +21,7 @@ const ORDINAL_LIMIT: u64 = 1 << 32;
 const QUICK_DIGITS: usize = 19;
 
 /// The words of a line that are still to be read.
-#[derive(Clone, Copy, Debug)]
+#[derive(Clone, Copy)]
 pub struct Words<'a> {
     rest: Option<&'a [u8]>,
 }

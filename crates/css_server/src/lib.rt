@@ -5,8 +5,6 @@
 mod fault;
 pub mod laws;
 mod server;
-#[cfg(test)]
-mod tests;
 
 pub use css_model::WcFault;
 pub use fault::ServeFault;

@@ -6,8 +6,6 @@ mod answer;
 mod estimate;
 mod fault;
 mod frontier;
-#[cfg(test)]
-mod tests;
 mod width;
 
 pub use answer::{Answer, Local};

@@ -136,6 +136,14 @@ presentation_or_fault (Ok members) = presentation_in members
 unfoldable pub presentation_of : List ℕ → Result Presentation TsFault
 presentation_of bytes = presentation_or_fault (object_of bytes)
 
+-- the presentation of three forms, or the first fault of their ranges
+abbrev pub presentation_from : Form → Form → Option Form → Result Presentation TsFault
+presentation_from earliest_form latest_form told_form =
+    and_then (bound_of name.Earliest earliest_form) (λ earliest.
+    and_then (bound_of name.Latest latest_form) (λ latest.
+    and_then (actual_bound told_form) (λ actual.
+    Ok (record { earliest = earliest; latest = latest; actual = actual }))))
+
 -- ---- which presentations have a text, and it
 
 -- a content time of at most 18 digits, and a wall time below 2^63

@@ -16,7 +16,7 @@ use serde_json::Value;
 use std::alloc::Global;
 
 /// The two times of a bound as they are written. An infinite wall time is None.
-#[derive(Debug, Drop)]
+#[derive(Drop)]
 pub(crate) struct Form {
     pub(crate) content: Text,
     pub(crate) wall: Option<Text>,
@@ -182,6 +182,25 @@ fn actual_bound(form: &Option<Form>) -> Result<Option<Bound>, TsFault>
     }
 }
 
+/// The presentation of three forms whose numbers are in range.
+fn presentation_from(
+    earliest: &Form,
+    latest: &Form,
+    actual: &Option<Form>,
+) -> Result<Presentation, TsFault>
+    requires earliest { presentations.IsForm names.Earliest earliest.now }
+    requires latest { presentations.IsForm names.Latest latest.now }
+    requires actual { IfSome actual.now (presentations.IsForm names.Actual) }
+    ensures value { result ≡ presentations.presentation_from earliest.now latest.now actual.now }
+    ensures in_range { IfOk result presentations.IsPresentation }
+{
+    Ok(Presentation {
+        earliest: bound_of(TsName::Earliest, earliest)?,
+        latest: bound_of(TsName::Latest, latest)?,
+        actual: actual_bound(actual)?,
+    })
+}
+
 /// The presentation that an object is: all forms are tested before all ranges.
 #[tactic(auto, unfolding(crate::specs::Presentations::presentation_in))]
 fn presentation_in(alloc: Global, map: &Map) -> Result<Presentation, TsFault>
@@ -196,11 +215,7 @@ fn presentation_in(alloc: Global, map: &Map) -> Result<Presentation, TsFault>
     )?;
     let latest = form_of(alloc, TsName::Latest, member(map, TsName::Latest.as_str()))?;
     let actual = actual_form(alloc, member(map, TsName::Actual.as_str()))?;
-    Ok(Presentation {
-        earliest: bound_of(TsName::Earliest, &earliest)?,
-        latest: bound_of(TsName::Latest, &latest)?,
-        actual: actual_bound(&actual)?,
-    })
+    presentation_from(&earliest, &latest, &actual)
 }
 
 /// Reads a presentation of CSS-TS (ETSI TS 103 286-2, AptEptLpt): an object with the members `earliest`, `latest` and

@@ -1,6 +1,7 @@
 ghost use Rattle.std.specs.Prelude.{◌≡◌, IfOk};
 ghost use Rattle.std.specs.Str.{IsUtf8};
 ghost use Rattle.css_num.specs.Gives.{GivesBy};
+ghost use Rattle.css_text.specs.Fields.{HasUtf8};
 ghost use Rattle.serde_json.specs.View.{members_view};
 ghost use Rattle.css_tsmsg.specs.Setups as setups;
 ghost use Rattle.css_tsmsg.specs.declared.fault.TsFault.TheVariants as faults;
@@ -20,13 +21,13 @@ pub struct Setup {
     pub selector: Text,
 }
 
-/// The text that a member is.
-fn words_in(alloc: Global, map: &Map, name: TsName) -> Result<Text, TsFault>
-    ensures value { GivesBy (λ words. words) faults.Memory result
-        (setups.words_in name (members_view map.now.entries)) }
+/// The text that a field is.
+fn words_from(name: TsName, field: Field) -> Result<Text, TsFault>
+    requires { HasUtf8 field }
+    ensures value { result ≡ setups.words_from name field }
     ensures utf8 { IfOk result IsUtf8 }
 {
-    match field_of(alloc, map, name.as_str())? {
+    match field {
         Field::Words(words) => Ok(words),
         Field::Missing => Err(TsFault::Field(name)),
         Field::Null => Err(TsFault::Field(name)),
@@ -35,6 +36,16 @@ fn words_in(alloc: Global, map: &Map, name: TsName) -> Result<Text, TsFault>
         Field::Object => Err(TsFault::Field(name)),
         Field::Other => Err(TsFault::Field(name)),
     }
+}
+
+/// The text that a member is.
+fn words_in(alloc: Global, map: &Map, name: TsName) -> Result<Text, TsFault>
+    ensures value { GivesBy (λ words. words) faults.Memory result
+        (setups.words_in name (members_view map.now.entries)) }
+    ensures utf8 { IfOk result IsUtf8 }
+{
+    let field = field_of(alloc, map, name.as_str())?;
+    words_from(name, field)
 }
 
 /// The setup that an object is.

@@ -1,7 +1,7 @@
 ghost use Rattle.std.specs.Prelude.{◌≡◌, IfOk, Ok, codes, string_bytes, decimal};
 ghost use Rattle.std.specs.Fmt.{signed_decimal};
 ghost use Rattle.std.specs.Str.{IsUtf8};
-ghost use Rattle.serde_json.specs.Data.{null, number, string};
+ghost use Rattle.serde_json.specs.Data.{null, no_members, number, object, put, string};
 ghost use Rattle.serde_json.specs.Find.{of_integer};
 ghost use Rattle.serde_json.specs.View.{view};
 ghost use Rattle.css_tsmsg.specs.Controls as controls;
@@ -11,8 +11,8 @@ ghost use Rattle.css_tsmsg.specs.Setups as setups;
 use crate::bound::{Bound, Presentation};
 use crate::setup::Setup;
 use css_num::{Control, Memory, Text};
-use css_text::write_value;
-use serde_json::{Value, json};
+use css_text::{Map, write_value};
+use serde_json::Value;
 use std::alloc::{AllocError, Global};
 
 /// The words of a text.
@@ -26,14 +26,59 @@ fn words(text: &Text) -> &str
     }
 }
 
+/// The value of a text.
+fn words_value(alloc: Global, words: &str) -> Result<Value, AllocError>
+    ensures { IfOk result (λ value. view value ≡ string words.now) }
+{
+    Ok(Value::String(String::from_str(alloc, words)?))
+}
+
+/// The object of two members.
+fn object_of_two(
+    alloc: Global,
+    first_name: &str,
+    first: Value,
+    second_name: &str,
+    second: Value,
+) -> Result<Value, AllocError>
+    ensures { IfOk result (λ value.
+        view value ≡ object (put first_name.now (view first) (put second_name.now (view second) no_members))) }
+{
+    let mut members = Map::new(alloc);
+    serde_json::put(&mut members, alloc, second_name, second)?;
+    serde_json::put(&mut members, alloc, first_name, first)?;
+    Ok(Value::Object(members))
+}
+
+/// The object of three members.
+fn object_of_three(
+    alloc: Global,
+    first_name: &str,
+    first: Value,
+    second_name: &str,
+    second: Value,
+    third_name: &str,
+    third: Value,
+) -> Result<Value, AllocError>
+    ensures { IfOk result (λ value.
+        view value ≡ object (put first_name.now (view first) (put second_name.now (view second)
+        (put third_name.now (view third) no_members)))) }
+{
+    let mut members = Map::new(alloc);
+    serde_json::put(&mut members, alloc, third_name, third)?;
+    serde_json::put(&mut members, alloc, second_name, second)?;
+    serde_json::put(&mut members, alloc, first_name, first)?;
+    Ok(Value::Object(members))
+}
+
 /// The value of a setup.
 fn setup_value(alloc: Global, setup: &Setup) -> Result<Value, AllocError>
     requires { setups.IsUtf8Setup setup.now }
     ensures { IfOk result (λ value. view value ≡ setups.setup_data setup.now) }
 {
-    let stem = words(&setup.stem);
-    let selector = words(&setup.selector);
-    json!(in alloc; {"contentIdStem": stem, "timelineSelector": selector})
+    let stem = words_value(alloc, words(&setup.stem))?;
+    let selector = words_value(alloc, words(&setup.selector))?;
+    object_of_two(alloc, "contentIdStem", stem, "timelineSelector", selector)
 }
 
 /// Writes the setup data of CSS-TS (ETSI TS 103 286-2) as a compact JSON object
@@ -48,6 +93,26 @@ pub fn write_setup(alloc: Global, setup: &Setup) -> Result<Text, Memory>
     write_value(alloc, &value)
 }
 
+/// The value of a content time, a speed and a wall time.
+fn times_value(
+    alloc: Global,
+    content: Value,
+    speed: Value,
+    wall: Value,
+) -> Result<Value, AllocError>
+    ensures { IfOk result (λ value. view value ≡ controls.times_data (view content) (view speed) (view wall)) }
+{
+    object_of_three(
+        alloc,
+        "contentTime",
+        content,
+        "timelineSpeedMultiplier",
+        speed,
+        "wallClockTime",
+        wall,
+    )
+}
+
 /// The value of a control timestamp of an available timeline.
 fn available_value(alloc: Global, content: i64, wall: u64, speed: i32) -> Result<Value, AllocError>
     ensures { IfOk result (λ value.
@@ -56,16 +121,20 @@ fn available_value(alloc: Global, content: i64, wall: u64, speed: i32) -> Result
 {
     let content = format!(in alloc; "{content}")?;
     let wall = format!(in alloc; "{wall}")?;
-    let content = content.as_str();
-    let wall = wall.as_str();
-    json!(in alloc; {"contentTime": content, "timelineSpeedMultiplier": speed, "wallClockTime": wall})
+    times_value(
+        alloc,
+        Value::String(content),
+        Value::from(speed),
+        Value::String(wall),
+    )
 }
 
 /// The value of a control timestamp of a timeline that isn't available.
 fn unavailable_value(alloc: Global) -> Result<Value, AllocError>
     ensures { IfOk result (λ value. view value ≡ controls.times_data null null (string (codes "0"))) }
 {
-    json!(in alloc; {"contentTime": null, "timelineSpeedMultiplier": null, "wallClockTime": "0"})
+    let wall = words_value(alloc, "0")?;
+    times_value(alloc, Value::Null, Value::Null, wall)
 }
 
 /// The value of a control timestamp.
@@ -123,9 +192,13 @@ fn bound_value(alloc: Global, bound: &Bound) -> Result<Value, AllocError>
 {
     let content = content_text(alloc, bound)?;
     let wall = wall_text(alloc, bound)?;
-    let content = content.as_str();
-    let wall = wall.as_str();
-    json!(in alloc; {"contentTime": content, "wallClockTime": wall})
+    object_of_two(
+        alloc,
+        "contentTime",
+        Value::String(content),
+        "wallClockTime",
+        Value::String(wall),
+    )
 }
 
 /// The value of a window without its actual bound.
@@ -134,7 +207,7 @@ fn window_value(alloc: Global, earliest: &Bound, latest: &Bound) -> Result<Value
 {
     let earliest = bound_value(alloc, earliest)?;
     let latest = bound_value(alloc, latest)?;
-    json!(in alloc; {"earliest": earliest, "latest": latest})
+    object_of_two(alloc, "earliest", earliest, "latest", latest)
 }
 
 /// The value of a window with its actual bound.
@@ -149,7 +222,9 @@ fn told_value(
     let earliest = bound_value(alloc, earliest)?;
     let latest = bound_value(alloc, latest)?;
     let actual = bound_value(alloc, actual)?;
-    json!(in alloc; {"actual": actual, "earliest": earliest, "latest": latest})
+    object_of_three(
+        alloc, "actual", actual, "earliest", earliest, "latest", latest,
+    )
 }
 
 /// The value of a presentation.

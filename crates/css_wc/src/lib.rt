@@ -5,8 +5,6 @@
 mod decoding;
 mod encoding;
 mod readings;
-#[cfg(test)]
-mod tests;
 
 pub use css_model::{LIMIT, Message, Stamp, WcFault};
 pub use decoding::decode;

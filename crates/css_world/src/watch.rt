@@ -13,14 +13,14 @@ use css_moments::Drift;
 use css_schedule::Verb;
 
 /// A reading of a clock, and the number of the line where it was taken.
-#[derive(Clone, Copy, Debug)]
+#[derive(Clone, Copy)]
 pub(crate) struct Reading {
     pub(crate) line: u64,
     pub(crate) value: u64,
 }
 
 /// The clock of one end, as the lines tell of it.
-#[derive(Debug, Drop)]
+#[derive(Drop)]
 pub(crate) struct Watch {
     pub(crate) drift: Drift,
     /// How far a reading may be from what the clock shows, in nanoseconds.

@@ -6,4 +6,4 @@ use Rattle.css_cii.proofs.merging.apply_to.Goals as goal
 
 pub returns-clause-utf8 : goal.returns-clause-utf8
 returns-clause-utf8 c =
-    λ h k. subst IsUtf8State (sym c.set_properties.ensures) (applied-utf8 c.args.state.now c.args.change h k)
+    λ h k. subst IsUtf8State (sym c.set.ensures) (applied-utf8 c.args.state.now c.args.change h k)

@@ -1,6 +1,6 @@
 -- All are readings where those that are left are readings after the last one.
 use Rattle.std.proofs.Common.{◌≡◌, drop}
-use Rattle.css_outside.specs.Scripts.{are_readings}
+use Rattle.css_memory.specs.Scripts.{are_readings}
 use Rattle.css_drive_tests.proofs.joined_tests.are_rising.Given as goal
 
 abbrev pub invariant-loop-clocked : goal.invariant-loop-clocked

@@ -3,7 +3,7 @@ use Rattle.std.proofs.Common.{subst, sym, refl, true, ◌≡◌}
 use Rattle.std.specs.Prelude.{IsTrue, Option, Some, List}
 use Rattle.css_model.specs.declared.Kind.{Kind}
 use Rattle.css_model.specs.declared.Kind.TheVariants as kind
-use Rattle.css_outside.specs.Scripts.{are_sessions}
+use Rattle.css_memory.specs.Scripts.{are_sessions}
 use Rattle.css_drive_tests.proofs.TvTested.{sessions-push}
 use Rattle.css_drive_tests.proofs.tv_tests.add_opening.Goals as goal
 

@@ -1,0 +1,193 @@
+ghost use Rattle.std.specs.Prelude.{◌<◌, IfSome, unsigned_abs};
+
+use css_window::{Chosen, Window, choose};
+use std::alloc::Global;
+use std::process::Abort;
+use std::test::Fail;
+
+/// The greatest delay of a television, in nanoseconds.
+const TOP: u64 = 10_000_000_000;
+
+/// The greatest offset.
+const FAR: i128 = 21_267_647_932_558_653_966_460_912_964_485_513_215;
+
+/// The least and the greatest delay at which a plain scan looks for a bound of the generated windows.
+const SCANNED: (i64, i64) = (-200, 200);
+
+const FREE: Window = Window {
+    ups: 90_000,
+    own: 0,
+    earliest: None,
+    latest: None,
+};
+
+/// From 40 ms on.
+const LATE: Window = Window {
+    earliest: Some(3_600_000_000_000),
+    ..FREE
+};
+
+/// Up to 30 ms.
+const SOON: Window = Window {
+    latest: Some(2_700_000_000_000),
+    ..FREE
+};
+
+/// Only at a delay of 1.5 ns, which is no whole number.
+const BETWEEN: Window = Window {
+    ups: 2,
+    own: -3,
+    earliest: Some(0),
+    latest: Some(0),
+};
+
+/// The greatest offsets: only at delay 0, and only from about 4 * 10^28 ns on.
+const FARTHEST: Window = Window {
+    ups: 1_000_000_000,
+    own: -FAR,
+    earliest: Some(FAR),
+    latest: Some(-FAR),
+};
+
+/// Up to the greatest delay.
+const AT_THE_TOP: Window = Window {
+    ups: 1,
+    own: -10_000_000_000,
+    ..BETWEEN
+};
+
+#[test]
+fn the_least_delay_or_two_windows_are_told(rt: HostRuntime) {
+    let rows: [(&[Window], u64, Chosen); 8] = [
+        (&[], TOP, fits(0, None)),
+        (&[SOON, FREE], TOP, fits(0, None)),
+        (&[FREE, LATE, LATE], TOP, fits(40_000_000, Some(1))),
+        (&[LATE, AT_THE_TOP], TOP, fits(TOP, Some(1))),
+        (&[SOON, LATE, SOON, LATE], TOP, nothing(Some(1), Some(0))),
+        (&[AT_THE_TOP], TOP - 1, nothing(Some(0), None)),
+        (&[BETWEEN], TOP, nothing(Some(0), Some(0))),
+        (&[FARTHEST], TOP, nothing(Some(0), Some(0))),
+    ];
+    for (windows, max_delay, expected) in rows {
+        assert!(rt; max_delay <= TOP);
+        assert!(rt; choose(windows, max_delay) == expected, "{windows:?}");
+    }
+}
+
+/// The least delay, and the window that decides it.
+fn fits(delay: u64, by: Option<usize>) -> Chosen {
+    Chosen::Fits { delay, by }
+}
+
+/// The windows that no delay fits together.
+fn nothing(low: Option<usize>, high: Option<usize>) -> Chosen {
+    Chosen::Nothing { low, high }
+}
+
+/// The offset of a window's content at a delay.
+fn offset(window: &Window, delay: i64) -> i128 {
+    let turned = i128::from(window.ups).wrapping_mul(i128::from(delay));
+    window.own.wrapping_add(turned)
+}
+
+fn first_early(windows: &[Window], delay: i64) -> Option<usize> {
+    windows.iter().position(|window| match window.earliest {
+        None => false,
+        Some(earliest) => offset(window, delay) < earliest,
+    })
+}
+
+fn first_late(windows: &[Window], delay: i64) -> Option<usize> {
+    windows.iter().position(|window| match window.latest {
+        None => false,
+        Some(latest) => latest < offset(window, delay),
+    })
+}
+
+/// The first window that comes too early at the last delay at which any does.
+fn plain_low(windows: &[Window]) -> Option<usize> {
+    let mut found = None;
+    for delay in 0..SCANNED.1 {
+        found = first_early(windows, delay).or(found);
+    }
+    found
+}
+
+/// The first window that comes too late at the first delay at which any does.
+fn plain_high(windows: &[Window], max_delay: i64) -> Option<usize> {
+    for delay in SCANNED.0..max_delay.wrapping_add(1) {
+        if let Some(i) = first_late(windows, delay) {
+            return Some(i);
+        }
+    }
+    None
+}
+
+/// What a scan of every delay finds.
+fn plain_choice(windows: &[Window], max_delay: i64) -> Chosen {
+    for delay in 0..max_delay.wrapping_add(1) {
+        if first_early(windows, delay).is_none() && first_late(windows, delay).is_none() {
+            let by = first_early(windows, delay.wrapping_sub(1)).filter(|_| delay != 0);
+            return fits(delay.unsigned_abs(), by);
+        }
+    }
+    nothing(plain_low(windows), plain_high(windows, max_delay))
+}
+
+fn drawn_bound(word: u64, least: i8) -> Option<i128>
+    ensures { IfSome result (λ bound. unsigned_abs bound < 1000) }
+{
+    if word % 3 == 0 {
+        None
+    } else {
+        Some(i128::from(word / 3 % 60) + i128::from(least))
+    }
+}
+
+/// A window whose bounds are within 100 ns of delay 0.
+fn drawn(word: u64) -> Window {
+    Window {
+        ups: 1 + (word % 3) as u32,
+        own: i128::from(word / 3 % 40) - 20,
+        earliest: drawn_bound(word / 120, -20),
+        latest: drawn_bound(word / 21_600, -10),
+    }
+}
+
+fn next_word(word: u64) -> u64 {
+    word.wrapping_mul(6_364_136_223_846_793_005)
+        .wrapping_add(1_442_695_040_888_963_407)
+}
+
+/// Up to five windows.
+fn drawn_windows(alloc: Global, word: u64) -> Result<Vec<Window>, Fail> {
+    let mut windows = Vec::new(alloc);
+    let mut word = word;
+    for _ in 0..word >> 40 & 3 {
+        word = next_word(word);
+        windows.push(drawn(word >> 33))?;
+    }
+    Ok(windows)
+}
+
+fn compare(rt: &impl Abort, windows: &[Window], max_delay: u32) -> bool {
+    let plain = plain_choice(windows, i64::from(max_delay));
+    let chosen = choose(windows, u64::from(max_delay));
+    assert!(rt; chosen == plain, "{windows:?} up to {max_delay}");
+    matches!(chosen, Chosen::Fits { .. })
+}
+
+#[test]
+fn chooses_what_a_scan_of_every_delay_finds(rt: HostRuntime) -> Result<(), Fail> {
+    let mut word: u64 = 1;
+    let mut fitting: u32 = 0;
+    for _ in 0..2000 {
+        word = next_word(word);
+        let windows = drawn_windows(rt.alloc(), word)?;
+        if compare(&rt, windows.as_slice(), (word >> 50) as u32 % 40) {
+            fitting = fitting.wrapping_add(1);
+        }
+    }
+    assert!(rt; 500 < fitting && fitting < 1500);
+    Ok(())
+}

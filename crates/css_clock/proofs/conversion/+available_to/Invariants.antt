@@ -1,5 +1,0 @@
-use Rattle.css_clock.proofs.conversion.+available_to.Given as goal
-
--- a parent comes before its children
-abbrev pub decreases-available_to : goal.decreases-available_to
-decreases-available_to l = l.id

@@ -1,6 +1,0 @@
-use Rattle.std.proofs.Common.{◌+◌}
-use Rattle.css_clock.proofs.conversion.+nearest_common.Given as goal
-
--- a parent comes before its children
-abbrev pub decreases-nearest_common : goal.decreases-nearest_common
-decreases-nearest_common l = l.from + l.to

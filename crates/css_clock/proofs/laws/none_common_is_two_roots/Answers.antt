@@ -1,5 +1,0 @@
-use Rattle.css_clock.proofs.Paths.{none-common_iff}
-use Rattle.css_clock.proofs.laws.none_common_is_two_roots.Goals as goal
-
-pub returns : goal.returns
-returns c = none-common_iff

@@ -1,0 +1,117 @@
+//! Replays of schedules.
+
+use crate::replay_tables::{PLAIN, REFUSED, SECOND, SESSIONS};
+use crate::running::{BLANK, Case, EXCHANGE, NO_MEMORY, Row, assert_rows, assert_run};
+use std::alloc::{AllocError, Global};
+use std::process::Abort;
+
+/// The name of a row, how its replay ends, its schedule, and what is printed.
+fn replay_of(row: &str) -> Option<(&str, &str, &str, &str)> {
+    let (head, rest) = row.split_once('\n')?;
+    let (name, ended) = head.split_once(" => ")?;
+    let (schedule, printed) = rest.split_once("> ").unwrap_or((rest, ""));
+    Some((name, ended, schedule, printed))
+}
+
+/// In whole pieces and byte by byte.
+fn assert_replay(rt: &impl Abort, alloc: Global, row: &str) {
+    let (name, ended, schedule, printed) = replay_of(row).expect(rt, "a row without its parts");
+    for piece in [4096, 1] {
+        let case = Case {
+            words: "replay",
+            input: schedule.as_bytes(),
+            piece,
+            ..BLANK
+        };
+        assert_run(rt, alloc, name, &case, ended, printed.as_bytes());
+    }
+}
+
+/// What is short for what in a table.
+const ABBREVIATIONS: [(&str, &str); 5] = [
+    (
+        "~",
+        "css-schedule 1 plain 0 -30 0 0 urn:dvb:css:timeline:pts -",
+    ),
+    ("^", "css-schedule 1 plain 0 -30 0 0 urn:x -"),
+    ("@", "0 10000000000 0"),
+    ("; ", "\n"),
+    (" | ", "\n"),
+];
+
+fn spelled(alloc: Global, table: &str) -> Result<String, AllocError> {
+    let mut text = table.to_string(alloc)?;
+    for (short, whole) in ABBREVIATIONS {
+        text = text.replace(alloc, short, whole)?;
+    }
+    Ok(text)
+}
+
+fn assert_table(rt: &impl Abort, alloc: Global, table: &str) {
+    let table = spelled(alloc, table).expect(rt, NO_MEMORY);
+    for row in table.split("# ").skip(1) {
+        assert_replay(rt, alloc, row);
+    }
+}
+
+#[test]
+fn each_schedule_prints_what_it_should(rt: HostRuntime) {
+    for table in [PLAIN, SECOND, SESSIONS, REFUSED] {
+        assert_table(&rt, rt.alloc(), table);
+    }
+}
+
+/// Devices that fail in mid-stream.
+#[rattlefmt::skip]
+const FAILING: &[Row] = &[
+    ("the first read", Case { reads: &[1], piece: 1, ..EXCHANGE }, "read fault", b""),
+    ("the read of the last line feed", Case { reads: &[188], piece: 1, ..EXCHANGE }, "read fault", b""),
+    ("the read at the end", Case { reads: &[189], piece: 1, ..EXCHANGE }, "read fault", b"6 wall 5197 5603 at 5400\n"),
+    ("the first write", Case { writes: &[1], piece: 1, ..EXCHANGE }, "write fault", b""),
+    ("the third write", Case { writes: &[3], piece: 1, ..EXCHANGE }, "write fault", b"6 "),
+    ("the second write of 10 bytes", Case { writes: &[2], piece: 10, ..EXCHANGE }, "write fault", b"6 wall 519"),
+];
+
+#[test]
+fn what_was_read_before_a_fault_is_carried_out(rt: HostRuntime) {
+    assert_rows(&rt, rt.alloc(), FAILING);
+}
+
+const COMPANION: &str = "css-schedule 2 plain 0 -30 1\ncompanion 1 0 0 urn:x -\n";
+
+/// What a schedule begins with, a line and the length to which it is filled up, the rest of the schedule, and how a
+/// replay of it ends.
+#[rattlefmt::skip]
+const LONG: [(&str, &str, usize, &str, &str); 6] = [
+    ("", "css-schedule 1 plain 0 -30 0 0 ", 4094, " -\n", "done"),
+    ("", "css-schedule 1 plain 0 -30 0 0 ", 4095, " -\n", "line 1: long"),
+    ("css-schedule 2 plain 0 -30 1\n", "companion 1 0 0 urn:x ", 4352, "\n", "done"),
+    ("css-schedule 2 plain 0 -30 1\n", "companion 1 0 0 urn:x ", 4353, "\n", "line 2: long"),
+    (COMPANION, "0 0 0 0 programme dvb://", 4352, "\n0 0 1 0 open cii\n", "done"),
+    (COMPANION, "0 0 0 0 programme dvb://", 4353, "\n0 0 1 0 open cii\n", "line 3: long"),
+];
+
+/// A line that is filled up to this length, between the others.
+fn filled(
+    alloc: Global,
+    before: &str,
+    line: &str,
+    length: usize,
+    after: &str,
+) -> Result<String, AllocError> {
+    let filling = "a".repeat(alloc, length.saturating_sub(line.len()))?;
+    format!(in alloc; "{before}{line}{filling}{after}")
+}
+
+#[test]
+fn a_line_has_at_most_so_many_bytes(rt: HostRuntime) {
+    for (before, line, length, after, ended) in LONG {
+        let text = filled(rt.alloc(), before, line, length, after).expect(&rt, NO_MEMORY);
+        let case = Case {
+            words: "replay",
+            input: text.as_bytes(),
+            ..BLANK
+        };
+        assert_run(&rt, rt.alloc(), line, &case, ended, b"");
+    }
+}

@@ -1,0 +1,160 @@
+//! Runs of the program over devices in memory.
+
+use crate::outside::{SILENT, World, script_of};
+use css_app::{Status, run};
+use css_drive::{Before, Listens, Nobody};
+use css_follow::{Cues, Meter};
+use css_memory::{MemoryOutside, MemorySink, MemorySource, MemorySpawner};
+use css_num::Memory;
+use css_outside::{Outside, Sink, Source, Spawner};
+use std::alloc::Global;
+use std::process::Abort;
+
+/// A run: its words, its input, its devices, and which of their calls fail, counted from 1.
+#[derive(Clone, Copy)]
+pub struct Case<'a> {
+    /// The words, separated by spaces. Without bytes there are none.
+    pub words: &'static str,
+    pub input: &'a [u8],
+    /// How many bytes a call of the source or of the sink takes at most.
+    pub piece: usize,
+    pub world: World,
+    /// How the children end.
+    pub children: &'a [i32],
+    pub reads: &'a [u64],
+    pub writes: &'a [u64],
+    /// Those of the outside.
+    pub calls: &'a [u64],
+    /// Those of the spawner.
+    pub spawns: &'a [u64],
+}
+
+/// A run without words, over devices that never fail and to which nothing comes.
+pub const BLANK: Case<'static> = Case {
+    words: "",
+    input: b"",
+    piece: 4096,
+    world: SILENT,
+    children: &[],
+    reads: &[],
+    writes: &[],
+    calls: &[],
+    spawns: &[],
+};
+
+/// One exchange, of 188 bytes.
+pub const EXCHANGE: Case<'static> = Case {
+    words: "replay",
+    input: b"css-schedule 1 plain 0 -30 0 0 urn:dvb:css:timeline:pts -
+1000 4800 1000 ask 1000
+1200 5000 1200 take 1 5000
+1400 5200 1400 give 1 5200
+1600 5400 1600 land 1 1600
+1600 5400 1600 wall 1600
+",
+    ..BLANK
+};
+
+/// A name, a run, its status in words, and what it prints.
+pub type Row = (&'static str, Case<'static>, &'static str, &'static [u8]);
+
+fn words_of(alloc: Global, line: &str) -> Result<Vec<String>, Memory> {
+    let mut words = Vec::new(alloc);
+    if line.is_empty() {
+        return Ok(words);
+    }
+    for word in line.split(' ') {
+        words.push(word.to_string(alloc)?)?;
+    }
+    Ok(words)
+}
+
+/// Runs these words. It promises nothing, so that no test has what `run` promises in its context.
+fn status_of<S: Source, K: Sink, O: Outside, P: Spawner, F: Listens>(
+    alloc: Global,
+    words: &[String],
+    source: &mut S,
+    sink: &mut K,
+    outside: &mut O,
+    spawner: &mut P,
+    followers: &mut F,
+) -> Status {
+    run(alloc, words, source, sink, outside, spawner, followers)
+}
+
+/// How a run of a command line ends, in words.
+fn ended<S: Source, K: Sink, O: Outside, P: Spawner, F: Listens>(
+    alloc: Global,
+    line: &str,
+    source: &mut S,
+    sink: &mut K,
+    outside: &mut O,
+    spawner: &mut P,
+    followers: &mut F,
+) -> Result<String, Memory> {
+    let words = words_of(alloc, line)?;
+    let status = status_of(alloc, &words, source, sink, outside, spawner, followers);
+    Ok(format!(in alloc; "{status}")?)
+}
+
+/// What is told when memory runs out.
+pub const NO_MEMORY: &str = "no memory";
+
+/// Makes a run with these followers. Its status in words, and what it printed.
+pub fn run_with<F: Listens>(
+    rt: &impl Abort,
+    alloc: Global,
+    case: &Case<'_>,
+    followers: &mut F,
+) -> (String, Vec<u8>) {
+    let piece = case.piece.max(1);
+    let mut source = MemorySource::new(alloc, case.input, piece, case.reads).expect(rt, NO_MEMORY);
+    let mut sink = MemorySink::new(alloc, piece, case.writes).expect(rt, NO_MEMORY);
+    let script = script_of(alloc, &case.world, case.calls).expect(rt, NO_MEMORY);
+    let mut outside = MemoryOutside::new(alloc, script).expect(rt, NO_MEMORY);
+    let mut spawner = MemorySpawner::new(alloc, case.children, case.spawns).expect(rt, NO_MEMORY);
+    let ended = ended(
+        alloc,
+        case.words,
+        &mut source,
+        &mut sink,
+        &mut outside,
+        &mut spawner,
+        followers,
+    )
+    .expect(rt, NO_MEMORY);
+    (ended, sink.bytes().to_vec(alloc).expect(rt, NO_MEMORY))
+}
+
+/// Makes a run with the followers of the program.
+fn run_case(rt: &impl Abort, alloc: Global, case: &Case<'_>) -> (String, Vec<u8>) {
+    let mut followers = Before {
+        first: Cues::new(alloc),
+        rest: Before {
+            first: Meter::new(alloc),
+            rest: Nobody,
+        },
+    };
+    run_with(rt, alloc, case, &mut followers)
+}
+
+/// Makes a run, which leaves this.
+pub fn assert_run(
+    rt: &impl Abort,
+    alloc: Global,
+    name: &str,
+    case: &Case<'_>,
+    ended: &str,
+    printed: &[u8],
+) {
+    let (told, output) = run_case(rt, alloc, case);
+    assert_eq!(rt; told.as_str(), ended, "{name}: {}", case.words);
+    assert_eq!(rt; output.as_slice(), printed, "{name}: {}", case.words);
+}
+
+/// Makes the run of each row.
+pub fn assert_rows(rt: &impl Abort, alloc: Global, rows: &[Row]) {
+    for (name, case, ended, printed) in rows {
+        assert_run(rt, alloc, name, case, ended, printed);
+    }
+}

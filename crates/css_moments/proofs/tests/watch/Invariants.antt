@@ -1,7 +1,0 @@
-use Rattle.std.proofs.Common.{◌<◌}
-use Rattle.std.specs.Option.{ForSome}
-use Rattle.css_moments.proofs.tests.watch.Given as goal
-
--- the next line comes after the last one
-abbrev pub invariant-loop-line : goal.invariant-loop-line
-invariant-loop-line g l = ForSome l.watched.drift.last (λ last. last.line < l.line)

@@ -1,6 +1,0 @@
-use Rattle.std.proofs.Common.{◌≤◌, ◌*◌}
-use Rattle.css_span.proofs.tests.compare_all.Given as goal
-
--- the next answer lands later
-abbrev pub invariant-loop-i : goal.invariant-loop-i
-invariant-loop-i g l = l.estimate.floor ≤ 1000 * l.i

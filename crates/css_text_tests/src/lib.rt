@@ -1,5 +1,0 @@
-//! Tests of the public calls of `css_text`.
-#![tactic(auto)]
-
-#[cfg(test)]
-mod tests;

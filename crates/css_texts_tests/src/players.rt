@@ -1,0 +1,367 @@
+//! The television's player.
+ghost use Rattle.std.specs.Prelude.{◌≤◌};
+
+use css_num::{Control, Rate};
+use css_player::{Command, Player, PlayerFault, Segment};
+use std::alloc::Global;
+use std::process::Abort;
+use std::test::Fail;
+
+const PTS: &[u8] = b"urn:dvb:css:timeline:pts";
+
+const STAMPS: Rate = Rate {
+    units_per_tick: 1,
+    units_per_second: 90_000,
+};
+
+const OTHER: &[u8] = b"urn:x:1";
+
+const FILM: Rate = Rate {
+    units_per_tick: 1,
+    units_per_second: 25,
+};
+
+/// The greatest position and the greatest base tick either way.
+const FAR: i64 = 100_000_000_000_000_000;
+
+/// The greatest reading.
+const LAST: u64 = 4_294_967_295_999_999_999;
+
+/// The content time, the wall time and the speed of a timeline's control timestamp, where it is available.
+fn told(player: &Player, selector: &[u8]) -> Option<(i64, u64, i32)> {
+    match player.control(b"dvb", selector) {
+        Control::Available {
+            content,
+            wall,
+            speed,
+        } => Some((content, wall, speed)),
+        Control::Unavailable => None,
+    }
+}
+
+/// What comes of a command.
+fn did(player: &mut Player, command: Command, reading: u64) -> Result<(), PlayerFault>
+    requires { reading ≤ LAST }
+{
+    player.command(command, reading)
+}
+
+/// What comes of a timeline of 25 ticks a second.
+fn added(player: &mut Player, alloc: Global, programme: u32, base: i64) -> Result<(), PlayerFault> {
+    player.add_timeline(alloc, programme, OTHER, FILM, base)
+}
+
+/// A player of the programme `dvb://1` with a PTS timeline.
+fn loaded(rt: &impl Abort, alloc: Global) -> Player {
+    let mut player = Player::new(alloc);
+    assert!(rt; player.add_programme(alloc, b"dvb://1") == Ok(1));
+    assert!(rt; player.add_timeline(alloc, 1, PTS, STAMPS, 900_000) == Ok(()));
+    player
+}
+
+/// A command, its reading, what comes of it, and the control timestamp after it.
+type Step = (
+    Command,
+    u64,
+    Result<(), PlayerFault>,
+    Option<(i64, u64, i32)>,
+);
+
+#[rattlefmt::skip]
+const STEPS: [Step; 17] = [
+    (Command::Speed(65), 0, Err(PlayerFault::NoProgramme), None),
+    (Command::Change(0), 0, Err(PlayerFault::NoProgramme), None),
+    (Command::Change(1), 5_000_000_000, Ok(()), Some((900_000, 5_000_000_000, 1))),
+    (Command::Speed(0), 5_020_000_000, Ok(()), Some((901_800, 5_020_000_000, 0))),
+    (Command::Seek(-1), 6_000_000_000, Ok(()), Some((899_999, 6_000_000_000, 0))),
+    (Command::Speed(-64), 7_000_000_000, Ok(()), Some((899_999, 7_000_000_000, -64))),
+    (Command::Speed(1), 8_000_000_000, Ok(()), Some((-4_860_001, 8_000_000_000, 1))),
+    (Command::Change(1), 0, Ok(()), Some((900_000, 0, 1))),
+    (Command::Seek(FAR), 0, Ok(()), Some((9_000_000_900_000, 0, 1))),
+    (Command::Change(0), 1, Err(PlayerFault::NoProgramme), Some((9_000_000_900_000, 0, 1))),
+    (Command::Speed(65), 1, Err(PlayerFault::Speed), Some((9_000_000_900_000, 0, 1))),
+    (Command::Speed(i32::MIN), 1, Err(PlayerFault::Speed), Some((9_000_000_900_000, 0, 1))),
+    (Command::Speed(0), 1, Err(PlayerFault::Range), Some((9_000_000_900_000, 0, 1))),
+    (Command::Seek(FAR + 1), 1, Err(PlayerFault::Range), Some((9_000_000_900_000, 0, 1))),
+    (Command::Speed(-64), 0, Ok(()), Some((9_000_000_900_000, 0, -64))),
+    (Command::Seek(-FAR), LAST, Ok(()), Some((-8_999_999_100_000, LAST, -64))),
+    (Command::Seek(FAR), LAST, Ok(()), Some((9_000_000_900_000, LAST, -64))),
+];
+
+#[test]
+fn a_command_is_done_or_refused(rt: HostRuntime) {
+    let mut player = loaded(&rt, rt.alloc());
+    for (command, reading, done, published) in STEPS {
+        assert!(rt; reading <= LAST);
+        assert!(rt; did(&mut player, command, reading) == done, "{command:?}");
+        assert!(rt; told(&player, PTS) == published, "{command:?}");
+    }
+}
+
+/// The start and the delay of what is shown, after another delay.
+fn delayed(player: &mut Player, delay: u64) -> Option<(i128, u64)>
+    requires { delay ≤ 10000000000 }
+{
+    player.delay(delay);
+    player.segment().map(|segment| (segment.at, segment.delay))
+}
+
+#[test]
+fn a_delay_turns_the_segment(rt: HostRuntime) {
+    let mut player = loaded(&rt, rt.alloc());
+    assert!(rt; delayed(&mut player, 10).is_none());
+    assert!(rt; did(&mut player, Command::Change(1), 0) == Ok(()));
+    assert!(rt; delayed(&mut player, 10) == Some((10, 10)));
+    assert!(rt; told(&player, PTS) == Some((900_000, 10, 1)));
+    assert!(rt; did(&mut player, Command::Speed(2), 3) == Ok(()));
+    // It never begins before 0.
+    assert!(rt; delayed(&mut player, 6) == Some((3, 10)));
+    assert!(rt; delayed(&mut player, 7) == Some((0, 7)));
+    let greatest = delayed(&mut player, 10_000_000_000);
+    assert!(rt; greatest == Some((9_999_999_993, 10_000_000_000)));
+}
+
+/// The parts of a rate, a base tick, a media position, and its tick.
+#[rattlefmt::skip]
+const TICKS: [(u32, u32, i64, i64, i64); 5] = [
+    (1, 1_000_000_000, FAR, FAR, 2 * FAR),
+    (1_000_000_000, 1, -FAR, -FAR, -FAR - 1),
+    (1, 90_000, 0, -1, -1),
+    (1, 90_000, 0, 11_111, 0),
+    (1, 90_000, 0, 11_112, 1),
+];
+
+/// The tick at a media position of a timeline that is added to a player.
+fn tick_at(
+    rt: &impl Abort,
+    alloc: Global,
+    rate: Rate,
+    base: i64,
+    media: i64,
+) -> Result<Option<(i64, u64, i32)>, PlayerFault> {
+    let mut player = loaded(rt, alloc);
+    player.add_timeline(alloc, 1, OTHER, rate, base)?;
+    did(&mut player, Command::Change(1), 0)?;
+    did(&mut player, Command::Seek(media), 7)?;
+    assert!(rt; player.rate(OTHER) == Some(rate));
+    Ok(told(&player, OTHER))
+}
+
+#[test]
+fn ticks_stay_whole_at_any_rate(rt: HostRuntime) {
+    for (units_per_tick, units_per_second, base, media, content) in TICKS {
+        let rate = Rate::of(units_per_tick, units_per_second).expect(&rt, "a rate");
+        let control = tick_at(&rt, rt.alloc(), rate, base, media);
+        assert!(rt; control == Ok(Some((content, 7, 1))), "{content}");
+    }
+}
+
+/// A programme, a base tick, and what comes of a timeline with it where sixteen are there.
+#[rattlefmt::skip]
+const REFUSED: [(u32, i64, PlayerFault); 5] = [
+    (0, 0, PlayerFault::NoProgramme),
+    (2, FAR + 1, PlayerFault::NoProgramme),
+    (1, FAR + 1, PlayerFault::Range),
+    (1, i64::MIN, PlayerFault::Range),
+    (1, -FAR, PlayerFault::Full),
+];
+
+#[test]
+fn a_timeline_is_refused(rt: HostRuntime) {
+    let mut player = loaded(&rt, rt.alloc());
+    for _ in 1..16 {
+        assert!(rt; added(&mut player, rt.alloc(), 1, FAR) == Ok(()));
+    }
+    for (programme, base, fault) in REFUSED {
+        let refused = added(&mut player, rt.alloc(), programme, base);
+        assert!(rt; refused == Err(fault), "{programme}, {base}");
+    }
+}
+
+#[test]
+fn a_thousand_programmes_are_full(rt: HostRuntime) {
+    let mut player = Player::new(rt.alloc());
+    for number in 1..1001 {
+        assert!(rt; player.add_programme(rt.alloc(), b"dvb://1") == Ok(number));
+    }
+    assert!(rt; player.add_programme(rt.alloc(), b"") == Err(PlayerFault::Full));
+    assert!(rt; did(&mut player, Command::Change(1000), 0) == Ok(()));
+    assert!(rt; did(&mut player, Command::Change(1001), 0) == Err(PlayerFault::NoProgramme));
+}
+
+/// How many timelines are told, and the rate of the last one.
+fn timelines_told(alloc: Global, player: &Player) -> Result<Option<(usize, Rate)>, Fail> {
+    let Some(timelines) = player.timelines(alloc)? else {
+        return Ok(None);
+    };
+    let list = timelines.list();
+    Ok(list.last().map(|timeline| (list.len(), timeline.rate)))
+}
+
+/// Of two timelines with one selector the first counts.
+#[test]
+fn what_is_shown_is_told(rt: HostRuntime) -> Result<(), Fail> {
+    let mut player = loaded(&rt, rt.alloc());
+    assert!(rt; player.content_id().is_none() && player.rate(PTS).is_none());
+    assert!(rt; timelines_told(rt.alloc(), &player)?.is_none());
+    added(&mut player, rt.alloc(), 1, 7)?;
+    added(&mut player, rt.alloc(), 1, 8)?;
+    did(&mut player, Command::Change(1), 0)?;
+    assert!(rt; player.content_id() == Some(b"dvb://1".as_slice()));
+    assert!(rt; told(&player, OTHER) == Some((7, 0, 1)));
+    assert!(rt; told(&player, b"urn:x:2").is_none());
+    assert!(rt; player.control(b"dvb://1", PTS) != Control::Unavailable);
+    assert!(rt; player.control(b"dvb://12", PTS) == Control::Unavailable);
+    assert!(rt; player.control(b"//1", PTS) == Control::Unavailable);
+    let timelines = timelines_told(rt.alloc(), &player)?;
+    assert!(rt; timelines == Some((3, FILM)));
+    Ok(())
+}
+
+#[test]
+fn a_copy_goes_its_own_way(rt: HostRuntime) -> Result<(), Fail> {
+    let mut player = loaded(&rt, rt.alloc());
+    did(&mut player, Command::Change(1), 5)?;
+    let before = player.segment();
+    let copy = player.copy()?;
+    did(&mut player, Command::Speed(0), 9)?;
+    assert!(rt; copy.segment() == before);
+    player.put_back(before);
+    assert!(rt; player.segment() == before);
+    Ok(())
+}
+
+#[test]
+fn faults_have_words(rt: HostRuntime) -> Result<(), Fail> {
+    for (fault, words) in [
+        (PlayerFault::NoProgramme, "no programme"),
+        (PlayerFault::Speed, "speed"),
+        (PlayerFault::Range, "range"),
+        (PlayerFault::Full, "full"),
+        (PlayerFault::Memory, "out of memory"),
+    ] {
+        assert!(rt;
+            format!(in rt.alloc(); "{fault}")?.as_str() == words,
+            "{words}"
+        );
+    }
+    Ok(())
+}
+
+/// A plain player: what is shown now is moved on from event to event, whatever the event is.
+#[derive(Clone, Copy, PartialEq)]
+struct Plain {
+    shown: i128,
+    at: i128,
+    speed: i32,
+    programme: u32,
+    delay: u64,
+}
+
+/// The plain player after some nanoseconds.
+fn passed(plain: Plain, elapsed: i128) -> Plain {
+    let travelled = elapsed.wrapping_mul(i128::from(plain.speed));
+    Plain {
+        shown: plain.shown.wrapping_add(travelled),
+        ..plain
+    }
+}
+
+fn plain_command(plain: Option<Plain>, command: Command, reading: u64) -> Option<Plain> {
+    let at = i128::from(reading);
+    match command {
+        Command::Change(programme) if 1 <= programme && programme <= 2 => Some(Plain {
+            shown: 0,
+            at,
+            speed: 1,
+            programme,
+            delay: 0,
+        }),
+        Command::Change(_) => plain,
+        Command::Speed(speed) if -64 <= speed && speed <= 64 => {
+            plain.map(|plain| Plain { at, speed, ..plain })
+        }
+        Command::Speed(_) => plain,
+        Command::Seek(media) => plain.map(|plain| Plain {
+            shown: i128::from(media),
+            at,
+            ..plain
+        }),
+    }
+}
+
+fn plain_delay(plain: Plain, delay: u64) -> Plain {
+    let later = i128::from(delay).wrapping_sub(i128::from(plain.delay));
+    let at = plain.at.wrapping_add(later);
+    if at < 0 {
+        return plain;
+    }
+    let turned = passed(plain, later.wrapping_neg());
+    Plain {
+        at,
+        delay,
+        ..turned
+    }
+}
+
+fn drawn_command(word: u64) -> Command {
+    match word % 3 {
+        0 => Command::Change((word / 3 % 4) as u32),
+        1 => Command::Speed((word / 3 % 140) as i32 - 70),
+        _ => Command::Seek((word / 3 % 2000) as i64 - 1000),
+    }
+}
+
+/// Both players after one drawn event at a reading.
+fn step(player: &mut Player, plain: Option<Plain>, word: u64, reading: u64) -> Option<Plain>
+    requires { reading ≤ LAST }
+{
+    if word % 3 == 0 {
+        let delay = word / 3 % 50;
+        player.delay(delay);
+        plain.map(|plain| plain_delay(plain, delay))
+    } else {
+        let command = drawn_command(word / 3);
+        let _ = did(player, command, reading);
+        plain_command(plain, command, reading)
+    }
+}
+
+/// The plain player of a segment at a reading.
+fn plain_of(segment: Segment, reading: u64) -> Plain {
+    let at_its_start = Plain {
+        shown: segment.media,
+        at: segment.at,
+        speed: segment.speed,
+        programme: segment.programme,
+        delay: segment.delay,
+    };
+    passed(at_its_start, i128::from(reading).wrapping_sub(segment.at))
+}
+
+fn next_word(word: u64) -> u64 {
+    word.wrapping_mul(6_364_136_223_846_793_005)
+        .wrapping_add(1_442_695_040_888_963_407)
+}
+
+/// Forty events, ten nanoseconds apart.
+fn play(rt: &impl Abort, player: &mut Player, seed: u64) {
+    let mut plain = None;
+    let mut word = seed;
+    for i in 0..40 {
+        word = next_word(word);
+        plain = plain.map(|plain| passed(plain, 10));
+        plain = step(player, plain, word >> 33, i * 10);
+        let shown = player.segment().map(|segment| plain_of(segment, i * 10));
+        assert!(rt; shown == plain, "event {i} of {seed}");
+    }
+}
+
+#[test]
+fn shows_what_a_plain_player_shows(rt: HostRuntime) {
+    for seed in 0..100 {
+        let mut player = loaded(&rt, rt.alloc());
+        assert!(rt; player.add_programme(rt.alloc(), b"dvb://2") == Ok(2));
+        play(&rt, &mut player, seed);
+    }
+}

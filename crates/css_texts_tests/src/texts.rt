@@ -1,0 +1,381 @@
+//! The readers of texts, and the writers that belong to them.
+//!
+//! A row of a table is `OUTCOME <- TEXT`. The outcome is the text that is written of the value that is read, or the
+//! fault. `NAMES` has what stands for the names of members.
+use css_cii::{CiiFault, CiiName, read_message, write_message};
+use css_num::{Control, Text};
+use css_tsmsg::{
+    Bound, Presentation, TsFault, TsName, is_same, read_control, read_presentation, read_setup,
+    write_control, write_presentation, write_setup,
+};
+use std::alloc::Global;
+use std::process::Abort;
+use std::test::Fail;
+
+/// What a text is read as.
+#[derive(Clone, Copy)]
+enum Reader {
+    Message,
+    Setup,
+    Control,
+    Presentation,
+}
+
+/// The names that tables shorten.
+const NAMES: [(&str, &str); 11] = [
+    ("A:", r#""actual":"#),
+    ("C:", r#""contentTime":"#),
+    ("E:", r#""earliest":"#),
+    ("I:", r#""contentIdStem":"#),
+    ("L:", r#""latest":"#),
+    ("N:", r#""timelineSelector":"#),
+    ("P:", r#""timelineProperties":"#),
+    ("S:", r#""timelineSpeedMultiplier":"#),
+    ("T:", r#""unitsPerTick":"#),
+    ("U:", r#""unitsPerSecond":"#),
+    ("W:", r#""wallClockTime":"#),
+];
+
+/// Texts that no reader takes.
+const NO_OBJECTS: &str = r#"not json <- 
+not json <- {
+not json <- {contentTime:"1"}
+not json <- {"a":1} x
+not json <- {"a":01}
+not json <- {"a":"\ud800"}
+not object <- []
+not object <- null
+not object <- -0
+not object <- "contentId"
+not object <- [{"contentId":"a"}]"#;
+
+const MESSAGES: &str = r#"field protocolVersion <- {"timelines":5,"teUrl":5,"protocolVersion":5}
+field mrsUrl <- {"contentId":5,"mrsUrl":[],"protocolVersion":null}
+field contentId <- {"contentIdStatus":5,"contentId":5,"wcUrl":5}
+field contentIdStatus <- {"contentIdStatus":5,"presentationStatus":5}
+field presentationStatus <- {"wcUrl":5,"presentationStatus":5}
+field wcUrl <- {"tsUrl":5,"wcUrl":5}
+field tsUrl <- {"teUrl":5,"tsUrl":5}
+field teUrl <- {"timelines":5,"teUrl":5}
+{"timelines":null} <- {"timelines":null,"private":0.2}
+{} <- {}
+{} <- {"":null,"contentid":5,"ContentId":5," contentId":5}
+{} <- {"private":{"contentId":5},"accuracy":0.2}
+{"contentId":"dvb://1.2.4"} <- {"contentId":5,"contentId":"dvb://1.2.4"}
+{"contentId":"dvb://1.2.4"} <- {"\u0063ontentId":"dvb:\/\/1.2.4"}
+field contentId <- {"contentId":"dvb://1.2.4","contentId":5}
+{"mrsUrl":null} <- {"mrsUrl":0.5}
+{"mrsUrl":"1.5 {}","teUrl":"null","tsUrl":""} <- {"teUrl":"null","tsUrl":"","mrsUrl":"1.5 {}"}
+{"contentId":"é\"\\\n日本\u0000"} <- {"contentId":"\u00e9\"\\\n日本\u0000"}
+{"mrsUrl":null,"wcUrl":"c"} <-  { "wcUrl" : "c" , "mrsUrl" : null } 
+{"timelines":null} <- {"timelines":1.5}
+{"timelines":[]} <- {"timelines": [ ] }
+{"timelines":[{P:{U:50,T:1},N:"a"},{P:{U:50,T:1},N:"a"}]} <- {"timelines":[{N:"a",P:{T:1,U:50}},{N:"a",P:{T:1,U:50}}]}
+{"timelines":[{P:{U:50,T:1},N:"a"}]} <- {"timelines":[{N:"a",P:{T:1,U:50,"accuracy":0.2}}]}
+{"timelines":[{P:{U:50,T:1},N:"a"}]} <- {"timelines":[{"private":[1],N:"a",P:{T:1.0,U:50.000}}]}
+{"timelines":[{P:{U:1000000000,T:1000000000},N:""}]} <- {"timelines":[{N:"",P:{T:1000000000,U:1000000000}}]}"#;
+
+/// Lists of timelines that are none. The entry `*` is one.
+const NO_TIMELINES: &str = r#"5
+{}
+true
+*
+[null]
+[{N:"a"}]
+[{P:{T:1,U:50}}]
+[{N:null,P:{T:1,U:50}}]
+[{N:"a",P:null}]
+[{N:"a",P:{T:1}}]
+[{N:"a",P:{U:50}}]
+[{N:"a",P:{T:1,U:-50}}]
+[{N:"a",P:{T:1000000001,U:50}}]
+[{N:"a",P:{T:1.5,U:50}}]
+[{N:"a",P:{T:1,U:"50"}}]
+[{N:"a",P:{T:1,U:99999999999999999999}}]
+[*,5]
+[{},*]"#;
+
+const SETUPS: &str = r#"{I:"dvb://",N:""} <- {N:"","private":1.5,I:"dvb://"}
+{I:"b",N:"a"} <- {I:5,I:"b",N:"a"}
+field contentIdStem <- {}
+field contentIdStem <- {N:"a"}
+field contentIdStem <- {N:5,I:5}
+field contentIdStem <- {I:"a",I:5,N:"a"}
+field contentIdStem <- {I:null,N:"a"}
+field timelineSelector <- {I:"a"}
+field timelineSelector <- {I:"a",N:0.5}"#;
+
+const CONTROLS: &str = r#"{C:null,S:null,W:"0"} <- {C:null,S:65,W:"1"}
+{C:null,S:null,W:"0"} <- {C:null,S:0.5,W:[]}
+{C:null,S:null,W:"0"} <- {C:1234567890123456789}
+{C:null,S:null,W:"0"} <- {C:"5",C:null}
+{C:"900000",S:1,W:"10000000000"} <- {W:"10000000000",S:1.0,C:"900000"}
+{C:"0",S:0,W:"0"} <- {W:"0",S:-0,C:"-0"}
+{C:"7",S:1,W:"0"} <- {W:"000",S:1,C:"007"}
+{C:"-1",S:-1,W:"1"} <- {W:"1",S:-1,C:"-1"}
+{C:"999999999999999999",S:64,W:"9223372036854775807"} <- {W:"9223372036854775807",S:64,C:"999999999999999999"}
+{C:"-999999999999999999",S:-64,W:"1"} <- {W:"1",S:-64.00,C:"-999999999999999999"}
+{C:"1",S:64,W:"9223372036854775"} <- {W:"0009223372036854775",S:64.0,C:"000000000000000001"}
+fractional <- {C:"1",S:0.5,W:"1"}
+fractional <- {C:"1",S:1000000000000000000,W:"1"}
+fractional <- {C:"1",S:null,W:"1","b":0.5}
+fractional <- {C:5,S:null,"b":0.5}
+fractional <- {C:"x",S:0.5,W:5}
+field contentTime <- {W:"1","b":0.5}
+field timelineSpeedMultiplier <- {C:"1",W:"1","b":0.5}
+field timelineSpeedMultiplier <- {C:"1",S:null,W:5}
+field contentTime <- {C:"",S:"1",W:5}
+field timelineSpeedMultiplier <- {C:"1",S:"1",W:5}
+field wallClockTime <- {C:"1000000000000000000",S:65,W:"-1"}
+field wallClockTime <- {C:"1",S:1,W:"-0"}
+field wallClockTime <- {C:"1",S:1}
+field contentTime <- {}
+range contentTime <- {C:"1000000000000000000",S:65,W:"9223372036854775808"}
+range contentTime <- {C:"0000000000000000000",S:1,W:"1"}
+range contentTime <- {C:"-0000000000000000001",S:99,W:"1"}
+range timelineSpeedMultiplier <- {C:"1",S:65,W:"9223372036854775808"}
+range timelineSpeedMultiplier <- {C:"1",S:-65,W:"1"}
+range wallClockTime <- {C:"1",S:1,W:"9223372036854775808"}
+range wallClockTime <- {C:"1",S:1,W:"10000000000000000000"}
+range wallClockTime <- {C:"1",S:1,W:"00000000000000000001"}"#;
+
+const PRESENTATIONS: &str =
+    r#"{E:{C:"9",W:"10"},L:{C:"9",W:"11"}} <- {E:{C:"9",W:"10"},L:{C:"9",W:"11"}}
+{E:{C:"9",W:"10"},L:{C:"0",W:"1"}} <- {L:{C:"0",W:"1"},A:null,E:{C:"9",W:"10"}}
+{A:{C:"7",W:"8"},E:{C:"9",W:"10"},L:{C:"0",W:"1"}} <- {E:{C:"9",W:"10"},L:{C:"0",W:"1"},"b":0.5,A:{W:"8",C:"7"}}
+{E:{C:"9",W:"minusinfinity"},L:{C:"0",W:"plusinfinity"}} <- {E:{C:"9",W:"minusinfinity"},L:{C:"0",W:"plusinfinity"}}
+{E:{C:"7",W:"0"},L:{C:"0",W:"1"}} <- {E:{C:"007","private":[],W:"000"},L:{C:"-0",W:"1"},A:0.5}
+{E:{C:"999999999999999999",W:"9223372036854775807"},L:{C:"-1",W:"0"}} <- {L:{C:"-1",W:"0"},
+  E:{C:"999999999999999999",W:"9223372036854775807"}}
+field earliest <- {}
+field earliest <- {A:5,E:null,L:5}
+field earliest <- {E:{C:"9",W:"plusinfinity"},L:5}
+field latest <- {A:5,E:{C:"9",W:"10"},L:null}
+field latest <- {A:5,E:{C:"9",W:"10"},L:{C:"9",W:"minusinfinity"}}
+field actual <- {A:{C:"9",W:"minusinfinity"},E:{C:"9",W:"minusinfinity"},L:{C:"9",W:"10"}}
+field actual <- {A:{C:"9",W:"plusinfinity"},E:{C:"9",W:"10"},L:{C:"9",W:"plusinfinity"}}
+field latest <- {E:{C:"1000000000000000000",W:"1"},L:5}
+field actual <- {A:5,E:{C:"1000000000000000000",W:"1"},L:{C:"1000000000000000000",W:"1"}}
+range earliest <- {A:{C:"1000000000000000000",W:"1"},
+  E:{C:"1000000000000000000",W:"1"},L:{C:"1000000000000000000",W:"1"}}
+range earliest <- {E:{C:"-0000000000000000001",W:"minusinfinity"},L:{C:"9",W:"10"}}
+range latest <- {A:{C:"1",W:"00000000000000000000"},E:{C:"9",W:"10"},L:{C:"1",W:"00000000000000000000"}}
+range latest <- {E:{C:"9",W:"10"},L:{C:"1000000000000000000",W:"plusinfinity"}}
+range actual <- {A:{C:"1000000000000000000",W:"99999999999999999999"},E:{C:"9",W:"10"},L:{C:"9",W:"10"}}"#;
+
+/// A text with a member whose value is written `@`, and the fault of a value that has another form.
+type Place = (Reader, &'static str, &'static str);
+
+#[rattlefmt::skip]
+const WORDS_AT: [Place; 10] = [
+    (Reader::Message, r#"{"protocolVersion":@}"#, "field protocolVersion"),
+    (Reader::Message, r#"{"mrsUrl":@}"#, "field mrsUrl"),
+    (Reader::Message, r#"{"contentId":@}"#, "field contentId"),
+    (Reader::Message, r#"{"contentIdStatus":@}"#, "field contentIdStatus"),
+    (Reader::Message, r#"{"presentationStatus":@}"#, "field presentationStatus"),
+    (Reader::Message, r#"{"wcUrl":@}"#, "field wcUrl"),
+    (Reader::Message, r#"{"tsUrl":@}"#, "field tsUrl"),
+    (Reader::Message, r#"{"teUrl":@}"#, "field teUrl"),
+    (Reader::Setup, r#"{I:@,N:"a"}"#, "field contentIdStem"),
+    (Reader::Setup, r#"{I:"",N:@}"#, "field timelineSelector"),
+];
+
+#[rattlefmt::skip]
+const TIMES_AT: [Place; 8] = [
+    (Reader::Control, r#"{C:@,S:1,W:"1"}"#, "field contentTime"),
+    (Reader::Control, r#"{C:"1",S:1,W:@}"#, "field wallClockTime"),
+    (Reader::Presentation, r#"{E:{C:@,W:"1"},L:{C:"9",W:"10"}}"#, "field earliest"),
+    (Reader::Presentation, r#"{E:{C:"1",W:@},L:{C:"9",W:"10"}}"#, "field earliest"),
+    (Reader::Presentation, r#"{A:5,E:{C:"9",W:"10"},L:{C:@,W:"1"}}"#, "field latest"),
+    (Reader::Presentation, r#"{A:5,E:{C:"9",W:"10"},L:{C:"1",W:@}}"#, "field latest"),
+    (Reader::Presentation, r#"{A:{C:@,W:"1"},E:{C:"9",W:"10"},L:{C:"9",W:"10"}}"#, "field actual"),
+    (Reader::Presentation, r#"{A:{C:"1",W:@},E:{C:"9",W:"10"},L:{C:"9",W:"10"}}"#, "field actual"),
+];
+
+const TIMELINES_AT: Place = (Reader::Message, r#"{"timelines":@}"#, "field timelines");
+
+/// Values of other forms than words.
+const NO_WORDS: &str = r#"5
+-0
+true
+[]
+["1"]
+{}"#;
+
+/// Words that are no time.
+const NO_TIMES: &str = r#"""
+"+1"
+"1.0"
+"1 "
+"a"
+"0x1"
+"null"
+"infinity"
+"٣""#;
+
+fn message_outcome(alloc: Global, text: &[u8]) -> Result<Text, Fail> {
+    match read_message(alloc, text) {
+        Ok(change) => Ok(write_message(alloc, &change)?),
+        Err(fault) => Ok(Text::of(alloc, format!(in alloc; "{fault}")?.as_bytes())?),
+    }
+}
+
+fn ts_fault(alloc: Global, fault: TsFault) -> Result<Text, Fail> {
+    Ok(Text::of(alloc, format!(in alloc; "{fault}")?.as_bytes())?)
+}
+
+fn setup_outcome(alloc: Global, text: &[u8]) -> Result<Text, Fail> {
+    match read_setup(alloc, text) {
+        Ok(setup) => Ok(write_setup(alloc, &setup)?),
+        Err(fault) => ts_fault(alloc, fault),
+    }
+}
+
+fn control_outcome(alloc: Global, text: &[u8]) -> Result<Text, Fail> {
+    match read_control(alloc, text) {
+        Ok(control) => Ok(write_control(alloc, &control)?),
+        Err(fault) => ts_fault(alloc, fault),
+    }
+}
+
+fn presentation_outcome(alloc: Global, text: &[u8]) -> Result<Text, Fail> {
+    match read_presentation(alloc, text) {
+        Ok(presentation) => Ok(write_presentation(alloc, &presentation)?),
+        Err(fault) => ts_fault(alloc, fault),
+    }
+}
+
+/// What is written of what a text is read as, or the fault.
+fn outcome(alloc: Global, reader: Reader, text: &[u8]) -> Result<Text, Fail> {
+    match reader {
+        Reader::Message => message_outcome(alloc, text),
+        Reader::Setup => setup_outcome(alloc, text),
+        Reader::Control => control_outcome(alloc, text),
+        Reader::Presentation => presentation_outcome(alloc, text),
+    }
+}
+
+/// The text with the names in place of what stands for them.
+fn with_names(alloc: Global, short: &str) -> Result<String, Fail> {
+    let mut text = String::from_str(alloc, short)?;
+    for (letter, name) in &NAMES {
+        text = text.replace(alloc, letter, name)?;
+    }
+    Ok(text)
+}
+
+fn check(
+    rt: &impl Abort,
+    alloc: Global,
+    reader: Reader,
+    text: &str,
+    expected: &str,
+) -> Result<(), Fail> {
+    let text = with_names(alloc, text)?;
+    let expected = with_names(alloc, expected)?;
+    let told = outcome(alloc, reader, text.as_bytes())?;
+    assert!(rt; told.bytes() == expected.as_bytes(), "{text}");
+    Ok(())
+}
+
+fn check_rows(rt: &impl Abort, alloc: Global, reader: Reader, table: &str) -> Result<(), Fail> {
+    let rows = table.replace(alloc, "\n  ", "")?;
+    for row in rows.lines() {
+        let (expected, text) = row.split_once(" <- ").ok_or("a row without an arrow")?;
+        check(rt, alloc, reader, text, expected)?;
+    }
+    Ok(())
+}
+
+#[test]
+fn each_text_is_read_or_refused(rt: HostRuntime) -> Result<(), Fail> {
+    check_rows(&rt, rt.alloc(), Reader::Message, MESSAGES)?;
+    check_rows(&rt, rt.alloc(), Reader::Setup, SETUPS)?;
+    check_rows(&rt, rt.alloc(), Reader::Control, CONTROLS)?;
+    check_rows(&rt, rt.alloc(), Reader::Presentation, PRESENTATIONS)
+}
+
+#[test]
+fn texts_that_are_no_object_are_refused(rt: HostRuntime) -> Result<(), Fail> {
+    check_rows(&rt, rt.alloc(), Reader::Message, NO_OBJECTS)?;
+    check_rows(&rt, rt.alloc(), Reader::Setup, NO_OBJECTS)?;
+    check_rows(&rt, rt.alloc(), Reader::Control, NO_OBJECTS)?;
+    check_rows(&rt, rt.alloc(), Reader::Presentation, NO_OBJECTS)
+}
+
+/// Each of the values is refused at the place.
+fn check_place(rt: &impl Abort, alloc: Global, place: &Place, values: &str) -> Result<(), Fail> {
+    let (reader, text, fault) = *place;
+    for value in values.lines() {
+        let text = text.replace(alloc, "@", value)?;
+        check(rt, alloc, reader, text.as_str(), fault)?;
+    }
+    Ok(())
+}
+
+#[test]
+fn words_of_other_forms_are_refused(rt: HostRuntime) -> Result<(), Fail> {
+    for place in &WORDS_AT {
+        check_place(&rt, rt.alloc(), place, NO_WORDS)?;
+    }
+    Ok(())
+}
+
+#[test]
+fn times_of_other_forms_are_refused(rt: HostRuntime) -> Result<(), Fail> {
+    for place in &TIMES_AT {
+        check_place(&rt, rt.alloc(), place, NO_WORDS)?;
+        check_place(&rt, rt.alloc(), place, NO_TIMES)?;
+    }
+    Ok(())
+}
+
+#[test]
+fn lists_of_other_forms_are_refused(rt: HostRuntime) -> Result<(), Fail> {
+    let lists = NO_TIMELINES.replace(rt.alloc(), "*", r#"{N:"a",P:{T:1,U:50}}"#)?;
+    check_place(&rt, rt.alloc(), &TIMELINES_AT, lists.as_str())
+}
+
+const CONTROL: Control = Control::Available {
+    content: 900_000,
+    wall: 10_000_000_000,
+    speed: 1,
+};
+
+#[test]
+fn times_are_read_as_values(rt: HostRuntime) -> Result<(), Fail> {
+    let text = with_names(rt.alloc(), r#"{C:"900000",W:"10000000000",S:1.0}"#)?;
+    assert!(rt; read_control(rt.alloc(), text.as_bytes()) == Ok(CONTROL));
+    assert!(rt; is_same(&CONTROL, &CONTROL));
+    assert!(rt; !is_same(&CONTROL, &Control::Unavailable));
+    let text = r#"{E:{C:"900000",W:"10040000000"},L:{C:"900001",W:"plusinfinity"}}"#;
+    let text = with_names(rt.alloc(), text)?;
+    let presentation = Presentation {
+        earliest: Bound::At {
+            content: 900_000,
+            wall: 10_040_000_000,
+        },
+        latest: Bound::PlusInfinity { content: 900_001 },
+        actual: None,
+    };
+    assert!(rt; read_presentation(rt.alloc(), text.as_bytes()) == Ok(presentation));
+    Ok(())
+}
+
+#[test]
+fn a_setup_is_read_as_a_value(rt: HostRuntime) -> Result<(), Fail> {
+    let text = with_names(rt.alloc(), r#"{N:"urn:dvb:css:timeline:pts",I:"dvb://"}"#)?;
+    let setup = read_setup(rt.alloc(), text.as_bytes())?;
+    assert!(rt; setup.stem.bytes() == b"dvb://".as_slice());
+    assert!(rt; setup.selector.bytes() == b"urn:dvb:css:timeline:pts".as_slice());
+    Ok(())
+}
+
+#[test]
+fn want_of_memory_and_names_are_told(rt: HostRuntime) -> Result<(), Fail> {
+    let told = format!(in rt.alloc(); "{}; {}", CiiFault::Memory, CiiName::TsUrl)?;
+    assert!(rt; told.as_str() == "out of memory; tsUrl");
+    let told = format!(in rt.alloc(); "{}; {}", TsFault::Memory, TsName::Actual)?;
+    assert!(rt; told.as_str() == "out of memory; actual");
+    Ok(())
+}

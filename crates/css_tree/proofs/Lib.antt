@@ -1,0 +1,5 @@
+pub mod Converted
+pub mod Enclosing
+pub mod Forests
+pub mod Paths
+pub mod Stepwise

@@ -1,0 +1,4 @@
+pub mod Conversions
+pub mod Trees
+pub mod FaultWords
+pub use Rattle.css_clock.specs.Ticks
