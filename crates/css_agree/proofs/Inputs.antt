@@ -1,14 +1,14 @@
 -- The answers of lines declare what is in range.
-use Rattle.std.proofs.Common.{◌≡◌, ℕ, suc, ◌+◌, ◌<◌, ◌≤◌, arith, refl, Bool, true, false, List, [], ◌∷◌}
+use Rattle.std.proofs.Common.{ℕ, suc, ◌+◌, ◌<◌, ◌≤◌, arith, Bool, true, false, List, [], ◌∷◌}
 use Rattle.std.specs.Prelude.{if◌then◌else◌, int_lt, pos, negsuc, ⊤, bytes_eq, codes, Result, Ok, Err, IfOk}
 use Rattle.std.proofs.lemmas.List.Elements.{All-nil, All-cons}
 use Rattle.css_model.specs.Numbers.{max_error}
 use Rattle.css_model.specs.WallClock.{Answer, Local, scaled_width}
 use Rattle.css_span.specs.Frontiers.{Answers}
-use Rattle.css_schedule.proofs.Steps.{Front, First, Gets, pass, after, ok-range, number-range}
+use Rattle.css_schedule.proofs.Steps.{First, Gets, pass, after, number-range}
 use Rattle.css_schedule.specs.declared.fault.LineFault.{LineFault}
 use Rattle.css_schedule.specs.declared.fault.LineFault.TheVariants.{Form}
-use Rattle.css_schedule.specs.Words.{word_at, number_at, signed_at, all_read, words_of}
+use Rattle.css_schedule.specs.Words.{word_at, signed_at, all_read, words_of}
 use Rattle.css_agree.specs.declared.input.AnswerLine.{AnswerLine}
 use Rattle.css_agree.specs.declared.input.AnswerLine.TheVariants as lines
 use Rattle.css_agree.specs.Agreeing.{Numbered, with_line, lines_after, lines_in, with_answer, after_line, answers_in}

@@ -1,5 +1,5 @@
 -- What is printed of answers keeps the promise, however a run ends.
-use Rattle.std.proofs.Common.{◌≡◌, ℕ, ◌+◌, ◌⊎◌, inl, inr, ap, sym, subst, ◌∙◌, refl, Bool, true, false}
+use Rattle.std.proofs.Common.{◌≡◌, ℕ, ◌+◌, inl, inr, ap, sym, subst, ◌∙◌, refl, Bool, true, false}
 use Rattle.std.proofs.Common.{List, [], ◌∷◌, ◌++◌, length}
 use Rattle.std.specs.Prelude.{pos, ◌-◌, nat_lt, if◌then◌else◌, Option, Some, None, Result, Ok, Err}
 use Rattle.std.proofs.lemmas.List.{append_assoc, append-nil}
@@ -7,7 +7,7 @@ use Rattle.css_model.specs.WallClock.{Local}
 use Rattle.css_span.specs.Frontiers.{Answers}
 use Rattle.css_outside.specs.Bytes.{IsPrefix}
 use Rattle.css_lines.specs.Lines.{lines_of}
-use Rattle.css_lines.specs.Meaning.{Outcome, outcome, outcome_so_far, finish_outcome}
+use Rattle.css_lines.specs.Meaning.{outcome, outcome_so_far, finish_outcome}
 use Rattle.css_lines.specs.Ending.{Finishes, Stops}
 use Rattle.css_lines.specs.declared.reader.Refusal.{Refusal}
 use Rattle.css_lines.specs.declared.reader.Refusal.TheVariants.{Refused}

@@ -1,22 +1,19 @@
 -- The reader of answers stands for one text more.
-use Rattle.std.proofs.Common.{◌≡◌, ◌⊎◌, inl, inr, ℕ, suc, ◌+◌, ◌-◌, ◌<◌, ◌≤◌, arith, ap, sym, subst, ◌∙◌, refl, Bool}
+use Rattle.std.proofs.Common.{◌≡◌, ◌⊎◌, inl, inr, ℕ, suc, ◌+◌, ◌-◌, ◌≤◌, arith, ap, sym, subst, ◌∙◌, refl, Bool}
 use Rattle.std.proofs.Common.{true, false, List, [], ◌∷◌, ◌++◌, length}
-use Rattle.std.specs.Prelude.{ℤ, pos, int_lt, nat_lt, if◌then◌else◌, Option, Some, None, Result, Ok, Err, OnOk, IfOk}
-use Rattle.std.specs.Prelude.{MatchResult}
+use Rattle.std.specs.Prelude.{ℤ, pos, int_lt, nat_lt, if◌then◌else◌, Some, None, Result, Ok, Err}
 use Rattle.std.proofs.lemmas.Bool.{ltb-true, ltb-false}
-use Rattle.std.proofs.lemmas.List.{append-nil}
 use Rattle.css_model.specs.WallClock.{Answer, Local, scaled_width}
 use Rattle.css_span.specs.Frontiers.{Answers as Added}
 use Rattle.css_lines.specs.Answers.{Answers, MayFault}
 use Rattle.css_lines.specs.declared.reader.LineFault as engine
 use Rattle.css_lines.specs.declared.reader.LineFault.TheVariants as engines
-use Rattle.css_schedule.specs.declared.fault.LineFault.{LineFault}
 use Rattle.css_agree.specs.declared.input.AnswerLine.{AnswerLine}
 use Rattle.css_agree.specs.declared.reader.Cause.{Cause}
-use Rattle.css_agree.specs.declared.reader.Cause.TheVariants.{Form, Broken}
+use Rattle.css_agree.specs.declared.reader.Cause.TheVariants.{Broken}
 use Rattle.css_agree.specs.declared.reader.Agreeing.{Agreeing}
 use Rattle.css_agree.specs.Agreeing.{Numbered, with_answer, with_line, lines_after, lines_in, answers_in, line_text}
-use Rattle.css_agree.specs.Agreeing.{in_order, line_meant, read_meant, meant_after, opened, text_meant}
+use Rattle.css_agree.specs.Agreeing.{in_order, line_meant, read_meant, opened}
 use Rattle.css_agree.specs.Inputs.{reading_of, line_of, local_of}
 use Rattle.css_agree.specs.Agreements.{AgreesAt}
 use Rattle.css_agree.specs.Keeping.{Kept, StandsFor}
@@ -104,7 +101,7 @@ never_refused earlier reading fault e =
     omega (arith, ltb-true reading 0 (by-high (nat_lt reading 0) (fall earlier 0 reading) fault e))
 
 -- what is meant of a line whose reading is in order
-pub meant-ok : (own : Local) (older : List Numbered) (earlier last number : ℕ) (line : AnswerLine)
+meant-ok : (own : Local) (older : List Numbered) (earlier last number : ℕ) (line : AnswerLine)
     → IsLast older earlier last
     → order_of earlier last (reading_of line) ≡ Ok tt
     → line_meant own older number line ≡ Ok (line_text own number line (answers_in own older))
@@ -114,6 +111,13 @@ meant-ok own (now ∷ older) earlier last number line is e =
     (line_text own number line (answers_in own (now ∷ older)))
     (subst (λ (n : ℕ). order_of n (reading_of now.line) (reading_of line) ≡ Ok tt) (sym is.0)
     (subst (λ (r : ℕ). order_of earlier r (reading_of line) ≡ Ok tt) (sym is.1) e))
+
+-- so it is of a text that reads as that line
+pub meant-read : (own : Local) (older : List Numbered) (earlier last number : ℕ) (text : List ℕ) (line : AnswerLine)
+    → line_of text ≡ Ok line → IsLast older earlier last → order_of earlier last (reading_of line) ≡ Ok tt
+    → read_meant own older number (line_of text) ≡ Ok (line_text own number line (answers_in own older))
+meant-read own older earlier last number text line read is order =
+    ap (read_meant own older number) read ∙ meant-ok own older earlier last number line is order
 
 pub meant-err : (own : Local) (older : List Numbered) (earlier last number : ℕ) (line : AnswerLine)
     (fault : engine.LineFault Cause)

@@ -1,14 +1,13 @@
 -- What is printed of answers is what they say together.
-use Rattle.std.proofs.Common.{◌≡◌, ℕ, arith, refl, ap, sym, ◌∙◌, Bool, true, false, cond, List, [], ◌∷◌}
-use Rattle.std.specs.Prelude.{ℤ, ◌≤ℤ◌, ◌<ℤ◌, int_lt, if◌then◌else◌, All, Contains}
+use Rattle.std.proofs.Common.{◌≡◌, ℕ, arith, refl, ap, sym, ◌∙◌, Bool, true, false, cond, [], ◌∷◌}
+use Rattle.std.specs.Prelude.{ℤ, ◌≤ℤ◌, ◌<ℤ◌, int_lt, if◌then◌else◌, Contains}
 use Rattle.std.specs.Int.{int_max, int_min}
 use Rattle.std.proofs.lemmas.Int.{ints}
 use Rattle.std.proofs.lemmas.List.Elements.{All-nil, All-cons, All-contains, All-weaker, Contains-append_right}
 use Rattle.std.proofs.lemmas.List.Elements.{Contains-append_left, Contains-push}
 use Rattle.css_model.specs.WallClock.{Answer, Local, lo, hi}
 use Rattle.css_span.specs.Frontiers.{Answers}
-use Rattle.css_num.specs.Spans.{Interval}
-use Rattle.css_agree.specs.Agreements.{HasGreatestLow, HasLeastHigh, IsShared, LiesIn, Contradict, AgreesAt, TellsTruth}
+use Rattle.css_agree.specs.Agreements.{HasGreatestLow, HasLeastHigh, AgreesAt, TellsTruth}
 use Rattle.css_agree.specs.Agreements.{DeclareInRange}
 use Rattle.css_agree.specs.declared.agreed.Agreed.{Agreed}
 use Rattle.css_agree.specs.declared.agreed.Agreed.TheVariants.{Nothing, Within, Disagree}

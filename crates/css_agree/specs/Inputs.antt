@@ -1,5 +1,5 @@
 -- The lines of answers, as words.
-use Rattle.std.specs.Prelude.{ℕ, ℤ, ◌+◌, ◌≤◌, pos, negsuc, if◌then◌else◌, List, Result, Ok, Err, codes, bytes_eq}
+use Rattle.std.specs.Prelude.{ℕ, ◌+◌, ◌≤◌, pos, negsuc, if◌then◌else◌, List, Result, Ok, Err, codes, bytes_eq}
 use Rattle.css_model.specs.declared.TheConstants.{LIMIT}
 use Rattle.css_model.specs.Numbers.{max_error, max_local_error, max_local_precision, precision_ns}
 use Rattle.css_model.specs.WallClock.{Answer, Local}

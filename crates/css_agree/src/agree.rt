@@ -17,7 +17,7 @@ use std::marker::Model;
 ///
 /// Of each declared error it keeps two answers at most, the best at each end of the span. Contracts see the companion's
 /// own clock, what is kept, and the least reading that may be handed next.
-#[derive(Debug, Drop)]
+#[derive(Drop)]
 pub struct Agree {
     local: Local,
     kept: Vec<Best>,

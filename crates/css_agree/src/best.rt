@@ -8,7 +8,7 @@ use css_num::Memory;
 use css_span::{Answer, Local};
 
 /// The best of some answers at each end of the span. One answer may be both.
-#[derive(Clone, Copy, Debug)]
+#[derive(Clone, Copy)]
 pub(crate) struct Best {
     /// The answer whose lower end, before it is rounded, is greatest.
     pub(crate) low: Answer,

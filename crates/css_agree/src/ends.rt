@@ -43,5 +43,12 @@ fn times_difference(factor: u32, a: u64, b: u64) -> i128
     ensures value { result ≡ pos factor *ℤ (pos a -ℤ pos b) }
     ensures bound { unsigned_abs result < 2 ^ 93 }
 {
-    i128::from(factor) * (i128::from(a) - i128::from(b))
+    i128::from(factor) * difference(a, b)
+}
+
+fn difference(a: u64, b: u64) -> i128
+    ensures value { result ≡ pos a -ℤ pos b }
+    ensures bound { unsigned_abs result < 2 ^ 64 }
+{
+    i128::from(a) - i128::from(b)
 }

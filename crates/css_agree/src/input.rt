@@ -28,7 +28,7 @@ const MAX_EXPONENT: i64 = 30;
 const EXPONENT_DIGITS: u32 = 3;
 
 /// A line of answers after the header.
-#[derive(Clone, Copy, Debug, PartialEq, Eq)]
+#[derive(Clone, Copy)]
 pub enum AnswerLine {
     /// `answer T1 T2 T3 T4 K E`: an answer. Its reading is that of its landing.
     Answer(Answer),

@@ -97,6 +97,14 @@ named name words =
     else if bytes_eq name (codes "closed") then closed_of words
     else Err Form
 
+-- the same, where the name is none of the first four
+abbrev pub session_named : List ℕ → List (List ℕ) → Result RecordLine LineFault
+session_named name words =
+    if bytes_eq name (codes "cii") then cii_of words
+    else if bytes_eq name (codes "ts") then ts_of words
+    else if bytes_eq name (codes "closed") then closed_of words
+    else Err Form
+
 -- a line that is no report
 unfoldable pub line_of_words : List (List ℕ) → Result RecordLine LineFault
 line_of_words words = do

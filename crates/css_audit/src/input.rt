@@ -1,8 +1,7 @@
-ghost use Rattle.std.specs.Prelude.{◌≡◌, ◌≤◌, ◌<◌, Option, IfOk};
+ghost use Rattle.std.specs.Prelude.{◌≡◌, IfOk};
 ghost use Rattle.std.specs.List.{list_all};
 ghost use Rattle.std.specs.Option.{option_copied};
 ghost use Rattle.css_num.specs.Gives.{GivesBy};
-ghost use Rattle.css_model.specs.Numbers.{max_local_error, max_local_precision};
 ghost use Rattle.css_schedule.specs.Headers.{stem_of};
 ghost use Rattle.css_schedule.specs.Words.{words_left, Reads};
 ghost use Rattle.css_schedule.specs.declared.fault.LineFault.TheVariants as faults;
@@ -25,7 +24,7 @@ const MAX_LOCAL_ERROR: u64 = 2_560_000;
 const MAX_LOCAL_PRECISION: u64 = 1_000_000_000;
 
 /// A line of a record after its header. Readings are those of the companion's clock, in nanoseconds.
-#[derive(Debug, Drop)]
+#[derive(Drop)]
 pub enum RecordLine {
     /// `slept`: the companion slept.
     Slept,
@@ -49,8 +48,7 @@ pub enum RecordLine {
 
 // A reading in nanoseconds, below 2^32 seconds.
 fn reading<'a>(words: Words<'a>) -> Result<(u64, Words<'a>), LineFault>
-    ensures value { Reads result (inputs.reading_at (words_left words.entry)) }
-    ensures below { IfOk result (λ x. x.0 < LIMIT) }
+    ensures { Reads result (inputs.reading_at (words_left words.entry)) }
 {
     number(words, LIMIT)
 }
@@ -107,8 +105,7 @@ fn last_bytes(alloc: Global, words: Words<'_>) -> Result<Text, LineFault>
 // A reading that is the last word.
 #[tactic(auto, unfolding(crate::specs::Inputs::last_reading))]
 fn last_reading(words: Words<'_>) -> Result<u64, LineFault>
-    ensures value { GivesBy (λ x. x) faults.Memory result (inputs.last_reading (words_left words.entry)) }
-    ensures below { IfOk result (λ x. x < LIMIT) }
+    ensures { GivesBy (λ x. x) faults.Memory result (inputs.last_reading (words_left words.entry)) }
 {
     let (reading, rest) = reading(words)?;
     finish(rest)?;
@@ -117,8 +114,7 @@ fn last_reading(words: Words<'_>) -> Result<u64, LineFault>
 
 #[tactic(auto, unfolding(crate::specs::Inputs::land_of))]
 fn land(alloc: Global, words: Words<'_>) -> Result<RecordLine, LineFault>
-    ensures value { GivesBy (λ x. x) faults.Memory result (inputs.land_of (words_left words.entry)) }
-    ensures range { IfOk result inputs.IsInRange }
+    ensures { GivesBy (λ x. x) faults.Memory result (inputs.land_of (words_left words.entry)) }
 {
     let (reading, rest) = reading(words)?;
     let bytes = last_bytes(alloc, rest)?;
@@ -127,8 +123,7 @@ fn land(alloc: Global, words: Words<'_>) -> Result<RecordLine, LineFault>
 
 // The end of a session, by its name.
 fn closed_named(name: &[u8]) -> Result<RecordLine, LineFault>
-    ensures value { GivesBy (λ x. x) faults.Memory result (inputs.closed_named name.now) }
-    ensures range { IfOk result inputs.IsInRange }
+    ensures { GivesBy (λ x. x) faults.Memory result (inputs.closed_named name.now) }
 {
     if name == b"cii".as_slice() {
         Ok(RecordLine::ClosedCii)
@@ -141,8 +136,7 @@ fn closed_named(name: &[u8]) -> Result<RecordLine, LineFault>
 
 #[tactic(auto, unfolding(crate::specs::Inputs::closed_of))]
 fn closed(words: Words<'_>) -> Result<RecordLine, LineFault>
-    ensures value { GivesBy (λ x. x) faults.Memory result (inputs.closed_of (words_left words.entry)) }
-    ensures range { IfOk result inputs.IsInRange }
+    ensures { GivesBy (λ x. x) faults.Memory result (inputs.closed_of (words_left words.entry)) }
 {
     let (name, rest) = word(words)?;
     finish(rest)?;
@@ -151,8 +145,7 @@ fn closed(words: Words<'_>) -> Result<RecordLine, LineFault>
 
 #[tactic(auto, unfolding(crate::specs::Inputs::slept_of))]
 fn slept(words: Words<'_>) -> Result<RecordLine, LineFault>
-    ensures value { GivesBy (λ x. x) faults.Memory result (inputs.slept_of (words_left words.entry)) }
-    ensures range { IfOk result inputs.IsInRange }
+    ensures { GivesBy (λ x. x) faults.Memory result (inputs.slept_of (words_left words.entry)) }
 {
     finish(words)?;
     Ok(RecordLine::Slept)
@@ -160,8 +153,7 @@ fn slept(words: Words<'_>) -> Result<RecordLine, LineFault>
 
 #[tactic(auto, unfolding(crate::specs::Inputs::turn_of))]
 fn turn(words: Words<'_>) -> Result<RecordLine, LineFault>
-    ensures value { GivesBy (λ x. x) faults.Memory result (inputs.turn_of (words_left words.entry)) }
-    ensures range { IfOk result inputs.IsInRange }
+    ensures { GivesBy (λ x. x) faults.Memory result (inputs.turn_of (words_left words.entry)) }
 {
     let reading = last_reading(words)?;
     Ok(RecordLine::Turn { reading })
@@ -169,8 +161,7 @@ fn turn(words: Words<'_>) -> Result<RecordLine, LineFault>
 
 #[tactic(auto, unfolding(crate::specs::Inputs::ask_of))]
 fn ask(words: Words<'_>) -> Result<RecordLine, LineFault>
-    ensures value { GivesBy (λ x. x) faults.Memory result (inputs.ask_of (words_left words.entry)) }
-    ensures range { IfOk result inputs.IsInRange }
+    ensures { GivesBy (λ x. x) faults.Memory result (inputs.ask_of (words_left words.entry)) }
 {
     let reading = last_reading(words)?;
     Ok(RecordLine::Ask { reading })
@@ -178,8 +169,7 @@ fn ask(words: Words<'_>) -> Result<RecordLine, LineFault>
 
 #[tactic(auto, unfolding(crate::specs::Inputs::cii_of))]
 fn cii(alloc: Global, words: Words<'_>) -> Result<RecordLine, LineFault>
-    ensures value { GivesBy (λ x. x) faults.Memory result (inputs.cii_of (words_left words.entry)) }
-    ensures range { IfOk result inputs.IsInRange }
+    ensures { GivesBy (λ x. x) faults.Memory result (inputs.cii_of (words_left words.entry)) }
 {
     let bytes = last_bytes(alloc, words)?;
     Ok(RecordLine::Cii(bytes))
@@ -187,28 +177,17 @@ fn cii(alloc: Global, words: Words<'_>) -> Result<RecordLine, LineFault>
 
 #[tactic(auto, unfolding(crate::specs::Inputs::ts_of))]
 fn ts(alloc: Global, words: Words<'_>) -> Result<RecordLine, LineFault>
-    ensures value { GivesBy (λ x. x) faults.Memory result (inputs.ts_of (words_left words.entry)) }
-    ensures range { IfOk result inputs.IsInRange }
+    ensures { GivesBy (λ x. x) faults.Memory result (inputs.ts_of (words_left words.entry)) }
 {
     let bytes = last_bytes(alloc, words)?;
     Ok(RecordLine::Ts(bytes))
 }
 
-// The line with this name and these words after it.
-#[tactic(auto, unfolding(crate::specs::Inputs::named))]
-fn named(alloc: Global, name: &[u8], words: Words<'_>) -> Result<RecordLine, LineFault>
-    ensures value { GivesBy (λ x. x) faults.Memory result (inputs.named name.now (words_left words.entry)) }
-    ensures range { IfOk result inputs.IsInRange }
+// The line with this name and these words after it, where it is one of a session.
+fn session(alloc: Global, name: &[u8], words: Words<'_>) -> Result<RecordLine, LineFault>
+    ensures { GivesBy (λ x. x) faults.Memory result (inputs.session_named name.now (words_left words.entry)) }
 {
-    if name == b"slept".as_slice() {
-        slept(words)
-    } else if name == b"turn".as_slice() {
-        turn(words)
-    } else if name == b"ask".as_slice() {
-        ask(words)
-    } else if name == b"land".as_slice() {
-        land(alloc, words)
-    } else if name == b"cii".as_slice() {
+    if name == b"cii".as_slice() {
         cii(alloc, words)
     } else if name == b"ts".as_slice() {
         ts(alloc, words)
@@ -219,11 +198,28 @@ fn named(alloc: Global, name: &[u8], words: Words<'_>) -> Result<RecordLine, Lin
     }
 }
 
+// The line with this name and these words after it.
+#[tactic(auto, unfolding(crate::specs::Inputs::named))]
+fn named(alloc: Global, name: &[u8], words: Words<'_>) -> Result<RecordLine, LineFault>
+    ensures { GivesBy (λ x. x) faults.Memory result (inputs.named name.now (words_left words.entry)) }
+{
+    if name == b"slept".as_slice() {
+        slept(words)
+    } else if name == b"turn".as_slice() {
+        turn(words)
+    } else if name == b"ask".as_slice() {
+        ask(words)
+    } else if name == b"land".as_slice() {
+        land(alloc, words)
+    } else {
+        session(alloc, name, words)
+    }
+}
+
 // A line that is no report.
 #[tactic(auto, unfolding(crate::specs::Inputs::line_of_words))]
 fn line(alloc: Global, words: Words<'_>) -> Result<RecordLine, LineFault>
-    ensures value { GivesBy (λ x. x) faults.Memory result (inputs.line_of_words (words_left words.entry)) }
-    ensures range { IfOk result inputs.IsInRange }
+    ensures { GivesBy (λ x. x) faults.Memory result (inputs.line_of_words (words_left words.entry)) }
 {
     let (name, rest) = word(words)?;
     named(alloc, name, rest)
@@ -244,13 +240,21 @@ fn are_printable(words: &[u8]) -> bool
 
 // A report of these words.
 fn report(alloc: Global, words: &[u8]) -> Result<RecordLine, LineFault>
-    ensures value { GivesBy (λ x. x) faults.Memory result (inputs.report_of words.now) }
-    ensures range { IfOk result inputs.IsInRange }
+    ensures { GivesBy (λ x. x) faults.Memory result (inputs.report_of words.now) }
 {
     if !are_printable(words) {
         return Err(LineFault::Form);
     }
     Ok(RecordLine::Report(Text::of(alloc, words)?))
+}
+
+fn any_line(alloc: Global, bytes: &[u8]) -> Result<RecordLine, LineFault>
+    ensures { GivesBy (λ x. x) faults.Memory result (inputs.line_of bytes.now) }
+{
+    match after_report(bytes) {
+        Some(words) => report(alloc, words),
+        None => line(alloc, all_words(bytes)),
+    }
 }
 
 /// Reads a line of a record after the header, without its line feed.
@@ -262,10 +266,7 @@ pub fn read_line(alloc: Global, bytes: &[u8]) -> Result<RecordLine, LineFault>
     ensures value { GivesBy (λ x. x) faults.Memory result (inputs.line_of bytes.now) }
     ensures range { IfOk result inputs.IsInRange }
 {
-    match after_report(bytes) {
-        Some(words) => report(alloc, words),
-        None => line(alloc, all_words(bytes)),
-    }
+    any_line(alloc, bytes)
 }
 
 // The stem that a word stands for: `-` for the empty one.

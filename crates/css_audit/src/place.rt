@@ -6,14 +6,14 @@ ghost use Rattle.css_audit.specs.Verdicts as verdicts;
 use crate::fault::AuditFault;
 
 /// The last reading of a record, in nanoseconds, and the number of its line.
-#[derive(Clone, Copy, Debug)]
+#[derive(Clone, Copy)]
 pub(crate) struct LastReading {
     pub(crate) line: u64,
     pub(crate) reading: u64,
 }
 
 /// Where an audit stands in a record.
-#[derive(Clone, Copy, Debug)]
+#[derive(Clone, Copy)]
 pub(crate) struct Place {
     /// How many lines were taken, the header among them.
     pub(crate) lines: u64,

@@ -1,8 +1,8 @@
+use crate::common::{check, check_that};
 use css_address::Kind::{self, Cii, Ts, Wc};
 use css_address::{AddressFault, LONGEST_ADDRESS, address};
 use std::alloc::Global;
 use std::process::Abort;
-use std::test::Fail;
 
 /// A kind, a text, and the host, port and path of its address.
 type Row = (Kind, &'static [u8], &'static str, u16, &'static str);
@@ -24,13 +24,13 @@ const ADDRESSES: [Row; 14] = [
     (Ts, b"ws://h/a/../t s/\xc3\xa9", "h", 80, "/t%20s/%C3%A9"),
 ];
 
-fn assert_address(rt: &impl Abort, alloc: Global, row: &Row) -> Result<(), Fail> {
-    let (kind, text, host, port, path) = row;
-    let given = address(alloc, *kind, text)?;
-    assert!(rt; given.host.bytes() == host.as_bytes(), "{text:?}");
-    assert!(rt; given.port == *port, "{text:?}");
-    assert!(rt; given.path.bytes() == path.as_bytes(), "{text:?}");
-    Ok(())
+fn check_addresses(rt: &impl Abort, alloc: Global, rows: &[Row]) {
+    for (kind, text, host, port, path) in rows {
+        let given = address(alloc, *kind, text).expect(rt, "an address");
+        check(rt, given.host.bytes(), host.as_bytes());
+        check(rt, given.path.bytes(), path.as_bytes());
+        check_that(rt, given.port == *port, "the port");
+    }
 }
 
 const NO_ADDRESSES: [(Kind, &[u8]); 15] = [
@@ -51,29 +51,27 @@ const NO_ADDRESSES: [(Kind, &[u8]); 15] = [
     (Ts, b"ws://tv.local/\xff"),
 ];
 
-fn assert_bad(rt: &impl Abort, alloc: Global, kind: Kind, text: &[u8]) {
-    let fault = address(alloc, kind, text).err();
-    assert!(rt; fault == Some(AddressFault::Bad), "{text:?}");
+fn check_no_addresses(rt: &impl Abort, alloc: Global, rows: &[(Kind, &[u8])]) {
+    for (kind, text) in rows {
+        let fault = address(alloc, *kind, text).err();
+        assert!(rt; fault == Some(AddressFault::Bad), "{text:?}");
+    }
 }
 
 #[test]
-fn a_url_gives_an_address_or_none(rt: HostRuntime) -> Result<(), Fail> {
-    for row in &ADDRESSES {
-        assert_address(&rt, rt.alloc(), row)?;
-    }
-    for (kind, text) in &NO_ADDRESSES {
-        assert_bad(&rt, rt.alloc(), *kind, text);
-    }
-    Ok(())
+fn a_url_gives_an_address_or_none(rt: HostRuntime) {
+    check_addresses(&rt, rt.alloc(), &ADDRESSES);
+    check_no_addresses(&rt, rt.alloc(), &NO_ADDRESSES);
 }
 
 #[test]
-fn a_text_has_a_greatest_length(rt: HostRuntime) -> Result<(), Fail> {
+fn a_text_has_a_greatest_length(rt: HostRuntime) {
     for (more, is_address) in [(0, true), (1, false)] {
-        let path = "a".repeat(rt.alloc(), LONGEST_ADDRESS - 7 + more)?;
-        let text = format!(in rt.alloc(); "ws://h/{path}")?;
+        let path = "a"
+            .repeat(rt.alloc(), LONGEST_ADDRESS - 7 + more)
+            .expect(&rt, "memory");
+        let text = format!(in rt.alloc(); "ws://h/{path}").expect(&rt, "memory");
         let given = address(rt.alloc(), Kind::Ts, text.as_bytes());
-        assert!(rt; given.is_ok() == is_address, "{more}");
+        check_that(&rt, given.is_ok() == is_address, "the length");
     }
-    Ok(())
 }

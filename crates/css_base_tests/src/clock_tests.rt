@@ -1,4 +1,5 @@
 use self::Call::{Available, Clock, Convert, Root, Set, Value};
+use crate::common::check_that;
 use css_clock::{Correlated, Root as RootClock, Tick};
 use css_num::{Rate, Span};
 use css_tree::ClockFault::{
@@ -6,7 +7,6 @@ use css_tree::ClockFault::{
 };
 use css_tree::Tree;
 use std::process::Abort;
-use std::test::Fail;
 
 /// A call of a forest.
 #[derive(Clone, Copy, Debug)]
@@ -46,8 +46,7 @@ fn add(
     speed: i32,
     (parent_ticks, child_ticks): (i64, i64),
 ) -> Answer {
-    assert!(rt; -64 <= speed);
-    assert!(rt; speed <= 64);
+    assert!(rt; -64 <= speed && speed <= 64);
     let id = tree.add(parent, rate(rt, own), speed, parent_ticks, child_ticks)?;
     Ok(twice(i64::from(id)))
 }
@@ -59,8 +58,7 @@ fn set(
     speed: i32,
     (parent_ticks, child_ticks): (i64, i64),
 ) -> Answer {
-    assert!(rt; -64 <= speed);
-    assert!(rt; speed <= 64);
+    assert!(rt; -64 <= speed && speed <= 64);
     tree.set(id, speed, parent_ticks, child_ticks)?;
     DONE
 }
@@ -232,34 +230,38 @@ const FAULTS: [(Call, Answer); 36] = [
 
 #[test]
 fn calls_of_forests_are_answered(rt: HostRuntime) {
-    let tables: [&[(Call, Answer)]; 5] = [&FRAMES, &BRANCHES, &RATES, &ENDS, &FAULTS];
-    for rows in tables {
-        check(&rt, &mut Tree::new(rt.alloc()), rows);
-    }
+    check(&rt, &mut Tree::new(rt.alloc()), &FRAMES);
+    check(&rt, &mut Tree::new(rt.alloc()), &BRANCHES);
+    check(&rt, &mut Tree::new(rt.alloc()), &RATES);
+    check(&rt, &mut Tree::new(rt.alloc()), &ENDS);
+    check(&rt, &mut Tree::new(rt.alloc()), &FAULTS);
 }
 
 #[test]
 fn a_forest_has_a_greatest_depth_and_size(rt: HostRuntime) {
     let mut tree = Tree::new(rt.alloc());
-    assert!(rt; answer(&rt, &mut tree, Root((1, 1))) == DONE);
+    let root = Root((1, 1));
+    check_that(&rt, answer(&rt, &mut tree, root) == DONE, "a root");
     for parent in 0..16 {
         let added = answer(&rt, &mut tree, Clock(parent, (1, 1), 1, (0, 0)));
-        assert!(rt; added.is_ok(), "{parent}");
+        check_that(&rt, added.is_ok(), "a clock");
     }
-    let deeper = answer(&rt, &mut tree, Clock(16, (1, 1), 1, (0, 0)));
-    assert!(rt; deeper == Err(Deep));
-    for id in 17..4096 {
-        assert!(rt; answer(&rt, &mut tree, Root((1, 1))).is_ok(), "{id}");
+    let deeper = Clock(16, (1, 1), 1, (0, 0));
+    check_that(&rt, answer(&rt, &mut tree, deeper) == Err(Deep), "too deep");
+    for _ in 17..4096 {
+        check_that(&rt, answer(&rt, &mut tree, root).is_ok(), "a root more");
     }
-    assert!(rt; answer(&rt, &mut tree, Root((1, 1))) == Err(Full));
-    let deeper = answer(&rt, &mut tree, Clock(16, (1, 1), 1, (0, 0)));
-    assert!(rt; deeper == Err(Full));
+    check_that(&rt, answer(&rt, &mut tree, root) == Err(Full), "too many");
+    check_that(
+        &rt,
+        answer(&rt, &mut tree, deeper) == Err(Full),
+        "too many before too deep",
+    );
 }
 
 /// A timeline of 90,000 ticks a second that reads 900,000 ten seconds after the wall clock's 0.
 fn timeline(rt: &impl Abort, speed: i32) -> Correlated<RootClock> {
-    assert!(rt; -64 <= speed);
-    assert!(rt; speed <= 64);
+    assert!(rt; -64 <= speed && speed <= 64);
     Correlated {
         parent: RootClock {
             rate: rate(rt, (1, 1_000_000_000)),
@@ -283,19 +285,21 @@ fn span_of<T: Tick>(rt: &impl Abort, clock: &T, lo: i128, hi: i128) -> Option<(i
     }
 }
 
+/// A speed, a span of nanoseconds, and the ticks.
+#[rattlefmt::skip]
+const TICKS: [(i32, i128, i128, Option<(i128, i128)>); 5] = [
+    (1, 10_500_000_000, 10_500_022_222, Some((945_000, 945_001))),
+    (-2, 10_500_000_000, 10_500_022_222, Some((809_996, 810_000))),
+    (0, 10_500_000_000, 10_500_022_222, Some((900_000, 900_000))),
+    (64, 0, 1 << 104, None),
+    (64, -(1 << 104), 0, None),
+];
+
 #[test]
 fn a_span_has_the_lesser_tick_first(rt: HostRuntime) {
-    let (lo, hi) = (10_500_000_000, 10_500_022_222);
-    let rows: [(i32, i128, i128, Option<(i128, i128)>); 5] = [
-        (1, lo, hi, Some((945_000, 945_001))),
-        (-2, lo, hi, Some((809_996, 810_000))),
-        (0, lo, hi, Some((900_000, 900_000))),
-        (64, 0, 1 << 104, None),
-        (64, -(1 << 104), 0, None),
-    ];
-    for (speed, lo, hi, expected) in rows {
-        let found = span_of(&rt, &timeline(&rt, speed), lo, hi);
-        assert!(rt; found == expected, "at speed {speed}");
+    for (speed, lo, hi, expected) in &TICKS {
+        let found = span_of(&rt, &timeline(&rt, *speed), *lo, *hi);
+        assert!(rt; found == *expected, "at speed {speed}");
     }
 }
 
@@ -310,9 +314,22 @@ fn clocks_stand_on_clocks(rt: HostRuntime) {
         child_ticks: 100,
     };
     let at = 10_000_000_000;
-    assert!(rt; span_of(&rt, &clock, at, at) == Some((-150, -150)));
-    assert!(rt; clock.rate() == frames);
+    check_that(
+        &rt,
+        span_of(&rt, &clock, at, at) == Some((-150, -150)),
+        "a clock",
+    );
+    check_that(&rt, clock.rate() == frames, "its rate");
     let root = RootClock { rate: frames };
-    assert!(rt; span_of(&rt, &root, 0, (1 << 126) - 1) == Some((0, (1 << 126) - 1)));
-    assert!(rt; span_of(&rt, &root, 0, 1 << 126) == None);
+    let last = (1 << 126) - 1;
+    check_that(
+        &rt,
+        span_of(&rt, &root, 0, last) == Some((0, last)),
+        "the widest span",
+    );
+    check_that(
+        &rt,
+        span_of(&rt, &root, 0, last + 1).is_none(),
+        "too wide a span",
+    );
 }

@@ -2,11 +2,11 @@
 ghost use Rattle.std.specs.Prelude.{◌<◌, ◌≤◌, pos, ◌≤ℤ◌, ◌<ℤ◌};
 
 use crate::clock_tests::{convert, rate};
+use crate::common::{check_that, next_word};
 use css_num::Rate;
 use css_tree::{ClockFault, Tree};
 use std::alloc::Global;
 use std::process::Abort;
-use std::test::Fail;
 
 /// Numbers that look drawn, and are the same at each run.
 #[derive(Drop)]
@@ -21,10 +21,7 @@ impl Draws {
         ensures low { pos 0 ≤ℤ result }
         ensures high { result <ℤ pos limit }
     {
-        self.word = self
-            .word
-            .wrapping_mul(6_364_136_223_846_793_005)
-            .wrapping_add(1_442_695_040_888_963_407);
+        self.word = next_word(self.word);
         ((self.word >> 33) % u64::from(limit)) as i32
     }
 }
@@ -37,18 +34,19 @@ fn drawn_rate(rt: &impl Abort, draws: &mut Draws) -> Rate {
 }
 
 /// A forest of one root and seven clocks, each on one before it, at speeds -2 to 2.
-fn drawn_tree(rt: &impl Abort, alloc: Global, draws: &mut Draws) -> Result<Tree, Fail> {
+fn drawn_tree(rt: &impl Abort, alloc: Global, draws: &mut Draws) -> Tree {
     let mut tree = Tree::new(alloc);
-    tree.add_root(drawn_rate(rt, draws))?;
+    tree.add_root(drawn_rate(rt, draws)).expect(rt, "a root");
     for clocks in 1..8 {
         let parent = draws.below(clocks);
         let own = drawn_rate(rt, draws);
         let speed = draws.below(5) - 2;
         let parent_ticks = i64::from(draws.below(7) - 3);
         let child_ticks = i64::from(draws.below(7) - 3);
-        tree.add(parent as u32, own, speed, parent_ticks, child_ticks)?;
+        let added = tree.add(parent as u32, own, speed, parent_ticks, child_ticks);
+        added.expect(rt, "a clock");
     }
-    Ok(tree)
+    tree
 }
 
 fn covers((lo, hi): (i128, i128), number: i64) -> bool {
@@ -63,46 +61,40 @@ fn search(
     (from, to): (u32, u32),
     span: (i128, i128),
     answer: (i128, i128),
-) -> Result<u64, ClockFault> {
+) -> u64 {
     let mut found: u64 = 0;
     for root in -40..41 {
-        if covers(span, tree.value(from, root)?) {
-            let is_covered = covers(answer, tree.value(to, root)?);
-            assert!(rt; is_covered, "{from}, {to}, at {root}");
+        if covers(span, tree.value(from, root).expect(rt, "a tick")) {
+            let is_covered = covers(answer, tree.value(to, root).expect(rt, "a tick"));
+            check_that(rt, is_covered, "a tick outside");
             found = found.saturating_add(1);
         }
     }
-    Ok(found)
+    found
 }
 
 /// Converts a drawn span between two clocks, and compares it with the search, which it counts. A clock that is stopped
 /// on the way up gives 0.
-fn compare(
-    rt: &impl Abort,
-    tree: &Tree,
-    draws: &mut Draws,
-    clocks: (u32, u32),
-) -> Result<u64, ClockFault> {
+fn compare(rt: &impl Abort, tree: &Tree, draws: &mut Draws, clocks: (u32, u32)) -> u64 {
     let lo = i64::from(draws.below(41) - 20);
     let hi = lo + i64::from(draws.below(4));
     match convert(rt, tree, clocks.0, clocks.1, (lo, hi)) {
         Ok(answer) => search(rt, tree, clocks, (i128::from(lo), i128::from(hi)), answer),
-        Err(ClockFault::Stopped(_)) => Ok(0),
-        Err(fault) => Err(fault),
+        Err(ClockFault::Stopped(_)) => 0,
+        Err(fault) => panic!(rt; "{fault:?}"),
     }
 }
 
 #[test]
-fn a_plain_search_finds_nothing_outside(rt: HostRuntime) -> Result<(), Fail> {
+fn a_plain_search_finds_nothing_outside(rt: HostRuntime) {
     let mut draws = Draws { word: 1 };
     let mut found: u64 = 0;
     for _ in 0..12 {
-        let tree = drawn_tree(&rt, rt.alloc(), &mut draws)?;
+        let tree = drawn_tree(&rt, rt.alloc(), &mut draws);
         for pair in 0..64 {
-            let more = compare(&rt, &tree, &mut draws, (pair / 8, pair % 8))?;
+            let more = compare(&rt, &tree, &mut draws, (pair / 8, pair % 8));
             found = found.saturating_add(more);
         }
     }
-    assert!(rt; found > 500, "{found}");
-    Ok(())
+    check_that(&rt, found > 500, "few are found");
 }

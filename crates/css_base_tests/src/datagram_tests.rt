@@ -1,7 +1,7 @@
+use crate::common::{check, check_that};
 use css_server::{ServeFault, Server};
 use css_wc::{Message, Stamp, WcFault, decode, encode, precision_ns, reading, stamp_of};
 use std::process::Abort;
-use std::test::Fail;
 
 /// A companion asks. The originate nanoseconds are no part of a second.
 const REQUEST: [u8; 32] = [
@@ -34,8 +34,8 @@ fn an_exchange_is_written_and_read(rt: HostRuntime) {
         receive: stamp_of(0),
         transmit: stamp_of(0),
     };
-    assert!(rt; encode(&request) == REQUEST);
-    assert!(rt; decode(&REQUEST) == Ok(request));
+    check(&rt, &encode(&request), &REQUEST);
+    check_that(&rt, decode(&REQUEST) == Ok(request), "a request");
     let response = Message {
         message_type: 1,
         precision: -30,
@@ -44,8 +44,8 @@ fn an_exchange_is_written_and_read(rt: HostRuntime) {
         receive: stamp_of(5000),
         transmit: stamp_of(5200),
     };
-    assert!(rt; encode(&response) == RESPONSE);
-    assert!(rt; decode(&RESPONSE) == Ok(response));
+    check(&rt, &encode(&response), &RESPONSE);
+    check_that(&rt, decode(&RESPONSE) == Ok(response), "a response");
 }
 
 /// A byte of the response that is another one.
@@ -95,7 +95,11 @@ fn the_first_fault_of_a_datagram_is_told(rt: HostRuntime) {
         let found = decode(&changed(changes));
         assert!(rt; found.err() == *expected, "{changes:?}");
     }
-    assert!(rt; decode(&RESPONSE[..31]) == Err(WcFault::Length));
+    check_that(
+        &rt,
+        decode(&RESPONSE[..31]) == Err(WcFault::Length),
+        "a short datagram",
+    );
 }
 
 #[test]
@@ -104,8 +108,8 @@ fn times_have_seconds_and_nanoseconds(rt: HostRuntime) {
         seconds: 12,
         nanoseconds: 34,
     };
-    assert!(rt; stamp_of(12_000_000_034) == stamp);
-    assert!(rt; reading(stamp) == 12_000_000_034);
+    check_that(&rt, stamp_of(12_000_000_034) == stamp, "a stamp");
+    check_that(&rt, reading(stamp) == 12_000_000_034, "a reading");
 }
 
 /// The exponent of a precision, and its nanoseconds.
@@ -121,44 +125,45 @@ const PRECISIONS: [(i8, u64); 6] = [
 #[test]
 fn precisions_are_rounded_up(rt: HostRuntime) {
     for (exponent, expected) in &PRECISIONS {
-        assert!(rt; *exponent <= 30);
-        assert!(rt; precision_ns(*exponent) == *expected, "{exponent}");
+        assert!(rt;
+            *exponent <= 30 && precision_ns(*exponent) == *expected,
+            "{exponent}"
+        );
     }
 }
 
 /// Takes a request at a first reading, answers it at 5200, and finds these datagrams.
-fn assert_answers(
+fn check_answers(
     rt: &impl Abort,
     server: &mut Server,
     response: &[u8; 32],
     follow_up: Option<[u8; 32]>,
-) -> Result<(), Fail> {
-    let ticket = server.receive(&REQUEST, 5000)?;
+) {
+    let ticket = server.receive(&REQUEST, 5000).expect(rt, "a ticket");
     let answered = server.answer(ticket, 5200);
-    assert!(rt; answered.response == *response);
-    assert!(rt; answered.follow_up == follow_up);
-    Ok(())
+    check(rt, &answered.response, response);
+    check_that(rt, answered.follow_up == follow_up, "the follow-up");
 }
 
 #[test]
-fn requests_are_answered(rt: HostRuntime) -> Result<(), Fail> {
+fn requests_are_answered(rt: HostRuntime) {
     let mut plain = Server::new(-30, 0, false);
-    assert_answers(&rt, &mut plain, &RESPONSE, None)?;
+    check_answers(&rt, &mut plain, &RESPONSE, None);
     // The promise has the receive value in place of the transmit value.
     let promise = changed(&[(1, 2), (30, 19), (31, 136)]);
     let follow_up = changed(&[(1, 3)]);
     let mut following = Server::new(-30, 0, true);
-    assert_answers(&rt, &mut following, &promise, Some(follow_up))?;
+    check_answers(&rt, &mut following, &promise, Some(follow_up));
     // Only a greater reading promises a follow-up.
-    assert_answers(&rt, &mut following, &RESPONSE, None)?;
-    Ok(())
+    check_answers(&rt, &mut following, &RESPONSE, None);
 }
 
 #[test]
 fn what_is_no_request_is_refused(rt: HostRuntime) {
     let mut server = Server::new(30, 25_600_000, true);
     let answer = server.receive(&RESPONSE, 5000).err();
-    assert!(rt; answer == Some(ServeFault::NotARequest));
+    check_that(&rt, answer == Some(ServeFault::NotARequest), "a response");
     let short = server.receive(&REQUEST[..31], 5000).err();
-    assert!(rt; short == Some(ServeFault::Undecodable(WcFault::Length)));
+    let length = Some(ServeFault::Undecodable(WcFault::Length));
+    check_that(&rt, short == length, "a short datagram");
 }

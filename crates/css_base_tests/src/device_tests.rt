@@ -1,25 +1,25 @@
+use crate::common::{check, check_that};
 use css_memory::{MemorySink, MemorySource, MemorySpawner, NeverFailsSpawner};
 use css_num::Text;
 use css_outside::{
     Failed, NeverFailsSink, NeverFailsSource, OutFault, Sink, Source, Spawner, write_all,
 };
 use std::process::Abort;
-use std::test::Fail;
 
 const FAILED: OutFault = OutFault::Failed;
 
 /// The room of a read, and the bytes that it gives.
 type Read = (usize, Result<&'static [u8], Failed>);
 
-fn assert_read<S: Source>(rt: &impl Abort, source: &mut S, row: &Read) {
+fn check_read<S: Source>(rt: &impl Abort, source: &mut S, (room, expected): &Read) {
     let mut into = [0u8; 8];
-    let room = row.0.min(8);
-    match (source.read(&mut into[..room]), row.1) {
+    let room = (*room).min(8);
+    match (source.read(&mut into[..room]), expected) {
         (Ok(count), Ok(bytes)) => {
-            assert!(rt; count == bytes.len(), "{bytes:?}");
-            assert!(rt; into.starts_with(bytes), "{bytes:?}");
+            let front = into.get(..count).expect(rt, "a count in the room");
+            check(rt, front, bytes);
         }
-        (given, wanted) => assert!(rt; given.is_err() && wanted.is_err(), "{wanted:?}"),
+        (given, _) => check_that(rt, given.is_err() && expected.is_err(), "a failing read"),
     }
 }
 
@@ -35,61 +35,70 @@ const READS: [Read; 8] = [
 ];
 
 #[test]
-fn a_source_gives_pieces_up_to_its_end(rt: HostRuntime) -> Result<(), Fail> {
-    let mut failing = MemorySource::new(rt.alloc(), b"abcdefg", 3, &[3, 6])?;
+fn a_source_gives_pieces_up_to_its_end(rt: HostRuntime) {
+    let mut failing = MemorySource::new(rt.alloc(), b"abcdefg", 3, &[3, 6]).expect(&rt, "memory");
     for row in &READS {
-        assert_read(&rt, &mut failing, row);
+        check_read(&rt, &mut failing, row);
     }
-    let mut plain = NeverFailsSource::new(rt.alloc(), b"abcd", 3)?;
-    assert_read(&rt, &mut plain, &(8, Ok(b"abc")));
-    assert_read(&rt, &mut plain, &(8, Ok(b"d")));
-    Ok(())
+    let mut plain = NeverFailsSource::new(rt.alloc(), b"abcd", 3).expect(&rt, "memory");
+    check_read(&rt, &mut plain, &(8, Ok(b"abc")));
+    check_read(&rt, &mut plain, &(8, Ok(b"d")));
 }
 
+/// Bytes, what a sink answers to them, and what it holds then.
+#[rattlefmt::skip]
+const WRITES: [(&[u8], Result<usize, OutFault>, &[u8]); 4] = [
+    (b"abcde", Ok(3), b"abc"),
+    (b"de", Err(FAILED), b"abc"),
+    (b"", Ok(0), b"abc"),
+    (b"de", Ok(2), b"abcde"),
+];
+
 #[test]
-fn a_sink_takes_a_piece_and_none_where_it_fails(rt: HostRuntime) -> Result<(), Fail> {
-    let mut sink = MemorySink::new(rt.alloc(), 3, &[2])?;
-    let rows: [(&[u8], Result<usize, OutFault>, &[u8]); 4] = [
-        (b"abcde", Ok(3), b"abc"),
-        (b"de", Err(FAILED), b"abc"),
-        (b"", Ok(0), b"abc"),
-        (b"de", Ok(2), b"abcde"),
-    ];
-    for (bytes, wanted, holds) in rows {
-        assert!(rt; sink.write(bytes) == wanted, "{holds:?}");
-        assert!(rt; sink.bytes() == holds, "{holds:?}");
+fn a_sink_takes_a_piece_and_none_where_it_fails(rt: HostRuntime) {
+    let mut sink = MemorySink::new(rt.alloc(), 3, &[2]).expect(&rt, "memory");
+    for (bytes, wanted, holds) in &WRITES {
+        check_that(&rt, sink.write(bytes) == *wanted, "what is taken");
+        check(&rt, sink.bytes(), holds);
     }
-    Ok(())
 }
 
 #[test]
-fn all_is_written_in_pieces(rt: HostRuntime) -> Result<(), Fail> {
-    let mut failing = MemorySink::new(rt.alloc(), 2, &[2])?;
-    assert!(rt; write_all(&mut failing, b"abcde") == Err(FAILED));
-    assert!(rt; failing.bytes() == b"ab".as_slice());
-    let mut plain = NeverFailsSink::new(rt.alloc(), 1)?;
-    assert!(rt; write_all(&mut plain, b"abc") == Ok(()));
-    assert!(rt; plain.bytes() == b"abc".as_slice());
-    Ok(())
+fn all_is_written_in_pieces(rt: HostRuntime) {
+    let mut failing = MemorySink::new(rt.alloc(), 2, &[2]).expect(&rt, "memory");
+    check_that(
+        &rt,
+        write_all(&mut failing, b"abcde") == Err(FAILED),
+        "a failing write",
+    );
+    check(&rt, failing.bytes(), b"ab");
+    let mut plain = NeverFailsSink::new(rt.alloc(), 1).expect(&rt, "memory");
+    write_all(&mut plain, b"abc").expect(&rt, "no fault");
+    check(&rt, plain.bytes(), b"abc");
 }
 
 #[test]
-fn children_end_with_their_statuses(rt: HostRuntime) -> Result<(), Fail> {
-    let mut spawner = MemorySpawner::new(rt.alloc(), &[3], &[1, 3])?;
-    assert!(rt; spawner.start(&[], b"") == Err(FAILED));
-    spawner.start(&[], b"0 speed 1")?;
-    assert!(rt; spawner.finish() == Err(FAILED));
-    assert!(rt; spawner.finish() == Ok(3));
-    spawner.start(&[], b"")?;
-    assert!(rt; spawner.finish() == Ok(0));
-    Ok(())
+fn children_end_with_their_statuses(rt: HostRuntime) {
+    let mut spawner = MemorySpawner::new(rt.alloc(), &[3], &[1, 3]).expect(&rt, "memory");
+    check_that(
+        &rt,
+        spawner.start(&[], b"") == Err(FAILED),
+        "a failing start",
+    );
+    spawner.start(&[], b"0 speed 1").expect(&rt, "a child");
+    check_that(&rt, spawner.finish() == Err(FAILED), "a failing end");
+    check_that(&rt, spawner.finish() == Ok(3), "its status");
+    spawner.start(&[], b"").expect(&rt, "a child");
+    check_that(&rt, spawner.finish() == Ok(0), "the status past the list");
 }
 
 #[test]
-fn a_spawner_that_never_fails_has_its_statuses(rt: HostRuntime) -> Result<(), Fail> {
-    let words = vec![in rt.alloc(); Text::of(rt.alloc(), b"tv")?]?;
-    let mut spawner = NeverFailsSpawner::new(rt.alloc(), &[7])?;
-    spawner.start(&words, b"")?;
-    assert!(rt; spawner.finish() == Ok(7));
-    Ok(())
+fn a_spawner_that_never_fails_has_its_statuses(rt: HostRuntime) {
+    let mut words = Vec::new(rt.alloc());
+    words
+        .push(Text::of(rt.alloc(), b"tv").expect(&rt, "memory"))
+        .expect(&rt, "memory");
+    let mut spawner = NeverFailsSpawner::new(rt.alloc(), &[7]).expect(&rt, "memory");
+    spawner.start(&words, b"").expect(&rt, "a child");
+    check_that(&rt, spawner.finish() == Ok(7), "its status");
 }

@@ -7,6 +7,8 @@ mod address_tests;
 #[cfg(test)]
 mod clock_tests;
 #[cfg(test)]
+mod common;
+#[cfg(test)]
 mod conversion_tests;
 #[cfg(test)]
 mod datagram_tests;

@@ -1,11 +1,11 @@
 ghost use Rattle.std.specs.Prelude.{◌≡◌, ◌≤◌, ◌++◌, ◌∷◌, [], OnOk, OnErr, decimal, false};
 
+use crate::common::check;
 use css_lines::{LineFault, Lines, Refusal, Stop, drive};
 use css_memory::{MemorySink, MemorySource};
 use css_outside::Memory;
 use std::alloc::Global;
 use std::process::Abort;
-use std::test::Fail;
 
 /// Why `Echo` refuses a line.
 #[derive(Clone, Copy, Debug, PartialEq)]
@@ -154,27 +154,24 @@ fn rows() -> [Row; 10] {
 /// How many bytes a read and a write take at most, and the numbers of the read and of the write that fail, or 0.
 type Faults = (usize, usize, u64, u64);
 
-fn assert_run(rt: &impl Abort, alloc: Global, row: Row, faults: Faults) -> Result<(), Memory> {
-    let (bytes, wanted, output) = row;
+fn check_run(rt: &impl Abort, alloc: Global, (bytes, wanted, output): Row, faults: Faults) {
     let (read, written, failing_read, failing_write) = faults;
-    assert!(rt; 1 <= read);
-    assert!(rt; 1 <= written);
-    let mut source = MemorySource::new(alloc, bytes, read, &[failing_read])?;
-    let mut sink = MemorySink::new(alloc, written, &[failing_write])?;
+    assert!(rt; 1 <= read && 1 <= written);
+    let source = MemorySource::new(alloc, bytes, read, &[failing_read]);
+    let mut source = source.expect(rt, "memory");
+    let mut sink = MemorySink::new(alloc, written, &[failing_write]).expect(rt, "memory");
     let ended = drive(alloc, &mut source, &mut sink, &mut Echo::new(alloc));
     assert!(rt; ended == wanted, "{bytes:?} {faults:?}");
-    assert!(rt; sink.bytes() == output, "{bytes:?} {faults:?}");
-    Ok(())
+    check(rt, sink.bytes(), output);
 }
 
 #[test]
-fn lines_are_printed_up_to_a_refusal(rt: HostRuntime) -> Result<(), Fail> {
+fn lines_are_printed_up_to_a_refusal(rt: HostRuntime) {
     for row in rows() {
         for piece in [1, 5, 100] {
-            assert_run(&rt, rt.alloc(), row, (piece, piece, 0, 0))?;
+            check_run(&rt, rt.alloc(), row, (piece, piece, 0, 0));
         }
     }
-    Ok(())
 }
 
 /// Which call fails in a run over two lines, how the run ends, and what it prints. A read fails at the first byte, at a
@@ -191,9 +188,8 @@ const FAULTS: [(Faults, Stop<Cause>, &[u8]); 8] = [
 ];
 
 #[test]
-fn a_fault_leaves_what_was_written(rt: HostRuntime) -> Result<(), Fail> {
+fn a_fault_leaves_what_was_written(rt: HostRuntime) {
     for (faults, stop, output) in FAULTS {
-        assert_run(&rt, rt.alloc(), (b"ab\ncd", Err(stop), output), faults)?;
+        check_run(&rt, rt.alloc(), (b"ab\ncd", Err(stop), output), faults);
     }
-    Ok(())
 }

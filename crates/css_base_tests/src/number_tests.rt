@@ -1,9 +1,9 @@
+use crate::common::{check, check_that};
 use css_num::{
     Rate, Span, Text, Timeline, Timelines, ceil_div, fits, floor_div, image, signed_number,
     whole_number,
 };
 use std::process::Abort;
-use std::test::Fail;
 
 const LIMIT: i128 = 1 << 126;
 
@@ -20,8 +20,7 @@ const QUOTIENTS: [Quotient; 5] = [
 
 fn check_quotient(rt: &impl Abort, row: &Quotient) {
     let (a, b, expected) = *row;
-    assert!(rt; 0 < b);
-    assert!(rt; a.unsigned_abs() < 1 << 126);
+    assert!(rt; 0 < b && a.unsigned_abs() < 1 << 126);
     let found = (floor_div(a, b), ceil_div(a, b));
     assert!(rt; found == expected, "{a} / {b}");
 }
@@ -61,8 +60,7 @@ const IMAGES: [Image; 9] = [
 
 fn image_of(rt: &impl Abort, row: &Image) -> Option<(i128, i128)> {
     let ((lo, hi), num, den, _) = *row;
-    assert!(rt; lo <= hi);
-    assert!(rt; 0 < den);
+    assert!(rt; lo <= hi && 0 < den);
     let span = Span { lo, hi };
     if fits(span, num) {
         let image = image(span, num, den);
@@ -127,29 +125,29 @@ fn signed_numbers_have_one_spelling_each(rt: HostRuntime) {
 }
 
 #[test]
-fn bytes_and_numbers_are_appended(rt: HostRuntime) -> Result<(), Fail> {
-    let mut text = Text::of(rt.alloc(), b"from ")?;
-    text.push_number(i128::MIN)?;
-    text.push(b" to \xff")?;
-    text.push_number(i128::MAX)?;
+fn bytes_and_numbers_are_appended(rt: HostRuntime) {
+    let mut text = Text::of(rt.alloc(), b"from ").expect(&rt, "memory");
+    text.push_number(i128::MIN).expect(&rt, "memory");
+    text.push(b" to \xff").expect(&rt, "memory");
+    text.push_number(i128::MAX).expect(&rt, "memory");
     let expected =
         b"from -170141183460469231731687303715884105728 to \xff170141183460469231731687303715884105727";
-    assert!(rt; text.bytes() == expected.as_slice());
-    assert!(rt; text.clone()? == text);
-    Ok(())
+    check(&rt, text.bytes(), expected);
+    let copy = text.clone().expect(&rt, "memory");
+    check(&rt, copy.bytes(), expected);
 }
 
 #[test]
-fn a_list_of_timelines_is_copied(rt: HostRuntime) -> Result<(), Fail> {
+fn a_list_of_timelines_is_copied(rt: HostRuntime) {
     let mut list = Vec::new(rt.alloc());
-    list.push(Timeline {
-        selector: Text::of(rt.alloc(), b"urn:dvb:css:timeline:pts")?,
-        rate: Rate::of(1, 90_000).ok_or("no rate")?,
-    })?;
+    let timeline = Timeline {
+        selector: Text::of(rt.alloc(), b"urn:dvb:css:timeline:pts").expect(&rt, "memory"),
+        rate: Rate::of(1, 90_000).expect(&rt, "a rate"),
+    };
+    list.push(timeline).expect(&rt, "memory");
     let timelines = Timelines::of(list);
-    assert!(rt; timelines.list().len() == 1);
-    assert!(rt; timelines.clone()? == timelines);
-    Ok(())
+    let copy = timelines.clone().expect(&rt, "memory");
+    check_that(&rt, copy == timelines && copy.list().len() == 1, "a copy");
 }
 
 /// The parts of a rate, and whether they are in range.
@@ -164,9 +162,7 @@ const RATES: [(u32, u32, bool); 5] = [
 #[test]
 fn both_parts_of_a_rate_are_in_range(rt: HostRuntime) {
     for (tick, second, in_range) in &RATES {
-        assert!(rt;
-            Rate::of(*tick, *second).is_some() == *in_range,
-            "{tick}, {second}"
-        );
+        let rate = Rate::of(*tick, *second);
+        assert!(rt; rate.is_some() == *in_range, "{tick}, {second}");
     }
 }

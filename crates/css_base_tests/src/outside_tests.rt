@@ -1,5 +1,5 @@
 //! What the outsides in memory give, in the order of their lists and past the ends of these.
-ghost use Rattle.std.specs.Prelude.{◌≡◌, IfOk, IsTrue};
+ghost use Rattle.std.specs.Prelude.{◌≡◌, IsTrue};
 ghost use Rattle.css_memory.specs.Scripts.{are_readings, are_sessions};
 
 use css_memory::{Datagram, MemoryOutside, NeverFailsOutside, OutsideScript, SessionHeard};
@@ -7,7 +7,6 @@ use css_num::Text;
 use css_outside::{Address, Clocked, Heard, Kind, OutFault, Outside, Why, Wrote};
 use std::alloc::Global;
 use std::process::Abort;
-use std::test::Fail;
 
 const FAILED: OutFault = OutFault::Failed;
 
@@ -74,55 +73,49 @@ fn gives<O: Outside>(outside: &mut O, to: &Address, call: Call) -> bool {
 }
 
 /// Makes the calls in turn, each to the same address.
-fn assert_calls<O: Outside>(
-    rt: &impl Abort,
-    alloc: Global,
-    outside: &mut O,
-    calls: &[Call],
-) -> Result<(), Fail> {
+fn check_calls<O: Outside>(rt: &impl Abort, alloc: Global, outside: &mut O, calls: &[Call]) {
     let to = Address {
-        host: Text::of(alloc, b"127.0.0.1")?,
+        host: text(rt, alloc, b"127.0.0.1"),
         port: 6677,
-        path: Text::of(alloc, b"/cii")?,
+        path: text(rt, alloc, b"/cii"),
     };
     for call in calls {
         assert!(rt; gives(outside, &to, *call), "{call:?}");
     }
-    Ok(())
 }
 
-fn datagram(alloc: Global, peer: u32, bytes: &[u8]) -> Result<Option<Datagram>, Fail> {
-    Ok(Some(Datagram {
-        peer,
-        bytes: Text::of(alloc, bytes)?,
-    }))
-}
-
-fn text(alloc: Global, session: u32, words: &[u8]) -> Result<SessionHeard, Fail> {
-    Ok(SessionHeard {
-        session,
-        heard: Heard::Text(Text::of(alloc, words)?),
-    })
+fn text(rt: &impl Abort, alloc: Global, words: &[u8]) -> Text {
+    Text::of(alloc, words).expect(rt, "memory")
 }
 
 /// What sessions are to tell, by their numbers.
-fn texts(alloc: Global) -> Result<Vec<SessionHeard>, Fail> {
+fn texts(rt: &impl Abort, alloc: Global) -> Vec<SessionHeard> {
     let mut texts = Vec::new(alloc);
-    texts.push(text(alloc, 2, b"second")?)?;
-    texts.push(text(alloc, 1, b"first")?)?;
-    texts.push(SessionHeard {
-        session: 1,
-        heard: Heard::Closed,
-    })?;
-    Ok(texts)
+    for (session, words) in [(2, b"second".as_slice()), (1, b"first".as_slice())] {
+        let heard = Heard::Text(text(rt, alloc, words));
+        texts
+            .push(SessionHeard { session, heard })
+            .expect(rt, "memory");
+    }
+    let (session, heard) = (1, Heard::Closed);
+    texts
+        .push(SessionHeard { session, heard })
+        .expect(rt, "memory");
+    texts
 }
 
-fn datagrams(alloc: Global) -> Result<Vec<Option<Datagram>>, Fail> {
+fn datagrams(rt: &impl Abort, alloc: Global) -> Vec<Option<Datagram>> {
     let mut datagrams = Vec::new(alloc);
-    datagrams.push(datagram(alloc, 9, &[7; 80])?)?;
-    datagrams.push(None)?;
-    datagrams.push(datagram(alloc, 8, b"ab")?)?;
-    Ok(datagrams)
+    let (peer, bytes) = (9, text(rt, alloc, &[7; 80]));
+    datagrams
+        .push(Some(Datagram { peer, bytes }))
+        .expect(rt, "memory");
+    datagrams.push(None).expect(rt, "memory");
+    let (peer, bytes) = (8, text(rt, alloc, b"ab"));
+    datagrams
+        .push(Some(Datagram { peer, bytes }))
+        .expect(rt, "memory");
+    datagrams
 }
 
 const READINGS: [Clocked; 2] = [
@@ -139,19 +132,19 @@ const READINGS: [Clocked; 2] = [
 const OPENINGS: [Option<Kind>; 3] = [Some(Kind::Cii), None, Some(Kind::Ts)];
 
 /// A script with two of each, and these calls that fail.
-fn script(alloc: Global, fails: &[u64]) -> Result<OutsideScript, Fail>
-    ensures readings { IfOk result (λ script. IsTrue (are_readings 0 script.readings.items)) }
-    ensures openings { IfOk result (λ script. IsTrue (are_sessions script.openings.items)) }
-    ensures fails { IfOk result (λ script. script.fails.items ≡ fails.now) }
+fn script(rt: &impl Abort, alloc: Global, fails: &[u64]) -> OutsideScript
+    ensures readings { IsTrue (are_readings 0 result.readings.items) }
+    ensures openings { IsTrue (are_sessions result.openings.items) }
+    ensures fails { result.fails.items ≡ fails.now }
 {
-    Ok(OutsideScript {
-        readings: READINGS.to_vec(alloc)?,
-        datagrams: datagrams(alloc)?,
-        openings: OPENINGS.to_vec(alloc)?,
-        texts: texts(alloc)?,
-        gone: vec![in alloc; 2]?,
-        fails: fails.to_vec(alloc)?,
-    })
+    OutsideScript {
+        readings: READINGS.to_vec(alloc).expect(rt, "memory"),
+        datagrams: datagrams(rt, alloc),
+        openings: OPENINGS.to_vec(alloc).expect(rt, "memory"),
+        texts: texts(rt, alloc),
+        gone: [2].to_vec(alloc).expect(rt, "memory"),
+        fails: fails.to_vec(alloc).expect(rt, "memory"),
+    }
 }
 
 const CALLS: [Call; 26] = [
@@ -185,9 +178,10 @@ const CALLS: [Call; 26] = [
 ];
 
 #[test]
-fn an_outside_gives_what_its_script_says(rt: HostRuntime) -> Result<(), Fail> {
-    let mut plain = NeverFailsOutside::new(rt.alloc(), script(rt.alloc(), &[])?)?;
-    assert_calls(&rt, rt.alloc(), &mut plain, &CALLS)
+fn an_outside_gives_what_its_script_says(rt: HostRuntime) {
+    let script = script(&rt, rt.alloc(), &[]);
+    let mut plain = NeverFailsOutside::new(rt.alloc(), script).expect(&rt, "memory");
+    check_calls(&rt, rt.alloc(), &mut plain, &CALLS);
 }
 
 /// Each call fails first and is made again.
@@ -213,8 +207,8 @@ const FAILING: [Call; 18] = [
 ];
 
 #[test]
-fn calls_fail_by_their_numbers_and_take_nothing(rt: HostRuntime) -> Result<(), Fail> {
-    let odd = [1, 3, 5, 7, 9, 11, 13, 15, 17];
-    let mut failing = MemoryOutside::new(rt.alloc(), script(rt.alloc(), &odd)?)?;
-    assert_calls(&rt, rt.alloc(), &mut failing, &FAILING)
+fn calls_fail_by_their_numbers_and_take_nothing(rt: HostRuntime) {
+    let script = script(&rt, rt.alloc(), &[1, 3, 5, 7, 9, 11, 13, 15, 17]);
+    let mut failing = MemoryOutside::new(rt.alloc(), script).expect(&rt, "memory");
+    check_calls(&rt, rt.alloc(), &mut failing, &FAILING);
 }

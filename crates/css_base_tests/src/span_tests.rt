@@ -1,9 +1,9 @@
 ghost use Rattle.std.specs.Prelude.{◌<◌, ◌≤◌};
 
+use crate::common::{check_that, next_word};
 use css_span::{AcceptFault, Answer, Estimate, Local, Span, scaled_width, span};
 use std::alloc::Global;
 use std::process::Abort;
-use std::test::Fail;
 
 const EXACT: Local = Local {
     error: 0,
@@ -36,44 +36,62 @@ fn answer_at(t3: u64, error: u32) -> Answer
     }
 }
 
-/// The ends of the span at a reading, where there is one.
-fn ends_at(rt: &impl Abort, estimate: &Estimate, reading: u64) -> Option<(i128, i128)>
+/// Finds these ends of the span at a reading.
+fn check_at(rt: &impl Abort, estimate: &Estimate, reading: u64, expected: Option<(i128, i128)>)
     requires range { reading < 5000000000 }
     requires floor { estimate.now.floor ≤ reading }
 {
-    let span = estimate.at(reading)?;
-    assert!(rt; span.lo <= span.hi);
-    Some((span.lo, span.hi))
+    let ends = estimate.at(reading).map(|span| (span.lo, span.hi));
+    assert!(rt; ends == expected, "at {reading}");
 }
 
 #[test]
 fn an_impossible_answer_changes_nothing(rt: HostRuntime) {
     let mut estimate = Estimate::new(rt.alloc(), EXACT);
     let impossible = Err(AcceptFault::Impossible(-394 * WHOLE_SQUARED));
-    assert!(rt; estimate.accept(answer_at(6000, 0), 1600) == impossible);
-    assert!(rt; ends_at(&rt, &estimate, 1600) == None);
-    assert!(rt; estimate.accept(answer_at(5200, 0), 1600) == Ok(()));
-    assert!(rt; estimate.accept(answer_at(6000, 0), 1600) == impossible);
-    assert!(rt; ends_at(&rt, &estimate, 1600) == Some((5197, 5603)));
+    let accepted = estimate.accept(answer_at(6000, 0), 1600);
+    check_that(&rt, accepted == impossible, "impossible");
+    check_at(&rt, &estimate, 1600, None);
+    estimate
+        .accept(answer_at(5200, 0), 1600)
+        .expect(&rt, "possible");
+    let accepted = estimate.accept(answer_at(6000, 0), 1600);
+    check_that(&rt, accepted == impossible, "impossible again");
+    check_at(&rt, &estimate, 1600, Some((5197, 5603)));
 }
 
 #[test]
 fn both_errors_widen_a_span(rt: HostRuntime) {
     let answer = answer_at(5200, 128_000);
     let unit: i128 = 16_384_000_000;
-    assert!(rt; scaled_width(&answer, &FAIR, 1600) == 1_626_400_798 * unit);
-    assert!(rt; scaled_width(&answer, &FAIR, 1_000_001_600) == 8_001_626_400_798 * unit);
+    check_that(
+        &rt,
+        scaled_width(&answer, &FAIR, 1600) == 1_626_400_798 * unit,
+        "its width",
+    );
+    let later = scaled_width(&answer, &FAIR, 1_000_001_600);
+    check_that(
+        &rt,
+        later == 8_001_626_400_798 * unit,
+        "its width a second later",
+    );
     let mut estimate = Estimate::new(rt.alloc(), FAIR);
-    assert!(rt; estimate.accept(answer, 1600) == Ok(()));
-    assert!(rt; ends_at(&rt, &estimate, 1600) == Some((5197, 5604)));
-    let later = ends_at(&rt, &estimate, 1_000_001_600);
-    assert!(rt; later == Some((999_005_696, 1_001_006_104)));
+    estimate.accept(answer, 1600).expect(&rt, "possible");
+    check_at(&rt, &estimate, 1600, Some((5197, 5604)));
+    check_at(
+        &rt,
+        &estimate,
+        1_000_001_600,
+        Some((999_005_696, 1_001_006_104)),
+    );
 }
 
 #[test]
 fn a_smaller_error_wins_later(rt: HostRuntime) {
     let mut estimate = Estimate::new(rt.alloc(), EXACT);
-    assert!(rt; estimate.accept(answer_at(5200, 256_000), 1600) == Ok(()));
+    estimate
+        .accept(answer_at(5200, 256_000), 1600)
+        .expect(&rt, "possible");
     let second = Answer {
         t1: 2000,
         t2: 6000,
@@ -82,11 +100,15 @@ fn a_smaller_error_wins_later(rt: HostRuntime) {
         precision: 1,
         error: 0,
     };
-    assert!(rt; estimate.accept(second, 4000) == Ok(()));
-    assert!(rt; ends_at(&rt, &estimate, 701_300) == Some((704_197, 706_004)));
-    assert!(rt; ends_at(&rt, &estimate, 701_301) == Some((703_498, 705_304)));
-    assert!(rt; estimate.kept() == 2);
-    assert!(rt; estimate.greatest_error() == 256_000);
+    estimate.accept(second, 4000).expect(&rt, "possible");
+    check_at(&rt, &estimate, 701_300, Some((704_197, 706_004)));
+    check_at(&rt, &estimate, 701_301, Some((703_498, 705_304)));
+    check_that(&rt, estimate.kept() == 2, "both are kept");
+    check_that(
+        &rt,
+        estimate.greatest_error() == 256_000,
+        "the greatest error",
+    );
 }
 
 /// The narrowest of all answers, of equals the first.
@@ -120,7 +142,7 @@ fn plain_at(answers: &[Answer], local: &Local, reading: u64) -> Option<Span>
     }
 }
 
-fn assert_same(rt: &impl Abort, estimate: &Estimate, plain: &[Answer], local: &Local, reading: u64)
+fn check_same(rt: &impl Abort, estimate: &Estimate, plain: &[Answer], local: &Local, reading: u64)
     requires range { reading < 5000000000 }
     requires floor { estimate.now.floor ≤ reading }
 {
@@ -136,20 +158,20 @@ fn compare(
     local: &Local,
     answer: Answer,
     landed: u64,
-) -> Result<(), Fail>
+)
     requires range { landed < 1000000 }
     requires floor { estimate.old.floor ≤ landed }
     ensures next { estimate.new.floor ≤ landed }
 {
     let is_possible = scaled_width(&answer, local, landed) >= 0;
-    assert!(rt; estimate.accept(answer, landed).is_ok() == is_possible);
+    let accepted = estimate.accept(answer, landed);
+    check_that(rt, accepted.is_ok() == is_possible, "an answer");
     if is_possible {
-        plain.push(answer)?;
+        plain.push(answer).expect(rt, "memory");
     }
     for later in [0, 700, 300_000, 4_000_000_000] {
-        assert_same(rt, estimate, plain, local, landed + later);
+        check_same(rt, estimate, plain, local, landed + later);
     }
-    Ok(())
 }
 
 /// An answer of one of four errors, which took one of eight times under way, and was late at the television or not.
@@ -168,14 +190,19 @@ fn drawn(word: u64, asked: u64) -> Answer
     }
 }
 
-fn compare_all(rt: &impl Abort, alloc: Global, local: Local) -> Result<(), Fail> {
+#[test]
+fn keeps_what_a_plain_scan_finds(rt: HostRuntime) {
+    for local in [EXACT, FAIR] {
+        compare_all(&rt, rt.alloc(), local);
+    }
+}
+
+fn compare_all(rt: &impl Abort, alloc: Global, local: Local) {
     let mut estimate = Estimate::new(alloc, local);
     let mut plain = Vec::new(alloc);
-    let mut word: u64 = 1;
+    let mut word = 1;
     for i in 1..200 {
-        word = word
-            .wrapping_mul(6_364_136_223_846_793_005)
-            .wrapping_add(1_442_695_040_888_963_407);
+        word = next_word(word);
         let answer = drawn(word >> 33, i * STEP);
         compare(
             rt,
@@ -184,15 +211,11 @@ fn compare_all(rt: &impl Abort, alloc: Global, local: Local) -> Result<(), Fail>
             &local,
             answer,
             i * STEP + 500,
-        )?;
+        );
     }
-    assert!(rt; estimate.kept() == 4);
-    assert!(rt; plain.len() > 100);
-    Ok(())
-}
-
-#[test]
-fn keeps_what_a_plain_scan_finds(rt: HostRuntime) -> Result<(), Fail> {
-    compare_all(&rt, rt.alloc(), EXACT)?;
-    compare_all(&rt, rt.alloc(), FAIR)
+    check_that(
+        rt,
+        estimate.kept() == 4 && plain.len() > 100,
+        "what is kept",
+    );
 }

@@ -1,4 +1,4 @@
-use css_num::Memory;
+use crate::common::{check, check_that};
 use css_text::{
     Field, Map, TextFault, field_of, list, member, object, read_object, rewrite_numerals,
     write_value,
@@ -6,7 +6,6 @@ use css_text::{
 use serde_json::json;
 use std::alloc::Global;
 use std::process::Abort;
-use std::test::Fail;
 
 /// One text a line, behind what it reads as: `json` and `object` for the faults of these names, or how many of its
 /// numerals are odd.
@@ -91,7 +90,7 @@ fn odd(alloc: Global, bytes: &[u8]) -> Result<u32, TextFault> {
     Ok(read.odd)
 }
 
-fn assert_odd(rt: &impl Abort, alloc: Global, bytes: &[u8], expected: Result<u32, TextFault>) {
+fn check_odd(rt: &impl Abort, alloc: Global, bytes: &[u8], expected: Result<u32, TextFault>) {
     assert!(rt; odd(alloc, bytes) == expected, "{bytes:?}");
 }
 
@@ -104,12 +103,11 @@ fn expected(word: &str) -> Result<u32, TextFault> {
 }
 
 #[test]
-fn each_text_is_read_or_refused(rt: HostRuntime) -> Result<(), Fail> {
+fn each_text_is_read_or_refused(rt: HostRuntime) {
     for line in TEXTS.lines() {
-        let (word, text) = line.split_once(' ').ok_or("a line without its word")?;
-        assert_odd(&rt, rt.alloc(), text.as_bytes(), expected(word));
+        let (word, text) = line.split_once(' ').expect(&rt, "a word");
+        check_odd(&rt, rt.alloc(), text.as_bytes(), expected(word));
     }
-    Ok(())
 }
 
 /// Texts with other bytes, and how many of their numerals are odd.
@@ -131,7 +129,7 @@ const BYTES: [(&[u8], Result<u32, TextFault>); 12] = [
 #[test]
 fn bytes_beyond_printed_ascii_are_read_or_refused(rt: HostRuntime) {
     for (bytes, expected) in &BYTES {
-        assert_odd(&rt, rt.alloc(), bytes, *expected);
+        check_odd(&rt, rt.alloc(), bytes, *expected);
     }
 }
 
@@ -156,20 +154,19 @@ const LONG: [Long; 7] = [
     ("{\"a\":\"", ("1.5 ", ""), 65_536, "\"}", Ok(0)),
 ];
 
-fn long_text(alloc: Global, row: &Long) -> Result<String, Fail> {
+fn long_text(rt: &impl Abort, alloc: Global, row: &Long) -> String {
     let (before, (first, second), count, after, _) = row;
-    let mut text = first.repeat(alloc, *count)?;
-    text.push_str(&second.repeat(alloc, *count)?)?;
-    Ok(format!(in alloc; "{before}{text}{after}")?)
+    let first = first.repeat(alloc, *count).expect(rt, "memory");
+    let second = second.repeat(alloc, *count).expect(rt, "memory");
+    format!(in alloc; "{before}{first}{second}{after}").expect(rt, "memory")
 }
 
 #[test]
-fn long_texts_are_read_or_refused(rt: HostRuntime) -> Result<(), Fail> {
+fn long_texts_are_read_or_refused(rt: HostRuntime) {
     for row in &LONG {
-        let text = long_text(rt.alloc(), row)?;
+        let text = long_text(&rt, rt.alloc(), row);
         assert!(rt; odd(rt.alloc(), text.as_bytes()) == row.4, "{row:?}");
     }
-    Ok(())
 }
 
 /// A text, what it is rewritten as, and how many of its numerals are odd.
@@ -188,20 +185,19 @@ const REWRITTEN: [(&str, &str, u32); 7] = [
 ];
 
 #[test]
-fn numerals_are_rewritten_outside_strings(rt: HostRuntime) -> Result<(), Fail> {
+fn numerals_are_rewritten_outside_strings(rt: HostRuntime) {
     for (text, whole, odd) in &REWRITTEN {
-        let told = rewrite_numerals(rt.alloc(), text.as_bytes())?;
-        assert!(rt; told.text.bytes() == whole.as_bytes(), "{text}");
-        assert!(rt; told.odd == *odd, "{text}");
+        let told = rewrite_numerals(rt.alloc(), text.as_bytes()).expect(&rt, "memory");
+        check(&rt, told.text.bytes(), whole.as_bytes());
+        check_that(&rt, told.odd == *odd, text);
     }
-    Ok(())
 }
 
 /// Whether the member of this name is the words `x`.
-fn is_x(alloc: Global, map: &Map, name: &str) -> Result<bool, Memory> {
-    match field_of(alloc, map, name)? {
-        Field::Words(words) => Ok(words.bytes() == b"x".as_slice()),
-        _ => Ok(false),
+fn is_x(rt: &impl Abort, alloc: Global, map: &Map, name: &str) -> bool {
+    match field_of(alloc, map, name).expect(rt, "memory") {
+        Field::Words(words) => words.bytes() == b"x".as_slice(),
+        _ => false,
     }
 }
 
@@ -216,23 +212,28 @@ fn members_in(map: &Map, name: &str) -> Option<usize> {
 }
 
 #[test]
-fn members_are_found(rt: HostRuntime) -> Result<(), Fail> {
+fn members_are_found(rt: HostRuntime) {
     let text = br#"{"half":0.5,"list":[1,{}],"object":{"b":null},"twice":1,"twice":"x"}"#;
-    let read = read_object(rt.alloc(), text)?;
-    assert!(rt; count_in(&read.map, "list") == Some(2));
-    assert!(rt; count_in(&read.map, "object") == None);
-    assert!(rt; members_in(&read.map, "object") == Some(1));
-    assert!(rt; members_in(&read.map, "list") == None);
-    assert!(rt; is_x(rt.alloc(), &read.map, "twice")?);
-    assert!(rt; !is_x(rt.alloc(), &read.map, "half")?);
-    Ok(())
+    let map = read_object(rt.alloc(), text).expect(&rt, "an object").map;
+    check_that(&rt, count_in(&map, "list") == Some(2), "a list");
+    check_that(&rt, count_in(&map, "object").is_none(), "no list");
+    check_that(&rt, members_in(&map, "object") == Some(1), "an object");
+    check_that(&rt, members_in(&map, "list").is_none(), "no object");
+    check_that(
+        &rt,
+        is_x(&rt, rt.alloc(), &map, "twice"),
+        "the last of both",
+    );
+    check_that(&rt, !is_x(&rt, rt.alloc(), &map, "half"), "no words");
 }
 
 #[test]
-fn values_are_written_compactly(rt: HostRuntime) -> Result<(), Fail> {
-    let value = json!(in rt.alloc(); {"b": [1, null, "x\"\n", []], "a": {"d": -7, "c": {}}})?;
-    let text = write_value(rt.alloc(), &value)?;
-    let expected = br#"{"a":{"c":{},"d":-7},"b":[1,null,"x\"\n",[]]}"#;
-    assert!(rt; text.bytes() == expected.as_slice());
-    Ok(())
+fn values_are_written_compactly(rt: HostRuntime) {
+    let value = json!(in rt.alloc(); {"b": [1, null, "x\"\n", []], "a": {"d": -7, "c": {}}});
+    let text = write_value(rt.alloc(), &value.expect(&rt, "memory")).expect(&rt, "memory");
+    check(
+        &rt,
+        text.bytes(),
+        br#"{"a":{"c":{},"d":-7},"b":[1,null,"x\"\n",[]]}"#,
+    );
 }

@@ -1,9 +1,9 @@
 ghost use Rattle.std.specs.Prelude.{◌<◌, IfSome, unsigned_abs};
 
+use crate::common::{check_that, next_word};
 use css_window::{Chosen, Window, choose};
 use std::alloc::Global;
 use std::process::Abort;
-use std::test::Fail;
 
 /// The greatest delay of a television, in nanoseconds.
 const TOP: u64 = 10_000_000_000;
@@ -69,8 +69,10 @@ fn the_least_delay_or_two_windows_are_told(rt: HostRuntime) {
         (&[FARTHEST], TOP, nothing(Some(0), Some(0))),
     ];
     for (windows, max_delay, expected) in rows {
-        assert!(rt; max_delay <= TOP);
-        assert!(rt; choose(windows, max_delay) == expected, "{windows:?}");
+        assert!(rt;
+            max_delay <= TOP && choose(windows, max_delay) == expected,
+            "{windows:?}"
+        );
     }
 }
 
@@ -154,20 +156,15 @@ fn drawn(word: u64) -> Window {
     }
 }
 
-fn next_word(word: u64) -> u64 {
-    word.wrapping_mul(6_364_136_223_846_793_005)
-        .wrapping_add(1_442_695_040_888_963_407)
-}
-
 /// Up to five windows.
-fn drawn_windows(alloc: Global, word: u64) -> Result<Vec<Window>, Fail> {
+fn drawn_windows(rt: &impl Abort, alloc: Global, word: u64) -> Vec<Window> {
     let mut windows = Vec::new(alloc);
     let mut word = word;
     for _ in 0..word >> 40 & 3 {
         word = next_word(word);
-        windows.push(drawn(word >> 33))?;
+        windows.push(drawn(word >> 33)).expect(rt, "memory");
     }
-    Ok(windows)
+    windows
 }
 
 fn compare(rt: &impl Abort, windows: &[Window], max_delay: u32) -> bool {
@@ -178,16 +175,18 @@ fn compare(rt: &impl Abort, windows: &[Window], max_delay: u32) -> bool {
 }
 
 #[test]
-fn chooses_what_a_scan_of_every_delay_finds(rt: HostRuntime) -> Result<(), Fail> {
-    let mut word: u64 = 1;
+fn chooses_what_a_scan_of_every_delay_finds(rt: HostRuntime) {
+    let mut word = 1;
     let mut fitting: u32 = 0;
     for _ in 0..2000 {
         word = next_word(word);
-        let windows = drawn_windows(rt.alloc(), word)?;
-        if compare(&rt, windows.as_slice(), (word >> 50) as u32 % 40) {
-            fitting = fitting.wrapping_add(1);
-        }
+        let windows = drawn_windows(&rt, rt.alloc(), word);
+        let fits = compare(&rt, &windows, (word >> 50) as u32 % 40);
+        fitting = fitting.wrapping_add(u32::from(fits));
     }
-    assert!(rt; 500 < fitting && fitting < 1500);
-    Ok(())
+    check_that(
+        &rt,
+        500 < fitting && fitting < 1500,
+        "about half of them fit",
+    );
 }

@@ -7,6 +7,7 @@ ghost use Rattle.css_cii.specs.declared.state.State.{State as state};
 use crate::change::{Change, Told};
 use crate::state::State;
 use css_num::{Memory, Text, Timelines};
+use std::alloc::AllocError;
 
 /// A property after what a message says of it.
 fn words_after(old: &Option<Text>, told: &Told<Text>) -> Result<Option<Text>, Memory>
@@ -243,7 +244,7 @@ pub fn diff(old: &State, new: &State) -> Result<Change, Memory>
 }
 
 /// Says the value of a property.
-fn say_words(told: &mut Told<Text>, value: &Option<Text>) -> Result<(), Memory>
+fn say_words(told: &mut Told<Text>, value: &Option<Text>) -> Result<(), AllocError>
     ensures { IfOk result (λ done. told.new ≡ said value.now) }
 {
     *told = Told::Said(value.clone()?);
@@ -251,7 +252,7 @@ fn say_words(told: &mut Told<Text>, value: &Option<Text>) -> Result<(), Memory>
 }
 
 /// Says the timelines.
-fn say_timelines(told: &mut Told<Timelines>, value: &Option<Timelines>) -> Result<(), Memory>
+fn say_timelines(told: &mut Told<Timelines>, value: &Option<Timelines>) -> Result<(), AllocError>
     ensures { IfOk result (λ done. told.new ≡ said value.now) }
 {
     *told = Told::Said(value.clone()?);
@@ -260,7 +261,7 @@ fn say_timelines(told: &mut Told<Timelines>, value: &Option<Timelines>) -> Resul
 
 /// Says each property of a state.
 #[tactic(auto, unfolding(crate::specs::States::full_change))]
-fn say_all(change: &mut Change, state: &State) -> Result<(), Memory>
+fn say_all(change: &mut Change, state: &State) -> Result<(), AllocError>
     ensures { IfOk result (λ done. change.new ≡ states.full_change state.now) }
 {
     say_words(&mut change.protocol_version, &state.protocol_version)?;
@@ -276,7 +277,7 @@ fn say_all(change: &mut Change, state: &State) -> Result<(), Memory>
 }
 
 /// What is said of a state in whole.
-fn all_said(state: &State) -> Result<Change, Memory>
+pub(crate) fn all_said(state: &State) -> Result<Change, AllocError>
     ensures { IfOk result (λ change. change ≡ states.full_change state.now) }
 {
     let mut change = Change::nothing();
@@ -290,5 +291,5 @@ pub fn full(state: &State) -> Result<Change, Memory>
     ensures value { IfOk result (λ change. change ≡ states.full_change state.now) }
     ensures utf8 { IfOk result (λ change. IsUtf8State state.now → IsUtf8Change change) }
 {
-    all_said(state)
+    Ok(all_said(state)?)
 }

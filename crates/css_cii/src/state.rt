@@ -3,6 +3,7 @@ ghost use Rattle.css_num.specs.Timelines.{timelines_eq};
 ghost use Rattle.css_cii.specs.States as states;
 ghost use Rattle.css_cii.specs.Texts.{IsUtf8State};
 
+use crate::merging::{all_said, apply_to};
 use css_num::{Text, Timelines};
 use std::alloc::AllocError;
 
@@ -76,47 +77,13 @@ impl State {
     }
 }
 
-/// Copies a property that is a text. It has a contract of its own, since a clone's only says that it is a clone.
-fn copy_words(copy: &mut Option<Text>, words: &Option<Text>) -> Result<(), AllocError>
-    ensures { IfOk result (λ done. copy.new ≡ words.now) }
-{
-    *copy = words.clone()?;
-    Ok(())
-}
-
-/// Copies the timelines.
-fn copy_timelines(
-    copy: &mut Option<Timelines>,
-    timelines: &Option<Timelines>,
-) -> Result<(), AllocError>
-    ensures { IfOk result (λ done. copy.new ≡ timelines.now) }
-{
-    *copy = timelines.clone()?;
-    Ok(())
-}
-
-/// Copies each property of a state.
-fn copy_state(copy: &mut State, state: &State) -> Result<(), AllocError>
-    ensures { IfOk result (λ done. copy.new ≡ state.now) }
-{
-    copy_words(&mut copy.protocol_version, &state.protocol_version)?;
-    copy_words(&mut copy.mrs_url, &state.mrs_url)?;
-    copy_words(&mut copy.content_id, &state.content_id)?;
-    copy_words(&mut copy.content_id_status, &state.content_id_status)?;
-    copy_words(&mut copy.presentation_status, &state.presentation_status)?;
-    copy_words(&mut copy.wc_url, &state.wc_url)?;
-    copy_words(&mut copy.ts_url, &state.ts_url)?;
-    copy_words(&mut copy.te_url, &state.te_url)?;
-    copy_timelines(&mut copy.timelines, &state.timelines)?;
-    Ok(())
-}
-
 /// A copy of a state, which is equal to it.
+#[tactic(auto, unfolding(crate::specs::States::applied, crate::specs::States::full_change))]
 fn state_copied(state: &State) -> Result<State, AllocError>
     ensures { IfOk result (λ copy. copy ≡ state.now) }
 {
     let mut copy = State::empty();
-    copy_state(&mut copy, state)?;
+    apply_to(&mut copy, all_said(state)?);
     Ok(copy)
 }
 

@@ -35,7 +35,6 @@ const NO_TIME: Stamp = Stamp {
 /// It remembers when a response landed that promised a follow-up: the first with each pair of originate and receive
 /// values. A response is forgotten with its request. A landing looks it up in an ordered map. Only a flood of such
 /// responses to one request, with ever new receive values, makes the client grow.
-#[derive(Drop)]
 pub struct Client {
     asked: Asked,
     promises: Promises,
@@ -44,6 +43,21 @@ pub struct Client {
     alloc: Global,
     floor: u64,
     after_sleep: u64,
+}
+
+// By hand: a derived drop is opened at each exit of each caller's proof.
+impl Drop for Client {
+    fn drop(self) {
+        let Client {
+            asked: _,
+            promises: _,
+            estimate: _,
+            local: _,
+            alloc: _,
+            floor: _,
+            after_sleep: _,
+        } = self;
+    }
 }
 
 impl Model for Client {

@@ -1,7 +1,7 @@
 //! Drawn schedules are replayed as they are computed a second time.
 
 use crate::crowds::{Crowd, Plan};
-use crate::running::{BLANK, Case, NO_MEMORY, assert_run};
+use crate::running::{BLANK, Case, check_run};
 use std::alloc::Global;
 use std::process::Abort;
 
@@ -13,24 +13,33 @@ const PLANS: [Plan; 3] = [
 ];
 
 /// A replay of a drawn schedule prints what is computed for it. At least half of that are intervals.
-fn assert_computed(rt: &impl Abort, alloc: Global, plan: Plan) {
+fn check_computed(rt: &impl Abort, alloc: Global, plan: Plan) {
     let mut crowd = Crowd::new(alloc, plan);
-    crowd.draw(alloc).expect(rt, NO_MEMORY);
+    crowd.draw(alloc).expect(rt, "memory");
     let case = Case {
         words: "replay",
         input: crowd.schedule.as_bytes(),
         ..BLANK
     };
-    let printed = crowd.printed.as_bytes();
-    assert_run(rt, alloc, plan.name, &case, "done", printed);
-    assert!(rt; crowd.sleeps > 0 && crowd.prints > 0, "{}", plan.name);
+    check_run(
+        rt,
+        alloc,
+        plan.name,
+        &case,
+        "done",
+        crowd.printed.as_bytes(),
+    );
     let twice = crowd.intervals.wrapping_mul(2);
-    assert!(rt; twice >= crowd.prints, "{}", plan.name);
+    assert!(rt;
+        crowd.sleeps > 0 && crowd.prints > 0 && twice >= crowd.prints,
+        "{}",
+        plan.name
+    );
 }
 
 #[test]
 fn drawn_schedules_are_replayed_as_computed(rt: HostRuntime) {
     for plan in PLANS {
-        assert_computed(&rt, rt.alloc(), plan);
+        check_computed(&rt, rt.alloc(), plan);
     }
 }

@@ -1,6 +1,6 @@
 //! A follower that lacks memory, in a run of the command `companion`.
 use crate::live_tables::{ANSWERED, COMPANION};
-use crate::running::{Case, run_with};
+use crate::running::{Case, check, run_with};
 use css_companion::Report;
 use css_drive::{Before, Nobody};
 use css_follow::{Follower, Meter, Sheet};
@@ -60,9 +60,11 @@ const METERED: Case<'static> = Case {
 fn a_follower_that_lacks_memory_ends_the_run(rt: HostRuntime) {
     let mut followers = meter_and_lacking(rt.alloc());
     let (ended, printed) = run_with(&rt, rt.alloc(), &METERED, &mut followers);
-    assert_eq!(rt; ended.as_str(), "memory");
-    assert_eq!(rt;
-        printed.as_slice(),
-        b"1 ticks 900000 900000\nwidth 0\n".as_slice()
+    check(&rt, ended.as_bytes(), b"memory", "the status");
+    check(
+        &rt,
+        &printed,
+        b"1 ticks 900000 900000\nwidth 0\n",
+        "the first report",
     );
 }

@@ -29,5 +29,3 @@ mod replay_tests;
 mod running;
 #[cfg(test)]
 mod status_tests;
-#[cfg(test)]
-mod usage_tests;

@@ -1,6 +1,6 @@
 //! What `agree`, `audit` and `migrate` print, and what they refuse.
 
-use crate::running::{BLANK, Case, EXCHANGE, NO_MEMORY, Row, assert_rows, assert_run};
+use crate::running::{BLANK, Case, EXCHANGE, NO_MEMORY, Row, check_rows, check_run};
 use std::alloc::Global;
 use std::process::Abort;
 
@@ -8,7 +8,7 @@ use std::process::Abort;
 type Lines = (&'static str, &'static str, &'static str);
 
 /// Runs a command over what was begun and each row.
-fn assert_lines(rt: &impl Abort, alloc: Global, words: &'static str, begun: &str, rows: &[Lines]) {
+fn check_lines(rt: &impl Abort, alloc: Global, words: &'static str, begun: &str, rows: &[Lines]) {
     for (rest, ended, printed) in rows {
         let input = format!(in alloc; "{begun}{rest}").expect(rt, NO_MEMORY);
         let case = Case {
@@ -16,7 +16,7 @@ fn assert_lines(rt: &impl Abort, alloc: Global, words: &'static str, begun: &str
             input: input.as_bytes(),
             ..BLANK
         };
-        assert_run(rt, alloc, rest, &case, ended, printed.as_bytes());
+        check_run(rt, alloc, rest, &case, ended, printed.as_bytes());
     }
 }
 
@@ -65,9 +65,9 @@ const HEADERS: &[Lines] = &[
 #[test]
 fn answers_agree_or_are_refused(rt: HostRuntime) {
     let begun = "css-agree 1 0 0\n";
-    assert_lines(&rt, rt.alloc(), "agree", begun, ANSWERS);
-    assert_lines(&rt, rt.alloc(), "agree", begun, NO_ANSWERS);
-    assert_lines(&rt, rt.alloc(), "agree", "", HEADERS);
+    check_lines(&rt, rt.alloc(), "agree", begun, ANSWERS);
+    check_lines(&rt, rt.alloc(), "agree", begun, NO_ANSWERS);
+    check_lines(&rt, rt.alloc(), "agree", "", HEADERS);
 }
 
 /// The record of a companion that reported once, up to the turn of its second report. The texts are
@@ -114,9 +114,9 @@ const NO_TEXT: Case<'static> = Case {
 
 #[test]
 fn reports_are_right_or_refused(rt: HostRuntime) {
-    assert_lines(&rt, rt.alloc(), "audit", BEGUN, REPORTS);
-    assert_lines(&rt, rt.alloc(), "audit", "", RECORDS);
-    assert_run(&rt, rt.alloc(), "bytes", &NO_TEXT, "line 2: form", b"");
+    check_lines(&rt, rt.alloc(), "audit", BEGUN, REPORTS);
+    check_lines(&rt, rt.alloc(), "audit", "", RECORDS);
+    check_run(&rt, rt.alloc(), "bytes", &NO_TEXT, "line 2: form", b"");
 }
 
 /// The exchange as a schedule of version 2.
@@ -150,6 +150,6 @@ const NO_FIRST: &[Lines] = &[
 
 #[test]
 fn a_schedule_becomes_one_of_version_2(rt: HostRuntime) {
-    assert_rows(&rt, rt.alloc(), EXCHANGES);
-    assert_lines(&rt, rt.alloc(), "migrate", "", NO_FIRST);
+    check_rows(&rt, rt.alloc(), EXCHANGES);
+    check_lines(&rt, rt.alloc(), "migrate", "", NO_FIRST);
 }

@@ -129,6 +129,8 @@ pub const TELEVISIONS: &[Row] = &[
     ("a relay", RELAY, "done", b""),
     ("a relay can't listen", Case { calls: &[1], ..RELAY }, "net fault", b""),
     ("a relay's dial fails", Case { calls: &[3], ..RELAY }, "unreachable after 1 turns", b""),
+    ("words of no command", Case { words: "reply", ..BLANK }, "usage", b""),
+    ("no words", BLANK, "usage", b""),
 ];
 
 /// Runs of `pair`. The companion's status comes before the child's and before the spawner's fault.

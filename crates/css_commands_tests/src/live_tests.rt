@@ -1,31 +1,34 @@
 //! The live commands over devices in memory.
 
 use crate::live_tables::{CHANGED, COMPANIONS, EARLY, FAILING, PAIR, PAIRS, RECORDS, TELEVISIONS};
-use crate::running::{Case, NO_MEMORY, assert_rows, assert_run};
+use crate::running::{Case, NO_MEMORY, check_rows, check_run};
 use std::alloc::Global;
 use std::process::Abort;
 
 #[test]
 fn each_run_ends_as_it_should(rt: HostRuntime) {
-    for rows in [COMPANIONS, CHANGED, EARLY, TELEVISIONS, PAIRS, RECORDS] {
-        assert_rows(&rt, rt.alloc(), rows);
-    }
+    check_rows(&rt, rt.alloc(), COMPANIONS);
+    check_rows(&rt, rt.alloc(), CHANGED);
+    check_rows(&rt, rt.alloc(), EARLY);
+    check_rows(&rt, rt.alloc(), TELEVISIONS);
+    check_rows(&rt, rt.alloc(), PAIRS);
+    check_rows(&rt, rt.alloc(), RECORDS);
 }
 
-fn assert_fails(rt: &impl Abort, alloc: Global, calls: &[u64], ended: &str, printed: &[u8]) {
+fn check_fails(rt: &impl Abort, alloc: Global, calls: &[u64], ended: &str, printed: &[u8]) {
     for call in calls {
         let case = Case {
             calls: &[*call],
             ..PAIR
         };
         let name = format!(in alloc; "call {call}").expect(rt, NO_MEMORY);
-        assert_run(rt, alloc, &name, &case, ended, printed);
+        check_run(rt, alloc, &name, &case, ended, printed);
     }
 }
 
 #[test]
 fn each_call_of_a_pair_fails_once(rt: HostRuntime) {
     for (calls, ended, printed) in FAILING {
-        assert_fails(&rt, rt.alloc(), calls, ended, printed);
+        check_fails(&rt, rt.alloc(), calls, ended, printed);
     }
 }

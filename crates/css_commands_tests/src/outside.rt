@@ -1,11 +1,12 @@
 //! What comes from outside in a run.
-ghost use Rattle.std.specs.Prelude.{◌≡◌, [], IfOk, IsTrue, false, true};
+ghost use Rattle.std.specs.Prelude.{◌≡◌, [], IsTrue, false, true};
 ghost use Rattle.css_memory.specs.Scripts.{are_readings};
 
 use css_memory::{Datagram, OutsideScript, SessionHeard};
-use css_num::{Memory, Text};
+use css_num::Text;
 use css_outside::{Clocked, Heard};
 use std::alloc::Global;
+use std::process::Abort;
 
 /// What the clock reads.
 #[derive(Clone, Copy)]
@@ -62,71 +63,64 @@ fn asleep(reading: u64) -> Clocked
     Clocked { reading, slept }
 }
 
-/// A sleep is told at the turn before the next request.
 #[rattlefmt::skip]
-fn slept_and_asked(alloc: Global) -> Result<Vec<Clocked>, Memory>
-    ensures { IfOk result (λ readings. IsTrue (are_readings 0 readings.items)) }
-{
-    Ok(vec![in alloc;
-        awake(0), awake(5), awake(6), awake(8), asleep(10), awake(12), awake(14), awake(20),
-    ]?)
-}
-
-#[rattlefmt::skip]
-fn readings_of(alloc: Global, times: Times) -> Result<Vec<Clocked>, Memory>
-    ensures { IfOk result (λ readings. IsTrue (are_readings 0 readings.items)) }
+fn readings_of(rt: &impl Abort, alloc: Global, times: Times) -> Vec<Clocked>
+    ensures { IsTrue (are_readings 0 result.items) }
 {
     match times {
-        Times::Usual => Ok(vec![in alloc; awake(0), awake(5), awake(6), awake(8), awake(10), awake(20)]?),
-        Times::AsleepAtTurn => Ok(vec![in alloc; awake(0), awake(5), awake(6), awake(8), asleep(10), awake(20)]?),
-        Times::AsleepLanded => Ok(vec![in alloc; awake(0), awake(5), awake(6), asleep(8), awake(10), awake(20)]?),
-        Times::SleptAndAsked => slept_and_asked(alloc),
-        Times::Soon => Ok(vec![in alloc; awake(0), awake(1), awake(2)]?),
-        Times::Seconds => Ok(vec![in alloc; awake(0), awake(1_000_000_000), awake(2_000_000_000)]?),
-    }
+        Times::Usual => [awake(0), awake(5), awake(6), awake(8), awake(10), awake(20)].to_vec(alloc),
+        Times::AsleepAtTurn => [awake(0), awake(5), awake(6), awake(8), asleep(10), awake(20)].to_vec(alloc),
+        Times::AsleepLanded => [awake(0), awake(5), awake(6), asleep(8), awake(10), awake(20)].to_vec(alloc),
+        // A sleep is told at the turn before the next request.
+        Times::SleptAndAsked => [
+            awake(0), awake(5), awake(6), awake(8), asleep(10), awake(12), awake(14), awake(20),
+        ].to_vec(alloc),
+        Times::Soon => [awake(0), awake(1), awake(2)].to_vec(alloc),
+        Times::Seconds => [awake(0), awake(1_000_000_000), awake(2_000_000_000)].to_vec(alloc),
+    }.expect(rt, "memory")
 }
 
-fn heard_of(alloc: Global, said: &Said) -> Result<Heard, Memory> {
+fn heard_of(rt: &impl Abort, alloc: Global, said: &Said) -> Heard {
     match said {
-        Said::Text(words) => Ok(Heard::Text(Text::of(alloc, words.as_bytes())?)),
-        Said::Closed => Ok(Heard::Closed),
+        Said::Text(words) => Heard::Text(Text::of(alloc, words.as_bytes()).expect(rt, "memory")),
+        Said::Closed => Heard::Closed,
     }
 }
 
-fn texts_of(alloc: Global, rows: &[(u32, Said)]) -> Result<Vec<SessionHeard>, Memory> {
+fn texts_of(rt: &impl Abort, alloc: Global, rows: &[(u32, Said)]) -> Vec<SessionHeard> {
     let mut texts = Vec::new(alloc);
     for (session, said) in rows {
-        texts.push(SessionHeard {
-            session: *session,
-            heard: heard_of(alloc, said)?,
-        })?;
+        let (session, heard) = (*session, heard_of(rt, alloc, said));
+        texts
+            .push(SessionHeard { session, heard })
+            .expect(rt, "memory");
     }
-    Ok(texts)
+    texts
 }
 
-fn datagrams_of(alloc: Global, rows: &[&[u8]]) -> Result<Vec<Option<Datagram>>, Memory> {
+fn datagrams_of(rt: &impl Abort, alloc: Global, rows: &[&[u8]]) -> Vec<Option<Datagram>> {
     let mut datagrams = Vec::new(alloc);
     for bytes in rows {
-        datagrams.push(Some(Datagram {
-            peer: 2,
-            bytes: Text::of(alloc, bytes)?,
-        }))?;
+        let bytes = Text::of(alloc, bytes).expect(rt, "memory");
+        datagrams
+            .push(Some(Datagram { peer: 2, bytes }))
+            .expect(rt, "memory");
     }
-    Ok(datagrams)
+    datagrams
 }
 
 /// The script of a world whose calls of these numbers fail.
-pub fn script_of(alloc: Global, world: &World, fails: &[u64]) -> Result<OutsideScript, Memory>
-    ensures readings { IfOk result (λ script. IsTrue (are_readings 0 script.readings.items)) }
-    ensures openings { IfOk result (λ script. script.openings.items ≡ []) }
-    ensures fails { IfOk result (λ script. script.fails.items ≡ fails.now) }
+pub fn script_of(rt: &impl Abort, alloc: Global, world: &World, fails: &[u64]) -> OutsideScript
+    ensures readings { IsTrue (are_readings 0 result.readings.items) }
+    ensures openings { result.openings.items ≡ [] }
+    ensures fails { result.fails.items ≡ fails.now }
 {
-    Ok(OutsideScript {
-        readings: readings_of(alloc, world.times)?,
-        datagrams: datagrams_of(alloc, world.datagrams)?,
+    OutsideScript {
+        readings: readings_of(rt, alloc, world.times),
+        datagrams: datagrams_of(rt, alloc, world.datagrams),
         openings: Vec::new(alloc),
-        texts: texts_of(alloc, world.texts)?,
+        texts: texts_of(rt, alloc, world.texts),
         gone: Vec::new(alloc),
-        fails: fails.to_vec(alloc)?,
-    })
+        fails: fails.to_vec(alloc).expect(rt, "memory"),
+    }
 }

@@ -5,7 +5,6 @@ use css_app::{Status, run};
 use css_drive::{Before, Listens, Nobody};
 use css_follow::{Cues, Meter};
 use css_memory::{MemoryOutside, MemorySink, MemorySource, MemorySpawner};
-use css_num::Memory;
 use css_outside::{Outside, Sink, Source, Spawner};
 use std::alloc::Global;
 use std::process::Abort;
@@ -58,15 +57,15 @@ pub const EXCHANGE: Case<'static> = Case {
 /// A name, a run, its status in words, and what it prints.
 pub type Row = (&'static str, Case<'static>, &'static str, &'static [u8]);
 
-fn words_of(alloc: Global, line: &str) -> Result<Vec<String>, Memory> {
+fn words_of(rt: &impl Abort, alloc: Global, line: &str) -> Vec<String> {
     let mut words = Vec::new(alloc);
-    if line.is_empty() {
-        return Ok(words);
+    if !line.is_empty() {
+        for word in line.split(' ') {
+            let word = word.to_string(alloc).expect(rt, NO_MEMORY);
+            words.push(word).expect(rt, NO_MEMORY);
+        }
     }
-    for word in line.split(' ') {
-        words.push(word.to_string(alloc)?)?;
-    }
-    Ok(words)
+    words
 }
 
 /// Runs these words. It promises nothing, so that no test has what `run` promises in its context.
@@ -82,21 +81,6 @@ fn status_of<S: Source, K: Sink, O: Outside, P: Spawner, F: Listens>(
     run(alloc, words, source, sink, outside, spawner, followers)
 }
 
-/// How a run of a command line ends, in words.
-fn ended<S: Source, K: Sink, O: Outside, P: Spawner, F: Listens>(
-    alloc: Global,
-    line: &str,
-    source: &mut S,
-    sink: &mut K,
-    outside: &mut O,
-    spawner: &mut P,
-    followers: &mut F,
-) -> Result<String, Memory> {
-    let words = words_of(alloc, line)?;
-    let status = status_of(alloc, &words, source, sink, outside, spawner, followers);
-    Ok(format!(in alloc; "{status}")?)
-}
-
 /// What is told when memory runs out.
 pub const NO_MEMORY: &str = "no memory";
 
@@ -110,19 +94,19 @@ pub fn run_with<F: Listens>(
     let piece = case.piece.max(1);
     let mut source = MemorySource::new(alloc, case.input, piece, case.reads).expect(rt, NO_MEMORY);
     let mut sink = MemorySink::new(alloc, piece, case.writes).expect(rt, NO_MEMORY);
-    let script = script_of(alloc, &case.world, case.calls).expect(rt, NO_MEMORY);
+    let script = script_of(rt, alloc, &case.world, case.calls);
     let mut outside = MemoryOutside::new(alloc, script).expect(rt, NO_MEMORY);
     let mut spawner = MemorySpawner::new(alloc, case.children, case.spawns).expect(rt, NO_MEMORY);
-    let ended = ended(
+    let status = status_of(
         alloc,
-        case.words,
+        &words_of(rt, alloc, case.words),
         &mut source,
         &mut sink,
         &mut outside,
         &mut spawner,
         followers,
-    )
-    .expect(rt, NO_MEMORY);
+    );
+    let ended = format!(in alloc; "{status}").expect(rt, NO_MEMORY);
     (ended, sink.bytes().to_vec(alloc).expect(rt, NO_MEMORY))
 }
 
@@ -138,8 +122,13 @@ fn run_case(rt: &impl Abort, alloc: Global, case: &Case<'_>) -> (String, Vec<u8>
     run_with(rt, alloc, case, &mut followers)
 }
 
+/// What was told or printed is this.
+pub fn check(rt: &impl Abort, told: &[u8], expected: &[u8], name: &str) {
+    assert!(rt; told == expected, "{name}: {told:?} and not {expected:?}");
+}
+
 /// Makes a run, which leaves this.
-pub fn assert_run(
+pub fn check_run(
     rt: &impl Abort,
     alloc: Global,
     name: &str,
@@ -148,13 +137,13 @@ pub fn assert_run(
     printed: &[u8],
 ) {
     let (told, output) = run_case(rt, alloc, case);
-    assert_eq!(rt; told.as_str(), ended, "{name}: {}", case.words);
-    assert_eq!(rt; output.as_slice(), printed, "{name}: {}", case.words);
+    check(rt, told.as_bytes(), ended.as_bytes(), name);
+    check(rt, &output, printed, name);
 }
 
 /// Makes the run of each row.
-pub fn assert_rows(rt: &impl Abort, alloc: Global, rows: &[Row]) {
+pub fn check_rows(rt: &impl Abort, alloc: Global, rows: &[Row]) {
     for (name, case, ended, printed) in rows {
-        assert_run(rt, alloc, name, case, ended, printed);
+        check_run(rt, alloc, name, case, ended, printed);
     }
 }

@@ -1,6 +1,6 @@
 //! Each status, its exit status, and its line on standard error.
 
-use crate::running::NO_MEMORY;
+use crate::running::{NO_MEMORY, check};
 use css_app::{LineWhy, Status, tell};
 use css_cii::{CiiFault, CiiName};
 use css_companion::{Cause, Report};
@@ -11,12 +11,17 @@ use css_schedule::PlayerFault;
 use std::alloc::Global;
 use std::process::Abort;
 
-fn assert_told(rt: &impl Abort, alloc: Global, status: &Status, number: u8, line: &str) {
+fn check_told(rt: &impl Abort, alloc: Global, status: &Status, number: u8, line: &str) {
     let mut sink = MemorySink::new(alloc, 1, &[]).expect(rt, NO_MEMORY);
     let ending = tell(alloc, status, &mut sink);
-    assert_eq!(rt; ending.number, number, "{line}");
-    assert_eq!(rt; ending.told, Ok(()), "{line}");
-    assert_eq!(rt; sink.bytes(), line.as_bytes(), "{line}");
+    check(rt, sink.bytes(), line.as_bytes(), line);
+    assert!(rt; ending.number == number && ending.told == Ok(()), "{line}");
+}
+
+fn check_all(rt: &impl Abort, alloc: Global, statuses: &[(Status, u8, &str)]) {
+    for (status, number, line) in statuses {
+        check_told(rt, alloc, status, *number, line);
+    }
 }
 
 /// Each status with its numbers, its exit status, and how it is told.
@@ -49,9 +54,7 @@ const STATUSES: [(Status, u8, &str); 23] = [
 
 #[test]
 fn each_status_is_told(rt: HostRuntime) {
-    for (status, number, line) in STATUSES {
-        assert_told(&rt, rt.alloc(), &status, number, line);
-    }
+    check_all(&rt, rt.alloc(), &STATUSES);
 }
 
 #[test]
@@ -61,14 +64,16 @@ fn a_moved_address_is_told(rt: HostRuntime) {
         old: Text::of(rt.alloc(), b"udp://h:1").expect(&rt, NO_MEMORY),
         new: Text::of(rt.alloc(), b"udp://h:2").expect(&rt, NO_MEMORY),
     };
-    assert_told(&rt, rt.alloc(), &moved, 8, "css: moved wcUrl\n");
+    check_told(&rt, rt.alloc(), &moved, 8, "css: moved wcUrl\n");
 }
 
 #[test]
 fn a_line_that_is_not_printed_changes_no_number(rt: HostRuntime) {
     let mut sink = MemorySink::new(rt.alloc(), 7, &[2]).expect(&rt, NO_MEMORY);
     let ending = tell(rt.alloc(), &Status::ReadFault, &mut sink);
-    assert_eq!(rt; ending.number, 4);
-    assert_eq!(rt; ending.told, Err(OutFault::Failed));
-    assert_eq!(rt; sink.bytes(), b"css: re".as_slice());
+    check(&rt, sink.bytes(), b"css: re", "what is printed");
+    assert!(rt;
+        ending.number == 4 && ending.told == Err(OutFault::Failed),
+        "its number"
+    );
 }

@@ -9,7 +9,7 @@ use std::alloc::Global;
 use std::env::Env;
 use std::fs::Files;
 use std::io::{ErrorKind, Write};
-use std::process::{Child, Command, Processes, Stdio};
+use std::process::{Child, Command, OpenProcess, Processes, Stdio};
 use std::{env, io, str};
 
 /// Starts this program again with other words, and waits for it. A child writes where this program does.
@@ -51,29 +51,43 @@ impl<'a, R: Processes> ChildSpawner<'a, R> {
     }
 }
 
-/// This program's file. Its first word is taken where it is a path: a program that a loader runs is the loader's file.
-fn own_program<R: Env + Files>(alloc: Global, rt: &R) -> io::Result<Command> {
-    if let Some(first) = env::args(&(rt, alloc))?.next() {
-        if first.as_str().contains('/') {
-            return Ok(Command::new(alloc, first.as_str())?);
-        }
-    }
+/// The word that this program was started by, where it is a path.
+fn own_path<R: Env>(alloc: Global, rt: &R) -> io::Result<Option<String>> {
+    let first = env::args(&(rt, alloc))?.next();
+    Ok(first.filter(|word| word.as_str().contains('/')))
+}
+
+/// The file that the system runs.
+fn running_file<R: Files>(alloc: Global, rt: &R) -> io::Result<Command> {
     let program = env::current_exe(&(rt, alloc))?;
     Ok(Command::new(alloc, program.as_path())?)
 }
 
-/// Gives a command these words, and a standard input.
-fn with_words(mut command: Command, words: &[Text]) -> io::Result<Command> {
-    for word in words {
-        match str::from_utf8(word.bytes()) {
-            Ok(word) => {
-                command.arg(word)?;
-            }
-            Err(_) => return Err(io::Error::from(ErrorKind::InvalidInput)),
-        }
+/// This program's file. Its first word is taken where it is a path: a program that a loader runs is the loader's file.
+fn own_program<R: Env + Files>(alloc: Global, rt: &R) -> io::Result<Command> {
+    match own_path(alloc, rt)? {
+        Some(path) => Ok(Command::new(alloc, path.as_str())?),
+        None => running_file(alloc, rt),
     }
-    command.stdin(Stdio::piped());
-    Ok(command)
+}
+
+/// The command of a child that has no words yet.
+fn command_of<R: Env + Files>(alloc: Global, rt: &R, program: Option<&str>) -> io::Result<Command> {
+    match program {
+        Some(program) => Ok(Command::new(alloc, program)?),
+        None => own_program(alloc, rt),
+    }
+}
+
+/// Gives a command a further word.
+fn add_word(command: &mut Command, word: &Text) -> io::Result<()> {
+    match str::from_utf8(word.bytes()) {
+        Ok(word) => {
+            command.arg(word)?;
+            Ok(())
+        }
+        Err(_) => Err(io::Error::from(ErrorKind::InvalidInput)),
+    }
 }
 
 /// Gives a child its standard input. One that has gone, or doesn't read to the end, is told nothing more.
@@ -84,45 +98,54 @@ fn feed<W: Write>(stdin: &mut W, input: &[u8]) -> io::Result<()> {
     }
 }
 
-/// Starts a child, and gives it all of its standard input.
-fn begin<R: Processes>(
-    rt: &R,
-    mut command: Command,
-    input: &[u8],
-) -> io::Result<Child<R::Started>> {
-    let mut child = command.spawn(rt)?;
+/// Gives a child all of its standard input, and ends that. Where it can't be given the child is ended.
+fn give<P: OpenProcess>(child: &mut Child<P>, input: &[u8]) -> io::Result<()> {
     let fed = match &mut child.stdin {
         Some(stdin) => feed(stdin, input),
         None => Ok(()),
     };
     child.stdin = None;
-    if let Err(error) = fed {
-        if child.kill().is_ok() {
-            let _ = child.wait();
-        }
-        return Err(error);
+    if fed.is_err() && child.kill().is_ok() {
+        let _ = child.wait();
     }
+    fed
+}
+
+/// Starts a child with these words, and gives it all of its standard input.
+fn spawn<R: Processes>(
+    rt: &R,
+    command: &mut Command,
+    words: &[Text],
+    input: &[u8],
+) -> io::Result<Child<R::Started>> {
+    for word in words {
+        add_word(command, word)?;
+    }
+    command.stdin(Stdio::piped());
+    let mut child = command.spawn(rt)?;
+    give(&mut child, input)?;
     Ok(child)
 }
 
-impl<'a, R: Processes + Env + Files> ChildSpawner<'a, R> {
-    /// The command of a child with these words.
-    fn command_of(&self, words: &[Text]) -> io::Result<Command> {
-        let command = match self.program {
-            Some(program) => Command::new(self.alloc, program)?,
-            None => own_program(self.alloc, self.rt)?,
-        };
-        with_words(command, words)
-    }
+// The one place that drops a command: a drop of one is long to prove.
+fn begin<R: Processes>(
+    rt: &R,
+    mut command: Command,
+    words: &[Text],
+    input: &[u8],
+) -> io::Result<Child<R::Started>> {
+    spawn(rt, &mut command, words, input)
+}
 
+impl<'a, R: Processes + Env + Files> ChildSpawner<'a, R> {
     fn begin_one(&mut self, words: &[Text], input: &[u8]) -> Result<(), OutFault>
         ensures ok { OnOk result (length self.new.children.items ≡ length self.old.children.items + 1) }
         ensures err { OnErr result (length self.new.children.items ≡ length self.old.children.items) }
         ensures faults { self.new.faults ≡ self.old.faults }
     {
-        let command = self.command_of(words).map_err(fault_of)?;
         self.children.reserve(1).map_err(no_memory)?;
-        let child = begin(self.rt, command, input).map_err(fault_of)?;
+        let command = command_of(self.alloc, self.rt, self.program).map_err(fault_of)?;
+        let child = begin(self.rt, command, words, input).map_err(fault_of)?;
         self.children.push(child).map_err(no_room)
     }
 
@@ -139,7 +162,7 @@ impl<'a, R: Processes + Env + Files> ChildSpawner<'a, R> {
         let ended = self.children[count - 1].wait().map_err(fault_of)?;
         match ended.code() {
             Some(status) => {
-                drop(self.children.pop());
+                self.children.truncate(count - 1);
                 Ok(status)
             }
             None => Err(OutFault::Failed),

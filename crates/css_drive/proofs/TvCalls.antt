@@ -14,7 +14,7 @@ use Rattle.css_tsmsg.specs.declared.setup.Setup.{Setup}
 use Rattle.css_tsmsg.specs.declared.fault.TsFault.{TsFault}
 use Rattle.css_sessions.specs.Kept.{Event, Opened, SetUp, Published, Closed, Presented, Dropped, Kept, talk_of}
 use Rattle.css_sessions.specs.Kept.{set_up_in}
-use Rattle.css_sessions.specs.declared.session.Kind.{Kind}
+use Rattle.css_num.specs.declared.protocol.Kind.{Kind}
 use Rattle.css_sessions.specs.declared.session.Session.{Session}
 use Rattle.css_sessions.specs.Told.{Lived, life_of, born, state_of, ended, living, set_life, grown_life, when, peers_of}
 use Rattle.css_sessions.specs.Told.{sessions_of}

@@ -11,8 +11,8 @@ use Rattle.css_outside.specs.Outsides.{with_entries}
 use Rattle.css_outside.specs.declared.calls.Heard.TheVariants as heard
 use Rattle.css_sessions.specs.Kept.{talk_of}
 use Rattle.css_sessions.specs.Told.{life_of}
-use Rattle.css_sessions.specs.declared.session.Kind.{Kind}
-use Rattle.css_sessions.specs.declared.session.Kind.TheVariants as kind
+use Rattle.css_num.specs.declared.protocol.Kind.{Kind}
+use Rattle.css_num.specs.declared.protocol.Kind.TheVariants as kind
 use Rattle.css_tv.specs.Stages.{Television}
 use Rattle.css_tv.specs.Standing.{calls_of}
 use Rattle.css_tv.specs.declared.event.TvEvent.{TvEvent}

@@ -7,7 +7,7 @@ use Rattle.css_model.specs.History.{History}
 use Rattle.css_model.specs.declared.Why.TheVariants as why
 use Rattle.css_outside.specs.Outsides.{Counts, CountsPlain}
 use Rattle.css_sessions.specs.Kept.{talk_of}
-use Rattle.css_sessions.specs.declared.session.Kind.{Kind}
+use Rattle.css_num.specs.declared.protocol.Kind.{Kind}
 use Rattle.css_tv.specs.Stages.{Television}
 use Rattle.css_tv.specs.declared.event.TvEvent.TheVariants as event
 use Rattle.css_drive.specs.TvProgress.{Place, Turned, Served, Asked, Progress, addresses_in, happened, open_after}

@@ -13,7 +13,7 @@ use Rattle.css_outside.specs.declared.calls.Heard.{Heard as SessionHeard}
 use Rattle.css_outside.specs.declared.calls.Heard.TheVariants as heard
 use Rattle.css_outside.specs.declared.calls.Wrote.{Wrote as Outcome}
 use Rattle.css_outside.specs.declared.calls.Wrote.TheVariants as outcome
-use Rattle.css_sessions.specs.declared.session.Kind.TheVariants as kind
+use Rattle.css_num.specs.declared.protocol.Kind.TheVariants as kind
 use Rattle.css_sessions.specs.Kept.{Event as Call}
 use Rattle.css_sessions.specs.Told.{Life, Lived, texts_of_lived, life_of, when, ended, with_text}
 use Rattle.css_tv.specs.Standing.{IsFresh, calls_of, texts_after}

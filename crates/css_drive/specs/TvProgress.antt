@@ -13,7 +13,7 @@ use Rattle.css_server.specs.Tickets.{Server, Ticket, received, after_ticket, res
 use Rattle.css_server.specs.declared.fault.ServeFault.{ServeFault}
 use Rattle.css_sessions.specs.Kept.{Kept}
 use Rattle.css_sessions.specs.Told.{sessions_of, peers_of}
-use Rattle.css_sessions.specs.declared.session.Kind.TheVariants as kind
+use Rattle.css_num.specs.declared.protocol.Kind.TheVariants as kind
 use Rattle.css_tv.specs.Outcomes.{Outcome, outcome, outs}
 use Rattle.css_tv.specs.Serving.{server_of}
 use Rattle.css_tv.specs.Standing.{calls_of, player_after}

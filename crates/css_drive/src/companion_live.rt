@@ -2,7 +2,7 @@ ghost use Rattle.std.specs.Prelude.{◌≤◌, ◌<◌};
 ghost use Rattle.std.specs.Option.{ForSome};
 
 /// What a companion's run keeps from call to call.
-#[derive(Clone, Copy, Debug)]
+#[derive(Clone, Copy)]
 pub struct Live {
     /// The reading of the first turn.
     pub first: Option<u64>,

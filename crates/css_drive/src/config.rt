@@ -5,7 +5,6 @@ use css_outside::Address;
 use css_tsmsg::Bound;
 
 /// What a companion's run is to do.
-#[derive(Debug, Drop)]
 pub struct DriveConfig {
     /// What the companion wants of the television, and its own clock. Both of its texts are UTF-8.
     pub companion: CompanionConfig,
@@ -30,4 +29,19 @@ pub struct DriveConfig {
     pub ghost reports_come: { report_every ≤ 1000000000000 },
     pub ghost requests_apart: { 1 ≤ ask_every },
     pub ghost requests_come: { ask_every ≤ 1000000000000 },
+}
+
+// By hand: a derived drop is opened at each exit of each caller's proof.
+impl Drop for DriveConfig {
+    fn drop(self) {
+        let DriveConfig {
+            companion: _,
+            cii: _,
+            reports: _,
+            turns: _,
+            report_every: _,
+            ask_every: _,
+            present: _,
+        } = self;
+    }
 }

@@ -3,7 +3,7 @@ use css_num::Text;
 use css_schedule::LineWhy;
 
 /// How a run ended.
-#[derive(Debug, Drop)]
+#[derive(Drop)]
 pub enum Driven {
     /// The run was made to its end: all reports were written, or all turns were made.
     Done,

@@ -49,7 +49,7 @@ impl Listens for Nobody {
 }
 
 /// A follower, and those who are told after it.
-#[derive(Debug, Drop)]
+#[derive(Drop)]
 pub struct Before<A, B> {
     /// The follower.
     pub first: A,

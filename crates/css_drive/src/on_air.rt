@@ -1,7 +1,6 @@
 use css_tv::Tv;
 
 /// What a television's run keeps from call to call.
-#[derive(Drop)]
 pub(crate) struct OnAir {
     pub(crate) tv: Tv,
     /// Peers in rising order, among them each that has a session.
@@ -10,4 +9,16 @@ pub(crate) struct OnAir {
     pub(crate) lines: usize,
     /// How many turns were begun.
     pub(crate) made: u64,
+}
+
+// By hand: a derived drop is opened at each exit of each caller's proof.
+impl Drop for OnAir {
+    fn drop(self) {
+        let OnAir {
+            tv: _,
+            peers: _,
+            lines: _,
+            made: _,
+        } = self;
+    }
 }

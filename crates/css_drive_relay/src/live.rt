@@ -4,7 +4,6 @@ ghost use Rattle.std.specs.Option.{ForSome};
 use crate::published::Published;
 
 /// What a relay's run keeps from call to call.
-#[derive(Drop)]
 pub struct Live {
     /// How many turns were begun.
     pub made: u64,
@@ -23,4 +22,20 @@ pub struct Live {
     pub peers: Vec<u32>,
     pub ghost asked_below: { ForSome asked (λ reading. reading < 4294967296000000000) },
     pub ghost turn_below: { ForSome turn (λ reading. reading < 4294967296000000000) },
+}
+
+// By hand: a derived drop is opened at each exit of each caller's proof.
+impl Drop for Live {
+    fn drop(self) {
+        let Live {
+            made: _,
+            turn: _,
+            asked: _,
+            cii: _,
+            wc: _,
+            television: _,
+            state: _,
+            peers: _,
+        } = self;
+    }
 }

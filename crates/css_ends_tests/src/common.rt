@@ -1,13 +1,14 @@
 //! What the tests of several ends share.
 
-ghost use Rattle.std.specs.Prelude.{◌≡◌, ◌≤◌, ◌<◌, ◌+◌, IfOk};
+ghost use Rattle.std.specs.Prelude.{◌≤◌, ◌<◌, ◌+◌};
 ghost use Rattle.std.specs.Str.{IsUtf8};
 
 use css_client::Local;
-use css_model::{LIMIT, Message, Stamp};
-use css_num::{Memory, Text};
+use css_model::LIMIT;
+use css_num::Text;
 use std::alloc::Global;
-use std::test::Fail;
+use std::fmt::Debug;
+use std::process::Abort;
 
 /// A clock without errors.
 pub const EXACT: Local = Local {
@@ -15,10 +16,39 @@ pub const EXACT: Local = Local {
     precision: 0,
 };
 
-pub fn text(alloc: Global, words: &str) -> Result<Text, Memory>
-    ensures { IfOk result IsUtf8 }
+pub fn text(rt: &impl Abort, alloc: Global, words: &str) -> Text
+    ensures { IsUtf8 result }
 {
-    Text::of(alloc, words.as_bytes())
+    Text::of(alloc, words.as_bytes()).expect(rt, "memory")
+}
+
+pub fn words(text: &Text) -> &str {
+    str::from_utf8(text.bytes()).unwrap_or("not UTF-8")
+}
+
+/// A value as Rust shows it.
+pub fn shown(rt: &impl Abort, alloc: Global, value: &impl Debug) -> String {
+    format!(in alloc; "{value:?}").expect(rt, "memory")
+}
+
+/// What came of a row is what the row says.
+pub fn check(rt: &impl Abort, told: &str, expected: &str) {
+    assert!(rt; told == expected, "{told} and not {expected}");
+}
+
+pub fn check_that(rt: &impl Abort, holds: bool, what: &str) {
+    assert!(rt; holds, "{what}");
+}
+
+/// Finds that a reading may be handed to an end next.
+pub fn check_order(rt: &impl Abort, floor: u64, reading: u64)
+    ensures order { floor ≤ reading }
+    ensures range { reading < LIMIT }
+{
+    assert!(rt;
+        floor <= reading && reading < LIMIT,
+        "a reading out of order"
+    );
 }
 
 /// Numbers that look random.
@@ -41,77 +71,37 @@ impl Dice {
     }
 }
 
-/// An answer of a television: when it was asked for and when it lands, by the clock of the end that asks, and what it
-/// tells. All times are in nanoseconds.
-#[derive(Clone, Copy, Debug)]
-pub struct Told {
-    pub asked: u64,
-    pub landed: u64,
-    pub receive: u64,
-    pub transmit: u64,
-    pub precision: i8,
-    pub error: u32,
-}
-
-fn write_stamp(bytes: &mut [u8; 32], at: usize, stamp: Stamp)
+fn write_stamp(bytes: &mut [u8; 32], at: usize, reading: u64)
     requires { at + 8 ≤ 32 }
 {
-    let seconds = stamp.seconds.to_be_bytes();
-    let nanoseconds = stamp.nanoseconds.to_be_bytes();
+    let seconds = ((reading / 1_000_000_000 % 4_294_967_296) as u32).to_be_bytes();
+    let nanoseconds = ((reading % 1_000_000_000) as u32).to_be_bytes();
     for i in 0..4 {
         bytes[at + i] = seconds[i];
         bytes[at + 4 + i] = nanoseconds[i];
     }
 }
 
-/// The stamp of a reading that a clock can have.
-pub fn stamp(reading: u64) -> Stamp {
-    Stamp {
-        seconds: (reading / 1_000_000_000 % 4_294_967_296) as u32,
-        nanoseconds: (reading % 1_000_000_000) as u32,
-    }
-}
-
-/// The bytes of any message.
-pub fn datagram(message: &Message) -> [u8; 32] {
+/// The datagram of this type, precision and error that tells when its request was sent, received and answered, in
+/// nanoseconds.
+pub fn datagram(
+    message_type: u8,
+    precision: i8,
+    error: u32,
+    [asked, receive, transmit]: [u64; 3],
+) -> [u8; 32] {
     let mut bytes = [0; 32];
-    bytes[1] = message.message_type;
-    bytes[2] = message.precision.cast_unsigned();
-    [bytes[4], bytes[5], bytes[6], bytes[7]] = message.error.to_be_bytes();
-    write_stamp(&mut bytes, 8, message.originate);
-    write_stamp(&mut bytes, 16, message.receive);
-    write_stamp(&mut bytes, 24, message.transmit);
+    bytes[1] = message_type;
+    bytes[2] = precision.cast_unsigned();
+    [bytes[4], bytes[5], bytes[6], bytes[7]] = error.to_be_bytes();
+    write_stamp(&mut bytes, 8, asked);
+    write_stamp(&mut bytes, 16, receive);
+    write_stamp(&mut bytes, 24, transmit);
     bytes
 }
 
-/// The datagram of this type that tells an answer.
-pub fn answer(message_type: u8, told: &Told) -> [u8; 32] {
-    datagram(&Message {
-        message_type,
-        precision: told.precision,
-        error: told.error,
-        originate: stamp(told.asked),
-        receive: stamp(told.receive),
-        transmit: stamp(told.transmit),
-    })
-}
-
-/// A reading that may be handed to an end next.
-pub fn in_order(floor: u64, reading: u64) -> Result<u64, Fail>
-    ensures { IfOk result (λ r. (floor ≤ r) × (r < LIMIT) × (r ≡ reading)) }
-{
-    if floor <= reading && reading < LIMIT {
-        return Ok(reading);
-    }
-    Err("a reading out of order".into())
-}
-
 /// Appends words behind their peer.
-pub fn push_behind(all: &mut Text, peer: i128, words: &[u8]) -> Result<(), Memory> {
-    if !all.bytes().is_empty() {
-        all.push(b" ")?;
-    }
-    all.push_number(peer)?;
-    all.push(b" ")?;
-    all.push(words)
+pub fn push_behind(rt: &impl Abort, all: &mut String, peer: u32, words: &str) {
+    let gap = if all.is_empty() { "" } else { " " };
+    write!(all, "{gap}{peer} {words}").expect(rt, "memory");
 }

@@ -1,46 +1,51 @@
 //! Companions, and their clients of the wall clock: rows say what they answer and report.
 
-ghost use Rattle.std.specs.Prelude.{◌≡◌, ◌≤◌, ◌<◌, ◌+◌, IfOk, OnOk};
+ghost use Rattle.std.specs.Prelude.{◌≡◌, ◌≤◌, ◌<◌, ◌+◌};
 ghost use Rattle.css_companion.specs.Steps.{IsEvent};
 
-use crate::common::{EXACT, Told, answer, in_order, text};
-use crate::companion_rows::{CLOCKS, Happened, RUNS, Run};
-use css_cii::{full, write_message};
-use css_client::{Landing, Local};
+use crate::common::{EXACT, check, check_order, datagram, shown, text, words};
+use crate::companion_rows::{self as rows, Happened, Row, STAMPS};
+use css_client::Local;
 use css_companion::{
     Cause, Companion, CompanionConfig, CompanionEvent, CompanionFault, Report, line,
 };
 use css_model::LIMIT;
-use css_num::{Memory, Span, Text};
+use css_num::Text;
 use css_tsmsg::Bound;
 use std::alloc::Global;
 use std::process::Abort;
-use std::test::Fail;
 
 pub fn new_companion(
+    rt: &impl Abort,
     alloc: Global,
     selector: &str,
     stem: &str,
     local: Local,
-) -> Result<Companion, Memory>
-    ensures { IfOk result (λ companion. companion.client.floor ≡ 0) }
+) -> Companion
+    ensures { result.client.floor ≡ 0 }
 {
-    let selector = text(alloc, selector)?;
-    let stem = text(alloc, stem)?;
     let config = CompanionConfig {
-        selector,
-        stem,
+        selector: text(rt, alloc, selector),
+        stem: text(rt, alloc, stem),
         local,
     };
-    Companion::new(alloc, config)
+    Companion::new(alloc, config).expect(rt, "memory")
 }
 
-fn land(companion: &mut Companion, bytes: &[u8], reading: u64) -> Result<Landing, Memory>
+/// What becomes of bytes that land.
+fn land(
+    rt: &impl Abort,
+    alloc: Global,
+    companion: &mut Companion,
+    bytes: &[u8],
+    reading: u64,
+) -> String
     requires range { reading < LIMIT }
     requires floor { companion.old.client.floor ≤ reading }
-    ensures { OnOk result (companion.new.client.floor ≤ reading) }
+    ensures { companion.new.client.floor ≤ reading }
 {
-    companion.land(bytes, reading)
+    let landing = companion.land(bytes, reading).expect(rt, "memory");
+    shown(rt, alloc, &landing)
 }
 
 fn ask(companion: &mut Companion, reading: u64)
@@ -49,130 +54,6 @@ fn ask(companion: &mut Companion, reading: u64)
     ensures { companion.new.client.floor ≤ reading }
 {
     let _ = companion.ask(reading);
-}
-
-fn sleep(companion: &mut Companion)
-    ensures { companion.new.client.floor ≤ companion.old.client.floor + 1 }
-{
-    companion.slept();
-}
-
-/// The text that comes, if one does.
-fn words_of(happened: Happened) -> &'static str {
-    match happened {
-        Happened::Cii(words) | Happened::Ts(words) => words,
-        _ => "",
-    }
-}
-
-/// The event with this text.
-fn event_of(happened: Happened, text: Text) -> CompanionEvent
-    ensures { IsEvent result }
-{
-    match happened {
-        Happened::Cii(_) => CompanionEvent::CiiText(text),
-        Happened::Ts(_) => CompanionEvent::TsText(text),
-        Happened::TsOpened => CompanionEvent::TsOpened,
-        Happened::TsClosed => CompanionEvent::TsClosed,
-        Happened::Present => CompanionEvent::Present {
-            earliest: Bound::At {
-                content: 900_000,
-                wall: 10_040_000_000,
-            },
-            latest: Bound::PlusInfinity { content: 900_000 },
-        },
-        _ => CompanionEvent::CiiClosed,
-    }
-}
-
-/// Why an event is refused. A move tells both addresses.
-fn refusal(alloc: Global, fault: &CompanionFault) -> Result<Text, Memory> {
-    let words = format!(in alloc; "{fault}")?;
-    let mut told = Text::of(alloc, words.as_bytes())?;
-    if let CompanionFault::Moved { old, new, .. } = fault {
-        told.push(b" from ")?;
-        told.push(old.bytes())?;
-        told.push(b" to ")?;
-        told.push(new.bytes())?;
-    }
-    Ok(told)
-}
-
-/// One that is refused changes nothing of the clock either.
-pub fn step(
-    companion: &mut Companion,
-    event: CompanionEvent,
-) -> Result<Option<Text>, CompanionFault>
-    requires { IsEvent event }
-    ensures { companion.new.client ≡ companion.old.client }
-{
-    companion.step(event)
-}
-
-/// The text that is owed after an event, if one is, or why the event is refused.
-fn happen(companion: &mut Companion, alloc: Global, happened: Happened) -> Result<Text, Memory>
-    ensures { companion.new.client ≡ companion.old.client }
-{
-    let text = text(alloc, words_of(happened))?;
-    match step(companion, event_of(happened, text)) {
-        Ok(Some(owed)) => Ok(owed),
-        Ok(None) => Ok(Text::new(alloc)),
-        Err(fault) => refusal(alloc, &fault),
-    }
-}
-
-fn wall(companion: &Companion, reading: u64) -> Option<Span>
-    requires range { reading < LIMIT }
-    requires floor { companion.now.client.floor ≤ reading }
-{
-    companion.wall(reading)
-}
-
-pub fn report(companion: &Companion, reading: u64) -> Report
-    requires range { reading < LIMIT }
-    requires floor { companion.now.client.floor ≤ reading }
-{
-    companion.report(reading)
-}
-
-/// The answer to a question at a reading.
-fn answer_of(
-    companion: &Companion,
-    alloc: Global,
-    question: Happened,
-    reading: u64,
-) -> Result<Text, Memory>
-    requires range { reading < LIMIT }
-    requires floor { companion.now.client.floor ≤ reading }
-{
-    let words = match question {
-        Happened::Rate => format!(in alloc; "{:?}", companion.rate())?,
-        Happened::Assigned(wall) => format!(in alloc; "{:?}", companion.assigned(wall))?,
-        Happened::Wall(_) => match wall(companion, reading) {
-            None => format!(in alloc; "none")?,
-            Some(span) => format!(in alloc; "{} {}", span.lo, span.hi)?,
-        },
-        Happened::Kept => format!(in alloc; "{}", companion.kept())?,
-        _ => return write_message(alloc, &full(companion.state())?),
-    };
-    Text::of(alloc, words.as_bytes())
-}
-
-/// What becomes of bytes that land after this reading, and the reading then.
-fn hear(
-    companion: &mut Companion,
-    alloc: Global,
-    bytes: &[u8],
-    floor: u64,
-    reading: u64,
-) -> Result<(Text, u64), Fail>
-    requires { companion.old.client.floor ≤ floor }
-    ensures { IfOk result (λ next. companion.new.client.floor ≤ next.1) }
-{
-    let landed = in_order(floor, reading)?;
-    let landing = land(companion, bytes, landed)?;
-    let words = format!(in alloc; "{landing:?}")?;
-    Ok((text(alloc, words.as_str())?, landed))
 }
 
 /// Requests at each reading from one to below another.
@@ -187,144 +68,219 @@ fn ask_each(companion: &mut Companion, from: u64, end: u64)
     }
 }
 
-/// The answer of these times, with a precision of 1 ns.
-fn exchange([asked, receive, transmit]: [u64; 3], error: u32) -> Told {
-    Told {
-        asked,
-        landed: asked,
-        receive,
-        transmit,
-        precision: -30,
-        error,
-    }
+fn sleep(companion: &mut Companion)
+    ensures { companion.new.client.floor ≤ companion.old.client.floor + 1 }
+{
+    companion.slept();
 }
 
-/// What comes of what happens after this reading, and the reading after it.
-pub fn carry_out(
-    companion: &mut Companion,
-    alloc: Global,
-    happened: Happened,
-    floor: u64,
-) -> Result<(Text, u64), Fail>
-    requires { companion.old.client.floor ≤ floor }
-    ensures { IfOk result (λ next. companion.new.client.floor ≤ next.1) }
+/// An event that isn't one of those named ends the CII session.
+fn event_of(rt: &impl Abort, alloc: Global, happened: Happened) -> CompanionEvent
+    ensures { IsEvent result }
 {
     match happened {
-        Happened::Asks(reading) => {
-            let asked = in_order(floor, reading)?;
-            ask(companion, asked);
-            Ok((Text::new(alloc), asked))
-        }
-        Happened::AsksEach(from, count) => {
-            let from = in_order(floor, from)?;
-            let end = in_order(from, from.saturating_add(u64::from(count)))?;
-            ask_each(companion, from, end);
-            Ok((Text::new(alloc), end))
-        }
-        Happened::Hears(told) => {
-            let asked = in_order(floor, told.asked)?;
-            ask(companion, asked);
-            hear(companion, alloc, &answer(1, &told), asked, told.landed)
-        }
-        Happened::Lands(message_type, times, error, reading) => {
-            let bytes = answer(message_type, &exchange(times, error));
-            hear(companion, alloc, &bytes, floor, reading)
-        }
-        Happened::Bytes(bytes, reading) => hear(companion, alloc, bytes, floor, reading),
-        Happened::Sleeps => {
-            let floor = in_order(floor, floor)?;
-            sleep(companion);
-            Ok((Text::new(alloc), floor + 1))
-        }
-        Happened::Wall(reading) => {
-            let reading = in_order(floor, reading)?;
-            Ok((answer_of(companion, alloc, happened, reading)?, floor))
-        }
-        Happened::Rate | Happened::Assigned(_) | Happened::Kept | Happened::State => {
-            let reading = in_order(floor, floor)?;
-            Ok((answer_of(companion, alloc, happened, reading)?, reading))
-        }
-        _ => Ok((happen(companion, alloc, happened)?, floor)),
+        Happened::Cii(words) => CompanionEvent::CiiText(text(rt, alloc, words)),
+        Happened::Ts(words) => CompanionEvent::TsText(text(rt, alloc, words)),
+        Happened::TsOpened => CompanionEvent::TsOpened,
+        Happened::TsClosed => CompanionEvent::TsClosed,
+        Happened::Present => CompanionEvent::Present {
+            earliest: Bound::At {
+                content: 900_000,
+                wall: 10_040_000_000,
+            },
+            latest: Bound::PlusInfinity { content: 900_000 },
+        },
+        _ => CompanionEvent::CiiClosed,
     }
 }
 
-/// What comes of each step of an exact clock is what the step says.
-fn assert_clock(
-    rt: &impl Abort,
-    alloc: Global,
-    name: &str,
-    steps: &[(Happened, &str)],
-) -> Result<(), Fail> {
-    let mut companion = new_companion(alloc, "", "", EXACT)?;
-    let mut floor = 0;
-    for (happened, expected) in steps {
-        let (told, next) = carry_out(&mut companion, alloc, *happened, floor)?;
-        floor = next;
-        assert!(rt; told.bytes() == expected.as_bytes(), "{name}: {happened:?}");
-    }
-    Ok(())
+/// Why an event is refused. A move tells both addresses.
+fn refusal(rt: &impl Abort, alloc: Global, fault: &CompanionFault) -> String {
+    let told = match fault {
+        CompanionFault::Moved { old, new, .. } => {
+            format!(in alloc; "{fault} from {} to {}", words(old), words(new))
+        }
+        _ => format!(in alloc; "{fault}"),
+    };
+    told.expect(rt, "memory")
 }
 
-#[test]
-fn a_clock_knows_what_it_was_told(rt: HostRuntime) -> Result<(), Fail> {
-    for (name, steps) in CLOCKS {
-        assert_clock(&rt, rt.alloc(), name, steps)?;
-    }
-    Ok(())
+/// One that is refused changes nothing of the clock either.
+pub fn step(
+    companion: &mut Companion,
+    event: CompanionEvent,
+) -> Result<Option<Text>, CompanionFault>
+    requires { IsEvent event }
+    ensures { companion.new.client ≡ companion.old.client }
+{
+    companion.step(event)
 }
 
-/// Whether a companion's report is printed so behind the number 7.
-fn reports(companion: &Companion, alloc: Global, reading: u64, words: &str) -> Result<bool, Memory>
+/// The text that is owed after an event, if one is, or why the event is refused.
+fn happen(rt: &impl Abort, alloc: Global, companion: &mut Companion, happened: Happened) -> String
+    ensures { companion.new.client ≡ companion.old.client }
+{
+    match step(companion, event_of(rt, alloc, happened)) {
+        Ok(None) => String::new(alloc),
+        Ok(Some(owed)) => words(&owed).to_string(alloc).expect(rt, "memory"),
+        Err(fault) => refusal(rt, alloc, &fault),
+    }
+}
+
+pub fn report(companion: &Companion, reading: u64) -> Report
     requires range { reading < LIMIT }
     requires floor { companion.now.client.floor ≤ reading }
 {
-    let expected = format!(in alloc; "7 {words}\n")?;
-    let printed = line(alloc, 7, &report(companion, reading), None)?;
-    Ok(printed.bytes() == expected.as_bytes())
+    companion.report(reading)
 }
 
-/// What comes of each row, and the report after it, is what the row says.
-fn assert_run(rt: &impl Abort, alloc: Global, run: &Run) -> Result<(), Fail> {
-    let (selector, stem, local, rows) = *run;
-    let mut companion = new_companion(alloc, selector, stem, local)?;
-    let mut floor = 0;
-    for (happened, expected, printed) in rows {
-        let (told, next) = carry_out(&mut companion, alloc, *happened, floor)?;
-        floor = next;
-        assert!(rt; told.bytes() == expected.as_bytes(), "{happened:?}");
-        let reading = in_order(floor, floor)?;
-        assert!(rt;
-            reports(&companion, alloc, reading, printed)?,
-            "{happened:?}"
-        );
+/// The answer to a question at a reading.
+fn answer_of(
+    rt: &impl Abort,
+    alloc: Global,
+    companion: &Companion,
+    question: Happened,
+    reading: u64,
+) -> String
+    requires range { reading < LIMIT }
+    requires floor { companion.now.client.floor ≤ reading }
+{
+    match question {
+        Happened::Rate => shown(rt, alloc, &companion.rate()),
+        Happened::Assigned(wall) => shown(rt, alloc, &companion.assigned(wall)),
+        Happened::Wall(_) => shown(rt, alloc, &companion.wall(reading)),
+        _ => shown(rt, alloc, &companion.kept()),
     }
-    Ok(())
+}
+
+/// When it happens, after a reading.
+fn reading_of(happened: Happened, floor: u64) -> u64 {
+    match happened {
+        Happened::Asks(reading)
+        | Happened::AsksEach(reading)
+        | Happened::Lands(_, _, _, reading)
+        | Happened::Bytes(_, reading)
+        | Happened::Wall(reading) => reading,
+        Happened::Sleeps => floor.saturating_add(1),
+        _ => floor,
+    }
+}
+
+/// What comes of what happens at a reading.
+fn carry_out(
+    rt: &impl Abort,
+    alloc: Global,
+    companion: &mut Companion,
+    happened: Happened,
+    floor: u64,
+    reading: u64,
+) -> String
+    requires floor { companion.old.client.floor ≤ floor }
+    requires order { floor ≤ reading }
+    requires range { reading < LIMIT }
+    ensures { companion.new.client.floor ≤ reading }
+{
+    match happened {
+        Happened::AsksEach(_) => {
+            ask_each(companion, floor, reading);
+            String::new(alloc)
+        }
+        Happened::Asks(_) => {
+            ask(companion, reading);
+            String::new(alloc)
+        }
+        Happened::Lands(message_type, times, error, _) => {
+            let bytes = datagram(message_type, -30, error, times);
+            land(rt, alloc, companion, &bytes, reading)
+        }
+        Happened::Bytes(bytes, _) => land(rt, alloc, companion, bytes, reading),
+        Happened::Sleeps if floor < reading => {
+            sleep(companion);
+            String::new(alloc)
+        }
+        Happened::Wall(_) | Happened::Rate | Happened::Assigned(_) | Happened::Kept => {
+            answer_of(rt, alloc, companion, happened, reading)
+        }
+        _ => happen(rt, alloc, companion, happened),
+    }
+}
+
+/// The report is printed so behind the number 7.
+fn check_report(rt: &impl Abort, alloc: Global, companion: &Companion, reading: u64, told: &str)
+    requires range { reading < LIMIT }
+    requires floor { companion.now.client.floor ≤ reading }
+{
+    let printed = line(alloc, 7, &report(companion, reading), None).expect(rt, "memory");
+    let expected = format!(in alloc; "7 {told}\n").expect(rt, "memory");
+    check(rt, words(&printed), &expected);
+}
+
+/// What comes of each row, and the report after it if the row tells one, is what the row says. The last reading.
+pub fn play(rt: &impl Abort, alloc: Global, companion: &mut Companion, rows: &[Row]) -> u64
+    requires { companion.old.client.floor ≡ 0 }
+    ensures range { result < LIMIT }
+    ensures floor { companion.new.client.floor ≤ result }
+{
+    let mut floor = 0;
+    for (happened, expected, report) in rows {
+        let reading = reading_of(*happened, floor);
+        check_order(rt, floor, reading);
+        let told = carry_out(rt, alloc, companion, *happened, floor, reading);
+        check(rt, &told, expected);
+        if !report.is_empty() {
+            check_report(rt, alloc, companion, reading, report);
+        }
+        floor = reading;
+    }
+    floor
+}
+
+fn check_run(rt: &impl Abort, alloc: Global, selector: &str, local: Local, rows: &[Row]) {
+    let mut companion = new_companion(rt, alloc, selector, "dvb://", local);
+    let _ = play(rt, alloc, &mut companion, rows);
+}
+
+/// The greatest errors that a companion may have.
+const WIDEST: Local = Local {
+    error: 2_560_000,
+    precision: 1_000_000_000,
+};
+
+#[test]
+fn a_companion_reports_what_it_was_told(rt: HostRuntime) {
+    check_run(&rt, rt.alloc(), STAMPS, EXACT, rows::CONTROLS);
+    check_run(&rt, rt.alloc(), STAMPS, EXACT, rows::SLEPT);
+    check_run(&rt, rt.alloc(), STAMPS, EXACT, rows::CLOSED_FIRST);
+    check_run(&rt, rt.alloc(), "urn:x:1", EXACT, rows::RATES);
+    check_run(&rt, rt.alloc(), STAMPS, EXACT, rows::RATES_OF_STAMPS);
+    check_run(&rt, rt.alloc(), STAMPS, EXACT, rows::REFUSALS);
+    check_run(&rt, rt.alloc(), "urn:x:1", WIDEST, rows::NEAR_LIMIT);
 }
 
 #[test]
-fn a_companion_reports_what_it_was_told(rt: HostRuntime) -> Result<(), Fail> {
-    for run in &RUNS {
-        assert_run(&rt, rt.alloc(), run)?;
-    }
-    Ok(())
+fn a_companion_knows_the_wall_clock(rt: HostRuntime) {
+    check_run(&rt, rt.alloc(), "", EXACT, rows::OF_THE_LAST_64);
+    check_run(&rt, rt.alloc(), "", EXACT, rows::AFTER_IMPOSSIBLE);
+    check_run(&rt, rt.alloc(), "", EXACT, rows::OF_ITS_OWN_RESPONSE);
+    check_run(&rt, rt.alloc(), "", EXACT, rows::LAST_COPY);
+    check_run(&rt, rt.alloc(), "", EXACT, rows::ASLEEP);
 }
-
-const GREATEST: &str =
-    "18446744073709551615 ticks -170141183460469231731687303715884105728 170141183460469231731687303715884105727\n";
 
 /// Lines of reports with the positions that they tell beside them.
 #[rattlefmt::skip]
 const LINES: [(u64, Report, Option<i128>, &str); 3] = [
     (7, Report::Ticks { lo: -3, hi: 12 }, Some(-1), "7 ticks -3 12 at -1\n"),
     (7, Report::None(Cause::NoRate), Some(-1), "7 none NoRate\n"),
-    (u64::MAX, Report::Ticks { lo: i128::MIN, hi: i128::MAX }, None, GREATEST),
+    (
+        u64::MAX, Report::Ticks { lo: i128::MIN, hi: i128::MAX }, None,
+        "18446744073709551615 ticks -170141183460469231731687303715884105728 170141183460469231731687303715884105727\n",
+    ),
 ];
 
 #[test]
-fn lines_are_printed(rt: HostRuntime) -> Result<(), Fail> {
+fn lines_are_printed(rt: HostRuntime) {
     for (number, report, assigned, expected) in &LINES {
-        let printed = line(rt.alloc(), *number, report, *assigned)?;
-        assert_eq!(rt; printed.bytes(), expected.as_bytes());
+        let printed = line(rt.alloc(), *number, report, *assigned).expect(&rt, "memory");
+        check(&rt, words(&printed), expected);
     }
-    Ok(())
 }

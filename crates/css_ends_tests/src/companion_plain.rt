@@ -1,23 +1,17 @@
 //! Reports of drawn texts, against a plain second computation.
 
-ghost use Rattle.std.specs.Prelude.{◌≤◌, ◌<◌, IfOk};
+ghost use Rattle.std.specs.Prelude.{◌≤◌, ◌<◌};
 ghost use Rattle.css_companion.specs.Steps.{IsEvent};
 
-use crate::common::{Dice, EXACT, Told, in_order};
-use crate::companion::{carry_out, new_companion, report, step};
-use crate::companion_rows::Happened;
+use crate::common::{Dice, EXACT, check_that, text};
+use crate::companion::{new_companion, play, report, step};
+use crate::companion_rows::ANSWERED;
 use css_companion::{Cause, Companion, CompanionEvent, Report};
 use css_model::LIMIT;
-use css_num::{Memory, Text};
+use css_num::Text;
 use css_tsmsg::{TsFault, TsName};
 use std::alloc::Global;
 use std::process::Abort;
-use std::test::Fail;
-
-/// With an exact clock, the wall clock is 10 s and 197 to 403 ns when this answer lands.
-#[rattlefmt::skip]
-const ANSWER: Told =
-    Told { asked: 0, landed: 200, receive: 10_000_000_200, transmit: 10_000_000_200, precision: -30, error: 0 };
 
 /// What is known: the ticks in a second, and the last content time, wall time and speed.
 #[derive(Clone, Copy)]
@@ -36,67 +30,72 @@ impl Plain {
         Ok(i128::from(content).wrapping_add(gone.div_euclid(1_000_000_000)))
     }
 
-    fn report(&self) -> Result<Report, Cause> {
-        let one = self.position(10_000_000_197)?;
-        let other = self.position(10_000_000_403)?;
-        Ok(Report::Ticks {
-            lo: one.min(other),
-            hi: one.max(other),
-        })
+    /// The report 200 ns after the answer of [`ANSWERED`], by the span of the wall clock.
+    fn report(&self) -> Report {
+        match (self.position(10_000_000_197), self.position(10_000_000_403)) {
+            (Ok(one), Ok(other)) => Report::Ticks {
+                lo: one.min(other),
+                hi: one.max(other),
+            },
+            (Err(cause), _) | (_, Err(cause)) => Report::None(cause),
+        }
     }
 }
 
 /// A CII text, some of which tell nothing of the timeline `urn:x:1`.
-fn drawn_cii(dice: &mut Dice, plain: &mut Plain, alloc: Global) -> Result<Text, Memory> {
+fn drawn_cii(rt: &impl Abort, alloc: Global, dice: &mut Dice, plain: &mut Plain) -> Text {
     let rate = [50, 1000, 90_000][dice.next(3) as usize];
-    let text = match dice.next(6) {
-        0 => return Text::of(alloc, b"[]"),
-        1 => return Text::of(alloc, br#"{"timelines":null,"teUrl":5}"#),
+    match dice.next(6) {
+        0 => text(rt, alloc, "[]"),
+        1 => text(rt, alloc, r#"{"timelines":null,"teUrl":5}"#),
         2 => {
             plain.rate = None;
-            return Text::of(alloc, br#"{"timelines":null}"#);
+            text(rt, alloc, r#"{"timelines":null}"#)
         }
-        _ => format!(in alloc;
-            "{{\"timelines\":[{{\"timelineSelector\":\"urn:x:1\",\
-             \"timelineProperties\":{{\"unitsPerTick\":1,\"unitsPerSecond\":{rate}}}}}]}}"
-        )?,
-    };
-    plain.rate = Some(rate);
-    Text::of(alloc, text.as_bytes())
+        _ => {
+            plain.rate = Some(rate);
+            let words = format!(in alloc;
+                "{{\"timelines\":[{{\"timelineSelector\":\"urn:x:1\",\
+                 \"timelineProperties\":{{\"unitsPerTick\":1,\"unitsPerSecond\":{rate}}}}}]}}"
+            );
+            text(rt, alloc, &words.expect(rt, "memory"))
+        }
+    }
 }
 
 /// A text of the TS session.
-fn drawn_ts(dice: &mut Dice, plain: &mut Plain, alloc: Global) -> Result<Text, Memory> {
+fn drawn_ts(rt: &impl Abort, alloc: Global, dice: &mut Dice, plain: &mut Plain) -> Text {
     let content = dice.next(2_000_000_000);
     let wall = 10 * u64::from(dice.next(2_000_000_000));
     let speed = [-64, -3, 0, 1, 64][dice.next(5) as usize];
     match dice.next(8) {
         0 => {
             plain.last = Err(Cause::Unavailable);
-            Text::of(alloc, br#"{"contentTime":null,"wallClockTime":5}"#)
+            text(rt, alloc, r#"{"contentTime":null,"wallClockTime":5}"#)
         }
         1 => {
             plain.last = Err(Cause::Unreadable(TsFault::Field(TsName::ContentTime)));
-            Text::of(alloc, b"{}")
+            text(rt, alloc, "{}")
         }
         _ => {
             plain.last = Ok((content, wall, speed));
-            let text = format!(in alloc;
+            let words = format!(in alloc;
                 "{{\"contentTime\":\"{content}\",\"wallClockTime\":\"{wall}\",\
                  \"timelineSpeedMultiplier\":{speed}}}"
-            )?;
-            Text::of(alloc, text.as_bytes())
+            );
+            text(rt, alloc, &words.expect(rt, "memory"))
         }
     }
 }
 
-fn drawn(dice: &mut Dice, plain: &mut Plain, alloc: Global) -> Result<CompanionEvent, Memory>
-    ensures { IfOk result IsEvent }
+fn drawn(rt: &impl Abort, alloc: Global, dice: &mut Dice, plain: &mut Plain) -> CompanionEvent
+    ensures { IsEvent result }
 {
     if dice.next(2) == 0 {
-        return Ok(CompanionEvent::CiiText(drawn_cii(dice, plain, alloc)?));
+        CompanionEvent::CiiText(drawn_cii(rt, alloc, dice, plain))
+    } else {
+        CompanionEvent::TsText(drawn_ts(rt, alloc, dice, plain))
     }
-    Ok(CompanionEvent::TsText(drawn_ts(dice, plain, alloc)?))
 }
 
 /// Whether both reports and both positions are equal.
@@ -104,28 +103,29 @@ fn agree(companion: &Companion, plain: &Plain, reading: u64) -> bool
     requires range { reading < LIMIT }
     requires floor { companion.now.client.floor ≤ reading }
 {
-    let expected = match plain.report() {
-        Err(cause) => Report::None(cause),
-        Ok(report) => report,
-    };
-    report(companion, reading) == expected
+    report(companion, reading) == plain.report()
         && companion.assigned(10_000_000_017) == plain.position(10_000_000_017).ok()
 }
 
-#[test]
-fn drawn_texts_give_the_same_reports(rt: HostRuntime) -> Result<(), Fail> {
-    let mut companion = new_companion(rt.alloc(), "urn:x:1", "dvb://", EXACT)?;
-    let (_, landed) = carry_out(&mut companion, rt.alloc(), Happened::Hears(ANSWER), 0)?;
-    let reading = in_order(landed, 200)?;
+fn compare_drawn(rt: &impl Abort, alloc: Global, companion: &mut Companion, reading: u64)
+    requires range { reading < LIMIT }
+    requires floor { companion.old.client.floor ≤ reading }
+{
     let mut dice = Dice { seed: 1 };
     let mut plain = Plain {
         rate: None,
         last: Err(Cause::NoTimestamp),
     };
-    for i in 0..1000 {
-        let event = drawn(&mut dice, &mut plain, rt.alloc())?;
-        let _ = step(&mut companion, event);
-        assert!(rt; agree(&companion, &plain, reading), "text {i}");
+    for _ in 0..1000 {
+        let event = drawn(rt, alloc, &mut dice, &mut plain);
+        let _ = step(companion, event);
+        check_that(rt, agree(companion, &plain, reading), "a drawn text");
     }
-    Ok(())
+}
+
+#[test]
+fn drawn_texts_give_the_same_reports(rt: HostRuntime) {
+    let mut companion = new_companion(&rt, rt.alloc(), "urn:x:1", "dvb://", EXACT);
+    let reading = play(&rt, rt.alloc(), &mut companion, ANSWERED);
+    compare_drawn(&rt, rt.alloc(), &mut companion, reading);
 }

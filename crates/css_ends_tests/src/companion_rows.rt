@@ -1,23 +1,20 @@
 //! Companions, what happens at each, what it answers, and its report then.
 
-use crate::common::{EXACT, Told};
 use Happened::*;
-use css_client::Local;
 use css_model::LIMIT;
 
 /// What happens at a companion, or a question.
-#[derive(Clone, Copy, Debug)]
+#[derive(Clone, Copy)]
 pub enum Happened {
     /// A request at this reading.
     Asks(u64),
-    /// So many requests, each a nanosecond after the one before.
-    AsksEach(u64, u32),
-    /// A datagram of this type with these times, a precision of 1 ns and this error lands at a reading.
+    /// A request at each reading from the last one to below this one.
+    AsksEach(u64),
+    /// A datagram of this type lands that tells these readings of a request, its receipt and its answer, a precision
+    /// of 1 ns and this error. The last number is the reading then.
     Lands(u8, [u64; 3], u32, u64),
     /// Other bytes land.
     Bytes(&'static [u8], u64),
-    /// The companion asks, and the answer lands.
-    Hears(Told),
     Sleeps,
     Cii(&'static str),
     CiiClosed,
@@ -30,161 +27,103 @@ pub enum Happened {
     Rate,
     /// Asks for the tick at a value of the wall clock.
     Assigned(u64),
-    /// Asks for the state of the content.
-    State,
     /// Asks for the span of the wall clock at a reading.
     Wall(u64),
     /// Asks how many answers are kept.
     Kept,
 }
 
-/// What happens; what becomes of an answer, the text that is then owed to the TS session, or why the event is refused,
-/// or the answer to a question; and the report after it.
+/// What happens; what becomes of an answer, the text that is then owed to the TS session, why the event is refused, or
+/// the answer to a question; and the report after it, unless that is left out.
 pub type Row = (Happened, &'static str, &'static str);
-
-/// A selector, a stem, the companion's own clock, and what happens.
-pub type Run = (&'static str, &'static str, Local, &'static [Row]);
 
 /// The scaled width of an answer that is impossible by the least.
 const IMPOSSIBLE: &str = "Impossible(-65536000000000000)";
 
-/// What each run of requests, answers and sleeps is about, and what comes of each step.
+pub const STAMPS: &str = "urn:dvb:css:timeline:pts";
+
+/// An answer is to one of the last 64 requests.
 #[rattlefmt::skip]
-pub const CLOCKS: &[(&str, &[(Happened, &str)])] = &[
-    ("an answer is to one of the last 64 requests", &[
-        (AsksEach(1, 64), ""),
-        (Asks(65), ""),
-        (Lands(1, [1, 5000, 5000], 0, 100), "Unasked"),
-        (Wall(100), "none"),
-        (Lands(1, [2, 5000, 5000], 0, 100), "Accepted"),
-        (Wall(100), "4997 5101"),
-        (Lands(0, [100, 0, 0], 0, 100), "NotAnAnswer"),
-        (Bytes(b"a datagram has 32 bytes", 100), "Undecodable(Length)"),
-        (Kept, "1"),
-        (Wall(100), "4997 5101"),
-    ]),
-    ("a follow-up is of the response with its receive value", &[
-        (Asks(1000), ""),
-        (Lands(2, [1000, 11100, 11100], 0, 1400), "Accepted"),
-        (Lands(3, [1000, 11300, 12050], 0, 2100), "Accepted"),
-        (Wall(2100), "12047 12403"),
-    ]),
-    ("a follow-up may land before its response", &[
-        (Asks(1000), ""),
-        (Lands(3, [1000, 11100, 11200], 0, 1300), "Accepted"),
-        (Lands(2, [1000, 11100, 11100], 0, 1400), "Accepted"),
-        (Wall(1400), "11297 11503"),
-    ]),
-    ("a follow-up counts from an impossible response", &[
-        (Asks(1000), ""),
-        (Lands(2, [1000, 5000, 6000], 0, 1600), "Impossible(-25821184000000000000)"),
-        (Wall(1600), "none"),
-        (Lands(3, [1000, 5000, 5200], 0, 1700), "Accepted"),
-        (Wall(1700), "5297 5703"),
-    ]),
-    // The longest time for which each follow-up is possible tells the landing that it counts from.
-    ("each follow-up counts from its own response", &[
-        (Asks(1000), ""),
-        (Lands(2, [1000, 5000, 5000], 0, 2000), "Accepted"),
-        (Lands(2, [1000, 5010, 5010], 0, 2010), "Accepted"),
-        (Lands(2, [1000, 5020, 5020], 0, 2020), "Accepted"),
-        (Lands(3, [1000, 5010, 6026], 0, 5000), "Accepted"),
-        (Lands(3, [1000, 5010, 6027], 0, 5000), IMPOSSIBLE),
-        (Lands(3, [1000, 5020, 6046], 0, 5000), "Accepted"),
-        (Lands(3, [1000, 5020, 6047], 0, 5000), IMPOSSIBLE),
-    ]),
-    ("a request is forgotten with its last copy", &[
-        (Asks(1), ""),
-        (Asks(1), ""),
-        (Lands(2, [1, 5000, 5000], 0, 1), "Accepted"),
-        (AsksEach(2, 63), ""),
-        (Lands(3, [1, 5000, 5007], 0, 100), IMPOSSIBLE),
-        (Asks(100), ""),
-        (Lands(3, [1, 5000, 5007], 0, 101), "Unasked"),
-    ]),
-    ("a sleep ends what is known", &[
-        (Asks(1000), ""),
-        (Sleeps, ""),
-        (Lands(2, [1000, 5000, 5000], 0, 1600), "Unasked"),
-        (Asks(1601), ""),
-        (Lands(2, [1601, 5000, 5000], 0, 2201), "Accepted"),
-        (Kept, "1"),
-        (Sleeps, ""),
-        (Kept, "0"),
-        (Wall(2300), "none"),
-        (Lands(3, [1601, 5000, 5000], 0, 2300), "Unasked"),
-    ]),
-    ("the narrowest of two answers changes", &[
-        (Asks(1000), ""),
-        (Lands(1, [1000, 5000, 5200], 256_000, 1600), "Accepted"),
-        (Asks(2000), ""),
-        (Lands(1, [2000, 6000, 6200], 0, 4000), "Accepted"),
-        (Wall(4000), "7594 8007"),
-        (Wall(701_300), "704197 706004"),
-        (Wall(701_301), "703498 705304"),
-        (Kept, "2"),
-    ]),
-    ("one answer of each error is kept", &[
-        (Asks(1000), ""),
-        (Asks(1010), ""),
-        (Lands(1, [1000, 5000, 5200], 0, 1600), "Accepted"),
-        (Lands(1, [1010, 5010, 5210], 0, 1610), "Accepted"),
-        (Kept, "1"),
-        (Wall(1690), "5287 5693"),
-    ]),
+pub const OF_THE_LAST_64: &[Row] = &[
+    (AsksEach(66), "", ""),
+    (Lands(1, [1, 5000, 5000], 0, 100), "Unasked", ""),
+    (Lands(1, [2, 5000, 5000], 0, 100), "Accepted", ""),
+    (Wall(100), "Some(Span { lo: 4997, hi: 5101 })", ""),
+    (Lands(0, [100, 0, 0], 0, 100), "NotAnAnswer", ""),
+    (Bytes(b"a datagram has 32 bytes", 100), "Undecodable(Length)", ""),
+    (Kept, "1", ""),
+    (Wall(100), "Some(Span { lo: 4997, hi: 5101 })", ""),
 ];
 
-const STAMPS: &str = "urn:dvb:css:timeline:pts";
-
-/// The greatest errors that a companion may have.
-const WIDEST: Local = Local {
-    error: 2_560_000,
-    precision: 1_000_000_000,
-};
-
+/// A follow-up counts from an impossible response.
 #[rattlefmt::skip]
-pub const RUNS: [Run; 7] = [
-    (STAMPS, "dvb://", EXACT, CONTROLS),
-    (STAMPS, "dvb://", EXACT, SLEPT),
-    (STAMPS, "dvb://", EXACT, CLOSED_FIRST),
-    ("urn:x:1", "dvb://", EXACT, RATES),
-    (STAMPS, "dvb://", EXACT, RATES_OF_STAMPS),
-    (STAMPS, "dvb://", EXACT, REFUSALS),
-    ("urn:x:1", "dvb://", WIDEST, NEAR_LIMIT),
+pub const AFTER_IMPOSSIBLE: &[Row] = &[
+    (Asks(1000), "", ""),
+    (Lands(2, [1000, 5000, 6000], 0, 1600), "Impossible(-25821184000000000000)", ""),
+    (Wall(1600), "None", ""),
+    (Lands(3, [1000, 5000, 5200], 0, 1700), "Accepted", ""),
+    (Wall(1700), "Some(Span { lo: 5297, hi: 5703 })", ""),
 ];
+
+/// Each follow-up counts from its own response. The longest time for which each is possible tells its landing.
+#[rattlefmt::skip]
+pub const OF_ITS_OWN_RESPONSE: &[Row] = &[
+    (Asks(1000), "", ""),
+    (Lands(2, [1000, 5000, 5000], 0, 2000), "Accepted", ""),
+    (Lands(2, [1000, 5010, 5010], 0, 2010), "Accepted", ""),
+    (Lands(2, [1000, 5020, 5020], 0, 2020), "Accepted", ""),
+    (Lands(3, [1000, 5010, 6026], 0, 5000), "Accepted", ""),
+    (Lands(3, [1000, 5010, 6027], 0, 5000), IMPOSSIBLE, ""),
+    (Lands(3, [1000, 5020, 6046], 0, 5000), "Accepted", ""),
+    (Lands(3, [1000, 5020, 6047], 0, 5000), IMPOSSIBLE, ""),
+];
+
+/// A request is forgotten with its last copy.
+#[rattlefmt::skip]
+pub const LAST_COPY: &[Row] = &[
+    (Asks(1), "", ""),
+    (Lands(2, [1, 5000, 5000], 0, 1), "Accepted", ""),
+    (AsksEach(65), "", ""),
+    (Lands(3, [1, 5000, 5007], 0, 100), IMPOSSIBLE, ""),
+    (Asks(100), "", ""),
+    (Lands(3, [1, 5000, 5007], 0, 101), "Unasked", ""),
+];
+
+/// A sleep ends what is known.
+#[rattlefmt::skip]
+pub const ASLEEP: &[Row] = &[
+    (Asks(1000), "", ""),
+    (Sleeps, "", ""),
+    (Lands(2, [1000, 5000, 5000], 0, 1600), "Unasked", ""),
+    (Asks(1601), "", ""),
+    (Lands(2, [1601, 5000, 5000], 0, 2201), "Accepted", ""),
+    (Kept, "1", ""),
+    (Sleeps, "", ""),
+    (Kept, "0", ""),
+    (Wall(2300), "None", ""),
+    (Lands(3, [1601, 5000, 5000], 0, 2300), "Unasked", ""),
+];
+
+const ASKS: Row = (Asks(1000), "", "none NoAnswer");
 
 /// The wall clock is from 10,500,000,000 to 10,500,022,222 ns when it lands.
 #[rattlefmt::skip]
-const LATE: Told =
-    Told { asked: 1000, landed: 23_216, receive: 10_500_000_003, transmit: 10_500_000_003, precision: -30, error: 0 };
+const LATE: Row = (Lands(1, [1000, 10_500_000_003, 10_500_000_003], 0, 23_216), "Accepted", "none NoTimestamp");
 
-/// The wall clock is from 10,000,000,297 to 10,000,000,603 ns when it lands.
-#[rattlefmt::skip]
-const EARLY: Told =
-    Told { asked: 100, landed: 400, receive: 10_000_000_300, transmit: 10_000_000_300, precision: -30, error: 0 };
+/// The greatest reading of the wall clock, with the greatest precision and error, in an answer to a request at 0.
+const GREATEST: &[u8] = b"\0\x01\x1e\0\x01\x86\xa0\0\0\0\0\0\0\0\0\0\
+\xff\xff\xff\xff\x3b\x9a\xc9\xff\xff\xff\xff\xff\x3b\x9a\xc9\xff";
 
-/// The answer after a sleep.
+/// With an exact clock, the wall clock is from 10,000,000,197 to 10,000,000,403 ns at the reading 200.
 #[rattlefmt::skip]
-const NEXT: Told =
-    Told { asked: 500, landed: 800, receive: 10_000_000_700, transmit: 10_000_000_700, precision: -30, error: 0 };
-
-/// The greatest reading of the wall clock, with the greatest errors: it is from 3,221,225,470,217,821,779 to
-/// 10,140,895,006,666,666,667 ns.
-#[rattlefmt::skip]
-const GREATEST: Told =
-    Told { asked: 0, landed: LIMIT - 1, receive: LIMIT - 1, transmit: LIMIT - 1, precision: 30, error: 25_600_000 };
+pub const ANSWERED: &[Row] =
+    &[(Asks(0), "", ""), (Lands(1, [0, 10_000_000_200, 10_000_000_200], 0, 200), "Accepted", "")];
 
 const FULL: &str = concat!(
     r#"{"contentId":"dvb://1.2.3","contentIdStatus":"final","mrsUrl":null,"presentationStatus":"okay","#,
     r#""protocolVersion":"1.1","teUrl":null,"timelines":[{"timelineProperties":{"unitsPerSecond":90000,"#,
     r#""unitsPerTick":1},"timelineSelector":"urn:dvb:css:timeline:pts"}],"#,
     r#""tsUrl":"ws://127.0.0.1:6678/ts","wcUrl":"udp://127.0.0.1:6677"}"#
-);
-
-/// The state before the first text.
-const NULLS: &str = concat!(
-    r#"{"contentId":null,"contentIdStatus":null,"mrsUrl":null,"presentationStatus":null,"protocolVersion":null,"#,
-    r#""teUrl":null,"timelines":null,"tsUrl":null,"wcUrl":null}"#
 );
 
 /// What is owed for [`Present`].
@@ -204,8 +143,9 @@ const UNAVAILABLE: &str =
 
 /// A companion of presentation time stamps, where the wall clock is from 10,500,000,000 to 10,500,022,222 ns.
 #[rattlefmt::skip]
-const CONTROLS: &[Row] = &[
-    (Hears(LATE), "Accepted", "none NoTimestamp"),
+pub const CONTROLS: &[Row] = &[
+    ASKS,
+    LATE,
     (CiiClosed, "", "none NoTimestamp"),
     (Ts(PLAYS), "", "ticks 945000 945001"),
     (TsOpened, r#"{"contentIdStem":"dvb://","timelineSelector":"urn:dvb:css:timeline:pts"}"#, "ticks 945000 945001"),
@@ -238,28 +178,28 @@ const CONTROLS: &[Row] = &[
 
 /// A sleep ends the wall clock alone. An answer to a request from before the sleep comes too late.
 #[rattlefmt::skip]
-const SLEPT: &[Row] = &[
-    (Hears(EARLY), "Accepted", "none NoTimestamp"),
-    (Wall(400), "10000000297 10000000603", "none NoTimestamp"),
+pub const SLEPT: &[Row] = &[
+    (Asks(100), "", ""),
+    (Lands(1, [100, 10_000_000_300, 10_000_000_300], 0, 400), "Accepted", "none NoTimestamp"),
+    (Wall(400), "Some(Span { lo: 10000000297, hi: 10000000603 })", "none NoTimestamp"),
     (Ts(PLAYS), "", "ticks 900000 900000"),
     (Ts(PLAYS_LATER), "", "ticks 896400 896400"),
-    (Kept, "1", "ticks 896400 896400"),
     (Sleeps, "", "none NoAnswer"),
     (Kept, "0", "none NoAnswer"),
-    (Wall(401), "none", "none NoAnswer"),
+    (Wall(401), "None", "none NoAnswer"),
     (Lands(1, [100, 10_000_000_300, 10_000_000_300], 0, 401), "Unasked", "none NoAnswer"),
     (Assigned(10_000_000_400), "Some(896400)", "none NoAnswer"),
-    (Hears(NEXT), "Accepted", "ticks 896400 896400"),
+    (Asks(500), "", ""),
+    (Lands(1, [500, 10_000_000_700, 10_000_000_700], 0, 800), "Accepted", "ticks 896400 896400"),
     (Ts(PLAYS), "", "ticks 900000 900000"),
 ];
 
 /// A session that closed before its first text told none.
 #[rattlefmt::skip]
-const CLOSED_FIRST: &[Row] = &[
-    (Hears(LATE), "Accepted", "none NoTimestamp"),
+pub const CLOSED_FIRST: &[Row] = &[
+    ASKS,
+    LATE,
     (TsClosed, "", "none NoTimestamp"),
-    (CiiClosed, "", "none NoTimestamp"),
-    (Cii(FULL), "", "none NoTimestamp"),
     (Ts(UNAVAILABLE), "", "none SessionClosed"),
 ];
 
@@ -281,8 +221,9 @@ const RATE_OF_STAMPS: &str = concat!(
 
 /// A companion of the timeline `urn:x:1`, where the wall clock is from 10,500,000,000 to 10,500,022,222 ns.
 #[rattlefmt::skip]
-const RATES: &[Row] = &[
-    (Hears(LATE), "Accepted", "none NoTimestamp"),
+pub const RATES: &[Row] = &[
+    ASKS,
+    LATE,
     (Rate, "None", "none NoTimestamp"),
     (Ts(PLAYS), "", "none NoRate"),
     (Cii(FULL), "", "none NoRate"),
@@ -295,8 +236,9 @@ const RATES: &[Row] = &[
 
 /// The timeline of presentation time stamps has its own rate where it isn't listed.
 #[rattlefmt::skip]
-const RATES_OF_STAMPS: &[Row] = &[
-    (Hears(LATE), "Accepted", "none NoTimestamp"),
+pub const RATES_OF_STAMPS: &[Row] = &[
+    ASKS,
+    LATE,
     (Assigned(10_500_000_000), "None", "none NoTimestamp"),
     (Ts(PLAYS), "", "ticks 945000 945001"),
     (Cii(RATE_OF_STAMPS), "", "ticks 900500 900500"),
@@ -309,14 +251,12 @@ const RATES_OF_STAMPS: &[Row] = &[
 /// A companion without an answer knows no ticks. The refusals of CII texts, and the addresses that aren't moved: they
 /// may go to null, and from null to others. A text that is refused is counted and changes nothing else.
 #[rattlefmt::skip]
-const REFUSALS: &[Row] = &[
-    (State, NULLS, "none NoAnswer"),
+pub const REFUSALS: &[Row] = &[
     (TsClosed, "", "none NoAnswer"),
     (Ts(PLAYS), "", "none NoAnswer"),
     (Cii(FULL), "", "none NoAnswer"),
     (Cii(""), "cii text 2: not json", "none NoAnswer"),
-    (Cii("[]"), "cii text 3: not object", "none NoAnswer"),
-    (Cii(r#"{"contentId":"b","timelines":[5]}"#), "cii text 4: field timelines", "none NoAnswer"),
+    (Cii(r#"{"contentId":"b","timelines":[5]}"#), "cii text 3: field timelines", "none NoAnswer"),
     (Cii(r#"{"wcUrl":"udp://127.0.0.1:6677","tsUrl":"ws://127.0.0.1:6678/ts"}"#), "", "none NoAnswer"),
     (
         Cii(r#"{"contentId":"b","tsUrl":"ws://b/ts","wcUrl":"udp://b:1"}"#),
@@ -328,8 +268,7 @@ const REFUSALS: &[Row] = &[
         "moved tsUrl from ws://127.0.0.1:6678/ts to ws://b/ts",
         "none NoAnswer",
     ),
-    (Cii(r#"{"teUrl":5,"wcUrl":"udp://b:1"}"#), "cii text 8: field teUrl", "none NoAnswer"),
-    (State, FULL, "none NoAnswer"),
+    (Cii(r#"{"teUrl":5,"wcUrl":"udp://b:1"}"#), "cii text 7: field teUrl", "none NoAnswer"),
     (Cii(r#"{"wcUrl":null}"#), "", "none NoAnswer"),
     (Cii(r#"{"tsUrl":null}"#), "", "none NoAnswer"),
     (Cii(r#"{"wcUrl":"udp://b:1","tsUrl":"ws://b/ts"}"#), "", "none NoAnswer"),
@@ -358,8 +297,10 @@ const DOWN_TO_2_63: &str =
     r#"{"contentTime":"999999999999999999","timelineSpeedMultiplier":-64,"wallClockTime":"9223372036854775807"}"#;
 
 #[rattlefmt::skip]
-const NEAR_LIMIT: &[Row] = &[
-    (Hears(GREATEST), "Accepted", "none NoTimestamp"),
+pub const NEAR_LIMIT: &[Row] = &[
+    (Asks(0), "", ""),
+    // The wall clock is from 3,221,225,470,217,821,779 to 10,140,895,006,666,666,667 ns.
+    (Bytes(GREATEST, LIMIT - 1), "Accepted", "none NoTimestamp"),
     (Cii(SLOWEST), "", "none NoTimestamp"),
     (Ts(UP_FROM_0), "", "ticks 1000000000000000205 1000000000000000648"),
     (Ts(DOWN_FROM_0), "", "ticks -1000000000000000649 -1000000000000000206"),

@@ -1,16 +1,15 @@
 //! What is refused of sessions, and the windows in force. The tests of televisions have what sessions are told.
 
-use crate::common::push_behind;
+use crate::common::{check, push_behind, shown, words};
 use Call::{Close, DropWindows, IsSetUp, OpenCii, OpenTs, Present, SetUp, Windows};
-use css_num::{Memory, Rate, Text};
-use css_player::{Command, Player, PlayerFault};
+use css_num::Rate;
+use css_player::{Command, Player};
 use css_sessions::{Kind, Said, SessionFault, Sessions};
 use std::alloc::Global;
 use std::process::Abort;
-use std::test::Fail;
 
 /// What is done at the sessions, or asked of them.
-#[derive(Clone, Copy, Debug)]
+#[derive(Clone, Copy)]
 enum Call {
     OpenCii,
     OpenTs,
@@ -65,7 +64,6 @@ const PRESENTED: &[Row] = &[
     (SetUp, 7, ALL, "no session"),
     (SetUp, 1, ALL, "no session"),
     (Present, 1, LATER, "no session"),
-    (IsSetUp, 1, "", "None"),
     (OpenTs, 1, "", ""),
     (Present, 1, LATER, "no session"),
     (SetUp, 1, "{", "bad text: not json"),
@@ -87,7 +85,6 @@ const DROPPED: &[Row] = &[
     (Windows, 0, "", FAR_WINDOW),
     (DropWindows, 0, "", ""),
     (Windows, 0, "", "[]"),
-    (IsSetUp, 1, "", "Some(true)"),
 ];
 
 /// A window ends with its session.
@@ -100,16 +97,22 @@ const CLOSED: &[Row] = &[
 ];
 
 /// A player that shows a programme from 5 s on, with the timeline of 90,000 ticks a second from 900,000 on.
-fn player(alloc: Global) -> Result<Player, PlayerFault> {
+fn new_player(rt: &impl Abort, alloc: Global) -> Player {
     let mut player = Player::new(alloc);
-    let number = player.add_programme(alloc, b"dvb://1")?;
+    let number = player
+        .add_programme(alloc, b"dvb://1")
+        .expect(rt, "a programme");
     let rate = Rate {
         units_per_tick: 1,
         units_per_second: 90_000,
     };
-    player.add_timeline(alloc, number, b"urn:dvb:css:timeline:pts", rate, 900_000)?;
-    player.command(Command::Change(1), 5_000_000_000)?;
-    Ok(player)
+    player
+        .add_timeline(alloc, number, b"urn:dvb:css:timeline:pts", rate, 900_000)
+        .expect(rt, "a timeline");
+    player
+        .command(Command::Change(1), 5_000_000_000)
+        .expect(rt, "a change");
+    player
 }
 
 /// Opens a session, unless the peer has one.
@@ -135,64 +138,59 @@ fn carry_out(
     out: &mut Vec<Said>,
 ) -> Result<(), SessionFault> {
     match call {
-        OpenCii => open(sessions, alloc, *peer, Kind::Cii, out),
-        OpenTs => open(sessions, alloc, *peer, Kind::Ts, out),
-        SetUp => sessions.setup(alloc, *peer, text.as_bytes(), player, out),
-        Present => sessions.presentation(alloc, *peer, text.as_bytes(), player),
-        Close => {
-            sessions.closed(*peer);
-            Ok(())
-        }
-        DropWindows => {
-            sessions.drop_windows();
-            Ok(())
-        }
-        Windows | IsSetUp => Ok(()),
-    }
-}
-
-/// What comes of a call, in words.
-fn outcome(
-    sessions: &mut Sessions,
-    alloc: Global,
-    row: &Row,
-    player: &Player,
-) -> Result<Text, Memory> {
-    let mut out = Vec::new(alloc);
-    let mut all = Text::new(alloc);
-    match (carry_out(sessions, alloc, row, player, &mut out), row.0) {
-        (Err(fault), _) => all.push(format!(in alloc; "{fault}")?.as_bytes())?,
-        (_, Windows) => {
-            let windows = sessions.windows(alloc)?;
-            all.push(format!(in alloc; "{:?}", windows.as_slice())?.as_bytes())?;
-        }
-        (_, IsSetUp) => {
-            all.push(format!(in alloc; "{:?}", sessions.is_setup(row.1))?.as_bytes())?
-        }
-        _ => {
-            for said in out.iter() {
-                push_behind(&mut all, i128::from(said.peer), said.text.bytes())?;
-            }
-        }
-    }
-    Ok(all)
-}
-
-/// What comes of each row is what the row says.
-fn play(rt: &impl Abort, alloc: Global, sessions: &mut Sessions, rows: &[Row]) -> Result<(), Fail> {
-    let player = player(alloc)?;
-    for row in rows {
-        let told = outcome(sessions, alloc, row, &player)?;
-        assert!(rt; told.bytes() == row.3.as_bytes(), "{row:?}");
+        OpenCii => return open(sessions, alloc, *peer, Kind::Cii, out),
+        OpenTs => return open(sessions, alloc, *peer, Kind::Ts, out),
+        SetUp => return sessions.setup(alloc, *peer, text.as_bytes(), player, out),
+        Present => return sessions.presentation(alloc, *peer, text.as_bytes(), player),
+        Close => sessions.closed(*peer),
+        DropWindows => sessions.drop_windows(),
+        Windows | IsSetUp => {}
     }
     Ok(())
 }
 
+/// What comes of a call, in words.
+fn outcome(
+    rt: &impl Abort,
+    alloc: Global,
+    sessions: &mut Sessions,
+    player: &Player,
+    row: &Row,
+) -> String {
+    let mut out = Vec::new(alloc);
+    if let Err(fault) = carry_out(sessions, alloc, row, player, &mut out) {
+        return format!(in alloc; "{fault}").expect(rt, "memory");
+    }
+    match row.0 {
+        Windows => shown(
+            rt,
+            alloc,
+            &sessions.windows(alloc).expect(rt, "memory").as_slice(),
+        ),
+        IsSetUp => shown(rt, alloc, &sessions.is_setup(row.1)),
+        _ => {
+            let mut all = String::new(alloc);
+            for said in out.iter() {
+                push_behind(rt, &mut all, said.peer, words(&said.text));
+            }
+            all
+        }
+    }
+}
+
+/// What comes of each row is what the row says.
+fn play(rt: &impl Abort, alloc: Global, sessions: &mut Sessions, rows: &[Row]) {
+    let player = new_player(rt, alloc);
+    for row in rows {
+        check(rt, &outcome(rt, alloc, sessions, &player, row), row.3);
+    }
+}
+
 #[test]
-fn a_presentation_gives_a_window(rt: HostRuntime) -> Result<(), Fail> {
+fn a_presentation_gives_a_window(rt: HostRuntime) {
     let mut sessions = Sessions::new(rt.alloc());
-    play(&rt, rt.alloc(), &mut sessions, PRESENTED)?;
-    let mut copy = sessions.copy()?;
-    play(&rt, rt.alloc(), &mut sessions, DROPPED)?;
-    play(&rt, rt.alloc(), &mut copy, CLOSED)
+    play(&rt, rt.alloc(), &mut sessions, PRESENTED);
+    let mut copy = sessions.copy().expect(&rt, "memory");
+    play(&rt, rt.alloc(), &mut sessions, DROPPED);
+    play(&rt, rt.alloc(), &mut copy, CLOSED);
 }

@@ -3,17 +3,14 @@
 
 ghost use Rattle.std.specs.Prelude.{◌≤◌};
 
-use crate::common::{Dice, push_behind};
+use crate::common::{Dice, push_behind, shown};
 use crate::tv_rows::{Event, Limit};
-use css_num::{Memory, Text};
 use css_player::Command;
 use std::alloc::Global;
+use std::process::Abort;
 
 /// The greatest delay, in nanoseconds.
 const MAX_DELAY: i128 = 10_000_000_000;
-
-/// The greatest media position either way.
-const FAR: u64 = 100_000_000_000_000_000;
 
 /// What is shown: at the wall clock value `at` the media position `media`, both in nanoseconds.
 #[derive(Clone, Copy)]
@@ -51,6 +48,10 @@ pub struct Plain {
     shown: Option<Shown>,
     talks: Vec<Talk>,
     peers: u32,
+    /// How often something is delayed after an event.
+    pub delays: u32,
+    /// How many sessions were closed.
+    pub hung_up: u32,
 }
 
 /// The tick at a media position. There are 90,000 in a second.
@@ -83,51 +84,48 @@ fn window(shown: Shown, earliest: Limit, latest: Limit) -> (i128, i128) {
     (low, high)
 }
 
-fn control_text(alloc: Global, control: Control) -> Result<String, Memory> {
-    let Some((content, speed, wall)) = control else {
-        let text = r#"{"contentTime":null,"timelineSpeedMultiplier":null,"wallClockTime":"0"}"#;
-        return Ok(text.to_string(alloc)?);
+/// Appends a control timestamp behind its peer.
+fn push_control(rt: &impl Abort, alloc: Global, all: &mut String, peer: u32, control: Control) {
+    let text = match control {
+        None => format!(in alloc;
+            "{{\"contentTime\":null,\"timelineSpeedMultiplier\":null,\"wallClockTime\":\"0\"}}"
+        ),
+        Some((content, speed, wall)) => format!(in alloc;
+            "{{\"contentTime\":\"{content}\",\"timelineSpeedMultiplier\":{speed},\"wallClockTime\":\"{wall}\"}}"
+        ),
     };
-    Ok(format!(in alloc;
-        "{{\"contentTime\":\"{content}\",\"timelineSpeedMultiplier\":{speed},\"wallClockTime\":\"{wall}\"}}"
-    )?)
+    push_behind(rt, all, peer, &text.expect(rt, "memory"));
 }
 
-/// What is shown after a command, or why it is refused.
-fn commanded(
-    shown: Option<Shown>,
-    programmes: usize,
-    command: Command,
-    at: i128,
-) -> Result<Shown, &'static str> {
-    if let Command::Change(programme) = command {
-        if programme == 0 || programme as usize > programmes {
-            return Err("no programme");
-        }
-        return Ok(Shown {
+/// What is shown after a command, unless nothing is.
+fn commanded(shown: Option<Shown>, command: Command, at: i128) -> Option<Shown> {
+    match command {
+        Command::Change(programme) => Some(Shown {
             programme,
             at,
             media: 0,
             speed: 1,
             delay: 0,
-        });
+        }),
+        Command::Speed(speed) => {
+            let shown = shown?;
+            let gone = at
+                .wrapping_sub(shown.at)
+                .wrapping_mul(i128::from(shown.speed));
+            let media = shown.media.wrapping_add(gone);
+            Some(Shown {
+                at,
+                media,
+                speed,
+                ..shown
+            })
+        }
+        Command::Seek(media) => Some(Shown {
+            at,
+            media: i128::from(media),
+            ..shown?
+        }),
     }
-    let shown = shown.ok_or("no programme")?;
-    let gone = at.wrapping_sub(shown.at);
-    let moved = gone.wrapping_mul(i128::from(shown.speed));
-    let (media, speed) = match command {
-        Command::Speed(speed) if speed.unsigned_abs() > 64 => return Err("speed"),
-        Command::Speed(speed) => (shown.media.wrapping_add(moved), speed),
-        Command::Seek(media) if media.unsigned_abs() > FAR => return Err("range"),
-        Command::Seek(media) => (i128::from(media), shown.speed),
-        Command::Change(_) => return Err("no programme"),
-    };
-    Ok(Shown {
-        at,
-        media,
-        speed,
-        ..shown
-    })
 }
 
 impl Plain {
@@ -137,11 +135,9 @@ impl Plain {
             shown: None,
             talks: Vec::new(alloc),
             peers: 0,
+            delays: 0,
+            hung_up: 0,
         }
-    }
-
-    pub fn is_delayed(&self) -> bool {
-        self.shown.is_some_and(|shown| shown.delay > 0)
     }
 
     fn count(&self, programme: u32) -> Option<u32> {
@@ -177,60 +173,54 @@ impl Plain {
     }
 
     /// Each session is told its control where that is another one.
-    fn publish(&mut self, alloc: Global) -> Result<Text, Memory> {
-        let mut all = Text::new(alloc);
+    fn publish(&mut self, rt: &impl Abort, alloc: Global) -> String {
+        let mut all = String::new(alloc);
         for peer in 0..self.peers {
             if let Talk::Ts(setup, last, window) = self.talk(peer) {
                 let control = self.control(setup);
                 self.set(peer, Talk::Ts(setup, control, window));
                 if control != last {
-                    let text = control_text(alloc, control)?;
-                    push_behind(&mut all, i128::from(peer), text.as_bytes())?;
+                    push_control(rt, alloc, &mut all, peer, control);
                 }
             }
         }
-        Ok(all)
+        all
     }
 
-    fn add_timeline(&mut self, alloc: Global, programme: u32) -> Result<Text, Memory> {
-        match self.timelines.get_mut(programme.wrapping_sub(1) as usize) {
-            None => Text::of(alloc, b"no programme"),
-            Some(count) => {
-                *count = count.saturating_add(1);
-                self.publish(alloc)
+    fn command(
+        &mut self,
+        rt: &impl Abort,
+        alloc: Global,
+        command: Command,
+        milliseconds: u32,
+    ) -> String {
+        let at = i128::from(milliseconds).wrapping_mul(1_000_000);
+        let Some(shown) = commanded(self.shown, command, at) else {
+            return "no programme".to_string(alloc).expect(rt, "memory");
+        };
+        self.shown = Some(shown);
+        for talk in self.talks.iter_mut() {
+            if let Talk::Ts(_, _, window) = talk {
+                *window = None;
             }
         }
-    }
-
-    fn command(&mut self, alloc: Global, command: Command, at: i128) -> Result<Text, Memory> {
-        match commanded(self.shown, self.timelines.len(), command, at) {
-            Err(fault) => Text::of(alloc, fault.as_bytes()),
-            Ok(shown) => {
-                self.shown = Some(shown);
-                for talk in self.talks.iter_mut() {
-                    if let Talk::Ts(_, _, window) = talk {
-                        *window = None;
-                    }
-                }
-                self.publish(alloc)
-            }
-        }
+        self.publish(rt, alloc)
     }
 
     /// A setup, where the session waits for one. Any other text closes it.
-    fn hear(&mut self, alloc: Global, peer: u32, text: &str) -> Result<Text, Memory> {
-        let mut all = Text::new(alloc);
+    fn hear(&mut self, rt: &impl Abort, alloc: Global, peer: u32, text: &str) -> String {
+        let mut all = String::new(alloc);
         let setup = SETUPS.iter().position(|setup| setup.0 == text);
         if let (Some(setup), Talk::Waiting) = (setup, self.talk(peer)) {
             let control = self.control(setup);
             self.set(peer, Talk::Ts(setup, control, None));
-            let text = control_text(alloc, control)?;
-            push_behind(&mut all, i128::from(peer), text.as_bytes())?;
+            push_control(rt, alloc, &mut all, peer, control);
         } else {
             self.set(peer, Talk::Closed);
-            push_behind(&mut all, i128::from(peer), b"hang up")?;
+            self.hung_up = self.hung_up.saturating_add(1);
+            push_behind(rt, &mut all, peer, "hang up");
         }
-        Ok(all)
+        all
     }
 
     /// What is shown has the least delay that all windows allow, if there is one, at speed 1 and unless it would begin
@@ -255,46 +245,55 @@ impl Plain {
 
     fn present(
         &mut self,
+        rt: &impl Abort,
         alloc: Global,
         peer: u32,
         from: Limit,
         to: Limit,
-    ) -> Result<Text, Memory> {
+    ) -> String {
         let Talk::Ts(setup, last, _) = self.talk(peer) else {
-            return self.hear(alloc, peer, "");
+            return self.hear(rt, alloc, peer, "");
         };
-        let control = self.control(setup);
-        if let (Some(shown), Some(_)) = (self.shown, control) {
+        if let (Some(shown), Some(_)) = (self.shown, self.control(setup)) {
             self.set(peer, Talk::Ts(setup, last, Some(window(shown, from, to))));
         }
         self.choose();
-        self.publish(alloc)
+        self.publish(rt, alloc)
+    }
+
+    /// Takes in an event that no session and no viewer tells.
+    fn change(&mut self, rt: &impl Abort, event: Event) {
+        match event {
+            Event::Programme(_) => self.timelines.push(0).expect(rt, "memory"),
+            Event::Timeline(programme, _) => {
+                if let Some(count) = self.timelines.get_mut(programme.wrapping_sub(1) as usize) {
+                    *count = count.saturating_add(1);
+                }
+            }
+            Event::Ts(_) => {
+                self.talks.push(Talk::Waiting).expect(rt, "memory");
+                self.peers = self.peers.saturating_add(1);
+            }
+            Event::Closes(peer) => self.set(peer, Talk::Closed),
+            _ => {}
+        }
     }
 
     /// What comes of an event, in words.
-    pub fn outcome(&mut self, alloc: Global, event: Event) -> Result<Text, Memory> {
-        match event {
-            Event::Programme(_) => self.timelines.push(0)?,
-            Event::Timeline(programme, _) => return self.add_timeline(alloc, programme),
-            Event::Viewer(command, milliseconds) => {
-                let at = i128::from(milliseconds).wrapping_mul(1_000_000);
-                return self.command(alloc, command, at);
+    pub fn outcome(&mut self, rt: &impl Abort, alloc: Global, event: Event) -> String {
+        let told = match event {
+            Event::Delay => shown(rt, alloc, &self.shown.map(|shown| shown.delay)),
+            Event::Viewer(command, milliseconds) => self.command(rt, alloc, command, milliseconds),
+            Event::Hears(peer, text) => self.hear(rt, alloc, peer, text),
+            Event::Presents(peer, from, to) => self.present(rt, alloc, peer, from, to),
+            _ => {
+                self.change(rt, event);
+                self.publish(rt, alloc)
             }
-            Event::Ts(_) => {
-                self.talks.push(Talk::Waiting)?;
-                self.peers = self.peers.saturating_add(1);
-            }
-            Event::Hears(peer, text) => return self.hear(alloc, peer, text),
-            Event::Presents(peer, from, to) => return self.present(alloc, peer, from, to),
-            Event::Closes(peer) => self.set(peer, Talk::Closed),
-            Event::Delay => {
-                let delay = self.shown.map(|shown| shown.delay);
-                let words = format!(in alloc; "{delay:?}")?;
-                return Text::of(alloc, words.as_bytes());
-            }
-            Event::Cii(_) | Event::IsOpen(_) => {}
-        }
-        Ok(Text::new(alloc))
+        };
+        let is_delayed = self.shown.is_some_and(|shown| shown.delay > 0);
+        self.delays = self.delays.saturating_add(u32::from(is_delayed));
+        told
     }
 }
 
@@ -308,17 +307,14 @@ fn drawn_limit(dice: &mut Dice, later: u32) -> Limit {
     Some((moved.wrapping_mul(901).wrapping_add(895_000), wall))
 }
 
-/// A viewer's command. Some are refused.
 fn drawn_command(dice: &mut Dice) -> Command {
-    match dice.next(12) {
-        0..=2 => Command::Change(dice.next(5)),
+    match dice.next(10) {
+        0..=2 => Command::Change(dice.next(2) + 1),
         3 => Command::Speed(-1),
         4 => Command::Speed(0),
         5..=6 => Command::Speed(1),
         7 => Command::Speed(2),
-        8..=9 => Command::Seek(i64::from(dice.next(400_000_000)).wrapping_sub(200_000_000)),
-        10 => Command::Speed(65),
-        _ => Command::Seek(100_000_000_000_000_001),
+        _ => Command::Seek(i64::from(dice.next(400_000_000)).wrapping_sub(200_000_000)),
     }
 }
 
@@ -350,7 +346,7 @@ pub fn drawn(dice: &mut Dice, plain: &Plain, number: u32) -> Event {
         0..=2 => Event::Ts(next),
         5 => Event::Closes(peer),
         6 if plain.timelines.len() == 2 => Event::Programme("dvb://1"),
-        7..=8 => Event::Timeline(dice.next(6), 900_000),
+        7..=8 => Event::Timeline(dice.next(2) + 1, 900_000),
         9..=11 => Event::Viewer(drawn_command(dice), dice.next(40) * 10),
         _ => drawn_text(dice, plain, peer),
     }

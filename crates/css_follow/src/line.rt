@@ -23,7 +23,7 @@ const COUNT_LIMIT: u64 = 1_000_001;
 pub struct Form;
 
 /// A line of a sheet.
-#[derive(Debug, Drop)]
+#[derive(Drop)]
 pub enum SheetLine {
     /// A cue is announced.
     Announce(Cue),

@@ -5,7 +5,7 @@ use css_companion::Report;
 use css_num::{Memory, Text};
 
 /// A report that a follower heard, and what it said of it.
-#[derive(Debug, Drop)]
+#[derive(Drop)]
 pub struct Note {
     pub report: Report,
     pub text: Text,

@@ -6,7 +6,7 @@ use std::alloc::Global;
 use std::marker::Model;
 
 /// A point of the timeline that is announced.
-#[derive(Debug, Drop)]
+#[derive(Drop)]
 pub struct Cue {
     /// Where it is, in ticks of the timeline: at most 18 digits.
     pub tick: i64,
@@ -26,7 +26,7 @@ impl Cue {
 }
 
 /// The cues of a sheet, in its order.
-#[derive(Debug, Drop)]
+#[derive(Drop)]
 pub struct CueList {
     list: Vec<Cue>,
 }
@@ -82,7 +82,7 @@ impl CueList {
 }
 
 /// A cue sheet: what the followers of a companion's reports announce.
-#[derive(Debug, Drop)]
+#[derive(Drop)]
 pub struct Sheet {
     pub cues: CueList,
     /// How many intervals are measured, 1 to 1,000,000, where the sheet says it.

@@ -11,7 +11,7 @@ use css_num::{Memory, Text};
 use std::alloc::Global;
 
 /// A cue of a sheet, and how near the reports have come to it.
-#[derive(Debug, Drop)]
+#[derive(Drop)]
 pub struct Waiting {
     pub cue: Cue,
     pub mark: Mark,

@@ -2,7 +2,7 @@
 use Rattle.std.proofs.Common.{◌≡◌, ℕ, ◌*◌, refl, Bool, true, false}
 use Rattle.std.specs.Prelude.{◌==◌, nat_lt, min, if◌then◌else◌, codes, pos}
 use Rattle.css_player.specs.declared.command.Command.TheVariants.{Change}
-use Rattle.css_sessions.specs.declared.session.Kind.TheVariants.{Cii, Ts}
+use Rattle.css_num.specs.declared.protocol.Kind.TheVariants.{Cii, Ts}
 use Rattle.css_schedule.specs.declared.line.Verb.{Verb}
 use Rattle.css_schedule.specs.declared.line.Verb.TheVariants.{Programme, Timeline, Viewer, Opening, Bring, Up}
 use Rattle.css_schedule.specs.Owners.{is_sleep}

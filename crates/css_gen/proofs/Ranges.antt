@@ -5,7 +5,7 @@ use Rattle.std.specs.Str.{IsUtf8}
 use Rattle.std.proofs.lemmas.Bool.{eqb-false}
 use Rattle.css_num.specs.Rates.{IsTickRate}
 use Rattle.css_player.specs.declared.command.Command.TheVariants.{Change}
-use Rattle.css_sessions.specs.declared.session.Kind.TheVariants.{Cii, Ts}
+use Rattle.css_num.specs.declared.protocol.Kind.TheVariants.{Cii, Ts}
 use Rattle.css_schedule.specs.declared.line.Verb.TheVariants.{Programme, Timeline, Viewer, Opening, Bring, Up}
 use Rattle.css_schedule.specs.Ranges.{IsLine, IsVerb, IsOrdinal}
 use Rattle.css_schedule.proofs.Graphic.{word-utf8}

@@ -1,7 +1,7 @@
 -- The header of a generated schedule, and the eight lines at true time 0 that open it.
 use Rattle.std.specs.Prelude.{ℕ, pos, negsuc, ◌==◌, true, if◌then◌else◌, List, [], ◌∷◌, codes}
 use Rattle.css_player.specs.declared.command.Command.TheVariants.{Change}
-use Rattle.css_sessions.specs.declared.session.Kind.TheVariants.{Cii, Ts}
+use Rattle.css_num.specs.declared.protocol.Kind.TheVariants.{Cii, Ts}
 use Rattle.css_schedule.specs.declared.header.CompanionLine.{CompanionLine}
 use Rattle.css_schedule.specs.declared.header.Header.{Header}
 use Rattle.css_schedule.specs.declared.line.Line.{Line}

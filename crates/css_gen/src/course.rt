@@ -34,7 +34,7 @@ fn clock(fast: bool, time: u64) -> u64
 }
 
 /// Where the lines after the opening have come to, and the words that the next ones are drawn from.
-#[derive(Clone, Debug, Drop)]
+#[derive(Clone, Drop)]
 pub(crate) struct Course {
     pub(crate) words: Lcg64Xsh32,
     /// Whether the television's oscillator runs fast.

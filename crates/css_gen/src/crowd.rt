@@ -12,7 +12,7 @@ use css_schedule::{Line, Verb, print_line};
 use std::alloc::Global;
 
 /// The course of a schedule of several companions. With one companion only `course` goes on.
-#[derive(Debug, Drop)]
+#[derive(Drop)]
 pub(crate) struct Crowd {
     /// How many companions there are.
     pub(crate) companions: u32,
@@ -28,7 +28,7 @@ pub(crate) struct Crowd {
 }
 
 /// Whose turn it is.
-#[derive(Debug, Drop)]
+#[derive(Drop)]
 struct Turn {
     /// The companion's number.
     who: u32,

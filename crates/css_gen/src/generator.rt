@@ -24,7 +24,7 @@ const OPENING: u64 = 9;
 /// each request.
 ///
 /// Contracts see the seed, the number of lines in all, how many companions there are, and how many lines it has given.
-#[derive(Debug, Drop)]
+#[derive(Drop)]
 pub struct Generator {
     seed: u64,
     lines: u64,

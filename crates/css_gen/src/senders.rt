@@ -6,7 +6,7 @@ use std::alloc::Global;
 use std::marker::Model;
 
 /// The companion that sent each request, or the request of each take, in order. Requests and takes are counted from 1.
-#[derive(Debug, Drop)]
+#[derive(Drop)]
 pub(crate) struct Senders {
     list: Vec<u32>,
 }

@@ -13,8 +13,8 @@ use Rattle.css_lines.specs.Lines.{is_feed}
 use Rattle.css_lines.specs.Progress.{HasNoFeed}
 use Rattle.css_model.specs.declared.TheConstants.{LIMIT}
 use Rattle.css_player.specs.declared.command.Command.TheVariants as commands
-use Rattle.css_sessions.specs.declared.session.Kind.{Kind}
-use Rattle.css_sessions.specs.declared.session.Kind.TheVariants.{Cii, Ts}
+use Rattle.css_num.specs.declared.protocol.Kind.{Kind}
+use Rattle.css_num.specs.declared.protocol.Kind.TheVariants.{Cii, Ts}
 use Rattle.css_schedule.specs.Printed.{with_words, kind_word, verb_words, clock_words, line_text_in}
 use Rattle.css_schedule.specs.Ranges.{IsVerb, IsLine}
 use Rattle.css_schedule.specs.declared.line.Line.{Line}

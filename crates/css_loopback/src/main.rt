@@ -5,16 +5,24 @@
 
 ghost use Rattle.std.specs.Prelude.{◌≡◌, ◌+◌, OnOk};
 
-use css_app::{run, tell};
+use css_app::{Status, run, tell};
 use css_drive::Nobody;
-use css_memory::{MemorySink, MemorySource};
 use css_net::{ChildSpawner, NetOutside, StdSink, StdSource};
 use css_num::{Memory, Text};
-use css_outside::{OutFault, Outside, Spawner};
+use css_outside::{OutFault, Outside, Sink, Source, Spawner};
 use std::alloc::Global;
 use std::env::Env;
-use std::process::ExitCode;
+use std::fs::Files;
+use std::net::Net;
+use std::process::{ExitCode, Processes};
+use std::random::RandomSource;
+use std::time::Clock;
 use std::{env, io, process, str};
+
+/// What the runs need of the system.
+trait System: Net + Clock + RandomSource + Processes + Env + Files {}
+
+impl<R: Net + Clock + RandomSource + Processes + Env + Files> System for R {}
 
 /// What the televisions show.
 const SCRIPT: &str = "\
@@ -61,28 +69,48 @@ fn start<P: Spawner>(
     spawner.start(&words, input.as_bytes())
 }
 
-/// What a command writes that ends well.
-fn written_by<O: Outside, P: Spawner>(
+// What `run` promises is long, and nothing here rests on it.
+fn run_on<S: Source, K: Sink, O: Outside, P: Spawner>(
     alloc: Global,
-    line: &str,
-    input: &[u8],
+    words: &[String],
+    source: &mut S,
+    sink: &mut K,
     outside: &mut O,
     spawner: &mut P,
-) -> Result<MemorySink, OutFault> {
+) -> Status {
+    run(alloc, words, source, sink, outside, spawner, &mut Nobody)
+}
+
+/// Runs a command over the system's sockets and programs.
+fn command<R: System, S: Source, K: Sink>(
+    alloc: Global,
+    rt: &R,
+    words: &[String],
+    source: &mut S,
+    sink: &mut K,
+) -> Status {
+    let mut outside = NetOutside::new(alloc, rt);
+    let mut spawner = ChildSpawner::new(alloc, rt);
+    run_on(alloc, words, source, sink, &mut outside, &mut spawner)
+}
+
+fn number_of(status: Status) -> u8 {
+    status.number()
+}
+
+/// What a command writes that ends well.
+fn written_by<R: System>(
+    alloc: Global,
+    rt: &R,
+    line: &str,
+    input: &[u8],
+) -> Result<Vec<u8>, OutFault> {
     let words = words_in(alloc, line)?;
-    let mut source = MemorySource::new(alloc, input, 4096, &[])?;
-    let mut sink = MemorySink::new(alloc, 4096, &[])?;
-    let status = run(
-        alloc,
-        &words,
-        &mut source,
-        &mut sink,
-        outside,
-        spawner,
-        &mut Nobody,
-    );
-    match status.number() {
-        0 => Ok(sink),
+    let mut written = Vec::new(alloc);
+    let mut sink = StdSink::new(&mut written);
+    let status = command(alloc, rt, &words, &mut StdSource::new(input), &mut sink);
+    match number_of(status) {
+        0 => Ok(written),
         _ => Err(OutFault::Failed),
     }
 }
@@ -116,35 +144,79 @@ fn recorded_line(alloc: Global, port: u32) -> Result<String, Memory> {
     )?)
 }
 
-/// The run of a television and a companion beside it.
-fn pair<O: Outside, P: Spawner>(
+/// Starts a television.
+fn start_tv<P: Spawner>(alloc: Global, spawner: &mut P, port: u32) -> Result<(), OutFault>
+    ensures { OnOk result (P.running spawner.new ≡ P.running spawner.old + 1) }
+{
+    let line = tv_line(alloc, port)?;
+    start(alloc, spawner, &line, SCRIPT)
+}
+
+/// Starts a relay of a television.
+fn start_relay<P: Spawner>(
     alloc: Global,
-    port: u32,
-    outside: &mut O,
     spawner: &mut P,
-) -> Result<MemorySink, OutFault> {
+    tv_port: u32,
+    port: u32,
+) -> Result<(), OutFault>
+    ensures { OnOk result (P.running spawner.new ≡ P.running spawner.old + 1) }
+{
+    let line = relay_line(alloc, tv_port, port)?;
+    start(alloc, spawner, &line, "")
+}
+
+/// Starts a television, and a relay of it.
+fn start_both<P: Spawner>(
+    alloc: Global,
+    spawner: &mut P,
+    port: u32,
+    relay_port: u32,
+) -> Result<(), OutFault>
+    ensures { OnOk result (P.running spawner.new ≡ P.running spawner.old + 2) }
+{
+    start_tv(alloc, spawner, port)?;
+    start_relay(alloc, spawner, port, relay_port)
+}
+
+/// The run of a television and a companion beside it.
+fn pair<R: System>(alloc: Global, rt: &R, port: u32) -> Result<Vec<u8>, OutFault> {
     let line = pair_line(alloc, port)?;
-    written_by(alloc, &line, SCRIPT.as_bytes(), outside, spawner)
+    written_by(alloc, rt, &line, SCRIPT.as_bytes())
+}
+
+/// What a companion writes.
+fn companion<R: System>(alloc: Global, rt: &R, port: u32) -> Result<Vec<u8>, OutFault> {
+    let line = companion_line(alloc, port)?;
+    written_by(alloc, rt, &line, b"")
 }
 
 /// The run of a companion that knows a relay alone.
-fn behind_a_relay<O: Outside, P: Spawner>(
+fn behind_a_relay<R: System, P: Spawner>(
     alloc: Global,
+    rt: &R,
     port: u32,
-    outside: &mut O,
     spawner: &mut P,
-    unused: &mut P,
-) -> Result<MemorySink, OutFault> {
+) -> Result<Vec<u8>, OutFault> {
     let relay_port = port.wrapping_add(2);
-    let tv = tv_line(alloc, port)?;
-    let relay = relay_line(alloc, port, relay_port)?;
-    let companion = companion_line(alloc, relay_port)?;
-    start(alloc, spawner, &tv, SCRIPT)?;
-    start(alloc, spawner, &relay, "")?;
-    let written = written_by(alloc, &companion, b"", outside, unused)?;
+    start_both(alloc, spawner, port, relay_port)?;
+    let written = companion(alloc, rt, relay_port)?;
     spawner.finish()?;
     spawner.finish()?;
     Ok(written)
+}
+
+/// The run of a companion that writes a record.
+fn recorded<R: System, P: Spawner>(
+    alloc: Global,
+    rt: &R,
+    port: u32,
+    spawner: &mut P,
+) -> Result<Vec<u8>, OutFault> {
+    let line = recorded_line(alloc, port)?;
+    start_tv(alloc, spawner, port)?;
+    let record = written_by(alloc, rt, &line, b"")?;
+    spawner.finish()?;
+    Ok(record)
 }
 
 /// Whether the last report of a record is an interval.
@@ -158,22 +230,17 @@ fn has_interval(record: &[u8]) -> bool {
 }
 
 /// What an audit writes of the record of a companion whose last report is an interval.
-fn audited<O: Outside, P: Spawner>(
+fn audited<R: System, P: Spawner>(
     alloc: Global,
+    rt: &R,
     port: u32,
-    outside: &mut O,
     spawner: &mut P,
-    unused: &mut P,
-) -> Result<MemorySink, OutFault> {
-    let tv = tv_line(alloc, port)?;
-    let companion = recorded_line(alloc, port)?;
-    start(alloc, spawner, &tv, SCRIPT)?;
-    let record = written_by(alloc, &companion, b"", outside, unused)?;
-    spawner.finish()?;
-    if !has_interval(record.bytes()) {
+) -> Result<Vec<u8>, OutFault> {
+    let record = recorded(alloc, rt, port, spawner)?;
+    if !has_interval(&record) {
         return Err(OutFault::Failed);
     }
-    written_by(alloc, "audit", record.bytes(), outside, unused)
+    written_by(alloc, rt, "audit", &record)
 }
 
 /// Whether there are as many lines, and the last of them begins so.
@@ -183,11 +250,11 @@ fn is_as_wanted(written: &str, lines: usize, last: &str) -> bool {
 }
 
 /// `yes` where a run wrote as many lines, and the last of them begins so. Else what it wrote.
-fn said<'a>(written: &'a Result<MemorySink, OutFault>, lines: usize, last: &str) -> &'a str {
-    let Ok(sink) = written else {
+fn said<'a>(written: &'a Result<Vec<u8>, OutFault>, lines: usize, last: &str) -> &'a str {
+    let Ok(written) = written else {
         return "it failed";
     };
-    match str::from_utf8(sink.bytes()) {
+    match str::from_utf8(written) {
         Ok(written) if is_as_wanted(written, lines, last) => "yes",
         Ok(written) => written,
         Err(_) => "no text",
@@ -199,35 +266,26 @@ fn main(rt: HostRuntime) -> ExitCode {
     let Ok(words) = own_words(&rt) else {
         return ExitCode::from(1);
     };
-    let mut outside = NetOutside::new(alloc, &rt);
-    let mut spawner = ChildSpawner::new(alloc, &rt);
     if !words.is_empty() {
-        let status = run(
-            alloc,
-            &words,
-            &mut StdSource::new(rt.reader()),
-            &mut StdSink::new(io::writer(&rt)),
-            &mut outside,
-            &mut spawner,
-            &mut Nobody,
-        );
+        let mut source = StdSource::new(rt.reader());
+        let mut sink = StdSink::new(io::writer(&rt));
+        let status = command(alloc, &rt, &words, &mut source, &mut sink);
         return ExitCode::from(tell(alloc, &status, &mut StdSink::new(rt.stderr().lock())).number);
     }
     // The ports come from the number of the process, so that two runs don't meet.
     let port = 50000 + process::id(rt.process()) % 2500 * 4;
-    let pair = pair(alloc, port, &mut outside, &mut spawner);
-    let mut unused = ChildSpawner::new(alloc, &rt);
-    let mut further = NetOutside::new(alloc, &rt);
-    let behind = behind_a_relay(alloc, port, &mut further, &mut spawner, &mut unused);
-    let mut recorded = NetOutside::new(alloc, &rt);
-    let audited = audited(alloc, port, &mut recorded, &mut spawner, &mut unused);
+    let mut spawner = ChildSpawner::new(alloc, &rt);
     let told = print!(rt;
         "a pair ends with an interval: {}\n\
          so does a companion behind a relay: {}\n\
          an audit finds a companion's record right: {}\n",
-        said(&pair, 5, "5 ticks "),
-        said(&behind, 4, "4 ticks "),
-        said(&audited, 1, "reports 4")
+        said(&pair(alloc, &rt, port), 5, "5 ticks "),
+        said(
+            &behind_a_relay(alloc, &rt, port, &mut spawner),
+            4,
+            "4 ticks "
+        ),
+        said(&audited(alloc, &rt, port, &mut spawner), 1, "reports 4")
     );
     ExitCode::from(if told.is_ok() { 0 } else { 1 })
 }

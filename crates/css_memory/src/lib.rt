@@ -8,6 +8,7 @@ mod memory_outside;
 mod memory_spawner;
 mod never_fails_outside;
 mod never_fails_spawner;
+mod places;
 mod script;
 mod scripted;
 

@@ -1,4 +1,4 @@
-ghost use Rattle.std.specs.Prelude.{◌≡◌, ◌≢◌, ◌+◌, ◌<◌, ◌∷◌, [], Some, Err, drop, IfOk, OnOk, OnErr};
+ghost use Rattle.std.specs.Prelude.{◌≡◌, ◌≢◌, ◌+◌, ◌<◌, ◌≤◌, ◌∷◌, [], Some, Err, drop, length, IfOk, OnOk, OnErr};
 ghost use Rattle.css_memory.specs.Failing.{next_count};
 ghost use Rattle.css_outside.specs.Faults.{CountsCall};
 ghost use Rattle.css_outside.specs.Spawners.{Started, Finished, TellsSpawned};
@@ -6,13 +6,14 @@ ghost use Rattle.css_memory.specs.Spawning.{SpawnFailsWhereTold};
 ghost use Rattle.css_memory.specs.Spawning as spawners;
 
 use crate::failing::FailingCalls;
+use crate::places::past;
 use css_num::{Memory, Text};
 use css_outside::{OutFault, Spawner};
 use std::alloc::Global;
 use std::marker::Model;
 
 /// What was done with a child.
-#[derive(Debug, Drop)]
+#[derive(Drop)]
 pub enum SpawnNote {
     Started(Vec<Text>, Text),
     Finished(i32),
@@ -28,6 +29,14 @@ fn add_note(notes: &mut Vec<SpawnNote>, made: SpawnNote) -> Result<(), Memory>
     Ok(())
 }
 
+/// The status at a place, and 0 past the end.
+fn next_status(statuses: &[i32], at: usize) -> i32
+    requires { at ≤ length statuses.now }
+    ensures { result ≡ spawners.next_status (drop at statuses.now) }
+{
+    if at < statuses.len() { statuses[at] } else { 0 }
+}
+
 /// Equal words.
 fn copied(alloc: Global, words: &[Text]) -> Result<Vec<Text>, Memory>
     ensures { IfOk result (λ copy. copy.items ≡ words.now) }
@@ -36,13 +45,25 @@ fn copied(alloc: Global, words: &[Text]) -> Result<Vec<Text>, Memory>
 }
 
 /// A spawner in memory: its children end with given statuses, and its calls fail where they are told to.
-#[derive(Drop)]
 pub struct MemorySpawner {
     alloc: Global,
     statuses: Vec<i32>,
     ended: usize,
     notes: Vec<SpawnNote>,
     failing: FailingCalls,
+}
+
+// One function drops it, so that its callers' proofs don't open each of its fields.
+impl Drop for MemorySpawner {
+    fn drop(self) {
+        let MemorySpawner {
+            alloc: _,
+            statuses: _,
+            ended: _,
+            notes: _,
+            failing: _,
+        } = self;
+    }
 }
 
 impl Model for MemorySpawner {
@@ -122,14 +143,9 @@ impl Spawner for MemorySpawner {
         if self.failing.next_fails() {
             return Err(OutFault::Failed);
         }
-        if self.ended < self.statuses.len() {
-            let status = self.statuses[self.ended];
-            add_note(&mut self.notes, SpawnNote::Finished(status))?;
-            self.ended += 1;
-            Ok(status)
-        } else {
-            add_note(&mut self.notes, SpawnNote::Finished(0))?;
-            Ok(0)
-        }
+        let status = next_status(&self.statuses, self.ended);
+        add_note(&mut self.notes, SpawnNote::Finished(status))?;
+        self.ended = past(&self.statuses, self.ended);
+        Ok(status)
     }
 }

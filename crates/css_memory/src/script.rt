@@ -3,7 +3,7 @@ use css_num::Text;
 use css_outside::{Clocked, Heard};
 
 /// A datagram that comes, and who sends it.
-#[derive(Debug, Drop)]
+#[derive(Drop)]
 pub struct Datagram {
     pub peer: u32,
     pub bytes: Text,
@@ -11,14 +11,13 @@ pub struct Datagram {
 
 /// What a session gives. Sessions are counted from 1, in the order of the dials of CSS-CII and CSS-TS that succeed and
 /// of the openings.
-#[derive(Debug, Drop)]
+#[derive(Drop)]
 pub struct SessionHeard {
     pub session: u32,
     pub heard: Heard,
 }
 
 /// What an outside in memory gives, each list in its order.
-#[derive(Debug, Drop)]
 pub struct OutsideScript {
     /// What each reading of the clock tells. Past the end the last reading is told again, without a sleep.
     pub readings: Vec<Clocked>,
@@ -32,4 +31,18 @@ pub struct OutsideScript {
     pub gone: Vec<u64>,
     /// The numbers of the calls that fail, counted from 1 over all calls.
     pub fails: Vec<u64>,
+}
+
+// One function drops it, so that its callers' proofs don't open each of its fields.
+impl Drop for OutsideScript {
+    fn drop(self) {
+        let OutsideScript {
+            readings: _,
+            datagrams: _,
+            openings: _,
+            texts: _,
+            gone: _,
+            fails: _,
+        } = self;
+    }
 }

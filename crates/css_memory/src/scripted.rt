@@ -3,11 +3,13 @@ ghost use Rattle.std.specs.Prelude.{[], Some, None, Err, drop, take, length, IfO
 ghost use Rattle.css_model.specs.History.{Entry, Listening, Sent, HungUp, Dialling, Dialled, NotDialled};
 ghost use Rattle.css_model.specs.declared.Kind.TheVariants as kinds;
 ghost use Rattle.css_memory.specs.Failing.{next_count};
-ghost use Rattle.css_outside.specs.Outsides.{IsNextReading, OpensNext, FitsRoom, datagram_entries};
+ghost use Rattle.css_model.specs.declared.TheConstants.{LIMIT};
+ghost use Rattle.css_outside.specs.Outsides.{IsNextReading, IsSession, OpensNext, FitsRoom, datagram_entries};
 ghost use Rattle.css_memory.specs.Scripts as scripts;
 ghost use Rattle.css_memory.specs.declared.scripted.Note.TheVariants as notes_made;
 ghost use Rattle.css_memory.specs.Scripts.{history_of, entries_of, are_readings, are_sessions, telling};
 
+use crate::places::past;
 use crate::script::{OutsideScript, SessionHeard};
 use css_model::{Kind, Why};
 use css_num::{Memory, Text};
@@ -16,7 +18,6 @@ use std::alloc::Global;
 use std::marker::Model;
 
 /// A call that told something.
-#[derive(Debug, Drop)]
 pub enum Note {
     Listened(Text, u16),
     Read(Why, Clocked),
@@ -31,8 +32,26 @@ pub enum Note {
     HungUp(u32),
 }
 
+// One function drops it, so that its callers' proofs don't open each of its fields.
+impl Drop for Note {
+    fn drop(self) {
+        match self {
+            Note::Listened(_, _)
+            | Note::Read(_, _)
+            | Note::Dialled(_, _, _)
+            | Note::NotDialled(_, _)
+            | Note::Came(_)
+            | Note::Sent(_, _)
+            | Note::Took(_, _)
+            | Note::TookNone
+            | Note::Said(_, _)
+            | Note::Wrote(_, _, _)
+            | Note::HungUp(_) => {}
+        }
+    }
+}
+
 /// The devices of an outside in memory, none of which fails. They note what was done.
-#[derive(Drop)]
 pub struct Devices {
     alloc: Global,
     script: OutsideScript,
@@ -45,6 +64,25 @@ pub struct Devices {
     calls: u64,
     last: u64,
     peers: u32,
+}
+
+// One function drops it, so that its callers' proofs don't open each of its fields.
+impl Drop for Devices {
+    fn drop(self) {
+        let Devices {
+            alloc: _,
+            script: _,
+            notes: _,
+            sessions: _,
+            read: _,
+            taken: _,
+            opened: _,
+            sends: _,
+            calls: _,
+            last: _,
+            peers: _,
+        } = self;
+    }
 }
 
 impl Model for Devices {
@@ -93,39 +131,44 @@ fn add_note(notes: &mut Vec<Note>, made: Note) -> Result<(), Memory>
     Ok(())
 }
 
-/// Keeps the peer of a session of CSS-CII or CSS-TS.
-fn add_session(sessions: &mut Vec<u32>, kind: Kind, peer: u32) -> Result<(), Memory>
-    ensures ok { OnOk result (sessions.new.items ≡ scripts.with_session kind peer sessions.old.items) }
-    ensures err { OnErr result (sessions.new.items ≡ sessions.old.items) }
-{
-    match kind {
-        Kind::Wc => Ok(()),
-        Kind::Cii | Kind::Ts => {
-            sessions.push(peer)?;
-            Ok(())
-        }
-    }
-}
-
-/// Notes a session that a peer opened, and keeps its peer.
-fn add_opening(
+/// Notes a call that opened a session, and keeps its peer.
+fn add_session(
     notes: &mut Vec<Note>,
     sessions: &mut Vec<u32>,
-    kind: Kind,
     peer: u32,
+    made: Note,
 ) -> Result<(), Memory>
-    ensures noted { OnOk result
-        (history_of notes.new.items ≡ entries_of (notes_made.Came (Some (peer, kind))) ++ history_of notes.old.items) }
+    ensures noted { OnOk result (history_of notes.new.items ≡ entries_of made ++ history_of notes.old.items) }
     ensures kept { OnOk result (sessions.new.items ≡ sessions.old.items ++ peer ∷ []) }
     ensures err { OnErr result ((notes.new.items ≡ notes.old.items) × (sessions.new.items ≡ sessions.old.items)) }
 {
     let count = sessions.len();
     sessions.push(peer)?;
-    if add_note(notes, Note::Came(Some((peer, kind)))).is_err() {
+    let noted = add_note(notes, made);
+    if noted.is_err() {
         sessions.truncate(count);
-        return Err(Memory);
     }
-    Ok(())
+    noted
+}
+
+/// Notes a dial, and keeps the peer of a session of CSS-CII or CSS-TS.
+fn add_dial(
+    notes: &mut Vec<Note>,
+    sessions: &mut Vec<u32>,
+    kind: Kind,
+    to: Address,
+    peer: u32,
+) -> Result<(), Memory>
+    ensures noted { OnOk result
+        (history_of notes.new.items ≡ Dialled kind peer ∷ Dialling kind to ∷ history_of notes.old.items) }
+    ensures kept { OnOk result (sessions.new.items ≡ scripts.with_session kind peer sessions.old.items) }
+    ensures err { OnErr result ((notes.new.items ≡ notes.old.items) × (sessions.new.items ≡ sessions.old.items)) }
+{
+    let made = Note::Dialled(kind, to, peer);
+    match kind {
+        Kind::Wc => add_note(notes, made),
+        Kind::Cii | Kind::Ts => add_session(notes, sessions, peer, made),
+    }
 }
 
 /// Moves as much of the bytes as has room into the front of `into`, and tells how much.
@@ -179,6 +222,40 @@ fn next_place(texts: &[SessionHeard], sessions: &[u32], peer: u32) -> Option<usi
     }
 }
 
+/// The reading at a place; past the end the last one is told again, without a sleep.
+fn next_clocked(readings: &[Clocked], at: usize, last: u64) -> Clocked
+    requires within { at ≤ length readings.now }
+    requires rising { IsTrue (are_readings last (drop at readings.now)) }
+    requires below { last < LIMIT }
+    ensures value { result ≡ scripts.next_reading last (drop at readings.now) }
+    ensures next { IsNextReading last result }
+    ensures rising { IsTrue (are_readings result.reading (drop 1 (drop at readings.now))) }
+{
+    if at < readings.len() {
+        readings[at]
+    } else {
+        Clocked {
+            reading: last,
+            slept: false,
+        }
+    }
+}
+
+/// The opening at a place, and none past the end.
+fn next_opening(openings: &[Option<Kind>], at: usize) -> Option<Kind>
+    requires within { at ≤ length openings.now }
+    requires sessions { IsTrue (are_sessions (drop at openings.now)) }
+    ensures value { result ≡ scripts.next_item (drop at openings.now) }
+    ensures session { IfSome result IsSession }
+    ensures sessions { IsTrue (are_sessions (drop 1 (drop at openings.now))) }
+{
+    if at < openings.len() {
+        openings[at]
+    } else {
+        None
+    }
+}
+
 impl Devices {
     /// The devices that give what the script says.
     pub fn new(alloc: Global, script: OutsideScript) -> Devices
@@ -224,20 +301,11 @@ impl Devices {
         ensures next { IfOk result (IsNextReading self.old.last) }
         ensures err { OnErr result (self.new ≡ self.old) }
     {
-        if self.read < self.script.readings.len() {
-            let clocked = self.script.readings[self.read];
-            add_note(&mut self.notes, Note::Read(why, clocked))?;
-            self.read += 1;
-            self.last = clocked.reading;
-            Ok(clocked)
-        } else {
-            let clocked = Clocked {
-                reading: self.last,
-                slept: false,
-            };
-            add_note(&mut self.notes, Note::Read(why, clocked))?;
-            Ok(clocked)
-        }
+        let clocked = next_clocked(&self.script.readings, self.read, self.last);
+        add_note(&mut self.notes, Note::Read(why, clocked))?;
+        self.read = past(&self.script.readings, self.read);
+        self.last = clocked.reading;
+        Ok(clocked)
     }
 
     pub fn dial(&mut self, kind: Kind, to: &Address) -> Result<u32, Memory>
@@ -249,12 +317,7 @@ impl Devices {
             return Err(Memory);
         };
         let to = copied(to)?;
-        let count = self.sessions.len();
-        add_session(&mut self.sessions, kind, peer)?;
-        if add_note(&mut self.notes, Note::Dialled(kind, to, peer)).is_err() {
-            self.sessions.truncate(count);
-            return Err(Memory);
-        }
+        add_dial(&mut self.notes, &mut self.sessions, kind, to, peer)?;
         self.peers = peer;
         Ok(peer)
     }
@@ -274,20 +337,17 @@ impl Devices {
         ensures ok { OnOk result (self.new ≡ scripts.opened_once self.old) }
         ensures err { OnErr result (self.new ≡ self.old) }
     {
-        if self.opened >= self.script.openings.len() {
+        let Some(kind) = next_opening(&self.script.openings, self.opened) else {
             add_note(&mut self.notes, Note::Came(None))?;
-            return Ok(None);
-        }
-        let Some(kind) = self.script.openings[self.opened] else {
-            add_note(&mut self.notes, Note::Came(None))?;
-            self.opened += 1;
+            self.opened = past(&self.script.openings, self.opened);
             return Ok(None);
         };
         let Some(peer) = self.peers.checked_add(1) else {
             return Err(Memory);
         };
-        add_opening(&mut self.notes, &mut self.sessions, kind, peer)?;
-        self.opened += 1;
+        let made = Note::Came(Some((peer, kind)));
+        add_session(&mut self.notes, &mut self.sessions, peer, made)?;
+        self.opened = past(&self.script.openings, self.opened);
         self.peers = peer;
         Ok(Some((peer, kind)))
     }

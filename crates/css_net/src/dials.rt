@@ -6,9 +6,8 @@ use crate::session::{DialledSocket, Stop, limits, stop_by};
 use crate::sockets::NetRuntime;
 use crate::upgrades::{LONGEST_HANDSHAKE, READS};
 use crate::watch::Watch;
-use css_devices::faults::fault_of;
+use css_devices::faults::{fault_of, no_room};
 use css_outside::{Address, Kind, OutFault};
-use http::Request;
 use mio::net::TcpStream;
 use std::alloc::Global;
 use std::net::SocketAddr;
@@ -20,21 +19,31 @@ use tungstenite::{Error, RandomKeys};
 /// The name under which the connections of dials are watched: each of them ends a pause.
 const DIAL: usize = 3;
 
-/// A client's handshake that isn't done.
-type Handshake<R> = MidHandshake<ClientHandshake<Metered, RandomKeys<R>>>;
-
-/// Why a turn of it gave no session.
+/// Why a turn of a handshake gave no session.
 type Unfinished<R> = HandshakeError<ClientHandshake<Metered, RandomKeys<R>>>;
 
-/// What a turn of a handshake gave.
-#[derive(Drop)]
-enum Step<R: NetRuntime> {
-    /// The session.
-    Done(DialledSocket<R>),
-    /// Nothing yet.
-    Waits(Handshake<R>),
-    /// No session at this address.
-    Failed,
+/// A client's handshake that isn't done.
+struct Handshake<R: NetRuntime> {
+    inner: MidHandshake<ClientHandshake<Metered, RandomKeys<R>>>,
+}
+
+// One function drops its many parts: what holds one needn't see them.
+impl<R: NetRuntime> Drop for Handshake<R> {
+    fn drop(self) {
+        let Handshake { inner: _ } = self;
+    }
+}
+
+impl<R: NetRuntime> Handshake<R> {
+    /// One turn, which may be its last.
+    fn turn(self) -> Result<DialledSocket<R>, Unfinished<R>> {
+        let Handshake { mut inner } = self;
+        inner.get_mut().begin_turn(READS);
+        match inner.handshake() {
+            Ok((socket, _)) => Ok(socket),
+            Err(unfinished) => Err(unfinished),
+        }
+    }
 }
 
 /// A session that is being dialled.
@@ -78,24 +87,15 @@ fn ask<R: NetRuntime>(
     alloc: Global,
     rt: R,
     nonce: [u8; 16],
-    request: Request<()>,
+    url: &str,
     stream: Metered,
 ) -> Result<Handshake<R>, OutFault> {
+    let request = request_of(alloc, url).map_err(handshake_fault)?;
     let keys = RandomKeys::new(rt);
-    client::start(alloc, nonce, keys, request, stream, Some(limits())).map_err(handshake_fault)
-}
-
-/// Connects, and asks for a session.
-fn ask_at<R: NetRuntime>(
-    alloc: Global,
-    rt: R,
-    watch: &mut Watch,
-    nonce: [u8; 16],
-    request: Request<()>,
-    address: SocketAddr,
-) -> Result<Handshake<R>, OutFault> {
-    let stream = connect(&rt, watch, address)?;
-    ask(alloc, rt, nonce, request, stream)
+    let begun = client::start(alloc, nonce, keys, request, stream, Some(limits()));
+    Ok(Handshake {
+        inner: begun.map_err(handshake_fault)?,
+    })
 }
 
 /// Begins a handshake with what is at an address.
@@ -107,28 +107,8 @@ fn begin<R: NetRuntime>(
     address: SocketAddr,
 ) -> Result<Handshake<R>, OutFault> {
     let nonce = nonce(&rt)?;
-    let request = request_of(alloc, url).map_err(handshake_fault)?;
-    ask_at(alloc, rt, watch, nonce, request, address)
-}
-
-/// A handshake that isn't done, or why it never will be.
-fn not_done<R: NetRuntime>(error: Unfinished<R>) -> Result<Step<R>, OutFault> {
-    match error {
-        HandshakeError::Interrupted(rest) => Ok(Step::Waits(rest)),
-        HandshakeError::Failure(error) => match handshake_fault(error) {
-            OutFault::Memory => Err(OutFault::Memory),
-            OutFault::Failed => Ok(Step::Failed),
-        },
-    }
-}
-
-/// Goes on with a handshake, which may be its last turn.
-fn go_on_with<R: NetRuntime>(mut handshake: Handshake<R>) -> Result<Step<R>, OutFault> {
-    handshake.get_mut().begin_turn(READS);
-    match handshake.handshake() {
-        Ok((socket, _)) => Ok(Step::Done(socket)),
-        Err(error) => not_done(error),
-    }
+    let stream = connect(&rt, watch, address)?;
+    ask(alloc, rt, nonce, url, stream)
 }
 
 impl<R: NetRuntime> Dial<R> {
@@ -178,23 +158,37 @@ impl<R: NetRuntime> Dial<R> {
         }
     }
 
-    /// One turn of the handshake, which may be its last. One that takes too long is dropped.
+    /// Keeps a handshake that isn't done. One that failed, or takes too long, is dropped.
+    fn keep(&mut self, unfinished: Unfinished<R>, now: u64) -> Result<(), OutFault> {
+        match unfinished {
+            HandshakeError::Interrupted(inner) => {
+                let handshake = Handshake { inner };
+                if now.saturating_sub(self.since) < LONGEST_HANDSHAKE {
+                    self.set_handshake(handshake);
+                }
+                Ok(())
+            }
+            HandshakeError::Failure(error) => match handshake_fault(error) {
+                OutFault::Memory => Err(OutFault::Memory),
+                OutFault::Failed => Ok(()),
+            },
+        }
+    }
+
+    /// One turn of the handshake, which may be its last.
     fn turn(&mut self, now: u64) -> Result<Option<DialledSocket<R>>, OutFault> {
         let Some(handshake) = self.handshake.take() else {
             return Ok(None);
         };
-        match go_on_with(handshake)? {
-            Step::Done(socket) => {
+        match handshake.turn() {
+            Ok(socket) => {
                 self.tried = self.addresses.len();
                 Ok(Some(socket))
             }
-            Step::Waits(rest) => {
-                if now.saturating_sub(self.since) < LONGEST_HANDSHAKE {
-                    self.set_handshake(rest);
-                }
+            Err(unfinished) => {
+                self.keep(unfinished, now)?;
                 Ok(None)
             }
-            Step::Failed => Ok(None),
         }
     }
 
@@ -217,12 +211,12 @@ impl<R: NetRuntime> Dial<R> {
     }
 }
 
-/// The sessions that are being dialled, at most one of each kind.
+/// The sessions that are being dialled, at most one of each kind. They are large, and stand on the heap.
 #[derive(Drop)]
 pub(crate) struct Dials<R: NetRuntime> {
     alloc: Global,
-    cii: Option<Dial<R>>,
-    ts: Option<Dial<R>>,
+    cii: Option<Box<Dial<R>>>,
+    ts: Option<Box<Dial<R>>>,
 }
 
 impl<R: NetRuntime> Dials<R> {
@@ -236,14 +230,14 @@ impl<R: NetRuntime> Dials<R> {
     }
 
     /// The dial of a kind. No session is dialled for the wall clock.
-    fn dial_of(&mut self, kind: Kind) -> &mut Option<Dial<R>> {
+    fn dial_of(&mut self, kind: Kind) -> &mut Option<Box<Dial<R>>> {
         match kind {
             Kind::Ts => &mut self.ts,
             Kind::Cii | Kind::Wc => &mut self.cii,
         }
     }
 
-    fn set_dial(&mut self, kind: Kind, dial: Option<Dial<R>>) {
+    fn set_dial(&mut self, kind: Kind, dial: Option<Box<Dial<R>>>) {
         *self.dial_of(kind) = dial;
     }
 
@@ -260,6 +254,12 @@ impl<R: NetRuntime> Dials<R> {
         goes_on
     }
 
+    fn add(&mut self, kind: Kind, dial: Dial<R>) -> Result<(), OutFault> {
+        let dial = Box::new(self.alloc, dial).map_err(no_room)?;
+        self.set_dial(kind, Some(dial));
+        Ok(())
+    }
+
     /// Makes sure that a dial of this kind stands. For a new one the host is looked up.
     fn have(&mut self, rt: R, kind: Kind, to: &Address) -> Result<(), OutFault> {
         let url = url_of(self.alloc, to).map_err(fault_of)?;
@@ -267,8 +267,7 @@ impl<R: NetRuntime> Dials<R> {
             return Ok(());
         }
         let addresses = addresses_of(self.alloc, &rt, &to.host, to.port).map_err(fault_of)?;
-        self.set_dial(kind, Some(Dial::new(url, addresses)));
-        Ok(())
+        self.add(kind, Dial::new(url, addresses))
     }
 
     /// Dials, or goes on dialling, and gives the session once it stands.

@@ -15,6 +15,10 @@ fn words_of(text: &Text) -> io::Result<&str> {
     }
 }
 
+fn resolved<R: Net>(alloc: Global, rt: &R, authority: &str) -> io::Result<Vec<SocketAddr>> {
+    Ok(authority.to_socket_addrs(rt)?.collect(alloc)?)
+}
+
 /// The addresses of a port of a host, in the order of the resolver. A name is looked up, which may take seconds.
 pub(crate) fn addresses_of<R: Net>(
     alloc: Global,
@@ -24,11 +28,7 @@ pub(crate) fn addresses_of<R: Net>(
 ) -> io::Result<Vec<SocketAddr>> {
     let host = words_of(host)?;
     let authority = format!(in alloc; "{host}:{port}")?;
-    let mut addresses = Vec::new(alloc);
-    for address in authority.as_str().to_socket_addrs(rt)? {
-        addresses.push(address)?;
-    }
-    Ok(addresses)
+    resolved(alloc, rt, &authority)
 }
 
 /// The URL at which a session is asked for.

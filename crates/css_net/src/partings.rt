@@ -60,12 +60,30 @@ impl<R: NetRuntime> Parting<R> {
         }
     }
 
-    fn turn(&mut self) {
+    /// Writes out what waits, and reads past what comes.
+    fn go_on(&mut self) {
         if !self.told {
             self.write_out();
         }
         if !self.over {
             self.read_past();
+        }
+    }
+
+    /// One turn, at this time.
+    fn turn(&mut self, now: u64) {
+        if self.named {
+            self.go_on();
+        }
+        if now.saturating_sub(self.since) >= LONGEST_PARTING {
+            self.over = true;
+        }
+    }
+
+    /// Something has come on the session of this peer.
+    fn name(&mut self, peer: u32) {
+        if self.peer == peer {
+            self.named = true;
         }
     }
 }
@@ -108,9 +126,7 @@ impl<R: NetRuntime> Partings<R> {
     /// Something has come on a session that parts.
     pub(crate) fn name(&mut self, peer: u32) {
         for parting in self.list.iter_mut() {
-            if parting.peer == peer {
-                parting.named = true;
-            }
+            parting.name(peer);
         }
     }
 
@@ -122,12 +138,7 @@ impl<R: NetRuntime> Partings<R> {
     /// One turn of each, at this time.
     pub(crate) fn turn(&mut self, now: u64) {
         for parting in self.list.iter_mut() {
-            if parting.named {
-                parting.turn();
-            }
-            if now.saturating_sub(parting.since) >= LONGEST_PARTING {
-                parting.over = true;
-            }
+            parting.turn(now);
         }
         self.list.retain(|parting| !parting.over);
     }

@@ -102,10 +102,19 @@ fn stop_by_io(error: io::Error) -> Stop {
 }
 
 /// The stream of a session, at the one end or the other.
-#[derive(Drop)]
 pub(crate) enum Line<R: NetRuntime> {
     Served(ServedSocket),
     Dialled(DialledSocket<R>),
+}
+
+// One function drops its many parts: what holds one needn't see them.
+impl<R: NetRuntime> Drop for Line<R> {
+    fn drop(self) {
+        match self {
+            Line::Served(_) => {}
+            Line::Dialled(_) => {}
+        }
+    }
 }
 
 impl<R: NetRuntime> Line<R> {
@@ -193,7 +202,7 @@ fn close<K: MaskKeys + Drop>(socket: &mut WebSocket<Metered, K>, code: CloseCode
         code,
         reason: Utf8Bytes::from_static(""),
     };
-    let _ = socket.close(Some(frame));
+    let _ = socket.close(Some(frame)).map_err(stop_by);
 }
 
 /// What a message comes to.

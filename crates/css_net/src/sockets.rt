@@ -32,7 +32,6 @@ pub trait NetRuntime: Net + Clock + RandomSource + Copy {}
 impl<R: Net + Clock + RandomSource + Copy> NetRuntime for R {}
 
 /// The sockets of one end.
-#[derive(Drop)]
 pub(crate) struct Sockets<R: NetRuntime> {
     alloc: Global,
     rt: R,
@@ -55,21 +54,21 @@ fn name_of(peer: u32) -> usize {
     FIRST_SESSION + peer as usize
 }
 
-/// Listens at an address, and for sessions of CSS-TS at the next port.
-fn listen_at<R: NetRuntime>(
-    rt: &R,
-    watch: &mut Watch,
-    datagrams: &mut Datagrams,
-    upgrades: &mut Upgrades,
-    address: SocketAddr,
-    next_port: u16,
-) -> Result<(), OutFault> {
-    let mut next = address;
-    next.set_port(next_port);
-    let listener = datagrams.listener(rt, address).map_err(fault_of)?;
-    upgrades.listen(rt, watch, address, next)?;
-    datagrams.listen(listener);
-    Ok(())
+// One function drops its many parts: what holds the sockets needn't see them.
+impl<R: NetRuntime> Drop for Sockets<R> {
+    fn drop(self) {
+        let Sockets {
+            alloc: _,
+            rt: _,
+            watch: _,
+            stale: _,
+            datagrams: _,
+            upgrades: _,
+            dials: _,
+            sessions: _,
+            partings: _,
+        } = self;
+    }
 }
 
 impl<R: NetRuntime> Sockets<R> {
@@ -136,6 +135,20 @@ impl<R: NetRuntime> Sockets<R> {
 
     // ---- a television's sockets
 
+    /// Listens at an address, and for sessions of CSS-TS at the next port.
+    fn listen_at(&mut self, address: SocketAddr, next_port: u16) -> Result<(), OutFault> {
+        let mut next = address;
+        next.set_port(next_port);
+        let listener = self
+            .datagrams
+            .listener(&self.rt, address)
+            .map_err(fault_of)?;
+        self.upgrades
+            .listen(&self.rt, &mut self.watch, address, next)?;
+        self.datagrams.listen(listener);
+        Ok(())
+    }
+
     /// Listens at the first address of the host that is free.
     pub(crate) fn listen(&mut self, host: &Text, port: u16) -> Result<(), OutFault> {
         let Some(next_port) = port.checked_add(1) else {
@@ -144,15 +157,7 @@ impl<R: NetRuntime> Sockets<R> {
         let addresses = addresses_of(self.alloc, &self.rt, host, port).map_err(fault_of)?;
         let mut last = OutFault::Failed;
         for address in &addresses {
-            let (watch, datagrams) = (&mut self.watch, &mut self.datagrams);
-            match listen_at(
-                &self.rt,
-                watch,
-                datagrams,
-                &mut self.upgrades,
-                *address,
-                next_port,
-            ) {
+            match self.listen_at(*address, next_port) {
                 Ok(()) => return Ok(()),
                 Err(fault) => last = fault,
             }
@@ -245,21 +250,22 @@ impl<R: NetRuntime> Sockets<R> {
         }
     }
 
-    /// Parts with a session that is closed. Where one is quiet, and no datagram is waited for, there is a pause.
-    fn follow(&mut self, peer: u32, heard: &Heard) -> Result<(), OutFault> {
-        match heard {
-            Heard::Closed => self.part(peer),
-            Heard::Quiet if self.datagrams.is_none() => self.rest(),
-            _ => Ok(()),
-        }
-    }
-
     /// What a session has to tell. Where it has nothing, and no datagram is waited for, there is a pause.
     pub(crate) fn take_text(&mut self, peer: u32) -> Result<Heard, OutFault> {
         self.look()?;
-        let heard = self.sessions.hear(peer)?;
-        self.follow(peer, &heard)?;
-        Ok(heard)
+        match self.sessions.hear(peer)? {
+            Heard::Text(text) => Ok(Heard::Text(text)),
+            Heard::Quiet => {
+                if self.datagrams.is_none() {
+                    self.rest()?;
+                }
+                Ok(Heard::Quiet)
+            }
+            Heard::Closed => {
+                self.part(peer)?;
+                Ok(Heard::Closed)
+            }
+        }
     }
 
     /// Says a text, which is UTF-8. A peer that takes nothing for too long is gone.

@@ -88,6 +88,30 @@ impl Callback for PathCheck {
     }
 }
 
+/// Why a turn of a handshake gave no session.
+type Unfinished = HandshakeError<ServerHandshake<Metered, PathCheck>>;
+
+/// A server's handshake that isn't done.
+struct Handshake {
+    inner: MidHandshake<ServerHandshake<Metered, PathCheck>>,
+}
+
+// One function drops its many parts: what holds one needn't see them.
+impl Drop for Handshake {
+    fn drop(self) {
+        let Handshake { inner: _ } = self;
+    }
+}
+
+impl Handshake {
+    /// One turn, which may be its last.
+    fn turn(self) -> Result<ServedSocket, Unfinished> {
+        let Handshake { mut inner } = self;
+        inner.get_mut().begin_turn(READS);
+        inner.handshake()
+    }
+}
+
 /// A connection whose handshake isn't done.
 #[derive(Drop)]
 struct Upgrade {
@@ -96,7 +120,7 @@ struct Upgrade {
     since: u64,
     /// Something may have come that was not read yet.
     named: bool,
-    handshake: Option<MidHandshake<ServerHandshake<Metered, PathCheck>>>,
+    handshake: Option<Handshake>,
 }
 
 /// A connection that is watched under a name, where that can be done.
@@ -117,15 +141,15 @@ impl Upgrade {
             name,
             since,
             named: true,
-            handshake: Some(server::start(alloc, stream, check, Some(limits()))),
+            handshake: Some(Handshake {
+                inner: server::start(alloc, stream, check, Some(limits())),
+            }),
         }
     }
 
     /// One turn of the handshake, which may be its last.
     fn turn(&mut self) -> Option<ServedSocket> {
-        let mut handshake = self.handshake.take()?;
-        handshake.get_mut().begin_turn(READS);
-        match handshake.handshake() {
+        match self.handshake.take()?.turn() {
             Ok(socket) => Some(socket),
             Err(unfinished) => {
                 self.keep(unfinished);
@@ -135,10 +159,10 @@ impl Upgrade {
     }
 
     /// Keeps a handshake that isn't done. One that failed is dropped.
-    fn keep(&mut self, unfinished: HandshakeError<ServerHandshake<Metered, PathCheck>>) {
-        if let HandshakeError::Interrupted(rest) = unfinished {
-            self.named = rest.get_ref().was_cut();
-            self.handshake = Some(rest);
+    fn keep(&mut self, unfinished: Unfinished) {
+        if let HandshakeError::Interrupted(inner) = unfinished {
+            self.named = inner.get_ref().was_cut();
+            self.handshake = Some(Handshake { inner });
         }
     }
 

@@ -7,33 +7,30 @@ use css_num::Text;
 use css_outside::{Sink, Source, Spawner};
 use std::cell::Cell;
 use std::io;
-use std::test::Fail;
 use std::time::{Clock, Duration};
 
 #[test]
-fn bytes_go_through_the_streams(rt: HostRuntime) -> Result<(), Fail> {
+fn bytes_go_through_the_streams(rt: HostRuntime) {
     let mut source = StdSource::new(b"a line\n".as_slice());
     let mut piece = [0u8; 16];
-    assert_eq!(rt; source.read(&mut piece).ok(), Some(7));
+    let count = source.read(&mut piece).expect(&rt, "a piece");
+    let read = piece.get(..count).expect(&rt, "a count in the room");
     let mut held = Vec::new(rt.alloc());
     let mut sink = StdSink::new(&mut held);
-    assert_eq!(rt; sink.write(&piece[..7]).ok(), Some(7));
-    assert_eq!(rt; held.as_slice(), b"a line\n".as_slice());
-    Ok(())
+    let written = sink.write(read).expect(&rt, "a piece");
+    assert!(rt; written == 7 && held.as_slice() == b"a line\n".as_slice());
 }
 
 #[test]
-fn a_child_ends_with_its_status(rt: HostRuntime) -> Result<(), Fail> {
+fn a_child_ends_with_its_status(rt: HostRuntime) {
     let mut words = Vec::new(rt.alloc());
     for word in ["-c", "read status; exit $status"] {
-        words.push(Text::of(rt.alloc(), word.as_bytes())?)?;
+        let word = Text::of(rt.alloc(), word.as_bytes()).expect(&rt, "memory");
+        words.push(word).expect(&rt, "memory");
     }
     let mut spawner = ChildSpawner::of_program(rt.alloc(), &rt, "/bin/sh");
-    if spawner.start(&words, b"3\n").is_ok() {
-        assert_eq!(rt; spawner.finish().ok(), Some(3));
-        return Ok(());
-    }
-    Err("no child".into())
+    spawner.start(&words, b"3\n").expect(&rt, "a child");
+    assert!(rt; spawner.finish() == Ok(3));
 }
 
 /// A clock that shows these times in turn, the monotone one's and the system's.
@@ -64,8 +61,13 @@ impl Clock for Shown {
     }
 }
 
+/// The readings that are told, and whether the clock slept.
+#[rattlefmt::skip]
+const TOLD: [(u64, bool); 8] =
+    [(5, false), (10, false), (11, true), (11, false), (12, true), (12, false), (13, false), (14, true)];
+
 #[test]
-fn a_sleep_is_told_once(rt: HostRuntime) -> Result<(), Fail> {
+fn a_sleep_is_told_once(rt: HostRuntime) {
     let shown = Shown {
         rows: [
             (5, 1_000),
@@ -79,20 +81,12 @@ fn a_sleep_is_told_once(rt: HostRuntime) -> Result<(), Fail> {
         ],
         at: Cell::new(0),
     };
-    let told = [
-        (5, false),
-        (10, false),
-        (11, true),
-        (11, false),
-        (12, true),
-        (12, false),
-        (13, false),
-        (14, true),
-    ];
     let mut tally = Tally::new();
-    for row in told {
-        let clocked = tally.now(&shown).ok().ok_or("no reading")?;
-        assert_eq!(rt; (clocked.reading, clocked.slept), row);
+    for (reading, slept) in TOLD {
+        let clocked = tally.now(&shown).expect(&rt, "a reading");
+        assert!(rt;
+            clocked.reading == reading && clocked.slept == slept,
+            "{reading}"
+        );
     }
-    Ok(())
 }

@@ -4,14 +4,35 @@ use css_net::{NetOutside, NetRuntime};
 use css_num::Text;
 use css_outside::{Address, Heard, Kind, Outside};
 use std::alloc::Global;
-use std::process;
-use std::test::Fail;
+use std::process::{self, Abort};
 
 /// How many turns are made until something must have come.
 const TURNS: usize = 100;
 
+fn text(rt: &impl Abort, alloc: Global, words: &[u8]) -> Text {
+    Text::of(alloc, words).expect(rt, "memory")
+}
+
+/// Where a television listens on this machine.
+fn television_at(rt: &impl Abort, alloc: Global, port: u16) -> Address {
+    Address {
+        host: text(rt, alloc, b"127.0.0.1"),
+        port,
+        path: text(rt, alloc, b"/cii"),
+    }
+}
+
+fn listen<O: Outside>(rt: &impl Abort, outside: &mut O, at: &Address) {
+    outside.listen(&at.host, at.port).expect(rt, "a port");
+}
+
+/// The socket of the clock that listens there.
+fn dial_clock<O: Outside>(rt: &impl Abort, outside: &mut O, at: &Address) -> u32 {
+    outside.dial(Kind::Wc, at).expect(rt, "a clock")
+}
+
 /// A companion dials, and a television accepts: their peers.
-fn meet<O: Outside>(tv: &mut O, companion: &mut O, to: &Address) -> Result<(u32, u32), Fail> {
+fn meet<O: Outside>(rt: &impl Abort, tv: &mut O, companion: &mut O, to: &Address) -> (u32, u32) {
     let mut dialled = None;
     let mut accepted = None;
     for _ in 0..TURNS {
@@ -24,122 +45,111 @@ fn meet<O: Outside>(tv: &mut O, companion: &mut O, to: &Address) -> Result<(u32,
         }
     }
     match (dialled, accepted) {
-        (Some(peer), Some((guest, Kind::Cii))) => Ok((peer, guest)),
-        _ => Err("no session".into()),
+        (Some(peer), Some((guest, Kind::Cii))) => (peer, guest),
+        _ => panic!(rt; "no session"),
     }
 }
 
 /// The next text of a session.
-fn text_of<O: Outside>(outside: &mut O, peer: u32) -> Result<Text, Fail> {
+fn text_of<O: Outside>(rt: &impl Abort, outside: &mut O, peer: u32) -> Text {
     for _ in 0..TURNS {
         let _ = outside.take_datagram(&mut [0u8; 64]);
-        match outside.take_text(peer) {
-            Ok(Heard::Text(text)) => return Ok(text),
-            Ok(Heard::Quiet) => {}
-            _ => break,
+        if let Heard::Text(text) = outside.take_text(peer).expect(rt, "a session") {
+            return text;
         }
     }
-    Err("no text".into())
+    panic!(rt; "no text")
 }
 
-/// The next datagram: its sender and its first byte.
-fn datagram_of<O: Outside>(outside: &mut O) -> Result<(u32, u8), Fail> {
-    let mut into = [0u8; 64];
-    for _ in 0..TURNS {
-        if let Ok(Some((peer, 32))) = outside.take_datagram(&mut into) {
-            return Ok((peer, into[0]));
-        }
-    }
-    Err("no datagram".into())
-}
-
-/// A text and a datagram go there and back: what came in the end.
-fn crossed<R: NetRuntime>(alloc: Global, rt: R, port: u16) -> Result<(Text, u8), Fail> {
-    let mut tv = NetOutside::new(alloc, rt);
-    let mut companion = NetOutside::new(alloc, rt);
-    let host = Text::of(alloc, b"127.0.0.1")?;
-    tv.listen(&host, port).ok().ok_or("no port")?;
-    let to = Address {
-        host,
-        port,
-        path: Text::of(alloc, b"/cii")?,
-    };
-    let (peer, guest) = meet(&mut tv, &mut companion, &to)?;
-    tv.send_text(guest, b"there and back")
-        .ok()
-        .ok_or("no text")?;
-    let came = text_of(&mut companion, peer)?;
-    companion
-        .send_text(peer, came.bytes())
-        .ok()
-        .ok_or("no text")?;
-    let back = text_of(&mut tv, guest)?;
-    let clock = clock_at(alloc, &mut companion, port)?;
-    send(&mut companion, clock, 7)?;
-    let (sender, first) = datagram_of(&mut tv)?;
-    send(&mut tv, sender, first)?;
-    let (_, first) = datagram_of(&mut companion)?;
-    Ok((back, first))
-}
-
-/// The socket of the clock that listens at a port of this machine.
-fn clock_at<O: Outside>(alloc: Global, outside: &mut O, port: u16) -> Result<u32, Fail> {
-    let to = Address {
-        host: Text::of(alloc, b"127.0.0.1")?,
-        port,
-        path: Text::of(alloc, b"/cii")?,
-    };
-    Ok(outside.dial(Kind::Wc, &to).ok().ok_or("no clock")?)
+/// A text goes from one to the other.
+fn tell<O: Outside>(rt: &impl Abort, from: &mut O, peer: u32, words: &[u8]) {
+    from.send_text(peer, words).expect(rt, "a session");
 }
 
 /// Sends 32 bytes, each of them `first`.
-fn send<O: Outside>(outside: &mut O, peer: u32, first: u8) -> Result<(), Fail> {
+fn send<O: Outside>(rt: &impl Abort, outside: &mut O, peer: u32, first: u8) {
     outside
         .send_datagram(peer, &[first; 32])
-        .ok()
-        .ok_or("not sent")?;
-    Ok(())
+        .expect(rt, "a socket");
+}
+
+/// The next datagram: its sender and its first byte.
+fn datagram_of<O: Outside>(rt: &impl Abort, outside: &mut O) -> (u32, u8) {
+    let mut into = [0u8; 64];
+    for _ in 0..TURNS {
+        if let Ok(Some((peer, 32))) = outside.take_datagram(&mut into) {
+            return (peer, into[0]);
+        }
+    }
+    panic!(rt; "no datagram")
+}
+
+/// A text and a datagram go there and back.
+fn check_crossing<O: Outside>(rt: &impl Abort, tv: &mut O, companion: &mut O, at: &Address) {
+    listen(rt, tv, at);
+    let (peer, guest) = meet(rt, tv, companion, at);
+    tell(rt, tv, guest, b"there and back");
+    let came = text_of(rt, companion, peer);
+    tell(rt, companion, peer, came.bytes());
+    let back = text_of(rt, tv, guest);
+    assert!(rt; back.bytes() == b"there and back".as_slice());
+    let clock = dial_clock(rt, companion, at);
+    send(rt, companion, clock, 7);
+    let (sender, first) = datagram_of(rt, tv);
+    send(rt, tv, sender, first);
+    let (_, first) = datagram_of(rt, companion);
+    assert!(rt; first == 7);
 }
 
 /// A relay listens and dials: a companion's datagram goes over it to a television, and one comes back.
-fn relayed<R: NetRuntime>(alloc: Global, rt: R, port: u16) -> Result<u8, Fail> {
-    let mut tv = NetOutside::new(alloc, rt);
-    let mut relay = NetOutside::new(alloc, rt);
-    let mut companion = NetOutside::new(alloc, rt);
-    let host = Text::of(alloc, b"127.0.0.1")?;
-    tv.listen(&host, port).ok().ok_or("no port")?;
-    relay
-        .listen(&host, port.wrapping_add(2))
-        .ok()
-        .ok_or("no port")?;
-    let above = clock_at(alloc, &mut relay, port)?;
-    let clock = clock_at(alloc, &mut companion, port.wrapping_add(2))?;
-    send(&mut companion, clock, 7)?;
-    let (below, first) = datagram_of(&mut relay)?;
-    send(&mut relay, above, first.wrapping_add(1))?;
-    let (sender, first) = datagram_of(&mut tv)?;
-    send(&mut tv, sender, first.wrapping_add(1))?;
-    let (peer, first) = datagram_of(&mut relay)?;
-    if peer != above {
-        return Err("another peer".into());
-    }
-    send(&mut relay, below, first.wrapping_add(1))?;
-    let (_, first) = datagram_of(&mut companion)?;
-    Ok(first)
+fn check_relaying<O: Outside>(
+    rt: &impl Abort,
+    tv: &mut O,
+    relay: &mut O,
+    companion: &mut O,
+    at: &Address,
+    own: &Address,
+) {
+    listen(rt, tv, at);
+    listen(rt, relay, own);
+    let above = dial_clock(rt, relay, at);
+    let clock = dial_clock(rt, companion, own);
+    send(rt, companion, clock, 7);
+    let (below, first) = datagram_of(rt, relay);
+    send(rt, relay, above, first.wrapping_add(1));
+    let (sender, first) = datagram_of(rt, tv);
+    send(rt, tv, sender, first.wrapping_add(1));
+    let (peer, first) = datagram_of(rt, relay);
+    assert!(rt; peer == above);
+    send(rt, relay, below, first.wrapping_add(1));
+    let (_, first) = datagram_of(rt, companion);
+    assert!(rt; first == 10);
+}
+
+fn cross<R: NetRuntime>(rt: &impl Abort, alloc: Global, net: R, port: u16) {
+    let at = television_at(rt, alloc, port);
+    let mut tv = NetOutside::new(alloc, net);
+    let mut companion = NetOutside::new(alloc, net);
+    check_crossing(rt, &mut tv, &mut companion, &at);
+}
+
+fn relay<R: NetRuntime>(rt: &impl Abort, alloc: Global, net: R, port: u16) {
+    let at = television_at(rt, alloc, port);
+    let own = television_at(rt, alloc, port.wrapping_add(2));
+    let mut tv = NetOutside::new(alloc, net);
+    let mut relay = NetOutside::new(alloc, net);
+    let mut companion = NetOutside::new(alloc, net);
+    check_relaying(rt, &mut tv, &mut relay, &mut companion, &at, &own);
 }
 
 #[test]
-fn texts_and_datagrams_go_there_and_back(rt: HostRuntime) -> Result<(), Fail> {
+fn texts_and_datagrams_go_there_and_back(rt: HostRuntime) {
     let port = 10000 + (process::id(rt.process()) % 5000 * 4) as u16;
-    let (text, first) = crossed(rt.alloc(), &rt, port)?;
-    assert_eq!(rt; text.bytes(), b"there and back".as_slice());
-    assert_eq!(rt; first, 7);
-    Ok(())
+    cross(&rt, rt.alloc(), &rt, port);
 }
 
 #[test]
-fn one_who_listens_dials_too(rt: HostRuntime) -> Result<(), Fail> {
+fn one_who_listens_dials_too(rt: HostRuntime) {
     let port = 30000 + (process::id(rt.process()) % 5000 * 4) as u16;
-    assert_eq!(rt; relayed(rt.alloc(), &rt, port)?, 10);
-    Ok(())
+    relay(&rt, rt.alloc(), &rt, port);
 }

@@ -50,13 +50,21 @@ pub fn fits(span: Span, num: i128) -> bool
     product(span.lo, num).is_some() && product(span.hi, num).is_some()
 }
 
+/// `number * num`, where it is below the limit.
+fn times(number: i128, num: i128) -> i128
+    requires { unsigned_abs (number *ℤ num) < 2 ^ 126 }
+    ensures { result ≡ number *ℤ num }
+{
+    number * num
+}
+
 /// `number * num / den`, rounded down.
 fn scaled_number(number: i128, num: i128, den: i128) -> i128
     requires positive { pos 0 <ℤ den }
     requires fits { unsigned_abs (number *ℤ num) < 2 ^ 126 }
     ensures { result ≡ spans.scaled_number number num (unsigned_abs den) }
 {
-    floor_div(number * num, den)
+    floor_div(times(number, num), den)
 }
 
 /// The least span that has `number * num / den`, rounded down, for each number of `span`. Its ends are what the ends of

@@ -43,10 +43,19 @@ use std::marker::Model;
 /// a companion that asks it needs to know nothing of the relay's own clock.
 ///
 /// All readings are those of the relay's own clock, in nanoseconds, and are handed to it as to a [`Companion`].
-#[derive(Drop)]
 pub struct Relay {
     companion: Companion,
     wc_url: Text,
+}
+
+// By hand: a derived drop is opened at each exit of each caller's proof.
+impl Drop for Relay {
+    fn drop(self) {
+        let Relay {
+            companion: _,
+            wc_url: _,
+        } = self;
+    }
 }
 
 impl Model for Relay {

@@ -329,7 +329,7 @@ second-range companions words =
     })))))))
 
 -- so is that of a call that answers it
-pub first_range : (words : List (List ℕ)) (answer : Result Line LineFault)
+first_range : (words : List (List ℕ)) (answer : Result Line LineFault)
     → GivesBy (λ line. line) Memory answer (line_of_words words) → IfOk answer IsLine
 first_range words answer e = by answer (answer-range IsFirstLine answer (line_of_words words) (words-range words) e)
   where
@@ -338,7 +338,7 @@ first_range words answer e = by answer (answer-range IsFirstLine answer (line_of
     by (Err fault) h = tt
 
 -- and it is of version 1
-pub first_is_first : (words : List (List ℕ)) (answer : Result Line LineFault)
+first_is_first : (words : List (List ℕ)) (answer : Result Line LineFault)
     → GivesBy (λ line. line) Memory answer (line_of_words words) → IfOk answer IsFirst
 first_is_first words answer e = by answer (answer-range IsFirstLine answer (line_of_words words) (words-range words) e)
   where
@@ -370,13 +370,33 @@ second_is_second companions words answer e =
     by (Err fault) h = tt
 
 -- ---- by the version
-pub of_first : (version companions : ℕ) (answer : Result Line LineFault) → (version == 1) ≡ true
-    → IfOk answer IsFirst → IfOk answer (IsOf (version == 1) companions)
-of_first version companions answer is h = subst (λ b. IfOk answer (IsOf b companions)) (sym is) h
+-- what one function reads for both versions is the line of the one
+same_line : (first : Bool) (companions : ℕ) (words : List (List ℕ)) → lines.line_by first companions words
+    ≡ (if first then line_of_words words else lines.second_of_words companions words)
+unfolding lines.line_by lines.verb_in line_of_words lines.second_of_words verb_at second_verb_at
+same_line true companions words = refl
+same_line false companions words = refl
 
-pub of_second : (version companions : ℕ) (answer : Result Line LineFault) → (version == 1) ≡ false
-    → IfOk answer (IsSecond companions) → IfOk answer (IsOf (version == 1) companions)
-of_second version companions answer is h = subst (λ b. IfOk answer (IsOf b companions)) (sym is) h
+pub by_version : (first : Bool) (companions : ℕ) (words : List (List ℕ)) (answer : Result Line LineFault)
+    → GivesBy (λ line. line) Memory answer (lines.line_by first companions words)
+    → GivesBy (λ line. line) Memory answer
+    (if first then line_of_words words else lines.second_of_words companions words)
+by_version first companions words answer e =
+    subst (λ (expected : Result Line LineFault). GivesBy (λ line. line) Memory answer expected)
+    (same_line first companions words) e
+
+pub line_range : (first : Bool) (companions : ℕ) (words : List (List ℕ)) (answer : Result Line LineFault)
+    → GivesBy (λ line. line) Memory answer
+    (if first then line_of_words words else lines.second_of_words companions words) → IfOk answer IsLine
+line_range true companions words answer e = first_range words answer e
+line_range false companions words answer e = second_line_range companions words answer e
+
+pub line_is_of : (first : Bool) (companions : ℕ) (words : List (List ℕ)) (answer : Result Line LineFault)
+    → GivesBy (λ line. line) Memory answer
+    (if first then line_of_words words else lines.second_of_words companions words)
+    → IfOk answer (IsOf first companions)
+line_is_of true companions words answer e = first_is_first words answer e
+line_is_of false companions words answer e = second_is_second companions words answer e
 
 -- ---- lines of a script
 -- a viewer's command has no reading yet

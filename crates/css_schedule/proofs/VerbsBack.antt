@@ -13,8 +13,8 @@ use Rattle.css_num.proofs.Numerals.{number_of-decimal}
 use Rattle.css_model.specs.declared.TheConstants.{LIMIT}
 use Rattle.css_player.specs.declared.command.Command.{Command}
 use Rattle.css_player.specs.declared.command.Command.TheVariants.{Change, Speed, Seek}
-use Rattle.css_sessions.specs.declared.session.Kind.{Kind}
-use Rattle.css_sessions.specs.declared.session.Kind.TheVariants.{Cii, Ts}
+use Rattle.css_num.specs.declared.protocol.Kind.{Kind}
+use Rattle.css_num.specs.declared.protocol.Kind.TheVariants.{Cii, Ts}
 use Rattle.css_tsmsg.specs.Presentations.{content_text, wall_text, IsEarliest, IsLatest}
 use Rattle.css_tsmsg.specs.Times.{IsContent}
 use Rattle.css_tsmsg.specs.declared.bound.Bound.{Bound}

@@ -1,12 +1,12 @@
 -- The lines of a schedule after its header, and those of a script, as words.
-use Rattle.std.specs.Prelude.{ℕ, ℤ, ◌+◌, ◌^◌, ◌==◌, if◌then◌else◌, List, Option, Some, None}
+use Rattle.std.specs.Prelude.{ℕ, ℤ, ◌+◌, ◌^◌, ◌==◌, if◌then◌else◌, Bool, true, false, List, Option, Some, None}
 use Rattle.std.specs.Prelude.{Result, Ok, Err, codes, bytes_eq}
 use Rattle.css_model.specs.declared.TheConstants.{LIMIT}
 use Rattle.css_num.specs.Rates.{rate_of}
 use Rattle.css_player.specs.declared.command.Command.{Command}
 use Rattle.css_player.specs.declared.command.Command.TheVariants.{Change, Speed, Seek}
-use Rattle.css_sessions.specs.declared.session.Kind.{Kind}
-use Rattle.css_sessions.specs.declared.session.Kind.TheVariants.{Cii, Ts}
+use Rattle.css_num.specs.declared.protocol.Kind.{Kind}
+use Rattle.css_num.specs.declared.protocol.Kind.TheVariants.{Cii, Ts}
 use Rattle.css_tsmsg.specs.declared.bound.Bound.{Bound}
 use Rattle.css_tsmsg.specs.declared.bound.Bound.TheVariants as bounds
 use Rattle.css_schedule.specs.declared.fault.LineFault.{LineFault}
@@ -271,6 +271,39 @@ second_of_words companions words = do
   verb ← second_verb_at l.1
   end ← all_read verb.1
   if is_named who.0 l.0 verb.0 then Ok (record { t = t.0; w = w.0; who = who.0; l = l.0; verb = verb.0 }) else Err Form
+
+-- ---- both versions, as one function reads them
+-- the operands of the verb with this name, in version 1 or 2
+abbrev pub named_at : Bool → List ℕ → At Verb
+named_at true name words = operands_at name words
+named_at false name words = second_operands_at name words
+
+-- a verb and its operands
+unfoldable pub verb_in : Bool → At Verb
+verb_in first words = do
+  name ← word_at words
+  named_at first name.0 name.1
+
+-- the number of the companion: in version 1 there is only one
+abbrev pub who_at : Bool → ℕ → At ℕ
+who_at true companions words = Ok (1, words)
+who_at false companions words = number_at (companions + 1) words
+
+-- the value, where it fits and no word is left
+abbrev pub ended : {A : Type 0} → A → Bool → List (List ℕ) → Result A LineFault
+ended value fits words = do
+  end ← all_read words
+  if fits then Ok value else Err Form
+
+-- the line that words are
+unfoldable pub line_by : Bool → ℕ → List (List ℕ) → Result Line LineFault
+line_by first companions words = do
+  t ← time_at words
+  w ← time_at t.1
+  who ← who_at first companions w.1
+  l ← time_at who.1
+  verb ← verb_in first l.1
+  ended (record { t = t.0; w = w.0; who = who.0; l = l.0; verb = verb.0 }) (is_named who.0 l.0 verb.0) verb.1
 
 -- the line that bytes are in a version, with so many companions
 abbrev pub line_in : ℕ → ℕ → List ℕ → Result Line LineFault

@@ -3,7 +3,7 @@ use css_span::Local;
 use std::marker::Model;
 
 /// What a schedule says of one companion.
-#[derive(Debug, Drop)]
+#[derive(Debug)]
 pub struct CompanionLine {
     /// Its oscillator's error and its precision of reading.
     pub local: Local,
@@ -11,6 +11,17 @@ pub struct CompanionLine {
     pub selector: Text,
     /// How the content id has to begin; empty for any content.
     pub stem: Text,
+}
+
+// By hand: a derived drop is opened at each exit of each caller's proof.
+impl Drop for CompanionLine {
+    fn drop(self) {
+        let CompanionLine {
+            local: _,
+            selector: _,
+            stem: _,
+        } = self;
+    }
 }
 
 /// The companions of a schedule, numbered from 1 in this order.

@@ -14,9 +14,8 @@ mod printing;
 mod reading;
 pub mod words;
 
-pub use css_num::{Rate, Text};
+pub use css_num::{Kind, Rate, Text};
 pub use css_player::{Command, PlayerFault};
-pub use css_sessions::Kind;
 pub use css_span::Local;
 pub use css_tsmsg::Bound;
 pub use fault::{LineFault, LineWhy};

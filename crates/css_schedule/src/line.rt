@@ -1,10 +1,9 @@
-use css_num::{Rate, Text};
+use css_num::{Kind, Rate, Text};
 use css_player::Command;
-use css_sessions::Kind;
 use css_tsmsg::Bound;
 
 /// What happens at a line. A reading is in nanoseconds, below 2^32 seconds, and a number is 1 to 2^32 - 1.
-#[derive(Debug, Drop, PartialEq, Eq)]
+#[derive(Debug, Drop)]
 pub enum Verb {
     /// The companion sends its next request, at this reading of its clock. Requests are numbered from 1.
     Ask {
@@ -76,7 +75,7 @@ pub enum Verb {
 }
 
 /// A line of a schedule after the header. Its times are nanoseconds below 2^32 seconds.
-#[derive(Debug, Drop, PartialEq, Eq)]
+#[derive(Drop)]
 pub struct Line {
     /// True time.
     pub t: u64,
@@ -91,7 +90,7 @@ pub struct Line {
 }
 
 /// A line of a television's script.
-#[derive(Debug, Drop, PartialEq, Eq)]
+#[derive(Drop)]
 pub struct ScriptLine {
     /// When it is due, by the television's wall clock, in nanoseconds below 2^32 seconds.
     pub due: u64,

@@ -7,8 +7,8 @@ ghost use Rattle.css_schedule.specs.declared.fault.LineFault.TheVariants as faul
 use crate::LineFault;
 use crate::words::{Words, integer, number, ordinal, word};
 use css_model::LIMIT;
+use css_num::Kind;
 use css_player::Command;
-use css_sessions::Kind;
 use css_tsmsg::Bound;
 
 /// The digits that a tick or a media position has at most.

@@ -10,9 +10,8 @@ ghost use Rattle.css_schedule.specs.declared.header.Start.TheVariants as starts;
 ghost use Rattle.css_schedule.specs.declared.line.Verb.TheVariants as verbs;
 
 use crate::{CompanionLine, Companions, Header, Line, Verb};
-use css_num::{Memory, Rate, Text};
+use css_num::{Kind, Memory, Rate, Text};
 use css_player::Command;
-use css_sessions::Kind;
 use css_tsmsg::Bound;
 use std::alloc::Global;
 

@@ -1,4 +1,4 @@
-ghost use Rattle.std.specs.Prelude.{◌≡◌, ◌==◌, IfOk};
+ghost use Rattle.std.specs.Prelude.{◌≡◌, ◌<◌, ◌^◌, ◌==◌, IfOk};
 ghost use Rattle.css_num.specs.Gives.{GivesBy};
 ghost use Rattle.css_schedule.specs.Words.{words_left, Reads};
 ghost use Rattle.css_schedule.specs.Lines as lines;
@@ -11,6 +11,18 @@ use crate::words::{Words, all_words, finish, number, ordinal, skip, text, word};
 use crate::{Line, LineFault, ScriptLine, Verb};
 use css_num::{Rate, Text};
 use std::alloc::Global;
+
+// The value, where it fits and no word is left. It alone drops a line that isn't told.
+fn ended<T: Drop>(value: T, rest: Words<'_>, fits: bool) -> Result<T, LineFault>
+    ensures { GivesBy (λ x. x) faults.Memory result (lines.ended value fits (words_left rest.entry)) }
+{
+    finish(rest)?;
+    if fits {
+        Ok(value)
+    } else {
+        Err(LineFault::Form)
+    }
+}
 
 #[tactic(auto, unfolding(crate::specs::Lines::ask_at))]
 fn ask<'a>(words: Words<'a>) -> Result<(Verb, Words<'a>), LineFault>
@@ -206,54 +218,28 @@ fn operands<'a>(
     }
 }
 
-#[tactic(auto, unfolding(crate::specs::Lines::verb_at))]
-fn verb<'a>(alloc: Global, words: Words<'a>) -> Result<(Verb, Words<'a>), LineFault>
-    ensures { Reads result (lines.verb_at (words_left words.entry)) }
-{
-    let (name, rest) = word(words)?;
-    operands(alloc, name, rest)
-}
-
-// The line of version 1 that these words are. There is one companion.
-#[tactic(auto, unfolding(crate::specs::Lines::line_of_words))]
-fn first_line(alloc: Global, words: Words<'_>) -> Result<Line, LineFault>
-    ensures { GivesBy (λ x. x) faults.Memory result (lines.line_of_words (words_left words.entry)) }
-{
-    let (t, rest) = time(words)?;
-    let (w, rest) = time(rest)?;
-    let (l, rest) = time(rest)?;
-    let (verb, rest) = verb(alloc, rest)?;
-    finish(rest)?;
-    Ok(Line {
-        t,
-        w,
-        who: 1,
-        l,
-        verb,
-    })
-}
-
-// The operands of the verb of version 2 with this name.
-fn second_operands<'a>(
+// The operands of the verb of version 1 or 2 with this name.
+fn named<'a>(
     alloc: Global,
     name: &[u8],
     words: Words<'a>,
+    first: bool,
 ) -> Result<(Verb, Words<'a>), LineFault>
-    ensures { Reads result (lines.second_operands_at name.now (words_left words.entry)) }
+    ensures { Reads result (lines.named_at first name.now (words_left words.entry)) }
 {
-    if name == b"sleep".as_slice() {
+    if !first && name == b"sleep".as_slice() {
         Ok((Verb::Sleep, words))
     } else {
         operands(alloc, name, words)
     }
 }
 
-#[tactic(auto, unfolding(crate::specs::Lines::second_verb_at))]
-fn second_verb<'a>(alloc: Global, words: Words<'a>) -> Result<(Verb, Words<'a>), LineFault>
-    ensures { Reads result (lines.second_verb_at (words_left words.entry)) }
+#[tactic(auto, unfolding(crate::specs::Lines::verb_in))]
+fn verb<'a>(alloc: Global, words: Words<'a>, first: bool) -> Result<(Verb, Words<'a>), LineFault>
+    ensures { Reads result (lines.verb_in first (words_left words.entry)) }
 {
     let (name, rest) = word(words)?;
-    second_operands(alloc, name, rest)
+    named(alloc, name, rest, first)
 }
 
 // Whether a companion takes part in it.
@@ -274,22 +260,35 @@ fn is_named(who: u32, l: u64, verb: &Verb) -> bool
     who != 0 || l == 0 && !is_own(verb)
 }
 
-// The line of version 2 that these words are, where there are so many companions.
-#[tactic(auto, unfolding(crate::specs::Lines::second_of_words))]
-fn second_line(alloc: Global, words: Words<'_>, companions: u32) -> Result<Line, LineFault>
-    ensures { GivesBy (λ x. x) faults.Memory result (lines.second_of_words companions (words_left words.entry)) }
+// The number of a line's companion. In version 1 there is only one, and no word for it.
+fn companion<'a>(
+    words: Words<'a>,
+    first: bool,
+    companions: u32,
+) -> Result<(u64, Words<'a>), LineFault>
+    ensures value { Reads result (lines.who_at first companions (words_left words.entry)) }
+    ensures range { IfOk result (λ x. x.0 < 2 ^ 32) }
+{
+    if first {
+        Ok((1, words))
+    } else {
+        number(words, u64::from(companions) + 1)
+    }
+}
+
+// The line of version 1 or 2 that these words are, where there are so many companions.
+#[tactic(auto, unfolding(crate::specs::Lines::line_by))]
+fn line(alloc: Global, words: Words<'_>, first: bool, companions: u32) -> Result<Line, LineFault>
+    ensures { GivesBy (λ x. x) faults.Memory result (lines.line_by first companions (words_left words.entry)) }
 {
     let (t, rest) = time(words)?;
     let (w, rest) = time(rest)?;
-    let (who, rest) = number(rest, u64::from(companions) + 1)?;
+    let (who, rest) = companion(rest, first, companions)?;
     let (l, rest) = time(rest)?;
-    let (verb, rest) = second_verb(alloc, rest)?;
-    finish(rest)?;
+    let (verb, rest) = verb(alloc, rest, first)?;
     let who = who as u32;
-    if !is_named(who, l, &verb) {
-        return Err(LineFault::Form);
-    }
-    Ok(Line { t, w, who, l, verb })
+    let named = is_named(who, l, &verb);
+    ended(Line { t, w, who, l, verb }, rest, named)
 }
 
 /// Reads a line of a schedule after its header, without its line feed, in a version and with so many companions.
@@ -321,11 +320,7 @@ pub fn read_line(
     ensures range { IfOk result IsLine }
     ensures of { IfOk result (IsOf (version == 1) companions) }
 {
-    if version == 1 {
-        first_line(alloc, all_words(bytes))
-    } else {
-        second_line(alloc, all_words(bytes), companions)
-    }
+    line(alloc, all_words(bytes), version == 1, companions)
 }
 
 // A viewer's command of a script, by its name. It has no reading, and 0 stands in its place.
@@ -375,9 +370,8 @@ fn script_line(alloc: Global, words: Words<'_>) -> Result<ScriptLine, LineFault>
     ensures { GivesBy (λ x. x) faults.Memory result (lines.script_of_words (words_left words.entry)) }
 {
     let (due, rest) = time(words)?;
-    let (verb, end) = script_verb(alloc, rest)?;
-    finish(end)?;
-    Ok(ScriptLine { due, verb })
+    let (verb, rest) = script_verb(alloc, rest)?;
+    ended(ScriptLine { due, verb }, rest, true)
 }
 
 /// Reads a line of a television's script, without its line feed.

@@ -2,11 +2,11 @@
 
 ghost use Rattle.std.specs.Prelude.{◌≡◌, ◌<◌, ◌≤◌, ◌^◌, unsigned_abs};
 
+use crate::common::check_that;
 use css_model::LIMIT;
 use css_moments::{Drift, DriftFault};
 use std::alloc::Global;
 use std::process::Abort;
-use std::test::Fail;
 
 /// A nanosecond, in the unit of an excess.
 const NANOSECOND: i128 = 256_000_000;
@@ -31,22 +31,26 @@ fn an_oscillator_may_gain_and_lose_its_error_and_a_nanosecond(rt: HostRuntime) {
         (1988, BROKEN),
     ] {
         let mut drift = Drift::new(PERCENT);
-        assert_eq!(rt; drift.add(1, 0, 1000), Ok(()));
-        assert_eq!(rt; drift.add(2, 1000, value), expected, "at {value}");
+        drift.add(1, 0, 1000).expect(&rt, "the first line");
+        let added = drift.add(2, 1000, value);
+        check_that(&rt, added == expected, "the second line");
     }
 }
 
 #[test]
 fn the_greatest_numbers_fit(rt: HostRuntime) {
     let mut drift = Drift::new(25_600_000);
-    assert_eq!(rt; drift.add(1, 0, 0), Ok(()));
+    drift.add(1, 0, 0).expect(&rt, "the first line");
     let earlier = 1;
     let excess = 989_560_464_998_399_999_513_600_000;
-    assert_eq!(rt;
-        drift.add(2, LIMIT - 1, 0),
-        Err(DriftFault::Broken { earlier, excess })
+    let added = drift.add(2, LIMIT - 1, 0);
+    check_that(
+        &rt,
+        added == Err(DriftFault::Broken { earlier, excess }),
+        "the greatest excess",
     );
-    assert_eq!(rt; drift.add(u64::MAX, LIMIT - 1, LIMIT - 1), Ok(()));
+    let added = drift.add(u64::MAX, LIMIT - 1, LIMIT - 1);
+    check_that(&rt, added.is_ok(), "the last line");
 }
 
 fn difference(a: u64, b: u64) -> i128
@@ -130,7 +134,7 @@ fn drawn(word: u64, line: u64, spread: u64) -> Shown
 
 /// The verdicts on 2,000 drawn lines are those of a scan. It tells how many lines were refused for true time that fell,
 /// and how many for their drift, whose excess has a much smaller unit.
-fn watch(rt: &impl Abort, alloc: Global, error: u32, spread: u64) -> Result<(u64, u64), Fail>
+fn watch(rt: &impl Abort, alloc: Global, error: u32, spread: u64) -> (u64, u64)
     requires error { error ≤ 25600000 }
     requires spread { 0 < spread }
 {
@@ -150,23 +154,23 @@ fn watch(rt: &impl Abort, alloc: Global, error: u32, spread: u64) -> Result<(u64
         let now = drawn(word >> 20, line, spread);
         let expected = plain_verdict(error, last, &lately, now);
         let verdict = drift.add(now.0, now.1, now.2);
-        assert_eq!(rt; verdict, expected, "at line {line}");
+        check_that(rt, verdict == expected, "a drawn line");
         match verdict {
             Ok(()) => {
                 last = Some(now);
-                lately.push(now)?;
+                lately.push(now).expect(rt, "memory");
             }
-            Err(DriftFault::Broken { excess, .. }) if excess < 100_000 => fell = fell.wrapping_add(
-                1,
-            ),
+            Err(DriftFault::Broken { excess, .. }) if excess < 100_000 => {
+                fell = fell.wrapping_add(1);
+            }
             Err(_) => drifted = drifted.wrapping_add(1),
         }
     }
-    Ok((fell, drifted))
+    (fell, drifted)
 }
 
 #[test]
-fn a_scan_of_all_lines_finds_the_same(rt: HostRuntime) -> Result<(), Fail> {
+fn a_scan_of_all_lines_finds_the_same(rt: HostRuntime) {
     for (error, spread) in [
         (0, 2),
         (0, 4),
@@ -174,9 +178,8 @@ fn a_scan_of_all_lines_finds_the_same(rt: HostRuntime) -> Result<(), Fail> {
         (PERCENT, 600),
         (25_600_000, 4000),
     ] {
-        let (fell, drifted) = watch(&rt, rt.alloc(), error, spread)?;
-        assert!(rt; fell > 100, "at {error}, {spread}");
-        assert_eq!(rt; drifted > 100, spread > 2, "at {error}, {spread}");
+        let (fell, drifted) = watch(&rt, rt.alloc(), error, spread);
+        check_that(&rt, fell > 100, "true time falls");
+        check_that(&rt, (drifted > 100) == (spread > 2), "the clock drifts");
     }
-    Ok(())
 }

@@ -1,10 +1,10 @@
 //! The lines that seeds give, as another program made them.
 
+use crate::common::check_that;
 use css_gen::Generator;
-use css_num::{Memory, whole_number};
+use css_num::whole_number;
 use std::alloc::Global;
 use std::process::Abort;
-use std::test::Fail;
 
 /// A seed, how many lines and how many companions, and the last lines of this schedule, with ";" between two:
 /// whole schedules; both clocks slow, both fast, and one of each; each verb; and longer schedules.
@@ -56,43 +56,32 @@ const SUMS: [(u64, u64, u64, usize, u64); 3] = [
 ];
 
 /// Adds the next line and its line feed. There has to be one.
-fn add_line(
-    rt: &impl Abort,
-    alloc: Global,
-    lines: &mut Generator,
-    out: &mut Vec<u8>,
-) -> Result<(), Memory> {
-    let text = lines.next_line(alloc)?.expect(rt, "there is a line more");
-    out.extend_from_slice(text.bytes())?;
-    out.push(b'\n')?;
-    Ok(())
+fn add_line(rt: &impl Abort, alloc: Global, lines: &mut Generator, out: &mut Vec<u8>) {
+    let line = lines.next_line(alloc).expect(rt, "memory");
+    let text = line.expect(rt, "there is a line more");
+    out.extend_from_slice(text.bytes()).expect(rt, "memory");
+    out.push(b'\n').expect(rt, "memory");
 }
 
 /// A whole schedule. It has so many lines and no more, however often one is asked for.
-fn schedule(
-    rt: &impl Abort,
-    alloc: Global,
-    seed: u64,
-    lines: u64,
-    companions: u64,
-) -> Result<Vec<u8>, Memory> {
+fn schedule(rt: &impl Abort, alloc: Global, seed: u64, lines: u64, companions: u64) -> Vec<u8> {
     assert!(rt; 1 <= companions && companions <= 16 && lines <= 200_000);
-    assert!(rt;
-        lines
-            >= if companions == 1 {
-                9
-            } else {
-                4 + 6 * companions
-            }
-    );
+    let least = if companions == 1 {
+        9
+    } else {
+        4 + 6 * companions
+    };
+    assert!(rt; least <= lines);
     let mut generator = Generator::new(alloc, seed, lines, companions as u32);
     let mut out = Vec::new(alloc);
     for _ in 0..lines {
-        add_line(rt, alloc, &mut generator, &mut out)?;
+        add_line(rt, alloc, &mut generator, &mut out);
     }
-    assert!(rt; generator.next_line(alloc)?.is_none());
-    assert!(rt; generator.next_line(alloc)?.is_none());
-    Ok(out)
+    for _ in 0..2 {
+        let line = generator.next_line(alloc).expect(rt, "memory");
+        check_that(rt, line.is_none(), "there is no line more");
+    }
+    out
 }
 
 /// The next number of a row, and what comes after it.
@@ -102,55 +91,43 @@ fn number(row: &str) -> Option<(u64, &str)> {
 }
 
 /// The schedule of a row ends as the row says.
-fn check_end(rt: &impl Abort, alloc: Global, row: &str) -> Result<(), Fail> {
-    let (seed, rest) = number(row).ok_or("no seed")?;
-    let (lines, rest) = number(rest).ok_or("no lines")?;
-    let (companions, end) = number(rest).ok_or("no companions")?;
-    let mut end = end.replace(alloc, ';', "\n")?;
-    end.push('\n')?;
-    let schedule = schedule(rt, alloc, seed, lines, companions)?;
-    assert!(rt; schedule.ends_with(end.as_bytes()), "{row}");
-    Ok(())
+fn check_end(rt: &impl Abort, alloc: Global, row: &str) {
+    let (seed, rest) = number(row).expect(rt, "a seed");
+    let (lines, rest) = number(rest).expect(rt, "lines");
+    let (companions, end) = number(rest).expect(rt, "companions");
+    let mut end = end.replace(alloc, ';', "\n").expect(rt, "memory");
+    end.push('\n').expect(rt, "memory");
+    let schedule = schedule(rt, alloc, seed, lines, companions);
+    check_that(rt, schedule.ends_with(end.as_bytes()), row);
 }
 
 #[test]
-fn schedules_end_so(rt: HostRuntime) -> Result<(), Fail> {
+fn schedules_end_so(rt: HostRuntime) {
     for row in ENDS.lines() {
-        check_end(&rt, rt.alloc(), row)?;
+        check_end(&rt, rt.alloc(), row);
     }
-    Ok(())
 }
 
 #[test]
-fn long_schedules_end_so(rt: HostRuntime) -> Result<(), Fail> {
-    let row = "1 100000 1 451040124196 452062676202 452062676202 land 24812 452062676202";
-    check_end(&rt, rt.alloc(), row)
-}
-
-#[test]
-fn the_longest_schedule_ends_so(rt: HostRuntime) -> Result<(), Fail> {
+fn the_longest_schedule_ends_so(rt: HostRuntime) {
     let row = "1 200000 1 902836863662 903882005505 903882005505 give 24667 903882005505";
-    check_end(&rt, rt.alloc(), row)
+    check_end(&rt, rt.alloc(), row);
 }
 
 #[test]
-fn the_longest_schedule_of_several_ends_so(rt: HostRuntime) -> Result<(), Fail> {
-    check_end(
-        &rt,
-        rt.alloc(),
-        "1 200000 16 905906003980 906951299280 9 906951299280 sleep",
-    )
+fn the_longest_schedule_of_several_ends_so(rt: HostRuntime) {
+    let row = "1 200000 16 905906003980 906951299280 9 906951299280 sleep";
+    check_end(&rt, rt.alloc(), row);
 }
 
 #[test]
-fn longer_schedules_have_their_sums(rt: HostRuntime) -> Result<(), Fail> {
+fn longer_schedules_have_their_sums(rt: HostRuntime) {
     for (seed, lines, companions, bytes, sum) in &SUMS {
-        let schedule = schedule(&rt, rt.alloc(), *seed, *lines, *companions)?;
+        let schedule = schedule(&rt, rt.alloc(), *seed, *lines, *companions);
         let mut total: u64 = 0;
         for byte in schedule.iter() {
             total = total.wrapping_add(u64::from(*byte));
         }
-        assert_eq!(rt; (schedule.len(), total), (*bytes, *sum), "{seed}");
+        check_that(&rt, schedule.len() == *bytes && total == *sum, "its bytes");
     }
-    Ok(())
 }

@@ -1,11 +1,11 @@
 //! Headers of schedules and the lines of their companions, read and printed.
 
+use crate::common::{check, check_that, parts, shown, words};
 use crate::opening::open;
 use css_num::Text;
 use css_schedule::{LineFault, print_header, read_companion, read_header};
 use std::alloc::Global;
 use std::process::Abort;
-use std::test::Fail;
 
 /// Headers, and what each is read as. Words are told by their bytes.
 const HEADERS: &str = "\
@@ -23,22 +23,22 @@ companion 2 2560000 1000000000 !~ -0 = CompanionLine { local: Local { error: 256
 selector: Text { bytes: [33, 126] }, stem: Text { bytes: [45, 48] } }";
 
 /// What a header, or else the line of companion 2, is read as.
-fn told(alloc: Global, line: &str) -> Result<String, Fail> {
+fn told(rt: &impl Abort, alloc: Global, line: &str) -> String {
     if line.starts_with("companion") {
-        Ok(format!(in alloc; "{:?}", read_companion(alloc, line.as_bytes(), 2)?)?)
+        let companion = read_companion(alloc, line.as_bytes(), 2).expect(rt, "a companion");
+        shown(rt, alloc, &companion)
     } else {
-        Ok(format!(in alloc; "{:?}", read_header(alloc, line.as_bytes())?)?)
+        let start = read_header(alloc, line.as_bytes()).expect(rt, "a header");
+        shown(rt, alloc, &start)
     }
 }
 
 #[test]
-fn headers_are_read(rt: HostRuntime) -> Result<(), Fail> {
+fn headers_are_read(rt: HostRuntime) {
     for row in HEADERS.lines() {
-        let (line, expected) = row.split_once(" = ").ok_or("no row")?;
-        let told = told(rt.alloc(), line)?;
-        assert_eq!(rt; told.as_str(), expected);
+        let (line, expected) = parts(&rt, row);
+        check(&rt, &told(&rt, rt.alloc(), line), expected);
     }
-    Ok(())
 }
 
 /// What is no header after its first word, a bar between two: words, spaces, versions, numbers, and bytes of words.
@@ -69,29 +69,22 @@ const NO_COMPANION: &str = "\
 |companion 2 2560001 0 urn:x -|companion 2 0 1000000001 urn:x -|companion 2 0 -1 urn:x -|companion 2 0 0 \u{7f} -\
 |companions 2 0 0 urn:x -|Companion 2 0 0 urn:x -|css-schedule 2 plain 0 -30 2|1000 4800 2 1000 ask 1000";
 
-fn assert_no_header(
-    rt: &impl Abort,
-    alloc: Global,
-    first: &str,
-    headers: &str,
-) -> Result<(), Fail> {
+fn check_no_headers(rt: &impl Abort, alloc: Global, first: &str, headers: &str) {
     for header in headers.split('|') {
-        let text = format!(in alloc; "{first}{header}")?;
+        let text = format!(in alloc; "{first}{header}").expect(rt, "memory");
         let read = read_header(alloc, text.as_bytes());
-        assert!(rt; matches!(read, Err(LineFault::Form)), "{text}");
+        check_that(rt, matches!(read, Err(LineFault::Form)), &text);
     }
-    Ok(())
 }
 
 #[test]
-fn what_is_no_header_is_refused(rt: HostRuntime) -> Result<(), Fail> {
-    assert_no_header(&rt, rt.alloc(), "css-schedule ", NO_HEADER)?;
-    assert_no_header(&rt, rt.alloc(), "", NO_SCHEDULE)?;
+fn what_is_no_header_is_refused(rt: HostRuntime) {
+    check_no_headers(&rt, rt.alloc(), "css-schedule ", NO_HEADER);
+    check_no_headers(&rt, rt.alloc(), "", NO_SCHEDULE);
     for line in NO_COMPANION.split('|') {
         let read = read_companion(rt.alloc(), line.as_bytes(), 2);
-        assert!(rt; matches!(read, Err(LineFault::Form)), "{line}");
+        check_that(&rt, matches!(read, Err(LineFault::Form)), line);
     }
-    Ok(())
 }
 
 /// Whole headers, which are printed as they were read.
@@ -104,21 +97,21 @@ const WHOLE: [&str; 5] = [
 ];
 
 /// The header that these lines are read as, printed again.
-fn printed_again(alloc: Global, header: &str) -> Result<Text, Fail> {
-    let lines: Vec<&str> = header.lines().collect(alloc)?;
-    let opened = open(alloc, &lines)?;
-    if opened.is_first {
-        Ok(print_header(alloc, &opened.header, 1)?)
+fn printed_again(rt: &impl Abort, alloc: Global, header: &str) -> Text {
+    let lines: Vec<&str> = header.lines().collect(alloc).expect(rt, "memory");
+    let opened = open(rt, alloc, &lines);
+    let printed = if opened.is_first {
+        print_header(alloc, &opened.header, 1)
     } else {
-        Ok(print_header(alloc, &opened.header, 2)?)
-    }
+        print_header(alloc, &opened.header, 2)
+    };
+    printed.expect(rt, "memory")
 }
 
 #[test]
-fn headers_are_printed_as_they_were_read(rt: HostRuntime) -> Result<(), Fail> {
+fn headers_are_printed_as_they_were_read(rt: HostRuntime) {
     for header in WHOLE {
-        let printed = printed_again(rt.alloc(), header)?;
-        assert_eq!(rt; printed.bytes(), header.as_bytes(), "{header}");
+        let printed = printed_again(&rt, rt.alloc(), header);
+        check(&rt, words(printed.bytes()), header);
     }
-    Ok(())
 }

@@ -5,6 +5,8 @@
 #[cfg(test)]
 mod clocks;
 #[cfg(test)]
+mod common;
+#[cfg(test)]
 mod generated;
 #[cfg(test)]
 mod headers;

@@ -1,10 +1,10 @@
 //! Lines of schedules and of scripts, read and printed.
 
+use crate::common::{check, check_that, parts, shown, words};
 use css_num::Text;
 use css_schedule::{Line, LineFault, LineWhy, PlayerFault, print_line, read_line, read_script};
 use std::alloc::Global;
 use std::process::Abort;
-use std::test::Fail;
 
 /// Lines of version 1, and what each is read as: true time, the wall clock, the companion and its clock, and the verb.
 /// Words are told by their bytes.
@@ -70,43 +70,32 @@ fn read(alloc: Global, companions: Option<u32>, text: &str) -> Result<Line, Line
     }
 }
 
-fn told(alloc: Global, companions: Option<u32>, text: &str) -> Result<String, Fail> {
-    let line = read(alloc, companions, text)?;
-    Ok(format!(in alloc;
-        "{} {} {} {} {:?}",
-        line.t, line.w, line.who, line.l, line.verb
-    )?)
+fn told(rt: &impl Abort, alloc: Global, companions: Option<u32>, text: &str) -> String {
+    let line = read(alloc, companions, text).expect(rt, "a line");
+    let (t, w, who, l) = (line.t, line.w, line.who, line.l);
+    format!(in alloc; "{t} {w} {who} {l} {:?}", line.verb).expect(rt, "memory")
 }
 
-fn assert_read(
-    rt: &impl Abort,
-    alloc: Global,
-    companions: Option<u32>,
-    rows: &str,
-) -> Result<(), Fail> {
+fn check_read(rt: &impl Abort, alloc: Global, companions: Option<u32>, rows: &str) {
     for row in rows.lines() {
-        let (text, expected) = row.split_once(" = ").ok_or("no row")?;
-        let told = told(alloc, companions, text)?;
-        assert_eq!(rt; told.as_str(), expected);
+        let (text, expected) = parts(rt, row);
+        check(rt, &told(rt, alloc, companions, text), expected);
     }
-    Ok(())
 }
 
-fn script_told(alloc: Global, text: &str) -> Result<String, Fail> {
-    let script = read_script(alloc, text.as_bytes())?;
-    Ok(format!(in alloc; "{} {:?}", script.due, script.verb)?)
+fn script_told(rt: &impl Abort, alloc: Global, text: &str) -> String {
+    let script = read_script(alloc, text.as_bytes()).expect(rt, "a line of a script");
+    format!(in alloc; "{} {:?}", script.due, script.verb).expect(rt, "memory")
 }
 
 #[test]
-fn lines_are_read(rt: HostRuntime) -> Result<(), Fail> {
-    assert_read(&rt, rt.alloc(), None, FIRST)?;
-    assert_read(&rt, rt.alloc(), Some(16), SECOND)?;
+fn lines_are_read(rt: HostRuntime) {
+    check_read(&rt, rt.alloc(), None, FIRST);
+    check_read(&rt, rt.alloc(), Some(16), SECOND);
     for row in SCRIPT.lines() {
-        let (text, expected) = row.split_once(" = ").ok_or("no row")?;
-        let told = script_told(rt.alloc(), text)?;
-        assert_eq!(rt; told.as_str(), expected);
+        let (text, expected) = parts(&rt, row);
+        check(&rt, &script_told(&rt, rt.alloc(), text), expected);
     }
-    Ok(())
 }
 
 /// Lines of version 1, and how they are printed in version 2.
@@ -122,20 +111,20 @@ const PRINTED: &str = "\
 1 2 3 close ts = 1 2 1 3 close ts";
 
 /// A line of version 1, printed in version 1 and in version 2.
-fn printed(alloc: Global, text: &str) -> Result<(Text, Text), Fail> {
-    let line = read_line(alloc, text.as_bytes(), 1, 1)?;
-    Ok((print_line(alloc, &line, 1)?, print_line(alloc, &line, 2)?))
+fn printed(rt: &impl Abort, alloc: Global, text: &str) -> (Text, Text) {
+    let line = read_line(alloc, text.as_bytes(), 1, 1).expect(rt, "a line");
+    let first = print_line(alloc, &line, 1).expect(rt, "memory");
+    (first, print_line(alloc, &line, 2).expect(rt, "memory"))
 }
 
 #[test]
-fn lines_are_printed(rt: HostRuntime) -> Result<(), Fail> {
+fn lines_are_printed(rt: HostRuntime) {
     for row in PRINTED.lines() {
-        let (text, expected) = row.split_once(" = ").ok_or("no row")?;
-        let (first, second) = printed(rt.alloc(), text)?;
-        assert_eq!(rt; first.bytes(), text.as_bytes(), "{row}");
-        assert_eq!(rt; second.bytes(), expected.as_bytes(), "{row}");
+        let (text, expected) = parts(&rt, row);
+        let (first, second) = printed(&rt, rt.alloc(), text);
+        check(&rt, words(first.bytes()), text);
+        check(&rt, words(second.bytes()), expected);
     }
-    Ok(())
 }
 
 /// What is no line of version 1 after its clocks, with a bar between two: a word too few or too many for the verb, and
@@ -188,31 +177,29 @@ const NO_SCRIPT: &str = "\
 |0 timeline 1 urn:x 1 90000|0 timeline 1 urn:x 1 90000 0 0|0 timeline 1 urn:x 0 90000 0|4294967296000000000 speed 1\
 |-1 speed 1|00 speed 1|speed 1|0 Speed 1|0  speed 1| 0 speed 1|0 speed 1 |0";
 
-fn assert_refused(
+fn check_refused(
     rt: &impl Abort,
     alloc: Global,
     companions: Option<u32>,
     clocks: &str,
     lines: &str,
-) -> Result<(), Fail> {
+) {
     for line in lines.split('|') {
-        let text = format!(in alloc; "{clocks}{line}")?;
+        let text = format!(in alloc; "{clocks}{line}").expect(rt, "memory");
         let read = read(alloc, companions, &text);
-        assert_eq!(rt; read, Err(LineFault::Form), "{text}");
+        check_that(rt, matches!(read, Err(LineFault::Form)), &text);
     }
-    Ok(())
 }
 
 #[test]
-fn what_is_no_line_is_refused(rt: HostRuntime) -> Result<(), Fail> {
-    assert_refused(&rt, rt.alloc(), None, "5 6 7 ", NO_VERBS)?;
-    assert_refused(&rt, rt.alloc(), None, "", NO_FIRST)?;
-    assert_refused(&rt, rt.alloc(), Some(2), "", NO_SECOND)?;
+fn what_is_no_line_is_refused(rt: HostRuntime) {
+    check_refused(&rt, rt.alloc(), None, "5 6 7 ", NO_VERBS);
+    check_refused(&rt, rt.alloc(), None, "", NO_FIRST);
+    check_refused(&rt, rt.alloc(), Some(2), "", NO_SECOND);
     for text in NO_SCRIPT.split('|') {
         let read = read_script(rt.alloc(), text.as_bytes());
-        assert_eq!(rt; read, Err(LineFault::Form), "{text}");
+        check_that(&rt, matches!(read, Err(LineFault::Form)), text);
     }
-    Ok(())
 }
 
 /// Bytes that aren't UTF-8.
@@ -221,11 +208,8 @@ const NO_WORDS: [&[u8]; 3] = [b"1\xa02 3 ask 4", b"1 2 3 ask 4\xff", b"1 2 3 w\x
 #[test]
 fn other_bytes_are_refused(rt: HostRuntime) {
     for bytes in NO_WORDS {
-        assert_eq!(rt;
-            read_line(rt.alloc(), bytes, 1, 1),
-            Err(LineFault::Form),
-            "{bytes:?}"
-        );
+        let read = read_line(rt.alloc(), bytes, 1, 1);
+        check_that(&rt, matches!(read, Err(LineFault::Form)), "other bytes");
     }
 }
 
@@ -238,10 +222,12 @@ const WHY: [(LineWhy, &str); 5] = [
 ];
 
 #[test]
-fn a_line_that_ends_the_run_is_told_in_a_word(rt: HostRuntime) -> Result<(), Fail> {
+fn a_line_that_ends_the_run_is_told_in_a_word(rt: HostRuntime) {
     for (why, words) in &WHY {
-        let told = format!(in rt.alloc(); "{why}")?;
-        assert_eq!(rt; told.as_str(), *words);
+        check(
+            &rt,
+            &format!(in rt.alloc(); "{why}").expect(&rt, "memory"),
+            words,
+        );
     }
-    Ok(())
 }

@@ -1,11 +1,12 @@
 //! Schedules of version 1 that become schedules of version 2.
 
+use crate::common::{check, check_that, words};
 use crate::printed::{ALONE, EXCHANGE};
 use css_lines::{Refusal, Stop, drive};
 use css_migrate::{Migrate, NoLine};
 use css_outside::{NeverFailsSink, NeverFailsSource};
 use std::alloc::Global;
-use std::test::Fail;
+use std::process::Abort;
 
 /// A schedule, what it becomes, and the line that is refused, if one is.
 const SCHEDULES: [(&str, &str, Option<u64>); 6] = [
@@ -32,11 +33,12 @@ const SCHEDULES: [(&str, &str, Option<u64>); 6] = [
 ];
 
 /// What a schedule becomes, and how that ends.
-fn migrate(alloc: Global, schedule: &str) -> Result<(Vec<u8>, Result<(), Stop<NoLine>>), Fail> {
-    let mut source = NeverFailsSource::new(alloc, schedule.as_bytes(), 100)?;
-    let mut sink = NeverFailsSink::new(alloc, 100)?;
+fn migrate(rt: &impl Abort, alloc: Global, schedule: &str) -> (Vec<u8>, Result<(), Stop<NoLine>>) {
+    let source = NeverFailsSource::new(alloc, schedule.as_bytes(), 100);
+    let mut source = source.expect(rt, "memory");
+    let mut sink = NeverFailsSink::new(alloc, 100).expect(rt, "memory");
     let ended = drive(alloc, &mut source, &mut sink, &mut Migrate::new(alloc));
-    Ok((sink.bytes().to_vec(alloc)?, ended))
+    (sink.bytes().to_vec(alloc).expect(rt, "memory"), ended)
 }
 
 fn ending(refused: Option<u64>) -> Result<(), Stop<NoLine>> {
@@ -50,11 +52,10 @@ fn ending(refused: Option<u64>) -> Result<(), Stop<NoLine>> {
 }
 
 #[test]
-fn schedules_become_those_of_version_2(rt: HostRuntime) -> Result<(), Fail> {
+fn schedules_become_those_of_version_2(rt: HostRuntime) {
     for (schedule, wanted, refused) in &SCHEDULES {
-        let (written, ended) = migrate(rt.alloc(), schedule)?;
-        assert_eq!(rt; written.as_slice(), wanted.as_bytes(), "{schedule}");
-        assert_eq!(rt; ended, ending(*refused), "{schedule}");
+        let (written, ended) = migrate(&rt, rt.alloc(), schedule);
+        check(&rt, words(&written), wanted);
+        check_that(&rt, ended == ending(*refused), schedule);
     }
-    Ok(())
 }

@@ -1,8 +1,9 @@
 //! What is printed for schedules that no line of is refused.
 
-use crate::world::{check, run};
+use crate::common::check_that;
+use crate::world::{check_rows, run};
 use std::alloc::Global;
-use std::test::Fail;
+use std::process::Abort;
 
 /// Exact clocks, and no follow-ups.
 pub(crate) const PLAIN: &str = "css-schedule 1 plain 0 -30 0 0 urn:dvb:css:timeline:pts -\n";
@@ -157,29 +158,29 @@ const AFTER_SESSIONS: &str = "\
 = 18 ticks 900000 900000 at 900000; 19 none NoAnswer";
 
 #[test]
-fn what_is_printed_for_one_companion(rt: HostRuntime) -> Result<(), Fail> {
-    check(&rt, rt.alloc(), PLAIN, PLAIN_ROWS)?;
-    check(&rt, rt.alloc(), FOLLOW, FOLLOW_ROWS)?;
-    check(&rt, rt.alloc(), EXCHANGE, AFTER_EXCHANGE)?;
-    check(&rt, rt.alloc(), PROMISE, AFTER_PROMISE)?;
-    check(&rt, rt.alloc(), SHOWN, AFTER_SHOWN)?;
-    check(&rt, rt.alloc(), HOME, EVENING)
+fn what_is_printed_for_one_companion(rt: HostRuntime) {
+    check_rows(&rt, rt.alloc(), PLAIN, PLAIN_ROWS);
+    check_rows(&rt, rt.alloc(), FOLLOW, FOLLOW_ROWS);
+    check_rows(&rt, rt.alloc(), EXCHANGE, AFTER_EXCHANGE);
+    check_rows(&rt, rt.alloc(), PROMISE, AFTER_PROMISE);
+    check_rows(&rt, rt.alloc(), SHOWN, AFTER_SHOWN);
+    check_rows(&rt, rt.alloc(), HOME, EVENING);
 }
 
 #[test]
-fn what_is_printed_for_several_companions(rt: HostRuntime) -> Result<(), Fail> {
-    check(&rt, rt.alloc(), ALONE, AFTER_ALONE)?;
-    check(&rt, rt.alloc(), BOTH, AFTER_BOTH)?;
-    check(&rt, rt.alloc(), SESSIONS, AFTER_SESSIONS)
+fn what_is_printed_for_several_companions(rt: HostRuntime) {
+    check_rows(&rt, rt.alloc(), ALONE, AFTER_ALONE);
+    check_rows(&rt, rt.alloc(), BOTH, AFTER_BOTH);
+    check_rows(&rt, rt.alloc(), SESSIONS, AFTER_SESSIONS);
 }
 
 #[test]
-fn an_answer_is_to_one_of_the_last_64_requests(rt: HostRuntime) -> Result<(), Fail> {
-    let mut front = format!(in rt.alloc(); "{PLAIN}")?;
+fn an_answer_is_to_one_of_the_last_64_requests(rt: HostRuntime) {
+    let mut front = String::from_str(rt.alloc(), PLAIN).expect(&rt, "memory");
     for i in 1..=70u64 {
-        writeln!(front, "{i} {} {i} ask {i}", i + 4000)?;
+        writeln!(front, "{i} {} {i} ask {i}", i + 4000).expect(&rt, "memory");
     }
-    check(&rt, rt.alloc(), &front, AFTER_70)
+    check_rows(&rt, rt.alloc(), &front, AFTER_70);
 }
 
 /// The 6th of 70 requests is answered, and then the 7th.
@@ -189,16 +190,19 @@ const AFTER_70: &str = "\
 = 75 none NoAnswer; 79 wall 4097 4196 at 4100";
 
 /// How many answers the companions with the numbers 0 to 3 keep after these lines.
-fn kept_after(alloc: Global, lines: &str) -> Result<[Option<usize>; 4], Fail> {
-    let schedule = format!(in alloc; "{BOTH}1600 5400 1 1600 land 1 1600\n{lines}")?;
-    Ok(run(alloc, &schedule)?.kept)
+fn kept_after(rt: &impl Abort, alloc: Global, lines: &str) -> [Option<usize>; 4] {
+    let schedule = format!(in alloc; "{BOTH}1600 5400 1 1600 land 1 1600\n{lines}");
+    run(rt, alloc, &schedule.expect(rt, "memory")).kept
 }
 
 #[test]
-fn each_number_is_that_of_one_companion(rt: HostRuntime) -> Result<(), Fail> {
-    let landed = kept_after(rt.alloc(), "")?;
-    assert_eq!(rt; landed, [None, Some(1), Some(0), None]);
-    let slept = kept_after(rt.alloc(), "1700 5500 1 1700 sleep\n")?;
-    assert_eq!(rt; slept, [None, Some(0), Some(0), None]);
-    Ok(())
+fn each_number_is_that_of_one_companion(rt: HostRuntime) {
+    let landed = kept_after(&rt, rt.alloc(), "");
+    check_that(
+        &rt,
+        landed == [None, Some(1), Some(0), None],
+        "one answer landed",
+    );
+    let slept = kept_after(&rt, rt.alloc(), "1700 5500 1 1700 sleep\n");
+    check_that(&rt, slept == [None, Some(0), Some(0), None], "it slept");
 }

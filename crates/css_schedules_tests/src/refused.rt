@@ -1,8 +1,7 @@
 //! Schedules whose last line is refused. The excess of a drift is told in 1/256,000,000 ns, and any other in ns.
 
 use crate::printed::{ALONE, BOTH, EXCHANGE, PLAIN, SESSIONS};
-use crate::world::check;
-use std::test::Fail;
+use crate::world::check_rows;
 
 /// The companion's readings are 1 ns off.
 const ROUGH: &str = "css-schedule 1 plain 0 -30 0 1 urn:dvb:css:timeline:pts -\n";
@@ -79,20 +78,20 @@ const AFTER_SESSIONS: &str = "\
 0 1000 1 0 close cii; 0 1000 2 0 text cii; 0 1000 1 0 text cii = 13 absent";
 
 #[test]
-fn the_first_fault_is_told(rt: HostRuntime) -> Result<(), Fail> {
-    check(&rt, rt.alloc(), PLAIN, ORDERED)?;
-    check(&rt, rt.alloc(), PLAIN, BROKEN)?;
-    check(&rt, rt.alloc(), ROUGH, ROUGHLY)?;
-    check(&rt, rt.alloc(), TV_OFF, TV_DRIFTS)?;
-    check(&rt, rt.alloc(), OWN_OFF, OWN_DRIFTS)?;
-    check(&rt, rt.alloc(), EXCHANGE, AFTER_EXCHANGE)
+fn the_first_fault_is_told(rt: HostRuntime) {
+    check_rows(&rt, rt.alloc(), PLAIN, ORDERED);
+    check_rows(&rt, rt.alloc(), PLAIN, BROKEN);
+    check_rows(&rt, rt.alloc(), ROUGH, ROUGHLY);
+    check_rows(&rt, rt.alloc(), TV_OFF, TV_DRIFTS);
+    check_rows(&rt, rt.alloc(), OWN_OFF, OWN_DRIFTS);
+    check_rows(&rt, rt.alloc(), EXCHANGE, AFTER_EXCHANGE);
 }
 
 #[test]
-fn the_first_fault_of_several_companions_is_told(rt: HostRuntime) -> Result<(), Fail> {
-    check(&rt, rt.alloc(), ALONE, AFTER_ALONE)?;
-    check(&rt, rt.alloc(), BOTH, AFTER_BOTH)?;
-    check(&rt, rt.alloc(), SESSIONS, AFTER_SESSIONS)
+fn the_first_fault_of_several_companions_is_told(rt: HostRuntime) {
+    check_rows(&rt, rt.alloc(), ALONE, AFTER_ALONE);
+    check_rows(&rt, rt.alloc(), BOTH, AFTER_BOTH);
+    check_rows(&rt, rt.alloc(), SESSIONS, AFTER_SESSIONS);
 }
 
 /// What happens at time 0, of which the last thing can't, or the player refuses it.
@@ -120,12 +119,13 @@ timeline 1 j 1 1 0; timeline 1 k 1 1 0; timeline 1 l 1 1 0; timeline 1 m 1 1 0; 
 timeline 1 o 1 1 0; timeline 1 p 1 1 0; timeline 1 q 1 1 0 = 19 full";
 
 #[test]
-fn what_sessions_and_the_player_refuse(rt: HostRuntime) -> Result<(), Fail> {
+fn what_sessions_and_the_player_refuse(rt: HostRuntime) {
     // Each thing is a line of its own, at time 0.
-    let rows = AT_ONCE.replace(rt.alloc(), "; ", "; 0 0 0 ")?;
+    let rows = AT_ONCE
+        .replace(rt.alloc(), "; ", "; 0 0 0 ")
+        .expect(&rt, "memory");
     for row in rows.lines() {
-        let row = format!(in rt.alloc(); "0 0 0 {row}")?;
-        check(&rt, rt.alloc(), PLAIN, &row)?;
+        let row = format!(in rt.alloc(); "0 0 0 {row}").expect(&rt, "memory");
+        check_rows(&rt, rt.alloc(), PLAIN, &row);
     }
-    Ok(())
 }

@@ -1,16 +1,16 @@
 //! Schedules that are carried out in a world.
 
-ghost use Rattle.std.specs.Prelude.{[], ◌≡◌, ◌≤◌, List, length, suc, true, IfOk, IfNone};
+ghost use Rattle.std.specs.Prelude.{[], ◌≡◌, ◌≤◌, List, length, suc, true, IfNone};
 ghost use Rattle.css_schedule.specs.Ranges.{IsLine, IsSecond};
 ghost use Rattle.css_world.specs.Happened.{Numbered};
 ghost use Rattle.css_world.specs.Standing.{StandsFor, IsNext};
 
+use crate::common::{check, parts};
 use crate::opening::open;
 use css_schedule::{Line, read_line};
 use css_world::{World, WorldFault};
 use std::alloc::Global;
 use std::process::Abort;
-use std::test::Fail;
 
 /// What is told of a schedule: what is printed, and then the number of the line that was refused, and why. And how many
 /// answers the companions with the numbers 0 to 3 then keep, where there are such companions.
@@ -21,16 +21,17 @@ pub(crate) struct Ran {
 }
 
 /// Reads a line of a schedule that has so many companions.
-fn read(alloc: Global, is_first: bool, companions: u32, text: &str) -> Result<Line, Fail>
+fn read(rt: &impl Abort, alloc: Global, is_first: bool, companions: u32, text: &str) -> Line
     requires one { is_first ≡ true → companions ≡ 1 }
-    ensures range { IfOk result IsLine }
-    ensures of { IfOk result (IsSecond companions) }
+    ensures range { IsLine result }
+    ensures of { IsSecond companions result }
 {
-    if is_first {
-        Ok(read_line(alloc, text.as_bytes(), 1, 1)?)
+    let line = if is_first {
+        read_line(alloc, text.as_bytes(), 1, 1)
     } else {
-        Ok(read_line(alloc, text.as_bytes(), 2, companions)?)
-    }
+        read_line(alloc, text.as_bytes(), 2, companions)
+    };
+    line.expect(rt, "a line")
 }
 
 /// Carries out a line, and tells why it is refused, if it is.
@@ -48,22 +49,16 @@ fn carry_out(world: &mut World, number: u64, line: Line, out: &mut Vec<u8>) -> O
     }
 }
 
-/// Tells which line was refused, and why.
-fn tell(alloc: Global, number: u64, fault: WorldFault, out: &mut Vec<u8>) -> Result<(), Fail> {
-    let told = format!(in alloc; "{number} {fault}\n")?;
-    out.extend_from_slice(told.as_bytes())?;
-    Ok(())
-}
-
-/// Carries out the lines after the header, up to the first that is refused.
+/// Carries out the lines after the header, up to the first that is refused, and tells why that is.
 fn carry_out_all(
+    rt: &impl Abort,
     alloc: Global,
     world: &mut World,
     is_first: bool,
     companions: u32,
     before: u32,
     lines: &[&str],
-) -> Result<Vec<u8>, Fail>
+) -> Vec<u8>
     requires stands { StandsFor world.old [] }
     requires companions { length world.old.header.companions ≡ companions }
     requires one { is_first ≡ true → companions ≡ 1 }
@@ -73,13 +68,14 @@ fn carry_out_all(
     let mut number = u64::from(before);
     for text in lines.iter() {
         number += 1;
-        let line = read(alloc, is_first, companions, text)?;
+        let line = read(rt, alloc, is_first, companions, text);
         if let Some(fault) = carry_out(world, number, line, &mut out) {
-            tell(alloc, number, fault, &mut out)?;
+            let told = format!(in alloc; "{number} {fault}\n").expect(rt, "memory");
+            out.extend_from_slice(told.as_bytes()).expect(rt, "memory");
             break;
         }
     }
-    Ok(out)
+    out
 }
 
 fn kept(world: &World) -> [Option<usize>; 4] {
@@ -87,47 +83,39 @@ fn kept(world: &World) -> [Option<usize>; 4] {
 }
 
 /// Carries out a schedule, up to the first line that is refused.
-pub(crate) fn run(alloc: Global, schedule: &str) -> Result<Ran, Fail> {
-    let lines: Vec<&str> = schedule.lines().collect(alloc)?;
-    let opened = open(alloc, &lines)?;
-    let mut world = World::new(alloc, opened.header)?;
+pub(crate) fn run(rt: &impl Abort, alloc: Global, schedule: &str) -> Ran {
+    let lines: Vec<&str> = schedule.lines().collect(alloc).expect(rt, "memory");
+    let opened = open(rt, alloc, &lines);
+    let mut world = World::new(alloc, opened.header).expect(rt, "memory");
     let out = carry_out_all(
+        rt,
         alloc,
         &mut world,
         opened.is_first,
         opened.companions,
         opened.before,
         opened.rest,
-    )?;
-    Ok(Ran {
-        told: String::from_utf8(out).ok().ok_or("no text")?,
+    );
+    Ran {
+        told: String::from_utf8(out).ok().expect(rt, "a text"),
         kept: kept(&world),
-    })
+    }
 }
 
 /// These lines, of which a row names each after "; ", in a schedule that begins so.
-fn lines_of(alloc: Global, before: &str, row: &str) -> Result<String, Fail> {
-    let mut text = format!(in alloc; "{before}")?;
+fn lines_of(rt: &impl Abort, alloc: Global, before: &str, row: &str) -> String {
+    let mut text = String::from_str(alloc, before).expect(rt, "memory");
     for line in row.split("; ") {
-        writeln!(text, "{line}")?;
+        writeln!(text, "{line}").expect(rt, "memory");
     }
-    Ok(text)
-}
-
-/// Carries out the schedule of a row, which begins so, and finds what is told of it.
-fn check_row(rt: &impl Abort, alloc: Global, before: &str, row: &str) -> Result<(), Fail> {
-    let (lines, told) = row.split_once(" = ").ok_or("no row")?;
-    let schedule = lines_of(alloc, before, lines)?;
-    let ran = run(alloc, &schedule)?;
-    let expected = lines_of(alloc, "", told)?;
-    assert_eq!(rt; ran.told.as_str(), expected.as_str(), "{row}");
-    Ok(())
+    text
 }
 
 /// Carries out a schedule for each row, which has the lines after the first ones, and what is told.
-pub(crate) fn check(rt: &impl Abort, alloc: Global, before: &str, rows: &str) -> Result<(), Fail> {
+pub(crate) fn check_rows(rt: &impl Abort, alloc: Global, before: &str, rows: &str) {
     for row in rows.lines() {
-        check_row(rt, alloc, before, row)?;
+        let (lines, told) = parts(rt, row);
+        let ran = run(rt, alloc, &lines_of(rt, alloc, before, lines));
+        check(rt, &ran.told, &lines_of(rt, alloc, "", told));
     }
-    Ok(())
 }

@@ -1,5 +1,5 @@
 -- Lists of answers that declare the same errors have the same greatest one.
-use Rattle.std.proofs.Common.{◌≡◌, ℕ, ◌≤◌, arith, ap, sym, ◌∙◌, subst, refl, Bool, true, false, inl, inr, [], ◌∷◌}
+use Rattle.std.proofs.Common.{◌≡◌, ℕ, ◌≤◌, arith, sym, ◌∙◌, subst, refl, Bool, true, false, inl, inr, [], ◌∷◌}
 use Rattle.std.specs.Prelude.{◌==◌, ◌||◌, ◌⊎◌, max, All}
 use Rattle.std.proofs.lemmas.Bool.{eqb-true, eq-eqb, or_left, or_right}
 use Rattle.std.proofs.lemmas.List.Elements.{All-head, All-tail}

@@ -1,5 +1,5 @@
 -- Quotients by a number of 2^27 or more are small.
-use Rattle.std.proofs.Common.{ℕ, ◌≤◌, ◌<◌, ◌*◌, ◌^◌, arith}
+use Rattle.std.proofs.Common.{ℕ, ◌≤◌, ◌<◌, ◌^◌, arith}
 use Rattle.std.specs.Prelude.{ℤ, neg_ℤ, unsigned_abs}
 use Rattle.std.proofs.lemmas.Int.{ints}
 use Rattle.css_num.specs.Division.{floor_div, ceil_div}

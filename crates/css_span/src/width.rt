@@ -1,4 +1,4 @@
-ghost use Rattle.std.specs.Prelude.{◌≡◌, ◌<◌, ◌≤◌, ◌^◌, ◌≤ℤ◌, ◌*ℤ◌, ◌-ℤ◌, pos, unsigned_abs};
+ghost use Rattle.std.specs.Prelude.{◌≡◌, ◌<◌, ◌≤◌, ◌^◌, ◌≤ℤ◌, ◌*ℤ◌, ◌+ℤ◌, ◌-ℤ◌, pos, unsigned_abs};
 ghost use Rattle.css_model.specs.WallClock as wall_clock;
 ghost use Rattle.css_span.specs.WallSpans.{span_of, IsNear};
 
@@ -19,7 +19,7 @@ pub fn scaled_width(answer: &Answer, local: &Local, reading: u64) -> i128
 {
     let upper = times(upper_end(answer, local, reading), WHOLE + local.error);
     let lower = times(lower_end(answer, local, reading), WHOLE - local.error);
-    upper - lower
+    less(upper, lower)
 }
 
 /// The span of the television's wall clock, in nanoseconds, that an answer leaves possible at this reading of the
@@ -77,7 +77,7 @@ fn lower_end(answer: &Answer, local: &Local, reading: u64) -> i128
         reading,
         answer.t4 + 2 * local.precision + 1,
     );
-    sent + since
+    sum(sent, since)
 }
 
 #[tactic(auto, unfolding(css_model::specs::WallClock::upper))]
@@ -92,7 +92,7 @@ fn upper_end(answer: &Answer, local: &Local, reading: u64) -> i128
         reading + 2 * local.precision + 1,
         answer.t1,
     );
-    received + since
+    sum(received, since)
 }
 
 fn times_difference(factor: u32, a: u64, b: u64) -> i128
@@ -100,7 +100,14 @@ fn times_difference(factor: u32, a: u64, b: u64) -> i128
     ensures value { result ≡ pos factor *ℤ (pos a -ℤ pos b) }
     ensures bound { unsigned_abs result < 2 ^ 93 }
 {
-    i128::from(factor) * (i128::from(a) - i128::from(b))
+    i128::from(factor) * difference(a, b)
+}
+
+fn difference(a: u64, b: u64) -> i128
+    ensures value { result ≡ pos a -ℤ pos b }
+    ensures bound { unsigned_abs result < 2 ^ 64 }
+{
+    i128::from(a) - i128::from(b)
 }
 
 fn times(a: i128, factor: u32) -> i128
@@ -110,4 +117,21 @@ fn times(a: i128, factor: u32) -> i128
     ensures bound { unsigned_abs result < 2 ^ 124 }
 {
     a * i128::from(factor)
+}
+
+fn sum(a: i128, b: i128) -> i128
+    requires a { unsigned_abs a < 2 ^ 93 }
+    requires b { unsigned_abs b < 2 ^ 93 }
+    ensures value { result ≡ a +ℤ b }
+    ensures bound { unsigned_abs result < 2 ^ 95 }
+{
+    a + b
+}
+
+fn less(a: i128, b: i128) -> i128
+    requires a { unsigned_abs a < 2 ^ 124 }
+    requires b { unsigned_abs b < 2 ^ 124 }
+    ensures { result ≡ a -ℤ b }
+{
+    a - b
 }

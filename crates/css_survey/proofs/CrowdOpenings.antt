@@ -12,7 +12,7 @@ use Rattle.std.proofs.lemmas.List.Elements.{All-nil}
 use Rattle.css_model.specs.Numbers.{precision_ns}
 use Rattle.css_model.specs.WallClock.{Local}
 use Rattle.css_server.specs.Tickets.{Ticket}
-use Rattle.css_sessions.specs.declared.session.Kind.TheVariants.{Cii, Ts}
+use Rattle.css_num.specs.declared.protocol.Kind.TheVariants.{Cii, Ts}
 use Rattle.css_tsmsg.specs.Setups.{IsUtf8Setup, setup_text, setup_of as setup_read}
 use Rattle.css_tsmsg.proofs.ReadBack.{setup_reads}
 use Rattle.css_moments.specs.Drifts.{Shown, last_shown}

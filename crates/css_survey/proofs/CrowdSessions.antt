@@ -13,8 +13,8 @@ use Rattle.css_tsmsg.specs.Controls.{control_text}
 use Rattle.css_tsmsg.specs.Setups.{setup_text, setup_of as setup_read}
 use Rattle.css_tsmsg.specs.declared.fault.TsFault.{TsFault}
 use Rattle.css_tsmsg.specs.declared.setup.Setup.{Setup}
-use Rattle.css_sessions.specs.declared.session.Kind.{Kind}
-use Rattle.css_sessions.specs.declared.session.Kind.TheVariants as kind
+use Rattle.css_num.specs.declared.protocol.Kind.{Kind}
+use Rattle.css_num.specs.declared.protocol.Kind.TheVariants as kind
 use Rattle.css_sessions.specs.declared.session.Session.{Session}
 use Rattle.css_sessions.specs.declared.session.Talk.{Talk}
 use Rattle.css_sessions.specs.declared.session.Talk.TheVariants as talk

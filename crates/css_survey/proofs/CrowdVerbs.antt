@@ -6,7 +6,7 @@ use Rattle.std.specs.Prelude.{None, IfSome, codes, ◌==◌, nat_lt, pos, if◌t
 use Rattle.std.proofs.lemmas.Bool.{le-ltb}
 use Rattle.css_player.specs.declared.command.Command.TheVariants.{Change}
 use Rattle.css_server.specs.Tickets.{Ticket}
-use Rattle.css_sessions.specs.declared.session.Kind.TheVariants.{Cii, Ts}
+use Rattle.css_num.specs.declared.protocol.Kind.TheVariants.{Cii, Ts}
 use Rattle.css_schedule.specs.declared.header.Header.{Header}
 use Rattle.css_schedule.specs.declared.line.Line.{Line}
 use Rattle.css_schedule.specs.declared.line.Verb.{Verb}

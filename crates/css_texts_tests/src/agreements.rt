@@ -2,12 +2,12 @@
 ghost use Rattle.std.specs.Prelude.{◌<◌, ◌≤◌, ◌+◌, ◌*◌};
 ghost use Rattle.css_agree.specs.Agreements.{ArePossible};
 
+use crate::common::{check_that, next_word};
 use css_agree::{Agree, AgreeFault, Agreed, Answer, Local, Span};
 use css_model::LIMIT;
 use css_span::{scaled_width, span};
 use std::alloc::Global;
 use std::process::Abort;
-use std::test::Fail;
 
 #[rattlefmt::skip]
 const EXACT: Local = Local { error: 0, precision: 0 };
@@ -61,76 +61,69 @@ const TOO_NARROW: AgreeFault = AgreeFault::Impossible(-394 * 65_536_000_000_000_
 /// An answer, the reading at its landing, what comes of it, and what all answers say then.
 type Step = (Answer, u64, Result<(), AgreeFault>, Agreed);
 
-fn within(lo: i128, hi: i128) -> Agreed {
-    if lo <= hi {
-        Agreed::Within(Span { lo, hi })
-    } else {
-        Agreed::Nothing
-    }
-}
+#[rattlefmt::skip]
+const ONE: Agreed = Agreed::Within(Span { lo: 5197, hi: 5603 });
 
-fn check(rt: &impl Abort, alloc: Global, local: Local, steps: &[Step]) {
+/// What comes of each step is what it says.
+fn check_steps(rt: &impl Abort, alloc: Global, local: Local, steps: &[Step]) {
     let mut agree = Agree::new(alloc, local);
-    assert!(rt; agree.at(0) == Agreed::Nothing);
-    assert!(rt; agree.kept() == 0);
+    check_that(rt, agree.at(0) == Agreed::Nothing, "no answer");
     let mut last = 0;
-    for (answer, reading, expected, told) in steps {
-        assert!(rt; last <= *reading);
-        assert!(rt; *reading < LIMIT);
-        assert!(rt; agree.add(*answer, *reading) == *expected, "{answer:?}");
-        assert!(rt; agree.at(*reading) == *told, "{answer:?}");
+    for (answer, reading, done, told) in steps {
+        assert!(rt; last <= *reading && *reading < LIMIT);
+        let added = agree.add(*answer, *reading);
+        check_that(rt, added == *done, "an answer is taken or refused");
+        let agreed = agree.at(*reading);
+        check_that(rt, agreed == *told, "what is told");
         last = *reading;
     }
-    assert!(rt; agree.kept() == 2);
+    check_that(rt, agree.kept() == 2, "two are kept");
 }
 
 #[test]
 fn two_answers_share_less_than_each_has(rt: HostRuntime) {
-    let steps = [
-        (FIRST, 1600, Ok(()), within(5197, 5603)),
-        (SECOND, 2400, Ok(()), within(5997, 6103)),
-    ];
-    check(&rt, rt.alloc(), EXACT, &steps);
+    let both = Agreed::Within(Span { lo: 5997, hi: 6103 });
+    let steps = [(FIRST, 1600, Ok(()), ONE), (SECOND, 2400, Ok(()), both)];
+    check_steps(&rt, rt.alloc(), EXACT, &steps);
 }
 
 #[test]
 fn two_answers_contradict_each_other(rt: HostRuntime) {
-    let apart = Agreed::Disagree {
-        low: MOVED,
-        high: FIRST,
-    };
-    let steps = [
-        (FIRST, 1600, Ok(()), within(5197, 5603)),
-        (MOVED, 2400, Ok(()), apart),
-    ];
-    check(&rt, rt.alloc(), EXACT, &steps);
+    let (low, high) = (MOVED, FIRST);
+    let apart = Agreed::Disagree { low, high };
+    let steps = [(FIRST, 1600, Ok(()), ONE), (MOVED, 2400, Ok(()), apart)];
+    check_steps(&rt, rt.alloc(), EXACT, &steps);
 }
 
 #[test]
 fn an_impossible_answer_changes_nothing(rt: HostRuntime) {
-    let apart = Agreed::Disagree {
-        low: FIRST,
-        high: BOTH_BACKWARD,
-    };
+    let later = Agreed::Within(Span { lo: 5597, hi: 6003 });
+    let (low, high) = (FIRST, BOTH_BACKWARD);
     let steps = [
         (IMPOSSIBLE, 1600, Err(TOO_NARROW), Agreed::Nothing),
-        (FIRST, 1600, Ok(()), within(5197, 5603)),
-        (IMPOSSIBLE, 1600, Err(TOO_NARROW), within(5197, 5603)),
-        (BACKWARD, 2000, Err(TOO_NARROW), within(5597, 6003)),
-        (BOTH_BACKWARD, 2000, Ok(()), apart),
+        (FIRST, 1600, Ok(()), ONE),
+        (IMPOSSIBLE, 1600, Err(TOO_NARROW), ONE),
+        (BACKWARD, 2000, Err(TOO_NARROW), later),
+        (BOTH_BACKWARD, 2000, Ok(()), Agreed::Disagree { low, high }),
     ];
-    check(&rt, rt.alloc(), EXACT, &steps);
+    check_steps(&rt, rt.alloc(), EXACT, &steps);
 }
 
 #[test]
 fn numbers_may_be_at_their_ends(rt: HostRuntime) {
-    let widest = within(-1_073_741_825_782_178_220, 10_140_895_006_666_666_667);
-    let both = within(3_221_225_470_217_821_779, 5_368_709_122_222_222_224);
+    let widest = Span {
+        lo: -1_073_741_825_782_178_220,
+        hi: 10_140_895_006_666_666_667,
+    };
+    let both = Span {
+        lo: 3_221_225_470_217_821_779,
+        hi: 5_368_709_122_222_222_224,
+    };
     let steps = [
-        (WIDEST, LIMIT - 1, Ok(()), widest),
-        (LAST, LIMIT - 1, Ok(()), both),
+        (WIDEST, LIMIT - 1, Ok(()), Agreed::Within(widest)),
+        (LAST, LIMIT - 1, Ok(()), Agreed::Within(both)),
     ];
-    check(&rt, rt.alloc(), WORST, &steps);
+    check_steps(&rt, rt.alloc(), WORST, &steps);
 }
 
 /// The greatest lower end and the least upper end over all answers, where each has a span.
@@ -174,6 +167,21 @@ struct Seen {
     disagree: bool,
 }
 
+/// What both tell at a reading is the same.
+fn compare_at(rt: &impl Abort, agree: &Agree, plain: &[Answer], reading: u64, seen: &mut Seen)
+    requires range { reading < 5000000000 }
+    requires floor { agree.now.floor ≤ reading }
+{
+    let told = agree.at(reading);
+    check_that(
+        rt,
+        is_plain(&told, plain, agree.local(), reading),
+        "what all answers say",
+    );
+    seen.within |= matches!(told, Agreed::Within(_));
+    seen.disagree |= matches!(told, Agreed::Disagree { .. });
+}
+
 /// Adds a drawn answer to both, and compares them then and later.
 fn compare(
     rt: &impl Abort,
@@ -182,28 +190,20 @@ fn compare(
     answer: Answer,
     landed: u64,
     seen: &mut Seen,
-) -> Result<(), Fail>
+)
     requires range { landed < 1000000 }
     requires floor { agree.old.floor ≤ landed }
     ensures next { agree.new.floor ≤ landed }
 {
     let is_possible = scaled_width(&answer, agree.local(), landed) >= 0;
-    assert!(rt; agree.add(answer, landed).is_ok() == is_possible);
+    let added = agree.add(answer, landed);
+    check_that(rt, added.is_ok() == is_possible, "an answer");
     if is_possible {
-        plain.push(answer)?;
+        plain.push(answer).expect(rt, "memory");
     }
-    for later in [
-        landed,
-        landed + 700,
-        landed + 300_000,
-        landed + 4_000_000_000,
-    ] {
-        let told = agree.at(later);
-        assert!(rt; is_plain(&told, plain, agree.local(), later), "at {later}");
-        seen.within |= matches!(told, Agreed::Within(_));
-        seen.disagree |= matches!(told, Agreed::Disagree { .. });
+    for later in [0, 700, 300_000, 4_000_000_000] {
+        compare_at(rt, agree, plain, landed + later, seen);
     }
-    Ok(())
 }
 
 /// An answer of one of four errors, which took one of eight times under way, and was late at the television or not. One
@@ -231,35 +231,30 @@ fn compare_dozen(
     local: &Local,
     first: u64,
     seen: &mut Seen,
-) -> Result<u64, Fail> {
+) -> u64 {
     let mut agree = Agree::new(alloc, *local);
     let mut plain = Vec::new(alloc);
     let mut word = first;
     for i in 0..12 {
-        word = word
-            .wrapping_mul(6_364_136_223_846_793_005)
-            .wrapping_add(1_442_695_040_888_963_407);
+        word = next_word(word);
         let answer = drawn(word >> 33, i * 1000);
-        let landed = i * 1000 + 500;
-        compare(rt, &mut agree, &mut plain, answer, landed, seen)?;
+        compare(rt, &mut agree, &mut plain, answer, i * 1000 + 500, seen);
     }
-    assert!(rt; agree.kept() <= 8);
-    Ok(word)
+    check_that(rt, agree.kept() <= 8, "two are kept of each error");
+    word
 }
 
 #[test]
-fn tells_what_a_plain_scan_finds(rt: HostRuntime) -> Result<(), Fail> {
-    let mut word: u64 = 1;
+fn tells_what_a_plain_scan_finds(rt: HostRuntime) {
+    let mut word = 1;
     for local in [EXACT, FAIR] {
         let mut seen = Seen {
             within: false,
             disagree: false,
         };
         for _ in 0..30 {
-            word = compare_dozen(&rt, rt.alloc(), &local, word, &mut seen)?;
+            word = compare_dozen(&rt, rt.alloc(), &local, word, &mut seen);
         }
-        assert!(rt; seen.within);
-        assert!(rt; seen.disagree);
+        check_that(&rt, seen.within && seen.disagree, "both kinds");
     }
-    Ok(())
 }

@@ -1,12 +1,10 @@
 //! Command lines, and what each of them asks for.
-use css_num::Text;
+use crate::common::{check, words as shown};
 use css_words::{
-    Address, Bound, Command, CompanionOptions, GeneratorWords, RelayWords, TvWords, WordsFault,
-    command_of,
+    Address, Bound, Command, CompanionOptions, GeneratorWords, RelayWords, TvWords, command_of,
 };
 use std::alloc::{AllocError, Global};
 use std::process::Abort;
-use std::test::Fail;
 
 /// Command lines, and what they ask for. `DEFAULTS` stands for the numbers of a companion that is told none.
 const COMMANDS: &str = "\
@@ -106,10 +104,6 @@ relay --cii ws://tv:6677/cii --host
 pair --cii ws://127.0.0.1:6677/cii
 pair --earliest 0,0";
 
-fn shown(text: &Text) -> &str {
-    str::from_utf8(text.bytes()).unwrap_or("not UTF-8")
-}
-
 fn show_bound(out: &mut String, bound: &Bound) -> Result<(), AllocError> {
     match bound {
         Bound::At { content, wall } => write!(out, " {content},{wall}"),
@@ -118,124 +112,122 @@ fn show_bound(out: &mut String, bound: &Bound) -> Result<(), AllocError> {
     }
 }
 
-fn show_options(out: &mut String, options: &CompanionOptions) -> Result<(), AllocError> {
-    let stem = shown(&options.stem);
-    write!(out, " {} '{stem}'", shown(&options.selector))?;
-    write!(out, " {} {}", options.reports, options.turns)?;
-    write!(out, " {} {}", options.report_every, options.ask_every)?;
-    write!(out, " {} {}", options.local_error, options.local_precision)?;
+fn show_options(rt: &impl Abort, out: &mut String, options: &CompanionOptions) {
+    let (selector, stem) = (shown(&options.selector), shown(&options.stem));
+    let (reports, turns) = (options.reports, options.turns);
+    write!(out, " {selector} '{stem}' {reports} {turns}").expect(rt, "memory");
+    let (report_every, ask_every) = (options.report_every, options.ask_every);
+    let (error, precision) = (options.local_error, options.local_precision);
+    write!(out, " {report_every} {ask_every} {error} {precision}").expect(rt, "memory");
     match &options.present {
-        None => write!(out, " always"),
+        None => out.push_str(" always").expect(rt, "memory"),
         Some((earliest, latest)) => {
-            show_bound(out, earliest)?;
-            show_bound(out, latest)
+            show_bound(out, earliest).expect(rt, "memory");
+            show_bound(out, latest).expect(rt, "memory");
         }
     }
 }
 
-fn show_address(out: &mut String, cii: &Address) -> Result<(), AllocError> {
-    let host = shown(&cii.host);
-    write!(out, "{host} {} {}", cii.port, shown(&cii.path))
+fn show_address(rt: &impl Abort, out: &mut String, cii: &Address) {
+    let (host, port, path) = (shown(&cii.host), cii.port, shown(&cii.path));
+    write!(out, " {host} {port} {path}").expect(rt, "memory");
 }
 
-fn show_tv(out: &mut String, words: &TvWords) -> Result<(), AllocError> {
-    let host = shown(&words.host);
-    write!(out, " {} {} {}", words.port, words.turns, words.precision)?;
-    write!(out, " {} {} {host}", words.error, words.follow)
+fn show_tv(rt: &impl Abort, out: &mut String, tv: &TvWords) {
+    let (port, turns, host) = (tv.port, tv.turns, shown(&tv.host));
+    let (precision, error, follow) = (tv.precision, tv.error, tv.follow);
+    write!(out, " {port} {turns} {precision} {error} {follow} {host}").expect(rt, "memory");
 }
 
-fn show_relay(out: &mut String, words: &RelayWords) -> Result<(), AllocError> {
-    let host = shown(&words.host);
-    write!(out, " {} {} {}", words.port, words.turns, words.ask_every)?;
-    write!(out, " {} {}", words.local_error, words.local_precision)?;
-    write!(out, " {host}")
+fn show_relay(rt: &impl Abort, out: &mut String, relay: &RelayWords) {
+    let (port, turns, every) = (relay.port, relay.turns, relay.ask_every);
+    let (error, precision, host) = (relay.local_error, relay.local_precision, shown(&relay.host));
+    write!(out, " {port} {turns} {every} {error} {precision} {host}").expect(rt, "memory");
 }
 
 fn show_generator(out: &mut String, words: &GeneratorWords) -> Result<(), AllocError> {
-    write!(out, " {} {}", words.seed, words.lines)?;
+    let (seed, lines) = (words.seed, words.lines);
     match words.companions {
-        None => Ok(()),
-        Some(count) => write!(out, " {count}"),
+        None => write!(out, " {seed} {lines}"),
+        Some(count) => write!(out, " {seed} {lines} {count}"),
     }
 }
 
-fn show(out: &mut String, command: &Command) -> Result<(), AllocError> {
+fn name_of(command: &Command) -> &'static str {
     match command {
-        Command::Replay => out.push_str("replay"),
-        Command::Agree => out.push_str("agree"),
-        Command::Audit => out.push_str("audit"),
-        Command::Migrate => out.push_str("migrate"),
+        Command::Replay => "replay",
+        Command::Agree => "agree",
+        Command::Audit => "audit",
+        Command::Migrate => "migrate",
+        Command::Companion(_) => "companion",
+        Command::Tv(_) => "tv",
+        Command::Pair(_) => "pair",
+        Command::Generate(_) => "generate",
+        Command::Survey(_) => "survey",
+        Command::Relay(_) => "relay",
+    }
+}
+
+fn show(rt: &impl Abort, out: &mut String, command: &Command) {
+    out.push_str(name_of(command)).expect(rt, "memory");
+    match command {
+        Command::Replay | Command::Agree | Command::Audit | Command::Migrate => {}
         Command::Companion(words) => {
-            out.push_str("companion ")?;
-            show_address(out, &words.cii)?;
-            show_options(out, &words.options)?;
-            out.push_str(if words.recorded { " recorded" } else { "" })
+            show_address(rt, out, &words.cii);
+            show_options(rt, out, &words.options);
+            let recorded = if words.recorded { " recorded" } else { "" };
+            out.push_str(recorded).expect(rt, "memory");
         }
-        Command::Tv(words) => {
-            out.push_str("tv")?;
-            show_tv(out, words)
-        }
+        Command::Tv(words) => show_tv(rt, out, words),
         Command::Pair(words) => {
-            out.push_str("pair")?;
-            show_tv(out, &words.tv)?;
-            show_options(out, &words.companion)
+            show_tv(rt, out, &words.tv);
+            show_options(rt, out, &words.companion);
         }
-        Command::Generate(words) => {
-            out.push_str("generate")?;
-            show_generator(out, words)
-        }
-        Command::Survey(words) => {
-            out.push_str("survey")?;
-            show_generator(out, words)
+        Command::Generate(words) | Command::Survey(words) => {
+            show_generator(out, words).expect(rt, "memory");
         }
         Command::Relay(words) => {
-            out.push_str("relay ")?;
-            show_address(out, &words.cii)?;
-            show_relay(out, words)
+            show_address(rt, out, &words.cii);
+            show_relay(rt, out, words);
         }
     }
-}
-
-/// Adds the words of a line, which are separated by spaces.
-fn add_words(alloc: Global, line: &str, words: &mut Vec<String>) -> Result<(), Fail> {
-    for word in line.split(' ') {
-        words.push(String::from_str(alloc, word)?)?;
-    }
-    Ok(())
 }
 
 /// What the words ask for, or the fault.
-fn show_told(alloc: Global, words: &[String], out: &mut String) -> Result<(), AllocError> {
-    match command_of(alloc, words) {
-        Ok(command) => show(out, &command),
-        Err(fault) => write!(out, "{fault}"),
-    }
-}
-
-fn check(rt: &impl Abort, alloc: Global, line: &str, expected: &str) -> Result<(), Fail> {
-    let mut words = Vec::new(alloc);
-    add_words(alloc, line, &mut words)?;
+fn told(rt: &impl Abort, alloc: Global, words: &[String]) -> String {
     let mut told = String::new(alloc);
-    show_told(alloc, words.as_slice(), &mut told)?;
-    assert!(rt; told.as_str() == expected, "{line}");
-    Ok(())
+    match command_of(alloc, words) {
+        Ok(command) => show(rt, &mut told, &command),
+        Err(fault) => write!(told, "{fault}").expect(rt, "memory"),
+    }
+    told
+}
+
+/// The words of a line are separated by spaces.
+fn check_line(rt: &impl Abort, alloc: Global, line: &str, expected: &str) {
+    let mut words = Vec::new(alloc);
+    for word in line.split(' ') {
+        let word = String::from_str(alloc, word).expect(rt, "memory");
+        words.push(word).expect(rt, "memory");
+    }
+    check(rt, &told(rt, alloc, &words), expected);
 }
 
 #[test]
-fn words_ask_for_commands(rt: HostRuntime) -> Result<(), Fail> {
-    let table = COMMANDS.replace(rt.alloc(), "DEFAULTS", DEFAULTS)?;
+fn words_ask_for_commands(rt: HostRuntime) {
+    let table = COMMANDS
+        .replace(rt.alloc(), "DEFAULTS", DEFAULTS)
+        .expect(&rt, "memory");
     for row in table.lines() {
-        let (line, expected) = row.split_once(" => ").ok_or("a row without an arrow")?;
-        check(&rt, rt.alloc(), line, expected)?;
+        let (line, expected) = row.split_once(" => ").expect(&rt, "an arrow");
+        check_line(&rt, rt.alloc(), line, expected);
     }
-    Ok(())
 }
 
 #[test]
-fn other_words_are_usage(rt: HostRuntime) -> Result<(), Fail> {
-    assert!(rt; command_of(rt.alloc(), &[]).is_err_and(|fault| fault == WordsFault::Usage));
+fn other_words_are_usage(rt: HostRuntime) {
+    check(&rt, &told(&rt, rt.alloc(), &[]), "usage");
     for line in USAGE.lines() {
-        check(&rt, rt.alloc(), line, "usage")?;
+        check_line(&rt, rt.alloc(), line, "usage");
     }
-    Ok(())
 }

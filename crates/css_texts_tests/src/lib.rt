@@ -7,6 +7,8 @@ mod agreements;
 #[cfg(test)]
 mod commands;
 #[cfg(test)]
+mod common;
+#[cfg(test)]
 mod players;
 #[cfg(test)]
 mod states;

@@ -1,11 +1,11 @@
 //! The television's player.
 ghost use Rattle.std.specs.Prelude.{◌≤◌};
 
+use crate::common::{check, check_that, next_word};
 use css_num::{Control, Rate};
 use css_player::{Command, Player, PlayerFault, Segment};
 use std::alloc::Global;
 use std::process::Abort;
-use std::test::Fail;
 
 const PTS: &[u8] = b"urn:dvb:css:timeline:pts";
 
@@ -54,8 +54,13 @@ fn added(player: &mut Player, alloc: Global, programme: u32, base: i64) -> Resul
 /// A player of the programme `dvb://1` with a PTS timeline.
 fn loaded(rt: &impl Abort, alloc: Global) -> Player {
     let mut player = Player::new(alloc);
-    assert!(rt; player.add_programme(alloc, b"dvb://1") == Ok(1));
-    assert!(rt; player.add_timeline(alloc, 1, PTS, STAMPS, 900_000) == Ok(()));
+    check_that(
+        rt,
+        player.add_programme(alloc, b"dvb://1") == Ok(1),
+        "a programme",
+    );
+    let added = player.add_timeline(alloc, 1, PTS, STAMPS, 900_000);
+    added.expect(rt, "a timeline");
     player
 }
 
@@ -88,14 +93,19 @@ const STEPS: [Step; 17] = [
     (Command::Seek(FAR), LAST, Ok(()), Some((9_000_000_900_000, LAST, -64))),
 ];
 
+/// What comes of each step is what it says.
+fn check_steps(rt: &impl Abort, player: &mut Player, steps: &[Step]) {
+    for (command, reading, done, published) in steps {
+        assert!(rt; *reading <= LAST);
+        let did = did(player, *command, *reading);
+        check_that(rt, did == *done, "what comes of a command");
+        check_that(rt, told(player, PTS) == *published, "what is told then");
+    }
+}
+
 #[test]
 fn a_command_is_done_or_refused(rt: HostRuntime) {
-    let mut player = loaded(&rt, rt.alloc());
-    for (command, reading, done, published) in STEPS {
-        assert!(rt; reading <= LAST);
-        assert!(rt; did(&mut player, command, reading) == done, "{command:?}");
-        assert!(rt; told(&player, PTS) == published, "{command:?}");
-    }
+    check_steps(&rt, &mut loaded(&rt, rt.alloc()), &STEPS);
 }
 
 /// The start and the delay of what is shown, after another delay.
@@ -109,16 +119,35 @@ fn delayed(player: &mut Player, delay: u64) -> Option<(i128, u64)>
 #[test]
 fn a_delay_turns_the_segment(rt: HostRuntime) {
     let mut player = loaded(&rt, rt.alloc());
-    assert!(rt; delayed(&mut player, 10).is_none());
-    assert!(rt; did(&mut player, Command::Change(1), 0) == Ok(()));
-    assert!(rt; delayed(&mut player, 10) == Some((10, 10)));
-    assert!(rt; told(&player, PTS) == Some((900_000, 10, 1)));
-    assert!(rt; did(&mut player, Command::Speed(2), 3) == Ok(()));
-    // It never begins before 0.
-    assert!(rt; delayed(&mut player, 6) == Some((3, 10)));
-    assert!(rt; delayed(&mut player, 7) == Some((0, 7)));
+    check_that(&rt, delayed(&mut player, 10).is_none(), "nothing is shown");
+    did(&mut player, Command::Change(1), 0).expect(&rt, "a change");
+    check_that(
+        &rt,
+        delayed(&mut player, 10) == Some((10, 10)),
+        "it begins later",
+    );
+    check_that(
+        &rt,
+        told(&player, PTS) == Some((900_000, 10, 1)),
+        "it is told so",
+    );
+    did(&mut player, Command::Speed(2), 3).expect(&rt, "a speed");
+    check_that(
+        &rt,
+        delayed(&mut player, 6) == Some((3, 10)),
+        "it never begins before 0",
+    );
+    check_that(
+        &rt,
+        delayed(&mut player, 7) == Some((0, 7)),
+        "it begins at 0",
+    );
     let greatest = delayed(&mut player, 10_000_000_000);
-    assert!(rt; greatest == Some((9_999_999_993, 10_000_000_000)));
+    check_that(
+        &rt,
+        greatest == Some((9_999_999_993, 10_000_000_000)),
+        "the greatest delay",
+    );
 }
 
 /// The parts of a rate, a base tick, a media position, and its tick.
@@ -131,28 +160,29 @@ const TICKS: [(u32, u32, i64, i64, i64); 5] = [
     (1, 90_000, 0, 11_112, 1),
 ];
 
-/// The tick at a media position of a timeline that is added to a player.
-fn tick_at(
+/// The control timestamp at a media position of a timeline that is added to a player.
+fn control_at(
     rt: &impl Abort,
     alloc: Global,
     rate: Rate,
     base: i64,
     media: i64,
-) -> Result<Option<(i64, u64, i32)>, PlayerFault> {
+) -> Option<(i64, u64, i32)> {
     let mut player = loaded(rt, alloc);
-    player.add_timeline(alloc, 1, OTHER, rate, base)?;
-    did(&mut player, Command::Change(1), 0)?;
-    did(&mut player, Command::Seek(media), 7)?;
-    assert!(rt; player.rate(OTHER) == Some(rate));
-    Ok(told(&player, OTHER))
+    let added = player.add_timeline(alloc, 1, OTHER, rate, base);
+    added.expect(rt, "a timeline");
+    did(&mut player, Command::Change(1), 0).expect(rt, "a change");
+    did(&mut player, Command::Seek(media), 7).expect(rt, "a seek");
+    check_that(rt, player.rate(OTHER) == Some(rate), "its rate");
+    told(&player, OTHER)
 }
 
 #[test]
 fn ticks_stay_whole_at_any_rate(rt: HostRuntime) {
     for (units_per_tick, units_per_second, base, media, content) in TICKS {
         let rate = Rate::of(units_per_tick, units_per_second).expect(&rt, "a rate");
-        let control = tick_at(&rt, rt.alloc(), rate, base, media);
-        assert!(rt; control == Ok(Some((content, 7, 1))), "{content}");
+        let control = control_at(&rt, rt.alloc(), rate, base, media);
+        assert!(rt; control == Some((content, 7, 1)), "{content}");
     }
 }
 
@@ -170,7 +200,7 @@ const REFUSED: [(u32, i64, PlayerFault); 5] = [
 fn a_timeline_is_refused(rt: HostRuntime) {
     let mut player = loaded(&rt, rt.alloc());
     for _ in 1..16 {
-        assert!(rt; added(&mut player, rt.alloc(), 1, FAR) == Ok(()));
+        added(&mut player, rt.alloc(), 1, FAR).expect(&rt, "a timeline");
     }
     for (programme, base, fault) in REFUSED {
         let refused = added(&mut player, rt.alloc(), programme, base);
@@ -182,57 +212,71 @@ fn a_timeline_is_refused(rt: HostRuntime) {
 fn a_thousand_programmes_are_full(rt: HostRuntime) {
     let mut player = Player::new(rt.alloc());
     for number in 1..1001 {
-        assert!(rt; player.add_programme(rt.alloc(), b"dvb://1") == Ok(number));
+        let added = player.add_programme(rt.alloc(), b"dvb://1");
+        check_that(&rt, added == Ok(number), "a programme");
     }
-    assert!(rt; player.add_programme(rt.alloc(), b"") == Err(PlayerFault::Full));
-    assert!(rt; did(&mut player, Command::Change(1000), 0) == Ok(()));
-    assert!(rt; did(&mut player, Command::Change(1001), 0) == Err(PlayerFault::NoProgramme));
+    let added = player.add_programme(rt.alloc(), b"");
+    check_that(&rt, added == Err(PlayerFault::Full), "one too many");
+    did(&mut player, Command::Change(1000), 0).expect(&rt, "the last one");
 }
 
 /// How many timelines are told, and the rate of the last one.
-fn timelines_told(alloc: Global, player: &Player) -> Result<Option<(usize, Rate)>, Fail> {
-    let Some(timelines) = player.timelines(alloc)? else {
-        return Ok(None);
-    };
+fn timelines_told(rt: &impl Abort, alloc: Global, player: &Player) -> Option<(usize, Rate)> {
+    let timelines = player.timelines(alloc).expect(rt, "memory")?;
     let list = timelines.list();
-    Ok(list.last().map(|timeline| (list.len(), timeline.rate)))
+    list.last().map(|timeline| (list.len(), timeline.rate))
 }
 
 /// Of two timelines with one selector the first counts.
 #[test]
-fn what_is_shown_is_told(rt: HostRuntime) -> Result<(), Fail> {
+fn what_is_shown_is_told(rt: HostRuntime) {
     let mut player = loaded(&rt, rt.alloc());
-    assert!(rt; player.content_id().is_none() && player.rate(PTS).is_none());
-    assert!(rt; timelines_told(rt.alloc(), &player)?.is_none());
-    added(&mut player, rt.alloc(), 1, 7)?;
-    added(&mut player, rt.alloc(), 1, 8)?;
-    did(&mut player, Command::Change(1), 0)?;
-    assert!(rt; player.content_id() == Some(b"dvb://1".as_slice()));
-    assert!(rt; told(&player, OTHER) == Some((7, 0, 1)));
-    assert!(rt; told(&player, b"urn:x:2").is_none());
-    assert!(rt; player.control(b"dvb://1", PTS) != Control::Unavailable);
-    assert!(rt; player.control(b"dvb://12", PTS) == Control::Unavailable);
-    assert!(rt; player.control(b"//1", PTS) == Control::Unavailable);
-    let timelines = timelines_told(rt.alloc(), &player)?;
-    assert!(rt; timelines == Some((3, FILM)));
-    Ok(())
+    check_that(
+        &rt,
+        player.content_id().is_none() && player.rate(PTS).is_none(),
+        "nothing",
+    );
+    check_that(
+        &rt,
+        timelines_told(&rt, rt.alloc(), &player).is_none(),
+        "no timelines",
+    );
+    added(&mut player, rt.alloc(), 1, 7).expect(&rt, "a timeline");
+    added(&mut player, rt.alloc(), 1, 8).expect(&rt, "a timeline");
+    did(&mut player, Command::Change(1), 0).expect(&rt, "a change");
+    check_that(
+        &rt,
+        player.content_id() == Some(b"dvb://1".as_slice()),
+        "its name",
+    );
+    check_that(
+        &rt,
+        told(&player, OTHER) == Some((7, 0, 1)),
+        "the first of both",
+    );
+    check_that(&rt, told(&player, b"urn:x:2").is_none(), "no such timeline");
+    for (stem, has_it) in [("dvb://1", true), ("dvb://12", false), ("//1", false)] {
+        let control = player.control(stem.as_bytes(), PTS);
+        check_that(&rt, (control != Control::Unavailable) == has_it, stem);
+    }
+    let timelines = timelines_told(&rt, rt.alloc(), &player);
+    check_that(&rt, timelines == Some((3, FILM)), "the timelines");
 }
 
 #[test]
-fn a_copy_goes_its_own_way(rt: HostRuntime) -> Result<(), Fail> {
+fn a_copy_goes_its_own_way(rt: HostRuntime) {
     let mut player = loaded(&rt, rt.alloc());
-    did(&mut player, Command::Change(1), 5)?;
+    did(&mut player, Command::Change(1), 5).expect(&rt, "a change");
     let before = player.segment();
-    let copy = player.copy()?;
-    did(&mut player, Command::Speed(0), 9)?;
-    assert!(rt; copy.segment() == before);
+    let copy = player.copy().expect(&rt, "memory");
+    did(&mut player, Command::Speed(0), 9).expect(&rt, "a speed");
+    check_that(&rt, copy.segment() == before, "the copy");
     player.put_back(before);
-    assert!(rt; player.segment() == before);
-    Ok(())
+    check_that(&rt, player.segment() == before, "the player");
 }
 
 #[test]
-fn faults_have_words(rt: HostRuntime) -> Result<(), Fail> {
+fn faults_have_words(rt: HostRuntime) {
     for (fault, words) in [
         (PlayerFault::NoProgramme, "no programme"),
         (PlayerFault::Speed, "speed"),
@@ -240,12 +284,12 @@ fn faults_have_words(rt: HostRuntime) -> Result<(), Fail> {
         (PlayerFault::Full, "full"),
         (PlayerFault::Memory, "out of memory"),
     ] {
-        assert!(rt;
-            format!(in rt.alloc(); "{fault}")?.as_str() == words,
-            "{words}"
+        check(
+            &rt,
+            &format!(in rt.alloc(); "{fault}").expect(&rt, "memory"),
+            words,
         );
     }
-    Ok(())
 }
 
 /// A plain player: what is shown now is moved on from event to event, whatever the event is.
@@ -339,11 +383,6 @@ fn plain_of(segment: Segment, reading: u64) -> Plain {
     passed(at_its_start, i128::from(reading).wrapping_sub(segment.at))
 }
 
-fn next_word(word: u64) -> u64 {
-    word.wrapping_mul(6_364_136_223_846_793_005)
-        .wrapping_add(1_442_695_040_888_963_407)
-}
-
 /// Forty events, ten nanoseconds apart.
 fn play(rt: &impl Abort, player: &mut Player, seed: u64) {
     let mut plain = None;
@@ -361,7 +400,9 @@ fn play(rt: &impl Abort, player: &mut Player, seed: u64) {
 fn shows_what_a_plain_player_shows(rt: HostRuntime) {
     for seed in 0..100 {
         let mut player = loaded(&rt, rt.alloc());
-        assert!(rt; player.add_programme(rt.alloc(), b"dvb://2") == Ok(2));
+        player
+            .add_programme(rt.alloc(), b"dvb://2")
+            .expect(&rt, "a programme");
         play(&rt, &mut player, seed);
     }
 }

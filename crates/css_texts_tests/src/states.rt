@@ -1,11 +1,11 @@
 //! States, what tells them, and what changes them.
 ghost use Rattle.css_cii.specs.Texts.{IsUtf8Change, IsUtf8State};
 
+use crate::common::{check, check_that, words};
 use css_cii::{Change, State, apply, apply_to, diff, full, merge, read_message, write_message};
-use css_num::{Memory, Rate, Text, Timeline, Timelines};
+use css_num::{Rate, Text, Timeline, Timelines};
 use std::alloc::Global;
 use std::process::Abort;
-use std::test::Fail;
 
 /// The full text of the state of a television that presents `dvb://1.2.3`.
 const FULL: &str = concat!(
@@ -28,151 +28,88 @@ const CHANGES: [&str; 5] = [
     "{}",
 ];
 
-fn words(alloc: Global, words: &str) -> Result<Option<Text>, Memory> {
-    Ok(Some(Text::of(alloc, words.as_bytes())?))
+fn text(rt: &impl Abort, alloc: Global, words: &str) -> Option<Text> {
+    Some(Text::of(alloc, words.as_bytes()).expect(rt, "memory"))
 }
 
-fn stamps(rt: &impl Abort, alloc: Global) -> Result<Option<Timelines>, Memory> {
+fn stamps(rt: &impl Abort, alloc: Global) -> Option<Timelines> {
+    let mut list = Vec::new(alloc);
     let timeline = Timeline {
-        selector: Text::of(alloc, b"urn:dvb:css:timeline:pts")?,
+        selector: Text::of(alloc, b"urn:dvb:css:timeline:pts").expect(rt, "memory"),
         rate: Rate::of(1, 90_000).expect(rt, "a rate"),
     };
-    let mut list = Vec::new(alloc);
-    list.push(timeline)?;
-    Ok(Some(Timelines::of(list)))
+    list.push(timeline).expect(rt, "memory");
+    Some(Timelines::of(list))
 }
 
-/// Sets the properties of the television that presents `dvb://1.2.3`.
-fn set_evening(rt: &impl Abort, alloc: Global, state: &mut State) -> Result<(), Memory> {
-    state.protocol_version = words(alloc, "1.1")?;
-    state.content_id = words(alloc, "dvb://1.2.3")?;
-    state.content_id_status = words(alloc, "final")?;
-    state.presentation_status = words(alloc, "okay")?;
-    state.wc_url = words(alloc, "udp://127.0.0.1:6677")?;
-    state.ts_url = words(alloc, "ws://127.0.0.1:6678/ts")?;
-    state.timelines = stamps(rt, alloc)?;
-    Ok(())
+/// The state of the television that presents `dvb://1.2.3`.
+fn evening(rt: &impl Abort, alloc: Global) -> State {
+    State {
+        protocol_version: text(rt, alloc, "1.1"),
+        mrs_url: None,
+        content_id: text(rt, alloc, "dvb://1.2.3"),
+        content_id_status: text(rt, alloc, "final"),
+        presentation_status: text(rt, alloc, "okay"),
+        wc_url: text(rt, alloc, "udp://127.0.0.1:6677"),
+        ts_url: text(rt, alloc, "ws://127.0.0.1:6678/ts"),
+        te_url: None,
+        timelines: stamps(rt, alloc),
+    }
 }
 
-/// Reads a text onto a state.
-fn read_onto(alloc: Global, state: &mut State, text: &str) -> Result<(), Fail>
+fn check_written(rt: &impl Abort, alloc: Global, change: &Change, text: &str)
+    requires { IsUtf8Change change.now }
+{
+    let written = write_message(alloc, change).expect(rt, "memory");
+    check(rt, words(&written), text);
+}
+
+/// Reads a text onto a state. It is that of the difference, too.
+fn check_change(rt: &impl Abort, alloc: Global, state: &mut State, text: &str)
     requires { IsUtf8State state.old }
     ensures { IsUtf8State state.new }
 {
-    let change = read_message(alloc, text.as_bytes())?;
+    let change = read_message(alloc, text.as_bytes()).expect(rt, "a message");
+    let new = apply(state, &change).expect(rt, "memory");
+    let difference = diff(state, &new).expect(rt, "memory");
+    check_written(rt, alloc, &difference, text);
     apply_to(state, change);
-    Ok(())
 }
 
-fn check_written(rt: &impl Abort, alloc: Global, change: &Change, text: &str) -> Result<(), Fail>
-    requires { IsUtf8Change change.now }
-{
-    let written = write_message(alloc, change)?;
-    assert!(rt; written.bytes() == text.as_bytes(), "{text}");
-    Ok(())
-}
-
-/// The state is that of the television that presents `dvb://1.2.3`.
-fn check_evening(rt: &impl Abort, alloc: Global, state: &State) -> Result<(), Fail> {
-    let mut expected = State::empty();
-    set_evening(rt, alloc, &mut expected)?;
-    assert!(rt; *state == expected);
-    Ok(())
-}
-
-/// The text is that of the whole state.
-fn check_full(rt: &impl Abort, alloc: Global, state: &State, text: &str) -> Result<(), Fail>
-    requires { IsUtf8State state.now }
-{
-    let change = full(state)?;
-    assert!(rt; change.is_same(&change) && !change.is_empty());
-    check_written(rt, alloc, &change, text)
-}
-
-/// The text is that of the difference between the states.
-fn check_difference(
-    rt: &impl Abort,
-    alloc: Global,
-    old: &State,
-    new: &State,
-    text: &str,
-) -> Result<(), Fail>
-    requires { IsUtf8State new.now }
-{
-    let change = diff(old, new)?;
-    check_written(rt, alloc, &change, text)
-}
-
-/// The text is that of the difference between the state and what the text makes of it.
-fn check_change(rt: &impl Abort, alloc: Global, state: &State, text: &str) -> Result<(), Fail>
-    requires { IsUtf8State state.now }
-{
-    let change = read_message(alloc, text.as_bytes())?;
-    let new = apply(state, &change)?;
-    check_difference(rt, alloc, state, &new, text)
-}
-
-fn check_changes(rt: &impl Abort, alloc: Global, state: &mut State) -> Result<(), Fail>
-    requires { IsUtf8State state.old }
-{
+#[test]
+fn texts_change_what_they_say(rt: HostRuntime) {
+    let mut state = State::empty();
+    let first = read_message(rt.alloc(), FULL.as_bytes()).expect(&rt, "a message");
+    apply_to(&mut state, first);
+    check_that(&rt, state == evening(&rt, rt.alloc()), "the first state");
+    let whole = full(&state).expect(&rt, "memory");
+    check_written(&rt, rt.alloc(), &whole, FULL);
     for text in &CHANGES {
-        check_change(rt, alloc, state, text)?;
-        read_onto(alloc, state, text)?;
+        check_change(&rt, rt.alloc(), &mut state, text);
     }
-    Ok(())
-}
-
-fn check_merged(rt: &impl Abort, changes: &[Change], last: &State) -> Result<(), Fail> {
-    let merged = merge(changes)?;
-    assert!(rt; merged.is_same(last));
-    Ok(())
 }
 
 /// A session that begins with the first state and goes on to the second gives the second.
-fn check_session(rt: &impl Abort, first: &State, second: &State) -> Result<(), Fail> {
-    let changes = [full(first)?, diff(first, second)?];
-    assert!(rt; !changes[0].is_same(&changes[1]));
-    check_merged(rt, &changes, second)
-}
-
-/// A state differs in nothing from a copy.
-fn check_copy(rt: &impl Abort, state: &State) -> Result<(), Fail> {
-    let copy = state.clone()?;
-    let change = diff(state, &copy)?;
-    assert!(rt; change.is_empty());
-    Ok(())
-}
-
-fn check_texts(rt: &impl Abort, alloc: Global, state: &mut State) -> Result<(), Fail>
-    requires { IsUtf8State state.old }
-{
-    read_onto(alloc, state, FULL)?;
-    check_evening(rt, alloc, state)?;
-    check_full(rt, alloc, state, FULL)?;
-    check_changes(rt, alloc, state)
+fn check_session(rt: &impl Abort, first: &State, second: &State) {
+    let whole = full(first).expect(rt, "memory");
+    let difference = diff(first, second).expect(rt, "memory");
+    check_that(
+        rt,
+        !whole.is_same(&difference) && whole.is_same(&whole),
+        "two changes",
+    );
+    let merged = merge(&[whole, difference]).expect(rt, "memory");
+    check_that(rt, merged.is_same(second), "the second state");
 }
 
 #[test]
-fn texts_change_what_they_say(rt: HostRuntime) -> Result<(), Fail> {
-    let mut state = State::empty();
-    check_texts(&rt, rt.alloc(), &mut state)
-}
-
-fn check_sessions(
-    rt: &impl Abort,
-    alloc: Global,
-    state: &mut State,
-    other: &State,
-) -> Result<(), Fail> {
-    set_evening(rt, alloc, state)?;
-    assert!(rt; !state.is_same(other));
-    check_session(rt, other, state)?;
-    check_session(rt, state, other)?;
-    check_copy(rt, state)
-}
-
-#[test]
-fn sessions_give_their_last_state(rt: HostRuntime) -> Result<(), Fail> {
-    let mut state = State::empty();
-    check_sessions(&rt, rt.alloc(), &mut state, &State::empty())
+fn sessions_give_their_last_state(rt: HostRuntime) {
+    let state = evening(&rt, rt.alloc());
+    let other = State::empty();
+    check_that(&rt, !state.is_same(&other), "two states");
+    check_session(&rt, &other, &state);
+    check_session(&rt, &state, &other);
+    let copy = state.clone().expect(&rt, "memory");
+    let difference = diff(&state, &copy).expect(&rt, "memory");
+    check_that(&rt, difference.is_empty(), "a copy");
 }

@@ -2,15 +2,16 @@
 //!
 //! A row of a table is `OUTCOME <- TEXT`. The outcome is the text that is written of the value that is read, or the
 //! fault. `NAMES` has what stands for the names of members.
+use crate::common::{check, check_that, words};
 use css_cii::{CiiFault, CiiName, read_message, write_message};
-use css_num::{Control, Text};
+use css_num::{Control, Memory, Text};
 use css_tsmsg::{
     Bound, Presentation, TsFault, TsName, is_same, read_control, read_presentation, read_setup,
     write_control, write_presentation, write_setup,
 };
 use std::alloc::Global;
+use std::fmt::Display;
 use std::process::Abort;
-use std::test::Fail;
 
 /// What a text is read as.
 #[derive(Clone, Copy)]
@@ -192,7 +193,7 @@ const TIMES_AT: [Place; 8] = [
     (Reader::Presentation, r#"{A:{C:"1",W:@},E:{C:"9",W:"10"},L:{C:"9",W:"10"}}"#, "field actual"),
 ];
 
-const TIMELINES_AT: Place = (Reader::Message, r#"{"timelines":@}"#, "field timelines");
+const TIMELINES_AT: [Place; 1] = [(Reader::Message, r#"{"timelines":@}"#, "field timelines")];
 
 /// Values of other forms than words.
 const NO_WORDS: &str = r#"5
@@ -213,127 +214,93 @@ const NO_TIMES: &str = r#"""
 "infinity"
 "٣""#;
 
-fn message_outcome(alloc: Global, text: &[u8]) -> Result<Text, Fail> {
-    match read_message(alloc, text) {
-        Ok(change) => Ok(write_message(alloc, &change)?),
-        Err(fault) => Ok(Text::of(alloc, format!(in alloc; "{fault}")?.as_bytes())?),
-    }
+fn written(rt: &impl Abort, alloc: Global, text: Result<Text, Memory>) -> String {
+    let text = text.expect(rt, "memory");
+    words(&text).to_string(alloc).expect(rt, "memory")
 }
 
-fn ts_fault(alloc: Global, fault: TsFault) -> Result<Text, Fail> {
-    Ok(Text::of(alloc, format!(in alloc; "{fault}")?.as_bytes())?)
-}
-
-fn setup_outcome(alloc: Global, text: &[u8]) -> Result<Text, Fail> {
-    match read_setup(alloc, text) {
-        Ok(setup) => Ok(write_setup(alloc, &setup)?),
-        Err(fault) => ts_fault(alloc, fault),
-    }
-}
-
-fn control_outcome(alloc: Global, text: &[u8]) -> Result<Text, Fail> {
-    match read_control(alloc, text) {
-        Ok(control) => Ok(write_control(alloc, &control)?),
-        Err(fault) => ts_fault(alloc, fault),
-    }
-}
-
-fn presentation_outcome(alloc: Global, text: &[u8]) -> Result<Text, Fail> {
-    match read_presentation(alloc, text) {
-        Ok(presentation) => Ok(write_presentation(alloc, &presentation)?),
-        Err(fault) => ts_fault(alloc, fault),
-    }
+fn in_words(rt: &impl Abort, alloc: Global, fault: &impl Display) -> String {
+    format!(in alloc; "{fault}").expect(rt, "memory")
 }
 
 /// What is written of what a text is read as, or the fault.
-fn outcome(alloc: Global, reader: Reader, text: &[u8]) -> Result<Text, Fail> {
+fn outcome(rt: &impl Abort, alloc: Global, reader: Reader, text: &[u8]) -> String {
     match reader {
-        Reader::Message => message_outcome(alloc, text),
-        Reader::Setup => setup_outcome(alloc, text),
-        Reader::Control => control_outcome(alloc, text),
-        Reader::Presentation => presentation_outcome(alloc, text),
+        Reader::Message => match read_message(alloc, text) {
+            Ok(change) => written(rt, alloc, write_message(alloc, &change)),
+            Err(fault) => in_words(rt, alloc, &fault),
+        },
+        Reader::Setup => match read_setup(alloc, text) {
+            Ok(setup) => written(rt, alloc, write_setup(alloc, &setup)),
+            Err(fault) => in_words(rt, alloc, &fault),
+        },
+        Reader::Control => match read_control(alloc, text) {
+            Ok(control) => written(rt, alloc, write_control(alloc, &control)),
+            Err(fault) => in_words(rt, alloc, &fault),
+        },
+        Reader::Presentation => match read_presentation(alloc, text) {
+            Ok(presentation) => written(rt, alloc, write_presentation(alloc, &presentation)),
+            Err(fault) => in_words(rt, alloc, &fault),
+        },
     }
 }
 
 /// The text with the names in place of what stands for them.
-fn with_names(alloc: Global, short: &str) -> Result<String, Fail> {
-    let mut text = String::from_str(alloc, short)?;
+fn with_names(rt: &impl Abort, alloc: Global, short: &str) -> String {
+    let mut text = String::from_str(alloc, short).expect(rt, "memory");
     for (letter, name) in &NAMES {
-        text = text.replace(alloc, letter, name)?;
+        text = text.replace(alloc, letter, name).expect(rt, "memory");
     }
-    Ok(text)
+    text
 }
 
-fn check(
-    rt: &impl Abort,
-    alloc: Global,
-    reader: Reader,
-    text: &str,
-    expected: &str,
-) -> Result<(), Fail> {
-    let text = with_names(alloc, text)?;
-    let expected = with_names(alloc, expected)?;
-    let told = outcome(alloc, reader, text.as_bytes())?;
-    assert!(rt; told.bytes() == expected.as_bytes(), "{text}");
-    Ok(())
+fn check_text(rt: &impl Abort, alloc: Global, reader: Reader, text: &str, expected: &str) {
+    let text = with_names(rt, alloc, text);
+    let told = outcome(rt, alloc, reader, text.as_bytes());
+    check(rt, &told, &with_names(rt, alloc, expected));
 }
 
-fn check_rows(rt: &impl Abort, alloc: Global, reader: Reader, table: &str) -> Result<(), Fail> {
-    let rows = table.replace(alloc, "\n  ", "")?;
+fn check_rows(rt: &impl Abort, alloc: Global, reader: Reader, table: &str) {
+    let rows = table.replace(alloc, "\n  ", "").expect(rt, "memory");
     for row in rows.lines() {
-        let (expected, text) = row.split_once(" <- ").ok_or("a row without an arrow")?;
-        check(rt, alloc, reader, text, expected)?;
+        let (expected, text) = row.split_once(" <- ").expect(rt, "an arrow");
+        check_text(rt, alloc, reader, text, expected);
     }
-    Ok(())
 }
 
 #[test]
-fn each_text_is_read_or_refused(rt: HostRuntime) -> Result<(), Fail> {
-    check_rows(&rt, rt.alloc(), Reader::Message, MESSAGES)?;
-    check_rows(&rt, rt.alloc(), Reader::Setup, SETUPS)?;
-    check_rows(&rt, rt.alloc(), Reader::Control, CONTROLS)?;
-    check_rows(&rt, rt.alloc(), Reader::Presentation, PRESENTATIONS)
+fn each_text_is_read_or_refused(rt: HostRuntime) {
+    check_rows(&rt, rt.alloc(), Reader::Message, MESSAGES);
+    check_rows(&rt, rt.alloc(), Reader::Setup, SETUPS);
+    check_rows(&rt, rt.alloc(), Reader::Control, CONTROLS);
+    check_rows(&rt, rt.alloc(), Reader::Presentation, PRESENTATIONS);
 }
 
 #[test]
-fn texts_that_are_no_object_are_refused(rt: HostRuntime) -> Result<(), Fail> {
-    check_rows(&rt, rt.alloc(), Reader::Message, NO_OBJECTS)?;
-    check_rows(&rt, rt.alloc(), Reader::Setup, NO_OBJECTS)?;
-    check_rows(&rt, rt.alloc(), Reader::Control, NO_OBJECTS)?;
-    check_rows(&rt, rt.alloc(), Reader::Presentation, NO_OBJECTS)
+fn texts_that_are_no_object_are_refused(rt: HostRuntime) {
+    check_rows(&rt, rt.alloc(), Reader::Message, NO_OBJECTS);
+    check_rows(&rt, rt.alloc(), Reader::Setup, NO_OBJECTS);
+    check_rows(&rt, rt.alloc(), Reader::Control, NO_OBJECTS);
+    check_rows(&rt, rt.alloc(), Reader::Presentation, NO_OBJECTS);
 }
 
-/// Each of the values is refused at the place.
-fn check_place(rt: &impl Abort, alloc: Global, place: &Place, values: &str) -> Result<(), Fail> {
-    let (reader, text, fault) = *place;
-    for value in values.lines() {
-        let text = text.replace(alloc, "@", value)?;
-        check(rt, alloc, reader, text.as_str(), fault)?;
+/// Each of the values is refused at each of the places.
+fn check_places(rt: &impl Abort, alloc: Global, places: &[Place], values: &str) {
+    for (reader, text, fault) in places {
+        for value in values.lines() {
+            let text = text.replace(alloc, "@", value).expect(rt, "memory");
+            check_text(rt, alloc, *reader, &text, fault);
+        }
     }
-    Ok(())
 }
 
 #[test]
-fn words_of_other_forms_are_refused(rt: HostRuntime) -> Result<(), Fail> {
-    for place in &WORDS_AT {
-        check_place(&rt, rt.alloc(), place, NO_WORDS)?;
-    }
-    Ok(())
-}
-
-#[test]
-fn times_of_other_forms_are_refused(rt: HostRuntime) -> Result<(), Fail> {
-    for place in &TIMES_AT {
-        check_place(&rt, rt.alloc(), place, NO_WORDS)?;
-        check_place(&rt, rt.alloc(), place, NO_TIMES)?;
-    }
-    Ok(())
-}
-
-#[test]
-fn lists_of_other_forms_are_refused(rt: HostRuntime) -> Result<(), Fail> {
-    let lists = NO_TIMELINES.replace(rt.alloc(), "*", r#"{N:"a",P:{T:1,U:50}}"#)?;
-    check_place(&rt, rt.alloc(), &TIMELINES_AT, lists.as_str())
+fn values_of_other_forms_are_refused(rt: HostRuntime) {
+    check_places(&rt, rt.alloc(), &WORDS_AT, NO_WORDS);
+    check_places(&rt, rt.alloc(), &TIMES_AT, NO_WORDS);
+    check_places(&rt, rt.alloc(), &TIMES_AT, NO_TIMES);
+    let lists = NO_TIMELINES.replace(rt.alloc(), "*", r#"{N:"a",P:{T:1,U:50}}"#);
+    check_places(&rt, rt.alloc(), &TIMELINES_AT, &lists.expect(&rt, "memory"));
 }
 
 const CONTROL: Control = Control::Available {
@@ -343,13 +310,17 @@ const CONTROL: Control = Control::Available {
 };
 
 #[test]
-fn times_are_read_as_values(rt: HostRuntime) -> Result<(), Fail> {
-    let text = with_names(rt.alloc(), r#"{C:"900000",W:"10000000000",S:1.0}"#)?;
-    assert!(rt; read_control(rt.alloc(), text.as_bytes()) == Ok(CONTROL));
-    assert!(rt; is_same(&CONTROL, &CONTROL));
-    assert!(rt; !is_same(&CONTROL, &Control::Unavailable));
+fn times_are_read_as_values(rt: HostRuntime) {
+    let text = with_names(&rt, rt.alloc(), r#"{C:"900000",W:"10000000000",S:1.0}"#);
+    check_that(
+        &rt,
+        read_control(rt.alloc(), text.as_bytes()) == Ok(CONTROL),
+        "a control",
+    );
+    check_that(&rt, is_same(&CONTROL, &CONTROL), "the same");
+    check_that(&rt, !is_same(&CONTROL, &Control::Unavailable), "another");
     let text = r#"{E:{C:"900000",W:"10040000000"},L:{C:"900001",W:"plusinfinity"}}"#;
-    let text = with_names(rt.alloc(), text)?;
+    let text = with_names(&rt, rt.alloc(), text);
     let presentation = Presentation {
         earliest: Bound::At {
             content: 900_000,
@@ -358,24 +329,26 @@ fn times_are_read_as_values(rt: HostRuntime) -> Result<(), Fail> {
         latest: Bound::PlusInfinity { content: 900_001 },
         actual: None,
     };
-    assert!(rt; read_presentation(rt.alloc(), text.as_bytes()) == Ok(presentation));
-    Ok(())
+    let read = read_presentation(rt.alloc(), text.as_bytes());
+    check_that(&rt, read == Ok(presentation), "a presentation");
 }
 
 #[test]
-fn a_setup_is_read_as_a_value(rt: HostRuntime) -> Result<(), Fail> {
-    let text = with_names(rt.alloc(), r#"{N:"urn:dvb:css:timeline:pts",I:"dvb://"}"#)?;
-    let setup = read_setup(rt.alloc(), text.as_bytes())?;
-    assert!(rt; setup.stem.bytes() == b"dvb://".as_slice());
-    assert!(rt; setup.selector.bytes() == b"urn:dvb:css:timeline:pts".as_slice());
-    Ok(())
+fn a_setup_is_read_as_a_value(rt: HostRuntime) {
+    let text = with_names(
+        &rt,
+        rt.alloc(),
+        r#"{N:"urn:dvb:css:timeline:pts",I:"dvb://"}"#,
+    );
+    let setup = read_setup(rt.alloc(), text.as_bytes()).expect(&rt, "a setup");
+    check(&rt, words(&setup.stem), "dvb://");
+    check(&rt, words(&setup.selector), "urn:dvb:css:timeline:pts");
 }
 
 #[test]
-fn want_of_memory_and_names_are_told(rt: HostRuntime) -> Result<(), Fail> {
-    let told = format!(in rt.alloc(); "{}; {}", CiiFault::Memory, CiiName::TsUrl)?;
-    assert!(rt; told.as_str() == "out of memory; tsUrl");
-    let told = format!(in rt.alloc(); "{}; {}", TsFault::Memory, TsName::Actual)?;
-    assert!(rt; told.as_str() == "out of memory; actual");
-    Ok(())
+fn want_of_memory_and_names_are_told(rt: HostRuntime) {
+    let told = format!(in rt.alloc(); "{}; {}", CiiFault::Memory, CiiName::TsUrl);
+    check(&rt, &told.expect(&rt, "memory"), "out of memory; tsUrl");
+    let told = format!(in rt.alloc(); "{}; {}", TsFault::Memory, TsName::Actual);
+    check(&rt, &told.expect(&rt, "memory"), "out of memory; actual");
 }

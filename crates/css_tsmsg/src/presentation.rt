@@ -16,10 +16,19 @@ use serde_json::Value;
 use std::alloc::Global;
 
 /// The two times of a bound as they are written. An infinite wall time is None.
-#[derive(Drop)]
 pub(crate) struct Form {
     pub(crate) content: Text,
     pub(crate) wall: Option<Text>,
+}
+
+// By hand: a derived drop is opened at each exit of each caller's proof.
+impl Drop for Form {
+    fn drop(self) {
+        let Form {
+            content: _,
+            wall: _,
+        } = self;
+    }
 }
 
 /// Whether the words are those of the infinite wall time that this end may have.

@@ -1,9 +1,9 @@
-ghost use Rattle.std.specs.Prelude.{◌≡◌, IfOk, Ok, codes, string_bytes, decimal};
+ghost use Rattle.std.specs.Prelude.{◌≡◌, IfOk, OnOk, Ok, codes, string_bytes, decimal};
 ghost use Rattle.std.specs.Fmt.{signed_decimal};
 ghost use Rattle.std.specs.Str.{IsUtf8};
 ghost use Rattle.serde_json.specs.Data.{null, no_members, number, object, put, string};
 ghost use Rattle.serde_json.specs.Find.{of_integer};
-ghost use Rattle.serde_json.specs.View.{view};
+ghost use Rattle.serde_json.specs.View.{members_view, view};
 ghost use Rattle.css_tsmsg.specs.Controls as controls;
 ghost use Rattle.css_tsmsg.specs.Presentations as presentations;
 ghost use Rattle.css_tsmsg.specs.Setups as setups;
@@ -50,27 +50,6 @@ fn object_of_two(
     Ok(Value::Object(members))
 }
 
-/// The object of three members.
-fn object_of_three(
-    alloc: Global,
-    first_name: &str,
-    first: Value,
-    second_name: &str,
-    second: Value,
-    third_name: &str,
-    third: Value,
-) -> Result<Value, AllocError>
-    ensures { IfOk result (λ value.
-        view value ≡ object (put first_name.now (view first) (put second_name.now (view second)
-        (put third_name.now (view third) no_members)))) }
-{
-    let mut members = Map::new(alloc);
-    serde_json::put(&mut members, alloc, third_name, third)?;
-    serde_json::put(&mut members, alloc, second_name, second)?;
-    serde_json::put(&mut members, alloc, first_name, first)?;
-    Ok(Value::Object(members))
-}
-
 /// The value of a setup.
 fn setup_value(alloc: Global, setup: &Setup) -> Result<Value, AllocError>
     requires { setups.IsUtf8Setup setup.now }
@@ -93,48 +72,32 @@ pub fn write_setup(alloc: Global, setup: &Setup) -> Result<Text, Memory>
     write_value(alloc, &value)
 }
 
-/// The value of a content time, a speed and a wall time.
-fn times_value(
-    alloc: Global,
-    content: Value,
-    speed: Value,
-    wall: Value,
-) -> Result<Value, AllocError>
-    ensures { IfOk result (λ value. view value ≡ controls.times_data (view content) (view speed) (view wall)) }
-{
-    object_of_three(
-        alloc,
-        "contentTime",
-        content,
-        "timelineSpeedMultiplier",
-        speed,
-        "wallClockTime",
-        wall,
-    )
-}
-
 /// The value of a control timestamp of an available timeline.
 fn available_value(alloc: Global, content: i64, wall: u64, speed: i32) -> Result<Value, AllocError>
     ensures { IfOk result (λ value.
         view value ≡ controls.times_data (string (signed_decimal content)) (number (of_integer speed))
         (string (decimal wall))) }
 {
-    let content = format!(in alloc; "{content}")?;
+    let mut members = Map::new(alloc);
     let wall = format!(in alloc; "{wall}")?;
-    times_value(
-        alloc,
-        Value::String(content),
-        Value::from(speed),
-        Value::String(wall),
-    )
+    serde_json::put(&mut members, alloc, "wallClockTime", Value::String(wall))?;
+    let speed = Value::from(speed);
+    serde_json::put(&mut members, alloc, "timelineSpeedMultiplier", speed)?;
+    let content = format!(in alloc; "{content}")?;
+    serde_json::put(&mut members, alloc, "contentTime", Value::String(content))?;
+    Ok(Value::Object(members))
 }
 
 /// The value of a control timestamp of a timeline that isn't available.
 fn unavailable_value(alloc: Global) -> Result<Value, AllocError>
     ensures { IfOk result (λ value. view value ≡ controls.times_data null null (string (codes "0"))) }
 {
+    let mut members = Map::new(alloc);
     let wall = words_value(alloc, "0")?;
-    times_value(alloc, Value::Null, Value::Null, wall)
+    serde_json::put(&mut members, alloc, "wallClockTime", wall)?;
+    serde_json::put(&mut members, alloc, "timelineSpeedMultiplier", Value::Null)?;
+    serde_json::put(&mut members, alloc, "contentTime", Value::Null)?;
+    Ok(Value::Object(members))
 }
 
 /// The value of a control timestamp.
@@ -201,13 +164,24 @@ fn bound_value(alloc: Global, bound: &Bound) -> Result<Value, AllocError>
     )
 }
 
+/// Adds a bound to an object, before its other members.
+fn put_bound(alloc: Global, members: &mut Map, name: &str, bound: &Bound) -> Result<(), AllocError>
+    ensures { OnOk result (members_view members.new.entries
+        ≡ put name.now (presentations.bound_data bound.now) (members_view members.old.entries)) }
+{
+    let value = bound_value(alloc, bound)?;
+    serde_json::put(members, alloc, name, value)?;
+    Ok(())
+}
+
 /// The value of a window without its actual bound.
 fn window_value(alloc: Global, earliest: &Bound, latest: &Bound) -> Result<Value, AllocError>
     ensures { IfOk result (λ value. view value ≡ presentations.window_data earliest.now latest.now) }
 {
-    let earliest = bound_value(alloc, earliest)?;
-    let latest = bound_value(alloc, latest)?;
-    object_of_two(alloc, "earliest", earliest, "latest", latest)
+    let mut members = Map::new(alloc);
+    put_bound(alloc, &mut members, "latest", latest)?;
+    put_bound(alloc, &mut members, "earliest", earliest)?;
+    Ok(Value::Object(members))
 }
 
 /// The value of a window with its actual bound.
@@ -219,12 +193,11 @@ fn told_value(
 ) -> Result<Value, AllocError>
     ensures { IfOk result (λ value. view value ≡ presentations.told_data earliest.now latest.now actual.now) }
 {
-    let earliest = bound_value(alloc, earliest)?;
-    let latest = bound_value(alloc, latest)?;
-    let actual = bound_value(alloc, actual)?;
-    object_of_three(
-        alloc, "actual", actual, "earliest", earliest, "latest", latest,
-    )
+    let mut members = Map::new(alloc);
+    put_bound(alloc, &mut members, "latest", latest)?;
+    put_bound(alloc, &mut members, "earliest", earliest)?;
+    put_bound(alloc, &mut members, "actual", actual)?;
+    Ok(Value::Object(members))
 }
 
 /// The value of a presentation.

@@ -21,7 +21,7 @@ use Rattle.css_tsmsg.specs.Presentations.{presentation_of}
 use Rattle.css_tsmsg.specs.declared.bound.Presentation.{Presentation}
 use Rattle.css_tsmsg.specs.declared.setup.Setup.{Setup}
 use Rattle.css_tsmsg.specs.declared.fault.TsFault.{TsFault}
-use Rattle.css_sessions.specs.declared.session.Kind.{Kind}
+use Rattle.css_num.specs.declared.protocol.Kind.{Kind}
 use Rattle.css_sessions.specs.declared.session.Talk.{Talk}
 use Rattle.css_sessions.specs.declared.session.Session.{Session}
 use Rattle.css_sessions.specs.Kept.{Opened, SetUp, Closed, with_session, with_talk, begun, talk_of, set_up_in}

@@ -1,4 +1,5 @@
 mod Parsing
+mod Relays
 mod Named
 mod Walks
 mod Refusals

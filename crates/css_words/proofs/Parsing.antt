@@ -1,18 +1,19 @@
 -- What a parse of a command gives.
 use Rattle.std.proofs.Common.{◌≡◌, ◌⊎◌, ◌∙◌, ◌&&◌, ◌+◌, ◌<◌, ◌++◌, inl, inr, refl, ap, sym, ℕ, Bool, true}
 use Rattle.std.proofs.Common.{false, List, []}
-use Rattle.std.proofs.Common.{◌∷◌, Result, Ok, Err, Bor, length, map, subst, take, fold, codes, slice_index_or}
+use Rattle.std.proofs.Common.{◌∷◌, Result, Ok, Err, Bor, length, map, subst, take, slice_index_or}
 use Rattle.std.specs.Result.{IsErrAnd}
 use Rattle.std.proofs.lemmas.List.{map-append, take_more}
-use Rattle.clap.specs.Words.{App, Row, Text, is_simple, matches_of, new_app}
+use Rattle.clap.specs.Words.{App, Row, Text, is_simple, matches_of, with_rule}
 use Rattle.clap.specs.Faults.{fault_of, is_simple_and_free, is_free_app}
 use Rattle.clap.specs.Kinds.{IsAmong, Kinds}
 use Rattle.clap.specs.Simple.{built}
+use Rattle.clap.specs.declared.builder.action.ArgAction.{ArgAction}
 use Rattle.clap.specs.declared.error.kind.ErrorKind.{ErrorKind}
 use Rattle.clap.specs.declared.error.kind.ErrorKind.TheVariants.{OutOfMemory}
 use Rattle.css_num.specs.Gives.{GivesBy}
 use Rattle.css_words.specs.Faults.{parse_fault}
-use Rattle.css_words.specs.Options.{app_with, rows_in, unless_refused, with_option}
+use Rattle.css_words.specs.Options.{arg_rule, rows_in, unless_refused, with_args}
 use Rattle.css_words.specs.declared.fault.WordsFault.{WordsFault}
 use Rattle.css_words.specs.declared.fault.WordsFault.TheVariants.{Memory}
 
@@ -46,24 +47,25 @@ pub refused : (app : App) (words : List Text) (kind : ErrorKind)
 unfolding rows_in
 refused app words kind among = by_kinds (fault_of app words) (matches_of app words) kind among
 
--- ---- commands that are built option by option
-one_at_end : (app : App) (names : List Text) (name : Text)
-    → fold with_option app (names ++ name ∷ []) ≡ with_option (fold with_option app names) name
-one_at_end app [] name = refl
-one_at_end app (other ∷ names) name = one_at_end (with_option app other) names name
+-- ---- commands that are built argument by argument
+one_at_end : (action : ArgAction) (app : App) (names : List Text) (name : Text)
+    → with_args action app (names ++ name ∷ []) ≡ with_rule (with_args action app names) (arg_rule action name)
+one_at_end action app [] name = refl
+one_at_end action app (other ∷ names) name = one_at_end action (with_rule app (arg_rule action other)) names name
 
--- one more option
-pub one_more : (names : List (Bor Text)) (i : ℕ) (d : Bor Text) (old new : App) → i < length names
-    → old ≡ app_with (map (λ name. name.now) (take i names)) → new ≡ with_option old (slice_index_or names i d).now
-    → new ≡ app_with (map (λ name. name.now) (take (i + 1) names))
-one_more names i d old new within so_far next =
+-- one more argument
+pub one_more : (action : ArgAction) (app : App) (names : List (Bor Text)) (i : ℕ) (d : Bor Text) (old new : App)
+    → i < length names → old ≡ with_args action app (map (λ name. name.now) (take i names))
+    → new ≡ with_rule old (arg_rule action (slice_index_or names i d).now)
+    → new ≡ with_args action app (map (λ name. name.now) (take (i + 1) names))
+one_more action app names i d old new within so_far next =
     let before : List Text = map (λ name. name.now) (take i names) in
     let name : Text = (slice_index_or names i d).now in
     let more : map (λ name. name.now) (take (i + 1) names) ≡ before ++ name ∷ [] =
     ap (map (λ name. name.now)) (take_more names i d within)
     ∙ map-append (λ name. name.now) (take i names) (slice_index_or names i d ∷ []) in
-    next ∙ ap (λ (app : App). with_option app name) so_far
-    ∙ sym (ap app_with more ∙ one_at_end (new_app (codes "css")) before name)
+    next ∙ ap (λ (app : App). with_rule app (arg_rule action name)) so_far
+    ∙ sym (ap (with_args action app) more ∙ one_at_end action app before name)
 
 -- an answer whose fault is the one that is expected
 pub by_fault : (T U : Type 0) (view : T → U) (result : Result T WordsFault) (expected : Result U WordsFault)

@@ -4,6 +4,7 @@ use Rattle.std.specs.Prelude.{List, [], ◌∷◌, fold, codes, Option, Some, No
 use Rattle.clap.specs.Words.{App, Row, Rule, Text, first_of, matches_of, new_app, new_rule, with_rule}
 use Rattle.clap.specs.Faults.{fault_of}
 use Rattle.clap.specs.Kinds.{Kinds}
+use Rattle.clap.specs.declared.builder.action.ArgAction.{ArgAction}
 use Rattle.clap.specs.declared.builder.action.ArgAction.TheVariants.{Set, SetTrue}
 use Rattle.css_num.specs.Words.{whole_number_of}
 use Rattle.css_words.specs.declared.fault.WordsFault.{WordsFault}
@@ -36,6 +37,19 @@ with_option app name = with_rule app (option_rule name)
 abbrev pub app_with : List Text → App
 app_with names = fold with_option (new_app (codes "css")) names
 
+-- ---- how it is built
+-- an argument, by what a use of it does
+abbrev pub arg_rule : ArgAction → Text → Rule
+arg_rule action name = record (new_rule name) { long = Some name; action = Some action }
+
+abbrev pub with_args : ArgAction → App → List Text → App
+with_args action app names = fold (λ app name. with_rule app (arg_rule action name)) app names
+
+-- the command with options and flags of these names
+abbrev pub app_taking : List Text → List Text → App
+app_taking names flags = with_args SetTrue (with_args Set (new_app (codes "css")) names) flags
+
+-- ---- what the words say
 -- what is found, where nothing is refused
 abbrev pub unless_refused : {A : Type 0} → Kinds → A → Result A WordsFault
 unless_refused [] found = Ok found

@@ -6,6 +6,7 @@ use Rattle.css_words.specs.Companion.{cii, period, local_error, local_precision}
 use Rattle.css_words.specs.Options.{◌>>=◌, app_with, rows_in, number_in, optional, text_or}
 use Rattle.css_words.specs.Tv.{turns, cii_url, dialled}
 use Rattle.css_words.specs.declared.fault.WordsFault.{WordsFault}
+use Rattle.css_words.specs.declared.words.RelayNumbers.{RelayNumbers}
 use Rattle.css_words.specs.declared.words.RelayWords.{RelayWords}
 
 -- what a relay is started with
@@ -43,6 +44,38 @@ relay_app = app_with relay_options
 
 unfoldable pub relay_rows : List Text → Result (List Row) WordsFault
 relay_rows words = rows_in relay_app words
+
+-- its numbers
+pub record NumbersAsked : Type 0 where
+  pub port : ℕ
+  pub turns : ℕ
+  pub ask_every : ℕ
+  pub local_error : ℕ
+  pub local_precision : ℕ
+
+abbrev pub numbers_of : RelayNumbers → NumbersAsked
+numbers_of numbers = record {
+  port = numbers.port;
+  turns = numbers.turns;
+  ask_every = numbers.ask_every;
+  local_error = numbers.local_error;
+  local_precision = numbers.local_precision;
+}
+
+abbrev pub numbers : List Row → Result NumbersAsked WordsFault
+numbers rows = do
+  port ← port rows
+  turns ← turns rows
+  ask_every ← period (codes "ask-every") rows
+  local_error ← local_error rows
+  local_precision ← local_precision rows
+  Ok (record {
+    port = port;
+    turns = turns;
+    ask_every = ask_every;
+    local_error = local_error;
+    local_precision = local_precision;
+  })
 
 -- the address has to be given, and companions have to be able to dial the host
 unfoldable pub relay_in : List Text → Result RelayAsked WordsFault

@@ -15,7 +15,7 @@ use crate::words::{CompanionWords, GeneratorWords, PairWords, RelayWords, TvWord
 use std::alloc::Global;
 
 /// A command of the program.
-#[derive(Debug, Drop)]
+#[derive(Drop)]
 pub enum Command {
     /// Replays a schedule.
     Replay,

@@ -1,4 +1,4 @@
-ghost use Rattle.std.specs.Prelude.{◌≡◌, ◌≤◌, IfOk, IfSome, map, string_bytes};
+ghost use Rattle.std.specs.Prelude.{◌≡◌, ◌≤◌, ℕ, IfOk, IfSome, List, Ok, map, string_bytes};
 ghost use Rattle.clap.specs.Words.{found_of, rows_of};
 ghost use Rattle.css_num.specs.Gives.{GivesBy};
 ghost use Rattle.css_words.specs.Companion as companion;
@@ -7,9 +7,7 @@ ghost use Rattle.css_words.specs.declared.fault.WordsFault.TheVariants as faults
 
 use crate::bounds::{earliest, latest};
 use crate::fault::WordsFault;
-use crate::options::{
-    command_with, is_set, matches_in, number_or, text_given, text_given_or, with_flag,
-};
+use crate::options::{is_set, matches_of, number_or, text_given, text_given_or};
 use crate::recorded::check_recorded;
 use crate::tv::turns;
 use crate::words::{CompanionOptions, CompanionWords};
@@ -32,6 +30,8 @@ static OPTIONS: [&str; 11] = [
     "earliest",
     "latest",
 ];
+
+static FLAGS: [&str; 1] = ["record"];
 
 /// The timeline of a companion that isn't told one.
 const DEFAULT_SELECTOR: &str = "urn:dvb:css:timeline:pts";
@@ -142,9 +142,25 @@ fn companion_matches<'a>(alloc: Global, words: &'a [String]) -> Result<ArgMatche
     ensures { GivesBy (λ matches. rows_of (found_of matches)) faults.Memory result
         (companion.companion_rows (map string_bytes words.entry.now)) }
 {
-    let command = command_with(alloc, OPTIONS.as_slice())?;
-    let command = with_flag(alloc, command, "record")?;
-    matches_in(command, words)
+    matches_of(alloc, OPTIONS.as_slice(), FLAGS.as_slice(), words)
+}
+
+// The companion that the matches of some words ask for.
+#[tactic(auto, unfolding(crate::specs::Companion::companion_in))]
+fn companion_from(alloc: Global, matches: &ArgMatches<'_>) -> Result<CompanionWords, WordsFault>
+    ensures value { (words : List (List ℕ)) → companion.companion_rows words ≡ Ok (rows_of (found_of matches.now))
+        → GivesBy companion.companion_of faults.Memory result (companion.companion_in words) }
+    ensures writable { IfOk result (λ words. AreWritable words.options) }
+{
+    let cii = cii(alloc, matches)?;
+    let options = options_in(alloc, matches)?;
+    let recorded = is_set(matches, "record");
+    check_recorded(recorded, &options.selector, &options.stem)?;
+    Ok(CompanionWords {
+        cii,
+        options,
+        recorded,
+    })
 }
 
 /// The companion that the words of `companion` ask for.
@@ -155,13 +171,5 @@ pub fn companion_words(alloc: Global, words: &[String]) -> Result<CompanionWords
     ensures writable { IfOk result (λ words. AreWritable words.options) }
 {
     let matches = companion_matches(alloc, words)?;
-    let cii = cii(alloc, &matches)?;
-    let options = options_in(alloc, &matches)?;
-    let recorded = is_set(&matches, "record");
-    check_recorded(recorded, &options.selector, &options.stem)?;
-    Ok(CompanionWords {
-        cii,
-        options,
-        recorded,
-    })
+    companion_from(alloc, &matches)
 }

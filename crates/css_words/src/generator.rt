@@ -6,7 +6,7 @@ ghost use Rattle.css_words.specs.Lines as lines;
 ghost use Rattle.css_words.specs.declared.fault.WordsFault.TheVariants as faults;
 
 use crate::fault::WordsFault;
-use crate::options::{command_with, matches_in, number, number_in, text_given};
+use crate::options::{matches_of, number, number_in, text_given};
 use crate::words::GeneratorWords;
 use clap::ArgMatches;
 use std::alloc::Global;
@@ -49,8 +49,7 @@ fn generator_matches<'a>(alloc: Global, words: &'a [String]) -> Result<ArgMatche
     ensures { GivesBy (λ matches. rows_of (found_of matches)) faults.Memory result
         (generator.generator_rows (map string_bytes words.entry.now)) }
 {
-    let command = command_with(alloc, OPTIONS.as_slice())?;
-    matches_in(command, words)
+    matches_of(alloc, OPTIONS.as_slice(), &[], words)
 }
 
 /// The schedule that the words of `generate` or `survey` ask for.

@@ -1,5 +1,5 @@
 ghost use Rattle.std.specs.Prelude.{◌≡◌, ◌≤◌, IfOk, IfErr, map, option_map, string_bytes, true, false};
-ghost use Rattle.clap.specs.Words.{app_of, first_of, found_of, rows_of, rule_of, with_rule};
+ghost use Rattle.clap.specs.Words.{app_of, first_of, found_of, rows_of, rule_of};
 ghost use Rattle.clap.specs.Faults.{is_simple_and_free};
 ghost use Rattle.css_num.specs.Gives.{GivesBy};
 ghost use Rattle.css_words.specs.Options as options;
@@ -10,53 +10,34 @@ use clap::{Arg, ArgAction, ArgMatches};
 use css_num::whole_number;
 use std::alloc::Global;
 
-// An option that takes a value.
-fn option<'a>(alloc: Global, name: &'a str) -> Arg<'a>
-    ensures rule { rule_of result ≡ options.option_rule name.entry.now }
+// An argument of this name, by what a use of it does.
+fn arg<'a>(alloc: Global, name: &'a str, action: ArgAction) -> Arg<'a>
+    ensures rule { rule_of result ≡ options.arg_rule action name.entry.now }
     ensures local { result.global ≡ false }
 {
-    Arg::new(alloc, name).long(name).action(ArgAction::Set)
+    Arg::new(alloc, name).long(name).action(action)
 }
 
-// An option without a value.
-fn flag<'a>(alloc: Global, name: &'a str) -> Arg<'a>
-    ensures rule { rule_of result ≡ options.flag_rule name.entry.now }
-    ensures local { result.global ≡ false }
-{
-    Arg::new(alloc, name).long(name).action(ArgAction::SetTrue)
-}
-
-/// The command with these options, each of which takes a value and may be left out.
-pub fn command_with<'a>(
-    alloc: Global,
-    names: &'a [&'a str],
-) -> Result<clap::Command<'a>, WordsFault>
-    ensures takes { IfOk result (λ command. app_of command
-        ≡ options.app_with (map (λ name. name.now) names.entry.now)) }
-    ensures memory { IfErr result (λ fault. fault ≡ faults.Memory) }
-{
-    let mut command = clap::Command::new(alloc, "css");
-    for name in names {
-        command = command.arg(option(alloc, *name))?;
-    }
-    Ok(command)
-}
-
-/// The command with a flag too.
-pub fn with_flag<'a>(
+// The command with arguments of these names too.
+fn with_args<'a>(
     alloc: Global,
     command: clap::Command<'a>,
-    name: &'a str,
+    names: &'a [&'a str],
+    action: ArgAction,
 ) -> Result<clap::Command<'a>, WordsFault>
     ensures takes { IfOk result (λ more. app_of more
-        ≡ with_rule (app_of command.entry) (options.flag_rule name.entry.now)) }
+        ≡ options.with_args action (app_of command.entry) (map (λ name. name.now) names.entry.now)) }
     ensures memory { IfErr result (λ fault. fault ≡ faults.Memory) }
 {
-    Ok(command.arg(flag(alloc, name))?)
+    let mut more = command;
+    for name in names {
+        more = more.arg(arg(alloc, *name, action))?;
+    }
+    Ok(more)
 }
 
-/// What the words say of the command's options. The first word is the command's name.
-pub fn matches_in<'a>(
+// What the words say of the command's arguments. The first word is the command's name.
+fn matches_in<'a>(
     command: clap::Command<'a>,
     words: &'a [String],
 ) -> Result<ArgMatches<'a>, WordsFault>
@@ -65,6 +46,26 @@ pub fn matches_in<'a>(
         (options.rows_in (app_of command.entry) (map string_bytes words.entry.now)) }
 {
     Ok(command.try_get_matches_from(words)?)
+}
+
+/// What the words say of a command with these options, each of which takes a value, and these flags. All may be left
+/// out. The first word is the command's name.
+pub fn matches_of<'a>(
+    alloc: Global,
+    names: &'a [&'a str],
+    flags: &'a [&'a str],
+    words: &'a [String],
+) -> Result<ArgMatches<'a>, WordsFault>
+    requires { is_simple_and_free (options.app_taking (map (λ name. name.now) names.now)
+        (map (λ name. name.now) flags.now)) ≡ true }
+    ensures { GivesBy (λ matches. rows_of (found_of matches)) faults.Memory result
+        (options.rows_in (options.app_taking (map (λ name. name.now) names.entry.now)
+        (map (λ name. name.now) flags.entry.now)) (map string_bytes words.entry.now)) }
+{
+    let command = clap::Command::new(alloc, "css");
+    let command = with_args(alloc, command, names, ArgAction::Set)?;
+    let command = with_args(alloc, command, flags, ArgAction::SetTrue)?;
+    matches_in(command, words)
 }
 
 /// The text of an option, where it was given.

@@ -1,4 +1,4 @@
-ghost use Rattle.std.specs.Prelude.{◌≡◌, IfOk, map, string_bytes};
+ghost use Rattle.std.specs.Prelude.{◌≡◌, ℕ, IfOk, List, Ok, map, string_bytes};
 ghost use Rattle.std.specs.Str.{IsUtf8};
 ghost use Rattle.clap.specs.Words.{found_of, rows_of};
 ghost use Rattle.css_num.specs.Gives.{GivesBy};
@@ -8,7 +8,7 @@ ghost use Rattle.css_words.specs.declared.fault.WordsFault.TheVariants as faults
 
 use crate::companion::options_in;
 use crate::fault::WordsFault;
-use crate::options::{command_with, matches_in, with_flag};
+use crate::options::matches_of;
 use crate::tv::{LOCAL_HOST, tv_at};
 use crate::words::PairWords;
 use clap::ArgMatches;
@@ -31,13 +31,27 @@ static OPTIONS: [&str; 13] = [
     "error",
 ];
 
+static FLAGS: [&str; 1] = ["follow"];
+
 fn pair_matches<'a>(alloc: Global, words: &'a [String]) -> Result<ArgMatches<'a>, WordsFault>
     ensures { GivesBy (λ matches. rows_of (found_of matches)) faults.Memory result
         (pair.pair_rows (map string_bytes words.entry.now)) }
 {
-    let command = command_with(alloc, OPTIONS.as_slice())?;
-    let command = with_flag(alloc, command, "follow")?;
-    matches_in(command, words)
+    matches_of(alloc, OPTIONS.as_slice(), FLAGS.as_slice(), words)
+}
+
+// The television and the companion that the matches of some words ask for.
+#[tactic(auto, unfolding(crate::specs::Pair::pair_in))]
+fn pair_from(alloc: Global, matches: &ArgMatches<'_>) -> Result<PairWords, WordsFault>
+    ensures value { (words : List (List ℕ)) → pair.pair_rows words ≡ Ok (rows_of (found_of matches.now))
+        → GivesBy pair.pair_of faults.Memory result (pair.pair_in words) }
+    ensures utf8 { IfOk result (λ words. IsUtf8 words.tv.host) }
+    ensures writable { IfOk result (λ words. AreWritable words.companion) }
+{
+    let companion = options_in(alloc, matches)?;
+    let host = Text::of(alloc, LOCAL_HOST.as_bytes())?;
+    let tv = tv_at(matches, host)?;
+    Ok(PairWords { companion, tv })
 }
 
 /// The television and the companion that the words of `pair` ask for. Only this machine can reach the television.
@@ -48,8 +62,5 @@ pub fn pair_words(alloc: Global, words: &[String]) -> Result<PairWords, WordsFau
     ensures writable { IfOk result (λ words. AreWritable words.companion) }
 {
     let matches = pair_matches(alloc, words)?;
-    let companion = options_in(alloc, &matches)?;
-    let host = Text::of(alloc, LOCAL_HOST.as_bytes())?;
-    let tv = tv_at(&matches, host)?;
-    Ok(PairWords { companion, tv })
+    pair_from(alloc, &matches)
 }

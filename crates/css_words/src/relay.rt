@@ -1,4 +1,4 @@
-ghost use Rattle.std.specs.Prelude.{◌≡◌, ◌≤◌, IfOk, map, string_bytes};
+ghost use Rattle.std.specs.Prelude.{◌≡◌, ◌≤◌, ℕ, IfOk, List, Ok, map, string_bytes};
 ghost use Rattle.std.specs.Str.{IsUtf8};
 ghost use Rattle.clap.specs.Words.{found_of, rows_of};
 ghost use Rattle.css_num.specs.Gives.{GivesBy};
@@ -7,9 +7,9 @@ ghost use Rattle.css_words.specs.declared.fault.WordsFault.TheVariants as faults
 
 use crate::companion::{cii, local_error, local_precision, period};
 use crate::fault::WordsFault;
-use crate::options::{command_with, matches_in, number_or, text_given_or};
+use crate::options::{matches_of, number_or, text_given_or};
 use crate::tv::{LOCAL_HOST, check_host, turns};
-use crate::words::RelayWords;
+use crate::words::{RelayNumbers, RelayWords};
 use clap::ArgMatches;
 use css_num::Text;
 use std::alloc::Global;
@@ -38,8 +38,47 @@ fn relay_matches<'a>(alloc: Global, words: &'a [String]) -> Result<ArgMatches<'a
     ensures { GivesBy (λ matches. rows_of (found_of matches)) faults.Memory result
         (relay.relay_rows (map string_bytes words.entry.now)) }
 {
-    let command = command_with(alloc, OPTIONS.as_slice())?;
-    matches_in(command, words)
+    matches_of(alloc, OPTIONS.as_slice(), &[], words)
+}
+
+// The numbers of a relay, in their order.
+fn numbers(matches: &ArgMatches<'_>) -> Result<RelayNumbers, WordsFault>
+    ensures { GivesBy relay.numbers_of faults.Memory result (relay.numbers (rows_of (found_of matches.now))) }
+{
+    let port = port(matches)?;
+    let turns = turns(matches)?;
+    let ask_every = period(matches, "ask-every")?;
+    let local_error = local_error(matches)?;
+    let local_precision = local_precision(matches)?;
+    Ok(RelayNumbers {
+        port,
+        turns,
+        ask_every,
+        local_error,
+        local_precision,
+    })
+}
+
+// The relay that the matches of some words ask for.
+fn relay_from(alloc: Global, matches: &ArgMatches<'_>) -> Result<RelayWords, WordsFault>
+    ensures value { (words : List (List ℕ)) → relay.relay_rows words ≡ Ok (rows_of (found_of matches.now))
+        → GivesBy relay.relay_of faults.Memory result (relay.relay_in words) }
+    ensures utf8 { IfOk result (λ words. IsUtf8 words.host) }
+{
+    let cii = cii(alloc, matches)?;
+    let numbers = numbers(matches)?;
+    let host = text_given_or(matches, "host", LOCAL_HOST);
+    let host = Text::of(alloc, host.as_bytes())?;
+    check_host(alloc, &host, numbers.port)?;
+    Ok(RelayWords {
+        cii,
+        port: numbers.port,
+        turns: numbers.turns,
+        ask_every: numbers.ask_every,
+        local_error: numbers.local_error,
+        local_precision: numbers.local_precision,
+        host,
+    })
 }
 
 /// The relay that the words of `relay` ask for.
@@ -49,24 +88,5 @@ pub fn relay_words(alloc: Global, words: &[String]) -> Result<RelayWords, WordsF
     ensures utf8 { IfOk result (λ words. IsUtf8 words.host) }
 {
     let matches = relay_matches(alloc, words)?;
-    let cii = cii(alloc, &matches)?;
-    let port = port(&matches)?;
-    let turns = turns(&matches)?;
-    let ask_every = period(&matches, "ask-every")?;
-    let local_error = local_error(&matches)?;
-    let local_precision = local_precision(&matches)?;
-    let host = Text::of(
-        alloc,
-        text_given_or(&matches, "host", LOCAL_HOST).as_bytes(),
-    )?;
-    check_host(alloc, &host, port)?;
-    Ok(RelayWords {
-        cii,
-        port,
-        turns,
-        ask_every,
-        local_error,
-        local_precision,
-        host,
-    })
+    relay_from(alloc, &matches)
 }

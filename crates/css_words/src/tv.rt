@@ -6,9 +6,7 @@ ghost use Rattle.css_words.specs.Tv as tv;
 ghost use Rattle.css_words.specs.declared.fault.WordsFault.TheVariants as faults;
 
 use crate::fault::WordsFault;
-use crate::options::{
-    command_with, is_set, matches_in, number_or, text_given, text_given_or, with_flag,
-};
+use crate::options::{is_set, matches_of, number_or, text_given, text_given_or};
 use crate::words::TvWords;
 use clap::ArgMatches;
 use css_address::{Kind, address};
@@ -16,6 +14,8 @@ use css_num::{Text, signed_number};
 use std::alloc::Global;
 
 static OPTIONS: [&str; 5] = ["port", "turns", "precision", "error", "host"];
+
+static FLAGS: [&str; 1] = ["follow"];
 
 /// The host of a television that only its own machine can reach.
 pub const LOCAL_HOST: &str = "127.0.0.1";
@@ -129,9 +129,7 @@ fn tv_matches<'a>(alloc: Global, words: &'a [String]) -> Result<ArgMatches<'a>, 
     ensures { GivesBy (λ matches. rows_of (found_of matches)) faults.Memory result
         (tv.tv_rows (map string_bytes words.entry.now)) }
 {
-    let command = command_with(alloc, OPTIONS.as_slice())?;
-    let command = with_flag(alloc, command, "follow")?;
-    matches_in(command, words)
+    matches_of(alloc, OPTIONS.as_slice(), FLAGS.as_slice(), words)
 }
 
 /// The television that the words of `tv` ask for.

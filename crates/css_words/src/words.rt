@@ -24,7 +24,7 @@ pub struct GeneratorWords {
 }
 
 /// What a television is started with.
-#[derive(Debug, Drop)]
+#[derive(Drop)]
 pub struct TvWords {
     /// The port of its wall clock: 1,024 to 65,534. The sessions' port is the next one.
     pub port: u16,
@@ -47,7 +47,7 @@ pub struct TvWords {
 }
 
 /// What a companion wants, wherever the television is.
-#[derive(Debug, Drop)]
+#[derive(Drop)]
 pub struct CompanionOptions {
     /// The timeline that it wants, in UTF-8.
     pub selector: Text,
@@ -81,7 +81,7 @@ pub struct CompanionOptions {
 }
 
 /// A companion of the television at an address.
-#[derive(Debug, Drop)]
+#[derive(Drop)]
 pub struct CompanionWords {
     /// Where the television's session of CSS-CII is dialled.
     pub cii: Address,
@@ -92,14 +92,14 @@ pub struct CompanionWords {
 }
 
 /// A television and a companion of it. The companion's turns are the television's too.
-#[derive(Debug, Drop)]
+#[derive(Drop)]
 pub struct PairWords {
     pub companion: CompanionOptions,
     pub tv: TvWords,
 }
 
 /// A relay of the television at an address.
-#[derive(Debug, Drop)]
+#[derive(Drop)]
 pub struct RelayWords {
     /// Where the television's session of CSS-CII is dialled.
     pub cii: Address,
@@ -123,4 +123,22 @@ pub struct RelayWords {
     pub ghost requests_come: { ask_every ≤ 1000000000000 },
     pub ghost small_error: { local_error ≤ 2560000 },
     pub ghost small_precision: { local_precision ≤ 1000000000 },
+}
+
+/// What numbers a relay is started with.
+#[derive(Clone, Copy)]
+pub(crate) struct RelayNumbers {
+    pub(crate) port: u16,
+    pub(crate) turns: u64,
+    pub(crate) ask_every: u64,
+    pub(crate) local_error: u32,
+    pub(crate) local_precision: u64,
+    pub(crate) ghost least_port: { 1024 ≤ port },
+    pub(crate) ghost most_port: { port ≤ 65534 },
+    pub(crate) ghost some_turns: { 1 ≤ turns },
+    pub(crate) ghost few_turns: { turns ≤ 1000000 },
+    pub(crate) ghost requests_apart: { 1 ≤ ask_every },
+    pub(crate) ghost requests_come: { ask_every ≤ 1000000000000 },
+    pub(crate) ghost small_error: { local_error ≤ 2560000 },
+    pub(crate) ghost small_precision: { local_precision ≤ 1000000000 },
 }

@@ -28,7 +28,7 @@ use Rattle.css_world.specs.Standing.{open_ticket, EndsStand, IsAnswerTo, Answers
 use Rattle.css_world.specs.Lanes.{LaneStands}
 use Rattle.css_world.specs.Sessions.{peer_of}
 use Rattle.css_world.specs.Verdicts.{is_for}
-use Rattle.css_sessions.specs.declared.session.Kind.TheVariants as kind
+use Rattle.css_num.specs.declared.protocol.Kind.TheVariants as kind
 use Rattle.css_world.specs.Flights.{Session, SessionStands}
 use Rattle.css_world.specs.declared.lane.Lane.{Lane}
 use Rattle.css_world.proofs.Storing.{mapped_some, numbered_within, pushed, spent_stored}
@@ -115,6 +115,23 @@ answered_is server reading (Some ticket) None answered is e = absurd (cc)
 answered_is server reading (Some ticket) (Some a) answered is e =
     let same : a ≡ answered = cc in
     (ticket, refl, subst (λ (x : Answered). IsAnswerTo server ticket reading x) same is)
+
+-- where nothing is answered, no ticket was taken out
+pub none_answered : (server : Server) (reading : ℕ) (o : Option Ticket) (result : Option Answered)
+    → Answers server reading o result → result ≡ None → o ≡ None
+none_answered server reading None result answers e = refl
+none_answered server reading (Some ticket) None answers e = absurd answers
+none_answered server reading (Some ticket) (Some answered) answers e = absurd (cc)
+
+-- a take that has no ticket any more can't be answered
+pub not_open : (lines : List Numbered) (take : ℕ) (o : Option Ticket)
+    → option_flatten (option_map (open_ticket lines take) o) ≡ None → (is_some o && not (is_given take lines)) ≡ false
+not_open lines take None e = refl
+not_open lines take (Some ticket) e = by (is_given take lines) refl
+  where
+    by : (b : Bool) → is_given take lines ≡ b → not (is_given take lines) ≡ false
+    by true is = rw is refl
+    by false is = absurd (let no : ◌≡◌ {A = Option Ticket} (Some ticket) None = rw is at e in cc)
 
 -- the companion of an answer, once for each of its datagrams, the oldest first
 abbrev pub owners_of : ℕ → Option Message → List ℕ

@@ -5,8 +5,8 @@ use Rattle.std.specs.Prelude.{slice_set, Option, Some, None, Ok}
 use Rattle.std.specs.Option.{option_map, option_to_list}
 use Rattle.css_model.specs.declared.Kind.TheVariants as session
 use Rattle.css_model.specs.History.{Dialled, Heard, Wrote, Closed}
-use Rattle.css_sessions.specs.declared.session.Kind.{Kind}
-use Rattle.css_sessions.specs.declared.session.Kind.TheVariants as kind
+use Rattle.css_num.specs.declared.protocol.Kind.{Kind}
+use Rattle.css_num.specs.declared.protocol.Kind.TheVariants as kind
 use Rattle.css_sessions.specs.Kept.{Kept, talk_of}
 use Rattle.css_sessions.specs.Told.{sessions_of}
 use Rattle.css_tsmsg.specs.Presentations.{presentation_text}

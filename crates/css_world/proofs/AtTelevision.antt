@@ -4,8 +4,8 @@ use Rattle.std.proofs.Common.{refl, ap, sym, subst, ◌∙◌}
 use Rattle.std.specs.Prelude.{slice_set, Some}
 use Rattle.css_model.specs.declared.Why.TheVariants as why
 use Rattle.css_model.specs.History.{History, Clock, Slept}
-use Rattle.css_sessions.specs.declared.session.Kind.{Kind}
-use Rattle.css_sessions.specs.declared.session.Kind.TheVariants as kind
+use Rattle.css_num.specs.declared.protocol.Kind.{Kind}
+use Rattle.css_num.specs.declared.protocol.Kind.TheVariants as kind
 use Rattle.css_tv.specs.Stages.{Television as Tv}
 use Rattle.css_tv.specs.declared.event.TvEvent.{TvEvent}
 use Rattle.css_tv.specs.declared.event.TvEvent.TheVariants as event

@@ -10,7 +10,7 @@ use Rattle.css_model.specs.WallClock.{Local, IsLocal}
 use Rattle.css_moments.specs.Standing as drifts
 use Rattle.css_server.specs.Exchanges as servers
 use Rattle.css_server.specs.Tickets.{Server}
-use Rattle.css_sessions.specs.declared.session.Kind.TheVariants as kind
+use Rattle.css_num.specs.declared.protocol.Kind.TheVariants as kind
 use Rattle.css_tsmsg.specs.declared.setup.Setup.{Setup}
 use Rattle.css_tv.specs.Standing as tvs
 use Rattle.css_schedule.specs.Ranges.{IsHeader, IsCount}

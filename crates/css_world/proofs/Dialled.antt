@@ -7,8 +7,8 @@ use Rattle.std.proofs.lemmas.Bool.{and_parts}
 use Rattle.css_model.specs.declared.Kind.{Kind as Dialling}
 use Rattle.css_model.specs.declared.Kind.TheVariants as session
 use Rattle.css_model.specs.History.{History, Dialled, Closed}
-use Rattle.css_sessions.specs.declared.session.Kind.{Kind}
-use Rattle.css_sessions.specs.declared.session.Kind.TheVariants as kind
+use Rattle.css_num.specs.declared.protocol.Kind.{Kind}
+use Rattle.css_num.specs.declared.protocol.Kind.TheVariants as kind
 use Rattle.css_sessions.specs.Told.{texts_of_lived}
 use Rattle.css_tv.specs.declared.event.TvEvent.{TvEvent}
 use Rattle.css_companion.specs.Meanings.{kind_of}

@@ -19,7 +19,7 @@ use Rattle.css_companion.specs.Standing.{Companion}
 use Rattle.css_schedule.specs.declared.header.Header.{Header}
 use Rattle.css_schedule.specs.declared.line.Verb.{Verb}
 use Rattle.css_schedule.specs.Ranges.{IsLine, IsSecond}
-use Rattle.css_sessions.specs.declared.session.Kind.TheVariants as kind
+use Rattle.css_num.specs.declared.protocol.Kind.TheVariants as kind
 use Rattle.css_world.specs.declared.fault.WorldFault.{WorldFault}
 use Rattle.css_world.specs.declared.fault.WorldFault.TheVariants.{Absent, Memory}
 use Rattle.css_world.specs.declared.watch.Watch.{Watch}

@@ -10,7 +10,7 @@ use Rattle.css_player.specs.Player.{Player}
 use Rattle.css_cii.specs.States.{difference, is_empty}
 use Rattle.css_cii.specs.declared.state.State.{State}
 use Rattle.css_tsmsg.specs.declared.setup.Setup.{Setup}
-use Rattle.css_sessions.specs.declared.session.Kind.{Kind}
+use Rattle.css_num.specs.declared.protocol.Kind.{Kind}
 use Rattle.css_sessions.specs.Offsets.{control_for}
 use Rattle.css_sessions.specs.Kept.{Event as SessionsCall, Opened, SetUp, Published, Closed, Presented, Dropped}
 use Rattle.css_sessions.specs.Kept.{same_control, step_of}
@@ -24,12 +24,8 @@ use Rattle.css_tv.specs.Standing.{Calls, calls_of, with_outcome}
 use Rattle.css_tv.specs.declared.event.TvEvent.{TvEvent}
 use Rattle.css_tv.specs.declared.fault.TvFault.{TvFault}
 use Rattle.css_world.specs.Arrived.{states_of_life, states_of_lived}
-use Rattle.css_schedule.specs.declared.header.Header.{Header}
-use Rattle.css_world.specs.Sessions.{addresses, told_to}
-use Rattle.css_world.specs.Happened.{Numbered, event_by, events_of, history_of}
-use Rattle.css_world.specs.Standing.{AreAccepted}
+use Rattle.css_world.specs.Sessions.{addresses}
 use Rattle.css_world.proofs.Staging.{IsStaged, IsSound, stage_by, staged_event}
-use Rattle.css_world.proofs.Staged.{sound_now, staging}
 
 -- ---- lists
 -- the newest stand first, and what was there before stays
@@ -210,22 +206,3 @@ some_grows peer None events staged sound =
     let h = (calls_of addresses events).sessions in
     record { texts = grows_not (texts_of peer h); lives = life_same (life_of peer h) }
 some_grows peer (Some e) events staged sound = event_grows peer events e staged sound
-
--- ---- accepted lines
--- What a peer was told grows by an event that may come after accepted lines.
-pub told_grows : (header : Header) (lines : List Numbered) (peer : ℕ) (e : TvEvent) → AreAccepted header lines
-    → IsSound e (calls_of addresses (events_of header lines)).sessions
-    → Grows (told_to peer (events_of header lines)) (told_to peer (e ∷ events_of header lines))
-told_grows header lines peer e accepted sound =
-    (event_grows peer (events_of header lines) e (staging header lines accepted).staged sound).texts
-
--- So it does by each accepted line.
-pub told_grows_by_line : (header : Header) (now : Numbered) (older : List Numbered) (peer : ℕ)
-    → AreAccepted header (now ∷ older)
-    → Grows (told_to peer (events_of header older)) (told_to peer (events_of header (now ∷ older)))
-told_grows_by_line header now older peer accepted =
-    let who = now.line.who in
-    let events = events_of header older in
-    let event = event_by who events (history_of who header older) now.line.verb in
-    let before = staging header older accepted.4 in
-    (some_grows peer event events before.staged (sound_now header now older accepted before)).texts

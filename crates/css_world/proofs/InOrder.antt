@@ -15,8 +15,8 @@ use Rattle.css_tsmsg.specs.Controls.{control_of}
 use Rattle.css_tsmsg.specs.declared.fault.TsFault.{TsFault}
 use Rattle.css_tsmsg.specs.Setups.{IsUtf8Setup}
 use Rattle.css_tsmsg.specs.declared.setup.Setup.{Setup}
-use Rattle.css_sessions.specs.declared.session.Kind.{Kind}
-use Rattle.css_sessions.specs.declared.session.Kind.TheVariants as kind
+use Rattle.css_num.specs.declared.protocol.Kind.{Kind}
+use Rattle.css_num.specs.declared.protocol.Kind.TheVariants as kind
 use Rattle.css_sessions.specs.ReadBack.{IsReadBack, AreReadBack}
 use Rattle.css_sessions.specs.Told.{Life, CiiLife, Unset, TsLife, Lived, texts_of_life, texts_of_lived}
 use Rattle.css_sessions.proofs.ReadBack.{read_back}
@@ -336,16 +336,3 @@ text_is_taken header lines who bytes first declared accepted next =
       applied (state_of own) says.change,
       rw (says.read, before, says.stays) refl,
     )
-
--- ---- the controls
--- the controls that the television told companion `who`, as many as it heard
-abbrev pub controls_come : ℕ → Header → List Numbered → List Control
-controls_come who header lines =
-    come (heard_from (ts_of who) (history_of who header lines)) (controls_after who (events_of header lines))
-
--- The last text of the session of CSS-TS that came reads as the control that it was written for.
-pub control_in_order : (header : Header) (lines : List Numbered) (who : ℕ) → 1 ≤ who → IsDeclared header
-    → AreAccepted header lines
-    → control_by (history_of who header lines) ≡ newest (controls_come who header lines)
-control_in_order header lines who first declared accepted =
-    (in_order header lines who first declared accepted).hearing.control

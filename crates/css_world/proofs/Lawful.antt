@@ -21,7 +21,7 @@ use Rattle.css_schedule.specs.declared.line.Verb.{Verb}
 use Rattle.css_schedule.specs.declared.line.Verb.TheVariants.{Ask, Land, Wall, Print, Opening, Bring, Present, Close}
 use Rattle.css_schedule.specs.declared.line.Verb.TheVariants.{Sleep}
 use Rattle.css_schedule.specs.Owners.{is_sleep}
-use Rattle.css_sessions.specs.declared.session.Kind.TheVariants as kind
+use Rattle.css_num.specs.declared.protocol.Kind.TheVariants as kind
 use Rattle.css_tv.specs.declared.event.TvEvent.{TvEvent}
 use Rattle.css_schedule.specs.Ranges.{IsVerb}
 use Rattle.css_world.specs.Happened.{Numbered, datagrams, done_by, hearing, events_of, history_of}
@@ -197,15 +197,6 @@ asleep_below slept slept' next after (entry ∷ older) below =
         → IfSome o (λ asked. (asked < after) × (sleeps older < slept' → asked < after))
     at None is = tt
     at (Some asked) is = (is.0, λ before. is.0)
-
--- an entry of a session asks nothing
-below_talk : (slept next after : ℕ) (entry : Entry) (before : History) → IsTalk entry
-    → IsAskedBelow slept next after entry before
-below_talk slept next after (Dialled kind peer) before talk = tt
-below_talk slept next after (Heard peer bytes) before talk = tt
-below_talk slept next after (Wrote peer bytes) before talk = tt
-below_talk slept next after (Closed peer) before talk = tt
-below_talk slept next after _ before talk = absurd talk
 
 abbrev passed : Result (Unit {0}) WorldFault
 passed = Ok tt

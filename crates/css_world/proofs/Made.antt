@@ -52,14 +52,6 @@ can-exchange header older who verb can =
     (and_parts (can_exchange header older who verb)
     (can_talk who (events_of header older) (history_of who header older) verb) can).0
 
--- and so does what it says of sessions
-pub can-talk : (header : Header) (older : List Numbered) (who : ℕ) (verb : Verb)
-    → can_happen header older who verb ≡ true
-    → can_talk who (events_of header older) (history_of who header older) verb ≡ true
-can-talk header older who verb can =
-    (and_parts (can_exchange header older who verb)
-    (can_talk who (events_of header older) (history_of who header older) verb) can).1
-
 -- ---- datagrams with where they come from
 -- a datagram, the number of the line's moment at which it was made, the number of its take, the companion that it is
 -- for, the ticket, and the reading at which it was given

@@ -22,7 +22,6 @@ use Rattle.css_tv.specs.declared.fault.TvFault.{TvFault}
 use Rattle.css_world.specs.declared.session.Phase.{Phase}
 use Rattle.css_world.specs.declared.session.Phase.TheVariants.{Unopened, Open, Over}
 use Rattle.css_world.specs.Sessions.{addresses, told_to}
-use Rattle.css_world.specs.Verdicts.{outcome_after}
 use Rattle.css_world.specs.Flights.{Session, grown, with_news, news_of}
 
 -- ---- texts one after the other
@@ -98,14 +97,6 @@ pub outcome-same : (e : TvEvent) (stage : Stage) (events : List TvEvent) → tvs
     (sessions_of (calls_of stage.addresses events).sessions)
 outcome-same e stage events stands =
     ap₂ (λ (p : Player) (k : Kept). outcome stage.addresses e p k) stands.player.same stands.sessions.same
-
--- so it is what is meant by the event after them
-pub outcome-meant : (e : TvEvent) (stage : Stage) (events : List TvEvent) → tvs.StandsFor stage events
-    → stage.addresses ≡ addresses
-    → outcome_at e stage ≡ outcome_after events e
-outcome-meant e stage events stands same =
-    outcome-same e stage events stands
-    ∙ ap (λ a. outcome a e (player_of (calls_of a events).player) (sessions_of (calls_of a events).sessions)) same
 
 -- the texts of a peer after an event that has this outcome
 texts-after : (peer : ℕ) (e : TvEvent) (old new : Stage) (events : List TvEvent) (told : List TvOut)

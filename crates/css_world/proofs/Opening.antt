@@ -15,8 +15,8 @@ use Rattle.css_tsmsg.specs.Presentations.{presentation_of}
 use Rattle.css_tsmsg.specs.declared.bound.Presentation.{Presentation}
 use Rattle.css_tsmsg.specs.declared.fault.TsFault.{TsFault}
 use Rattle.css_tsmsg.specs.declared.setup.Setup.{Setup}
-use Rattle.css_sessions.specs.declared.session.Kind.{Kind}
-use Rattle.css_sessions.specs.declared.session.Kind.TheVariants as kind
+use Rattle.css_num.specs.declared.protocol.Kind.{Kind}
+use Rattle.css_num.specs.declared.protocol.Kind.TheVariants as kind
 use Rattle.css_sessions.specs.declared.session.Session.{Session}
 use Rattle.css_sessions.specs.declared.session.Talk.TheVariants as talk
 use Rattle.css_sessions.specs.Offsets.{control_for}
@@ -282,10 +282,3 @@ stays_unknown header who k first made (verb.Present earliest latest) events own 
 stays_unknown header who k first made (verb.Close from) events own range can before = λ never.
     unknown_event (peer_of who k) addresses (event.Closed (peer_of who from)) events refl (before never)
 stays_unknown header who k first made verb.Sleep events own range can before = before
-
--- an event that is of neither of its sessions does so too
-pub stays_apart : (who : ℕ) (k : Kind) (events : List TvEvent) (own : History) (e : TvEvent)
-    → concerns (peer_of who k) e ≡ false → IsNeverOpened who k events own
-    → IsNeverOpened who k (e ∷ events) own
-stays_apart who k events own e other before = λ never.
-    unknown_event (peer_of who k) addresses e events (opens_none (peer_of who k) e other) (before never)

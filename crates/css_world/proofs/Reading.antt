@@ -78,11 +78,6 @@ own_read old lines now reading lane result was stand found tv own is =
     ∙ ap (λ last. read_verdict n precision l (has_woken (seen_of who lines)) last reading) read.last
     ∙ tested_as old.header lines now None (Some reading) tv own
 
--- where neither does, nothing is refused
-pub none_read : (header : Header) (lines : List Numbered) (now : Numbered) → tv_reading now.line.verb ≡ None
-    → own_reading now.line.verb ≡ None → Ok tt ≡ reading_tested header lines now
-none_read header lines now tv own = tested_as header lines now None None tv own
-
 -- ---- what a lane knows
 -- what it knows of readings and sleeps is what lines tell
 abbrev KnownBy : Lane → List Seen → Type 0
@@ -232,14 +227,6 @@ has_woken_now old new who before after found lanes woken = λ lane at.
     let same = only old.lanes who before after lane found
     (subst (λ (xs : List Lane). stored xs who ≡ Some lane) lanes at) in
     subst (λ (x : Lane). x.clock.woken ≡ true) same woken
-
--- ---- what is always true
--- the television's clock is awake
-pub still_awake : (result : Result (Unit {0}) WorldFault) (before after : Watch) → before.woken ≡ false
-    → OnOk result (after.woken ≡ false)
-    → OnErr result ((after.last ≡ before.last) × (after.woken ≡ before.woken)) → after.woken ≡ before.woken
-still_awake (Ok x) before after awake ok err = ok ∙ sym awake
-still_awake (Err fault) before after awake ok err = err.1
 
 -- the next reading after a sleep is at most one more than a reading that may come now
 sleep-above : (woken : Bool) (last : Option Reading) (reading : ℕ) → least_next woken last ≤ reading

@@ -1,5 +1,5 @@
 -- A line is shown to the clocks, and its reading is taken: the lane of its companion alone is written.
-use Rattle.std.proofs.Common.{◌≡◌, ◌≢◌, ◌≤◌, ◌-◌, ◌==◌, ℕ, cond, List, ◌∷◌, length}
+use Rattle.std.proofs.Common.{◌≡◌, ◌≢◌, ◌≤◌, ◌-◌, ℕ, cond, List, ◌∷◌, length}
 use Rattle.std.proofs.Common.{arith, true, refl, ap, sym, subst, ◌∙◌}
 use Rattle.std.proofs.Common.{ne_eqb}
 use Rattle.std.specs.Prelude.{Some, Result, Ok, Err, OnOk, slice_set, map}
@@ -85,16 +85,6 @@ pub wall_refused : (header : Header) (lines : List Numbered) (now : Numbered) (f
     → Err fault ≡ shown_tested header lines now
 wall_refused header lines now fault is =
     ap (λ v. result_and v (own_shown_tested header lines now)) is
-
--- where it isn't, and no companion takes part, the line isn't refused
-pub none_shown : (header : Header) (lines : List Numbered) (now : Numbered) → now.line.who ≡ 0
-    → Ok tt ≡ clock_verdict header.tv_error (seen_of_tv lines) (tv_seen now) → Ok tt ≡ shown_tested header lines now
-none_shown header lines now nobody wall =
-    let ok : Result (Unit {0}) WorldFault = Ok tt in
-    let none : own_shown_tested header lines now ≡ ok =
-    ap (λ who. cond (who == 0) ok
-    (clock_verdict (local_of who header).error (seen_of who lines) (own_seen now))) nobody in
-    sym none ∙ ap (λ v. result_and v (own_shown_tested header lines now)) wall
 
 -- where one does, its clock decides
 pub own_shown : (header : Header) (lines : List Numbered) (now : Numbered) (result : Result (Unit {0}) WorldFault)
@@ -188,25 +178,6 @@ ends_kept now old new who before after view found companion cii ts header tv tak
       made_for = made_for ∙ ap (λ (w : World). w.made_for) view;
     }
 
--- so they are where no lane is written
-pub ends_untouched : (now old new : World) → old ≡ now → new.header ≡ old.header → new.tv.tv ≡ old.tv.tv
-    → new.tv.takes.items ≡ old.tv.takes.items → new.lanes ≡ old.lanes → new.requests ≡ old.requests
-    → new.askers ≡ old.askers → new.taken_for ≡ old.taken_for → new.datagrams ≡ old.datagrams
-    → new.made_for ≡ old.made_for → KeepsEnds now new
-ends_untouched now old new view header tv takes lanes requests askers taken_for datagrams made_for = record {
-  header = header ∙ ap (λ (w : World). w.header) view;
-  tv = tv ∙ ap (λ (w : World). w.tv.tv) view;
-  takes = takes ∙ ap (λ (w : World). w.tv.takes.items) view;
-  companions = ap (map (λ (lane : Lane). lane.companion)) (lanes ∙ ap (λ (w : World). w.lanes) view);
-  cii = ap (map (λ (lane : Lane). lane.cii)) (lanes ∙ ap (λ (w : World). w.lanes) view);
-  ts = ap (map (λ (lane : Lane). lane.ts)) (lanes ∙ ap (λ (w : World). w.lanes) view);
-  requests = requests ∙ ap (λ (w : World). w.requests) view;
-  askers = askers ∙ ap (λ (w : World). w.askers) view;
-  taken_for = taken_for ∙ ap (λ (w : World). w.taken_for) view;
-  datagrams = datagrams ∙ ap (λ (w : World). w.datagrams) view;
-  made_for = made_for ∙ ap (λ (w : World). w.made_for) view;
-}
-
 -- no reading is taken, where that lane keeps its last one
 pub readings_kept : (now old new : World) (who : ℕ) (before after : Lane) → old ≡ now
     → stored old.lanes who ≡ Some before → after.clock.last ≡ before.clock.last
@@ -222,15 +193,6 @@ readings_kept now old new who before after view found last woken tv lanes = reco
       ∙ ap (λ (w : World). map (λ (lane : Lane). lane.clock.woken) w.lanes) view;
 }
 
--- nor where no lane is written
-pub readings_untouched : (now old new : World) → old ≡ now → new.tv.clock.last ≡ old.tv.clock.last
-    → new.lanes ≡ old.lanes → KeepsReadings now new
-readings_untouched now old new view tv lanes = record {
-  tv = tv ∙ ap (λ (w : World). w.tv.clock.last) view;
-  last = ap (map (λ (lane : Lane). lane.clock.last)) (lanes ∙ ap (λ (w : World). w.lanes) view);
-  woken = ap (map (λ (lane : Lane). lane.clock.woken)) (lanes ∙ ap (λ (w : World). w.lanes) view);
-}
-
 -- no drift is told anything, where that lane keeps its own
 pub drifts_kept : (now old new : World) (who : ℕ) (before after : Lane) → old ≡ now
     → stored old.lanes who ≡ Some before → after.clock.drift ≡ before.clock.drift
@@ -241,12 +203,4 @@ drifts_kept now old new who before after view found drift tv lanes = record {
   own = ap (map (λ (lane : Lane). lane.clock.drift)) lanes
       ∙ set_part (λ (lane : Lane). lane.clock.drift) old.lanes who after before found drift
       ∙ ap (λ (w : World). map (λ (lane : Lane). lane.clock.drift) w.lanes) view;
-}
-
--- nor where no lane is written
-pub drifts_unwritten : (now old new : World) → old ≡ now → new.tv.clock.drift ≡ old.tv.clock.drift
-    → new.lanes ≡ old.lanes → KeepsDrifts now new
-drifts_unwritten now old new view tv lanes = record {
-  tv = tv ∙ ap (λ (w : World). w.tv.clock.drift) view;
-  own = ap (map (λ (lane : Lane). lane.clock.drift)) (lanes ∙ ap (λ (w : World). w.lanes) view);
 }

@@ -1,7 +1,7 @@
 -- The television stands for the events of accepted lines, and all that it tells can be told.
 use Rattle.std.proofs.Common.{◌≡◌, ℕ, zero, suc, ◌*◌, ◌<◌, ◌≤◌, refl, ap, subst, arith, Bool, true, false}
 use Rattle.std.proofs.Common.{cond, not}
-use Rattle.css_sessions.specs.declared.session.Kind.TheVariants as kind
+use Rattle.css_num.specs.declared.protocol.Kind.TheVariants as kind
 use Rattle.css_schedule.specs.Owners.{is_own}
 use Rattle.std.proofs.Common.{List, [], ◌∷◌, ◌++◌, length}
 use Rattle.std.specs.Prelude.{⊤, All, Option, Some, None, IfSome, Result, Ok, Err, IfOk, pos, nat_lt, ◌==◌, codes}
@@ -26,7 +26,7 @@ use Rattle.css_tsmsg.specs.declared.fault.TsFault.{TsFault}
 use Rattle.css_tsmsg.specs.declared.setup.Setup.{Setup}
 use Rattle.css_window.specs.Demand.{Demand}
 use Rattle.css_window.specs.Least.{or_else, least_below, fits_all, least_fit}
-use Rattle.css_sessions.specs.declared.session.Kind.{Kind}
+use Rattle.css_num.specs.declared.protocol.Kind.{Kind}
 use Rattle.css_sessions.specs.declared.session.Session.{Session}
 use Rattle.css_sessions.specs.declared.session.Talk.{Talk}
 use Rattle.css_sessions.specs.declared.session.Talk.TheVariants as talk

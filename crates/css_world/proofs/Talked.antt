@@ -14,8 +14,8 @@ use Rattle.css_tsmsg.specs.Setups.{IsUtf8Setup, setup_text}
 use Rattle.css_tsmsg.specs.declared.bound.Presentation.{Presentation}
 use Rattle.css_tsmsg.specs.declared.setup.Setup.{Setup}
 use Rattle.css_tsmsg.proofs.ReadBack.{setup_reads}
-use Rattle.css_sessions.specs.declared.session.Kind.{Kind}
-use Rattle.css_sessions.specs.declared.session.Kind.TheVariants as kind
+use Rattle.css_num.specs.declared.protocol.Kind.{Kind}
+use Rattle.css_num.specs.declared.protocol.Kind.TheVariants as kind
 use Rattle.css_sessions.specs.Told.{Unset, ended}
 use Rattle.css_tv.specs.States.{published_state}
 use Rattle.css_tv.specs.Standing.{calls_of}
@@ -30,16 +30,15 @@ use Rattle.css_schedule.specs.declared.header.CompanionLine.{CompanionLine}
 use Rattle.css_schedule.specs.Ranges.{IsVerb, IsCompanion, IsCount}
 use Rattle.css_world.specs.Sessions.{addresses, peer_of, setup_of, is_open, was_opened, written_to, received_from}
 use Rattle.css_world.specs.Sessions.{next_down, next_up}
-use Rattle.css_world.specs.Happened.{Numbered, hearing, done_by, events_of, history_of}
+use Rattle.css_world.specs.Happened.{hearing, done_by}
 use Rattle.css_world.specs.Verdicts.{can_talk, IsDeclared}
-use Rattle.css_world.specs.Standing.{AreAccepted}
 use Rattle.css_world.proofs.Peers.{cii_of, ts_of, cii-ts, ts-cii}
 use Rattle.css_world.proofs.Entries.{dialled-kind, dialled-open, closed-open, wrote-one, received-one}
 use Rattle.css_world.proofs.Entries.{dialled-kind_apart, dialled-open_apart, closed-open_apart, received_not}
 use Rattle.css_world.proofs.Ends.{events_with}
 use Rattle.css_world.proofs.Entries.{concerns}
 use Rattle.css_world.proofs.Staging.{AreBelow, IsSound, IsStaging}
-use Rattle.css_world.proofs.Staged.{IsKeptBy, IsKeptApart, one_staged, each_end}
+use Rattle.css_world.proofs.Staged.{IsKeptBy, IsKeptApart, one_staged}
 use Rattle.css_world.proofs.Staging.{not_true}
 use Rattle.css_world.proofs.Lives.{LifeGoesOn, goes_on, shown_after, lived_after, opens_as, closes_as}
 use Rattle.css_world.proofs.Talking.{lived_as, published_addresses, HasCii, IsCiiOpened, HasCiiOf, HasTs, HasTsOf}
@@ -399,12 +398,3 @@ setup_utf8 header who declared = go header.companions (who - 1) declared.tv.comp
       let is = All-head IsCompanion companion more all in
       record { stem = is.stem; selector = is.selector }
   go (companion ∷ more) (suc place) all = go more place (All-tail IsCompanion companion more all)
-
--- Both ends know this of the sessions of companion `who` after accepted lines.
-pub has_talked : (header : Header) (lines : List Numbered) (who : ℕ) → 1 ≤ who → IsDeclared header
-    → AreAccepted header lines
-    → HasTalked header who (events_of header lines) (history_of who header lines)
-has_talked header lines who first declared accepted =
-    each_end header who (HasTalked header who) first (talked_start header who)
-    (talked_kept header who first declared.companions (setup_utf8 header who declared))
-    (talked_apart header who first) lines accepted

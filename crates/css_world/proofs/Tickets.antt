@@ -72,12 +72,6 @@ in-append (x ∷ xs) ys a (inr h) = by (in-append xs ys a h)
     by (inl p) = inl (inr p)
     by (inr q) = inr q
 
--- an item that may be there is that item
-pub in-option : {A : Type 0} (o : Option A) (a : A) → IsIn a (option_to_list o) → o ≡ Some a
-in-option None a h = absurd h
-in-option (Some x) a (inl e) = ap Some (sym e)
-in-option (Some x) a (inr h) = absurd h
-
 -- what holds of all items holds of each
 all-in : {A : Type 0} (P : A → Type 0) (items : List A) (a : A) → All P items → IsIn a items → P a
 all-in P [] a each h = absurd h

@@ -3,11 +3,12 @@ use Rattle.std.proofs.Common.{◌≡◌, ◌≤◌, ℕ, Bool, true, false, cond
 use Rattle.std.proofs.Common.{refl, ap, sym, subst, ◌∙◌, ◌⊎◌, inl, inr}
 use Rattle.std.specs.Prelude.{◌&&◌, Option, Some, None, is_some, Result, Ok, Err}
 use Rattle.std.specs.Option.{option_map, ok_or}
+use Rattle.std.specs.Result.{IsErrAnd}
 use Rattle.css_model.specs.declared.Why.TheVariants as why
 use Rattle.css_model.specs.History.{Entry, History, Clock, Dialled, Wrote}
 use Rattle.css_server.specs.Exchanges as servers
 use Rattle.css_server.specs.Tickets.{Server}
-use Rattle.css_sessions.specs.declared.session.Kind.{Kind}
+use Rattle.css_num.specs.declared.protocol.Kind.{Kind}
 use Rattle.css_tsmsg.specs.declared.bound.Bound.{Bound}
 use Rattle.css_tv.specs.Stages.{Television as Tv}
 use Rattle.css_tv.specs.Standing as tvs
@@ -66,6 +67,12 @@ pub refuses : (old new : World) (result : Result (Unit {0}) WorldFault) (lines :
 refuses old new result lines now who verb fault is why =
     subst (λ (r : Result (Unit {0}) WorldFault). Carries old new r lines now who verb) (sym is)
     (record { answer = why; ends = tt })
+
+-- so may any call that tells of want of memory
+pub wants : (old new : World) (result : Result (Unit {0}) WorldFault) (lines : List Numbered) (now : Numbered)
+    (who : ℕ) (verb : Verb) → IsErrAnd result (λ fault. fault ≡ Memory) → Carries old new result lines now who verb
+wants old new (Ok done) lines now who verb none = absurd none
+wants old new (Err fault) lines now who verb memory = record { answer = inr memory; ends = tt }
 
 -- what is missing is Absent
 pub absent : {A : Type 0} (o : Option A) (fault : WorldFault) → Err fault ≡ ok_or o Absent

@@ -6,7 +6,7 @@ use Rattle.css_cii.specs.declared.state.State.{State}
 use Rattle.css_tsmsg.specs.declared.setup.Setup.{Setup}
 use Rattle.css_player.specs.Player.{Player, Segment, Track}
 use Rattle.css_player.specs.Segments.{present, track_of, position_at, rate_for}
-use Rattle.css_sessions.specs.declared.session.Kind.TheVariants as kind
+use Rattle.css_num.specs.declared.protocol.Kind.TheVariants as kind
 use Rattle.css_sessions.specs.Offsets.{control_for}
 use Rattle.css_sessions.specs.ReadBack.{cii_states}
 use Rattle.css_sessions.specs.Told.{Life, CiiLife, Unset, TsLife, Lived, life_of}

@@ -6,8 +6,8 @@ use Rattle.std.specs.Option.{option_map}
 use Rattle.std.specs.List.{filter_map}
 use Rattle.css_model.specs.History.{Entry, Dialled, Heard, Wrote, Closed, History}
 use Rattle.css_tsmsg.specs.declared.setup.Setup.{Setup}
-use Rattle.css_sessions.specs.declared.session.Kind.{Kind}
-use Rattle.css_sessions.specs.declared.session.Kind.TheVariants as kind
+use Rattle.css_num.specs.declared.protocol.Kind.{Kind}
+use Rattle.css_num.specs.declared.protocol.Kind.TheVariants as kind
 use Rattle.css_tv.specs.States.{addresses_of}
 use Rattle.css_tv.specs.Standing.{texts_after}
 use Rattle.css_tv.specs.declared.event.TvEvent.{TvEvent}

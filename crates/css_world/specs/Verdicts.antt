@@ -11,7 +11,7 @@ use Rattle.css_model.specs.WallClock.{Local, IsLocal}
 use Rattle.css_model.specs.History.{History, accepted_answers}
 use Rattle.css_span.specs.WallSpans.{wall_span}
 use Rattle.css_player.specs.Events.{player_of}
-use Rattle.css_sessions.specs.declared.session.Kind.TheVariants as kind
+use Rattle.css_num.specs.declared.protocol.Kind.TheVariants as kind
 use Rattle.css_sessions.specs.Told.{sessions_of}
 use Rattle.css_tv.specs.Outcomes.{Outcome, outcome}
 use Rattle.css_tv.specs.Standing.{calls_of}

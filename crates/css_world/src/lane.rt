@@ -4,7 +4,7 @@ ghost use Rattle.css_model.specs.History.{Entry, History, Clock, Took};
 ghost use Rattle.css_companion.specs.Standing as companions;
 ghost use Rattle.css_companion.specs.Steps as steps;
 ghost use Rattle.css_schedule.specs.Ranges.{IsCompanion};
-ghost use Rattle.css_sessions.specs.declared.session.Kind.TheVariants as kinds;
+ghost use Rattle.css_num.specs.declared.protocol.Kind.TheVariants as kinds;
 ghost use Rattle.css_tv.specs.declared.event.TvOut.TheVariants as outs;
 ghost use Rattle.css_world.specs.Flights as flights;
 ghost use Rattle.css_world.specs.Lanes as lanes;

@@ -2,7 +2,7 @@ ghost use Rattle.std.specs.Prelude.{◌≡◌, ◌≤◌, [], ◌∷◌, length,
 ghost use Rattle.std.specs.Borrow.{sem};
 ghost use Rattle.css_schedule.specs.Headers.{max_companions};
 ghost use Rattle.css_schedule.specs.Ranges.{IsCompanion};
-ghost use Rattle.css_sessions.specs.declared.session.Kind.TheVariants as kinds;
+ghost use Rattle.css_num.specs.declared.protocol.Kind.TheVariants as kinds;
 ghost use Rattle.css_world.specs.Flights as flights;
 ghost use Rattle.css_world.specs.Lanes as lanes;
 ghost use Rattle.css_world.specs.Lending.{LendsLane};

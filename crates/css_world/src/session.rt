@@ -24,7 +24,7 @@ pub(crate) fn peer_of(who: u32, kind: Kind) -> u32
 }
 
 /// Whether a session is open. One that is over opens no more.
-#[derive(Clone, Copy, Debug, PartialEq, Eq)]
+#[derive(Clone, Copy)]
 pub(crate) enum Phase {
     Unopened,
     Open,
@@ -63,7 +63,7 @@ impl Session {
     pub(crate) fn is_open(&self) -> bool
         ensures { IsTrue result ↔ (self.now.phase ≡ phases.Open) }
     {
-        self.phase == Phase::Open
+        matches!(self.phase, Phase::Open)
     }
 
     /// Opens the session, unless it is open or was open before.
@@ -100,7 +100,7 @@ impl Session {
     pub(crate) fn tell(&mut self, text: Text) -> Result<(), Memory>
         ensures { OnOk result (self.new ≡ flights.with_news (text ∷ []) self.old) }
     {
-        if self.phase == Phase::Open {
+        if let Phase::Open = self.phase {
             self.down.push_back(text)?;
         }
         Ok(())

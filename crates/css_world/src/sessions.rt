@@ -1,7 +1,7 @@
 ghost use Rattle.std.specs.Prelude.{List, IfErr};
 ghost use Rattle.css_schedule.specs.declared.line.Verb.TheVariants as events;
 ghost use Rattle.css_companion.specs.Steps.{window};
-ghost use Rattle.css_sessions.specs.declared.session.Kind.TheVariants as kinds;
+ghost use Rattle.css_num.specs.declared.protocol.Kind.TheVariants as kinds;
 ghost use Rattle.css_tsmsg.specs.Presentations.{IsPresentation};
 ghost use Rattle.css_world.specs.Happened.{Numbered};
 ghost use Rattle.css_world.specs.Standing.{IsReady, IsNumber, CarriesOut, KeepsClocks, KeepsRefused};

@@ -75,13 +75,21 @@ fn decide(report: Report) -> &'static str {
     }
 }
 
+/// Both texts and one answer.
+fn hear_all(companion: &mut Companion, alloc: Global) -> Result<(), CompanionFault>
+    requires { companion.old.client.floor ≤ 1000 }
+    ensures { OnOk result (companion.new.client.floor ≤ 23216) }
+{
+    hear(companion, alloc)?;
+    exchange(companion)
+}
+
 /// A companion that heard the texts and one answer.
 fn evening(alloc: Global) -> Result<Companion, CompanionFault>
     ensures { IfOk result (λ companion. companion.client.floor ≤ 23216) }
 {
     let mut companion = companion(alloc)?;
-    hear(&mut companion, alloc)?;
-    exchange(&mut companion)?;
+    hear_all(&mut companion, alloc)?;
     Ok(companion)
 }
 

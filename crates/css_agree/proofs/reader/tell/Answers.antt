@@ -1,4 +1,4 @@
-use Rattle.std.proofs.Common.{◌≡◌, subst, List, ◌++◌}
+use Rattle.std.proofs.Common.{◌≡◌, subst, ◌++◌}
 use Rattle.css_model.specs.WallClock.{Local}
 use Rattle.css_agree.specs.Printed.{agreed_text}
 use Rattle.css_agree.proofs.Reading.{tells}

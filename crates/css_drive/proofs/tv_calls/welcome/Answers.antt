@@ -1,7 +1,7 @@
 use Rattle.std.proofs.Common.{◌≡◌, ◌∙◌, ◌+◌, ◌≤◌, ◌<◌, sym, arith, refl, List, [], ◌∷◌, ℕ, None}
 use Rattle.css_model.specs.declared.Kind.TheVariants as peer_kind
 use Rattle.css_model.specs.History.{Accepted}
-use Rattle.css_sessions.specs.declared.session.Kind.TheVariants as kind
+use Rattle.css_num.specs.declared.protocol.Kind.TheVariants as kind
 use Rattle.css_drive.specs.TvProgress.{Progress, Asked}
 use Rattle.css_drive.proofs.TvSteps.{stays_on}
 use Rattle.css_drive.proofs.TvHears.{none_came, one_came}

@@ -1,26 +1,27 @@
--- The ranges of a line are those of its version.
-use Rattle.std.proofs.lemmas.Bool.{eq-eqb, ne_eqb}
-use Rattle.css_schedule.proofs.InRange.{first_range, first_is_first, second_line_range, second_is_second}
-use Rattle.css_schedule.proofs.InRange.{of_first, of_second}
+-- The line is that of its version, and so are its ranges.
+use Rattle.std.proofs.Common.{ℕ, List, subst}
+use Rattle.std.specs.Prelude.{◌==◌, if◌then◌else◌}
+use Rattle.css_num.specs.Gives.{GivesBy}
+use Rattle.css_schedule.specs.Lines.{line_of_words, second_of_words}
 use Rattle.css_schedule.specs.Words.{words_left}
+use Rattle.css_schedule.specs.declared.fault.LineFault.TheVariants.{Memory}
+use Rattle.css_schedule.proofs.InRange.{by_version, line_range, line_is_of}
 use Rattle.css_schedule.proofs.reading.read_line.Goals as goal
 
-pub returns-then-version-eq1-clause-range : goal.returns-then-version-eq1-clause-range
-returns-then-version-eq1-clause-range c =
-    first_range (words_left c.all_words.result) c.first_line.result c.first_line.ensures
+pub returns-clause-value : goal.returns-clause-value
+returns-clause-value c =
+    let version = c.args.version in
+    let companions = c.args.companions in
+    subst (λ (words : List (List ℕ)). GivesBy (λ x. x) Memory c.line.result (if version == 1 then line_of_words words
+    else second_of_words companions words)) c.all_words.ensures
+    (by_version (version == 1) companions (words_left c.all_words.result) c.line.result c.line.ensures)
 
-pub returns-then-version-eq1-clause-of : goal.returns-then-version-eq1-clause-of
-returns-then-version-eq1-clause-of c =
-    of_first c.args.version c.args.companions c.first_line.result (eq-eqb c.args.version 1 c.if-version-eq1.true)
-    (first_is_first (words_left c.all_words.result) c.first_line.result c.first_line.ensures)
+pub returns-clause-range : goal.returns-clause-range
+returns-clause-range c =
+    line_range (c.args.version == 1) c.args.companions (words_left c.all_words.result) c.line.result
+    (by_version (c.args.version == 1) c.args.companions (words_left c.all_words.result) c.line.result c.line.ensures)
 
-pub returns-else-version-eq1-clause-range : goal.returns-else-version-eq1-clause-range
-returns-else-version-eq1-clause-range c =
-    second_line_range c.args.companions (words_left c.all_words-else-version-eq1.result) c.second_line.result
-    c.second_line.ensures
-
-pub returns-else-version-eq1-clause-of : goal.returns-else-version-eq1-clause-of
-returns-else-version-eq1-clause-of c =
-    of_second c.args.version c.args.companions c.second_line.result (ne_eqb c.args.version 1 c.if-version-eq1.false)
-    (second_is_second c.args.companions (words_left c.all_words-else-version-eq1.result) c.second_line.result
-    c.second_line.ensures)
+pub returns-clause-of : goal.returns-clause-of
+returns-clause-of c =
+    line_is_of (c.args.version == 1) c.args.companions (words_left c.all_words.result) c.line.result
+    (by_version (c.args.version == 1) c.args.companions (words_left c.all_words.result) c.line.result c.line.ensures)

@@ -1,17 +1,13 @@
-use Rattle.std.proofs.Common.{◌≡◌, ◌∙◌, rules, ap, subst, map, string_bytes, codes, [], ◌∷◌}
-use Rattle.clap.specs.Words.{App, found_of, rows_of}
-use Rattle.css_num.specs.Gives.{GivesBy}
-use Rattle.css_words.specs.Relay.{relay_rows}
-use Rattle.css_words.specs.Options.{app_with, rows_in}
-use Rattle.css_words.specs.declared.fault.WordsFault.TheVariants as faults
+use Rattle.std.proofs.Common.{◌≡◌, refl, rules, map}
+use Rattle.css_words.specs.Relay.{relay_options, relay_rows}
 use Rattle.css_words.proofs.relay.relay_matches.Goals as goal
+
+pub matches_of-requires : goal.matches_of-requires
+matches_of-requires c =
+    let names : map (λ name. name.now) c.as_slice.result.now ≡ relay_options = search rules in rw names refl
 
 pub returns : goal.returns
 unfolding relay_rows
 returns c =
-    let names : map (λ name. name.now) c.as_slice.result.now
-    ≡ codes "cii" ∷ codes "port" ∷ codes "turns" ∷ codes "ask-every" ∷ codes "local-error"
-    ∷ codes "local-precision" ∷ codes "host" ∷ [] = search rules in
-    let is = c.in_ok-command.ensures.takes ∙ ap app_with names in
-    subst (λ (app : App). GivesBy (λ matches. rows_of (found_of matches)) faults.Memory c.matches_in.result
-    (rows_in app (map string_bytes c.args.words.now))) is c.matches_in.ensures
+    let names : map (λ name. name.now) c.as_slice.result.now ≡ relay_options = search rules in
+    rw names at c.matches_of.ensures

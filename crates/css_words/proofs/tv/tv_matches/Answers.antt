@@ -1,17 +1,16 @@
-use Rattle.std.proofs.Common.{◌≡◌, ◌∙◌, rules, ap, subst, map, string_bytes, codes, [], ◌∷◌}
-use Rattle.clap.specs.Words.{App, found_of, rows_of, with_rule}
-use Rattle.css_num.specs.Gives.{GivesBy}
-use Rattle.css_words.specs.Options.{app_with, flag_rule, rows_in}
-use Rattle.css_words.specs.Tv.{tv_rows}
-use Rattle.css_words.specs.declared.fault.WordsFault.TheVariants as faults
+use Rattle.std.proofs.Common.{◌≡◌, refl, rules, map, codes, [], ◌∷◌}
+use Rattle.css_words.specs.Tv.{tv_options, tv_rows}
 use Rattle.css_words.proofs.tv.tv_matches.Goals as goal
+
+pub matches_of-requires : goal.matches_of-requires
+matches_of-requires c =
+    let names : map (λ name. name.now) c.as_slice.result.now ≡ tv_options = search rules in
+    let flags : map (λ name. name.now) c.as_slice-2.result.now ≡ codes "follow" ∷ [] = search rules in
+    rw (names, flags) refl
 
 pub returns : goal.returns
 unfolding tv_rows
 returns c =
-    let names : map (λ name. name.now) c.as_slice.result.now ≡ codes "port" ∷ codes "turns" ∷ codes "precision"
-    ∷ codes "error" ∷ codes "host" ∷ [] = search rules in
-    let is = c.in_ok-command.ensures.takes ∙ ap app_with names in
-    let more = c.in_ok-command-2.ensures.takes ∙ ap (λ (app : App). with_rule app (flag_rule (codes "follow"))) is in
-    subst (λ (app : App). GivesBy (λ matches. rows_of (found_of matches)) faults.Memory c.matches_in.result
-    (rows_in app (map string_bytes c.args.words.now))) more c.matches_in.ensures
+    let names : map (λ name. name.now) c.as_slice.result.now ≡ tv_options = search rules in
+    let flags : map (λ name. name.now) c.as_slice-2.result.now ≡ codes "follow" ∷ [] = search rules in
+    rw (names, flags) at c.matches_of.ensures

@@ -1,6 +1,6 @@
 -- What the television tells by the event is in flight.
 use Rattle.std.proofs.Common.{List, [], sym, subst}
-use Rattle.css_sessions.specs.declared.session.Kind.TheVariants as kind
+use Rattle.css_num.specs.declared.protocol.Kind.TheVariants as kind
 use Rattle.css_tv.specs.Outcomes.{outcome_at}
 use Rattle.css_tv.specs.Standing as tvs
 use Rattle.css_tv.specs.declared.event.TvOut.{TvOut}

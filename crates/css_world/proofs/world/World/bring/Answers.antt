@@ -1,6 +1,6 @@
 -- A text comes on the session of that kind.
 use Rattle.std.proofs.Common.{sym, subst}
-use Rattle.css_sessions.specs.declared.session.Kind.{Kind}
+use Rattle.css_num.specs.declared.protocol.Kind.{Kind}
 use Rattle.css_schedule.specs.declared.line.Verb.TheVariants.{Bring}
 use Rattle.css_world.specs.Standing.{CarriesOut}
 use Rattle.css_world.proofs.world.World.bring.Goals as goal

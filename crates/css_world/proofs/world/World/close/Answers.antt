@@ -1,6 +1,6 @@
 -- The session of that kind closes.
 use Rattle.std.proofs.Common.{sym, subst}
-use Rattle.css_sessions.specs.declared.session.Kind.{Kind}
+use Rattle.css_num.specs.declared.protocol.Kind.{Kind}
 use Rattle.css_schedule.specs.declared.line.Verb.TheVariants.{Close}
 use Rattle.css_world.specs.Standing.{CarriesOut}
 use Rattle.css_world.proofs.world.World.close.Goals as goal

@@ -12,8 +12,8 @@ use Rattle.css_world.specs.Numbering.{numbered, stored}
 use Rattle.css_world.specs.Standing.{World, IsReady, open_ticket, carried}
 use Rattle.css_world.specs.Verdicts.{can_happen}
 use Rattle.css_world.proofs.Carrying.{at_line}
-use Rattle.css_world.proofs.Answering.{given, answered_is, answer_same, alone_made, both_made}
-use Rattle.css_world.proofs.Answering.{alone_owned, both_owned}
+use Rattle.css_world.proofs.Answering.{given, answered_is, none_answered, not_open, answer_same, alone_made}
+use Rattle.css_world.proofs.Answering.{both_made, alone_owned, both_owned}
 use Rattle.css_world.proofs.Inside.{inside_of}
 use Rattle.css_world.proofs.Numbers.{stored_none, mapped_none}
 use Rattle.css_world.proofs.Tickets.{takes_count}
@@ -38,6 +38,24 @@ returns-in_err-asker-clause-carries c = λ who lines now own is ready.
     let told : carried old.header lines who (Give c.args.take c.args.reading) ≡ Err exit.0 =
     carried-not old.header lines who (Give c.args.take c.args.reading) cannot ∙ ap Err (sym (exit.2 ∙ none.1)) in
     refuses c.args.self.now _ c.from_residual.result lines now who (Give c.args.take c.args.reading) exit.0 exit.1
+    (inl (subst (λ (w : World). carried w.header lines who (Give c.args.take c.args.reading) ≡ Err exit.0)
+    c.self.view_is told))
+
+pub returns-in_err-answered-clause-carries : goal.returns-in_err-answered-clause-carries
+returns-in_err-answered-clause-carries c = λ who lines now own is ready.
+    let old : World = inside_of c.self.inside in
+    let stood : IsReady old lines = subst (λ (w : World). IsReady w lines) (sym c.self.view_is) ready in
+    let exit = err_from_is_err_and c.from_residual-in_err-answered.result c.from_residual-in_err-answered.ensures.1 in
+    let none = absent c.give.result c.in_err-answered.field-0.0 c.in_err-answered.ensures.value in
+    let missing = none_answered old.tv.tv.server c.args.reading (option_flatten (stored old.tv.takes.items c.args.take))
+    c.give.result c.give.ensures.answered none.0 in
+    let cannot : can_happen old.header lines who (Give c.args.take c.args.reading) ≡ false =
+    ap (λ b. b && true) (not_open lines c.args.take (numbered c.args.take (tickets old.header lines))
+    (ap option_flatten (sym (stood.ends.takes.each c.args.take)) ∙ missing)) in
+    let told : carried old.header lines who (Give c.args.take c.args.reading) ≡ Err exit.0 =
+    carried-not old.header lines who (Give c.args.take c.args.reading) cannot ∙ ap Err (sym (exit.2 ∙ none.1)) in
+    refuses c.args.self.now _ c.from_residual-in_err-answered.result lines now who (Give c.args.take c.args.reading)
+    exit.0 exit.1
     (inl (subst (λ (w : World). carried w.header lines who (Give c.args.take c.args.reading) ≡ Err exit.0)
     c.self.view_is told))
 

@@ -17,7 +17,7 @@ use Rattle.css_world.proofs.Answering.{owner_stored}
 use Rattle.css_world.proofs.Inside.{inside_of}
 use Rattle.css_world.proofs.Numbers.{stored_none, mapped_none}
 use Rattle.css_world.proofs.Tickets.{askers_count}
-use Rattle.css_world.proofs.Verbs.{absent, carried-not, refuses}
+use Rattle.css_world.proofs.Verbs.{absent, carried-not, refuses, wants}
 use Rattle.css_world.proofs.world.World.take.Goals as goal
 
 -- where no request of this number is stored, none can be taken
@@ -73,6 +73,16 @@ returns-in_err-request-clause-carries c = λ who lines now own is ready.
     exit.0 exit.1
     (inl (subst (λ (w : World). carried w.header lines who (Take c.args.request c.args.reading) ≡ Err exit.0)
     c.self.view_is told))
+
+pub returns-in_err-take-clause-carries : goal.returns-in_err-take-clause-carries
+returns-in_err-take-clause-carries c = λ who lines now own is ready.
+    wants c.args.self.now _ c.from_residual-in_err-take.result lines now who (Take c.args.request c.args.reading)
+    c.from_residual-in_err-take.ensures.1
+
+pub returns-in_err-push-clause-carries : goal.returns-in_err-push-clause-carries
+returns-in_err-push-clause-carries c = λ who lines now own is ready.
+    wants c.args.self.now _ c.from_residual-in_err-push.result lines now who (Take c.args.request c.args.reading)
+    c.from_residual-in_err-push.ensures.1
 
 pub returns-clause-carries : goal.returns-clause-carries
 returns-clause-carries c = λ who lines now own is ready.
