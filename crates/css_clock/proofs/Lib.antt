@@ -1,2 +1,3 @@
+pub mod Goes
 pub mod Near
 pub mod Shapes

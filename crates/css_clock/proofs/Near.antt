@@ -8,7 +8,7 @@ use borrow.Author.Differences.{product_is}
 use Rattle.css_num.specs.Division.{floor_div, ceil_div}
 use Rattle.css_num.specs.Spans.{Interval, ProductsFit, image_of, scaled_number}
 use Rattle.css_num.proofs.Rounding.{floor_div-within, floor_div-mono, floor_div-le-ceil_div}
-use Rattle.css_clock.specs.Goes.{times_nonneg-mono}
+use Rattle.css_clock.proofs.Goes.{times_nonneg-mono}
 
 -- the quotient of a small number is small
 pub quotient-near : (z : ℤ) (d : ℕ) → 0 < d → unsigned_abs z < 2 ^ 126 → unsigned_abs (floor_div z d) ≤ 2 ^ 126

@@ -1,2 +1,1 @@
-pub mod Goes
 pub mod Ticks

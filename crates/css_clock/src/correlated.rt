@@ -27,7 +27,6 @@ pub struct Correlated<P: Tick> {
 impl<P: Tick> Tick for Correlated<P> {
     ghost use Rattle.std.specs.Prelude.{◌≡◌, ◌*ℤ◌};
     ghost use Rattle.css_clock.specs.Ticks as ticks;
-    ghost use Rattle.css_clock.specs.Goes.{child_goes};
 
     ghost rate_of = { λ clock. clock.rate };
 
@@ -43,11 +42,6 @@ impl<P: Tick> Tick for Correlated<P> {
         (P.value_at clock.parent root)) };
 
     ghost speeds = { λ clock. P.speeds clock.parent *ℤ clock.speed };
-
-    ghost goes = { λ clock.
-        child_goes clock.rate (P.rate_of clock.parent)
-        (record { speed = clock.speed; parent_ticks = clock.parent_ticks; child_ticks = clock.child_ticks })
-        (P.speeds clock.parent) (P.value_at clock.parent) (P.goes clock.parent) };
 
     fn rate(&self) -> Rate {
         self.rate
@@ -66,6 +60,7 @@ impl<P: Tick> Tick for Correlated<P> {
     }
 
     fn span(&self, root: Span) -> Span {
+        self.parent.goes();
         let parent = self.parent.rate();
         child_span(
             since(self.parent.span(root), self.parent_ticks),
@@ -73,5 +68,9 @@ impl<P: Tick> Tick for Correlated<P> {
             divisor(self.rate, parent),
             self.child_ticks,
         )
+    }
+
+    fn goes(&self) {
+        self.parent.goes();
     }
 }

@@ -1,7 +1,6 @@
 ghost use Rattle.std.specs.Prelude.{◌≡◌, ◌↔◌, ◌+◌, ◌<◌, ◌≤◌, ◌^◌, ℤ, pos, ◌*ℤ◌, unsigned_abs, IsTrue};
 ghost use Rattle.css_num.specs.Rates.{TickRate};
 ghost use Rattle.css_clock.specs.Ticks as ticks;
-ghost use Rattle.css_clock.specs.Goes.{root_goes};
 
 use css_num::{Rate, Span};
 
@@ -47,9 +46,11 @@ pub trait Tick {
         ensures near_lo { unsigned_abs result.lo ≤ 2 ^ 126 + 2 ^ 63 }
         ensures near_hi { unsigned_abs result.hi ≤ 2 ^ 126 + 2 ^ 63 };
 
-    /// As the root rises the clock never falls, or never rises, by the sign of
-    /// the product of the speeds.
-    ghost goes: { (clock : Self) → ticks.GoesBy (speeds clock) (value_at clock) };
+    /// As the root rises the clock never falls, or never rises, by the sign of the product of the speeds.
+    ///
+    /// This is a law of every clock: its call does nothing.
+    fn goes(&self)
+        ensures { ticks.GoesBy (speeds self.now) (value_at self.now) };
 }
 
 /// The limit of root values, either way.
@@ -71,8 +72,6 @@ impl Tick for Root {
 
     ghost speeds = { λ _. pos 1 };
 
-    ghost goes = { λ _. root_goes };
-
     fn rate(&self) -> Rate {
         self.rate
     }
@@ -88,4 +87,6 @@ impl Tick for Root {
     fn span(&self, root: Span) -> Span {
         root
     }
+
+    fn goes(&self) {}
 }

@@ -15,7 +15,7 @@ use Rattle.css_num.specs.declared.control.Control.{Control}
 use Rattle.css_num.specs.declared.control.Control.TheVariants.{Available, Unavailable}
 use Rattle.css_span.specs.WallSpans as walls
 use Rattle.css_span.specs.WallSpans.{wall_span}
-use Rattle.css_clock.specs.Goes.{root_goes, child_goes, span_of-all}
+use Rattle.css_clock.proofs.Goes.{root_goes, child_goes, span_of-all}
 use Rattle.css_clock.specs.Ticks.{Correlation, child_value, span_of}
 use Rattle.css_tsmsg.specs.Controls.{control_of}
 use Rattle.css_tsmsg.specs.Faults.{NotMemory}

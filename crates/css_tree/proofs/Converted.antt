@@ -7,7 +7,7 @@ use Rattle.std.specs.Prelude.{if◌then◌else◌}
 use Rattle.std.specs.Int.{int_min, int_max}
 use Rattle.css_num.specs.Rates.{TickRate, IsTickRate}
 use Rattle.css_num.specs.Spans.{Interval, Covers}
-use Rattle.css_clock.specs.Goes.{one_way, between, between_back, child-along, child-against}
+use Rattle.css_clock.proofs.Goes.{one_way, between, between_back, child-along, child-against}
 use Rattle.css_tree.specs.declared.fault.ClockFault.{ClockFault}
 use Rattle.css_tree.specs.declared.fault.ClockFault.TheVariants.{Stopped, Beyond}
 use Rattle.css_tree.specs.declared.node.Node.{Node}

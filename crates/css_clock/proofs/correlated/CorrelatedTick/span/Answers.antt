@@ -3,7 +3,7 @@ use Rattle.std.proofs.Common.{◌≡◌, rules, arith, ◌≤ℤ◌}
 use Rattle.std.proofs.lemmas.Int.{ints}
 use Rattle.css_num.specs.Spans.{ProductsFit}
 use Rattle.css_clock.specs.Ticks.{Correlation, child_value, span_of}
-use Rattle.css_clock.specs.Goes.{child_goes, IsSpanOf-answer}
+use Rattle.css_clock.proofs.Goes.{child_goes, IsSpanOf-answer}
 use Rattle.css_clock.proofs.Shapes.{holds-steps, span_of-steps}
 use Rattle.css_clock.proofs.correlated.CorrelatedTick.span.Goals as goal
 use Rattle.css_clock.proofs.correlated.CorrelatedTick.span.Given as given
@@ -50,4 +50,4 @@ returns-clause-meaning g c =
     let ordered : c.args.root.lo ≤ℤ c.args.root.hi = omega (arith, ints, inside.low, inside.high) in
     IsSpanOf-answer _ _ c.args.root c.child_span.result
     (child_goes clock.rate (g.P.Tick.rate_of clock.parent) correlation (g.P.Tick.speeds clock.parent)
-    (g.P.Tick.value_at clock.parent) (g.met.P.Tick.goes clock.parent)) ordered (value g c)
+    (g.P.Tick.value_at clock.parent) c.goes.ensures) ordered (value g c)
