@@ -57,18 +57,23 @@ fn own_path<R: Env>(alloc: Global, rt: &R) -> io::Result<Option<String>> {
     Ok(first.filter(|word| word.as_str().contains('/')))
 }
 
-/// The file that the system runs.
-fn running_file<R: Files>(alloc: Global, rt: &R) -> io::Result<Command> {
-    let program = env::current_exe(&(rt, alloc))?;
-    Ok(Command::new(alloc, program.as_path())?)
+/// Whether a file is the system's loader of programs, by its name.
+fn is_loader(path: &str) -> bool {
+    match path.rsplit_once('/') {
+        Some((_, name)) => name.starts_with("ld-"),
+        None => false,
+    }
 }
 
-/// This program's file. Its first word is taken where it is a path: a program that a loader runs is the loader's file.
+/// The command of the file that the system runs. Where that is a loader, it is the file that the first word names.
 fn own_program<R: Env + Files>(alloc: Global, rt: &R) -> io::Result<Command> {
-    match own_path(alloc, rt)? {
-        Some(path) => Ok(Command::new(alloc, path.as_str())?),
-        None => running_file(alloc, rt),
+    let running = env::current_exe(&(rt, alloc))?;
+    if is_loader(running.as_str()) {
+        if let Some(path) = own_path(alloc, rt)? {
+            return Ok(Command::new(alloc, path.as_str())?);
+        }
     }
+    Ok(Command::new(alloc, running.as_path())?)
 }
 
 /// The command of a child that has no words yet.

@@ -13,10 +13,10 @@ const SLEEP_NANOS: u64 = 2_000_000_000;
 pub(crate) struct Clocks {
     /// `CLOCK_MONOTONIC`: it never goes back, and stands still while the machine sleeps. The readings are from it.
     pub(crate) monotone: u64,
-    /// `CLOCK_REALTIME`: it goes on in a sleep. A person, or a time service, may set it.
-    pub(crate) system: u64,
+    /// `CLOCK_REALTIME`, where it shows a time of 1970 to 2554: it goes on in a sleep. A person, or a time service, may
+    /// set it.
+    pub(crate) system: Option<u64>,
     ghost monotone_below: { monotone < LIMIT },
-    ghost system_below: { system < LIMIT },
 }
 
 /// A time in nanoseconds, where it is below 2^32 seconds.
@@ -41,20 +41,33 @@ pub fn monotone(clock: &impl Clock) -> Option<u64>
     }
 }
 
-/// Reads both clocks, where both can be read.
+/// The system's clock, in nanoseconds, where it shows a time of 1970 to 2554.
+fn system(clock: &impl Clock) -> Option<u64> {
+    match clock.since_1970() {
+        Ok(time) => u64::try_from(time.as_nanos()).ok(),
+        Err(_) => None,
+    }
+}
+
+/// Reads both clocks, where the monotone one can be read.
 pub(crate) fn read_clocks(clock: &impl Clock) -> Option<Clocks> {
     let monotone = monotone(clock)?;
-    let system = match clock.since_1970() {
-        Ok(time) => nanos_of(time)?,
-        Err(_) => return None,
-    };
+    let system = system(clock);
     Some(Clocks { monotone, system })
 }
 
-/// Whether the machine slept between these: the system's clock rose by over two seconds more than the monotone one.
-pub(crate) fn has_slept(before: Clocks, now: Clocks) -> bool
-    ensures { IsTrue result ↔ (now.monotone + before.system + 2000000000 < now.system + before.monotone) }
+/// Whether the system's clock rose by over two seconds more than the monotone one.
+fn ran_ahead(before: Clocks, now: Clocks, system_before: u64, system_now: u64) -> bool
+    ensures { IsTrue result ↔ (now.monotone + system_before + 2000000000 < system_now + before.monotone) }
 {
-    let expected = u128::from(now.monotone) + u128::from(before.system) + u128::from(SLEEP_NANOS);
-    expected < u128::from(now.system) + u128::from(before.monotone)
+    let expected = u128::from(now.monotone) + u128::from(system_before) + u128::from(SLEEP_NANOS);
+    expected < u128::from(system_now) + u128::from(before.monotone)
+}
+
+/// Whether the machine slept between these, as far as the system's clock tells.
+pub(crate) fn has_slept(before: Clocks, now: Clocks) -> bool {
+    match (before.system, now.system) {
+        (Some(system_before), Some(system_now)) => ran_ahead(before, now, system_before, system_now),
+        _ => false,
+    }
 }

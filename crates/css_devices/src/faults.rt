@@ -6,9 +6,22 @@ use std::alloc::{AllocError, AllocFailed};
 use std::io;
 use std::io::ErrorKind;
 
-/// An error of the system. Want of memory is no fault of the device.
+/// The system's numbers for want of file descriptors: of this process's, and of the machine's.
+const NO_DESCRIPTOR: i32 = 24;
+
+const NO_DESCRIPTOR_AT_ALL: i32 = 23;
+
+/// Whether the system lacks a file descriptor.
+fn lacks_descriptor(error: &io::Error) -> bool {
+    match error.raw_os_error() {
+        Some(number) => number == NO_DESCRIPTOR || number == NO_DESCRIPTOR_AT_ALL,
+        None => false,
+    }
+}
+
+/// An error of the system. Want of memory is no fault of the device; want of a file descriptor is told as that too.
 pub fn fault_of(error: io::Error) -> OutFault {
-    if error.kind() == ErrorKind::OutOfMemory {
+    if error.kind() == ErrorKind::OutOfMemory || lacks_descriptor(&error) {
         OutFault::Memory
     } else {
         OutFault::Failed

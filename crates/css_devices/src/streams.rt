@@ -1,51 +1,74 @@
-//! The standard streams as devices. They count each failure, and tell nothing of what they hold.
+//! The standard streams as devices. They count each failure, and tell nothing of what they hold. A stream that doesn't
+//! block is waited for.
 
 ghost use Rattle.std.specs.Prelude.{◌≡◌, None};
 ghost use Rattle.std.specs.Io.{ReadsAtMost, WritesAtMost};
 
 use css_outside::{Failed, OutFault, Sink, Source};
-use std::io;
 use std::io::{ErrorKind, Read, Write};
+use std::time::{Clock, Duration};
+use std::{io, thread};
 
-/// How often a call that a signal cut short is made.
-const MOST_TRIES: usize = 64;
+/// How long a stream that gives or takes nothing for now is left alone, in milliseconds.
+const PAUSE_MILLIS: u64 = 4;
 
 /// A reader, such as standard input. A failed read raises its count.
 #[derive(Drop)]
-pub struct StdSource<R> {
+pub struct StdSource<'a, R, C> {
     inner: R,
+    clock: &'a C,
     faults: u64,
 }
 
-/// Reads, and again where a signal cut the read short.
-fn read_through<R: Read>(inner: &mut R, into: &mut [u8]) -> io::Result<usize>
+/// Whether a call is made again. Where it would have to wait there is a pause first.
+fn goes_on<C: Clock>(clock: &C, error: &io::Error) -> bool {
+    match error.kind() {
+        ErrorKind::Interrupted => true,
+        ErrorKind::WouldBlock => {
+            thread::sleep(clock, Duration::from_millis(PAUSE_MILLIS));
+            true
+        }
+        _ => false,
+    }
+}
+
+/// Reads, and again where a signal cut the read short, or nothing has come yet.
+fn read_through<R: Read, C: Clock>(
+    inner: &mut R,
+    clock: &C,
+    into: &mut [u8],
+) -> io::Result<usize>
     ensures { ReadsAtMost result into.new }
 {
-    for _ in 0..MOST_TRIES {
+    for _ in 0..u64::MAX {
         match inner.read(into) {
-            Err(error) if error.kind() == ErrorKind::Interrupted => {}
+            Err(error) if goes_on(clock, &error) => {}
             ended => return ended,
         }
     }
     Err(io::Error::from(ErrorKind::Interrupted))
 }
 
-impl<R: Read> StdSource<R> {
+impl<'a, R: Read, C: Clock> StdSource<'a, R, C> {
     /// No read has failed yet.
-    pub fn new(inner: R) -> StdSource<R>
+    pub fn new(inner: R, clock: &'a C) -> StdSource<'a, R, C>
         ensures faults { result.faults ≡ 0 }
     {
-        StdSource { inner, faults: 0 }
+        StdSource {
+            inner,
+            clock,
+            faults: 0,
+        }
     }
 }
 
-impl<R: Read> Source for StdSource<R> {
+impl<'a, R: Read, C: Clock> Source for StdSource<'a, R, C> {
     ghost left = { λ _. None };
 
     ghost faults = { λ source. source.faults };
 
     fn read(&mut self, into: &mut [u8]) -> Result<usize, Failed> {
-        match read_through(&mut self.inner, into) {
+        match read_through(&mut self.inner, self.clock, into) {
             Ok(count) => Ok(count),
             Err(_) => {
                 self.faults = self.faults.saturating_add(1);
@@ -57,40 +80,49 @@ impl<R: Read> Source for StdSource<R> {
 
 /// A writer, such as standard output. A failed write, and one that takes nothing, raises its count.
 #[derive(Drop)]
-pub struct StdSink<W> {
+pub struct StdSink<'a, W, C> {
     inner: W,
+    clock: &'a C,
     faults: u64,
 }
 
-/// Writes, and again where a signal cut the write short.
-fn write_through<W: Write>(inner: &mut W, bytes: &[u8]) -> io::Result<usize>
+/// Writes, and again where a signal cut the write short, or nothing is taken yet.
+fn write_through<W: Write, C: Clock>(
+    inner: &mut W,
+    clock: &C,
+    bytes: &[u8],
+) -> io::Result<usize>
     ensures { WritesAtMost result bytes.now }
 {
-    for _ in 0..MOST_TRIES {
+    for _ in 0..u64::MAX {
         match inner.write(bytes) {
-            Err(error) if error.kind() == ErrorKind::Interrupted => {}
+            Err(error) if goes_on(clock, &error) => {}
             ended => return ended,
         }
     }
     Err(io::Error::from(ErrorKind::Interrupted))
 }
 
-impl<W: Write> StdSink<W> {
+impl<'a, W: Write, C: Clock> StdSink<'a, W, C> {
     /// No write has failed yet.
-    pub fn new(inner: W) -> StdSink<W>
+    pub fn new(inner: W, clock: &'a C) -> StdSink<'a, W, C>
         ensures faults { result.faults ≡ 0 }
     {
-        StdSink { inner, faults: 0 }
+        StdSink {
+            inner,
+            clock,
+            faults: 0,
+        }
     }
 }
 
-impl<W: Write> Sink for StdSink<W> {
+impl<'a, W: Write, C: Clock> Sink for StdSink<'a, W, C> {
     ghost holds = { λ _. None };
 
     ghost faults = { λ sink. sink.faults };
 
     fn write(&mut self, bytes: &[u8]) -> Result<usize, OutFault> {
-        match write_through(&mut self.inner, bytes) {
+        match write_through(&mut self.inner, self.clock, bytes) {
             Ok(0) if !bytes.is_empty() => {
                 self.faults = self.faults.saturating_add(1);
                 Err(OutFault::Failed)

@@ -14,7 +14,8 @@ pub const FIRST_SENDER: u32 = 2_147_483_648;
 /// What an outside counts: its faults, the greatest reading, and the greatest number of a peer.
 ///
 /// Readings are the monotone clock's. A reading is told with a sleep where the system's clock rose by over two seconds
-/// more than the monotone one since the reading before.
+/// more than the monotone one since the reading before. Where that clock shows no time of 1970 to 2554, no sleep is
+/// noticed.
 #[derive(Drop)]
 pub struct Tally {
     dial_faults: u64,
@@ -148,12 +149,12 @@ impl Tally {
         }
     }
 
-    /// Reads the clocks. Where they can't be read, or show a time above the limit, that is a fault.
+    /// Reads the clocks. Where the monotone one can't be read, or shows a time above the limit, that is a fault.
     pub fn now(&mut self, clock: &impl Clock) -> Result<Clocked, OutFault>
         ensures counted { CountsClock self.old self.new result }
     {
         let Some(clocks) = read_clocks(clock) else {
-            return self.plain(Err(OutFault::Failed));
+            return self.unread(OutFault::Failed);
         };
         let slept = match self.before {
             Some(before) => has_slept(before, clocks),
@@ -162,6 +163,14 @@ impl Tally {
         let clocked = self.read(clocks.monotone, slept)?;
         self.before = Some(clocks);
         Ok(clocked)
+    }
+
+    /// Counts a reading that couldn't be made.
+    pub fn unread(&mut self, fault: OutFault) -> Result<Clocked, OutFault>
+        ensures counted { CountsClock self.old self.new result }
+        ensures same { result ≡ Err fault }
+    {
+        self.plain(Err(fault))
     }
 
     /// Counts a reading of the clock. Where the machine slept, it is above each before; none is above the limit.
