@@ -186,6 +186,7 @@ kept_line header older now printed declared accepted e =
     record {
       kept = kept-by header older now now.line.verb printed refl truth.wall truth.report
           (printed_is header older now printed (carried_ok header older now printed e));
+      landing = truth.landing;
       told = truth.told;
       in_step = truth.in_step;
     }

@@ -20,7 +20,7 @@ use Rattle.css_world.specs.Sessions.{setup_of}
 use Rattle.css_world.specs.Happened.{Numbered, history_of}
 use Rattle.css_world.specs.Verdicts.{local_of, report_at, assigned_at}
 use Rattle.css_world.specs.Printed.{wall_line, no_answer_line}
-use Rattle.css_world.specs.Truth.{AreWorld, AreToldInOrder, AreInStepAt}
+use Rattle.css_world.specs.Truth.{AreWorld, IsPossibleLanding, AreToldInOrder, AreInStepAt}
 use Rattle.css_app.specs.Replayed.{Running, reached}
 
 -- the responses and follow-ups that the companion of a line has accepted before it, whatever was lost, repeated or
@@ -83,11 +83,13 @@ IsKept header older now (Print reading) printed =
     AreTrueTicks header older now reading printed ⊎ IsReportedCause header older now reading printed
 IsKept header older now _ printed = printed ≡ []
 
--- A line keeps the promise: so does what is printed for it. After it, the state of the content that each companion was
--- told is one that the television published: after k texts the k-th of its session. Where all texts have come to a
--- companion, the position that it assigns is the one that the television's published control assigns.
+-- A line keeps the promise: so does what is printed for it. A datagram that lands is accepted, unless its request left
+-- the last 64: in a replay no truthful answer is impossible. After the line, the state of the content that each
+-- companion was told is one that the television published: after k texts the k-th of its session. Where all texts have
+-- come to a companion, the position that it assigns is the one that the television's published control assigns.
 pub record KeepsLine (header : Header) (older : List Numbered) (now : Numbered) (printed : List ℕ) : Type 0 where
   pub kept : IsKept header older now now.line.verb printed
+  pub landing : IsPossibleLanding header older now
   pub told : AreToldInOrder header (now ∷ older)
   pub in_step : AreInStepAt header older now
 

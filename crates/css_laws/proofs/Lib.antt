@@ -7,6 +7,7 @@ pub mod Fed
 pub mod Turned
 pub mod Heading
 pub mod Alike
+pub mod Written
 pub mod Spelled
 pub mod SpelledLines
 pub mod Lengths

@@ -1,3 +1,4 @@
 pub mod Numbers
 pub mod Raised
+pub mod Writing
 pub mod Generations

@@ -3,6 +3,7 @@
 ghost use Rattle.css_laws.specs.Generations.{GeneratedSchedulesAreReplayed};
 ghost use Rattle.css_laws.specs.Numbers.{NumbersDontMatter};
 ghost use Rattle.css_laws.specs.Raised.{MigratedSchedulesAreReplayedAlike};
+ghost use Rattle.css_laws.specs.Writing.{WrittenIsReplayedAlike};
 
 /// What becomes of a line depends on the numbers of lines only where it names them. Where the number of each line is
 /// raised by one, the same is printed with the line's number raised by one, and the same fault is told with the earlier
@@ -15,6 +16,11 @@ pub fn numbers_dont_matter()
 /// one: what is printed, the line that is refused, and why.
 pub fn migrated_schedules_are_replayed_alike()
     ensures { MigratedSchedulesAreReplayedAlike }
+{}
+
+/// So a replay of what a run of `migrate` wrote says the same, whatever run it was that read its schedule to the end.
+pub fn written_is_replayed_alike()
+    ensures { WrittenIsReplayedAlike }
 {}
 
 /// A replay of a generated schedule accepts each line, and prints exactly the reports that a survey of it counts.

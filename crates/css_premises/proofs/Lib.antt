@@ -1,0 +1,3 @@
+pub mod Drifting
+pub mod Hops
+pub mod Answers
