@@ -2,7 +2,8 @@
 use Rattle.std.proofs.Common.{◌≡◌, ℕ, ◌+◌, ◌*◌, ◌<◌, ◌≤◌, min, refl, arith, ap, Bool, true, false}
 use Rattle.std.specs.Prelude.{Some, None, ◌==◌, ◌||◌, if◌then◌else◌}
 use Rattle.std.proofs.lemmas.Option.{cond_some}
-use Rattle.css_model.specs.Numbers.{LIMIT, IsWithin}
+use Rattle.css_model.specs.Numbers.{IsWithin}
+use Rattle.css_model.specs.declared.TheConstants.{LIMIT}
 use Rattle.css_model.specs.World.{OwnClock, RunsWithin, Reads, KeepsErrors, IsWorldFor, IsInRange}
 use Rattle.css_premises.specs.Drifting.{shown, drifting, errors, own}
 
@@ -15,7 +16,7 @@ same_clock has clock a e =
 
 -- either companion's clock keeps 500 ppm
 runs : (which : Bool) (i j : ℕ) → i ≤ j
-    → RunsWithin 128000 (500000 * min i 24) (shown which (min i 24)) (500000 * min j 20) (shown which (min j 20))
+    → RunsWithin 128000 (500000 * min i 24) (shown which (min i 24)) (500000 * min j 24) (shown which (min j 24))
 runs true i j h = omega arith
 runs false i j h = omega arith
 

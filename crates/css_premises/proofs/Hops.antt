@@ -1,6 +1,6 @@
 -- The example of two hops holds.
 use Rattle.std.proofs.Common.{◌≡◌, ℕ, refl, arith, [], ◌∷◌, drop, inl, inr}
-use Rattle.std.specs.Prelude.{Some, Ok}
+use Rattle.std.specs.Prelude.{Some}
 use Rattle.css_model.specs.declared.Why.TheVariants as why
 use Rattle.css_model.specs.WallClock.{lower, upper, lo, hi, scaled_width}
 use Rattle.css_model.specs.Wire.{encoded, fault, fields, request_at, stamp_of}
@@ -109,7 +109,7 @@ second_happens = record {
 -- its answer is the relay's
 is_relayed : Each (RelayedAt own relayed_exchange.history (λ number. number) own relayed_exchange.second_moment_of)
     (second_of relayed_exchange)
-unfolding encoded fault fields scaled_width lower upper
+unfolding answer_of encoded fault fields scaled_width lower upper
 is_relayed = (
   tt,
   (
@@ -122,7 +122,7 @@ is_relayed = (
     }),
     (tt, (tt, (tt, tt)))
   )
-);
+)
 
 -- it is accepted, and alone
 narrowest : wall_answer own relayed_exchange.second_history 6000400 ≡ Some relayed_exchange.answer
