@@ -28,8 +28,8 @@ fn without_words(error: &Error) -> Status {
 }
 
 fn main(rt: HostRuntime) -> ExitCode {
-    let mut source = StdSource::new(rt.reader());
-    let mut sink = StdSink::new(io::writer(&rt));
+    let mut source = StdSource::new(rt.reader(), &rt);
+    let mut sink = StdSink::new(io::writer(&rt), &rt);
     let mut outside = NetOutside::new(rt.alloc(), &rt);
     let mut spawner = ChildSpawner::new(rt.alloc(), &rt);
     let mut followers = Before {
@@ -51,6 +51,7 @@ fn main(rt: HostRuntime) -> ExitCode {
         ),
         Err(error) => without_words(&error),
     };
-    let mut errors = StdSink::new(rt.stderr().lock());
+    outside.end();
+    let mut errors = StdSink::new(rt.stderr().lock(), &rt);
     ExitCode::from(tell(rt.alloc(), &status, &mut errors).number)
 }

@@ -91,7 +91,9 @@ fn command<R: System, S: Source, K: Sink>(
 ) -> Status {
     let mut outside = NetOutside::new(alloc, rt);
     let mut spawner = ChildSpawner::new(alloc, rt);
-    run_on(alloc, words, source, sink, &mut outside, &mut spawner)
+    let status = run_on(alloc, words, source, sink, &mut outside, &mut spawner);
+    outside.end();
+    status
 }
 
 fn number_of(status: Status) -> u8 {
@@ -107,8 +109,8 @@ fn written_by<R: System>(
 ) -> Result<Vec<u8>, OutFault> {
     let words = words_in(alloc, line)?;
     let mut written = Vec::new(alloc);
-    let mut sink = StdSink::new(&mut written);
-    let status = command(alloc, rt, &words, &mut StdSource::new(input), &mut sink);
+    let mut sink = StdSink::new(&mut written, rt);
+    let status = command(alloc, rt, &words, &mut StdSource::new(input, rt), &mut sink);
     match number_of(status) {
         0 => Ok(written),
         _ => Err(OutFault::Failed),
@@ -267,10 +269,10 @@ fn main(rt: HostRuntime) -> ExitCode {
         return ExitCode::from(1);
     };
     if !words.is_empty() {
-        let mut source = StdSource::new(rt.reader());
-        let mut sink = StdSink::new(io::writer(&rt));
+        let mut source = StdSource::new(rt.reader(), &rt);
+        let mut sink = StdSink::new(io::writer(&rt), &rt);
         let status = command(alloc, &rt, &words, &mut source, &mut sink);
-        return ExitCode::from(tell(alloc, &status, &mut StdSink::new(rt.stderr().lock())).number);
+        return ExitCode::from(tell(alloc, &status, &mut StdSink::new(rt.stderr().lock(), &rt)).number);
     }
     // The ports come from the number of the process, so that two runs don't meet.
     let port = 50000 + process::id(rt.process()) % 2500 * 4;

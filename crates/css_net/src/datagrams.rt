@@ -1,7 +1,8 @@
 ghost use Rattle.std.specs.Prelude.{◌≤◌, IfOk, IfSome};
 ghost use Rattle.css_outside.specs.Outsides.{FitsRoom};
 
-use crate::names::{addresses_of, any_port};
+use crate::names::any_port;
+use crate::pace::Pace;
 use crate::watch::Watch;
 use css_devices::FIRST_SENDER;
 use css_devices::faults::{fault_of, no_room};
@@ -10,7 +11,7 @@ use mio::net::UdpSocket;
 use std::alloc::Global;
 use std::io;
 use std::io::ErrorKind;
-use std::net::{Net, SocketAddr};
+use std::net::{IpAddr, Net, SocketAddr};
 use std::time::{Clock, Duration};
 
 /// The name under which the listener's socket is watched.
@@ -19,6 +20,8 @@ const LISTENER: usize = 0;
 const LINK: usize = 1;
 /// How many senders are remembered. The answer to a request goes out before the next is taken.
 const MOST_SENDERS: usize = 64;
+/// How many datagrams that nobody can answer, and errors of earlier ones, are passed over at once.
+const MOST_PASSED: usize = 16;
 
 /// Who sent a datagram.
 #[derive(Clone, Copy)]
@@ -88,19 +91,29 @@ fn send_through(
     Ok(())
 }
 
-/// The next datagram of a socket, where one has come. An error says that nothing came, or what the network told of an
-/// earlier datagram.
+/// The next datagram of a socket, where one has come. One from port 0 can't be answered, and is passed over; so is what
+/// the network told of an earlier datagram.
 fn received(
     socket: &UdpSocket,
     into: &mut [u8; 64],
 ) -> Result<Option<(SocketAddr, usize)>, OutFault>
     ensures room { IfOk result (λ came. IfSome came (λ datagram. datagram.1 ≤ 64)) }
 {
-    match socket.recv_from(into.as_mut_slice()) {
-        Ok((count, from)) => Ok(Some((from, count))),
-        Err(error) if error.kind() == ErrorKind::OutOfMemory => Err(OutFault::Memory),
-        Err(_) => Ok(None),
+    for _ in 0..MOST_PASSED {
+        match socket.recv_from(into.as_mut_slice()) {
+            Ok((count, from)) => {
+                if from.port() != 0 {
+                    return Ok(Some((from, count)));
+                }
+            }
+            Err(error) => match error.kind() {
+                ErrorKind::OutOfMemory => return Err(OutFault::Memory),
+                ErrorKind::WouldBlock => return Ok(None),
+                _ => {}
+            },
+        }
     }
+    Ok(None)
 }
 
 /// A socket that hears anyone, as a television does.
@@ -111,16 +124,16 @@ pub(crate) struct Listener {
 }
 
 impl Listener {
-    /// The next datagram, where one has come. One from port 0 can't be answered, and isn't told.
+    /// The next datagram, where one has come.
     fn take(&mut self, into: &mut [u8; 64]) -> Result<Option<(u32, usize)>, OutFault>
         ensures room { IfOk result FitsRoom }
     {
         match received(&self.socket, into)? {
-            Some((from, count)) if from.port() != 0 => {
+            Some((from, count)) => {
                 let peer = self.senders.peer_of(from)?;
                 Ok(Some((peer, count)))
             }
-            _ => Ok(None),
+            None => Ok(None),
         }
     }
 
@@ -174,6 +187,7 @@ pub(crate) struct Datagrams {
     watch: Watch,
     listener: Option<Listener>,
     link: Option<Link>,
+    pace: Pace,
 }
 
 impl Datagrams {
@@ -184,18 +198,14 @@ impl Datagrams {
             watch: Watch::new(alloc),
             listener: None,
             link: None,
+            pace: Pace::new(),
         }
-    }
-
-    /// Whether no socket is open.
-    pub(crate) fn is_none(&self) -> bool {
-        self.listener.is_none() && self.link.is_none()
     }
 
     /// A socket that listens at an address. It is heard once it is handed to `listen`.
     pub(crate) fn listener<R: Net>(&mut self, rt: &R, address: SocketAddr) -> io::Result<Listener> {
         let socket = UdpSocket::bind(rt, address)?;
-        let socket = self.watch.add(rt, socket, LISTENER)?;
+        let socket = self.watch.add_reader(rt, socket, LISTENER)?;
         Ok(Listener {
             socket,
             senders: Senders::new(self.alloc),
@@ -210,7 +220,7 @@ impl Datagrams {
     /// Opens a socket for the datagrams of one peer, in the place of the last such one.
     fn link<R: Net>(&mut self, rt: &R, address: SocketAddr, peer: u32) -> io::Result<()> {
         let socket = linked_socket(rt, address)?;
-        let socket = self.watch.add(rt, socket, LINK)?;
+        let socket = self.watch.add_reader(rt, socket, LINK)?;
         self.set_link(Link { socket, peer });
         Ok(())
     }
@@ -219,9 +229,24 @@ impl Datagrams {
         self.link = Some(link);
     }
 
-    /// Opens a socket for the datagrams of one peer, at the first address of its host that can be used.
-    pub(crate) fn dial<R: Net>(&mut self, rt: &R, to: &Address, peer: u32) -> Result<(), OutFault> {
-        let addresses = addresses_of(self.alloc, rt, &to.host, to.port).map_err(fault_of)?;
+    /// Opens a socket for the datagrams of one peer: at the address where its sessions were reached, if its host has
+    /// that one, and else at the first that can be used. Sockets of datagrams can be opened to addresses where nobody
+    /// is.
+    pub(crate) fn dial<R: Net>(
+        &mut self,
+        rt: &R,
+        to: &Address,
+        reached: Option<IpAddr>,
+        peer: u32,
+        now: u64,
+    ) -> Result<(), OutFault> {
+        let mut addresses = self.pace.begin(self.alloc, rt, &to.host, to.port, now)?;
+        if let Some(place) = addresses
+            .iter()
+            .position(|address| Some(address.ip()) == reached)
+        {
+            addresses.swap(0, place);
+        }
         let mut last = OutFault::Failed;
         for address in &addresses {
             match self.link(rt, *address, peer) {

@@ -1,129 +1,247 @@
 //! Sessions that are dialled: their connections, and their handshakes, which go on from dial to dial.
 
+use crate::heads::{Head, MOST_FIELDS, Progress, has_token, value_of};
+use crate::masks::Masks;
 use crate::metered::Metered;
-use crate::names::{addresses_of, url_of};
-use crate::session::{DialledSocket, Stop, limits, stop_by};
-use crate::sockets::NetRuntime;
+use crate::names::{authority_of, words_of};
+use crate::pace::Pace;
+use crate::session::Line;
 use crate::upgrades::{LONGEST_HANDSHAKE, READS};
 use crate::watch::Watch;
-use css_devices::faults::{fault_of, no_room};
+use css_devices::faults::{fault_of, no_memory, no_room, would_wait};
+use css_num::{Memory, Text};
 use css_outside::{Address, Kind, OutFault};
+use httparse::{EMPTY_HEADER, Header, Response, Status};
 use mio::net::TcpStream;
 use std::alloc::Global;
-use std::net::SocketAddr;
+use std::io::Write;
+use std::net::{IpAddr, Net, SocketAddr};
 use std::random::RandomSource;
-use tungstenite::handshake::client::{ClientHandshake, request_of};
-use tungstenite::handshake::{HandshakeError, MidHandshake, client};
-use tungstenite::{Error, RandomKeys};
+use websocket::handshake::client::{ClientRequest, generate_key, write_request};
+use websocket::handshake::derive_accept_key;
 
-/// The name under which the connections of dials are watched: each of them ends a pause.
+/// The name under which the connections of dials are watched.
 const DIAL: usize = 3;
 
-/// Why a turn of a handshake gave no session.
-type Unfinished<R> = HandshakeError<ClientHandshake<Metered, RandomKeys<R>>>;
-
-/// A client's handshake that isn't done.
-struct Handshake<R: NetRuntime> {
-    inner: MidHandshake<ClientHandshake<Metered, RandomKeys<R>>>,
-}
-
-// One function drops its many parts: what holds one needn't see them.
-impl<R: NetRuntime> Drop for Handshake<R> {
-    fn drop(self) {
-        let Handshake { inner: _ } = self;
+/// The request that asks for a session. It has an origin, since some servers take no one without.
+fn request_of(alloc: Global, to: &Address, key: [u8; 24]) -> Result<Vec<u8>, OutFault> {
+    let host = authority_of(alloc, &to.host, to.port).map_err(fault_of)?;
+    let origin = format!(in alloc; "http://{host}").map_err(no_memory)?;
+    let origin = Header {
+        name: "Origin",
+        value: origin.as_bytes(),
+    };
+    let request = ClientRequest {
+        host: host.as_str(),
+        path: words_of(&to.path).map_err(fault_of)?,
+        key,
+        subprotocols: &[],
+        extra: &[origin],
+    };
+    let mut output = Vec::new(alloc);
+    match write_request(&request, &mut output) {
+        Ok(()) => Ok(output),
+        Err(_) => Err(OutFault::Failed),
     }
 }
 
-impl<R: NetRuntime> Handshake<R> {
-    /// One turn, which may be its last.
-    fn turn(self) -> Result<DialledSocket<R>, Unfinished<R>> {
-        let Handshake { mut inner } = self;
-        inner.get_mut().begin_turn(READS);
-        match inner.handshake() {
-            Ok((socket, _)) => Ok(socket),
-            Err(unfinished) => Err(unfinished),
-        }
+/// Whether the fields of an answer give the session that was asked for with this key, and nothing else.
+fn gives_session(fields: &[Header<'_>], key: &[u8; 24]) -> bool {
+    let accept = derive_accept_key(key);
+    has_token(fields, "Upgrade", "websocket")
+        && has_token(fields, "Connection", "upgrade")
+        && value_of(fields, "Sec-WebSocket-Accept") == Some(accept.as_slice())
+        && value_of(fields, "Sec-WebSocket-Extensions").is_none()
+        && value_of(fields, "Sec-WebSocket-Protocol").is_none()
+}
+
+/// Whether this head is the answer that a request with this key wants.
+fn is_accepted(head: &[u8], key: &[u8; 24]) -> bool {
+    let mut fields = [EMPTY_HEADER; MOST_FIELDS];
+    let mut response = Response::new(&mut fields);
+    match response.parse(head) {
+        Ok(Status::Complete(_)) => response.code == Some(101)
+            && response.version == Some(1)
+            && gives_session(response.headers, key),
+        _ => false,
     }
 }
 
-/// A session that is being dialled.
-#[derive(Drop)]
-struct Dial<R: NetRuntime> {
-    url: String,
-    /// Where the host is, and how many of these were tried.
-    addresses: Vec<SocketAddr>,
-    tried: usize,
+/// What a turn of a handshake came to.
+#[derive(Clone, Copy)]
+enum Turn {
+    Waits,
+    Opened,
+    Ended,
+}
+
+/// A connection to one address, and the handshake on it.
+struct Call {
     since: u64,
-    handshake: Option<Handshake<R>>,
+    stream: Metered,
+    key: [u8; 24],
+    masks: Masks,
+    request: Vec<u8>,
+    /// How much of the request was written.
+    written: usize,
+    head: Head,
 }
 
-/// An error of a handshake.
-fn handshake_fault(error: Error) -> OutFault {
-    match stop_by(error) {
-        Stop::Memory => OutFault::Memory,
-        _ => OutFault::Failed,
+// One function drops its parts: what holds one needn't see them.
+impl Drop for Call {
+    fn drop(self) {
+        let Call {
+            since: _,
+            stream: _,
+            key: _,
+            masks: _,
+            request: _,
+            written: _,
+            head: _,
+        } = self;
     }
 }
 
 /// Connects to an address.
-fn connect<R: NetRuntime>(
-    rt: &R,
-    watch: &mut Watch,
-    address: SocketAddr,
-) -> Result<Metered, OutFault> {
+fn connect<R: Net>(rt: &R, watch: &mut Watch, address: SocketAddr) -> Result<Metered, OutFault> {
     let stream = TcpStream::connect(rt, address).map_err(fault_of)?;
     let stream = watch.add(rt, stream, DIAL).map_err(fault_of)?;
     Metered::new(stream).map_err(fault_of)
 }
 
-fn nonce<R: NetRuntime>(rt: &R) -> Result<[u8; 16], OutFault> {
+fn drawn_key<R: RandomSource>(rt: &R) -> Result<[u8; 24], OutFault> {
     let mut nonce = [0u8; 16];
     rt.fill_bytes(&mut nonce).map_err(fault_of)?;
-    Ok(nonce)
+    Ok(generate_key(nonce))
 }
 
-/// Asks for a session on a connection.
-fn ask<R: NetRuntime>(
-    alloc: Global,
-    rt: R,
-    nonce: [u8; 16],
-    url: &str,
-    stream: Metered,
-) -> Result<Handshake<R>, OutFault> {
-    let request = request_of(alloc, url).map_err(handshake_fault)?;
-    let keys = RandomKeys::new(rt);
-    let begun = client::start(alloc, nonce, keys, request, stream, Some(limits()));
-    Ok(Handshake {
-        inner: begun.map_err(handshake_fault)?,
-    })
-}
+impl Call {
+    /// Begins a handshake with what is at an address.
+    fn begin<R: Net + RandomSource>(
+        alloc: Global,
+        rt: &R,
+        watch: &mut Watch,
+        to: &Address,
+        address: SocketAddr,
+        since: u64,
+    ) -> Result<Call, OutFault> {
+        let key = drawn_key(rt)?;
+        let masks = Masks::drawn(rt)?;
+        let request = request_of(alloc, to, key)?;
+        let stream = connect(rt, watch, address)?;
+        Ok(Call {
+            since,
+            stream,
+            key,
+            masks,
+            request,
+            written: 0,
+            head: Head::new(alloc),
+        })
+    }
 
-/// Begins a handshake with what is at an address.
-fn begin<R: NetRuntime>(
-    alloc: Global,
-    rt: R,
-    watch: &mut Watch,
-    url: &str,
-    address: SocketAddr,
-) -> Result<Handshake<R>, OutFault> {
-    let nonce = nonce(&rt)?;
-    let stream = connect(&rt, watch, address)?;
-    ask(alloc, rt, nonce, url, stream)
-}
-
-impl<R: NetRuntime> Dial<R> {
-    fn new(url: String, addresses: Vec<SocketAddr>) -> Dial<R> {
-        Dial {
-            url,
-            addresses,
-            tried: 0,
-            since: 0,
-            handshake: None,
+    /// Writes what the stream takes of the request.
+    fn write(&mut self) -> Turn {
+        let rest = self.request.get(self.written..).unwrap_or(&[]);
+        if rest.is_empty() {
+            return Turn::Opened;
+        }
+        match self.stream.write(rest) {
+            Ok(count) => {
+                self.written = self.written.saturating_add(count);
+                Turn::Waits
+            }
+            Err(error) => {
+                if would_wait(error.kind()) {
+                    Turn::Waits
+                } else {
+                    Turn::Ended
+                }
+            }
         }
     }
 
-    fn set_handshake(&mut self, handshake: Handshake<R>) {
-        self.handshake = Some(handshake);
+    /// Reads what has come of the answer.
+    fn read(&mut self) -> Result<Turn, Memory> {
+        self.stream.begin_turn(READS);
+        for _ in 0..READS {
+            match self.head.read(&mut self.stream)? {
+                Progress::More => {}
+                Progress::Waits => return Ok(Turn::Waits),
+                Progress::Whole => {
+                    return Ok(if is_accepted(self.head.bytes(), &self.key) {
+                        Turn::Opened
+                    } else {
+                        Turn::Ended
+                    });
+                }
+                Progress::TooLong | Progress::Ended => return Ok(Turn::Ended),
+            }
+        }
+        Ok(Turn::Waits)
+    }
+
+    /// One turn, which may be its last. One that takes too long ends.
+    fn turn(&mut self, now: u64) -> Result<Turn, Memory> {
+        if now.saturating_sub(self.since) >= LONGEST_HANDSHAKE {
+            return Ok(Turn::Ended);
+        }
+        match self.write() {
+            Turn::Opened => self.read(),
+            turn => Ok(turn),
+        }
+    }
+
+    /// The line on which the session stands.
+    fn line(self, alloc: Global) -> Result<Line, Memory> {
+        let Call {
+            since: _,
+            stream,
+            key: _,
+            masks,
+            request: _,
+            written: _,
+            head,
+        } = self;
+        Ok(Line::dialled(alloc, stream, masks, head.rest(alloc)?))
+    }
+}
+
+/// A session that is being dialled.
+struct Dial {
+    host: Text,
+    port: u16,
+    path: Text,
+    /// Where the host is, and how many of these were tried.
+    addresses: Vec<SocketAddr>,
+    tried: usize,
+    call: Option<Call>,
+}
+
+// One function drops its parts: what holds one needn't see them.
+impl Drop for Dial {
+    fn drop(self) {
+        let Dial {
+            host: _,
+            port: _,
+            path: _,
+            addresses: _,
+            tried: _,
+            call: _,
+        } = self;
+    }
+}
+
+impl Dial {
+    fn new(to: &Address, addresses: Vec<SocketAddr>) -> Result<Dial, Memory> {
+        Ok(Dial {
+            host: to.host.clone()?,
+            port: to.port,
+            path: to.path.clone()?,
+            addresses,
+            tried: 0,
+            call: None,
+        })
     }
 
     /// The next address, which counts as tried.
@@ -134,23 +252,23 @@ impl<R: NetRuntime> Dial<R> {
     }
 
     /// Begins the handshake at the next address, where none stands. A later dial goes on where this one fails.
-    fn begin_next(
+    fn begin_next<R: Net + RandomSource>(
         &mut self,
         alloc: Global,
-        rt: R,
+        rt: &R,
         watch: &mut Watch,
+        to: &Address,
         now: u64,
     ) -> Result<(), OutFault> {
-        if self.handshake.is_some() {
+        if self.call.is_some() {
             return Ok(());
         }
         let Some(address) = self.next_address() else {
             return Ok(());
         };
-        self.since = now;
-        match begin(alloc, rt, watch, self.url.as_str(), address) {
-            Ok(handshake) => {
-                self.set_handshake(handshake);
+        match Call::begin(alloc, rt, watch, to, address, now) {
+            Ok(call) => {
+                self.call = Some(call);
                 Ok(())
             }
             Err(OutFault::Memory) => Err(OutFault::Memory),
@@ -158,132 +276,139 @@ impl<R: NetRuntime> Dial<R> {
         }
     }
 
-    /// Keeps a handshake that isn't done. One that failed, or takes too long, is dropped.
-    fn keep(&mut self, unfinished: Unfinished<R>, now: u64) -> Result<(), OutFault> {
-        match unfinished {
-            HandshakeError::Interrupted(inner) => {
-                let handshake = Handshake { inner };
-                if now.saturating_sub(self.since) < LONGEST_HANDSHAKE {
-                    self.set_handshake(handshake);
-                }
-                Ok(())
-            }
-            HandshakeError::Failure(error) => match handshake_fault(error) {
-                OutFault::Memory => Err(OutFault::Memory),
-                OutFault::Failed => Ok(()),
-            },
-        }
-    }
-
     /// One turn of the handshake, which may be its last.
-    fn turn(&mut self, now: u64) -> Result<Option<DialledSocket<R>>, OutFault> {
-        let Some(handshake) = self.handshake.take() else {
+    fn turn(&mut self, alloc: Global, now: u64) -> Result<Option<Line>, OutFault> {
+        let Some(mut call) = self.call.take() else {
             return Ok(None);
         };
-        match handshake.turn() {
-            Ok(socket) => {
-                self.tried = self.addresses.len();
-                Ok(Some(socket))
-            }
-            Err(unfinished) => {
-                self.keep(unfinished, now)?;
+        match call.turn(now)? {
+            Turn::Waits => {
+                self.call = Some(call);
                 Ok(None)
             }
+            Turn::Opened => Ok(Some(call.line(alloc)?)),
+            Turn::Ended => Ok(None),
         }
     }
 
-    /// Dials, or goes on dialling.
-    fn go_on(
-        &mut self,
-        alloc: Global,
-        rt: R,
-        watch: &mut Watch,
-        now: u64,
-    ) -> Result<Option<DialledSocket<R>>, OutFault> {
-        self.begin_next(alloc, rt, watch, now)?;
-        self.turn(now)
+    /// The address of the last call.
+    fn reached(&self) -> Option<IpAddr> {
+        let address = self.addresses.get(self.tried.saturating_sub(1))?;
+        Some(address.ip())
     }
 
-    /// Whether it is to this URL, and has something left to be tried.
-    fn goes_on_to(&self, url: &str) -> bool {
-        let is_over = self.handshake.is_none() && self.tried >= self.addresses.len();
-        self.url.as_str() == url && !is_over
+    /// Whether it is to this address, and has something left to be tried.
+    fn goes_on_to(&self, to: &Address) -> bool {
+        let is_over = self.call.is_none() && self.tried >= self.addresses.len();
+        let is_same = self.host.bytes() == to.host.bytes() && self.path.bytes() == to.path.bytes();
+        is_same && self.port == to.port && !is_over
     }
 }
 
-/// The sessions that are being dialled, at most one of each kind. They are large, and stand on the heap.
+/// The dials of one kind, of which one stands at most. It is large, and stands on the heap.
 #[derive(Drop)]
-pub(crate) struct Dials<R: NetRuntime> {
+pub(crate) struct Caller {
     alloc: Global,
-    cii: Option<Box<Dial<R>>>,
-    ts: Option<Box<Dial<R>>>,
+    pace: Pace,
+    dial: Option<Box<Dial>>,
+    /// Where the last session was reached.
+    reached: Option<IpAddr>,
 }
 
-impl<R: NetRuntime> Dials<R> {
+impl Caller {
     /// None is being dialled.
-    pub(crate) fn new(alloc: Global) -> Dials<R> {
-        Dials {
+    pub(crate) fn new(alloc: Global) -> Caller {
+        Caller {
             alloc,
-            cii: None,
-            ts: None,
+            pace: Pace::new(),
+            dial: None,
+            reached: None,
         }
     }
 
-    /// The dial of a kind. No session is dialled for the wall clock.
-    fn dial_of(&mut self, kind: Kind) -> &mut Option<Box<Dial<R>>> {
-        match kind {
-            Kind::Ts => &mut self.ts,
-            Kind::Cii | Kind::Wc => &mut self.cii,
-        }
+    /// Where the last session was reached.
+    pub(crate) fn reached(&self) -> Option<IpAddr> {
+        self.reached
     }
 
-    fn set_dial(&mut self, kind: Kind, dial: Option<Box<Dial<R>>>) {
-        *self.dial_of(kind) = dial;
-    }
-
-    /// Whether a dial of this kind goes on to this URL. One to another place, or with nothing left to be tried, is
-    /// dropped.
-    fn goes_on(&mut self, kind: Kind, url: &str) -> bool {
-        let goes_on = match self.dial_of(kind) {
-            Some(dial) => dial.goes_on_to(url),
+    /// Whether a dial goes on to this address.
+    fn goes_on(&self, to: &Address) -> bool {
+        match &self.dial {
+            Some(dial) => dial.goes_on_to(to),
             None => false,
-        };
-        if !goes_on {
-            self.set_dial(kind, None);
         }
-        goes_on
     }
 
-    fn add(&mut self, kind: Kind, dial: Dial<R>) -> Result<(), OutFault> {
-        let dial = Box::new(self.alloc, dial).map_err(no_room)?;
-        self.set_dial(kind, Some(dial));
+    /// Makes sure that a dial to this address stands. One to another place, or with nothing left to be tried, is
+    /// dropped.
+    fn have<R: Net>(&mut self, rt: &R, to: &Address, now: u64) -> Result<(), OutFault> {
+        if self.goes_on(to) {
+            return Ok(());
+        }
+        self.dial = None;
+        let addresses = self.pace.begin(self.alloc, rt, &to.host, to.port, now)?;
+        let dial = Dial::new(to, addresses)?;
+        self.dial = Some(Box::new(self.alloc, dial).map_err(no_room)?);
         Ok(())
     }
 
-    /// Makes sure that a dial of this kind stands. For a new one the host is looked up.
-    fn have(&mut self, rt: R, kind: Kind, to: &Address) -> Result<(), OutFault> {
-        let url = url_of(self.alloc, to).map_err(fault_of)?;
-        if self.goes_on(kind, &url) {
-            return Ok(());
+    /// Goes on dialling.
+    fn turn<R: Net + RandomSource>(
+        &mut self,
+        rt: &R,
+        watch: &mut Watch,
+        to: &Address,
+        now: u64,
+    ) -> Result<Option<Line>, OutFault> {
+        let Some(dial) = &mut self.dial else {
+            return Ok(None);
+        };
+        dial.begin_next(self.alloc, rt, watch, to, now)?;
+        let line = dial.turn(self.alloc, now)?;
+        if line.is_some() {
+            self.reached = dial.reached();
         }
-        let addresses = addresses_of(self.alloc, &rt, &to.host, to.port).map_err(fault_of)?;
-        self.add(kind, Dial::new(url, addresses))
+        Ok(line)
     }
 
     /// Dials, or goes on dialling, and gives the session once it stands.
-    pub(crate) fn go_on(
+    pub(crate) fn go_on<R: Net + RandomSource>(
         &mut self,
-        rt: R,
+        rt: &R,
         watch: &mut Watch,
-        kind: Kind,
         to: &Address,
         now: u64,
-    ) -> Result<Option<DialledSocket<R>>, OutFault> {
-        self.have(rt, kind, to)?;
-        let alloc = self.alloc;
-        match self.dial_of(kind) {
-            Some(dial) => dial.go_on(alloc, rt, watch, now),
-            None => Ok(None),
+    ) -> Result<Option<Line>, OutFault> {
+        self.have(rt, to, now)?;
+        let line = self.turn(rt, watch, to, now)?;
+        if line.is_some() {
+            self.dial = None;
+        }
+        Ok(line)
+    }
+}
+
+/// The sessions that are being dialled.
+#[derive(Drop)]
+pub(crate) struct Dials {
+    pub(crate) cii: Caller,
+    pub(crate) ts: Caller,
+}
+
+impl Dials {
+    /// None is being dialled.
+    pub(crate) fn new(alloc: Global) -> Dials {
+        Dials {
+            cii: Caller::new(alloc),
+            ts: Caller::new(alloc),
+        }
+    }
+
+    /// Who dials sessions of a kind. None is dialled for the wall clock.
+    pub(crate) fn of(&mut self, kind: Kind) -> &mut Caller {
+        match kind {
+            Kind::Ts => &mut self.ts,
+            Kind::Cii | Kind::Wc => &mut self.cii,
         }
     }
 }

@@ -6,9 +6,12 @@
 
 mod datagrams;
 mod dials;
+mod heads;
+mod masks;
 mod metered;
 mod names;
 mod net_outside;
+mod pace;
 mod partings;
 mod session;
 mod sessions;

@@ -10,6 +10,7 @@ pub(crate) struct Metered {
     stream: TcpStream,
     reads: u32,
     cut: bool,
+    came: bool,
 }
 
 impl Metered {
@@ -20,6 +21,7 @@ impl Metered {
             stream,
             reads: 0,
             cut: false,
+            came: false,
         })
     }
 
@@ -27,11 +29,17 @@ impl Metered {
     pub(crate) fn begin_turn(&mut self, reads: u32) {
         self.reads = reads;
         self.cut = false;
+        self.came = false;
     }
 
     /// Whether the turn was cut for want of reads, so that more may be there.
     pub(crate) fn was_cut(&self) -> bool {
         self.cut
+    }
+
+    /// Whether something came, or was taken, in this turn.
+    pub(crate) fn has_come(&self) -> bool {
+        self.came
     }
 
     /// The stream by itself.
@@ -52,13 +60,25 @@ impl Read for Metered {
             return Err(io::Error::from(ErrorKind::WouldBlock));
         }
         self.reads -= 1;
-        self.stream.read(into)
+        match self.stream.read(into) {
+            Ok(count) => {
+                self.came = true;
+                Ok(count)
+            }
+            Err(error) => Err(error),
+        }
     }
 }
 
 impl Write for Metered {
     fn write(&mut self, bytes: &[u8]) -> io::Result<usize> {
-        self.stream.write(bytes)
+        match self.stream.write(bytes) {
+            Ok(count) => {
+                self.came = true;
+                Ok(count)
+            }
+            Err(error) => Err(error),
+        }
     }
 
     fn flush(&mut self) -> io::Result<()> {

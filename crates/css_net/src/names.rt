@@ -1,14 +1,13 @@
 //! Where a host is reached, and the texts that a dial is made with.
 
 use css_num::Text;
-use css_outside::Address;
 use std::alloc::Global;
 use std::io::ErrorKind;
 use std::net::{Ipv4Addr, Ipv6Addr, Net, SocketAddr, SocketAddrV4, SocketAddrV6, ToSocketAddrs};
 use std::{io, str};
 
 /// The characters of a text, which must be UTF-8.
-fn words_of(text: &Text) -> io::Result<&str> {
+pub(crate) fn words_of(text: &Text) -> io::Result<&str> {
     match str::from_utf8(text.bytes()) {
         Ok(words) => Ok(words),
         Err(_) => Err(io::Error::from(ErrorKind::InvalidInput)),
@@ -19,6 +18,12 @@ fn resolved<R: Net>(alloc: Global, rt: &R, authority: &str) -> io::Result<Vec<So
     Ok(authority.to_socket_addrs(rt)?.collect(alloc)?)
 }
 
+/// A host and its port, as a URL has them.
+pub(crate) fn authority_of(alloc: Global, host: &Text, port: u16) -> io::Result<String> {
+    let host = words_of(host)?;
+    Ok(format!(in alloc; "{host}:{port}")?)
+}
+
 /// The addresses of a port of a host, in the order of the resolver. A name is looked up, which may take seconds.
 pub(crate) fn addresses_of<R: Net>(
     alloc: Global,
@@ -26,17 +31,8 @@ pub(crate) fn addresses_of<R: Net>(
     host: &Text,
     port: u16,
 ) -> io::Result<Vec<SocketAddr>> {
-    let host = words_of(host)?;
-    let authority = format!(in alloc; "{host}:{port}")?;
+    let authority = authority_of(alloc, host, port)?;
     resolved(alloc, rt, &authority)
-}
-
-/// The URL at which a session is asked for.
-pub(crate) fn url_of(alloc: Global, to: &Address) -> io::Result<String> {
-    let host = words_of(&to.host)?;
-    let path = words_of(&to.path)?;
-    let port = to.port;
-    Ok(format!(in alloc; "ws://{host}:{port}{path}")?)
 }
 
 /// Any free port of this machine, in the family of an address.

@@ -25,6 +25,13 @@ impl<R: NetRuntime> NetOutside<R> {
             sockets: Sockets::new(alloc, rt),
         }
     }
+
+    /// Closes the sessions that are open, and waits until the peers have what they were told, for a second at most.
+    /// Call it when the run is over.
+    pub fn end(&mut self) {
+        // What can't be told now never can.
+        let _ = self.sockets.end();
+    }
 }
 
 impl<R: NetRuntime> Outside for NetOutside<R> {
@@ -37,8 +44,15 @@ impl<R: NetRuntime> Outside for NetOutside<R> {
         self.tally.plain(listens)
     }
 
-    fn now(&mut self, _why: Why) -> Result<Clocked, OutFault> {
-        self.tally.now(&self.rt)
+    fn now(&mut self, why: Why) -> Result<Clocked, OutFault> {
+        let begun = match why {
+            Why::Turn => self.sockets.begin_turn(),
+            _ => Ok(()),
+        };
+        match begun {
+            Ok(()) => self.tally.now(&self.rt),
+            Err(fault) => self.tally.unread(fault),
+        }
     }
 
     fn dial(&mut self, kind: Kind, to: &Address) -> Result<u32, OutFault> {

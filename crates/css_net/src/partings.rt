@@ -4,23 +4,23 @@
 //! close frame that says why. So what waits is written out, and what still comes is read past for a short time.
 
 use crate::session::{Line, Stop};
-use crate::sockets::NetRuntime;
 use css_devices::faults::no_room;
 use css_outside::OutFault;
 use std::alloc::Global;
 
 /// How long a session may part, in nanoseconds.
-const LONGEST_PARTING: u64 = 1_000_000_000;
+pub(crate) const LONGEST_PARTING: u64 = 1_000_000_000;
 /// How many sessions may part at once; of more, the oldest is cut off.
-const MOST_PARTING: usize = 64;
+const MOST_PARTING: usize = 256;
 /// How many pieces are read past in one turn.
 const MOST_PIECES: usize = 16;
 
-/// A session that parts.
+/// A session that parts, or a connection whose upgrade was refused.
 #[derive(Drop)]
-struct Parting<R: NetRuntime> {
-    peer: u32,
-    line: Line<R>,
+struct Parting {
+    /// The name under which it is watched.
+    name: usize,
+    line: Line,
     since: u64,
     /// Something may have come, or the stream may take more.
     named: bool,
@@ -30,7 +30,7 @@ struct Parting<R: NetRuntime> {
     over: bool,
 }
 
-impl<R: NetRuntime> Parting<R> {
+impl Parting {
     fn write_out(&mut self) {
         match self.line.flush() {
             Ok(()) => {
@@ -80,9 +80,9 @@ impl<R: NetRuntime> Parting<R> {
         }
     }
 
-    /// Something has come on the session of this peer.
-    fn name(&mut self, peer: u32) {
-        if self.peer == peer {
+    /// Something has come on the session that is watched under this name.
+    fn name(&mut self, name: usize) {
+        if self.name == name {
             self.named = true;
         }
     }
@@ -90,13 +90,13 @@ impl<R: NetRuntime> Parting<R> {
 
 /// The sessions that part, the oldest first.
 #[derive(Drop)]
-pub(crate) struct Partings<R: NetRuntime> {
-    list: Vec<Parting<R>>,
+pub(crate) struct Partings {
+    list: Vec<Parting>,
 }
 
-impl<R: NetRuntime> Partings<R> {
+impl Partings {
     /// None parts.
-    pub(crate) fn new(alloc: Global) -> Partings<R> {
+    pub(crate) fn new(alloc: Global) -> Partings {
         Partings {
             list: Vec::new(alloc),
         }
@@ -109,11 +109,11 @@ impl<R: NetRuntime> Partings<R> {
         }
     }
 
-    /// Adds a session.
-    pub(crate) fn add(&mut self, peer: u32, line: Line<R>, since: u64) -> Result<(), OutFault> {
+    /// Adds a session that is watched under this name.
+    pub(crate) fn add(&mut self, name: usize, line: Line, since: u64) -> Result<(), OutFault> {
         self.make_room();
         let parting = Parting {
-            peer,
+            name,
             line,
             since,
             named: true,
@@ -124,9 +124,9 @@ impl<R: NetRuntime> Partings<R> {
     }
 
     /// Something has come on a session that parts.
-    pub(crate) fn name(&mut self, peer: u32) {
+    pub(crate) fn name(&mut self, name: usize) {
         for parting in self.list.iter_mut() {
-            parting.name(peer);
+            parting.name(name);
         }
     }
 

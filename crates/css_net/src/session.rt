@@ -1,30 +1,29 @@
 //! One WebSocket session, by turns that never wait.
 
+use crate::masks::Masks;
 use crate::metered::Metered;
-use crate::sockets::NetRuntime;
 use css_devices::faults::{no_memory, would_wait};
 use css_num::{Memory, Text};
-use css_outside::OutFault;
+use css_outside::{OutFault, Wrote};
 use mio::net::TcpStream;
 use std::alloc::Global;
 use std::io;
 use std::io::Read;
 use tungstenite::{
-    CloseCode, CloseFrame, Error, MaskKeys, Message, NoMask, RandomKeys, Utf8Bytes, WebSocket,
-    WebSocketConfig,
+    Bytes, CloseCode, CloseFrame, Error, Message, Role, Utf8Bytes, WebSocket, WebSocketConfig,
 };
 
 /// The greatest length of a text that is taken, in bytes.
 const LONGEST_MESSAGE: usize = 262_144;
-/// How many bytes may wait to be written to a peer. What is said counts until the peer has taken all of it.
-pub(crate) const MOST_WAITING: usize = 4_194_304;
+/// How many bytes may wait to be written to a peer.
+const MOST_WAITING: usize = 4_194_304;
 /// How many bytes one read asks for.
 const READ_SIZE: usize = 8_192;
 /// How many reads a session has in one turn.
 const READS: u32 = 1;
 
 /// The limits of each session.
-pub(crate) fn limits() -> WebSocketConfig {
+fn limits() -> WebSocketConfig {
     WebSocketConfig::default()
         .read_buffer_size(READ_SIZE)
         .write_buffer_size(0)
@@ -32,12 +31,6 @@ pub(crate) fn limits() -> WebSocketConfig {
         .max_message_size(Some(LONGEST_MESSAGE))
         .max_frame_size(Some(LONGEST_MESSAGE))
 }
-
-/// A session that a peer opened here.
-pub(crate) type ServedSocket = WebSocket<Metered, NoMask>;
-
-/// A session that was dialled.
-pub(crate) type DialledSocket<R> = WebSocket<Metered, RandomKeys<R>>;
 
 /// What one turn of a session gave.
 #[derive(Drop)]
@@ -50,17 +43,6 @@ pub(crate) enum Came {
     Nothing,
     /// The session ended.
     End,
-}
-
-/// What became of a text that was said.
-#[derive(Clone, Copy)]
-pub(crate) enum Put {
-    /// All that was said so far was written.
-    Written,
-    /// Some of it waits until the peer takes more.
-    Waits,
-    /// The session is over.
-    Gone,
 }
 
 /// Why a call on a session gave nothing.
@@ -88,7 +70,7 @@ fn stop_of(error: &Error) -> Stop {
 }
 
 /// What an error of a session means. The error itself, with all that it may hold, ends here.
-pub(crate) fn stop_by(error: Error) -> Stop {
+fn stop_by(error: Error) -> Stop {
     stop_of(&error)
 }
 
@@ -101,53 +83,81 @@ fn stop_by_io(error: io::Error) -> Stop {
     }
 }
 
-/// The stream of a session, at the one end or the other.
-pub(crate) enum Line<R: NetRuntime> {
-    Served(ServedSocket),
-    Dialled(DialledSocket<R>),
+/// The WebSocket of a session.
+type Socket = WebSocket<Metered, Masks>;
+
+/// The line to a peer, once its handshake is done.
+pub(crate) struct Line {
+    socket: Socket,
 }
 
 // One function drops its many parts: what holds one needn't see them.
-impl<R: NetRuntime> Drop for Line<R> {
+impl Drop for Line {
     fn drop(self) {
-        match self {
-            Line::Served(_) => {}
-            Line::Dialled(_) => {}
-        }
+        let Line { socket: _ } = self;
     }
 }
 
-impl<R: NetRuntime> Line<R> {
-    /// What has come.
-    pub(crate) fn hear(&mut self, alloc: Global) -> Result<Came, Memory> {
-        match self {
-            Line::Served(socket) => hear(alloc, socket),
-            Line::Dialled(socket) => hear(alloc, socket),
+impl Line {
+    /// A line that a peer dialled, with what came after its handshake.
+    pub(crate) fn served(alloc: Global, stream: Metered, rest: Vec<u8>) -> Line {
+        let masks = Masks::unused();
+        let limits = Some(limits());
+        Line {
+            socket: WebSocket::from_partially_read(
+                alloc,
+                stream,
+                masks,
+                rest,
+                Role::Server,
+                limits,
+            ),
         }
     }
 
-    /// Says a text. What the stream doesn't take at once goes out in later turns.
-    pub(crate) fn say(&mut self, alloc: Global, text: &str) -> Result<Put, OutFault> {
-        match self {
-            Line::Served(socket) => say(alloc, socket, text),
-            Line::Dialled(socket) => say(alloc, socket, text),
+    /// A line that was dialled.
+    pub(crate) fn dialled(alloc: Global, stream: Metered, masks: Masks, rest: Vec<u8>) -> Line {
+        let limits = Some(limits());
+        Line {
+            socket: WebSocket::from_partially_read(
+                alloc,
+                stream,
+                masks,
+                rest,
+                Role::Client,
+                limits,
+            ),
         }
+    }
+
+    /// What has come.
+    pub(crate) fn hear(&mut self, alloc: Global) -> Result<Came, Memory> {
+        hear(alloc, &mut self.socket)
+    }
+
+    /// Says a text. What the stream doesn't take at once goes out in later turns.
+    pub(crate) fn say(&mut self, alloc: Global, text: &str) -> Result<Wrote, OutFault> {
+        let message = Message::text(alloc, text).map_err(no_memory)?;
+        match send(&mut self.socket, message) {
+            Ok(()) | Err(Stop::Waits) => Ok(Wrote::Sent),
+            Err(Stop::Memory) => Err(OutFault::Memory),
+            Err(_) => Ok(Wrote::Gone),
+        }
+    }
+
+    /// Asks the peer whether it is there.
+    pub(crate) fn ping(&mut self) {
+        let _ = send(&mut self.socket, Message::Ping(Bytes::new()));
     }
 
     /// Tells the peer that the session ends, if it still listens.
     pub(crate) fn close(&mut self, code: CloseCode) {
-        match self {
-            Line::Served(socket) => close(socket, code),
-            Line::Dialled(socket) => close(socket, code),
-        }
+        close(&mut self.socket, code)
     }
 
     /// Writes out what waits.
     pub(crate) fn flush(&mut self) -> Result<(), Stop> {
-        match self {
-            Line::Served(socket) => flush(socket),
-            Line::Dialled(socket) => flush(socket),
-        }
+        flush(&mut self.socket)
     }
 
     /// Reads past what comes, and tells how much it was: 0 is the end.
@@ -160,18 +170,17 @@ impl<R: NetRuntime> Line<R> {
 
     /// Whether the last turn was cut for want of reads.
     pub(crate) fn was_cut(&self) -> bool {
-        match self {
-            Line::Served(socket) => socket.get_ref().was_cut(),
-            Line::Dialled(socket) => socket.get_ref().was_cut(),
-        }
+        self.socket.get_ref().was_cut()
+    }
+
+    /// Whether something came, or was taken, in the last turn.
+    pub(crate) fn has_come(&self) -> bool {
+        self.socket.get_ref().has_come()
     }
 
     /// The stream with its reads.
     pub(crate) fn metered(&mut self) -> &mut Metered {
-        match self {
-            Line::Served(socket) => socket.get_mut(),
-            Line::Dialled(socket) => socket.get_mut(),
-        }
+        self.socket.get_mut()
     }
 
     /// The stream by itself.
@@ -182,22 +191,19 @@ impl<R: NetRuntime> Line<R> {
 
 // Each call of a socket stands in a function of its own: what it promises is long, and no caller here rests on it.
 
-fn flush<K: MaskKeys + Drop>(socket: &mut WebSocket<Metered, K>) -> Result<(), Stop> {
+fn flush(socket: &mut Socket) -> Result<(), Stop> {
     socket.flush().map_err(stop_by)
 }
 
-fn read<K: MaskKeys + Drop>(socket: &mut WebSocket<Metered, K>) -> Result<Message, Stop> {
+fn read(socket: &mut Socket) -> Result<Message, Stop> {
     socket.read().map_err(stop_by)
 }
 
-fn send<K: MaskKeys + Drop>(
-    socket: &mut WebSocket<Metered, K>,
-    message: Message,
-) -> Result<(), Stop> {
+fn send(socket: &mut Socket, message: Message) -> Result<(), Stop> {
     socket.send(message).map_err(stop_by)
 }
 
-fn close<K: MaskKeys + Drop>(socket: &mut WebSocket<Metered, K>, code: CloseCode) {
+fn close(socket: &mut Socket, code: CloseCode) {
     let frame = CloseFrame {
         code,
         reason: Utf8Bytes::from_static(""),
@@ -212,25 +218,20 @@ fn came_by(alloc: Global, message: &Message) -> Result<Came, Stop> {
             Ok(text) => Ok(Came::Text(text)),
             Err(Memory) => Err(Stop::Memory),
         },
+        Message::Binary(_) => Err(Stop::Refuses(CloseCode::Unsupported)),
         Message::Close(_) => Ok(Came::End),
         _ => Ok(Came::Other),
     }
 }
 
 // A peer that doesn't take what it was sent is not read: its pings would have more and more wait for it.
-fn next<K: MaskKeys + Drop>(
-    alloc: Global,
-    socket: &mut WebSocket<Metered, K>,
-) -> Result<Came, Stop> {
+fn next(alloc: Global, socket: &mut Socket) -> Result<Came, Stop> {
     flush(socket)?;
     let message = read(socket)?;
     came_by(alloc, &message)
 }
 
-fn hear<K: MaskKeys + Drop>(
-    alloc: Global,
-    socket: &mut WebSocket<Metered, K>,
-) -> Result<Came, Memory> {
+fn hear(alloc: Global, socket: &mut Socket) -> Result<Came, Memory> {
     socket.get_mut().begin_turn(READS);
     match next(alloc, socket) {
         Ok(Came::End) => {
@@ -243,10 +244,7 @@ fn hear<K: MaskKeys + Drop>(
     }
 }
 
-fn hear_nothing<K: MaskKeys + Drop>(
-    socket: &mut WebSocket<Metered, K>,
-    stop: Stop,
-) -> Result<Came, Memory> {
+fn hear_nothing(socket: &mut Socket, stop: Stop) -> Result<Came, Memory> {
     match stop {
         Stop::Memory => Err(Memory),
         Stop::Waits => Ok(Came::Nothing),
@@ -255,19 +253,5 @@ fn hear_nothing<K: MaskKeys + Drop>(
             Ok(Came::End)
         }
         Stop::Over => Ok(Came::End),
-    }
-}
-
-fn say<K: MaskKeys + Drop>(
-    alloc: Global,
-    socket: &mut WebSocket<Metered, K>,
-    text: &str,
-) -> Result<Put, OutFault> {
-    let message = Message::text(alloc, text).map_err(no_memory)?;
-    match send(socket, message) {
-        Ok(()) => Ok(Put::Written),
-        Err(Stop::Waits) => Ok(Put::Waits),
-        Err(Stop::Memory) => Err(OutFault::Memory),
-        Err(_) => Ok(Put::Gone),
     }
 }

@@ -1,27 +1,50 @@
-use crate::session::{Came, Line, MOST_WAITING, Put};
-use crate::sockets::NetRuntime;
+use crate::session::{Came, Line};
 use css_devices::faults::no_room;
 use css_outside::{Heard, OutFault, Wrote};
 use std::alloc::Global;
+use tungstenite::CloseCode;
+
+/// How many sessions may be open that peers opened. The next one is told to come again.
+const MOST_SERVED: usize = 256;
+/// How long nothing may come on a session before its peer is asked whether it is there, in nanoseconds.
+const ASKED_AFTER: u64 = 30_000_000_000;
+/// How long nothing may come on a session before it is closed, in nanoseconds.
+const CLOSED_AFTER: u64 = 60_000_000_000;
+/// How often silent sessions are looked for, in nanoseconds.
+const BETWEEN_LOOKS: u64 = 1_000_000_000;
 
 /// An open session.
 #[derive(Drop)]
-struct Session<R: NetRuntime> {
+struct Session {
     peer: u32,
-    line: Line<R>,
+    line: Line,
+    /// Whether the peer opened it.
+    served: bool,
     /// Something may have come that was not read yet.
     named: bool,
-    /// How many bytes were said since all was written.
-    waiting: usize,
+    /// When something came last.
+    heard: u64,
+    /// The peer was asked since then whether it is there.
+    asked: bool,
+    /// It was closed for its silence, and is still to be told as such.
+    over: bool,
 }
 
-impl<R: NetRuntime> Session<R> {
+impl Session {
     /// What has come. A session on which nothing has come costs no call of the system.
-    fn hear(&mut self, alloc: Global) -> Result<Heard, OutFault> {
+    fn hear(&mut self, alloc: Global, now: u64) -> Result<Heard, OutFault> {
+        if self.over {
+            return Ok(Heard::Closed);
+        }
         if !self.named {
             return Ok(Heard::Quiet);
         }
-        match self.line.hear(alloc)? {
+        let came = self.line.hear(alloc)?;
+        if self.line.has_come() {
+            self.heard = now;
+            self.asked = false;
+        }
+        match came {
             Came::Text(text) => Ok(Heard::Text(text)),
             Came::Other => Ok(Heard::Quiet),
             Came::Nothing => {
@@ -32,45 +55,62 @@ impl<R: NetRuntime> Session<R> {
         }
     }
 
-    /// Says a text. A peer that takes too little for too long is gone.
-    fn say(&mut self, alloc: Global, text: &str) -> Result<Wrote, OutFault> {
-        match self.line.say(alloc, text)? {
-            Put::Written => self.waiting = 0,
-            Put::Waits => self.waiting = self.waiting.saturating_add(text.len()),
-            Put::Gone => return Ok(Wrote::Gone),
+    /// Asks a silent peer whether it is there, and closes the session of one that doesn't answer.
+    fn mind(&mut self, now: u64) {
+        let silent = now.saturating_sub(self.heard);
+        if silent >= CLOSED_AFTER && !self.over {
+            self.line.close(CloseCode::Away);
+            self.over = true;
+        } else if silent >= ASKED_AFTER && !self.asked {
+            self.line.ping();
+            self.asked = true;
         }
-        if self.waiting > MOST_WAITING {
-            return Ok(Wrote::Gone);
-        }
-        Ok(Wrote::Sent)
     }
 }
 
 /// The open sessions, in order of peer.
 #[derive(Drop)]
-pub(crate) struct Sessions<R: NetRuntime> {
+pub(crate) struct Sessions {
     alloc: Global,
-    list: Vec<Session<R>>,
+    list: Vec<Session>,
+    /// When silent sessions were looked for last.
+    minded: u64,
 }
 
-impl<R: NetRuntime> Sessions<R> {
+impl Sessions {
     /// None is open.
-    pub(crate) fn new(alloc: Global) -> Sessions<R> {
+    pub(crate) fn new(alloc: Global) -> Sessions {
         Sessions {
             alloc,
             list: Vec::new(alloc),
+            minded: 0,
         }
     }
 
     /// Adds a session, whose peer is above all others. Some of it may have come with its handshake.
-    pub(crate) fn open(&mut self, peer: u32, line: Line<R>) -> Result<(), OutFault> {
+    pub(crate) fn open(
+        &mut self,
+        peer: u32,
+        line: Line,
+        served: bool,
+        now: u64,
+    ) -> Result<(), OutFault> {
         let session = Session {
             peer,
             line,
+            served,
             named: true,
-            waiting: 0,
+            heard: now,
+            asked: false,
+            over: false,
         };
         self.list.push(session).map_err(no_room)
+    }
+
+    /// Whether as many sessions are open as peers may have opened.
+    pub(crate) fn is_full(&self) -> bool {
+        let served = self.list.iter().filter(|session| session.served).count();
+        served >= MOST_SERVED
     }
 
     fn place_of(&self, peer: u32) -> Option<usize> {
@@ -79,7 +119,7 @@ impl<R: NetRuntime> Sessions<R> {
             .ok()
     }
 
-    fn session_of(&mut self, peer: u32) -> Option<&mut Session<R>> {
+    fn session_of(&mut self, peer: u32) -> Option<&mut Session> {
         let place = self.place_of(peer)?;
         self.list.get_mut(place)
     }
@@ -96,30 +136,47 @@ impl<R: NetRuntime> Sessions<R> {
     }
 
     /// What has come on a session. One that isn't there is closed.
-    pub(crate) fn hear(&mut self, peer: u32) -> Result<Heard, OutFault> {
+    pub(crate) fn hear(&mut self, peer: u32, now: u64) -> Result<Heard, OutFault> {
         let alloc = self.alloc;
         match self.session_of(peer) {
-            Some(session) => session.hear(alloc),
+            Some(session) => session.hear(alloc, now),
             None => Ok(Heard::Closed),
         }
     }
 
-    /// Says a text. A session that isn't there is gone.
+    /// Says a text. A session that isn't there is gone, and so is one whose peer takes too little for too long.
     pub(crate) fn say(&mut self, peer: u32, text: &str) -> Result<Wrote, OutFault> {
         let alloc = self.alloc;
         match self.session_of(peer) {
-            Some(session) => session.say(alloc, text),
+            Some(session) => session.line.say(alloc, text),
             None => Ok(Wrote::Gone),
         }
     }
 
+    /// Minds silent peers, once a second.
+    pub(crate) fn mind(&mut self, now: u64) {
+        if now.saturating_sub(self.minded) < BETWEEN_LOOKS {
+            return;
+        }
+        self.minded = now;
+        for session in self.list.iter_mut() {
+            session.mind(now);
+        }
+    }
+
     /// Takes a session out.
-    pub(crate) fn part(&mut self, peer: u32) -> Option<Line<R>> {
+    pub(crate) fn part(&mut self, peer: u32) -> Option<Line> {
         let place = self.place_of(peer)?;
         if place < self.list.len() {
             Some(self.list.remove(place).line)
         } else {
             None
         }
+    }
+
+    /// Takes the last session out: its peer and its line.
+    pub(crate) fn part_last(&mut self) -> Option<(u32, Line)> {
+        let session = self.list.pop()?;
+        Some((session.peer, session.line))
     }
 }

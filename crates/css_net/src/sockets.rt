@@ -5,10 +5,10 @@ ghost use Rattle.css_outside.specs.Outsides.{FitsRoom, IsSession};
 use crate::datagrams::Datagrams;
 use crate::dials::Dials;
 use crate::names::addresses_of;
-use crate::partings::Partings;
-use crate::session::{Line, ServedSocket};
+use crate::partings::{LONGEST_PARTING, Partings};
+use crate::session::Line;
 use crate::sessions::Sessions;
-use crate::upgrades::{FIRST_UPGRADE, Service, Upgrades};
+use crate::upgrades::{FIRST_UPGRADE, Service, Upgraded, Upgrades};
 use crate::watch::{NOBODY, Watch};
 use css_devices::faults::fault_of;
 use css_devices::monotone;
@@ -18,11 +18,15 @@ use std::alloc::Global;
 use std::net::{Net, SocketAddr};
 use std::random::RandomSource;
 use std::time::{Clock, Duration};
-use std::{io, str};
+use std::{io, str, thread};
 use tungstenite::CloseCode;
 
-/// How long a pause is. The system may end it a little later.
-const PAUSE_MILLIS: u64 = 4;
+/// How long a pause is, in nanoseconds. The system may end it a little later.
+const PAUSE: u64 = 4_000_000;
+/// How often a pause goes on that was cut for nothing.
+const MOST_CUTS: usize = 8;
+/// How many handshakes may end in one turn.
+const MOST_ENDED: usize = 16;
 /// The name of the session of peer 0. The names of sessions end below those of handshakes.
 const FIRST_SESSION: usize = 16;
 
@@ -38,11 +42,13 @@ pub(crate) struct Sockets<R: NetRuntime> {
     watch: Watch,
     /// Whether the watch was not asked since the last look for a datagram.
     stale: bool,
+    /// Whether there was a pause in this turn, or a datagram came.
+    paused: bool,
     datagrams: Datagrams,
     upgrades: Upgrades,
-    dials: Dials<R>,
-    sessions: Sessions<R>,
-    partings: Partings<R>,
+    dials: Dials,
+    sessions: Sessions,
+    partings: Partings,
 }
 
 fn time<R: NetRuntime>(rt: &R) -> u64 {
@@ -62,6 +68,7 @@ impl<R: NetRuntime> Drop for Sockets<R> {
             rt: _,
             watch: _,
             stale: _,
+            paused: _,
             datagrams: _,
             upgrades: _,
             dials: _,
@@ -79,6 +86,7 @@ impl<R: NetRuntime> Sockets<R> {
             rt,
             watch: Watch::new(alloc),
             stale: true,
+            paused: true,
             datagrams: Datagrams::new(alloc),
             upgrades: Upgrades::new(alloc),
             dials: Dials::new(alloc),
@@ -93,12 +101,11 @@ impl<R: NetRuntime> Sockets<R> {
         if name == NOBODY {
             return;
         }
+        self.partings.name(name);
         if name < FIRST_SESSION || name >= FIRST_UPGRADE {
             self.upgrades.name(name);
         } else if let Ok(peer) = u32::try_from(name - FIRST_SESSION) {
-            if !self.sessions.name(peer) {
-                self.partings.name(peer);
-            }
+            self.sessions.name(peer);
         }
     }
 
@@ -109,10 +116,9 @@ impl<R: NetRuntime> Sockets<R> {
         for name in named {
             self.mark(name);
         }
-        if !self.partings.is_empty() {
-            let now = time(&self.rt);
-            self.partings.turn(now);
-        }
+        let now = time(&self.rt);
+        self.sessions.mind(now);
+        self.partings.turn(now);
         Ok(())
     }
 
@@ -124,19 +130,32 @@ impl<R: NetRuntime> Sockets<R> {
         Ok(())
     }
 
-    /// A pause in which nothing is to be done, until a datagram comes. Where none can, a session's text ends it too.
-    fn rest(&mut self) -> Result<(), OutFault> {
-        let pause = Duration::from_millis(PAUSE_MILLIS);
-        if self.datagrams.is_none() {
-            return self.gather(pause);
+    /// What is left of a pause that began then.
+    fn left(&self, begun: u64) -> Duration {
+        let over = begun.saturating_add(PAUSE);
+        Duration::from_nanos(over.saturating_sub(time(&self.rt)))
+    }
+
+    /// A turn begins. Where the turn before had neither a pause nor a datagram there is a pause now, so that no peer
+    /// can use turns up but by datagrams.
+    pub(crate) fn begin_turn(&mut self) -> Result<(), OutFault> {
+        if !self.paused {
+            let begun = time(&self.rt);
+            self.gather(self.left(begun))?;
+            thread::sleep(&self.rt, self.left(begun));
         }
-        self.datagrams.wait(&self.rt, pause)
+        self.paused = false;
+        Ok(())
     }
 
     // ---- a television's sockets
 
-    /// Listens at an address, and for sessions of CSS-TS at the next port.
+    /// Listens at an address, and for sessions of CSS-TS at the next port. All addresses of this machine at once can't
+    /// be listened at: nobody could dial what is then published.
     fn listen_at(&mut self, address: SocketAddr, next_port: u16) -> Result<(), OutFault> {
+        if address.ip().is_unspecified() {
+            return Err(OutFault::Failed);
+        }
         let mut next = address;
         next.set_port(next_port);
         let listener = self
@@ -159,6 +178,7 @@ impl<R: NetRuntime> Sockets<R> {
         for address in &addresses {
             match self.listen_at(*address, next_port) {
                 Ok(()) => return Ok(()),
+                Err(OutFault::Memory) => return Err(OutFault::Memory),
                 Err(fault) => last = fault,
             }
         }
@@ -166,60 +186,106 @@ impl<R: NetRuntime> Sockets<R> {
     }
 
     /// The stream of a session, watched under its peer's name from now on.
-    fn renamed(&mut self, mut line: Line<R>, peer: u32) -> io::Result<Line<R>> {
+    fn renamed(&mut self, mut line: Line, peer: u32) -> io::Result<Line> {
         self.watch.rename(line.stream(), name_of(peer))?;
         Ok(line)
     }
 
-    /// The next handshake that a peer began and that is done.
-    fn next_upgrade(&mut self) -> Result<Option<(Service, ServedSocket)>, OutFault> {
-        self.look()?;
-        if self.upgrades.is_idle() {
-            return Ok(None);
+    /// The next handshake that a peer began and that stands.
+    fn next_upgrade(&mut self, now: u64) -> Result<Option<(Service, Line)>, OutFault> {
+        for _ in 0..MOST_ENDED {
+            match self.upgrades.turn()? {
+                None => return Ok(None),
+                Some(Upgraded::Opened(service, stream, rest)) => {
+                    return Ok(Some((service, Line::served(self.alloc, stream, rest))));
+                }
+                Some(Upgraded::Refused(name, stream)) => {
+                    let line = Line::served(self.alloc, stream, Vec::new(self.alloc));
+                    self.partings.add(name, line, now)?;
+                }
+                Some(Upgraded::Ended) => {}
+            }
         }
-        let now = time(&self.rt);
-        self.upgrades.connect(&self.rt, &mut self.watch, now)?;
-        Ok(self.upgrades.turn(now))
+        Ok(None)
+    }
+
+    /// Opens a session that a peer asked for, where there is room.
+    fn open(&mut self, line: Line, peer: u32, now: u64) -> Result<bool, OutFault> {
+        let Ok(mut line) = self.renamed(line, peer) else {
+            return Ok(false);
+        };
+        if self.sessions.is_full() {
+            line.close(CloseCode::Again);
+            self.partings.add(name_of(peer), line, now)?;
+            return Ok(false);
+        }
+        self.sessions.open(peer, line, true, now)?;
+        Ok(true)
     }
 
     /// The next session that a peer opened. It becomes this peer's.
     pub(crate) fn accept(&mut self, peer: u32) -> Result<Option<Kind>, OutFault>
         ensures { IfOk result (λ came. IfSome came IsSession) }
     {
-        let Some((service, socket)) = self.next_upgrade()? else {
+        self.look()?;
+        if self.upgrades.is_idle() {
+            return Ok(None);
+        }
+        let now = time(&self.rt);
+        self.upgrades.connect(&self.rt, &mut self.watch, now)?;
+        let Some((service, line)) = self.next_upgrade(now)? else {
             return Ok(None);
         };
-        let Ok(line) = self.renamed(Line::Served(socket), peer) else {
-            return Ok(None);
-        };
-        self.sessions.open(peer, line)?;
-        Ok(Some(service.kind()))
+        if self.open(line, peer, now)? {
+            Ok(Some(service.kind()))
+        } else {
+            Ok(None)
+        }
     }
 
     // ---- a companion's sockets
 
-    fn call(&mut self, kind: Kind, to: &Address, peer: u32) -> Result<(), OutFault> {
-        let now = time(&self.rt);
-        let Some(socket) = self.dials.go_on(self.rt, &mut self.watch, kind, to, now)? else {
+    fn call(&mut self, kind: Kind, to: &Address, peer: u32, now: u64) -> Result<(), OutFault> {
+        let caller = self.dials.of(kind);
+        let Some(line) = caller.go_on(&self.rt, &mut self.watch, to, now)? else {
             return Err(OutFault::Failed);
         };
-        let line = self.renamed(Line::Dialled(socket), peer).map_err(fault_of)?;
-        self.sessions.open(peer, line)
+        let line = self.renamed(line, peer).map_err(fault_of)?;
+        self.sessions.open(peer, line, false, now)
     }
 
     /// Opens a session, or the socket of datagrams, for this peer. A dial that isn't done goes on at the next.
     pub(crate) fn dial(&mut self, kind: Kind, to: &Address, peer: u32) -> Result<(), OutFault> {
-        let dialled = match kind {
-            Kind::Wc => self.datagrams.dial(&self.rt, to, peer),
-            Kind::Cii | Kind::Ts => self.call(kind, to, peer),
-        };
-        if dialled.is_err() {
-            self.rest()?;
+        let now = time(&self.rt);
+        match kind {
+            Kind::Wc => {
+                let reached = self.dials.cii.reached();
+                self.datagrams.dial(&self.rt, to, reached, peer, now)
+            }
+            Kind::Cii | Kind::Ts => self.call(kind, to, peer, now),
         }
-        dialled
     }
 
     // ---- datagrams
+
+    /// Waits for a datagram. A pause that was cut for nothing goes on.
+    fn wait_for(&mut self, into: &mut [u8; 64]) -> Result<Option<(u32, usize)>, OutFault>
+        ensures room { IfOk result FitsRoom }
+    {
+        let begun = time(&self.rt);
+        for _ in 0..MOST_CUTS {
+            let left = self.left(begun);
+            if left == Duration::ZERO {
+                return Ok(None);
+            }
+            self.datagrams.wait(&self.rt, left)?;
+            if let Some(taken) = self.datagrams.take(into)? {
+                return Ok(Some(taken));
+            }
+        }
+        thread::sleep(&self.rt, self.left(begun));
+        Ok(None)
+    }
 
     /// The next datagram. Where none has come it is waited for.
     pub(crate) fn take_datagram(
@@ -229,11 +295,11 @@ impl<R: NetRuntime> Sockets<R> {
         ensures room { IfOk result FitsRoom }
     {
         self.stale = true;
+        self.paused = true;
         if let Some(taken) = self.datagrams.take(into)? {
             return Ok(Some(taken));
         }
-        self.rest()?;
-        self.datagrams.take(into)
+        self.wait_for(into)
     }
 
     pub(crate) fn send_datagram(&self, peer: u32, bytes: &[u8; 32]) -> Result<(), OutFault> {
@@ -245,27 +311,20 @@ impl<R: NetRuntime> Sockets<R> {
     fn part(&mut self, peer: u32) -> Result<(), OutFault> {
         let now = time(&self.rt);
         match self.sessions.part(peer) {
-            Some(line) => self.partings.add(peer, line, now),
+            Some(line) => self.partings.add(name_of(peer), line, now),
             None => Ok(()),
         }
     }
 
-    /// What a session has to tell. Where it has nothing, and no datagram is waited for, there is a pause.
+    /// What a session has to tell.
     pub(crate) fn take_text(&mut self, peer: u32) -> Result<Heard, OutFault> {
         self.look()?;
-        match self.sessions.hear(peer)? {
-            Heard::Text(text) => Ok(Heard::Text(text)),
-            Heard::Quiet => {
-                if self.datagrams.is_none() {
-                    self.rest()?;
-                }
-                Ok(Heard::Quiet)
-            }
-            Heard::Closed => {
-                self.part(peer)?;
-                Ok(Heard::Closed)
-            }
+        let now = time(&self.rt);
+        let heard = self.sessions.hear(peer, now)?;
+        if matches!(heard, Heard::Closed) {
+            self.part(peer)?;
         }
+        Ok(heard)
     }
 
     /// Says a text, which is UTF-8. A peer that takes nothing for too long is gone.
@@ -280,15 +339,41 @@ impl<R: NetRuntime> Sockets<R> {
         Ok(wrote)
     }
 
+    fn close(&mut self, peer: u32, mut line: Line) -> Result<(), OutFault> {
+        line.close(CloseCode::Normal);
+        self.partings.add(name_of(peer), line, time(&self.rt))
+    }
+
     /// Closes a session, if it is open.
     pub(crate) fn hang_up(&mut self, peer: u32) -> Result<(), OutFault> {
-        let now = time(&self.rt);
         match self.sessions.part(peer) {
-            Some(mut line) => {
-                line.close(CloseCode::Normal);
-                self.partings.add(peer, line, now)
-            }
+            Some(line) => self.close(peer, line),
             None => Ok(()),
         }
+    }
+
+    // ---- the end
+
+    /// Closes what is open.
+    fn close_all(&mut self) -> Result<(), OutFault> {
+        for _ in 0..u64::MAX {
+            let Some((peer, line)) = self.sessions.part_last() else {
+                break;
+            };
+            self.close(peer, line)?;
+        }
+        Ok(())
+    }
+
+    /// Closes what is open, and waits until the peers have what they were told, for a second at most.
+    pub(crate) fn end(&mut self) -> Result<(), OutFault> {
+        self.close_all()?;
+        for _ in 0..LONGEST_PARTING / PAUSE {
+            if self.partings.is_empty() {
+                break;
+            }
+            self.gather(Duration::from_nanos(PAUSE))?;
+        }
+        Ok(())
     }
 }

@@ -2,20 +2,19 @@
 
 ghost use Rattle.css_outside.specs.Outsides.{IsSession};
 
+use crate::heads::{Head, MOST_FIELDS, Progress, has_token, value_of};
 use crate::metered::Metered;
-use crate::session::{ServedSocket, limits};
 use crate::watch::Watch;
 use css_devices::faults::{fault_of, no_room};
+use css_num::Memory;
 use css_outside::{Kind, OutFault};
-use http::{Request, Response, StatusCode};
+use httparse::{EMPTY_HEADER, Error, Header, Request, Status};
 use mio::net::{TcpListener, TcpStream};
 use std::alloc::Global;
 use std::io;
-use std::io::ErrorKind;
+use std::io::{ErrorKind, Write};
 use std::net::{Net, SocketAddr};
-use tungstenite::Callback;
-use tungstenite::handshake::server::{ErrorResponse, ServerHandshake};
-use tungstenite::handshake::{HandshakeError, MidHandshake, server};
+use websocket::handshake::server::{accept_key, write_response};
 
 /// The names under which the listeners are watched.
 pub(crate) const LISTENER_OF_CII: usize = 1;
@@ -31,8 +30,6 @@ pub(crate) const READS: u32 = 2;
 const MOST_UPGRADES: usize = 64;
 /// How many connections one turn takes from a listener.
 const MOST_ACCEPTED: usize = 16;
-/// How many handshakes go on in one turn.
-const MOST_TURNS: usize = 16;
 
 /// What a peer opens a session for.
 #[derive(Clone, Copy)]
@@ -42,10 +39,11 @@ pub(crate) enum Service {
 }
 
 impl Service {
+    /// Its path, without the first slash.
     fn path(self) -> &'static str {
         match self {
-            Service::Cii => "/cii",
-            Service::Ts => "/ts",
+            Service::Cii => "cii",
+            Service::Ts => "ts",
         }
     }
 
@@ -66,61 +64,148 @@ impl Service {
     }
 }
 
-/// Refuses an upgrade of another path.
-#[derive(Drop)]
-struct PathCheck {
-    alloc: Global,
-    path: &'static str,
+/// Why an upgrade is refused.
+#[derive(Clone, Copy)]
+enum Refusal {
+    Malformed,
+    OtherPath,
+    OtherMethod,
+    NoUpgrade,
+    TooLong,
 }
 
-impl Callback for PathCheck {
-    fn on_request(
-        self,
-        request: &Request<()>,
-        response: Response<()>,
-    ) -> Result<Response<()>, ErrorResponse> {
-        if request.uri().path() == self.path {
-            return Ok(response);
+impl Refusal {
+    fn answer(self) -> &'static [u8] {
+        match self {
+            Refusal::Malformed =>
+                b"HTTP/1.1 400 Bad Request\r\nConnection: close\r\nContent-Length: 0\r\n\r\n",
+            Refusal::OtherPath =>
+                b"HTTP/1.1 404 Not Found\r\nConnection: close\r\nContent-Length: 0\r\n\r\n",
+            Refusal::OtherMethod =>
+                b"HTTP/1.1 405 Method Not Allowed\r\nAllow: GET\r\nConnection: close\r\nContent-Length: 0\r\n\r\n",
+            Refusal::NoUpgrade =>
+                b"HTTP/1.1 426 Upgrade Required\r\nUpgrade: websocket\r\nConnection: Upgrade, close\r\nSec-WebSocket-Version: 13\r\nContent-Length: 0\r\n\r\n",
+            Refusal::TooLong =>
+                b"HTTP/1.1 431 Request Header Fields Too Large\r\nConnection: close\r\nContent-Length: 0\r\n\r\n",
         }
-        let mut refused = Response::new(self.alloc, None);
-        *refused.status_mut() = StatusCode::NOT_FOUND;
-        Err(refused)
     }
 }
 
-/// Why a turn of a handshake gave no session.
-type Unfinished = HandshakeError<ServerHandshake<Metered, PathCheck>>;
-
-/// A server's handshake that isn't done.
-struct Handshake {
-    inner: MidHandshake<ServerHandshake<Metered, PathCheck>>,
-}
-
-// One function drops its many parts: what holds one needn't see them.
-impl Drop for Handshake {
-    fn drop(self) {
-        let Handshake { inner: _ } = self;
+/// The path that a request's target names, without its first slash and its query.
+fn path_of(target: &str) -> Option<&str> {
+    let path = match target.strip_prefix('/') {
+        Some(path) => path,
+        None => {
+            let (_, after_scheme) = target.split_once("://")?;
+            let (_, path) = after_scheme.split_once('/')?;
+            path
+        }
+    };
+    match path.split_once('?') {
+        Some((path, _)) => Some(path),
+        None => Some(path),
     }
 }
 
-impl Handshake {
-    /// One turn, which may be its last.
-    fn turn(self) -> Result<ServedSocket, Unfinished> {
-        let Handshake { mut inner } = self;
-        inner.get_mut().begin_turn(READS);
-        inner.handshake()
+/// Whether the fields of a request ask for a WebSocket.
+fn asks_for_upgrade(fields: &[Header<'_>]) -> bool {
+    has_token(fields, "Upgrade", "websocket")
+        && has_token(fields, "Connection", "upgrade")
+        && value_of(fields, "Sec-WebSocket-Version") == Some(b"13".as_slice())
+}
+
+/// The key that the answer to a request has.
+fn key_by(fields: &[Header<'_>]) -> Result<[u8; 28], Refusal> {
+    let Some(key) = value_of(fields, "Sec-WebSocket-Key") else {
+        return Err(Refusal::Malformed);
+    };
+    match accept_key(key) {
+        Ok(key) => Ok(key),
+        Err(_) => Err(Refusal::Malformed),
     }
+}
+
+fn key_of(
+    service: Service,
+    method: &str,
+    target: &str,
+    fields: &[Header<'_>],
+) -> Result<[u8; 28], Refusal> {
+    if path_of(target) != Some(service.path()) {
+        return Err(Refusal::OtherPath);
+    }
+    if method != "GET" {
+        return Err(Refusal::OtherMethod);
+    }
+    if !asks_for_upgrade(fields) {
+        return Err(Refusal::NoUpgrade);
+    }
+    key_by(fields)
+}
+
+/// The key that the answer to this head has, or why it is refused.
+fn checked(service: Service, head: &[u8]) -> Result<[u8; 28], Refusal> {
+    let mut fields = [EMPTY_HEADER; MOST_FIELDS];
+    let mut request = Request::new(&mut fields);
+    match request.parse(head) {
+        Ok(Status::Complete(_)) => {}
+        Ok(Status::Partial) => return Err(Refusal::Malformed),
+        Err(Error::TooManyHeaders) => return Err(Refusal::TooLong),
+        Err(_) => return Err(Refusal::Malformed),
+    }
+    match (request.method, request.path, request.version) {
+        (Some(method), Some(target), Some(1)) => key_of(service, method, target, request.headers),
+        _ => Err(Refusal::Malformed),
+    }
+}
+
+/// What a turn of a handshake came to.
+#[derive(Clone, Copy)]
+enum Turn {
+    /// It goes on.
+    Waits,
+    /// The session stands.
+    Opened,
+    /// The peer was told why there is no session.
+    Refused,
+    /// The connection ended.
+    Ended,
+}
+
+/// How a handshake ended.
+#[derive(Drop)]
+pub(crate) enum Upgraded {
+    /// The session stands, and this came after its handshake.
+    Opened(Service, Metered, Vec<u8>),
+    /// There is no session. The connection has this name, and its peer was told why.
+    Refused(usize, Metered),
+    /// The connection is gone.
+    Ended,
 }
 
 /// A connection whose handshake isn't done.
-#[derive(Drop)]
 struct Upgrade {
     service: Service,
     name: usize,
     since: u64,
     /// Something may have come that was not read yet.
     named: bool,
-    handshake: Option<Handshake>,
+    stream: Metered,
+    head: Head,
+}
+
+// One function drops its parts: what holds one needn't see them.
+impl Drop for Upgrade {
+    fn drop(self) {
+        let Upgrade {
+            service: _,
+            name: _,
+            since: _,
+            named: _,
+            stream: _,
+            head: _,
+        } = self;
+    }
 }
 
 /// A connection that is watched under a name, where that can be done.
@@ -132,42 +217,78 @@ fn watched<R: Net>(rt: &R, watch: &mut Watch, stream: TcpStream, name: usize) ->
 impl Upgrade {
     /// A handshake on a connection.
     fn new(alloc: Global, service: Service, name: usize, since: u64, stream: Metered) -> Upgrade {
-        let check = PathCheck {
-            alloc,
-            path: service.path(),
-        };
         Upgrade {
             service,
             name,
             since,
             named: true,
-            handshake: Some(Handshake {
-                inner: server::start(alloc, stream, check, Some(limits())),
-            }),
+            stream,
+            head: Head::new(alloc),
         }
     }
 
-    /// One turn of the handshake, which may be its last.
-    fn turn(&mut self) -> Option<ServedSocket> {
-        match self.handshake.take()?.turn() {
-            Ok(socket) => Some(socket),
-            Err(unfinished) => {
-                self.keep(unfinished);
-                None
+    /// Writes an answer, which the system takes at once on a new connection.
+    fn write(&mut self, answer: &[u8], done: Turn) -> Turn {
+        match self.stream.write(answer) {
+            Ok(count) if count == answer.len() => done,
+            _ => Turn::Ended,
+        }
+    }
+
+    fn refuse(&mut self, refusal: Refusal) -> Turn {
+        self.write(refusal.answer(), Turn::Refused)
+    }
+
+    /// Answers a head that is whole.
+    fn answer(&mut self, alloc: Global) -> Result<Turn, Memory> {
+        let key = match checked(self.service, self.head.bytes()) {
+            Ok(key) => key,
+            Err(refusal) => return Ok(self.refuse(refusal)),
+        };
+        let mut answer = Vec::new(alloc);
+        if write_response(&key, &[], &mut answer).is_err() {
+            return Err(Memory);
+        }
+        Ok(self.write(&answer, Turn::Opened))
+    }
+
+    /// One turn, which may be its last.
+    fn turn(&mut self, alloc: Global) -> Result<Turn, Memory> {
+        self.stream.begin_turn(READS);
+        for _ in 0..READS {
+            match self.head.read(&mut self.stream)? {
+                Progress::More => {}
+                Progress::Waits => {
+                    self.named = false;
+                    return Ok(Turn::Waits);
+                }
+                Progress::Whole => return self.answer(alloc),
+                Progress::TooLong => return Ok(self.refuse(Refusal::TooLong)),
+                Progress::Ended => return Ok(Turn::Ended),
             }
         }
-    }
-
-    /// Keeps a handshake that isn't done. One that failed is dropped.
-    fn keep(&mut self, unfinished: Unfinished) {
-        if let HandshakeError::Interrupted(inner) = unfinished {
-            self.named = inner.get_ref().was_cut();
-            self.handshake = Some(Handshake { inner });
-        }
+        Ok(Turn::Waits)
     }
 
     fn stays(&self, now: u64) -> bool {
-        self.handshake.is_some() && now.saturating_sub(self.since) < LONGEST_HANDSHAKE
+        now.saturating_sub(self.since) < LONGEST_HANDSHAKE
+    }
+
+    /// How it ended.
+    fn ended(self, alloc: Global, turn: Turn) -> Result<Upgraded, Memory> {
+        let Upgrade {
+            service,
+            name,
+            since: _,
+            named: _,
+            stream,
+            head,
+        } = self;
+        match turn {
+            Turn::Opened => Ok(Upgraded::Opened(service, stream, head.rest(alloc)?)),
+            Turn::Refused => Ok(Upgraded::Refused(name, stream)),
+            Turn::Waits | Turn::Ended => Ok(Upgraded::Ended),
+        }
     }
 }
 
@@ -306,13 +427,14 @@ impl Upgrades {
         None
     }
 
-    /// Takes connections that wait.
+    /// Takes connections that wait. Handshakes that took too long are dropped.
     pub(crate) fn connect<R: Net>(
         &mut self,
         rt: &R,
         watch: &mut Watch,
         now: u64,
     ) -> Result<(), OutFault> {
+        self.list.retain(|upgrade| upgrade.stays(now));
         for _ in 0..MOST_ACCEPTED {
             let Some((service, stream)) = self.connection() else {
                 break;
@@ -322,24 +444,29 @@ impl Upgrades {
         Ok(())
     }
 
-    /// The handshakes go on, until one is done.
-    fn go_on(&mut self) -> Option<(Service, ServedSocket)> {
-        let mut turns = 0;
-        for upgrade in self.list.iter_mut() {
-            if upgrade.named && turns < MOST_TURNS {
-                turns += 1;
-                if let Some(socket) = upgrade.turn() {
-                    return Some((upgrade.service, socket));
+    /// The handshakes go on, until one ends: its place, and how it ended.
+    fn go_on(&mut self) -> Result<Option<(usize, Turn)>, Memory> {
+        let alloc = self.alloc;
+        for (place, upgrade) in self.list.iter_mut().enumerate() {
+            if upgrade.named {
+                match upgrade.turn(alloc)? {
+                    Turn::Waits => {}
+                    turn => return Ok(Some((place, turn))),
                 }
             }
         }
-        None
+        Ok(None)
     }
 
-    /// The handshakes go on, until one is done. Those that failed or took too long are dropped.
-    pub(crate) fn turn(&mut self, now: u64) -> Option<(Service, ServedSocket)> {
-        let done = self.go_on();
-        self.list.retain(|upgrade| upgrade.stays(now));
-        done
+    /// The handshakes go on, until one ends.
+    pub(crate) fn turn(&mut self) -> Result<Option<Upgraded>, Memory> {
+        let Some((place, turn)) = self.go_on()? else {
+            return Ok(None);
+        };
+        if place >= self.list.len() {
+            return Ok(None);
+        }
+        let upgrade = self.list.remove(place);
+        Ok(Some(upgrade.ended(self.alloc, turn)?))
     }
 }

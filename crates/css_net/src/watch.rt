@@ -28,8 +28,7 @@ impl Set {
         })
     }
 
-    fn add<S: Source>(&self, socket: &mut S, name: usize) -> io::Result<()> {
-        let interests = Interest::READABLE | Interest::WRITABLE;
+    fn add<S: Source>(&self, socket: &mut S, name: usize, interests: Interest) -> io::Result<()> {
         let registry = self.poll.registry();
         registry.register(socket, Token(name), interests)
     }
@@ -77,16 +76,36 @@ impl Watch {
         }
     }
 
-    /// Watches a socket under a name. It is named once for each change: until its calls would wait it must be asked.
-    pub(crate) fn add<R: Net, S: Source + Drop>(
+    fn watched<R: Net, S: Source + Drop>(
         &mut self,
         rt: &R,
         mut socket: S,
         name: usize,
+        interests: Interest,
     ) -> io::Result<S> {
         self.begin(rt)?;
-        self.set()?.add(&mut socket, name)?;
+        self.set()?.add(&mut socket, name, interests)?;
         Ok(socket)
+    }
+
+    /// Watches a socket under a name. It is named once for each change: until its calls would wait it must be asked.
+    pub(crate) fn add<R: Net, S: Source + Drop>(
+        &mut self,
+        rt: &R,
+        socket: S,
+        name: usize,
+    ) -> io::Result<S> {
+        self.watched(rt, socket, name, Interest::READABLE | Interest::WRITABLE)
+    }
+
+    /// Watches a socket for what comes alone: what it sends never ends a wait.
+    pub(crate) fn add_reader<R: Net, S: Source + Drop>(
+        &mut self,
+        rt: &R,
+        socket: S,
+        name: usize,
+    ) -> io::Result<S> {
+        self.watched(rt, socket, name, Interest::READABLE)
     }
 
     /// Gives a watched socket another name.

@@ -7,16 +7,17 @@ use css_num::Text;
 use css_outside::{Sink, Source, Spawner};
 use std::cell::Cell;
 use std::io;
+use std::io::ErrorKind;
 use std::time::{Clock, Duration};
 
 #[test]
 fn bytes_go_through_the_streams(rt: HostRuntime) {
-    let mut source = StdSource::new(b"a line\n".as_slice());
+    let mut source = StdSource::new(b"a line\n".as_slice(), &rt);
     let mut piece = [0u8; 16];
     let count = source.read(&mut piece).expect(&rt, "a piece");
     let read = piece.get(..count).expect(&rt, "a count in the room");
     let mut held = Vec::new(rt.alloc());
-    let mut sink = StdSink::new(&mut held);
+    let mut sink = StdSink::new(&mut held, &rt);
     let written = sink.write(read).expect(&rt, "a piece");
     assert!(rt; written == 7 && held.as_slice() == b"a line\n".as_slice());
 }
@@ -33,10 +34,10 @@ fn a_child_ends_with_its_status(rt: HostRuntime) {
     assert!(rt; spawner.finish() == Ok(3));
 }
 
-/// A clock that shows these times in turn, the monotone one's and the system's.
+/// A clock that shows these times in turn, the monotone one's and the system's. A system's time of 0 can't be read.
 #[derive(Drop)]
 struct Shown {
-    rows: [(u64, u64); 8],
+    rows: [(u64, u64); 9],
     at: Cell<usize>,
 }
 
@@ -57,14 +58,17 @@ impl Clock for Shown {
     fn since_1970(&self) -> io::Result<Duration> {
         let (_, system) = self.row();
         self.at.set(self.at.get().saturating_add(1));
+        if system == 0 {
+            return Err(io::Error::from(ErrorKind::Other));
+        }
         Ok(Duration::from_nanos(system))
     }
 }
 
 /// The readings that are told, and whether the clock slept.
 #[rattlefmt::skip]
-const TOLD: [(u64, bool); 8] =
-    [(5, false), (10, false), (11, true), (11, false), (12, true), (12, false), (13, false), (14, true)];
+const TOLD: [(u64, bool); 9] =
+    [(5, false), (10, false), (11, true), (11, false), (12, true), (12, false), (13, false), (14, true), (15, false)];
 
 #[test]
 fn a_sleep_is_told_once(rt: HostRuntime) {
@@ -78,6 +82,7 @@ fn a_sleep_is_told_once(rt: HostRuntime) {
             (11, 5_000_000_000),
             (13, 7_000_000_002),
             (13, 9_000_000_003),
+            (15, 0),
         ],
         at: Cell::new(0),
     };
