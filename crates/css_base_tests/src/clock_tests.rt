@@ -167,20 +167,6 @@ const RATES: [(Call, Answer); 9] = [
     (Convert(0, 2, (-(1 << 61), 0)), Err(Beyond(2))),
 ];
 
-const LAST: i128 = 9_223_372_036_854_775_807;
-
-/// A root and two clocks, 5 ticks ahead of it and 5 behind: both ends of a span are to fit.
-const ENDS: [(Call, Answer); 8] = [
-    (Root((1, 1)), Ok((0, 0))),
-    (Clock(0, (1, 1), 1, (0, 5)), Ok((1, 1))),
-    (Clock(0, (1, 1), 1, (0, -5)), Ok((2, 2))),
-    (Convert(0, 1, (0, i64::MAX - 5)), Ok((5, LAST))),
-    (Convert(0, 1, (0, i64::MAX - 4)), Err(Beyond(1))),
-    (Convert(0, 2, (i64::MIN + 4, 0)), Err(Beyond(2))),
-    (Convert(2, 0, (-5, i64::MAX - 5)), Err(Beyond(0))),
-    (Convert(1, 0, (i64::MIN + 4, 5)), Err(Beyond(0))),
-];
-
 /// The parent's ticks of such a clock are out of range.
 const LATE: (i64, i64) = (i64::MAX, -i64::MAX);
 
@@ -233,7 +219,6 @@ fn calls_of_forests_are_answered(rt: HostRuntime) {
     check(&rt, &mut Tree::new(rt.alloc()), &FRAMES);
     check(&rt, &mut Tree::new(rt.alloc()), &BRANCHES);
     check(&rt, &mut Tree::new(rt.alloc()), &RATES);
-    check(&rt, &mut Tree::new(rt.alloc()), &ENDS);
     check(&rt, &mut Tree::new(rt.alloc()), &FAULTS);
 }
 

@@ -1,5 +1,5 @@
-//! Tests of the libraries that all others stand on: numbers, datagrams, spans, windows, lines, addresses, devices,
-//! texts and clocks.
+//! Tests of the libraries that all others stand on: numbers, datagrams, spans, windows, lines, addresses, texts and
+//! clocks.
 #![tactic(auto)]
 
 #[cfg(test)]
@@ -13,13 +13,9 @@ mod conversion_tests;
 #[cfg(test)]
 mod datagram_tests;
 #[cfg(test)]
-mod device_tests;
-#[cfg(test)]
 mod line_tests;
 #[cfg(test)]
 mod number_tests;
-#[cfg(test)]
-mod outside_tests;
 #[cfg(test)]
 mod span_tests;
 #[cfg(test)]

@@ -149,20 +149,3 @@ fn a_list_of_timelines_is_copied(rt: HostRuntime) {
     let copy = timelines.clone().expect(&rt, "memory");
     check_that(&rt, copy == timelines && copy.list().len() == 1, "a copy");
 }
-
-/// The parts of a rate, and whether they are in range.
-const RATES: [(u32, u32, bool); 5] = [
-    (1, 1_000_000_000, true),
-    (1_000_000_000, 1, true),
-    (0, 1, false),
-    (1, 0, false),
-    (1, 1_000_000_001, false),
-];
-
-#[test]
-fn both_parts_of_a_rate_are_in_range(rt: HostRuntime) {
-    for (tick, second, in_range) in &RATES {
-        let rate = Rate::of(*tick, *second);
-        assert!(rt; rate.is_some() == *in_range, "{tick}, {second}");
-    }
-}

@@ -1,7 +1,0 @@
--- The lines so far are lines of a script.
-use Rattle.std.specs.Prelude.{All}
-use Rattle.css_schedule.specs.Ranges.{IsScriptLine}
-use Rattle.css_drive_tests.proofs.tv_tests.script_of.Given as goal
-
-abbrev pub invariant-loop-line : goal.invariant-loop-line
-invariant-loop-line l = All IsScriptLine l.lines.items

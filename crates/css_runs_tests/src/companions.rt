@@ -1,0 +1,175 @@
+//! A companion's runs, their followers, their records, and audits of these: each fault, each refusal and each end is a
+//! row.
+use crate::audits::words;
+use crate::companion_rows::{
+    ANSWERS, CUES, DIALS, EARLY_CUTS, LACKING, LATE_CUTS, REFUSALS, SESSIONS, TURNS,
+    UNWRITTEN_RECORDS,
+};
+use crate::rows::{Row, lines_of};
+use crate::runs::{assert_told, companion, recorded};
+use crate::scripts::outside_of;
+use css_companion::Report;
+use css_drive::{Before, Listens, Nobody};
+use css_follow::{Cues, Follower, Meter, Sheet, read_sheet};
+use css_memory::MemorySink;
+use css_num::{Memory, Text};
+use std::alloc::Global;
+use std::process::Abort;
+use std::test::Fail;
+
+/// Makes the run of a row, and finds what it wrote.
+fn assert_row<F: Listens>(
+    rt: &impl Abort,
+    alloc: Global,
+    row: &Row,
+    followers: &mut F,
+) -> Result<(), Fail> {
+    let mut outside = outside_of(rt, alloc, row)?;
+    let mut sink = MemorySink::new(alloc, 4096, row.sink_fails)?;
+    companion(rt, alloc, row, &mut sink, &mut outside, followers)?;
+    Ok(assert_told(rt, alloc, row, sink.bytes(), row.told, usize::MAX)?)
+}
+
+/// The same of its record.
+fn assert_record(rt: &impl Abort, alloc: Global, row: &Row, lines: &str) -> Result<(), Fail> {
+    let mut outside = outside_of(rt, alloc, row)?;
+    let mut sink = MemorySink::new(alloc, 4096, row.sink_fails)?;
+    recorded(rt, alloc, row, &mut sink, &mut outside)?;
+    Ok(assert_told(rt, alloc, row, sink.bytes(), lines, row.lines)?)
+}
+
+/// Finds that a record is right, but for one without a line and one that ends with a refused text.
+fn assert_right(rt: &impl Abort, alloc: Global, row: &Row, lines: &str) -> Result<(), Memory> {
+    let told = words(alloc, lines_of(alloc, lines, row.lines)?.as_bytes())?;
+    let is_wrong = row.lines == 0 || row.ended.starts_with("BadCii");
+    assert!(rt; told.starts_with(b"reports ") != is_wrong, "{}", row.name);
+    Ok(())
+}
+
+/// Makes the recorded runs of those rows whose record is looked at, and audits it.
+fn assert_records(rt: &impl Abort, alloc: Global, rows: &[Row]) -> Result<(), Fail> {
+    for row in rows {
+        if let Some(lines) = row.record {
+            assert_record(rt, alloc, row, lines)?;
+            assert_right(rt, alloc, row, lines)?;
+        }
+    }
+    Ok(())
+}
+
+/// Makes the runs of these rows, without and with a record.
+fn assert_rows(rt: &impl Abort, alloc: Global, rows: &[Row]) -> Result<(), Fail> {
+    for row in rows {
+        assert_row(rt, alloc, row, &mut Nobody)?;
+    }
+    assert_records(rt, alloc, rows)
+}
+
+#[test]
+fn an_answer_is_taken_for_its_request_alone(rt: HostRuntime) -> Result<(), Fail> {
+    assert_rows(&rt, rt.alloc(), ANSWERS)
+}
+
+#[test]
+fn a_session_ends_and_a_text_is_gone(rt: HostRuntime) -> Result<(), Fail> {
+    assert_rows(&rt, rt.alloc(), SESSIONS)
+}
+
+#[test]
+fn a_refused_text_ends_the_run(rt: HostRuntime) -> Result<(), Fail> {
+    assert_rows(&rt, rt.alloc(), REFUSALS)
+}
+
+#[test]
+fn a_sleep_forgets_the_answer_and_turns_end(rt: HostRuntime) -> Result<(), Fail> {
+    assert_rows(&rt, rt.alloc(), TURNS)
+}
+
+#[test]
+fn each_dial_and_each_write_of_a_companion_fails_once(rt: HostRuntime) -> Result<(), Fail> {
+    assert_rows(&rt, rt.alloc(), DIALS)
+}
+
+#[test]
+fn each_call_up_to_the_first_report_fails_once(rt: HostRuntime) -> Result<(), Fail> {
+    assert_rows(&rt, rt.alloc(), EARLY_CUTS)
+}
+
+#[test]
+fn each_later_call_fails_once(rt: HostRuntime) -> Result<(), Fail> {
+    assert_rows(&rt, rt.alloc(), LATE_CUTS)
+}
+
+#[test]
+fn each_write_of_a_record_fails_once(rt: HostRuntime) -> Result<(), Fail> {
+    assert_records(&rt, rt.alloc(), UNWRITTEN_RECORDS)
+}
+
+/// Says nothing of the first report that it hears, and lacks memory at each other.
+#[derive(Drop)]
+struct Lacking {
+    heard: bool,
+}
+
+impl Follower for Lacking {
+    ghost use Rattle.std.specs.Prelude.{[], true};
+
+    ghost seen = { λ _. record { heard = []; spoken = []; done = true } };
+
+    ghost plan = { λ _. record { says = λ _ _. []; ends = λ _ _. true } };
+
+    ghost takes = { λ _ _. record { says = λ _ _. []; ends = λ _ _. true } };
+
+    ghost says = { λ _ _. [] };
+
+    ghost ends = { λ _ _. true };
+
+    fn prepare(&mut self, _sheet: &Sheet) -> Result<(), Memory> {
+        Ok(())
+    }
+
+    fn told(&mut self, _report: &Report, _out: &mut Text) -> Result<bool, Memory> {
+        if self.heard {
+            return Err(Memory);
+        }
+        self.heard = true;
+        Ok(false)
+    }
+}
+
+/// Has followers follow a sheet through the run of a row.
+fn assert_followed<F: Listens>(
+    rt: &impl Abort,
+    alloc: Global,
+    row: &Row,
+    sheet: &[u8],
+    followers: &mut F,
+) -> Result<(), Fail> {
+    followers.prepare(&read_sheet(alloc, sheet)?)?;
+    assert_row(rt, alloc, row, followers)
+}
+
+#[test]
+fn cues_and_widths_stand_behind_their_report(rt: HostRuntime) -> Result<(), Fail> {
+    let mut followers = Before {
+        first: Cues::new(rt.alloc()),
+        rest: Before {
+            first: Meter::new(rt.alloc()),
+            rest: Nobody,
+        },
+    };
+    let sheet = b"cue 900000 start\nmeter 1\n";
+    assert_followed(&rt, rt.alloc(), &CUES, sheet, &mut followers)
+}
+
+#[test]
+fn a_follower_that_lacks_memory_ends_the_run(rt: HostRuntime) -> Result<(), Fail> {
+    let mut followers = Before {
+        first: Meter::new(rt.alloc()),
+        rest: Before {
+            first: Lacking { heard: false },
+            rest: Nobody,
+        },
+    };
+    assert_followed(&rt, rt.alloc(), &LACKING, b"meter 2\n", &mut followers)
+}

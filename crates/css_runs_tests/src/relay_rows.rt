@@ -1,0 +1,127 @@
+//! The rows of a relay's runs.
+use crate::rows::{CLOSED, QUIET as NOTHING, Row};
+use css_outside::Kind;
+
+/// A request with the originate value 42, and the same and one more byte.
+const REQUEST: &str = "0000000000000000000000000000002a00000000000000000000000000000000";
+
+const LONG: &str = "0000000000000000000000000000002a0000000000000000000000000000000000";
+
+/// A response with the originate value 1000, the receive value 5000, the transmit value 5200 and the precision -30.
+const RESPONSE: &str = "0001e2000000000000000000000003e800000000000013880000000000001450";
+
+/// The television's addresses.
+#[rattlefmt::skip]
+const ADDRESSES: Option<&str> =
+    Some("{\"tsUrl\":\"ws://127.0.0.1:6678/ts\",\"wcUrl\":\"udp://127.0.0.1:6677\"}");
+
+const OKAY: Option<&str> = Some("{\"presentationStatus\":\"okay\"}");
+
+/// One turn in which nothing comes.
+const QUIET: Row = Row {
+    told: "SERVE; turn; dial; take; accept; text 1; hang 1",
+    ..NOTHING
+};
+
+/// A call fails.
+const CUT: Row = Row {
+    name: "a call fails",
+    ended: "NetFault",
+    ..NOTHING
+};
+
+/// One of 257 sessions comes in each turn.
+pub const CROWD: Row = Row {
+    turns: 258,
+    openings: &[Some(Kind::Cii); 257],
+    ..QUIET
+};
+
+/// The relay asks the television, and answers a request.
+#[rattlefmt::skip]
+const EXCHANGE: Row = Row {
+    name: "a request is answered", turns: 3, times: &[900, 950, 1000, 1600, 1600, 1600, 1700],
+    datagrams: &["", RESPONSE, REQUEST], texts: &[(1, ADDRESSES)],
+    told: "SERVE; turn; dial; take; accept; text 1; turn; dial; other; send 2 0 0 0; take; other; accept; text 1; \
+        turn; take; receive; give; send 9 1 5400 5500; accept; text 1; hang 1",
+    ..QUIET
+};
+
+/// Each call of the first run fails, and a dial that fails ends nothing.
+#[rattlefmt::skip]
+pub const CALLS: &[Row] = &[
+    QUIET,
+    Row { fails: &[1], told: "SERVE", ..CUT },
+    Row { fails: &[2], told: "SERVE; turn", ..CUT },
+    Row { fails: &[4], told: "SERVE; turn; dial; take", ..CUT },
+    Row { fails: &[5], told: "SERVE; turn; dial; take; accept", ..CUT },
+    Row { fails: &[6], told: "SERVE; turn; dial; take; accept; text 1", ..CUT },
+    Row { fails: &[7], told: "SERVE; turn; dial; take; accept; text 1; hang 1", ..CUT },
+    Row { name: "every dial fails", turns: 2, fails: &[3, 7], ended: "Unreachable { turns: 2 }",
+        told: "SERVE; turn; dial; take; accept; turn; dial; take; accept", ..QUIET },
+    Row { name: "a dial that failed is made again", turns: 2, fails: &[3],
+        told: "SERVE; turn; dial; take; accept; turn; dial; take; accept; text 1; hang 1", ..QUIET },
+];
+
+/// Texts of the television, and what accepted sessions are told of them.
+#[rattlefmt::skip]
+pub const TEXTS: &[Row] = &[
+    Row { name: "a television that closes", turns: 2, texts: &[(1, CLOSED)],
+        told: "SERVE; turn; dial; take; accept; text 1; turn; take; accept", ..QUIET },
+    Row { name: "a television that moves", turns: 3,
+        texts: &[(1, Some("{\"wcUrl\":\"udp://127.0.0.1:6677\"}")), (1, Some("{\"wcUrl\":\"udp://127.0.0.1:7000\"}"))],
+        ended: "Moved { property: WcUrl, ",
+        told: "SERVE; turn; dial; take; accept; text 1; turn; dial; other; send 2 0 0 0; take; accept; text 1",
+        ..QUIET },
+    Row { name: "a refused text", texts: &[(1, Some("[]"))], ended: "BadCii { text: 1, fault: NotObject }",
+        told: "SERVE; turn; dial; take; accept; text 1", ..QUIET },
+    Row { name: "an address that is none", turns: 2, texts: &[(1, Some("{\"wcUrl\":\"ws://127.0.0.1:6677\"}"))],
+        ended: "BadUrl { property: WcUrl }", told: "SERVE; turn; dial; take; accept; text 1; turn", ..QUIET },
+    Row { name: "an accepted session is told the state, and then the relay's own address",
+        openings: &[Some(Kind::Cii)], texts: &[(1, ADDRESSES)],
+        told: "SERVE; turn; dial; take; accept; say 2 UNKNOWN; text 1; say 2 OWN; text 2; hang 1; hang 2", ..QUIET },
+    Row { name: "a session that is gone is told and asked nothing more", openings: &[Some(Kind::Cii)],
+        texts: &[(1, ADDRESSES)], gone: &[1],
+        told: "SERVE; turn; dial; take; accept; say 2 UNKNOWN; text 1; hang 1", ..QUIET },
+    Row { name: "each session is told the state of its opening whole, and then the changes alone", turns: 3,
+        openings: &[Some(Kind::Cii), Some(Kind::Cii)], texts: &[(1, ADDRESSES), (1, OKAY), (1, OKAY)],
+        told: "SERVE; turn; dial; take; accept; say 2 UNKNOWN; text 1; say 2 OWN; text 2; \
+            turn; dial; other; send 3 0 0 0; take; accept; \
+            say 4 {\"contentId\":null,\"contentIdStatus\":null,\"mrsUrl\":null,\"presentationStatus\":null,\
+            \"protocolVersion\":null,\"teUrl\":null,\"timelines\":null,\
+            \"tsUrl\":\"ws://127.0.0.1:6678/ts\",\"wcUrl\":\"udp://relay.example:6690\"}; \
+            text 1; say 2 {\"presentationStatus\":\"okay\"}; say 4 {\"presentationStatus\":\"okay\"}; text 2; text 4; \
+            turn; take; accept; text 1; text 2; text 4; hang 1; hang 2; hang 4", ..QUIET },
+    Row { name: "a session that is gone at a change is not told the next", turns: 2, openings: &[Some(Kind::Cii)],
+        texts: &[(1, ADDRESSES), (1, OKAY)], gone: &[2],
+        told: "SERVE; turn; dial; take; accept; say 2 UNKNOWN; text 1; say 2 OWN; \
+            turn; dial; other; send 3 0 0 0; take; accept; text 1; hang 1", ..QUIET },
+];
+
+/// How accepted sessions end, and datagrams.
+#[rattlefmt::skip]
+pub const ENDS: &[Row] = &[
+    Row { name: "a text of an accepted session ends it", turns: 2, openings: &[Some(Kind::Cii)],
+        texts: &[(2, Some("{}"))],
+        told: "SERVE; turn; dial; take; accept; say 2 UNKNOWN; text 1; text 2; hang 2; \
+            turn; take; accept; text 1; hang 1", ..QUIET },
+    Row { name: "an accepted session closes", turns: 2, openings: &[Some(Kind::Cii)], texts: &[(2, CLOSED)],
+        told: "SERVE; turn; dial; take; accept; say 2 UNKNOWN; text 1; text 2; \
+            turn; take; accept; text 1; hang 1", ..QUIET },
+    Row { name: "a session of timelines is hung up", openings: &[Some(Kind::Ts)],
+        told: "SERVE; turn; dial; take; accept; hang 2; text 1; hang 1", ..QUIET },
+    Row { name: "a session accepted before the television's is hung up before it", turns: 2,
+        openings: &[Some(Kind::Cii)], fails: &[3],
+        told: "SERVE; turn; dial; take; accept; say 1 UNKNOWN; text 1; \
+            turn; dial; take; accept; text 2; text 1; hang 1; hang 2", ..QUIET },
+    Row { name: "a request without an answer is dropped", datagrams: &[REQUEST],
+        told: "SERVE; turn; dial; take; receive; accept; text 1; hang 1", ..QUIET },
+    Row { name: "a request of 33 bytes lands, and changes nothing", datagrams: &[LONG],
+        told: "SERVE; turn; dial; take; other; accept; text 1; hang 1", ..QUIET },
+    Row { name: "a stranger's answer lands, and changes nothing", turns: 2, datagrams: &[RESPONSE, REQUEST],
+        told: "SERVE; turn; dial; take; other; accept; text 1; turn; take; receive; accept; text 1; hang 1", ..QUIET },
+    EXCHANGE,
+    Row { name: "a relay that slept drops a request that it took", slept: &[1700],
+        told: "SERVE; turn; dial; take; accept; text 1; turn; dial; other; send 2 0 0 0; take; other; accept; text 1; \
+            turn; take; receive; give; accept; text 1; hang 1", ..EXCHANGE },
+];

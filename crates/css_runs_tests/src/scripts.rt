@@ -1,0 +1,149 @@
+//! What an outside in memory gives in the run of a row.
+ghost use Rattle.std.specs.Prelude.{IsTrue};
+ghost use Rattle.css_memory.specs.Scripts.{are_readings, are_sessions};
+
+use crate::audit_plain::unhex;
+use crate::noted::{Log, Noted};
+use crate::rows::Row;
+use css_memory::{Datagram, MemoryOutside, OutsideScript, SessionHeard};
+use css_model::LIMIT;
+use css_num::{Memory, Text};
+use css_outside::{Clocked, Heard, Kind};
+use std::alloc::Global;
+use std::process::Abort;
+
+/// An outside that gives nothing.
+fn nothing(alloc: Global) -> OutsideScript {
+    OutsideScript {
+        readings: Vec::new(alloc),
+        datagrams: Vec::new(alloc),
+        openings: Vec::new(alloc),
+        texts: Vec::new(alloc),
+        gone: Vec::new(alloc),
+        fails: Vec::new(alloc),
+    }
+}
+
+/// The machine slept before the readings that stand in `slept`, too.
+pub fn add_readings(
+    script: &mut OutsideScript,
+    times: &[u64],
+    slept: &[u64],
+) -> Result<(), Memory> {
+    for reading in times {
+        script.readings.push(Clocked {
+            reading: *reading,
+            slept: slept.contains(reading),
+        })?;
+    }
+    Ok(())
+}
+
+/// At the next take this datagram comes, if there is one.
+pub fn add_datagram(
+    alloc: Global,
+    script: &mut OutsideScript,
+    peer: u32,
+    bytes: Option<&[u8]>,
+) -> Result<(), Memory> {
+    let datagram = match bytes {
+        None => None,
+        Some(bytes) => Some(Datagram {
+            peer,
+            bytes: Text::of(alloc, bytes)?,
+        }),
+    };
+    script.datagrams.push(datagram)?;
+    Ok(())
+}
+
+/// The session of this number gives this next.
+pub fn add_heard(script: &mut OutsideScript, session: u32, heard: Heard) -> Result<(), Memory> {
+    script.texts.push(SessionHeard { session, heard })?;
+    Ok(())
+}
+
+fn add_texts(
+    alloc: Global,
+    script: &mut OutsideScript,
+    texts: &[(u32, Option<&str>)],
+) -> Result<(), Memory> {
+    for (session, said) in texts {
+        let heard = match said {
+            None => Heard::Closed,
+            Some(words) => Heard::Text(Text::of(alloc, words.as_bytes())?),
+        };
+        add_heard(script, *session, heard)?;
+    }
+    Ok(())
+}
+
+fn add_datagrams(alloc: Global, script: &mut OutsideScript, row: &Row) -> Result<(), Memory> {
+    for digits in row.datagrams {
+        let bytes = unhex(alloc, digits.as_bytes());
+        add_datagram(alloc, script, row.sender, bytes.as_deref())?;
+    }
+    Ok(())
+}
+
+fn add_row(alloc: Global, script: &mut OutsideScript, row: &Row) -> Result<(), Memory> {
+    add_readings(script, row.times, row.slept)?;
+    add_datagrams(alloc, script, row)?;
+    add_texts(alloc, script, row.texts)?;
+    script.openings.extend_from_slice(row.openings)?;
+    script.gone.extend_from_slice(row.gone)?;
+    script.fails.extend_from_slice(row.fails)?;
+    Ok(())
+}
+
+/// What the outside of a row gives.
+pub fn script_of(alloc: Global, row: &Row) -> Result<OutsideScript, Memory> {
+    let mut script = nothing(alloc);
+    add_row(alloc, &mut script, row)?;
+    Ok(script)
+}
+
+/// Whether a clock can read these, one after the other.
+fn can_be_read(readings: &[Clocked]) -> bool
+    ensures { IsTrue result → IsTrue (are_readings 0 readings.now) }
+{
+    let mut last = 0;
+    for clocked in readings {
+        let fell = clocked.reading < last || clocked.slept && clocked.reading == last;
+        if fell || clocked.reading >= LIMIT {
+            return false;
+        }
+        last = clocked.reading;
+    }
+    true
+}
+
+/// Whether sessions alone are opened, and no wall clock.
+fn can_be_opened(openings: &[Option<Kind>]) -> bool
+    ensures { IsTrue result → IsTrue (are_sessions openings.now) }
+{
+    for opening in openings {
+        if matches!(opening, Some(Kind::Wc)) {
+            return false;
+        }
+    }
+    true
+}
+
+/// The outside of a script.
+pub fn outside_giving(
+    rt: &impl Abort,
+    alloc: Global,
+    script: OutsideScript,
+) -> Result<Noted, Memory> {
+    assert!(rt; can_be_read(&script.readings));
+    assert!(rt; can_be_opened(&script.openings));
+    let outside = MemoryOutside::new(alloc, script)?;
+    let log = Log::new(alloc);
+    Ok(Noted { outside, log })
+}
+
+/// The outside of a row.
+pub fn outside_of(rt: &impl Abort, alloc: Global, row: &Row) -> Result<Noted, Memory> {
+    outside_giving(rt, alloc, script_of(alloc, row)?)
+}
