@@ -67,7 +67,12 @@ fn ran_ahead(before: Clocks, now: Clocks, system_before: u64, system_now: u64) -
 /// Whether the machine slept between these, as far as the system's clock tells.
 pub(crate) fn has_slept(before: Clocks, now: Clocks) -> bool {
     match (before.system, now.system) {
-        (Some(system_before), Some(system_now)) => ran_ahead(before, now, system_before, system_now),
+        (Some(system_before), Some(system_now)) => ran_ahead(
+            before,
+            now,
+            system_before,
+            system_now,
+        ),
         _ => false,
     }
 }

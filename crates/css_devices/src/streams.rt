@@ -33,11 +33,7 @@ fn goes_on<C: Clock>(clock: &C, error: &io::Error) -> bool {
 }
 
 /// Reads, and again where a signal cut the read short, or nothing has come yet.
-fn read_through<R: Read, C: Clock>(
-    inner: &mut R,
-    clock: &C,
-    into: &mut [u8],
-) -> io::Result<usize>
+fn read_through<R: Read, C: Clock>(inner: &mut R, clock: &C, into: &mut [u8]) -> io::Result<usize>
     ensures { ReadsAtMost result into.new }
 {
     for _ in 0..u64::MAX {
@@ -87,11 +83,7 @@ pub struct StdSink<'a, W, C> {
 }
 
 /// Writes, and again where a signal cut the write short, or nothing is taken yet.
-fn write_through<W: Write, C: Clock>(
-    inner: &mut W,
-    clock: &C,
-    bytes: &[u8],
-) -> io::Result<usize>
+fn write_through<W: Write, C: Clock>(inner: &mut W, clock: &C, bytes: &[u8]) -> io::Result<usize>
     ensures { WritesAtMost result bytes.now }
 {
     for _ in 0..u64::MAX {

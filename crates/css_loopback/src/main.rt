@@ -272,7 +272,9 @@ fn main(rt: HostRuntime) -> ExitCode {
         let mut source = StdSource::new(rt.reader(), &rt);
         let mut sink = StdSink::new(io::writer(&rt), &rt);
         let status = command(alloc, &rt, &words, &mut source, &mut sink);
-        return ExitCode::from(tell(alloc, &status, &mut StdSink::new(rt.stderr().lock(), &rt)).number);
+        return ExitCode::from(
+            tell(alloc, &status, &mut StdSink::new(rt.stderr().lock(), &rt)).number,
+        );
     }
     // The ports come from the number of the process, so that two runs don't meet.
     let port = 50000 + process::id(rt.process()) % 2500 * 4;

@@ -20,7 +20,7 @@ lawful = record {
   rises = (tt, (tt, (tt, (tt, (tt, (tt, (tt, (tt, tt))))))));
   asks = (
     tt,
-    (tt, (tt, (tt, (tt, (tt, (record { reading = 1000400; before = []; just_before = refl; same = refl }, (tt, tt)))))))
+    (tt, (tt, (tt, (tt, (tt, (record { reading = 1000400; before = []; just_before = refl; same = refl }, (tt, tt))))))),
   );
 }
 
@@ -35,9 +35,9 @@ explained = record {
         first_reads 6 3999000 (omega arith),
         (
           first_reads 5 3499000 (omega arith),
-          (tt, (first_reads 3 2500000 (omega arith), (tt, (tt, (first_reads 0 1000400 (omega arith), tt)))))
-        )
-      )
+          (tt, (first_reads 3 2500000 (omega arith), (tt, (tt, (first_reads 0 1000400 (omega arith), tt))))),
+        ),
+      ),
     );
   };
   truthful = (
@@ -65,11 +65,11 @@ explained = record {
               declared = omega arith;
               promised_later = λ h. absurd (omega arith);
             }),
-            (tt, (tt, (tt, tt)))
-          )
-        )
-      )
-    )
+            (tt, (tt, (tt, tt))),
+          ),
+        ),
+      ),
+    ),
   );
 }
 
@@ -102,7 +102,7 @@ second_happens = record {
   in_order = λ i j h. omega arith;
   reads = (
     second_reads 8 6000400 (omega arith),
-    (second_reads 7 5500000 (omega arith), (tt, (tt, (second_reads 4 4000000 (omega arith), tt))))
+    (second_reads 7 5500000 (omega arith), (tt, (tt, (second_reads 4 4000000 (omega arith), tt)))),
   );
 }
 
@@ -120,8 +120,8 @@ is_relayed = (
       sent_before = omega arith;
       landed_after = omega arith;
     }),
-    (tt, (tt, (tt, tt)))
-  )
+    (tt, (tt, (tt, tt))),
+  ),
 )
 
 -- it is accepted, and alone
