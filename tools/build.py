@@ -2,6 +2,7 @@
 """Proves and builds css where it is old, several crates at a time, and then runs it with the words that are left.
 
     tools/build.py [WORDS]        CSS_JOBS, if it is set, is how many crates are proved at a time
+    tools/build.py --prove        builds, runs nothing, and says how long it took
 
 A crate waits for those below it. Of those that wait no longer, the one with the longest chain above it comes first.
 There is a prover for each processor, but only one for each 3 GB of free memory. rt locks the crates below the one that
@@ -243,10 +244,17 @@ def build():
     new.replace(PROGRAM)
 
 
+def since(begun):
+    """How long it is since then, in words."""
+    seconds = int(time.time() - begun)
+    return f"{seconds // 60} min {seconds % 60} s"
+
+
 def main():
     for number in (signal.SIGTERM, signal.SIGHUP):
         signal.signal(number, lambda number, _: sys.exit(128 + number))
     (FOLDER / "out").mkdir(exist_ok=True)
+    begun = time.time()
     try:
         # one build at a time; the lock ends with its holder
         with open(FOLDER / "out" / "build.lock", "w") as lock:
@@ -257,6 +265,9 @@ def main():
         sys.exit(130)
     except FileNotFoundError as error:
         sys.exit(f"css: {error.filename} isn't found")
+    if sys.argv[1:] == ["--prove"]:
+        print(f"css: {PROGRAM.relative_to(TOP)} is proved and built, after {since(begun)}", file=sys.stderr)
+        return
     os.execv(PROGRAM, [str(PROGRAM), *sys.argv[1:]])
 
 

@@ -1,10 +1,14 @@
 //! The program `css` over the real streams, sockets and programs.
 #![tactic(auto)]
 
+mod hints;
+
+use crate::hints::hint;
 use css_app::{Status, run, tell};
 use css_drive::{Before, Nobody};
 use css_follow::{Cues, Meter};
 use css_net::{ChildSpawner, NetOutside, StdSink, StdSource};
+use css_outside::write_all;
 use std::env::Env;
 use std::io::{Error, ErrorKind};
 use std::process::ExitCode;
@@ -39,19 +43,26 @@ fn main(rt: HostRuntime) -> ExitCode {
             rest: Nobody,
         },
     };
-    let status = match words(&rt) {
+    let words = words(&rt);
+    let status = match &words {
         Ok(words) => run(
             rt.alloc(),
-            &words,
+            words,
             &mut source,
             &mut sink,
             &mut outside,
             &mut spawner,
             &mut followers,
         ),
-        Err(error) => without_words(&error),
+        Err(error) => without_words(error),
     };
     outside.end();
     let mut errors = StdSink::new(rt.stderr().lock(), &rt);
-    ExitCode::from(tell(rt.alloc(), &status, &mut errors).number)
+    let number = tell(rt.alloc(), &status, &mut errors).number;
+    if let Ok(words) = &words {
+        if let Some(words) = hint(number, words) {
+            let _ = write_all(&mut errors, words.as_bytes());
+        }
+    }
+    ExitCode::from(number)
 }
