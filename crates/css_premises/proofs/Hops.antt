@@ -5,7 +5,7 @@ use Rattle.css_model.specs.declared.Why.TheVariants as why
 use Rattle.css_model.specs.WallClock.{lower, upper, lo, hi, scaled_width}
 use Rattle.css_model.specs.Wire.{encoded, fault, fields, request_at, stamp_of}
 use Rattle.css_model.specs.History.{Clock, Each, wall_answer}
-use Rattle.css_model.specs.Explains.{IsLawful, HappensIn, Explains}
+use Rattle.css_model.specs.Explains.{IsJustAsked, IsLawful, HappensIn, Explains}
 use Rattle.css_relay.specs.Precisions.{exponent_for}
 use Rattle.css_relay.specs.TwoHops.{IsAnswerOf, RelayedAt}
 use Rattle.css_relay.proofs.TwoHops.{two_hops_are_true}
@@ -14,13 +14,16 @@ use Rattle.css_premises.specs.Hops.{IsHops, second_of, relayed, relayed_exchange
 use Rattle.css_premises.proofs.Drifting.{is_world, in_range, first_reads, second_reads}
 
 -- ---- the relay
+abbrev first_asked : IsJustAsked (stamp_of 1000400) (drop 7 relayed_exchange.history)
+first_asked = record { reading = 1000400; before = []; just_before = refl; same = refl }
+
 lawful : IsLawful relayed_exchange.history
 unfolding encoded fault fields
 lawful = record {
   rises = (tt, (tt, (tt, (tt, (tt, (tt, (tt, (tt, tt))))))));
   asks = (
     tt,
-    (tt, (tt, (tt, (tt, (tt, (record { reading = 1000400; before = []; just_before = refl; same = refl }, (tt, tt))))))),
+    (tt, (tt, (tt, (tt, (tt, (first_asked, (tt, tt))))))),
   );
 }
 
@@ -54,7 +57,7 @@ explained = record {
               received_at = 1;
               transmit_at = 2;
               sent_at = 2;
-              asked = inr (inl (refl, record { reading = 1000400; before = []; just_before = refl; same = refl }, refl));
+              asked = inr (inl (refl, first_asked, refl));
               received_later = omega arith;
               transmit_later = omega arith;
               sent_later = omega arith;

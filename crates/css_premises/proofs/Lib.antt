@@ -1,3 +1,5 @@
 pub mod Drifting
+pub mod OnLiterals
 pub mod Hops
+pub mod Runs
 pub mod Answers

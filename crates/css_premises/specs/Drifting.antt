@@ -10,8 +10,8 @@ abbrev pub shown : Bool → ℕ → ℕ
 shown true number = 1000000 + 499750 * number
 shown false number = 2000000 + 500050 * number
 
--- The wall clock is 250 ppm fast, the clock of companion 1 is 500 ppm slow, and that of companion 2 is 100 ppm fast. Two
--- moments are half a millisecond apart, up to moment 24.
+-- The wall clock is 250 ppm fast, the clock of companion 1 is 500 ppm slow, and that of companion 2 is 100 ppm fast.
+-- Two moments are half a millisecond apart, up to moment 24.
 abbrev pub drifting : World
 drifting i =
     let number = min i 24 in

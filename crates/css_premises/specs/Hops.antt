@@ -52,8 +52,8 @@ pub record IsHops (hops : Hops) : Type 0 where
 abbrev pub relayed : Message
 relayed = response (negsuc 9) 4000000 5002499364 5002999364
 
--- The relay asks at moment 0, and its answer lands at moment 3. Companion 2 asks at moment 4, the relay takes its request
--- at moment 5 and answers at moment 6, and that lands at moment 7. At moment 8 companion 2 reads its clock.
+-- The relay asks at moment 0, and its answer lands at moment 3. Companion 2 asks at moment 4, the relay takes its
+-- request at moment 5 and answers at moment 6, and that lands at moment 7. At moment 8 companion 2 reads its clock.
 abbrev pub relayed_exchange : Hops
 relayed_exchange = record {
   errors = errors;

@@ -1,3 +1,4 @@
 pub mod Drifting
 pub mod Hops
+pub mod Runs
 pub mod Answers
