@@ -1,13 +1,13 @@
 -- The examples of an agreement and of a contradiction hold.
-use Rattle.std.proofs.Common.{◌≡◌, ℕ, ◌≤◌, refl, arith, List, [], ◌∷◌}
-use Rattle.std.specs.Prelude.{ℤ, pos, ◌≤ℤ◌, ◌<ℤ◌, All, Contains}
+use Rattle.std.proofs.Common.{◌≡◌, ◌≤◌, refl, arith, [], ◌∷◌}
+use Rattle.std.specs.Prelude.{pos, ◌≤ℤ◌, All}
 use Rattle.std.proofs.lemmas.Int.{ints}
 use Rattle.std.proofs.lemmas.List.Elements.{All-cons, All-nil}
 use Rattle.css_model.specs.WallClock.{Answer, lower, upper, lo, hi}
 use Rattle.css_agree.specs.Agreements.{IsShared, IsTruthful, LiesIn, Contradict}
 use Rattle.css_agree.proofs.Truth.{agreement_is_true, contradiction_is_false}
 use Rattle.css_premises.specs.Drifting.{drifting, errors, own}
-use Rattle.css_premises.specs.Answers.{Shared, AreTruthful, IsContradiction, late_answer, late_request}
+use Rattle.css_premises.specs.Answers.{AreTruthful, IsContradiction, late_answer, late_request}
 use Rattle.css_premises.specs.Answers.{opposite_delays, answer_anew, set_anew}
 use Rattle.css_premises.proofs.Drifting.{is_world, first_reads}
 

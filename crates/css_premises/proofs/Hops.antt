@@ -1,15 +1,14 @@
 -- The example of two hops holds.
-use Rattle.std.proofs.Common.{◌≡◌, ℕ, refl, arith, [], ◌∷◌, drop, inl, inr}
+use Rattle.std.proofs.Common.{◌≡◌, refl, arith, [], drop, inl, inr}
 use Rattle.std.specs.Prelude.{Some}
-use Rattle.css_model.specs.declared.Why.TheVariants as why
 use Rattle.css_model.specs.WallClock.{lower, upper, lo, hi, scaled_width}
 use Rattle.css_model.specs.Wire.{encoded, fault, fields, request_at, stamp_of}
-use Rattle.css_model.specs.History.{Clock, Each, wall_answer}
+use Rattle.css_model.specs.History.{Each, wall_answer}
 use Rattle.css_model.specs.Explains.{IsJustAsked, IsLawful, HappensIn, Explains}
 use Rattle.css_relay.specs.Precisions.{exponent_for}
 use Rattle.css_relay.specs.TwoHops.{IsAnswerOf, RelayedAt}
 use Rattle.css_relay.proofs.TwoHops.{two_hops_are_true}
-use Rattle.css_premises.specs.Drifting.{drifting, errors, own, response}
+use Rattle.css_premises.specs.Drifting.{drifting, errors, own}
 use Rattle.css_premises.specs.Hops.{IsHops, second_of, relayed, relayed_exchange}
 use Rattle.css_premises.proofs.Drifting.{is_world, in_range, first_reads, second_reads}
 

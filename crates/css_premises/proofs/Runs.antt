@@ -1,5 +1,5 @@
 -- The example of second hops holds.
-use Rattle.std.proofs.Common.{◌≡◌, ℕ, refl, arith, [], ◌∷◌, ◌++◌, drop, inl, inr, codes, false}
+use Rattle.std.proofs.Common.{◌≡◌, refl, arith, [], ◌∷◌, drop, inl, inr, codes, false}
 use Rattle.std.specs.Prelude.{pos, negsuc, Some, None}
 use Rattle.css_cii.specs.States.{empty}
 use Rattle.css_model.specs.declared.Kind.TheVariants as kind

@@ -1,5 +1,5 @@
 -- A relay's whole run and a second companion in one world: the premises of second hops can be met.
-use Rattle.std.specs.Prelude.{ℕ, ◌+◌, ◌≡◌, ℤ, pos, negsuc, codes, List, [], ◌∷◌, ◌++◌, Some}
+use Rattle.std.specs.Prelude.{ℕ, ◌+◌, ◌≡◌, pos, negsuc, codes, List, [], ◌∷◌, Some}
 use Rattle.css_model.specs.declared.Kind.TheVariants as kind
 use Rattle.css_model.specs.declared.Message.{Message}
 use Rattle.css_model.specs.declared.Why.TheVariants as why
