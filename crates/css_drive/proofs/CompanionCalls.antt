@@ -16,7 +16,11 @@ use Rattle.css_address.specs.declared.fault.AddressFault.{AddressFault}
 use Rattle.css_cii.specs.declared.name.CiiName.{CiiName}
 use Rattle.css_cii.specs.declared.name.CiiName.TheVariants.{WcUrl, TsUrl}
 use Rattle.css_cii.specs.declared.state.State.{State}
-use Rattle.css_outside.specs.Outsides.{Counts, with_entries, clock_entries, sleep_entries, wrote_entries}
+use Rattle.css_outside.specs.Outsides.{Counts, with_entries, clock_entries, sleep_entries, heard_entries, wrote_entries}
+use Rattle.css_outside.specs.declared.calls.Heard.{Heard as Answer}
+use Rattle.css_outside.specs.declared.calls.Heard.TheVariants as answer
+use Rattle.css_outside.specs.declared.fault.OutFault.{OutFault}
+use Rattle.std.specs.Option.{option_map}
 use Rattle.css_outside.specs.declared.calls.Clocked.{Clocked}
 use Rattle.css_outside.specs.declared.calls.Wrote.{Wrote as Outcome}
 use Rattle.css_outside.specs.declared.calls.Wrote.TheVariants as outcome
@@ -29,27 +33,30 @@ use Rattle.css_model.specs.declared.Stamp.{Stamp}
 use Rattle.css_model.specs.Explains.{IsLawful, IsJustAsked}
 use Rattle.css_companion.specs.declared.fault.CompanionFault.{CompanionFault}
 use Rattle.css_companion.specs.declared.fault.CompanionFault.TheVariants as fault
-use Rattle.css_companion.specs.declared.report.Report.{Report}
 use Rattle.css_drive.specs.CompanionDue as dues
 use Rattle.css_drive.specs.CompanionDue.{due, due_at, dial_to, dial_first, take_text, send_to, place, point_of, SetUp}
 use Rattle.css_drive.specs.CompanionDue.{from_turn, from_cii, from_wc, from_ts, from_ask, from_take, from_cii_text}
 use Rattle.css_drive.specs.CompanionDue.{from_ts_text, from_end, text_sent, text_gone, unless_refused, refusal_of}
 use Rattle.css_drive.specs.CompanionDue.{fault_in, end_by}
-use Rattle.css_drive.specs.CompanionReports.{is_due, report_at, due_reports, with_report}
 use Rattle.css_drive.specs.CompanionStanding.{Shown, Facts, facts_of, facts_in, KnowsPeers, Stands, Knows, GivesPlace}
 use Rattle.css_drive.specs.CompanionStanding.{asked_after, IsRefusal, HasRead, HasLost, Keeps, Comes, Stops}
-use Rattle.css_drive.specs.CompanionStanding.{dial_entries}
-use Rattle.css_drive.specs.CompanionTurns.{dialled, opened, is_peer, unless, is_asking, turns, turn_at, first_turn}
+use Rattle.css_drive.specs.CompanionStanding.{dial_entries, IsFault, IsEndBy}
+use Rattle.css_drive.specs.CompanionTurns.{dialled, opened, is_peer, unless, is_asking, turns}
 use Rattle.css_drive.specs.Ends.{MayEnd}
+use Rattle.css_drive.specs.Notes as notes
+use Rattle.css_drive.specs.Notes.{Note, noted, session_at, session_with, with_event, slept_notes, landing_notes}
+use Rattle.css_drive.specs.Notes.{heard_notes, wrote_notes}
+use Rattle.css_drive.specs.declared.session.Session.{Session}
+use Rattle.css_drive.specs.declared.session.Session.TheVariants as session
 use Rattle.css_drive.specs.Proper.{Due, MayAdd, Now, Dial, TakeDatagram, TakeText, SendText, SendDatagram, Ends}
 use Rattle.css_drive.specs.declared.companion_live.Live.{Live}
 use Rattle.css_drive.specs.declared.config.DriveConfig.{DriveConfig}
 use Rattle.css_drive.specs.declared.driven.Driven.{Driven}
 use Rattle.css_drive.specs.declared.driven.Driven.TheVariants as driven
-use Rattle.css_drive.proofs.CompanionSteps.{opened_dialled, peers_as, knows_aside, stands_more, stops_after, comes}
+use Rattle.css_drive.proofs.CompanionSteps.{opened_dialled, peers_as, knows_aside, stands_saw, stops_after, comes, IsOwn}
 
-module _ (config : DriveConfig) (before now : Shown) (live : Live) (reports : List Report) (history : History)
-    (s : Stands config before now live reports history) where
+module _ (config : DriveConfig) (before now : Shown) (saw : List Note → Type 0) (live : Live)
+    (history : History) (s : Stands config before now saw live history) where
   -- ---- dials
   pub cii_due : due config history ≡ from_cii config history → (o : Option ℕ) → live.cii ≡ o
       → due config history ≡ dial_first o config.cii (from_wc config history)
@@ -135,39 +142,55 @@ closed p x = record x {
       x.ts_open;
 }
 
-module _ (config : DriveConfig) (before now : Shown) (live : Live) (reports : List Report) (history : History)
-    (s : Stands config before now live reports history) where
+module _ (config : DriveConfig) (before now : Shown) (saw : List Note → Type 0) (live : Live)
+    (history : History) (s : Stands config before now saw live history) where
   over : (b d : Bool) → Facts
-  over b d = record (facts_in live reports) { cii_open = unless b live.cii_open; ts_open = unless d live.ts_open }
+  over b d = record (facts_in live) { cii_open = unless b live.cii_open; ts_open = unless d live.ts_open }
 
-  pub ts_over : (p : ℕ) → live.ts_open ≡ Some p → closed p (facts_of config history) ≡ record (facts_in live reports)
+  pub ts_over : (p : ℕ) → live.ts_open ≡ Some p → closed p (facts_of config history) ≡ record (facts_in live)
       { ts_open = None }
   unfolding over
   ts_over p e =
       ap {A = Facts} (closed p) s.facts
       ∙ ap (λ b. over b (is_peer live.ts_open p)) (other_open history live.cii_open kind.Cii kind.Ts p (open_cii
-      config before now live reports history s) (open_ts config before now live reports history s p e) (λ x. cc))
+      config before now saw live history s) (open_ts config before now saw live history s p e) (λ x. cc))
       ∙ ap (λ d. over false d) (same_open p live.ts_open e)
 
-  pub cii_over : (p : ℕ) → live.cii_open ≡ Some p → closed p (facts_of config history) ≡ record (facts_in live
-      reports) { cii_open = None }
+  pub cii_over : (p : ℕ) → live.cii_open ≡ Some p → closed p (facts_of config history) ≡ record (facts_in live) { cii_open = None }
   unfolding over
   cii_over p e =
       ap {A = Facts} (closed p) s.facts
       ∙ ap (λ b. over b (is_peer live.ts_open p)) (same_open p live.cii_open e)
-      ∙ ap (λ d. over true d) (other_open history live.ts_open kind.Ts kind.Cii p (open_ts config before now live
-      reports history s) (open_cii config before now live reports history s p e) (λ x. cc))
+      ∙ ap (λ d. over true d) (other_open history live.ts_open kind.Ts kind.Cii p (open_ts config before now saw live history s) (open_cii config before now saw live history s p e) (λ x. cc))
+
+  -- ---- which session it is
+  pub cii_at : (p : ℕ) → live.cii_open ≡ Some p → session_at p history ≡ Some session.Cii
+  cii_at p e =
+      ap (λ o. session_with o (dialled kind.Ts history) p)
+      (opened_dialled kind.Cii history p (ap {A = Facts} (λ x. x.cii_open) s.facts ∙ e))
+      ∙ ap (λ b. cond b (Some session.Cii) (cond (is_peer (dialled kind.Ts history) p) (Some session.Ts) None))
+      (eq-eqb p p refl)
+
+  pub ts_at : (p : ℕ) → live.ts_open ≡ Some p → session_at p history ≡ Some session.Ts
+  ts_at p e =
+      ap (λ b. cond b (Some session.Cii) (cond (is_peer (dialled kind.Ts history) p) (Some session.Ts) None))
+      (other_open history (dialled kind.Cii history) kind.Cii kind.Ts p
+      (λ q x. kind_at config before now saw live history s live.cii kind.Cii q s.peers.cii_kind (sym (ap {A = Facts} (λ
+      x. x.cii) s.facts) ∙ x)) (open_ts config before now saw live history s p e) (λ x. cc))
+      ∙ ap (λ o. cond (is_peer o p) (Some session.Ts) None)
+      (opened_dialled kind.Ts history p (ap {A = Facts} (λ x. x.ts_open) s.facts ∙ e))
+      ∙ ap (λ b. cond b (Some session.Ts) None) (eq-eqb p p refl)
 
   -- ---- readings
   pub read_facts : (w : Why) (clocked : Clocked) → (w ≡ why.Ask) ⊎ (w ≡ why.Land)
       → facts_of config (clock_entries w clocked ++ history)
-      ≡ record (facts_in live reports) { asked = asked_after clocked.slept live.asked }
+      ≡ record (facts_in live) { asked = asked_after clocked.slept live.asked }
   read_facts w clocked is = by clocked.slept w is
     where
       by : (b : Bool) (w : Why) → (w ≡ why.Ask) ⊎ (w ≡ why.Land) → facts_of config (clock_entries w (record clocked {
         slept = b;
       }) ++ history)
-          ≡ record (facts_in live reports) { asked = asked_after b live.asked }
+          ≡ record (facts_in live) { asked = asked_after b live.asked }
       by true why.Ask is = ap {A = Facts} (λ x. record x { asked = None }) s.facts
       by false why.Ask is = s.facts
       by true why.Land is = ap {A = Facts} (λ x. record x { asked = None }) s.facts
@@ -196,19 +219,59 @@ live_peers n m live later history e cii ts k =
     subst P (sym e) (subst Q (sym cii) (subst R (sym ts) k))
 
 -- after a reading the run stands
-pub stands_read : {config : DriveConfig} {before now : Shown} {live : Live} {reports : List Report} {history : History}
-    → (s : Stands config before now live reports history) → (w : Why) → (w ≡ why.Ask) ⊎ (w ≡ why.Land)
-    → due config history ≡ Now w
+pub stands_read : {config : DriveConfig} {before now : Shown} {saw : List Note → Type 0} {live : Live}
+    {history : History} → (s : Stands config before now saw live history) → (w : Why)
+    → (w ≡ why.Ask) ⊎ (w ≡ why.Land) → due config history ≡ Now w
     → (next : Shown) (later : Live) (was is : Companion) (clocked : Clocked)
-    → HasRead now next live later was is w clocked
-    → Stands config before next later reports (clock_entries w clocked ++ history)
-stands_read {config} {before} {now} {live} {reports} {history} s w is d next later was is-now clocked r =
-    let only = r.only reports in
-    stands_more s (Now w) d (clock_entries w clocked) (clocked, refl) next r.told r.faults later reports
-    (read_facts config before now live reports history s w clocked is ∙ sym only)
+    → HasRead now next live later was is w clocked → (after : List Note → Type 0)
+    → after (noted config (clock_entries w clocked ++ history))
+    → Stands config before next after later (clock_entries w clocked ++ history)
+stands_read {config} {before} {now} {saw} {live} {history} s w is d next later was is-now clocked r after notes =
+    stands_saw s (Now w) d (clock_entries w clocked) (clocked, refl) next r.told r.faults after notes later
+    (read_facts config before now saw live history s w clocked is ∙ sym r.only)
     (live_peers now.counts.peers next.counts.peers live later (clock_entries w clocked ++ history) r.peers (ap {A =
-    Facts} (λ x. x.cii) only) (ap {A = Facts} (λ x. x.ts) only)
+    Facts} (λ x. x.cii) r.only) (ap {A = Facts} (λ x. x.ts) r.only)
     (peers_clock now.counts.peers live.cii live.ts w clocked history s.peers))
+
+-- a fault of the outside ends the run of an observer that isn't over
+pub fault_now : (over : Option OutFault) (ended : Driven) → over ≡ None → IsFault ended → IsEndBy over ended
+fault_now over ended e f = let P : Option OutFault → Type 0 = λ x. IsEndBy x ended in subst P (sym e) f
+
+-- ---- notes
+pub asked_notes : (config : DriveConfig) (clocked : Clocked) (history : History)
+    → noted config (clock_entries why.Ask clocked ++ history) ≡ slept_notes clocked.slept ++ noted config history
+asked_notes config clocked history = by clocked.slept
+  where
+    by : (b : Bool) → noted config (clock_entries why.Ask (record clocked { slept = b }) ++ history)
+        ≡ slept_notes b ++ noted config history
+    by true = refl
+    by false = refl
+
+pub landed_notes : (config : DriveConfig) (clocked : Clocked) (p : ℕ) (bytes : List ℕ) (history : History)
+    → noted config (clock_entries why.Land clocked ++ (Took p bytes ∷ history))
+    ≡ landing_notes clocked bytes ++ noted config history
+landed_notes config clocked p bytes history = by clocked.slept
+  where
+    by : (b : Bool) → noted config (clock_entries why.Land (record clocked { slept = b }) ++ (Took p bytes ∷ history))
+        ≡ landing_notes (record clocked { slept = b }) bytes ++ noted config history
+    by true = refl
+    by false = refl
+
+pub heard_noted : (config : DriveConfig) (p : ℕ) (answer : Answer) (which : Session) (history : History)
+    → session_at p history ≡ Some which
+    → noted config (heard_entries p answer ++ history) ≡ heard_notes which answer ++ noted config history
+heard_noted config p answer.Quiet which history e = refl
+heard_noted config p (answer.Text text) which history e =
+    ap (λ o. with_event (option_map (λ x. notes.Heard x text) o) (noted config history)) e
+heard_noted config p answer.Closed which history e =
+    ap (λ o. with_event (option_map notes.Closed o) (noted config history)) e
+
+pub wrote_noted : (config : DriveConfig) (p : ℕ) (text : List ℕ) (wrote : Outcome) (history : History)
+    → session_at p history ≡ Some session.Ts
+    → noted config (wrote_entries p text wrote ++ history) ≡ wrote_notes wrote ++ noted config history
+wrote_noted config p text outcome.Sent history e = refl
+wrote_noted config p text outcome.Gone history e =
+    ap (λ o. with_event (option_map notes.Closed o) (noted config history)) e
 
 -- the clock that is read tells a companion nothing but the sleep, unless an answer lands
 pub knows_read : (config : DriveConfig) (companion : Companion) (clocked : Clocked) (history : History)
@@ -380,21 +443,34 @@ refusal_quiet (Some (fault.BadCii number reason)) r = cc
 refusal_quiet (Some (fault.Moved property old new)) r = cc
 refusal_quiet (Some fault.Memory) r = cc
 
+refusal_own : (refusal : Option CompanionFault) (ended : Driven) → IsRefusal refusal ended → IsOwn ended
+refusal_own refusal driven.NetFault r = refusal_quiet refusal r
+refusal_own None driven.WriteFault r = r
+refusal_own (Some (fault.BadCii number reason)) driven.WriteFault r = cc
+refusal_own (Some (fault.Moved property old new)) driven.WriteFault r = cc
+refusal_own (Some fault.Memory) driven.WriteFault r = cc
+refusal_own refusal driven.Done r = tt
+refusal_own refusal (driven.BadLine line why) r = tt
+refusal_own refusal (driven.BadCii text reason) r = tt
+refusal_own refusal (driven.Moved property old new) r = tt
+refusal_own refusal (driven.Spent turns) r = tt
+refusal_own refusal (driven.Unreachable turns) r = tt
+refusal_own refusal (driven.BadUrl property) r = tt
+refusal_own refusal driven.Memory r = tt
+
 -- a text that is refused ends the run
-pub refused_stops : {config : DriveConfig} {before now : Shown} {live : Live} {reports : List Report} {history :
-    History} → Stands config before now live reports history → (d : Due) → due config history ≡ d
+pub refused_stops : {config : DriveConfig} {before now : Shown} {saw : List Note → Type 0} {live : Live}
+    {history : History} → Stands config before now saw live history → (d : Due) → due config history ≡ d
     → (p : ℕ) (bytes : List ℕ) → MayAdd d (Heard p bytes ∷ []) → (next : Shown)
     → next.told ≡ with_entries (Heard p bytes ∷ []) now.told → next.counts.faults ≡ now.counts.faults
-    → IsLawful history
-    → kind_of p history ≡ Some kind.Cii → (ended : Driven) → IsRefusal (refusal_of (Some bytes) history) ended
-    → Stops config before next reports ended
-refused_stops {config} {before} {now} {live} {reports} {history} s d is-due p bytes may next told faults lawful k
-    ended r =
+    → (after : List Note → Type 0) → after (noted config (Heard p bytes ∷ history)) → IsLawful history
+    → kind_of p history ≡ Some kind.Cii → (over : Option OutFault) → (ended : Driven)
+    → IsRefusal (refusal_of (Some bytes) history) ended → Stops config before next after over ended
+refused_stops {config} {history} s d is-due p bytes may next told faults after notes lawful k over ended r =
     let P : Due → Type 0 = λ x. MayEnd x ended in
-    let Q : Driven → Type 0 = λ x. IsRefusal (refusal_of (Some bytes) history) x in
-    stops_after s d is-due (Heard p bytes ∷ []) may next told faults (lawful_plain (Heard p bytes) history lawful
-    refl refl) (ap {A = Facts} (λ x. x.reports) s.facts) ended
-    (λ e. refusal_quiet (refusal_of (Some bytes) history) (subst Q e r))
+    stops_after s d is-due (Heard p bytes ∷ []) may next told faults after notes
+    (lawful_plain (Heard p bytes) history lawful refl refl) over ended
+    (refusal_own (refusal_of (Some bytes) history) ended r)
     (subst P (sym (heard_cii config p bytes history (refusal_of (Some bytes) history) k refl)) (refusal_ends
     (refusal_of (Some bytes) history) (from_ts_text config (Heard p bytes ∷ history)) ended r))
 
@@ -424,36 +500,36 @@ pub keeps_same : {old new : Counts} {before now : Live} → new.dial_faults ≡ 
 keeps_same e k = record { made = k.made; reported = k.reported; dials = omega (arith, e); dialled = k.dialled }
 
 -- ---- the TS session is over
-pub over_comes : {config : DriveConfig} {before now : Shown} {live : Live} {reports : List Report} {history :
-    History} → Stands config before now live reports history → (d : Due) → due config history ≡ d
+pub over_comes : {config : DriveConfig} {before now : Shown} {saw : List Note → Type 0} {live : Live}
+    {history : History} → Stands config before now saw live history → (d : Due) → due config history ≡ d
     → (entry : Entry) → MayAdd d (entry ∷ []) → (next : Shown) → next.told ≡ with_entries (entry ∷ []) now.told
-    → next.counts ≡ now.counts → (later : Live) (was is : Companion) → HasLost live later was is
-    → facts_of config (entry ∷ history) ≡ record (facts_in live reports) { ts_open = None } → ((q : ℕ)
+    → next.counts ≡ now.counts → (after : List Note → Type 0) → after (noted config (entry ∷ history))
+    → (later : Live) (was is : Companion) → HasLost live later was is
+    → facts_of config (entry ∷ history) ≡ record (facts_in live) { ts_open = None } → ((q : ℕ)
     → kind_of q (entry ∷ history) ≡ kind_of q history) → Knows config was history
     → IsEntryOf event.TsClosed entry history
     → (to : History → Due) → due config (entry ∷ history) ≡ to (entry ∷ history)
-    → Comes config before next later is reports to
-over_comes {config} {before} {now} {live} {reports} {history} s d is-due entry may next told same later was is-now l
-    facts kinds k ends to goes =
-    let only = l.only reports in
-    comes (stands_more s d is-due (entry ∷ []) may next told (ap (λ x. x.faults) same) later reports (facts ∙ sym only)
+    → Comes config before next after later is to
+over_comes {config} {before} {now} {saw} {live} {history} s d is-due entry may next told same after notes later was
+    is-now l facts kinds k ends to goes =
+    comes (stands_saw s d is-due (entry ∷ []) may next told (ap (λ x. x.faults) same) after notes later
+    (facts ∙ sym l.only)
     (live_peers now.counts.peers next.counts.peers live later (entry ∷ history) (ap (λ x. x.peers) same) (ap {A =
-    Facts} (λ x. x.cii) only) (ap {A = Facts} (λ x. x.ts) only) (peers_as now.counts.peers now.counts.peers
+    Facts} (λ x. x.cii) l.only) (ap {A = Facts} (λ x. x.ts) l.only) (peers_as now.counts.peers now.counts.peers
     live.cii live.ts history (entry ∷ history) s.peers (omega arith) kinds)))
     (l.known config history entry k ends) to goes
 
-pub over_stops : {config : DriveConfig} {before now : Shown} {live : Live} {reports : List Report} {history :
-    History} → Stands config before now live reports history → (d : Due) → due config history ≡ d
+pub over_stops : {config : DriveConfig} {before now : Shown} {saw : List Note → Type 0} {live : Live}
+    {history : History} → Stands config before now saw live history → (d : Due) → due config history ≡ d
     → (entry : Entry) → MayAdd d (entry ∷ []) → (next : Shown) → next.told ≡ with_entries (entry ∷ []) now.told
-    → next.counts ≡ now.counts → IsLawful history → asking_at entry ≡ None → request_by entry ≡ None
-    → turn_at entry ≡ None → (ended : Driven) → ended ≡ driven.Memory → Stops config before next reports ended
-over_stops {config} {before} {now} {reports} {history} s d is-due entry may next told same lawful asks sends turns
+    → next.counts ≡ now.counts → (after : List Note → Type 0) → after (noted config (entry ∷ history))
+    → IsLawful history → asking_at entry ≡ None → request_by entry ≡ None → (over : Option OutFault)
+    → (ended : Driven) → ended ≡ driven.Memory → Stops config before next after over ended
+over_stops {config} {before} {now} {history} s d is-due entry may next told same after notes lawful asks sends over
     ended e =
-    let P : Driven → Type 0 = λ x. Stops config before next reports x in
-    subst P (sym e) (stops_after s d is-due (entry ∷ []) may next told (ap (λ x. x.faults) same) (lawful_plain entry
-    history lawful asks sends)
-    (ap (λ o. with_report config o history (first_turn history) (due_reports config history)) turns
-    ∙ ap {A = Facts} (λ x. x.reports) s.facts) driven.Memory (λ x. cc) tt)
+    let P : Driven → Type 0 = λ x. Stops config before next after over x in
+    subst P (sym e) (stops_after s d is-due (entry ∷ []) may next told (ap (λ x. x.faults) same) after notes
+    (lawful_plain entry history lawful asks sends) over driven.Memory tt tt)
 
 -- ---- addresses
 -- a bad address ends the run
@@ -480,3 +556,16 @@ bad_place property told k rest (driven.BadUrl p) g =
 pub bad_quiet : (property : CiiName) (told : Option (Result Address AddressFault))
     → GivesPlace property told (Err driven.NetFault) → ⊥
 bad_quiet property told g = let e : driven.NetFault ≡ driven.BadUrl property = g.1 in cc
+
+pub bad_own : (property : CiiName) (told : Option (Result Address AddressFault)) (ended : Driven)
+    → GivesPlace property told (Err ended) → IsOwn ended
+bad_own property told driven.NetFault g = bad_quiet property told g
+bad_own property told driven.WriteFault g = let e : driven.WriteFault ≡ driven.BadUrl property = g.1 in cc
+bad_own property told driven.Done g = tt
+bad_own property told (driven.BadLine line why) g = tt
+bad_own property told (driven.BadCii text fault) g = tt
+bad_own property told (driven.Moved p old new) g = tt
+bad_own property told (driven.Spent turns) g = tt
+bad_own property told (driven.Unreachable turns) g = tt
+bad_own property told (driven.BadUrl p) g = tt
+bad_own property told driven.Memory g = tt

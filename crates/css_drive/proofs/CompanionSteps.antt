@@ -1,7 +1,7 @@
 -- How a run's history goes on by a call.
 use Rattle.std.proofs.Common.{◌≡◌, ℕ, ◌≤◌, ◌<◌, arith, ap, sym, ◌∙◌, subst, refl, Bool, true, false, cond}
-use Rattle.std.proofs.Common.{List, [], ◌∷◌, ◌++◌, append_assoc, Option, Some, None, eq-eqb}
-use Rattle.std.specs.Prelude.{◌≢◌, is_some, ◌==◌, IfSome}
+use Rattle.std.proofs.Common.{List, [], ◌∷◌, ◌++◌, append_assoc, Option, Some, None, eq-eqb, Result, Ok, Err}
+use Rattle.std.specs.Prelude.{◌≢◌, is_some, ◌==◌, IfSome, MatchResult, IsErrAnd}
 use Rattle.std.specs.Option.{option_or}
 use Rattle.std.proofs.lemmas.Bool.{ne_eqb}
 use Rattle.css_model.specs.declared.Kind.{Kind}
@@ -9,17 +9,18 @@ use Rattle.css_model.specs.declared.Kind.TheVariants as kind
 use Rattle.css_model.specs.Explains.{IsLawful}
 use Rattle.css_model.specs.History.{Address, Entry, Dialling, Dialled, History}
 use Rattle.css_outside.specs.Outsides.{with_entries}
+use Rattle.css_outside.specs.declared.fault.OutFault.{OutFault}
+use Rattle.css_outside.specs.declared.fault.OutFault.TheVariants as fault
 use Rattle.css_companion.specs.Aside.{IsAside}
 use Rattle.css_companion.specs.Meanings.{kind_of}
 use Rattle.css_companion.specs.Standing.{Companion}
-use Rattle.css_companion.specs.declared.report.Report.{Report}
 use Rattle.css_companion.proofs.Telling as telling
 use Rattle.css_drive.specs.CompanionDue.{due, IsProperRun}
-use Rattle.css_drive.specs.CompanionReports.{due_reports}
 use Rattle.css_drive.specs.CompanionStanding.{Shown, Facts, facts_of, facts_in, KnowsPeers, Stands, Knows, Comes, Stops}
-use Rattle.css_drive.specs.CompanionStanding.{IsFault, Failed}
+use Rattle.css_drive.specs.CompanionStanding.{IsFault, IsEndBy, IsSo, Fails}
 use Rattle.css_drive.specs.CompanionTurns.{dialled, dialled_by, opened, ended_by, open_after, unless, newest, is_peer}
 use Rattle.css_drive.specs.Ends.{MayEnd, CountsNetFault}
+use Rattle.css_drive.specs.Notes.{Note, noted}
 use Rattle.css_drive.specs.Proper.{Due, MayAdd, More}
 use Rattle.css_drive.specs.declared.companion_live.Live.{Live}
 use Rattle.css_drive.specs.declared.config.DriveConfig.{DriveConfig}
@@ -160,63 +161,48 @@ counts_same before now driven.Memory never e = e
 pub counts_from : (a b n : ℕ) (ended : Driven) → a ≡ b → CountsNetFault a n ended → CountsNetFault b n ended
 counts_from a b n ended e c = let P : ℕ → Type 0 = λ x. CountsNetFault x n ended in subst P e c
 
--- ---- steps
--- a call that is due is added
-pub stands_more : {config : DriveConfig} {before now : Shown} {live : Live} {reports : List Report} {history : History}
-    → Stands config before now live reports history → (d : Due) → due config history ≡ d
-    → (call : History) → MayAdd d call → (next : Shown) → next.told ≡ with_entries call now.told
-    → next.counts.faults ≡ now.counts.faults → (later : Live) (more : List Report)
-    → facts_of config (call ++ history) ≡ facts_in later more
-    → KnowsPeers next.counts.peers later.cii later.ts (call ++ history)
-    → Stands config before next later more (call ++ history)
-stands_more {before} {now} {history} s d is-due call may next told faults later more facts peers =
-    let P : Due → Type 0 = λ x. MayAdd x call in
-    record {
-      told = told_more before.told now.told next.told call history s.told told;
-      faults = faults ∙ s.faults;
-      proper = More call (subst P (sym is-due) may) s.proper;
-      facts = facts;
-      peers = peers;
-    }
+-- ---- ends
+-- an end that neither the outside nor an observer makes, or want of memory
+abbrev pub IsOwn : Driven → Type 0
+IsOwn driven.NetFault = ⊥
+IsOwn driven.WriteFault = ⊥
+IsOwn _ = Unit {0}
 
--- after the call that is due the run is where `to` goes on
-pub comes : {config : DriveConfig} {before now : Shown} {live : Live} {companion : Companion} {reports : List Report}
-    {history : History} → Stands config before now live reports history → Knows config companion history
-    → (to : History → Due) → due config history ≡ to history → Comes config before now live companion reports to
-comes {history} s k to next = record { history = history; known = k; stands = s; next = next }
+own_so : (over : Option OutFault) (ended : Driven) → IsOwn ended → IsSo over ended
+own_so over driven.NetFault own = absurd own
+own_so over driven.WriteFault own = absurd own
+own_so over driven.Done own = tt
+own_so over (driven.BadLine line why) own = tt
+own_so over (driven.BadCii text fault) own = tt
+own_so over (driven.Moved property old new) own = tt
+own_so over (driven.Spent turns) own = tt
+own_so over (driven.Unreachable turns) own = tt
+own_so over (driven.BadUrl property) own = tt
+own_so over driven.Memory own = tt
 
--- after the call that is due the run ends
-pub stops_after : {config : DriveConfig} {before now : Shown} {live : Live} {reports : List Report} {history : History}
-    → Stands config before now live reports history → (d : Due) → due config history ≡ d
-    → (call : History) → MayAdd d call → (next : Shown) → next.told ≡ with_entries call now.told
-    → next.counts.faults ≡ now.counts.faults → IsLawful (call ++ history)
-    → due_reports config (call ++ history) ≡ reports → (ended : Driven) → (ended ≡ driven.NetFault → ⊥)
-    → MayEnd (due config (call ++ history)) ended → Stops config before next reports ended
-stops_after {before} {now} {history} s d is-due call may next told faults lawful made ended never ends =
-    let P : Due → Type 0 = λ x. MayAdd x call in
-    record {
-      history = call ++ history;
-      told = told_more before.told now.told next.told call history s.told told;
-      counted = counts_same before.counts.faults next.counts.faults ended never (faults ∙ s.faults);
-      proper = More call (subst P (sym is-due) may) s.proper;
-      lawful = lawful;
-      made = made;
-      ends = ends;
-    }
+own_counts : (before now : ℕ) (ended : Driven) → IsOwn ended → now ≡ before → CountsNetFault before now ended
+own_counts before now ended own e = counts_same before now ended (λ is. subst IsOwn is own) e
 
--- the run ends, with nothing more told
-pub stops_here : {config : DriveConfig} {before now : Shown} {live : Live} {reports : List Report} {history : History}
-    → Stands config before now live reports history → IsLawful history → (ended : Driven)
-    → (ended ≡ driven.NetFault → ⊥) → MayEnd (due config history) ended → Stops config before now reports ended
-stops_here {before} {now} {history} s lawful ended never ends = record {
-  history = history;
-  told = s.told;
-  counted = counts_same before.counts.faults now.counts.faults ended never s.faults;
-  proper = s.proper;
-  lawful = lawful;
-  made = ap {A = Facts} (λ x. x.reports) s.facts;
-  ends = ends;
-}
+-- a call that was not made or failed
+pub fails_so : (over : Option OutFault) (ended : Driven) → IsEndBy over ended → IsSo over ended
+fails_so None ended f = by ended f
+  where
+    by : (ended : Driven) → IsFault ended → IsSo None ended
+    by driven.NetFault f = refl
+    by driven.Memory f = tt
+    by driven.WriteFault f = absurd f
+    by driven.Done f = absurd f
+    by (driven.BadLine line why) f = absurd f
+    by (driven.BadCii text fault) f = absurd f
+    by (driven.Moved property old new) f = absurd f
+    by (driven.Spent n) f = absurd f
+    by (driven.Unreachable n) f = absurd f
+    by (driven.BadUrl property) f = absurd f
+fails_so (Some fault.Failed) ended f =
+    let P : Driven → Type 0 = λ x. IsSo (Some fault.Failed) x in
+    let never : Some fault.Failed ≡ None → ⊥ = λ e. cc in
+    subst P (sym f) never
+fails_so (Some fault.Memory) ended f = let P : Driven → Type 0 = λ x. IsSo (Some fault.Memory) x in subst P (sym f) tt
 
 -- nothing was told, and it ends by a fault
 pub fault_ends : (d : Due) (ended : Driven) → IsFault ended → MayEnd d ended
@@ -231,10 +217,99 @@ fault_ends d (driven.Spent n) f = absurd f
 fault_ends d (driven.Unreachable n) f = absurd f
 fault_ends d (driven.BadUrl property) f = absurd f
 
-pub stops_by_fault : {config : DriveConfig} {before now : Shown} {live : Live} {reports : List Report}
-    {history : History} → Stands config before now live reports history → IsLawful history → (next : Shown)
-    → (ended : Driven) → Failed now next ended → Stops config before next reports ended
-stops_by_fault {config} {before} {now} {history} s lawful next ended f =
+pub fails_end : (d : Due) (over : Option OutFault) (ended : Driven) → IsEndBy over ended → MayEnd d ended
+fails_end d None ended f = fault_ends d ended f
+fails_end d (Some fault.Failed) ended f = subst (MayEnd d) (sym f) tt
+fails_end d (Some fault.Memory) ended f = subst (MayEnd d) (sym f) tt
+
+-- a `?` that ends the function
+pub at_err : {T E : Type 0} (P : T → Type 0) (Q : E → Type 0) (e : E) (r : Result T E) → IsErrAnd r (λ x. x ≡ e) → Q e
+    → MatchResult r P Q
+at_err P Q e (Ok v) h q = absurd h
+at_err P Q e (Err x) h q = subst Q (sym h) q
+
+-- ---- steps
+-- a call that is due is added, and the observer saw its notes
+pub stands_saw : {config : DriveConfig} {before now : Shown} {saw : List Note → Type 0} {live : Live}
+    {history : History} → Stands config before now saw live history → (d : Due) → due config history ≡ d
+    → (call : History) → MayAdd d call → (next : Shown) → next.told ≡ with_entries call now.told
+    → next.counts.faults ≡ now.counts.faults → (after : List Note → Type 0)
+    → after (noted config (call ++ history)) → (later : Live)
+    → facts_of config (call ++ history) ≡ facts_in later
+    → KnowsPeers next.counts.peers later.cii later.ts (call ++ history)
+    → Stands config before next after later (call ++ history)
+stands_saw {before} {now} {history} s d is-due call may next told faults after notes later facts peers =
+    let P : Due → Type 0 = λ x. MayAdd x call in
+    record {
+      told = told_more before.told now.told next.told call history s.told told;
+      faults = faults ∙ s.faults;
+      proper = More call (subst P (sym is-due) may) s.proper;
+      facts = facts;
+      peers = peers;
+      saw_so = notes;
+    }
+
+-- a call that is due is added, of which the observer is told nothing
+pub stands_more : {config : DriveConfig} {before now : Shown} {saw : List Note → Type 0} {live : Live}
+    {history : History} → Stands config before now saw live history → (d : Due) → due config history ≡ d
+    → (call : History) → MayAdd d call → (next : Shown) → next.told ≡ with_entries call now.told
+    → next.counts.faults ≡ now.counts.faults → (later : Live)
+    → noted config (call ++ history) ≡ noted config history
+    → facts_of config (call ++ history) ≡ facts_in later
+    → KnowsPeers next.counts.peers later.cii later.ts (call ++ history)
+    → Stands config before next saw later (call ++ history)
+stands_more {saw} s d is-due call may next told faults later same facts peers =
+    stands_saw s d is-due call may next told faults saw (subst saw (sym same) s.saw_so) later facts peers
+
+-- after the call that is due the run is where `to` goes on
+pub comes : {config : DriveConfig} {before now : Shown} {saw : List Note → Type 0} {live : Live}
+    {companion : Companion} {history : History} → Stands config before now saw live history
+    → Knows config companion history → (to : History → Due) → due config history ≡ to history
+    → Comes config before now saw live companion to
+comes {history} s k to next = record { history = history; known = k; stands = s; next = next }
+
+-- after the call that is due the run ends
+pub stops_after : {config : DriveConfig} {before now : Shown} {saw : List Note → Type 0} {live : Live}
+    {history : History} → Stands config before now saw live history → (d : Due) → due config history ≡ d
+    → (call : History) → MayAdd d call → (next : Shown) → next.told ≡ with_entries call now.told
+    → next.counts.faults ≡ now.counts.faults → (after : List Note → Type 0)
+    → after (noted config (call ++ history)) → IsLawful (call ++ history) → (over : Option OutFault)
+    → (ended : Driven) → IsOwn ended → MayEnd (due config (call ++ history)) ended
+    → Stops config before next after over ended
+stops_after {before} {now} {history} s d is-due call may next told faults after notes lawful over ended own ends =
+    let P : Due → Type 0 = λ x. MayAdd x call in
+    record {
+      history = call ++ history;
+      told = told_more before.told now.told next.told call history s.told told;
+      counted = own_counts before.counts.faults next.counts.faults ended own (faults ∙ s.faults);
+      proper = More call (subst P (sym is-due) may) s.proper;
+      lawful = lawful;
+      ends = ends;
+      saw_so = notes;
+      so = own_so over ended own;
+    }
+
+-- the run ends, with nothing more told
+pub stops_here : {config : DriveConfig} {before now : Shown} {saw : List Note → Type 0} {live : Live}
+    {history : History} → Stands config before now saw live history → IsLawful history → (over : Option OutFault)
+    → (ended : Driven) → IsOwn ended → MayEnd (due config history) ended → Stops config before now saw over ended
+stops_here {before} {now} {history} s lawful over ended own ends = record {
+  history = history;
+  told = s.told;
+  counted = own_counts before.counts.faults now.counts.faults ended own s.faults;
+  proper = s.proper;
+  lawful = lawful;
+  ends = ends;
+  saw_so = s.saw_so;
+  so = own_so over ended own;
+}
+
+-- a call was not made, or failed
+pub stops_by_fault : {config : DriveConfig} {before now : Shown} {saw : List Note → Type 0} {live : Live}
+    {history : History} → Stands config before now saw live history → IsLawful history → (next : Shown)
+    → (over : Option OutFault) → (ended : Driven) → Fails now next over ended → (after : List Note → Type 0)
+    → after (noted config history) → Stops config before next after over ended
+stops_by_fault {config} {before} {now} {history} s lawful next over ended f after notes =
     let P : ℕ → Type 0 = λ n. CountsNetFault n next.counts.faults ended in
     record {
       history = history;
@@ -242,14 +317,18 @@ stops_by_fault {config} {before} {now} {history} s lawful next ended f =
       counted = subst P s.faults f.counted;
       proper = s.proper;
       lawful = lawful;
-      made = ap {A = Facts} (λ x. x.reports) s.facts;
-      ends = fault_ends (due config history) ended f.fault;
+      ends = fails_end (due config history) over ended f.end;
+      saw_so = notes;
+      so = fails_so over ended f.end;
     }
 
 -- for want of memory
-pub stops_by_memory : {config : DriveConfig} {before now : Shown} {live : Live} {reports : List Report}
-    {history : History} → Stands config before now live reports history → IsLawful history
-    → (ended : Driven) → ended ≡ driven.Memory → Stops config before now reports ended
-stops_by_memory {config} {before} {now} {reports} s lawful ended e =
-    let P : Driven → Type 0 = λ x. Stops config before now reports x in
-    subst P (sym e) (stops_here s lawful driven.Memory (λ x. cc) tt)
+pub stops_by_memory : {config : DriveConfig} {before now : Shown} {saw : List Note → Type 0} {live : Live}
+    {history : History} → Stands config before now saw live history → IsLawful history → (over : Option OutFault)
+    → (ended : Driven) → ended ≡ driven.Memory → Stops config before now saw over ended
+stops_by_memory {config} {before} {now} {saw} s lawful over ended e =
+    let P : Driven → Type 0 = λ x. Stops config before now saw over x in
+    subst P (sym e) (stops_here s lawful over driven.Memory tt tt)
+
+pub ends_by : (d e : Due) (ended : Driven) → d ≡ e → MayEnd e ended → MayEnd d ended
+ends_by d e ended is m = let P : Due → Type 0 = λ x. MayEnd x ended in subst P (sym is) m

@@ -2,6 +2,7 @@ pub mod CompanionSteps
 pub mod CompanionCalls
 pub mod CompanionEnds
 pub mod CompanionRuns
+pub mod Reports
 pub mod CompanionLaws
 pub mod SameEvents
 pub mod TvPeers

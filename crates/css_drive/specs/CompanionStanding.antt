@@ -2,7 +2,6 @@
 use Rattle.std.specs.Prelude.{◌≡◌, ◌≤◌, ◌<◌, ℕ, List, Bool, true, false, [], ◌∷◌, ◌++◌, Option, Some, None}
 use Rattle.std.specs.Prelude.{Result, Ok, Err, ◌⊎◌, MatchResult, IfSome, is_some, ◌||◌, if◌then◌else◌, length, ⊤}
 use Rattle.std.specs.Prelude.{IsTrue}
-use Rattle.std.specs.Io.KnownBytes.{Appends}
 use Rattle.css_model.specs.declared.TheConstants.{LIMIT}
 use Rattle.css_model.specs.declared.Why.{Why}
 use Rattle.css_model.specs.declared.Why.TheVariants as whys
@@ -16,19 +15,17 @@ use Rattle.css_companion.specs.Meanings.{kind_of}
 use Rattle.css_companion.specs.Standing.{Companion, StandsFor, own_of, wanted_by}
 use Rattle.css_companion.specs.Steps.{IsEntryOf}
 use Rattle.css_companion.specs.declared.event.CompanionEvent.TheVariants as event
-use Rattle.css_companion.specs.declared.report.Report.{Report}
 use Rattle.css_address.specs.declared.fault.AddressFault.{AddressFault}
 use Rattle.css_cii.specs.declared.name.CiiName.{CiiName}
-use Rattle.css_companion.specs.Printed.{line_of}
 use Rattle.css_companion.specs.declared.fault.CompanionFault.{CompanionFault}
-use Rattle.css_outside.specs.Bytes.{AppendsPrefix}
-use Rattle.css_drive.specs.CompanionRun.{Followed, HearFirst, Ran}
+use Rattle.css_outside.specs.declared.fault.OutFault.{OutFault}
+use Rattle.css_outside.specs.declared.fault.OutFault.TheVariants as fault
 use Rattle.css_drive.specs.CompanionTurns.{first_turn, this_turn, turns, dialled, opened, asked_turn}
-use Rattle.css_drive.specs.CompanionReports.{due_reports, report_at, written}
-use Rattle.css_drive.specs.CompanionDue.{due, from_hang_ups, from_turn, from_end, final, end_by, IsProperRun}
-use Rattle.css_drive.specs.Ends.{MayEnd, CountsNetFault, CountsWriteFault}
-use Rattle.css_drive.specs.Listening.{Listener, HearEach}
-use Rattle.css_drive.specs.Proper.{Due}
+use Rattle.css_drive.specs.CompanionReports.{due_reports, KeepsPromises}
+use Rattle.css_drive.specs.CompanionDue.{due, from_hang_ups, final, end_by, IsProperRun}
+use Rattle.css_drive.specs.Ends.{MayEnd, CountsNetFault}
+use Rattle.css_drive.specs.Notes.{Note, noted}
+use Rattle.css_drive.specs.Proper.{Due, Now}
 use Rattle.css_drive.specs.declared.companion_live.Live.{Live}
 use Rattle.css_drive.specs.declared.config.DriveConfig.{DriveConfig}
 use Rattle.css_drive.specs.declared.driven.Driven.{Driven}
@@ -45,7 +42,6 @@ shown told counts = record { told = told; counts = counts }
 -- ---- what the variables say of the history
 -- what a run has to know of its history
 pub record Facts : Type 0 where
-  pub reports : List Report
   pub first : Option ℕ
   pub turn : Option ℕ
   pub asked : Option ℕ
@@ -59,7 +55,6 @@ pub record Facts : Type 0 where
 
 abbrev pub facts_of : DriveConfig → History → Facts
 facts_of config history = record {
-  reports = due_reports config history;
   first = first_turn history;
   turn = this_turn history;
   asked = asked_turn history;
@@ -72,10 +67,9 @@ facts_of config history = record {
   ts_open = opened kind.Ts history;
 }
 
--- the same, as the variables have it; the reports aren't kept
-abbrev pub facts_in : Live → List Report → Facts
-facts_in live reports = record {
-  reports = reports;
+-- the same, as the variables have it
+abbrev pub facts_in : Live → Facts
+facts_in live = record {
   first = live.first;
   turn = live.turn;
   asked = live.asked;
@@ -95,15 +89,16 @@ pub record KnowsPeers (peers : ℕ) (cii ts : Option ℕ) (history : History) : 
   pub cii_kind : IfSome cii (λ peer. kind_of peer history ≡ Some kind.Cii)
   pub ts_kind : IfSome ts (λ peer. kind_of peer history ≡ Some kind.Ts)
 
--- The run has this history since `before`, and it is proper. The variables say what they have to of it. No call other
--- than a dial has failed.
-pub record Stands (config : DriveConfig) (before now : Shown) (live : Live) (reports : List Report) (history : History)
-    : Type 0 where
+-- The run has this history since `before`, and it is proper. The variables say what they have to of it, and the observer
+-- saw its notes. No call other than a dial has failed.
+pub record Stands (config : DriveConfig) (before now : Shown) (saw : List Note → Type 0) (live : Live)
+    (history : History) : Type 0 where
   pub told : now.told ≡ with_entries history before.told
   pub faults : now.counts.faults ≡ before.counts.faults
   pub proper : IsProperRun config history
-  pub facts : facts_of config history ≡ facts_in live reports
+  pub facts : facts_of config history ≡ facts_in live
   pub peers : KnowsPeers now.counts.peers live.cii live.ts history
+  pub saw_so : saw (noted config history)
 
 -- the companion is the configuration's, and stands for the history
 pub record Knows (config : DriveConfig) (companion : Companion) (history : History) : Type 0 where
@@ -112,28 +107,75 @@ pub record Knows (config : DriveConfig) (companion : Companion) (history : Histo
   pub own : own_of companion ≡ config.companion.local
 
 -- The run came to where `to` says what is due.
-pub record Comes (config : DriveConfig) (before now : Shown) (live : Live) (companion : Companion)
-    (reports : List Report) (to : History → Due) : Type 0 where
+pub record Comes (config : DriveConfig) (before now : Shown) (saw : List Note → Type 0) (live : Live)
+    (companion : Companion) (to : History → Due) : Type 0 where
   pub history : History
   pub known : Knows config companion history
-  pub stands : Stands config before now live reports history
+  pub stands : Stands config before now saw live history
   pub next : due config history ≡ to history
 
--- The run ended, with no more reports than these.
-pub record Stops (config : DriveConfig) (before now : Shown) (reports : List Report) (ended : Driven) : Type 0 where
+-- An observer that is over ends no run by a fault of the outside, and one that isn't over by no fault of a write.
+abbrev pub IsSo : Option OutFault → Driven → Type 0
+IsSo over driven.NetFault = over ≡ None
+IsSo over driven.WriteFault = over ≡ None → ⊥
+IsSo over _ = ⊤
+
+-- The run ended.
+pub record Stops (config : DriveConfig) (before now : Shown) (saw : List Note → Type 0) (over : Option OutFault)
+    (ended : Driven) : Type 0 where
   pub history : History
   pub told : now.told ≡ with_entries history before.told
   pub counted : CountsNetFault before.counts.faults now.counts.faults ended
   pub proper : IsProperRun config history
   pub lawful : IsLawful history
-  pub made : due_reports config history ≡ reports
   pub ends : MayEnd (due config history) ended
+  pub saw_so : saw (noted config history)
+  pub so : IsSo over ended
 
 -- The run came there, or ended.
-abbrev pub Goes : {T : Type 0} → DriveConfig → Shown → Shown → Live → Companion → List Report → (History → Due)
-    → Result T Driven → Type 0
-Goes config before now live companion reports to result =
-    MatchResult result (λ _. Comes config before now live companion reports to) (Stops config before now reports)
+abbrev pub Goes : {T : Type 0} → DriveConfig → Shown → Shown → (List Note → Type 0) → Option OutFault → Live
+    → Companion → (History → Due) → Result T Driven → Type 0
+Goes config before now saw over live companion to result =
+    MatchResult result (λ _. Comes config before now saw live companion to) (Stops config before now saw over)
+
+-- ---- stages
+-- where a run is: its outside, its variables and its observer
+pub record At (W : Type 0) : Type 0 where
+  pub told : Option History
+  pub counts : Counts
+  pub live : Live
+  pub companion : Companion
+  pub observer : W
+
+abbrev pub at : {W : Type 0} → Option History → Counts → Live → Companion → W → At W
+at told counts live companion observer =
+    record { told = told; counts = counts; live = live; companion = companion; observer = observer }
+
+-- the run comes from a history of this kind to where `to` says what is due, or ends
+abbrev pub LeadsFrom : {W T : Type 0} → (W → W → List Note → Type 0) → (W → Option OutFault) → DriveConfig → At W
+    → At W → (History → Type 0) → (DriveConfig → History → Due) → Result T Driven → Type 0
+LeadsFrom {W} saw over config old new when to result =
+    (before : Shown) (started : W) (history : History)
+    → Stands config before (shown old.told old.counts) (saw started old.observer) old.live history
+    → Knows config old.companion history → when history
+    → Goes config before (shown new.told new.counts) (saw started new.observer) (over new.observer) new.live
+    new.companion (to config) result
+
+-- the run comes from where `from` says what is due to where `to` does, or ends
+abbrev pub Leads : {W T : Type 0} → (W → W → List Note → Type 0) → (W → Option OutFault) → DriveConfig → At W → At W
+    → (DriveConfig → History → Due) → (DriveConfig → History → Due) → Result T Driven → Type 0
+Leads saw over config old new from to result =
+    LeadsFrom saw over config old new (λ history. due config history ≡ from config history) to result
+
+-- a turn is due
+abbrev pub a_turn : DriveConfig → History → Due
+a_turn config history = Now whys.Turn
+
+-- an observer saw more notes where a call was made, and no more where none was
+abbrev pub SawMore : {W T : Type 0} → (W → W → List Note → Type 0) → W → W → (T → List Note) → Result T Driven
+    → Type 0
+SawMore {W} saw old new newest result = (started : W) (notes : List Note) → saw started old notes
+    → MatchResult result (λ value. saw started new (newest value ++ notes)) (λ _. saw started new notes)
 
 -- ---- single calls
 -- a fault of the outside, or want of memory
@@ -156,6 +198,24 @@ abbrev pub IsEarly : Driven → Type 0
 IsEarly (driven.Spent turns) = ⊥
 IsEarly (driven.Unreachable turns) = ⊥
 IsEarly _ = ⊤
+
+-- the end that an observer makes that is over, or a fault of the outside
+abbrev pub IsEndBy : Option OutFault → Driven → Type 0
+IsEndBy None ended = IsFault ended
+IsEndBy (Some fault.Failed) ended = ended ≡ driven.WriteFault
+IsEndBy (Some fault.Memory) ended = ended ≡ driven.Memory
+
+-- the end of a run that would end so, but for an observer that is over
+abbrev pub final_end : Option OutFault → Driven → Driven
+final_end None ended = ended
+final_end (Some fault.Failed) ended = driven.WriteFault
+final_end (Some fault.Memory) ended = driven.Memory
+
+-- a call was not made, or failed, and told nothing
+pub record Fails (old new : Shown) (over : Option OutFault) (ended : Driven) : Type 0 where
+  pub told : new.told ≡ old.told
+  pub counted : CountsNetFault old.counts.faults new.counts.faults ended
+  pub end : IsEndBy over ended
 
 -- a call failed, and told nothing
 pub record Failed (old new : Shown) (ended : Driven) : Type 0 where
@@ -203,14 +263,13 @@ pub record HasRead (old new : Shown) (before now : Live) (was is : Companion) (w
   pub floor : is.client.floor ≤ clocked.reading
   pub known : (config : DriveConfig) (history : History) → Knows config was history
       → Knows config is (sleep_entries clocked.slept ++ history)
-  pub only : (reports : List Report)
-      → facts_in now reports ≡ record (facts_in before reports) { asked = asked_after clocked.slept before.asked }
+  pub only : facts_in now ≡ record (facts_in before) { asked = asked_after clocked.slept before.asked }
 
 -- the TS session is over, and the companion knows
 pub record HasLost (before now : Live) (was is : Companion) : Type 0 where
   pub known : (config : DriveConfig) (history : History) (entry : Entry) → Knows config was history
       → IsEntryOf event.TsClosed entry history → Knows config is (entry ∷ history)
-  pub only : (reports : List Report) → facts_in now reports ≡ record (facts_in before reports) { ts_open = None }
+  pub only : facts_in now ≡ record (facts_in before) { ts_open = None }
 
 -- a call ended the run as a text is refused, or for want of memory
 abbrev pub IsRefusal : Option CompanionFault → Driven → Type 0
@@ -218,7 +277,6 @@ IsRefusal refusal driven.Memory = ⊤
 IsRefusal None ended = ⊥
 IsRefusal (Some fault) ended = ended ≡ end_by fault
 
--- A text of the CII session was taken in, and the companion knows. Or it was refused.
 -- the run was made to an end of these
 abbrev pub IsOver : Driven → Type 0
 IsOver driven.Done = ⊤
@@ -236,100 +294,25 @@ abbrev pub hung : Option ℕ → History
 hung None = []
 hung (Some peer) = HungUp peer ∷ []
 
--- no more than two sessions were hung up
-abbrev pub HangsUp : Option History → Option History → Type 0
-HangsUp before now = (first : Option ℕ) × (second : Option ℕ) × (now ≡ with_entries (hung second ++ hung first) before)
+-- ---- runs
+-- An observer's run ended so: it saw all, but where a write failed or memory ran out.
+abbrev pub IsEndOf : Option OutFault → Driven → Type 0
+IsEndOf None ended = ended ≡ driven.WriteFault → ⊥
+IsEndOf (Some fault.Failed) ended = ended ≡ driven.WriteFault
+IsEndOf (Some fault.Memory) ended = ended ≡ driven.Memory
 
--- the reports, with that of this reading where there is one
-abbrev pub with_newest : DriveConfig → History → Option ℕ → List Report → List Report
-with_newest config history None reports = reports
-with_newest config history (Some reading) reports = report_at config history reading ∷ reports
-
--- A turn was begun. The report that is due at its reading isn't written yet.
-pub record Begins (config : DriveConfig) (before now : Shown) (live : Live) (companion : Companion)
-    (reports : List Report) (reading : Option ℕ) : Type 0 where
+-- A run's calls since `before` are these, and each was due. The run ended where it may, and the observer saw its notes.
+pub record Made (config : DriveConfig) (before now : Option History) (saw : List Note → Type 0)
+    (over : Option OutFault) (ended : Driven) : Type 0 where
   pub history : History
-  pub known : Knows config companion history
-  pub stands : Stands config before now live (with_newest config history reading reports) history
-  pub next : due config history ≡ from_turn config history
-
--- the clock was read for a turn, and nothing else was called
-abbrev pub HasBegun : Option History → Option History → Type 0
-HasBegun before now = (clocked : Clocked) × (now ≡ with_entries (clock_entries whys.Turn clocked) before)
-
--- ---- reports
--- A report has this text, its line and what the followers said of it.
-pub record HasSaid (number : ℕ) (report : Report) (before now : List Listener) (text : List ℕ) : Type 0 where
-  pub words : List ℕ
-  pub is : text ≡ line_of number report None ++ words
-  pub heard : HearEach report before now words
-
--- a report has no text, and the first of the followers heard it
-pub record HasSaidFirst (report : Report) (before now : List Listener) : Type 0 where
-  pub words : List ℕ
-  pub heard : HearFirst report before now words
-
--- A report's line was written, with what the followers said of it.
-pub record IsWritten (held holds : Option (List ℕ)) (number : ℕ) (report : Report) (before now : List Listener)
-    : Type 0 where
-  pub words : List ℕ
-  pub grew : Appends held holds (line_of number report None ++ words)
-  pub heard : HearEach report before now words
-
--- a fault of the sink, or want of memory
-abbrev pub IsWriteFault : Driven → Type 0
-IsWriteFault driven.WriteFault = ⊤
-IsWriteFault driven.Memory = ⊤
-IsWriteFault _ = ⊥
-
--- A report was written in part, or not at all.
-pub record IsPartlyWritten (held holds : Option (List ℕ)) (number : ℕ) (report : Report) (before now : List Listener)
-    (ended : Driven) : Type 0 where
-  pub fault : IsWriteFault ended
-  pub words : List ℕ
-  pub grew : AppendsPrefix held holds (line_of number report None ++ words)
-  pub heard : HearEach report before now words ⊎ HearFirst report before now words
-
--- what a sink holds, and what its followers heard
-pub record Audience : Type 0 where
-  pub holds : Option (List ℕ)
-  pub heard : List Listener
-
-abbrev pub audience : Option (List ℕ) → List Listener → Audience
-audience holds heard = record { holds = holds; heard = heard }
-
--- The sink holds these reports, and the followers heard them.
-pub record HasTold (started now : Audience) (reports : List Report) (said : List (List ℕ)) : Type 0 where
-  pub grew : Appends started.holds now.holds (written reports said)
-  pub followed : Followed reports said started.heard now.heard
-  pub each : length said ≡ length reports
-
--- The run came to where `to` says what is due, and its reports are written.
-pub record Writes (config : DriveConfig) (before now : Shown) (live : Live) (companion : Companion)
-    (started audience : Audience) (to : History → Due) : Type 0 where
-  pub reports : List Report
-  pub said : List (List ℕ)
-  pub told : HasTold started audience reports said
-  pub comes : Comes config before now live companion reports to
-
--- The run ended, and came to what a run comes to.
-pub record Ended (config : DriveConfig) (before now : Shown) (started audience : Audience) (ended : Driven)
-    : Type 0 where
-  pub ran : Ran config before.told now.told started.holds audience.holds started.heard audience.heard ended
-  pub counted : CountsNetFault before.counts.faults now.counts.faults ended
-
--- The run came there, or ended with all that a run comes to.
-abbrev pub Turned : {T : Type 0} → DriveConfig → Shown → Shown → Live → Companion → Audience → Audience
-    → Result T Driven → Type 0
-Turned config before now live companion started audience result =
-    MatchResult result (λ _. Writes config before now live companion started audience (from_end config))
-    (Ended config before now started audience)
+  pub told : now ≡ with_entries history before
+  pub proper : IsProperRun config history
+  pub ends : MayEnd (due config history) ended
+  pub promised : KeepsPromises config history
+  pub saw_so : saw (noted config history)
+  pub so : IsEndOf over ended
 
 -- ---- counts
--- The sink's count of faults has risen at `WriteFault`, and else it is as before.
-abbrev pub CountsSink : {T : Type 0} → ℕ → ℕ → Result T Driven → Type 0
-CountsSink before now result = MatchResult result (λ _. now ≡ before) (CountsWriteFault before now)
-
 -- what the stages of a turn leave as it is, and that failed dials are counted
 pub record Keeps (old new : Counts) (before now : Live) : Type 0 where
   pub made : now.made ≡ before.made

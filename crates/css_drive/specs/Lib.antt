@@ -5,7 +5,9 @@ pub mod Listening
 pub mod CompanionTurns
 pub mod CompanionReports
 pub mod CompanionDue
+pub mod Notes
 pub mod CompanionRun
+pub mod Telling
 pub mod CompanionStanding
 pub mod CompanionLaws
 pub mod SameEvents

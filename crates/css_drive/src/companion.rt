@@ -1,7 +1,7 @@
 //! A companion's run over any devices.
-ghost use Rattle.std.specs.Prelude.{◌≡◌, [], IfOk};
+ghost use Rattle.std.specs.Prelude.{◌≡◌, [], IfOk, IfSome, None};
 ghost use Rattle.css_drive.specs.CompanionRun.{Ran};
-ghost use Rattle.css_drive.specs.Configs.{IsWritable};
+ghost use Rattle.css_drive.specs.Configs.{IsWindow, IsWritable};
 ghost use Rattle.css_drive.specs.CompanionStanding.{Knows};
 ghost use Rattle.css_drive.specs.Ends.{CountsNetFault, CountsWriteFault, CountsDialFaults};
 
@@ -9,6 +9,7 @@ use crate::companion_turns::drive;
 use crate::config::DriveConfig;
 use crate::driven::Driven;
 use crate::listens::Listens;
+use crate::telling::Telling;
 use css_companion::{Companion, CompanionConfig};
 use css_num::Memory;
 use css_outside::{Outside, Sink};
@@ -26,6 +27,31 @@ pub fn companion_of(alloc: Global, config: &DriveConfig) -> Result<Companion, Me
         local: config.companion.local,
     };
     Companion::new(alloc, wanted)
+}
+
+/// Makes a companion's run, and writes its reports.
+fn drive_telling<K: Sink, O: Outside, F: Listens>(
+    alloc: Global,
+    config: &DriveConfig,
+    companion: &mut Companion,
+    outside: &mut O,
+    telling: &mut Telling<'_, K, F>,
+) -> Driven
+    requires known { Knows config.now companion.old [] }
+    requires floor { companion.old.client.floor ≡ 0 }
+    requires bounds { IfSome config.now.present IsWindow }
+    requires on { telling.old.over ≡ None }
+    ensures sink_name { telling.new.sink.ghost_name ≡ telling.old.sink.ghost_name }
+    ensures followers_name { telling.new.followers.ghost_name ≡ telling.old.followers.ghost_name }
+    ensures ran { Ran config.now (O.told outside.old) (O.told outside.new)
+        (K.holds telling.old.sink.now) (K.holds telling.new.sink.now)
+        (F.heard telling.old.followers.now) (F.heard telling.new.followers.now) result }
+    ensures net_faults { CountsNetFault (O.counts outside.old).faults (O.counts outside.new).faults result }
+    ensures write_faults { CountsWriteFault (K.faults telling.old.sink.now) (K.faults telling.new.sink.now) result }
+    ensures dial_faults { CountsDialFaults (O.counts outside.old).dial_faults
+        (O.counts outside.new).dial_faults result }
+{
+    drive(alloc, config, companion, outside, telling)
 }
 
 /// Makes a companion's run: in each turn the calls of the outside that are due, and where a report is due its line,
@@ -52,6 +78,20 @@ pub fn drive_companion<K: Sink, O: Outside, F: Listens>(
 {
     match companion_of(alloc, &config) {
         Err(Memory) => Driven::Memory,
-        Ok(mut companion) => drive(alloc, &config, &mut companion, sink, outside, followers),
+        Ok(mut companion) => {
+            let mut telling = Telling {
+                alloc,
+                sink,
+                followers,
+                over: None,
+            };
+            drive_telling(
+                alloc,
+                &config,
+                &mut companion,
+                outside,
+                &mut telling,
+            )
+        }
     }
 }

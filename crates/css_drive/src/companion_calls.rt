@@ -1,24 +1,28 @@
 //! Single calls of a companion's run.
-ghost use Rattle.std.specs.Prelude.{◌≡◌, ◌≤◌, ◌∷◌, ℕ, List, Option, MatchResult, IfOk, IfErr, OnOk, OnErr, None, Some};
+ghost use Rattle.std.specs.Prelude.{◌≡◌, ◌≤◌, [], ◌∷◌, ℕ, List, Option, MatchResult, IfOk, IfErr, OnOk, OnErr, None, Some};
 ghost use Rattle.css_model.specs.History.{Entry, History};
+ghost use Rattle.css_model.specs.History.{Sent};
 ghost use Rattle.css_outside.specs.Faults.{CountsOutFault, HasRisen};
-ghost use Rattle.css_outside.specs.Outsides.{Counts, wrote_entries};
+ghost use Rattle.css_outside.specs.Outsides.{Counts, heard_entries, wrote_entries};
 ghost use Rattle.css_companion.specs.Steps.{IsEntryOf};
 ghost use Rattle.css_companion.specs.declared.event.CompanionEvent.TheVariants as events;
 ghost use Rattle.css_drive.specs.CompanionDue.{end_by};
-ghost use Rattle.css_drive.specs.CompanionStanding.{shown, IsCut, IsFault, Failed, Adds, HasDialled, HasRead, HasLost};
-ghost use Rattle.css_drive.specs.CompanionStanding.{Keeps};
+ghost use Rattle.css_drive.specs.CompanionStanding.{shown, IsEarly, IsFault, IsEndBy, Fails, Adds, HasDialled, HasRead};
+ghost use Rattle.css_drive.specs.CompanionStanding.{HasLost, Keeps, SawMore, final_end};
 ghost use Rattle.css_drive.specs.Ends.{CountsNetFault};
+ghost use Rattle.css_drive.specs.Notes.{Happened, Asked, Sees, heard_notes, slept_notes, wrote_notes};
 
 use crate::companion_live::Live;
 use crate::driven::Driven;
+use crate::observes::Observes;
+use crate::session::Session;
 use css_companion::{Companion, CompanionEvent, CompanionFault};
-use css_outside::{Address, Clocked, Kind, OutFault, Outside, Why, Wrote};
+use css_outside::{Address, Clocked, Heard, Kind, OutFault, Outside, Why, Wrote};
 
 /// How a run ends with a fault of the outside.
 pub fn end_of(fault: OutFault) -> Driven
     ensures fault { IsFault result }
-    ensures cut { IsCut result }
+    ensures early { IsEarly result }
     ensures counted { (before : ℕ) → (now : ℕ) → CountsOutFault before now fault → CountsNetFault before now result }
 {
     match fault {
@@ -30,7 +34,7 @@ pub fn end_of(fault: OutFault) -> Driven
 /// How a run ends with a text that is refused.
 pub fn refused(fault: CompanionFault) -> Driven
     ensures end { result ≡ end_by fault }
-    ensures cut { IsCut result }
+    ensures early { IsEarly result }
 {
     match fault {
         CompanionFault::BadCii { text, fault } => Driven::BadCii { text, fault },
@@ -39,23 +43,61 @@ pub fn refused(fault: CompanionFault) -> Driven
     }
 }
 
+/// How a run ends that its observer ends.
+fn unseen(fault: OutFault) -> Driven
+    ensures end { IsEndBy (Some fault) result }
+    ensures early { IsEarly result }
+    ensures counted { (count : ℕ) → CountsNetFault count count result }
+{
+    match fault {
+        OutFault::Failed => Driven::WriteFault,
+        OutFault::Memory => Driven::Memory,
+    }
+}
+
+/// Whether the run may go on. It is asked before each call of the outside.
+pub fn check<W: Observes>(observer: &W) -> Result<(), Driven>
+    ensures on { OnOk result (W.over observer.now ≡ None) }
+    ensures end { IfErr result (IsEndBy (W.over observer.now)) }
+    ensures early { IfErr result IsEarly }
+    ensures counted { (count : ℕ) → IfErr result (CountsNetFault count count) }
+{
+    match observer.check() {
+        Ok(()) => Ok(()),
+        Err(fault) => Err(unseen(fault)),
+    }
+}
+
+/// How a run ends that ended so, where its observer may be over.
+pub fn ended_by<W: Observes>(observer: &W, ended: Driven) -> Driven
+    ensures { result ≡ final_end (W.over observer.now) ended }
+{
+    match observer.check() {
+        Ok(()) => ended,
+        Err(OutFault::Failed) => Driven::WriteFault,
+        Err(OutFault::Memory) => Driven::Memory,
+    }
+}
+
 /// Tries a dial. One that fails ends nothing.
-pub fn try_dial<O: Outside>(
+pub fn try_dial<O: Outside, W: Observes>(
     outside: &mut O,
+    observer: &W,
     kind: Kind,
     to: &Address,
 ) -> Result<Option<u32>, Driven>
     ensures told { MatchResult result
         (HasDialled (shown (O.told outside.old) (O.counts outside.old))
         (shown (O.told outside.new) (O.counts outside.new)) kind to.now)
-        (Failed (shown (O.told outside.old) (O.counts outside.old))
-        (shown (O.told outside.new) (O.counts outside.new))) }
+        (Fails (shown (O.told outside.old) (O.counts outside.old))
+        (shown (O.told outside.new) (O.counts outside.new)) (W.over observer.now)) }
     ensures last { (O.counts outside.new).last ≡ (O.counts outside.old).last }
     ensures dials { (O.counts outside.old).dial_faults ≤ (O.counts outside.new).dial_faults }
-    ensures cut { IfErr result IsCut }
+    ensures early { IfErr result IsEarly }
     ensures tried { IfOk result (λ tried. tried ≡ None
         → HasRisen (O.counts outside.old).dial_faults (O.counts outside.new).dial_faults) }
 {
+    check(observer)?;
     match outside.dial(kind, to) {
         Ok(peer) => Ok(Some(peer)),
         Err(OutFault::Failed) => Ok(None),
@@ -64,8 +106,9 @@ pub fn try_dial<O: Outside>(
 }
 
 /// Reads the clock. Where the machine slept, the companion forgets what it asked before the reading is used.
-pub fn read<O: Outside>(
+pub fn read<O: Outside, W: Observes>(
     outside: &mut O,
+    observer: &W,
     companion: &mut Companion,
     live: &mut Live,
     why: Why,
@@ -74,11 +117,13 @@ pub fn read<O: Outside>(
     ensures told { MatchResult result
         (HasRead (shown (O.told outside.old) (O.counts outside.old)) (shown (O.told outside.new) (O.counts outside.new))
         live.old live.new companion.old companion.new why)
-        (Failed (shown (O.told outside.old) (O.counts outside.old))
-        (shown (O.told outside.new) (O.counts outside.new))) }
+        (Fails (shown (O.told outside.old) (O.counts outside.old))
+        (shown (O.told outside.new) (O.counts outside.new)) (W.over observer.now)) }
+    ensures on { OnOk result (W.over observer.now ≡ None) }
     ensures keeps { Keeps (O.counts outside.old) (O.counts outside.new) live.old live.new }
-    ensures cut { IfErr result IsCut }
+    ensures early { IfErr result IsEarly }
 {
+    check(observer)?;
     match outside.now(why) {
         Ok(clocked) => {
             if clocked.slept {
@@ -91,19 +136,114 @@ pub fn read<O: Outside>(
     }
 }
 
-/// Sends a text on a session.
-pub fn send<O: Outside>(outside: &mut O, peer: u32, text: &[u8]) -> Result<Wrote, Driven>
+/// Tells the observer what came of a text that was to be sent on the TS session.
+fn note_sent<W: Observes>(observer: &mut W, sent: Wrote)
+    ensures { Sees W.saw W.over observer.old observer.new (wrote_notes sent) }
+{
+    match sent {
+        Wrote::Sent => {}
+        Wrote::Gone => observer.closed(Session::Ts),
+    }
+}
+
+/// Sends a text on the TS session.
+pub fn send<O: Outside, W: Observes>(
+    outside: &mut O,
+    observer: &mut W,
+    peer: u32,
+    text: &[u8],
+) -> Result<Wrote, Driven>
     ensures told { MatchResult result
         (λ sent. Adds (shown (O.told outside.old) (O.counts outside.old))
         (shown (O.told outside.new) (O.counts outside.new)) (wrote_entries peer text.now sent))
-        (Failed (shown (O.told outside.old) (O.counts outside.old))
-        (shown (O.told outside.new) (O.counts outside.new))) }
+        (Fails (shown (O.told outside.old) (O.counts outside.old))
+        (shown (O.told outside.new) (O.counts outside.new)) (W.over observer.new)) }
+    ensures saw { SawMore W.saw observer.old observer.new wrote_notes result }
     ensures last { (O.counts outside.new).last ≡ (O.counts outside.old).last }
     ensures dials { (O.counts outside.new).dial_faults ≡ (O.counts outside.old).dial_faults }
-    ensures cut { IfErr result IsCut }
+    ensures early { IfErr result IsEarly }
 {
+    check(observer)?;
     match outside.send_text(peer, text) {
-        Ok(sent) => Ok(sent),
+        Ok(sent) => {
+            note_sent(observer, sent);
+            Ok(sent)
+        }
+        Err(fault) => Err(end_of(fault)),
+    }
+}
+
+/// Tells the observer what came of a session.
+fn note_heard<W: Observes>(observer: &mut W, session: Session, heard: &Heard)
+    ensures { Sees W.saw W.over observer.old observer.new (heard_notes session heard.now) }
+{
+    match heard {
+        Heard::Quiet => {}
+        Heard::Text(text) => observer.heard(session, text),
+        Heard::Closed => observer.closed(session),
+    }
+}
+
+/// Asks a session for its next text.
+pub fn hear<O: Outside, W: Observes>(
+    outside: &mut O,
+    observer: &mut W,
+    session: Session,
+    peer: u32,
+) -> Result<Heard, Driven>
+    ensures told { MatchResult result
+        (λ heard. Adds (shown (O.told outside.old) (O.counts outside.old))
+        (shown (O.told outside.new) (O.counts outside.new)) (heard_entries peer heard))
+        (Fails (shown (O.told outside.old) (O.counts outside.old))
+        (shown (O.told outside.new) (O.counts outside.new)) (W.over observer.new)) }
+    ensures saw { SawMore W.saw observer.old observer.new (heard_notes session) result }
+    ensures last { (O.counts outside.new).last ≡ (O.counts outside.old).last }
+    ensures dials { (O.counts outside.new).dial_faults ≡ (O.counts outside.old).dial_faults }
+    ensures early { IfErr result IsEarly }
+{
+    check(observer)?;
+    match outside.take_text(peer) {
+        Ok(heard) => {
+            note_heard(observer, session, &heard);
+            Ok(heard)
+        }
+        Err(fault) => Err(end_of(fault)),
+    }
+}
+
+/// Tells the observer of a sleep, where a reading told one.
+pub fn note_sleep<W: Observes>(observer: &mut W, clocked: &Clocked)
+    ensures { Sees W.saw W.over observer.old observer.new (slept_notes clocked.now.slept) }
+{
+    if clocked.slept {
+        observer.slept();
+    }
+}
+
+/// Sends the request of a reading.
+pub fn send_request<O: Outside, W: Observes>(
+    outside: &mut O,
+    observer: &mut W,
+    peer: u32,
+    bytes: &[u8; 32],
+    reading: u64,
+) -> Result<(), Driven>
+    ensures told { MatchResult result
+        (λ _. Adds (shown (O.told outside.old) (O.counts outside.old))
+        (shown (O.told outside.new) (O.counts outside.new)) (Sent peer bytes.now ∷ []))
+        (Fails (shown (O.told outside.old) (O.counts outside.old))
+        (shown (O.told outside.new) (O.counts outside.new)) (W.over observer.new)) }
+    ensures saw { SawMore W.saw observer.old observer.new (λ _. Happened (Asked reading) ∷ []) result }
+    ensures last { (O.counts outside.new).last ≡ (O.counts outside.old).last }
+    ensures dials { (O.counts outside.new).dial_faults ≡ (O.counts outside.old).dial_faults }
+    ensures early { IfErr result IsEarly }
+{
+    check(observer)?;
+    match outside.send_datagram(peer, bytes) {
+        Ok(()) => {
+            observer.asked(reading);
+            Ok(())
+        }
         Err(fault) => Err(end_of(fault)),
     }
 }

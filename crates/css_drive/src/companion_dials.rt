@@ -1,23 +1,22 @@
 //! The dials of a turn of a companion, and what the television is told first.
 ghost use Rattle.std.specs.Prelude.{◌≡◌, ◌≤◌, List, OnOk, IfOk, IfErr, IfSome, None, Some};
-ghost use Rattle.css_model.specs.History.{History};
 ghost use Rattle.css_outside.specs.Faults.{HasRisen};
 ghost use Rattle.css_tsmsg.specs.Setups.{setup_text};
 ghost use Rattle.css_tsmsg.specs.Presentations.{IsPresentation};
 ghost use Rattle.css_companion.specs.Steps.{window};
 ghost use Rattle.css_companion.specs.Standing.{wanted_by};
-ghost use Rattle.css_companion.specs.declared.report.Report.{Report};
 ghost use Rattle.css_drive.specs.CompanionDue.{due, from_cii, from_wc, from_ts, from_ask, from_setup};
 ghost use Rattle.css_drive.specs.CompanionDue.{point_of, place, window_text};
 ghost use Rattle.css_drive.specs.Configs.{IsWindow};
 ghost use Rattle.css_drive.specs.CompanionDue.{Connected, SetUp};
-ghost use Rattle.css_drive.specs.CompanionStanding.{Shown, shown, Stands, Knows, Goes, Keeps, GivesPlace, IsCut};
+ghost use Rattle.css_drive.specs.CompanionStanding.{at, Leads, LeadsFrom, Keeps, GivesPlace, IsEarly};
 ghost use Rattle.css_drive.specs.Proper.{SendText};
 
 use crate::companion_calls::{lose_ts, send, try_dial};
 use crate::companion_live::Live;
 use crate::config::DriveConfig;
 use crate::driven::Driven;
+use crate::observes::Observes;
 use css_address::{AddressFault, address};
 use css_cii::CiiName;
 use css_companion::{Companion, CompanionEvent};
@@ -27,27 +26,26 @@ use css_tsmsg::Bound;
 use std::alloc::Global;
 
 /// Dials the session of CSS-CII, while no dial of it succeeded.
-pub fn dial_cii<O: Outside>(
+pub fn dial_cii<O: Outside, W: Observes>(
     config: &DriveConfig,
     live: &mut Live,
     companion: &Companion,
     outside: &mut O,
+    observer: &W,
 ) -> Result<(), Driven>
-    ensures goes { (before : Shown) → (reports : List Report) → (history : History)
-        → Stands config.now before (shown (O.told outside.old) (O.counts outside.old)) live.old reports history
-        → Knows config.now companion.now history → due config.now history ≡ from_cii config.now history
-        → Goes config.now before (shown (O.told outside.new) (O.counts outside.new)) live.new companion.now reports
-        (from_wc config.now) result }
+    ensures goes { Leads W.saw W.over config.now
+        (at (O.told outside.old) (O.counts outside.old) live.old companion.now observer.now)
+        (at (O.told outside.new) (O.counts outside.new) live.new companion.now observer.now) from_cii from_wc result }
     ensures last { (O.counts outside.new).last ≡ (O.counts outside.old).last }
     ensures keeps { Keeps (O.counts outside.old) (O.counts outside.new) live.old live.new }
-    ensures cut { IfErr result IsCut }
+    ensures early { IfErr result IsEarly }
     ensures tried { OnOk result (live.new.cii ≡ None
         → HasRisen (O.counts outside.old).dial_faults (O.counts outside.new).dial_faults) }
 {
     if live.cii.is_some() {
         return Ok(());
     }
-    let Some(peer) = try_dial(outside, Kind::Cii, &config.cii)? else {
+    let Some(peer) = try_dial(outside, observer, Kind::Cii, &config.cii)? else {
         return Ok(());
     };
     live.cii = Some(peer);
@@ -63,7 +61,7 @@ fn place(
     url: &Option<Text>,
 ) -> Result<Option<Address>, Driven>
     ensures gives { GivesPlace property (place kind url.now) result }
-    ensures cut { IfErr result IsCut }
+    ensures early { IfErr result IsEarly }
 {
     let Some(text) = url else {
         return Ok(None);
@@ -76,21 +74,20 @@ fn place(
 }
 
 /// Dials the wall clock, while no dial of it succeeded and its address is told.
-pub fn dial_wc<O: Outside>(
+pub fn dial_wc<O: Outside, W: Observes>(
     alloc: Global,
     config: &DriveConfig,
     live: &mut Live,
     companion: &Companion,
     outside: &mut O,
+    observer: &W,
 ) -> Result<(), Driven>
-    ensures goes { (before : Shown) → (reports : List Report) → (history : History)
-        → Stands config.now before (shown (O.told outside.old) (O.counts outside.old)) live.old reports history
-        → Knows config.now companion.now history → due config.now history ≡ from_wc config.now history
-        → Goes config.now before (shown (O.told outside.new) (O.counts outside.new)) live.new companion.now reports
-        (from_ts config.now) result }
+    ensures goes { Leads W.saw W.over config.now
+        (at (O.told outside.old) (O.counts outside.old) live.old companion.now observer.now)
+        (at (O.told outside.new) (O.counts outside.new) live.new companion.now observer.now) from_wc from_ts result }
     ensures last { (O.counts outside.new).last ≡ (O.counts outside.old).last }
     ensures keeps { Keeps (O.counts outside.old) (O.counts outside.new) live.old live.new }
-    ensures cut { IfErr result IsCut }
+    ensures early { IfErr result IsEarly }
 {
     if live.wc.is_some() {
         return Ok(());
@@ -98,7 +95,7 @@ pub fn dial_wc<O: Outside>(
     let Some(to) = place(alloc, Kind::Wc, CiiName::WcUrl, &companion.state().wc_url)? else {
         return Ok(());
     };
-    let Some(peer) = try_dial(outside, Kind::Wc, &to)? else {
+    let Some(peer) = try_dial(outside, observer, Kind::Wc, &to)? else {
         return Ok(());
     };
     live.wc = Some(peer);
@@ -120,31 +117,30 @@ fn window_of(companion: &mut Companion, earliest: Bound, latest: Bound) -> Resul
 }
 
 /// Sends the presentation, if the configuration has one.
-fn present<O: Outside>(
+fn present<O: Outside, W: Observes>(
     config: &DriveConfig,
     live: &mut Live,
     companion: &mut Companion,
     outside: &mut O,
+    observer: &mut W,
     peer: u32,
 ) -> Result<(), Driven>
     requires { IfSome config.now.present IsWindow }
-    ensures goes { (before : Shown) → (reports : List Report) → (history : History)
-        → Stands config.now before (shown (O.told outside.old) (O.counts outside.old)) live.old reports history
-        → Knows config.now companion.old history
-        → live.old.ts ≡ Some peer → live.old.ts_open ≡ Some peer → point_of history ≡ SetUp peer
-        → due config.now history ≡ from_setup config.now peer history
-        → Goes config.now before (shown (O.told outside.new) (O.counts outside.new)) live.new companion.new reports
-        (from_ask config.now) result }
+    ensures goes { live.old.ts ≡ Some peer → live.old.ts_open ≡ Some peer → LeadsFrom W.saw W.over config.now
+        (at (O.told outside.old) (O.counts outside.old) live.old companion.old observer.old)
+        (at (O.told outside.new) (O.counts outside.new) live.new companion.new observer.new)
+        (λ history. (point_of history ≡ SetUp peer)
+        × (due config.now history ≡ from_setup config.now peer history)) from_ask result }
     ensures floor { companion.new.client.floor ≡ companion.old.client.floor }
     ensures last { (O.counts outside.new).last ≡ (O.counts outside.old).last }
     ensures keeps { Keeps (O.counts outside.old) (O.counts outside.new) live.old live.new }
-    ensures cut { IfErr result IsCut }
+    ensures early { IfErr result IsEarly }
 {
     let Some((earliest, latest)) = config.present else {
         return Ok(());
     };
     let text = window_of(companion, earliest, latest)?;
-    match send(outside, peer, text.bytes()) {
+    match send(outside, observer, peer, text.bytes()) {
         Err(ended) => Err(ended),
         Ok(Wrote::Sent) => Ok(()),
         Ok(Wrote::Gone) => match lose_ts(live, companion) {
@@ -168,55 +164,53 @@ fn setup_of(companion: &mut Companion) -> Result<Text, Driven>
 }
 
 /// Sends the setup, and after it the presentation.
-fn introduce<O: Outside>(
+fn introduce<O: Outside, W: Observes>(
     config: &DriveConfig,
     live: &mut Live,
     companion: &mut Companion,
     outside: &mut O,
+    observer: &mut W,
     peer: u32,
 ) -> Result<(), Driven>
     requires { IfSome config.now.present IsWindow }
-    ensures goes { (before : Shown) → (reports : List Report) → (history : History)
-        → Stands config.now before (shown (O.told outside.old) (O.counts outside.old)) live.old reports history
-        → Knows config.now companion.old history
-        → live.old.ts ≡ Some peer → live.old.ts_open ≡ Some peer → point_of history ≡ Connected peer
-        → due config.now history ≡ SendText peer (setup_text (wanted_by config.now.companion))
-        → Goes config.now before (shown (O.told outside.new) (O.counts outside.new)) live.new companion.new reports
-        (from_ask config.now) result }
+    ensures goes { live.old.ts ≡ Some peer → live.old.ts_open ≡ Some peer → LeadsFrom W.saw W.over config.now
+        (at (O.told outside.old) (O.counts outside.old) live.old companion.old observer.old)
+        (at (O.told outside.new) (O.counts outside.new) live.new companion.new observer.new)
+        (λ history. (point_of history ≡ Connected peer)
+        × (due config.now history ≡ SendText peer (setup_text (wanted_by config.now.companion)))) from_ask result }
     ensures floor { companion.new.client.floor ≡ companion.old.client.floor }
     ensures last { (O.counts outside.new).last ≡ (O.counts outside.old).last }
     ensures keeps { Keeps (O.counts outside.old) (O.counts outside.new) live.old live.new }
-    ensures cut { IfErr result IsCut }
+    ensures early { IfErr result IsEarly }
 {
     let text = setup_of(companion)?;
-    match send(outside, peer, text.bytes()) {
+    match send(outside, observer, peer, text.bytes()) {
         Err(ended) => Err(ended),
         Ok(Wrote::Gone) => match lose_ts(live, companion) {
             Ok(()) => Ok(()),
             Err(ended) => Err(ended),
         },
-        Ok(Wrote::Sent) => present(config, live, companion, outside, peer),
+        Ok(Wrote::Sent) => present(config, live, companion, outside, observer, peer),
     }
 }
 
 /// Dials the session of CSS-TS, while no dial of it succeeded and its address is told. Its setup is sent at once.
-pub fn dial_ts<O: Outside>(
+pub fn dial_ts<O: Outside, W: Observes>(
     alloc: Global,
     config: &DriveConfig,
     live: &mut Live,
     companion: &mut Companion,
     outside: &mut O,
+    observer: &mut W,
 ) -> Result<(), Driven>
     requires { IfSome config.now.present IsWindow }
-    ensures goes { (before : Shown) → (reports : List Report) → (history : History)
-        → Stands config.now before (shown (O.told outside.old) (O.counts outside.old)) live.old reports history
-        → Knows config.now companion.old history → due config.now history ≡ from_ts config.now history
-        → Goes config.now before (shown (O.told outside.new) (O.counts outside.new)) live.new companion.new reports
-        (from_ask config.now) result }
+    ensures goes { Leads W.saw W.over config.now
+        (at (O.told outside.old) (O.counts outside.old) live.old companion.old observer.old)
+        (at (O.told outside.new) (O.counts outside.new) live.new companion.new observer.new) from_ts from_ask result }
     ensures floor { companion.new.client.floor ≡ companion.old.client.floor }
     ensures last { (O.counts outside.new).last ≡ (O.counts outside.old).last }
     ensures keeps { Keeps (O.counts outside.old) (O.counts outside.new) live.old live.new }
-    ensures cut { IfErr result IsCut }
+    ensures early { IfErr result IsEarly }
 {
     if live.ts.is_some() {
         return Ok(());
@@ -224,10 +218,10 @@ pub fn dial_ts<O: Outside>(
     let Some(to) = place(alloc, Kind::Ts, CiiName::TsUrl, &companion.state().ts_url)? else {
         return Ok(());
     };
-    let Some(peer) = try_dial(outside, Kind::Ts, &to)? else {
+    let Some(peer) = try_dial(outside, observer, Kind::Ts, &to)? else {
         return Ok(());
     };
     live.ts = Some(peer);
     live.ts_open = Some(peer);
-    introduce(config, live, companion, outside, peer)
+    introduce(config, live, companion, outside, observer, peer)
 }

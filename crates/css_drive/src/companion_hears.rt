@@ -7,18 +7,20 @@ ghost use Rattle.css_model.specs.Explains.{IsLawful};
 ghost use Rattle.css_model.specs.declared.Kind.TheVariants as kinds;
 ghost use Rattle.css_model.specs.declared.Why.TheVariants as whys;
 ghost use Rattle.css_companion.specs.Meanings.{kind_of};
-ghost use Rattle.css_companion.specs.declared.report.Report.{Report};
 ghost use Rattle.css_drive.specs.CompanionDue.{due, from_ask, from_take, from_cii_text, from_ts_text, from_end};
 ghost use Rattle.css_drive.specs.CompanionDue.{refusal_of};
-ghost use Rattle.css_drive.specs.CompanionStanding.{Shown, shown, Stands, Knows, Goes, Stops, Keeps, Failed, Adds};
-ghost use Rattle.css_drive.specs.CompanionStanding.{IsHangingUp, HangsUp, IsCut, IsFault, IsRefusal, hung};
+ghost use Rattle.css_drive.specs.CompanionStanding.{Shown, shown, at, Stands, Knows, Leads, LeadsFrom, Goes, Stops};
+ghost use Rattle.css_drive.specs.CompanionStanding.{Keeps, Fails, Adds, IsHangingUp, IsEarly, IsEndBy, IsRefusal};
+ghost use Rattle.css_drive.specs.CompanionStanding.{hung};
 ghost use Rattle.css_drive.specs.CompanionTurns.{is_asking};
 ghost use Rattle.css_drive.specs.Proper.{Now};
 
-use crate::companion_calls::{end_of, lose_ts, read, refused};
+use crate::companion_calls::{check, end_of, hear, lose_ts, note_sleep, read, refused, send_request};
 use crate::companion_live::Live;
 use crate::config::DriveConfig;
 use crate::driven::Driven;
+use crate::observes::Observes;
+use crate::session::Session;
 use css_companion::{Companion, CompanionEvent};
 use css_num::Text;
 use css_outside::{Heard, Outside, Why};
@@ -35,51 +37,46 @@ fn is_time(every: u64, turn: Option<u64>, asked: Option<u64>) -> bool
 }
 
 /// Reads the clock for a request, and sends the request of that reading.
-fn request<O: Outside>(
+fn request<O: Outside, W: Observes>(
     config: &DriveConfig,
     live: &mut Live,
     companion: &mut Companion,
     outside: &mut O,
+    observer: &mut W,
     peer: u32,
 ) -> Result<(), Driven>
     requires { companion.old.client.floor ≤ (O.counts outside.old).last }
-    ensures goes { (before : Shown) → (reports : List Report) → (history : History)
-        → Stands config.now before (shown (O.told outside.old) (O.counts outside.old)) live.old reports history
-        → Knows config.now companion.old history
-        → live.old.wc ≡ Some peer → due config.now history ≡ Now whys.Ask
-        → Goes config.now before (shown (O.told outside.new) (O.counts outside.new)) live.new companion.new reports
-        (from_take config.now) result }
+    ensures goes { live.old.wc ≡ Some peer → LeadsFrom W.saw W.over config.now
+        (at (O.told outside.old) (O.counts outside.old) live.old companion.old observer.old)
+        (at (O.told outside.new) (O.counts outside.new) live.new companion.new observer.new)
+        (λ history. due config.now history ≡ Now whys.Ask) from_take result }
     ensures floor { OnOk result (companion.new.client.floor ≤ (O.counts outside.new).last) }
     ensures keeps { Keeps (O.counts outside.old) (O.counts outside.new) live.old live.new }
-    ensures cut { IfErr result IsCut }
+    ensures early { IfErr result IsEarly }
 {
-    let clocked = read(outside, companion, live, Why::Ask)?;
+    let clocked = read(outside, observer, companion, live, Why::Ask)?;
+    note_sleep(observer, &clocked);
     let bytes = companion.ask(clocked.reading);
-    match outside.send_datagram(peer, &bytes) {
-        Ok(()) => {
-            live.asked = live.turn;
-            Ok(())
-        }
-        Err(fault) => Err(end_of(fault)),
-    }
+    send_request(outside, observer, peer, &bytes, clocked.reading)?;
+    live.asked = live.turn;
+    Ok(())
 }
 
 /// Asks the wall clock, where it was dialled and it is time.
-pub fn ask<O: Outside>(
+pub fn ask<O: Outside, W: Observes>(
     config: &DriveConfig,
     live: &mut Live,
     companion: &mut Companion,
     outside: &mut O,
+    observer: &mut W,
 ) -> Result<(), Driven>
     requires { companion.old.client.floor ≤ (O.counts outside.old).last }
-    ensures goes { (before : Shown) → (reports : List Report) → (history : History)
-        → Stands config.now before (shown (O.told outside.old) (O.counts outside.old)) live.old reports history
-        → Knows config.now companion.old history → due config.now history ≡ from_ask config.now history
-        → Goes config.now before (shown (O.told outside.new) (O.counts outside.new)) live.new companion.new reports
-        (from_take config.now) result }
+    ensures goes { Leads W.saw W.over config.now
+        (at (O.told outside.old) (O.counts outside.old) live.old companion.old observer.old)
+        (at (O.told outside.new) (O.counts outside.new) live.new companion.new observer.new) from_ask from_take result }
     ensures floor { OnOk result (companion.new.client.floor ≤ (O.counts outside.new).last) }
     ensures keeps { Keeps (O.counts outside.old) (O.counts outside.new) live.old live.new }
-    ensures cut { IfErr result IsCut }
+    ensures early { IfErr result IsEarly }
 {
     let Some(peer) = live.wc else {
         return Ok(());
@@ -87,29 +84,31 @@ pub fn ask<O: Outside>(
     if !is_time(config.ask_every, live.turn, live.asked) {
         return Ok(());
     }
-    request(config, live, companion, outside, peer)
+    request(config, live, companion, outside, observer, peer)
 }
 
 /// Reads the clock for a datagram that was just taken, and takes it in.
-fn land<O: Outside>(
+fn land<O: Outside, W: Observes>(
     config: &DriveConfig,
     live: &mut Live,
     companion: &mut Companion,
     outside: &mut O,
+    observer: &mut W,
     bytes: &[u8],
 ) -> Result<(), Driven>
     requires { companion.old.client.floor ≤ (O.counts outside.old).last }
-    ensures goes { (before : Shown) → (reports : List Report) → (history : History) → (peer : ℕ)
-        → Stands config.now before (shown (O.told outside.old) (O.counts outside.old)) live.old reports
-        (entries.Took peer bytes.now ∷ history)
+    ensures goes { (before : Shown) → (started : W) → (history : History) → (peer : ℕ)
+        → Stands config.now before (shown (O.told outside.old) (O.counts outside.old)) (W.saw started observer.old)
+        live.old (entries.Took peer bytes.now ∷ history)
         → Knows config.now companion.old history
-        → Goes config.now before (shown (O.told outside.new) (O.counts outside.new)) live.new companion.new reports
-        (from_cii_text config.now) result }
+        → Goes config.now before (shown (O.told outside.new) (O.counts outside.new)) (W.saw started observer.new)
+        (W.over observer.new) live.new companion.new (from_cii_text config.now) result }
     ensures floor { OnOk result (companion.new.client.floor ≤ (O.counts outside.new).last) }
     ensures keeps { Keeps (O.counts outside.old) (O.counts outside.new) live.old live.new }
-    ensures cut { IfErr result IsCut }
+    ensures early { IfErr result IsEarly }
 {
-    let clocked = read(outside, companion, live, Why::Land)?;
+    let clocked = read(outside, observer, companion, live, Why::Land)?;
+    observer.landed(&clocked, bytes);
     if clocked.slept {
         // No request from before the sleep is asked any more, so nothing lands.
         return Ok(());
@@ -121,30 +120,30 @@ fn land<O: Outside>(
 }
 
 /// Takes a datagram, where the wall clock was dialled.
-pub fn take<O: Outside>(
+pub fn take<O: Outside, W: Observes>(
     config: &DriveConfig,
     live: &mut Live,
     companion: &mut Companion,
     outside: &mut O,
+    observer: &mut W,
 ) -> Result<(), Driven>
     requires { companion.old.client.floor ≤ (O.counts outside.old).last }
-    ensures goes { (before : Shown) → (reports : List Report) → (history : History)
-        → Stands config.now before (shown (O.told outside.old) (O.counts outside.old)) live.old reports history
-        → Knows config.now companion.old history → due config.now history ≡ from_take config.now history
-        → Goes config.now before (shown (O.told outside.new) (O.counts outside.new)) live.new companion.new reports
-        (from_cii_text config.now) result }
+    ensures goes { Leads W.saw W.over config.now
+        (at (O.told outside.old) (O.counts outside.old) live.old companion.old observer.old)
+        (at (O.told outside.new) (O.counts outside.new) live.new companion.new observer.new) from_take from_cii_text result }
     ensures floor { OnOk result (companion.new.client.floor ≤ (O.counts outside.new).last) }
     ensures keeps { Keeps (O.counts outside.old) (O.counts outside.new) live.old live.new }
-    ensures cut { IfErr result IsCut }
+    ensures early { IfErr result IsEarly }
 {
     let Some(_) = live.wc else {
         return Ok(());
     };
+    check(observer)?;
     let mut into = [0u8; 64];
     match outside.take_datagram(&mut into) {
         Err(fault) => Err(end_of(fault)),
         Ok(None) => Ok(()),
-        Ok(Some((_, count))) => land(config, live, companion, outside, &into[..count]),
+        Ok(Some((_, count))) => land(config, live, companion, outside, observer, &into[..count]),
     }
 }
 
@@ -155,7 +154,7 @@ fn take_in(companion: &mut Companion, text: Text) -> Result<(), Driven>
         → MatchResult result
         (λ _. (refusal_of (Some text) history ≡ None) × Knows config companion.new (entries.Heard peer text ∷ history))
         (IsRefusal (refusal_of (Some text) history)) }
-    ensures cut { IfErr result IsCut }
+    ensures early { IfErr result IsEarly }
     ensures same { companion.new.client ≡ companion.old.client }
 {
     match companion.step(CompanionEvent::CiiText(text)) {
@@ -165,27 +164,26 @@ fn take_in(companion: &mut Companion, text: Text) -> Result<(), Driven>
 }
 
 /// Hears the CII session, where it is open.
-pub fn hear_cii<O: Outside>(
+pub fn hear_cii<O: Outside, W: Observes>(
     config: &DriveConfig,
     live: &mut Live,
     companion: &mut Companion,
     outside: &mut O,
+    observer: &mut W,
 ) -> Result<(), Driven>
     requires { companion.old.client.floor ≤ (O.counts outside.old).last }
-    ensures goes { (before : Shown) → (reports : List Report) → (history : History)
-        → Stands config.now before (shown (O.told outside.old) (O.counts outside.old)) live.old reports history
-        → Knows config.now companion.old history → due config.now history ≡ from_cii_text config.now history
-        → Goes config.now before (shown (O.told outside.new) (O.counts outside.new)) live.new companion.new reports
-        (from_ts_text config.now) result }
+    ensures goes { Leads W.saw W.over config.now
+        (at (O.told outside.old) (O.counts outside.old) live.old companion.old observer.old)
+        (at (O.told outside.new) (O.counts outside.new) live.new companion.new observer.new) from_cii_text from_ts_text result }
     ensures floor { OnOk result (companion.new.client.floor ≤ (O.counts outside.new).last) }
     ensures keeps { Keeps (O.counts outside.old) (O.counts outside.new) live.old live.new }
-    ensures cut { IfErr result IsCut }
+    ensures early { IfErr result IsEarly }
 {
     let Some(peer) = live.cii_open else {
         return Ok(());
     };
-    match outside.take_text(peer) {
-        Err(fault) => Err(end_of(fault)),
+    match hear(outside, observer, Session::Cii, peer) {
+        Err(ended) => Err(ended),
         Ok(Heard::Quiet) => Ok(()),
         Ok(Heard::Closed) => {
             live.cii_open = None;
@@ -214,27 +212,26 @@ fn take_in_ts(companion: &mut Companion, text: Text) -> Result<(), Driven>
 }
 
 /// Hears the TS session, where it is open.
-pub fn hear_ts<O: Outside>(
+pub fn hear_ts<O: Outside, W: Observes>(
     config: &DriveConfig,
     live: &mut Live,
     companion: &mut Companion,
     outside: &mut O,
+    observer: &mut W,
 ) -> Result<(), Driven>
     requires { companion.old.client.floor ≤ (O.counts outside.old).last }
-    ensures goes { (before : Shown) → (reports : List Report) → (history : History)
-        → Stands config.now before (shown (O.told outside.old) (O.counts outside.old)) live.old reports history
-        → Knows config.now companion.old history → due config.now history ≡ from_ts_text config.now history
-        → Goes config.now before (shown (O.told outside.new) (O.counts outside.new)) live.new companion.new reports
-        (from_end config.now) result }
+    ensures goes { Leads W.saw W.over config.now
+        (at (O.told outside.old) (O.counts outside.old) live.old companion.old observer.old)
+        (at (O.told outside.new) (O.counts outside.new) live.new companion.new observer.new) from_ts_text from_end result }
     ensures floor { OnOk result (companion.new.client.floor ≤ (O.counts outside.new).last) }
     ensures keeps { Keeps (O.counts outside.old) (O.counts outside.new) live.old live.new }
-    ensures cut { IfErr result IsCut }
+    ensures early { IfErr result IsEarly }
 {
     let Some(peer) = live.ts_open else {
         return Ok(());
     };
-    match outside.take_text(peer) {
-        Err(fault) => Err(end_of(fault)),
+    match hear(outside, observer, Session::Ts, peer) {
+        Err(ended) => Err(ended),
         Ok(Heard::Quiet) => Ok(()),
         Ok(Heard::Closed) => match lose_ts(live, companion) {
             Ok(()) => Ok(()),
@@ -248,18 +245,22 @@ pub fn hear_ts<O: Outside>(
 }
 
 /// Hangs up a session, if it is open.
-fn hang_up_one<O: Outside>(outside: &mut O, session: Option<u32>) -> Result<(), Driven>
+fn hang_up_one<O: Outside, W: Observes>(
+    outside: &mut O,
+    observer: &W,
+    session: Option<u32>,
+) -> Result<(), Driven>
     ensures told { MatchResult result
         (λ _. Adds (shown (O.told outside.old) (O.counts outside.old))
         (shown (O.told outside.new) (O.counts outside.new)) (hung session))
-        (Failed (shown (O.told outside.old) (O.counts outside.old))
-        (shown (O.told outside.new) (O.counts outside.new))) }
+        (Fails (shown (O.told outside.old) (O.counts outside.old))
+        (shown (O.told outside.new) (O.counts outside.new)) (W.over observer.now)) }
     ensures dials { (O.counts outside.new).dial_faults ≡ (O.counts outside.old).dial_faults }
-    ensures fault { IfErr result IsFault }
 {
     let Some(peer) = session else {
         return Ok(());
     };
+    check(observer)?;
     match outside.hang_up(peer) {
         Ok(()) => Ok(()),
         Err(fault) => Err(end_of(fault)),
@@ -269,25 +270,27 @@ fn hang_up_one<O: Outside>(outside: &mut O, session: Option<u32>) -> Result<(), 
 /// Hangs up the sessions that are open, that of CSS-CII first, and ends the run so.
 // Each goal has its answer: the search would not end.
 #[tactic(none)]
-pub fn hang_up<O: Outside>(
+pub fn hang_up<O: Outside, W: Observes>(
     config: &DriveConfig,
     live: &Live,
     outside: &mut O,
+    observer: &W,
     end: Driven,
 ) -> Driven
-    ensures stops { (before : Shown) → (reports : List Report) → (history : History)
-        → Stands config.now before (shown (O.told outside.old) (O.counts outside.old)) live.now reports history
+    ensures stops { (before : Shown) → (started : W) → (history : History)
+        → Stands config.now before (shown (O.told outside.old) (O.counts outside.old)) (W.saw started observer.now)
+        live.now history
         → IsLawful history → IsHangingUp config.now end history
-        → Stops config.now before (shown (O.told outside.new) (O.counts outside.new)) reports result }
-    ensures adds { HangsUp (O.told outside.old) (O.told outside.new) }
+        → Stops config.now before (shown (O.told outside.new) (O.counts outside.new)) (W.saw started observer.now)
+        (W.over observer.now) result }
     ensures dials { (O.counts outside.new).dial_faults ≡ (O.counts outside.old).dial_faults }
-    ensures kind { (result ≡ end) ⊎ IsFault result }
+    ensures kind { (result ≡ end) ⊎ IsEndBy (W.over observer.now) result }
 {
-    match hang_up_one(outside, live.cii_open) {
+    match hang_up_one(outside, observer, live.cii_open) {
         Ok(()) => {}
         Err(ended) => return ended,
     }
-    match hang_up_one(outside, live.ts_open) {
+    match hang_up_one(outside, observer, live.ts_open) {
         Ok(()) => end,
         Err(ended) => ended,
     }

@@ -1,6 +1,1 @@
-pub mod Keeping
-pub mod Props
-pub mod StageEnds
 pub mod Records
-pub mod Held
-pub mod TurnEnds

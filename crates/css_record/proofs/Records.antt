@@ -1,175 +1,144 @@
--- The record of a history with more entries.
-use Rattle.std.proofs.Common.{◌≡◌, ◌≤◌, ℕ, ◌+◌, ap, sym, ◌∙◌, refl, Bool, true, false, cond, arith}
-use Rattle.std.proofs.Common.{List, [], ◌∷◌, ◌++◌, append_assoc, append-nil, length, Option, Some, None}
-use Rattle.css_model.specs.declared.Why.TheVariants as why
-use Rattle.css_model.specs.History.{Entry, Slept, History}
-use Rattle.css_outside.specs.Outsides.{clock_entries, sleep_entries}
-use Rattle.css_outside.specs.declared.calls.Clocked.{Clocked}
-use Rattle.css_companion.specs.declared.config.CompanionConfig.{CompanionConfig}
-use Rattle.css_companion.specs.declared.report.Report.{Report}
+-- What a recorder has written.
+use Rattle.std.proofs.Common.{◌≡◌, ℕ, ap, sym, ◌∙◌, subst, refl, List, [], ◌∷◌, ◌++◌, append_assoc, append-nil, map}
+use Rattle.std.proofs.Common.{Option, Some, None}
+use Rattle.std.proofs.KnownBytes.{Appends-nil, Appends-trans}
+use Rattle.std.specs.Io.KnownBytes.{Appends}
+use Rattle.css_model.specs.History.{History}
+use Rattle.css_outside.specs.Bytes.{AppendsPrefix}
+use Rattle.css_outside.specs.Faults.{CountsOutFault}
+use Rattle.css_outside.specs.Outsides.{with_entries}
+use Rattle.css_outside.specs.declared.fault.OutFault.{OutFault}
+use Rattle.css_outside.specs.declared.fault.OutFault.TheVariants as fault
 use Rattle.css_audit.specs.Printed.{line_text, record_text}
-use Rattle.css_audit.specs.declared.input.RecordLine.{RecordLine}
-use Rattle.css_audit.specs.declared.input.RecordLine.TheVariants as lines
-use Rattle.css_drive.specs.CompanionReports.{is_due, report_at, due_reports, with_report}
-use Rattle.css_drive.specs.CompanionStanding.{hung}
-use Rattle.css_drive.specs.CompanionTurns.{turn_at, first_turn}
+use Rattle.css_drive.specs.CompanionStanding.{Made, IsEndOf}
+use Rattle.css_drive.specs.Ends.{CountsWriteFault}
+use Rattle.css_drive.specs.Notes.{Note, noted}
+use Rattle.css_drive.specs.Proper.{Empty}
 use Rattle.css_drive.specs.declared.config.DriveConfig.{DriveConfig}
-use Rattle.css_record.specs.Notes.{notes_of, all_noted, line_of, bytes_of, added}
-use Rattle.css_record.specs.Lines.{with_line, line_at, lines_in, record_of, report_line}
-use Rattle.css_record.proofs.Keeping.{all_noted_on}
+use Rattle.css_drive.specs.declared.driven.Driven.{Driven}
+use Rattle.css_drive.specs.declared.driven.Driven.TheVariants as driven
+use Rattle.css_drive.proofs.Reports.{CountsOver}
+use Rattle.css_record.specs.Lines.{note_line, text_of, record_of}
+use Rattle.css_record.specs.Runs.{HoldsRecord, Recorded, Writes}
 
--- with one more line
-text_with : (config : CompanionConfig) (line : Option RecordLine) (older : List RecordLine)
-    → record_text config (with_line line older) ≡ record_text config older ++ bytes_of line
-text_with config None older = sym (append-nil (record_text config older))
-text_with config (Some line) older = append_assoc (record_text config older) (line_text line) (10 ∷ [])
+-- ---- lines
+-- those of later notes stand after those of earlier ones
+text_on : (later earlier : List Note) → text_of (later ++ earlier) ≡ text_of earlier ++ text_of later
+text_on [] earlier = sym (append-nil (text_of earlier))
+text_on (note ∷ later) earlier =
+    ap (λ x. x ++ (line_text (note_line note) ++ 10 ∷ [])) (text_on later earlier)
+    ∙ append_assoc (text_of earlier) (text_of later) (line_text (note_line note) ++ 10 ∷ [])
 
--- an entry at which no report is due
-plain_entry : (config : DriveConfig) (entry : Entry) (older : History) → line_at config (turn_at entry) older ≡ None
-    → record_of config (entry ∷ older) ≡ record_of config older ++ bytes_of (line_of entry (notes_of older))
-plain_entry config entry older none =
-    ap (λ o. record_text config.companion (with_line o (with_line (line_of entry (notes_of older)) (lines_in config
-    older)))) none
-    ∙ text_with config.companion (line_of entry (notes_of older)) (lines_in config older)
+-- the header stands before them
+record_split : (config : DriveConfig) (notes : List Note)
+    → record_text config.companion (map note_line notes) ≡ record_text config.companion [] ++ text_of notes
+record_split config [] = sym (append-nil (record_text config.companion []))
+record_split config (note ∷ older) =
+    append_assoc (record_text config.companion (map note_line older)) (line_text (note_line note)) (10 ∷ [])
+    ∙ ap (λ x. x ++ (line_text (note_line note) ++ 10 ∷ [])) (record_split config older)
+    ∙ append_assoc (record_text config.companion []) (text_of older) (line_text (note_line note) ++ 10 ∷ [])
 
--- ---- no report is due
--- reports only become more
-with_more : (config : DriveConfig) (reading : Option ℕ) (older : History) (first : Option ℕ) (reports : List Report)
-    → length reports ≤ length (with_report config reading older first reports)
-with_more config None older first reports = omega arith
-with_more config (Some reading) older first reports = by (is_due config.report_every reading first (length reports))
-  where
-    by : (b : Bool) → length reports ≤ length (cond b (report_at config older reading ∷ reports) reports)
-    by true = omega arith
-    by false = omega arith
+-- ---- parts
+whole_prefix : (held holds : Option (List ℕ)) (bytes : List ℕ) → Appends held holds bytes
+    → AppendsPrefix held holds bytes
+whole_prefix held holds bytes p = record { front = bytes; of = ([], sym (append-nil bytes)); grew = p }
 
-pub reports_grow : (config : DriveConfig) (later history : History)
-    → length (due_reports config history) ≤ length (due_reports config (later ++ history))
-reports_grow config [] history = omega arith
-reports_grow config (entry ∷ later) history =
-    omega (
-      arith,
-      reports_grow config later history,
-      with_more config (turn_at entry) (later ++ history) (first_turn (later ++ history))
-          (due_reports config (later ++ history)),
-    )
+prefix_on : (a b c : Option (List ℕ)) (bytes more : List ℕ) → Appends a b bytes → AppendsPrefix b c more
+    → AppendsPrefix a c (bytes ++ more)
+prefix_on a b c bytes more p q = record {
+  front = bytes ++ q.front;
+  of = (q.of.0, ap (λ x. bytes ++ x) q.of.1 ∙ sym (append_assoc bytes q.front q.of.0));
+  grew = Appends-trans a b c bytes q.front p q.grew;
+}
 
--- where no report becomes due with an entry, none was due before, and it has none
-quiet_entry : (config : DriveConfig) (reading : Option ℕ) (older : History) (reports : List Report)
-    → length reports ≤ length (due_reports config older)
-    → with_report config reading older (first_turn older) (due_reports config older) ≡ reports
-    → (due_reports config older ≡ reports) × (line_at config reading older ≡ None)
-quiet_entry config None older reports le e = (e, refl)
-quiet_entry config (Some reading) older reports le e =
-    by (is_due config.report_every reading (first_turn older) (length (due_reports config older))) refl e
-  where
-    now : Bool
-    now = is_due config.report_every reading (first_turn older) (length (due_reports config older))
+-- ---- writes
+writes_on : (over : Option OutFault) (a b c : Option (List ℕ)) (f m n : ℕ) (bytes more : List ℕ)
+    → Writes None a b f m bytes → Writes over b c m n more → Writes over a c f n (bytes ++ more)
+writes_on None a b c f m n bytes more p q = (Appends-trans a b c bytes more p.0 q.0, q.1 ∙ p.1)
+writes_on (Some cause) a b c f m n bytes more p q =
+    let P : ℕ → Type 0 = λ x. CountsOutFault x n cause in (prefix_on a b c bytes more p.0 q.0, subst P p.1 q.1)
 
-    by : (b : Bool) → now ≡ b
-        → cond b (report_at config older reading ∷ due_reports config older) (due_reports config older) ≡ reports
-        → (due_reports config older ≡ reports) × (line_at config (Some reading) older ≡ None)
-    by true is same = absurd (let n = ap length same in omega (arith, n, le))
-    by false is same = (
-      same,
-      ap (λ b. cond b (Some (report_line (length (due_reports config older) + 1) (report_at
-          config older reading))) None) is,
-    )
+-- newer notes were written after others
+pub notes_on : (was over : Option OutFault) (a b c : Option (List ℕ)) (f m n : ℕ) (newest notes : List Note)
+    → was ≡ None → Writes was a b f m (text_of notes) → Writes over b c m n (text_of newest)
+    → Writes over a c f n (text_of (newest ++ notes))
+notes_on was over a b c f m n newest notes e p q =
+    let P : Option OutFault → Type 0 = λ x. Writes x a b f m (text_of notes) in
+    let Q : List ℕ → Type 0 = λ x. Writes over a c f n x in
+    subst Q (sym (text_on newest notes)) (writes_on over a b c f m n (text_of notes) (text_of newest) (subst P e p) q)
 
--- the record with more entries among which no report was due
-pub record_on : (config : DriveConfig) (later history : History)
-    → due_reports config (later ++ history) ≡ due_reports config history
-    → record_of config (later ++ history) ≡ record_of config history ++ added (notes_of history) later
-record_on config [] history same = sym (append-nil (record_of config history))
-record_on config (entry ∷ later) history same =
-    let quiet = quiet_entry config (turn_at entry) (later ++ history) (due_reports config history)
-    (reports_grow config later history) same in
-    plain_entry config entry (later ++ history) quiet.1
-    ∙ ap (λ x. x ++ bytes_of (line_of entry (notes_of (later ++ history)))) (record_on config later history quiet.0)
-    ∙ ap (λ n. (record_of config history ++ added (notes_of history) later) ++ bytes_of (line_of entry n))
-    (all_noted_on later history _)
-    ∙ append_assoc (record_of config history) (added (notes_of history) later)
-    (bytes_of (line_of entry (all_noted later (notes_of history))))
+-- nothing was written yet
+pub writes_nothing : (over : Option OutFault) (held : Option (List ℕ)) (count : ℕ) → over ≡ None
+    → Writes over held held count count []
+writes_nothing over held count e =
+    let P : Option OutFault → Type 0 = λ x. Writes x held held count count [] in subst P (sym e) (Appends-nil held, refl)
 
--- sessions that are hung up leave the record as it is
-pub record_hung : (config : DriveConfig) (first second : Option ℕ) (history : History)
-    → record_of config ((hung second ++ hung first) ++ history) ≡ record_of config history
-record_hung config None None history = refl
-record_hung config None (Some b) history = refl
-record_hung config (Some a) None history = refl
-record_hung config (Some a) (Some b) history = refl
+pub writes_counts : (over : Option OutFault) (held holds : Option (List ℕ)) (before now : ℕ) (bytes : List ℕ)
+    → Writes over held holds before now bytes → CountsOver over before now
+writes_counts None held holds before now bytes w = w.1
+writes_counts (Some cause) held holds before now bytes w = w.1
 
--- ---- a turn was begun
--- the record of a turn's reading, and of its report, if one is due
-pub record_begun : (config : DriveConfig) (clocked : Clocked) (history : History)
-    → record_of config (clock_entries why.Turn clocked ++ history)
-    ≡ (record_of config history ++ added (notes_of history) (clock_entries why.Turn clocked))
-    ++ bytes_of (line_at config (Some clocked.reading) (sleep_entries clocked.slept ++ history))
-record_begun config clocked history = by clocked.slept
-  where
-    by : (b : Bool) → record_of config (clock_entries why.Turn (record clocked { slept = b }) ++ history)
-        ≡ (record_of config history ++ added (notes_of history) (clock_entries why.Turn (record clocked { slept = b })))
-        ++ bytes_of (line_at config (Some clocked.reading) (sleep_entries b ++ history))
-    by true =
-        text_with config.companion (line_at config (Some clocked.reading) (Slept ∷ history)) _
-        ∙ ap (λ x. x ++ bytes_of (line_at config (Some clocked.reading) (Slept ∷ history)))
-        (text_with config.companion (Some (lines.Turn clocked.reading)) (lines.Slept ∷ lines_in config history)
-        ∙ ap (λ x. x ++ bytes_of (Some (lines.Turn clocked.reading))) (text_with config.companion (Some lines.Slept)
-        (lines_in config history))
-        ∙ append_assoc (record_of config history) (bytes_of (Some lines.Slept))
-        (bytes_of (Some (lines.Turn clocked.reading))))
-    by false =
-        text_with config.companion (line_at config (Some clocked.reading) history) _
-        ∙ ap (λ x. x ++ bytes_of (line_at config (Some clocked.reading) history))
-        (text_with config.companion (Some (lines.Turn clocked.reading)) (lines_in config history))
+-- the sink's faults since an earlier count
+pub writes_from : (was before now : ℕ) (ended : Driven) → before ≡ was → CountsWriteFault before now ended
+    → CountsWriteFault was now ended
+writes_from was before now ended e c = let P : ℕ → Type 0 = λ x. CountsWriteFault x now ended in subst P e c
 
--- the line of the report that was due
-pub line_due : (config : DriveConfig) (clocked : Clocked) (history : History) (report : Report)
-    (reports : List Report) → due_reports config history ≡ reports
-    → due_reports config (clock_entries why.Turn clocked ++ history) ≡ report ∷ reports
-    → line_at config (Some clocked.reading) (sleep_entries clocked.slept ++ history)
-    ≡ Some (report_line (length reports + 1) report)
-line_due config clocked history report reports e f = by clocked.slept f
-  where
-    at : (older : History) → due_reports config older ≡ reports
-        → with_report config (Some clocked.reading) older (first_turn older) (due_reports config older)
-        ≡ report ∷ reports
-        → line_at config (Some clocked.reading) older ≡ Some (report_line (length reports + 1) report)
-    at older same is =
-        choose (is_due config.report_every clocked.reading (first_turn older) (length (due_reports config older))) refl
-        is
-      where
-        choose : (b : Bool)
-            → is_due config.report_every clocked.reading (first_turn older) (length (due_reports config older)) ≡ b
-            → cond b (report_at config older clocked.reading ∷ due_reports config older) (due_reports config older)
-            ≡ report ∷ reports
-            → line_at config (Some clocked.reading) older ≡ Some (report_line (length reports + 1) report)
-        choose true b x =
-            let r : report_at config older clocked.reading ≡ report = cc in
-            ap (λ b. cond b (Some (report_line (length (due_reports config older) + 1) (report_at config older
-            clocked.reading))) None) b
-            ∙ ap (λ l. Some (report_line (length l + 1) (report_at config older clocked.reading))) same
-            ∙ ap (λ r. Some (report_line (length reports + 1) r)) r
-        choose false b x = absurd (let n = ap length (sym same ∙ x) in omega (arith, n))
+-- ---- the record
+holds_whole : (ended : Driven) (held holds : Option (List ℕ)) (whole : List ℕ) → Appends held holds whole
+    → HoldsRecord held holds whole ended
+holds_whole driven.Done held holds whole p = p
+holds_whole (driven.BadLine line why) held holds whole p = p
+holds_whole driven.WriteFault held holds whole p = whole_prefix held holds whole p
+holds_whole driven.NetFault held holds whole p = p
+holds_whole (driven.BadCii text reason) held holds whole p = p
+holds_whole (driven.Moved property old new) held holds whole p = p
+holds_whole (driven.Spent n) held holds whole p = p
+holds_whole (driven.Unreachable n) held holds whole p = p
+holds_whole (driven.BadUrl property) held holds whole p = p
+holds_whole driven.Memory held holds whole p = whole_prefix held holds whole p
 
-    by : (b : Bool) → due_reports config (clock_entries why.Turn (record clocked { slept = b }) ++ history)
-        ≡ report ∷ reports
-        → line_at config (Some clocked.reading) (sleep_entries b ++ history)
-        ≡ Some (report_line (length reports + 1) report)
-    by true g = at (Slept ∷ history) e g
-    by false g = at history e g
+-- after the header an observer that ended so wrote the lines of all notes
+holds_by : (over : Option OutFault) (ended : Driven) (a b c : Option (List ℕ)) (f n : ℕ) (header lines : List ℕ)
+    → IsEndOf over ended → Appends a b header → Writes over b c f n lines → HoldsRecord a c (header ++ lines) ended
+holds_by None ended a b c f n header lines so p w =
+    holds_whole ended a c (header ++ lines) (Appends-trans a b c header lines p w.0)
+holds_by (Some fault.Failed) ended a b c f n header lines so p w =
+    subst (HoldsRecord a c (header ++ lines)) (sym so) (prefix_on a b c header lines p w.0)
+holds_by (Some fault.Memory) ended a b c f n header lines so p w =
+    subst (HoldsRecord a c (header ++ lines)) (sym so) (prefix_on a b c header lines p w.0)
 
--- no report was due
-pub line_not_due : (config : DriveConfig) (clocked : Clocked) (history : History) (reports : List Report)
-    → due_reports config history ≡ reports
-    → due_reports config (clock_entries why.Turn clocked ++ history) ≡ reports
-    → line_at config (Some clocked.reading) (sleep_entries clocked.slept ++ history) ≡ None
-line_not_due config clocked history reports e f = by clocked.slept f
-  where
-    le : length reports ≤ length (due_reports config history)
-    le = let n = ap length e in omega (arith, n)
+pub recorded_by : (config : DriveConfig) (before now : Option History) (started begun holds : Option (List ℕ))
+    (f n : ℕ) (saw : List Note → Type 0) (over : Option OutFault) (ended : Driven)
+    → Appends started begun (record_of config []) → (m : Made config before now saw over ended)
+    → Writes over begun holds f n (text_of (noted config m.history)) → Recorded config before now started holds ended
+recorded_by config before now started begun holds f n saw over ended p m w =
+    let P : List ℕ → Type 0 = λ x. HoldsRecord started holds x ended in
+    record {
+      history = m.history;
+      told = m.told;
+      proper = m.proper;
+      ends = m.ends;
+      promised = m.promised;
+      wrote = subst P (sym (record_split config (noted config m.history)))
+          (holds_by over ended started begun holds f n (record_of config []) (text_of (noted config m.history)) m.so p
+          w);
+    }
 
-    by : (b : Bool) → due_reports config (clock_entries why.Turn (record clocked { slept = b }) ++ history) ≡ reports
-        → line_at config (Some clocked.reading) (sleep_entries b ++ history) ≡ None
-    by true g = (quiet_entry config (Some clocked.reading) (Slept ∷ history) reports le g).1
-    by false g = (quiet_entry config (Some clocked.reading) history reports le g).1
+-- ---- no run
+no_entries : (told : Option History) → told ≡ with_entries [] told
+no_entries None = refl
+no_entries (Some history) = refl
+
+pub no_prefix : (held : Option (List ℕ)) (bytes : List ℕ) → AppendsPrefix held held bytes
+no_prefix held bytes = record { front = []; of = (bytes, refl); grew = Appends-nil held }
+
+-- the header was written in part
+pub unbegun_memory : (config : DriveConfig) (told : Option History) (held holds : Option (List ℕ))
+    → AppendsPrefix held holds (record_of config []) → Recorded config told told held holds driven.Memory
+unbegun_memory config told held holds p =
+    record { history = []; told = no_entries told; proper = Empty; ends = tt; promised = tt; wrote = p }
+
+pub unbegun_fault : (config : DriveConfig) (told : Option History) (held holds : Option (List ℕ))
+    → AppendsPrefix held holds (record_of config []) → Recorded config told told held holds driven.WriteFault
+unbegun_fault config told held holds p =
+    record { history = []; told = no_entries told; proper = Empty; ends = tt; promised = tt; wrote = p }

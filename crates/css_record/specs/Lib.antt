@@ -1,5 +1,2 @@
-pub mod Notes
 pub mod Lines
-pub mod Pages
-pub mod Stages
 pub mod Runs

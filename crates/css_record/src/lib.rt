@@ -2,16 +2,8 @@
 //! this record can check every report of it later.
 #![tactic(auto)]
 
-mod course;
-mod devices;
-mod frame;
-mod jots;
-mod logging;
-mod notebook;
-mod notes;
 mod record;
-mod stages;
-mod turns;
+mod recorder;
 
 pub use css_drive::{DriveConfig, Driven};
 pub use record::drive_record;

@@ -2,7 +2,7 @@ use Rattle.std.proofs.Common.{◌≡◌, refl, [], Option, Some, None}
 use Rattle.css_model.specs.History.{History}
 use Rattle.css_outside.specs.Outsides.{with_entries}
 use Rattle.css_drive.specs.Proper.{Empty}
-use Rattle.css_drive.proofs.CompanionEnds.{appends_none}
+use Rattle.std.proofs.KnownBytes.{Appends-nil}
 use Rattle.css_drive.proofs.companion.drive_companion.Goals as goal
 
 pub returns-in-Err-clause-ran : goal.returns-in-Err-clause-ran
@@ -14,7 +14,7 @@ returns-in-Err-clause-ran g c = record {
   promised = tt;
   said = [];
   bytes = [];
-  grew = appends_none (g.K.Sink.holds c.args.sink.now);
+  grew = Appends-nil (g.K.Sink.holds c.args.sink.now);
   wrote = record { within = ([], refl); earlier = ([], refl) };
   listened = record {
     between = g.F.Listens.heard c.args.followers.now;

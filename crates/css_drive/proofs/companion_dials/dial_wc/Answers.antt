@@ -8,34 +8,49 @@ use Rattle.css_drive.specs.CompanionStanding.{Facts}
 use Rattle.css_drive.specs.Proper.{Dial, SendText}
 use Rattle.std.specs.Option.{option_map}
 use Rattle.css_drive.proofs.CompanionSteps.{none_if, comes, stands_more, peers_as, peers_cii, peers_wc, peers_ts}
-use Rattle.css_drive.proofs.CompanionSteps.{knows_as, knows_lawful}
+use Rattle.css_drive.proofs.CompanionSteps.{knows_lawful, stops_by_fault, stops_here, ends_by, at_err}
 use Rattle.css_drive.proofs.CompanionCalls as calls
 use Rattle.css_drive.proofs.companion_dials.dial_wc.Goals as goal
 
 pub returns-clause-goes : goal.returns-clause-goes
-returns-clause-goes g c before reports h s k d =
+returns-clause-goes g c before started h s k d =
     let none = none_if c.args.live.now.wc (sym c.is_some.ensures ∙ c.if-is_some.false) in
     let p : ℕ = c.in-Some-2.peer in
     let to = c.in-Some.to in
     let gives = rw c.in-Some.is at c.in_ok-to.ensures.gives in
-    let t = calls.wc_due c.args.config.now before _ c.args.live.now reports h s d None none _ (ap (λ x.
+    let t = calls.wc_due c.args.config.now before _ _ c.args.live.now h s d None none _ (ap (λ x.
     calls.wc_place x) (sym (c.state.ensures.meaning h k.stands)) ∙ gives) in
     let tried = rw c.in-Some-2.is at c.in_ok-peer.ensures.told in
     comes (stands_more s (Dial kind.Wc to) t (Dialled kind.Wc p ∷ Dialling kind.Wc to ∷ []) (inl (p, refl)) _
-    tried.told tried.faults _ reports
+    tried.told tried.faults _ refl
     (ap {A = Facts} (λ x. record x { wc = Some p }) s.facts)
     (peers_wc _ _ p to _ _ h s.peers tried.peer.0 tried.peer.1))
     (calls.knows_tried _ _ kind.Wc to (Some p) h k) _ refl
 
 pub returns-in_default-2-clause-goes : goal.returns-in_default-2-clause-goes
-returns-in_default-2-clause-goes g c before reports h s k d =
+returns-in_default-2-clause-goes g c before started h s k d =
     let none = none_if c.args.live.now.wc (sym c.is_some.ensures ∙ c.if-is_some.false) in
     let to = c.in-Some.to in
     let gives = rw c.in-Some.is at c.in_ok-to.ensures.gives in
-    let t = calls.wc_due c.args.config.now before _ c.args.live.now reports h s d None none _ (ap (λ x.
+    let t = calls.wc_due c.args.config.now before _ _ c.args.live.now h s d None none _ (ap (λ x.
     calls.wc_place x) (sym (c.state.ensures.meaning h k.stands)) ∙ gives) in
     let tried = rw c.in_default-2.is at c.in_ok-peer.ensures.told in
     comes (stands_more s (Dial kind.Wc to) t (NotDialled kind.Wc ∷ Dialling kind.Wc to ∷ []) (inr refl) _ tried.told
-    tried.faults _ reports s.facts
+    tried.faults _ refl s.facts
     (peers_as _ _ _ _ h _ s.peers tried.later (λ q. refl)))
     (calls.knows_tried _ _ kind.Wc to None h k) _ refl
+
+pub returns-in_err-peer-clause-goes : goal.returns-in_err-peer-clause-goes
+returns-in_err-peer-clause-goes g c before started h s k d =
+    at_err _ _ _ _ c.from_residual-in_err-peer.ensures.1
+    (stops_by_fault s (knows_lawful _ _ h k) _ _ _ c.in_err-peer.ensures.told
+    (g.W.Observes.saw started c.args.observer.now) s.saw_so)
+
+pub returns-in_err-to-clause-goes : goal.returns-in_err-to-clause-goes
+returns-in_err-to-clause-goes g c before started h s k d =
+    let none = none_if c.args.live.now.wc (sym c.is_some.ensures ∙ c.if-is_some.false) in
+    let t = calls.wc_due c.args.config.now before _ _ c.args.live.now h s d None none _ (ap (λ x.
+    calls.wc_place x) (sym (c.state.ensures.meaning h k.stands))) in
+    let gives = c.in_err-to.ensures.gives in
+    at_err _ _ _ c.from_residual.result c.from_residual.ensures.1
+    (stops_here s (knows_lawful _ _ h k) _ _ (calls.bad_own _ _ _ gives) (ends_by _ _ _ t (calls.bad_place _ _ _ _ _ gives)))

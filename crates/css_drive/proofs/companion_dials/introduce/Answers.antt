@@ -5,54 +5,77 @@ use Rattle.css_model.specs.History.{Dialling, Dialled, NotDialled, Wrote, Gone}
 use Rattle.css_outside.specs.declared.calls.Wrote.TheVariants as outcome
 use Rattle.css_drive.specs.CompanionDue.{due_at, text_sent, text_gone, sending, window_text, from_ask}
 use Rattle.css_drive.specs.CompanionStanding.{Facts}
+use Rattle.css_drive.specs.Notes.{noted}
 use Rattle.css_drive.specs.Proper.{Dial, SendText}
 use Rattle.css_tsmsg.specs.Setups.{setup_text}
-use Rattle.css_drive.proofs.CompanionSteps.{none_if, comes, stands_more, peers_as, peers_cii, peers_wc, peers_ts}
-use Rattle.css_drive.proofs.CompanionSteps.{knows_as, knows_lawful}
+use Rattle.css_drive.proofs.CompanionSteps.{none_if, comes, stands_saw, peers_as, peers_cii, peers_wc, peers_ts}
+use Rattle.css_drive.proofs.CompanionSteps.{knows_as, knows_lawful, stops_by_fault, stops_by_memory, at_err}
 use Rattle.css_drive.proofs.CompanionCalls as calls
 use Rattle.css_drive.proofs.companion_dials.introduce.Goals as goal
 
 pub returns-in-Ok-clause-goes : goal.returns-in-Ok-clause-goes
-returns-in-Ok-clause-goes g c before reports h s k ts at_ts pt d =
+returns-in-Ok-clause-goes g c ts at_ts before started h s k when =
+    let pt = when.0 in
+    let d = when.1 in
+    let after = g.W.Observes.saw started c.send.new.observer in
     let p : ℕ = c.args.peer in
     let text = c.bytes.result.now in
     let d1 = d ∙ ap (λ b. SendText p (setup_text b)) (sym k.setup) ∙ ap (λ b. SendText p b) (sym (c.bytes.ensures
     ∙ c.in_ok-text.ensures.text)) in
     let gone = rw c.in-Ok-Gone.field-0-is at c.in-Ok-Gone.ensures.told in
-    calls.over_comes s (SendText p text) d1 (Gone p) (outcome.Gone, refl) _ gone.told gone.same _ _ _
-    c.in-Ok.ensures.ok (calls.ts_over c.args.config.now before _ c.args.live.now reports h s p at_ts)
+    let more = rw c.in-Ok-Gone.field-0-is at c.in-Ok-Gone.ensures.saw started _ s.saw_so in
+    let saw : after (noted c.args.config.now (Gone p ∷ h)) = subst after (sym (calls.wrote_noted c.args.config.now p text
+    outcome.Gone h (calls.ts_at c.args.config.now before _ _ c.args.live.now h s p at_ts))) more in
+    calls.over_comes s (SendText p text) d1 (Gone p) (outcome.Gone, refl) _ gone.told gone.same after saw _ _ _
+    c.in-Ok.ensures.ok (calls.ts_over c.args.config.now before _ _ c.args.live.now h s p at_ts)
     (λ q. refl) (knows_as _ _ _ h c.in_ok-text.ensures.same k) (
       p,
       inr refl,
-      calls.open_ts c.args.config.now before _
-          c.args.live.now reports h s p at_ts,
+      calls.open_ts c.args.config.now before _ _ c.args.live.now h s p at_ts,
     ) _
     (ap (λ x. due_at c.args.config.now (text_gone x) (Gone p ∷ h)) pt)
 
 pub returns-in-Ok-Gone-clause-goes : goal.returns-in-Ok-Gone-clause-goes
-returns-in-Ok-Gone-clause-goes g c before reports h s k ts at_ts pt d =
+returns-in-Ok-Gone-clause-goes g c ts at_ts before started h s k when =
+    let pt = when.0 in
+    let d = when.1 in
+    let after = g.W.Observes.saw started c.send.new.observer in
     let p : ℕ = c.args.peer in
     let text = c.bytes.result.now in
     let d1 = d ∙ ap (λ b. SendText p (setup_text b)) (sym k.setup) ∙ ap (λ b. SendText p b) (sym (c.bytes.ensures
     ∙ c.in_ok-text.ensures.text)) in
     let gone = rw c.in-Ok-Gone.field-0-is at c.in-Ok-Gone.ensures.told in
-    calls.over_stops s (SendText p text) d1 (Gone p) (outcome.Gone, refl) _ gone.told gone.same (knows_lawful _ _ h
-    k) refl refl refl _ c.in-Err-lose_ts.ensures.err
+    let more = rw c.in-Ok-Gone.field-0-is at c.in-Ok-Gone.ensures.saw started _ s.saw_so in
+    let saw : after (noted c.args.config.now (Gone p ∷ h)) = subst after (sym (calls.wrote_noted c.args.config.now p text
+    outcome.Gone h (calls.ts_at c.args.config.now before _ _ c.args.live.now h s p at_ts))) more in
+    calls.over_stops s (SendText p text) d1 (Gone p) (outcome.Gone, refl) _ gone.told gone.same after saw (knows_lawful
+    _ _ h k) refl refl _ _ c.in-Err-lose_ts.ensures.err
 
 pub returns-clause-goes : goal.returns-clause-goes
-returns-clause-goes g c before reports h s k ts at_ts pt d =
+returns-clause-goes g c ts at_ts before started h s k when =
+    let pt = when.0 in
+    let d = when.1 in
+    let after = g.W.Observes.saw started c.send.new.observer in
     let p : ℕ = c.args.peer in
     let text = c.bytes.result.now in
     let d1 = d ∙ ap (λ b. SendText p (setup_text b)) (sym k.setup) ∙ ap (λ b. SendText p b) (sym (c.bytes.ensures
     ∙ c.in_ok-text.ensures.text)) in
     let sent = rw c.in-Ok-Sent.field-0-is at c.in-Ok-Sent.ensures.told in
-    c.present.ensures.goes before reports (Wrote p text ∷ h)
-    (stands_more s (SendText p text) d1 (Wrote p text ∷ []) (outcome.Sent, refl) _ sent.told (ap (λ x. x.faults)
-    sent.same) _ reports s.facts
+    let saw : after (noted c.args.config.now (Wrote p text ∷ h)) = rw c.in-Ok-Sent.field-0-is at
+    c.in-Ok-Sent.ensures.saw started _ s.saw_so in
+    c.present.ensures.goes ts at_ts before started (Wrote p text ∷ h)
+    (stands_saw s (SendText p text) d1 (Wrote p text ∷ []) (outcome.Sent, refl) _ sent.told
+    (ap (λ x. x.faults) sent.same) after saw _ s.facts
     (peers_as _ _ _ _ h _ s.peers (calls.same_peers sent.same) (λ q. refl)))
     (calls.knows_plain _ _ (Wrote p text) h (knows_as _ _ _ h c.in_ok-text.ensures.same k) refl refl refl refl refl
     refl refl)
-    ts at_ts (ap text_sent pt) (ap (λ x. due_at c.args.config.now (text_sent x) (Wrote p text ∷ h)) pt)
+    (ap text_sent pt, ap (λ x. due_at c.args.config.now (text_sent x) (Wrote p text ∷ h)) pt)
+
+
+pub returns-in-Err-clause-goes : goal.returns-in-Err-clause-goes
+returns-in-Err-clause-goes g c ts at_ts before started h s k when =
+    stops_by_fault s (knows_lawful _ _ h k) _ _ _ c.in-Err.ensures.told (g.W.Observes.saw started c.send.new.observer)
+    (c.in-Err.ensures.saw started _ s.saw_so)
 
 pub returns-in-Ok-clause-keeps : goal.returns-in-Ok-clause-keeps
 returns-in-Ok-clause-keeps g c = calls.keeps_same (c.in-Ok-Gone.ensures.dials) (c.in-Ok.ensures.keeps
@@ -61,3 +84,8 @@ returns-in-Ok-clause-keeps g c = calls.keeps_same (c.in-Ok-Gone.ensures.dials) (
 pub returns-in-Ok-Gone-clause-keeps : goal.returns-in-Ok-Gone-clause-keeps
 returns-in-Ok-Gone-clause-keeps g c = calls.keeps_same (c.in-Ok-Gone.ensures.dials) (c.in-Err-lose_ts.ensures.keeps
     (g.O.Outside.counts c.send.new.outside))
+
+pub returns-in_err-text-clause-goes : goal.returns-in_err-text-clause-goes
+returns-in_err-text-clause-goes g c ts at_ts before started h s k when =
+    at_err _ _ _ c.from_residual.result c.from_residual.ensures.1
+    (stops_by_memory s (knows_lawful _ _ h k) _ _ c.in_err-text.ensures.err)

@@ -7,37 +7,29 @@ use Rattle.css_drive.specs.CompanionStanding.{Facts, hung}
 use Rattle.css_drive.specs.CompanionTurns.{opened, is_peer}
 use Rattle.css_drive.specs.Ends.{MayEnd}
 use Rattle.css_drive.specs.Proper.{Due, Ends}
-use Rattle.css_drive.proofs.CompanionSteps.{stops_by_fault, told_more, counts_same, counts_from, fault_ends}
+use Rattle.css_drive.proofs.CompanionSteps.{stops_by_fault, told_more, counts_same, counts_from, fails_end, fails_so}
 use Rattle.css_drive.proofs.CompanionCalls as calls
 use Rattle.css_drive.proofs.CompanionEnds as ends
 use Rattle.css_drive.proofs.companion_hears.hang_up.Goals as goal
 
 pub returns-in-Err-clause-stops : goal.returns-in-Err-clause-stops
-returns-in-Err-clause-stops g c before reports h s l i = stops_by_fault s l _ _ c.in-Err.ensures.told
-
-pub returns-in-Err-clause-adds : goal.returns-in-Err-clause-adds
-returns-in-Err-clause-adds g c =
-    (None, None, c.in-Err.ensures.told.told ∙ by (g.O.Outside.told c.args.outside.now))
-  where
-    by : (told : Option History) → told ≡ with_entries [] told
-    by None = refl
-    by (Some history) = refl
+returns-in-Err-clause-stops g c before started h s l i =
+    stops_by_fault s l _ _ _ c.in-Err.ensures.told (g.W.Observes.saw started c.args.observer.now) s.saw_so
 
 pub returns-in-Err-clause-dials : goal.returns-in-Err-clause-dials
 returns-in-Err-clause-dials g c = c.in-Err.ensures.dials
 
 pub returns-in-Err-clause-kind : goal.returns-in-Err-clause-kind
-returns-in-Err-clause-kind g c = inr c.in-Err.ensures.fault
+returns-in-Err-clause-kind g c = inr c.in-Err.ensures.told.end
 
 pub returns-in-Ok-hang_up_one-clause-stops : goal.returns-in-Ok-hang_up_one-clause-stops
-returns-in-Ok-hang_up_one-clause-stops g c before reports h s l i =
+returns-in-Ok-hang_up_one-clause-stops g c before started h s l i =
     let cfg = c.args.config.now in
     let o = c.args.live.now.cii_open in
     let t = c.args.live.now.ts_open in
     let end = c.args.end in
     let apart : (q : ℕ) → o ≡ Some q → is_peer t q ≡ false = λ q x. calls.other_open h t kind.Ts kind.Cii q
-    (calls.open_ts cfg before _ c.args.live.now reports h s) (calls.open_cii cfg before _ c.args.live.now reports
-    h s q x) (λ y. cc) in
+    (calls.open_ts cfg before _ _ c.args.live.now h s) (calls.open_cii cfg before _ _ c.args.live.now h s q x) (λ y. cc) in
     let a = ends.cii_hung cfg h t end i.final_so (ap {A = Facts} (λ x. x.ts_open) s.facts) o (ap {A = Facts} (λ x.
     x.cii_open) s.facts) apart i.first in
     let d0 = i.first ∙ ap (λ x. hang_up x (hang_up (opened kind.Ts h) (Ends end))) (ap {A = Facts} (λ x. x.cii_open)
@@ -53,17 +45,12 @@ returns-in-Ok-hang_up_one-clause-stops g c before reports h s l i =
           ∙ ap (λ x. x.faults) first.same ∙ s.faults);
       proper = ends.hung_proper cfg (hung o ++ h) t _ p a.next;
       lawful = ends.hung_lawful (hung o ++ h) t (ends.hung_lawful h o l);
-      made = ends.hung_reports cfg (hung o ++ h) t ∙ ends.hung_reports cfg h o
-          ∙ ap {A = Facts} (λ x. x.reports) s.facts;
       ends = subst P (sym (ends.ts_hung cfg h t end i.final_so (ap {A = Facts} (λ x. x.ts_open) s.facts) (hung o ++
           h) a)) (ends.over_ends end i.over);
+      saw_so = subst (g.W.Observes.saw started c.args.observer.now) (sym (ends.hung_noted cfg (hung o ++ h) t
+          ∙ ends.hung_noted cfg h o)) s.saw_so;
+      so = ends.over_so _ end i.over;
     }
-
-pub returns-in-Ok-hang_up_one-clause-adds : goal.returns-in-Ok-hang_up_one-clause-adds
-returns-in-Ok-hang_up_one-clause-adds g c =
-    let o = c.args.live.now.cii_open in
-    let t = c.args.live.now.ts_open in
-    (o, t, told_more _ _ _ (hung t) (hung o) c.in-Ok.ensures.told.told c.in-Ok-hang_up_one.ensures.told.told)
 
 pub returns-in-Ok-hang_up_one-clause-dials : goal.returns-in-Ok-hang_up_one-clause-dials
 returns-in-Ok-hang_up_one-clause-dials g c = c.in-Ok-hang_up_one.ensures.dials ∙ c.in-Ok.ensures.dials
@@ -72,7 +59,7 @@ pub returns-in-Ok-hang_up_one-clause-kind : goal.returns-in-Ok-hang_up_one-claus
 returns-in-Ok-hang_up_one-clause-kind g c = inl refl
 
 pub returns-in-Err-hang_up_one-clause-stops : goal.returns-in-Err-hang_up_one-clause-stops
-returns-in-Err-hang_up_one-clause-stops g c before reports h s l i =
+returns-in-Err-hang_up_one-clause-stops g c before started h s l i =
     let cfg = c.args.config.now in
     let o = c.args.live.now.cii_open in
     let end = c.args.end in
@@ -87,16 +74,13 @@ returns-in-Err-hang_up_one-clause-stops g c before reports h s l i =
       counted = counts_from _ _ _ ended (ap (λ x. x.faults) first.same ∙ s.faults) second.counted;
       proper = ends.hung_proper cfg h o _ s.proper d0;
       lawful = ends.hung_lawful h o l;
-      made = ends.hung_reports cfg h o ∙ ap {A = Facts} (λ x. x.reports) s.facts;
-      ends = fault_ends (due cfg (hung o ++ h)) ended second.fault;
+      ends = fails_end (due cfg (hung o ++ h)) _ ended second.end;
+      saw_so = subst (g.W.Observes.saw started c.args.observer.now) (sym (ends.hung_noted cfg h o)) s.saw_so;
+      so = fails_so _ ended second.end;
     }
-
-pub returns-in-Err-hang_up_one-clause-adds : goal.returns-in-Err-hang_up_one-clause-adds
-returns-in-Err-hang_up_one-clause-adds g c =
-    (c.args.live.now.cii_open, None, c.in-Err-hang_up_one.ensures.told.told ∙ c.in-Ok.ensures.told.told)
 
 pub returns-in-Err-hang_up_one-clause-dials : goal.returns-in-Err-hang_up_one-clause-dials
 returns-in-Err-hang_up_one-clause-dials g c = c.in-Err-hang_up_one.ensures.dials ∙ c.in-Ok.ensures.dials
 
 pub returns-in-Err-hang_up_one-clause-kind : goal.returns-in-Err-hang_up_one-clause-kind
-returns-in-Err-hang_up_one-clause-kind g c = inr c.in-Err-hang_up_one.ensures.fault
+returns-in-Err-hang_up_one-clause-kind g c = inr c.in-Err-hang_up_one.ensures.told.end

@@ -10,30 +10,39 @@ use Rattle.css_outside.specs.declared.calls.Heard.TheVariants as heard
 use Rattle.css_companion.specs.Meanings.{is_ts}
 use Rattle.css_drive.specs.CompanionDue.{send_to, due}
 use Rattle.css_drive.specs.CompanionStanding.{Facts, hung}
+use Rattle.css_drive.specs.Notes.{noted}
 use Rattle.css_drive.specs.Proper.{Now, TakeDatagram, TakeText, SendDatagram}
-use Rattle.css_drive.proofs.CompanionSteps.{comes, stands_more, stops_after, stops_by_fault, peers_as, knows_as}
+use Rattle.css_drive.proofs.CompanionSteps.{comes, stops_after, stops_by_fault, peers_as, at_err}
 use Rattle.css_drive.proofs.CompanionSteps.{knows_lawful}
 use Rattle.css_drive.proofs.CompanionCalls as calls
 use Rattle.css_drive.proofs.CompanionEnds as ends
 use Rattle.css_drive.proofs.companion_hears.land.Goals as goal
 
 pub returns-then-clocked-clause-goes : goal.returns-then-clocked-clause-goes
-returns-then-clocked-clause-goes g c before reports h p s k =
+returns-then-clocked-clause-goes g c before started h p s k =
     let read = c.in_ok-clocked.ensures.told in
     let clocked : Clocked = c.in_ok-clocked.clocked in
     let bytes = c.args.bytes.now in
     let k0 = calls.knows_plain _ _ (Took p bytes) h k refl refl refl refl refl refl refl in
-    comes (calls.stands_read s why.Land (inr refl) refl _ _ _ _ clocked read)
+    let after = g.W.Observes.saw started c.landed.new.self in
+    let saw : after (noted c.args.config.now (clock_entries why.Land clocked ++ (Took p bytes ∷ h))) = subst after (sym
+    (calls.landed_notes c.args.config.now clocked p bytes h)) (c.landed.ensures started _ c.in_ok-clocked.ensures.on
+    s.saw_so) in
+    comes (calls.stands_read s why.Land (inr refl) refl _ _ _ _ clocked read after saw)
     (calls.slept_landing _ _ clocked (Took p bytes ∷ h) c.if-clocked.true (read.known c.args.config.now (Took p bytes
     ∷ h) k0)) _
     (calls.landed_next c.args.config.now clocked (Took p bytes ∷ h))
 
 pub returns-in-Ok-clause-goes : goal.returns-in-Ok-clause-goes
-returns-in-Ok-clause-goes g c before reports h p s k =
+returns-in-Ok-clause-goes g c before started h p s k =
     let read = c.in_ok-clocked.ensures.told in
     let clocked : Clocked = c.in_ok-clocked.clocked in
     let bytes = c.args.bytes.now in
-    comes (calls.stands_read s why.Land (inr refl) refl _ _ _ _ clocked read)
+    let after = g.W.Observes.saw started c.landed.new.self in
+    let saw : after (noted c.args.config.now (clock_entries why.Land clocked ++ (Took p bytes ∷ h))) = subst after (sym
+    (calls.landed_notes c.args.config.now clocked p bytes h)) (c.landed.ensures started _ c.in_ok-clocked.ensures.on
+    s.saw_so) in
+    comes (calls.stands_read s why.Land (inr refl) refl _ _ _ _ clocked read after saw)
     (calls.awake_landing _ _ _ clocked p bytes h c.if-clocked.false (read.known c.args.config.now h k)
     (λ k1. record {
       stands = c.in-Ok.ensures.stands h p k1.stands;
@@ -44,14 +53,23 @@ returns-in-Ok-clause-goes g c before reports h p s k =
     (calls.landed_next c.args.config.now clocked (Took p bytes ∷ h))
 
 pub returns-in-Err-clause-goes : goal.returns-in-Err-clause-goes
-returns-in-Err-clause-goes g c before reports h p s k =
+returns-in-Err-clause-goes g c before started h p s k =
     let read = c.in_ok-clocked.ensures.told in
     let clocked : Clocked = c.in_ok-clocked.clocked in
     let bytes = c.args.bytes.now in
     let k0 = calls.knows_plain _ _ (Took p bytes) h k refl refl refl refl refl refl refl in
     let l = knows_lawful _ _ _ (read.known c.args.config.now (Took p bytes ∷ h) k0) in
-    stops_after s (Now why.Land) refl (clock_entries why.Land clocked) (clocked, refl) _ read.told read.faults
+    let after = g.W.Observes.saw started c.landed.new.self in
+    let saw : after (noted c.args.config.now (clock_entries why.Land clocked ++ (Took p bytes ∷ h))) = subst after (sym
+    (calls.landed_notes c.args.config.now clocked p bytes h)) (c.landed.ensures started _ c.in_ok-clocked.ensures.on
+    s.saw_so) in
+    stops_after s (Now why.Land) refl (clock_entries why.Land clocked) (clocked, refl) _ read.told read.faults after saw
     (calls.lawful_plain (Clock why.Land clocked.reading) (sleep_entries clocked.slept ++ (Took p bytes ∷ h)) l refl
-    refl)
-    (ap {A = Facts} (λ x. x.reports) (calls.read_facts c.args.config.now before _ c.args.live.now reports (Took p
-    bytes ∷ h) s why.Land clocked (inr refl))) _ (λ e. cc) tt
+    refl) _ _ tt tt
+
+pub returns-in_err-clocked-clause-goes : goal.returns-in_err-clocked-clause-goes
+returns-in_err-clocked-clause-goes g c before started h p s k =
+    let k0 = calls.knows_plain _ _ (Took p c.args.bytes.now) h k refl refl refl refl refl refl refl in
+    at_err _ _ _ c.from_residual.result c.from_residual.ensures.1
+    (stops_by_fault s (knows_lawful _ _ _ k0) _ _ _ c.in_err-clocked.ensures.told
+    (g.W.Observes.saw started c.args.observer.now) s.saw_so)

@@ -10,27 +10,32 @@ use Rattle.css_outside.specs.declared.calls.Heard.TheVariants as heard
 use Rattle.css_model.specs.Wire.{encoded, request_at}
 use Rattle.css_drive.specs.CompanionDue.{send_to, due}
 use Rattle.css_drive.specs.CompanionStanding.{Facts, hung}
+use Rattle.css_drive.specs.Notes.{noted}
 use Rattle.css_drive.specs.Proper.{Now, TakeDatagram, TakeText, SendDatagram}
-use Rattle.css_drive.proofs.CompanionSteps.{comes, stands_more, stops_after, stops_by_fault, peers_as, knows_as}
+use Rattle.css_drive.proofs.CompanionSteps.{comes, stands_saw, stops_after, stops_by_fault, peers_as, at_err}
 use Rattle.css_drive.proofs.CompanionSteps.{knows_lawful}
 use Rattle.css_drive.proofs.CompanionCalls as calls
 use Rattle.css_drive.proofs.CompanionEnds as ends
 use Rattle.css_drive.proofs.companion_hears.request.Goals as goal
-
-pub returns-in-Ok-clause-goes : goal.returns-in-Ok-clause-goes
-returns-in-Ok-clause-goes g c before reports h s k some d =
+pub returns-clause-goes : goal.returns-clause-goes
+returns-clause-goes g c some before started h s k d =
     let read = c.in_ok-clocked.ensures.told in
     let clocked : Clocked = c.in_ok-clocked.clocked in
     let p : ℕ = c.args.peer in
-    let s1 = calls.stands_read s why.Ask (inl refl) d _ _ _ _ clocked read in
-    let k1 = read.known c.args.config.now h k in
-    let e1 = calls.asked_to c.args.config.now clocked h ∙ ap (λ o. send_to o (encoded (request_at clocked.reading)))
+    let cfg = c.args.config.now in
+    let slept = g.W.Observes.saw started c.note_sleep.new.observer in
+    let saw : slept (noted cfg (clock_entries why.Ask clocked ++ h)) = subst slept (sym (calls.asked_notes cfg clocked h))
+    (c.note_sleep.ensures started _ c.in_ok-clocked.ensures.on s.saw_so) in
+    let s1 = calls.stands_read s why.Ask (inl refl) d _ _ _ _ clocked read slept saw in
+    let k1 = read.known cfg h k in
+    let e1 = calls.asked_to cfg clocked h ∙ ap (λ o. send_to o (encoded (request_at clocked.reading)))
     (ap {A = Facts} (λ x. x.wc) s.facts ∙ some) ∙ ap (λ b. SendDatagram p b) (sym c.ask-bytes.ensures.request) in
-    comes (stands_more s1 (SendDatagram p c.ask-bytes.result) e1 (Sent p c.ask-bytes.result ∷ []) refl _
-    c.in-Ok.ensures.told c.in-Ok.ensures.counted.faults _ reports
+    let sent = c.in_ok-send_request.ensures.told in
+    comes (stands_saw s1 (SendDatagram p c.ask-bytes.result) e1 (Sent p c.ask-bytes.result ∷ []) refl _
+    sent.told (ap (λ x. x.faults) sent.same) (g.W.Observes.saw started c.send_request.new.observer)
+    (c.in_ok-send_request.ensures.saw started _ s1.saw_so) _
     (ap {A = Facts} (λ x. record x { asked = x.turn }) s1.facts)
-    (peers_as _ _ _ _ _ _ s1.peers (calls.same_peers (calls.unchanged c.in-Ok.ensures.counted.same
-    c.in-Ok.ensures.counted.faults)) (λ q. refl)))
+    (peers_as _ _ _ _ _ _ s1.peers (calls.same_peers sent.same) (λ q. refl)))
     (record {
       stands = c.ask-bytes.ensures.stands _ p k1.stands;
       setup = ap (λ x. x.setup) c.ask-bytes.ensures.keeps
@@ -38,15 +43,23 @@ returns-in-Ok-clause-goes g c before reports h s k some d =
       own = c.ask-bytes.ensures.own ∙ k1.own;
     }) _ refl
 
-pub returns-in-Err-clause-goes : goal.returns-in-Err-clause-goes
-returns-in-Err-clause-goes g c before reports h s k some d =
+pub returns-in_err-send_request-clause-goes : goal.returns-in_err-send_request-clause-goes
+returns-in_err-send_request-clause-goes g c some before started h s k d =
     let read = c.in_ok-clocked.ensures.told in
     let clocked : Clocked = c.in_ok-clocked.clocked in
-    let s1 = calls.stands_read s why.Ask (inl refl) d _ _ _ _ clocked read in
-    let k1 = read.known c.args.config.now h k in
+    let cfg = c.args.config.now in
+    let slept = g.W.Observes.saw started c.note_sleep.new.observer in
+    let saw : slept (noted cfg (clock_entries why.Ask clocked ++ h)) = subst slept (sym (calls.asked_notes cfg clocked h))
+    (c.note_sleep.ensures started _ c.in_ok-clocked.ensures.on s.saw_so) in
+    let s1 = calls.stands_read s why.Ask (inl refl) d _ _ _ _ clocked read slept saw in
+    let k1 = read.known cfg h k in
     let l = (c.ask-bytes.ensures.stands _ c.args.peer k1.stands).client.lawful in
-    stops_by_fault s1 (record { rises = l.rises.1; asks = l.asks.1 }) _ _ (record {
-      told = c.in-Err.ensures.told;
-      counted = c.end_of.ensures.counted _ _ c.in-Err.ensures.counted.faults;
-      fault = c.end_of.ensures.fault;
-    })
+    at_err _ _ _ _ c.from_residual-in_err-send_request.ensures.1
+    (stops_by_fault s1 (record { rises = l.rises.1; asks = l.asks.1 }) _ _ _ c.in_err-send_request.ensures.told
+    (g.W.Observes.saw started c.send_request.new.observer) (c.in_err-send_request.ensures.saw started _ s1.saw_so))
+
+pub returns-in_err-clocked-clause-goes : goal.returns-in_err-clocked-clause-goes
+returns-in_err-clocked-clause-goes g c some before started h s k d =
+    at_err _ _ _ c.from_residual.result c.from_residual.ensures.1
+    (stops_by_fault s (knows_lawful _ _ h k) _ _ _ c.in_err-clocked.ensures.told
+    (g.W.Observes.saw started c.args.observer.now) s.saw_so)

@@ -1,6 +1,9 @@
-use Rattle.std.proofs.Common.{◌≡◌, ℕ, ◌<◌, ◌≤◌, refl, sym, ◌∙◌, arith, true, false}
+use Rattle.std.proofs.Common.{◌≡◌, ℕ, ◌<◌, ◌≤◌, refl, sym, ◌∙◌, subst, arith, true, false}
 use Rattle.std.specs.Prelude.{nat_lt}
 use Rattle.std.proofs.lemmas.Grind.{common_steps}
+use Rattle.css_drive.specs.CompanionStanding.{IsHangingUp}
+use Rattle.css_drive.specs.Ends.{CountsDialFaults}
+use Rattle.css_drive.specs.declared.driven.Driven.{Driven}
 use Rattle.css_drive.proofs.CompanionSteps.{knows_lawful}
 use Rattle.css_drive.proofs.CompanionEnds as ends
 use Rattle.css_drive.proofs.CompanionRuns as runs
@@ -8,11 +11,10 @@ use Rattle.css_drive.proofs.companion_turns.drive.Goals as goal
 
 pub turns-init : goal.turns-init
 turns-init g c = record {
-  run = runs.new_writes c.args.config.now _ _ c.args.companion.now _ c.requires.known refl
-      (record { cii_used = tt; ts_used = tt; cii_kind = tt; ts_kind = tt });
+  run = runs.comes_first c.args.config.now _ _ _ c.args.companion.now c.requires.known refl
+      (record { cii_used = tt; ts_used = tt; cii_kind = tt; ts_kind = tt }) c.requires.begun;
   floor = omega (arith, c.requires.floor);
   reported = omega arith;
-  sink = refl;
   dials = omega arith;
   tried = λ some. absurd (omega (arith, some));
 }
@@ -20,17 +22,16 @@ turns-init g c = record {
 pub turns-preserved : goal.turns-preserved
 turns-preserved g c =
     let cfg = c.args.config.now in
-    let i = c.turns.invariant in
+    let w = c.turns.invariant.run in
     let more : nat_lt c.turns.live.made cfg.turns ≡ true = grind (arith, common_steps) in
     let few : nat_lt c.turns.live.reported cfg.reports ≡ true = grind (arith, common_steps) in
-    let w = runs.again cfg _ _ c.turns.live _ _ _ i.run few more in
+    let d = ends.next_turn cfg _ _ _ c.turns.live w.history w.stands w.next few more in
     record {
-      run = c.in-Ok.ensures.turned _ _ w;
+      run = c.in-Ok.ensures.goes _ _ w.history w.stands w.known d;
       floor = c.in-Ok.ensures.floor;
       reported = c.in-Ok.ensures.reported;
-      sink = c.in-Ok.ensures.counted ∙ i.sink;
-      dials = omega (arith, c.turn.ensures.dials, i.dials);
-      tried = λ some none. runs.risen_from _ _ _ i.dials (c.in-Ok.ensures.tried none);
+      dials = omega (arith, c.turn.ensures.dials, c.turns.invariant.dials);
+      tried = λ some none. runs.risen_from _ _ _ c.turns.invariant.dials (c.in-Ok.ensures.tried none);
     }
 
 pub turn-requires-clause-floor : goal.turn-requires-clause-floor
@@ -42,41 +43,42 @@ turn-requires-clause-reported g c = c.turns.invariant.reported
 pub turn-requires-clause-bounds : goal.turn-requires-clause-bounds
 turn-requires-clause-bounds g c = c.requires.bounds
 
-pub returns-in-Err-clause-ran : goal.returns-in-Err-clause-ran
-returns-in-Err-clause-ran g c =
+pub returns-in-Err-clause-made : goal.returns-in-Err-clause-made
+returns-in-Err-clause-made g c =
     let cfg = c.args.config.now in
-    let i = c.turns.invariant in
+    let w = c.turns.invariant.run in
     let more : nat_lt c.turns.live.made cfg.turns ≡ true = grind (arith, common_steps) in
     let few : nat_lt c.turns.live.reported cfg.reports ≡ true = grind (arith, common_steps) in
-    let w = runs.again cfg _ _ c.turns.live _ _ _ i.run few more in
-    (c.in-Err.ensures.turned _ _ w).ran
+    let d = ends.next_turn cfg _ _ _ c.turns.live w.history w.stands w.next few more in
+    runs.made_of cfg _ _ _ _ _ _ c.ended_by.ensures (c.in-Err.ensures.goes _ _ w.history w.stands w.known d)
 
 pub returns-in-Err-clause-net_faults : goal.returns-in-Err-clause-net_faults
 returns-in-Err-clause-net_faults g c =
     let cfg = c.args.config.now in
-    let i = c.turns.invariant in
+    let w = c.turns.invariant.run in
     let more : nat_lt c.turns.live.made cfg.turns ≡ true = grind (arith, common_steps) in
     let few : nat_lt c.turns.live.reported cfg.reports ≡ true = grind (arith, common_steps) in
-    let w = runs.again cfg _ _ c.turns.live _ _ _ i.run few more in
-    (c.in-Err.ensures.turned _ _ w).counted
-
-pub returns-in-Err-clause-write_faults : goal.returns-in-Err-clause-write_faults
-returns-in-Err-clause-write_faults g c = runs.writes_from _ _ _ _ c.turns.invariant.sink c.in-Err.ensures.counted
+    let d = ends.next_turn cfg _ _ _ c.turns.live w.history w.stands w.next few more in
+    runs.counted_of cfg _ _ _ _ _ _ c.ended_by.ensures (c.in-Err.ensures.goes _ _ w.history w.stands w.known d)
 
 pub returns-in-Err-clause-dial_faults : goal.returns-in-Err-clause-dial_faults
 returns-in-Err-clause-dial_faults g c =
-    runs.early_dials _ _ _ c.in-Err.ensures.early (omega (arith, c.turns.invariant.dials, c.turn.ensures.dials))
+    let le : (g.O.Outside.counts c.args.outside.now).dial_faults ≤ (g.O.Outside.counts c.turn.new.outside).dial_faults =
+    omega (arith, c.turns.invariant.dials, c.turn.ensures.dials) in
+    subst (CountsDialFaults _ _) (sym c.ended_by.ensures) (runs.final_dials _ _ _ _ (runs.early_dials _ _ _
+    c.in-Err.ensures.early le) le)
 
-pub returns-clause-ran : goal.returns-clause-ran
-returns-clause-ran g c =
+pub returns-clause-made : goal.returns-clause-made
+returns-clause-made g c =
     let cfg = c.args.config.now in
     let w = c.turns.invariant.run in
     let over : nat_lt c.turns.live.made cfg.turns ≡ false = grind (arith, common_steps) in
     let few : nat_lt c.turns.live.reported cfg.reports ≡ true = grind (arith, common_steps) in
-    let hanging = runs.finishes cfg _ _ c.turns.live _ _ _ w _ c.ending-end.ensures few over in
-    (ends.ended_whole cfg _ _ _ _ w.reports w.said _
-    (c.hang_up.ensures.stops _ w.reports w.comes.history w.comes.stands (knows_lawful cfg _ _ w.comes.known) hanging)
-    w.told).ran
+    let P : Driven → Type 0 = λ x. IsHangingUp cfg x w.history in
+    let hanging = subst P (sym c.ending-end.ensures) (ends.is_over cfg _ _ _ c.turns.live w.history w.stands w.next few
+    over) in
+    let s = c.hang_up-ended.ensures.stops _ _ w.history w.stands (knows_lawful cfg _ _ w.known) hanging in
+    runs.made_of cfg _ _ _ _ _ _ c.ended_by-2.ensures s
 
 pub returns-clause-net_faults : goal.returns-clause-net_faults
 returns-clause-net_faults g c =
@@ -84,24 +86,18 @@ returns-clause-net_faults g c =
     let w = c.turns.invariant.run in
     let over : nat_lt c.turns.live.made cfg.turns ≡ false = grind (arith, common_steps) in
     let few : nat_lt c.turns.live.reported cfg.reports ≡ true = grind (arith, common_steps) in
-    let hanging = runs.finishes cfg _ _ c.turns.live _ _ _ w _ c.ending-end.ensures few over in
-    (ends.ended_whole cfg _ _ _ _ w.reports w.said _
-    (c.hang_up.ensures.stops _ w.reports w.comes.history w.comes.stands (knows_lawful cfg _ _ w.comes.known) hanging)
-    w.told).counted
-
-pub returns-clause-write_faults : goal.returns-clause-write_faults
-returns-clause-write_faults g c =
-    let cfg = c.args.config.now in
-    let w = c.turns.invariant.run in
-    let over : nat_lt c.turns.live.made cfg.turns ≡ false = grind (arith, common_steps) in
-    let few : nat_lt c.turns.live.reported cfg.reports ≡ true = grind (arith, common_steps) in
-    let hanging = runs.finishes cfg _ _ c.turns.live _ _ _ w _ c.ending-end.ensures few over in
-    runs.hung_writes _ _ _ _ hanging.over c.turns.invariant.sink c.hang_up.ensures.kind
+    let P : Driven → Type 0 = λ x. IsHangingUp cfg x w.history in
+    let hanging = subst P (sym c.ending-end.ensures) (ends.is_over cfg _ _ _ c.turns.live w.history w.stands w.next few
+    over) in
+    let s = c.hang_up-ended.ensures.stops _ _ w.history w.stands (knows_lawful cfg _ _ w.known) hanging in
+    runs.counted_of cfg _ _ _ _ _ _ c.ended_by-2.ensures s
 
 pub returns-clause-dial_faults : goal.returns-clause-dial_faults
 returns-clause-dial_faults g c =
     let i = c.turns.invariant in
     let some : 1 ≤ c.turns.live.made = grind (arith, common_steps, c.args.config.now.some_turns) in
-    runs.dials_same _ _ _ _ c.hang_up.ensures.dials
-    (runs.hung_dials _ _ c.args.config.now.turns c.turns.live.cii c.turns.live.wc c.turns.live.ts _ _ i.dials
-    (i.tried some) c.ending-end.ensures c.hang_up.ensures.kind)
+    let hung = runs.hung_dials _ _ c.args.config.now.turns c.turns.live.cii c.turns.live.wc c.turns.live.ts _ _ _ i.dials
+    (i.tried some) c.ending-end.ensures c.hang_up-ended.ensures.kind in
+    let P : ℕ → Type 0 = λ n. CountsDialFaults (g.O.Outside.counts c.args.outside.now).dial_faults n c.ended_by-2.result in
+    subst P (sym c.hang_up-ended.ensures.dials) (subst (CountsDialFaults _ _) (sym c.ended_by-2.ensures) (runs.final_dials
+    (g.W.Observes.over c.turns.observer) _ _ _ hung i.dials))

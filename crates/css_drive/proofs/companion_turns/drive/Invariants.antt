@@ -1,18 +1,16 @@
 use Rattle.std.proofs.Common.{◌≡◌, ◌-◌, ◌≤◌, ◌<◌, None}
 use Rattle.css_outside.specs.Faults.{HasRisen}
 use Rattle.css_drive.specs.CompanionDue.{from_end}
-use Rattle.css_drive.specs.CompanionStanding.{Writes, shown, audience}
+use Rattle.css_drive.specs.CompanionStanding.{Comes, shown}
 use Rattle.css_drive.proofs.companion_turns.drive.Given as goal
 
 abbrev pub invariant-turns : goal.invariant-turns
 invariant-turns g l = record {
-  run : Writes l.config (shown (g.O.Outside.told l.fn.outside) (g.O.Outside.counts l.fn.outside))
-      (shown (g.O.Outside.told l.outside) (g.O.Outside.counts l.outside)) l.live l.companion
-      (audience (g.K.Sink.holds l.fn.sink) (g.F.Listens.heard l.fn.followers))
-      (audience (g.K.Sink.holds l.sink) (g.F.Listens.heard l.followers)) (from_end l.config);
+  run : Comes l.config (shown (g.O.Outside.told l.fn.outside) (g.O.Outside.counts l.fn.outside))
+      (shown (g.O.Outside.told l.outside) (g.O.Outside.counts l.outside))
+      (g.W.Observes.saw l.fn.observer l.observer) l.live l.companion (from_end l.config);
   floor : l.companion.client.floor ≤ (g.O.Outside.counts l.outside).last;
   reported : l.live.reported < l.config.reports;
-  sink : g.K.Sink.faults l.sink ≡ g.K.Sink.faults l.fn.sink;
   dials : (g.O.Outside.counts l.fn.outside).dial_faults ≤ (g.O.Outside.counts l.outside).dial_faults;
   tried : 1 ≤ l.live.made → l.live.cii ≡ None
       → HasRisen (g.O.Outside.counts l.fn.outside).dial_faults (g.O.Outside.counts l.outside).dial_faults;

@@ -1,33 +1,30 @@
-use Rattle.std.proofs.Common.{◌≡◌, ℕ, ◌<◌, refl, sym, ◌∙◌, arith, true, false}
+use Rattle.std.proofs.Common.{◌≡◌, ℕ, ◌<◌, ◌≤◌, refl, sym, ◌∙◌, arith, true, false}
 use Rattle.std.specs.Prelude.{nat_lt}
 use Rattle.std.proofs.lemmas.Grind.{common_steps}
+use Rattle.css_drive.specs.declared.driven.Driven.TheVariants as driven
+use Rattle.css_drive.proofs.CompanionSteps.{knows_lawful}
 use Rattle.css_drive.proofs.CompanionEnds as ends
 use Rattle.css_drive.proofs.CompanionRuns as runs
 use Rattle.css_drive.proofs.companion_turns.turn.Goals as goal
 
-pub returns-in-Err-clause-turned : goal.returns-in-Err-clause-turned
-returns-in-Err-clause-turned g c before started w =
-    ends.ended_whole c.args.config.now before _ started _ w.reports w.said _
-    (c.in-Err.ensures.begins before w.reports w.comes.history w.comes.stands w.comes.known w.comes.next) w.told
+pub returns-in-Err-clause-goes : goal.returns-in-Err-clause-goes
+returns-in-Err-clause-goes g c = c.in-Err.ensures.goes
 
-pub returns-in-Ok-None-clause-turned : goal.returns-in-Ok-None-clause-turned
-returns-in-Ok-None-clause-turned g c before started w =
+pub returns-then-live-config-clause-goes : goal.returns-then-live-config-clause-goes
+returns-then-live-config-clause-goes g c before started h s k d =
     let cfg = c.args.config.now in
-    let b = runs.begins_as cfg before _ _ _ w.reports _ _ c.in-Ok-None.field-0-is
-    (c.in-Ok-None.ensures.begins before w.reports w.comes.history w.comes.stands w.comes.known w.comes.next) in
-    let same : c.start.new.live.reported ≡ c.args.live.now.reported =
-    rw c.in-Ok-None.field-0-is at c.in-Ok-None.ensures.reported in
+    let a = c.in-Ok.ensures.goes before started h s k d in
     let few : nat_lt c.start.new.live.reported cfg.reports ≡ true = grind (arith, common_steps) in
-    ends.turned cfg before _ _ _ started _ w.reports w.said c.calls.result w.told
-    (c.calls.ensures.goes before w.reports b.history b.stands b.known
-    (ends.goes_on cfg before _ _ w.reports b.history b.stands b.next few))
+    c.calls.ensures.goes before started a.history a.stands a.known
+    (ends.goes_on cfg before _ _ _ a.history a.stands a.next few)
 
-pub returns-in-Ok-Some-clause-turned : goal.returns-in-Ok-Some-clause-turned
-returns-in-Ok-Some-clause-turned g c before started w =
+pub returns-clause-goes : goal.returns-clause-goes
+returns-clause-goes g c before started h s k d =
     let cfg = c.args.config.now in
-    let b = runs.begins_as cfg before _ _ _ w.reports _ _ c.in-Ok-Some.field-0-is
-    (c.in-Ok-Some.ensures.begins before w.reports w.comes.history w.comes.stands w.comes.known w.comes.next) in
-    c.go_on.ensures.turned before started w.reports w.said b.history w.told b.stands b.known b.next
+    let a = c.in-Ok.ensures.goes before started h s k d in
+    let few : nat_lt c.start.new.live.reported cfg.reports ≡ false = grind (arith, common_steps) in
+    c.hang_up.ensures.stops before started a.history a.stands (knows_lawful cfg _ a.history a.known)
+    (ends.is_done cfg before _ _ _ a.history a.stands a.next few)
 
 pub start-requires-clause-floor : goal.start-requires-clause-floor
 start-requires-clause-floor g c = c.requires.floor
@@ -39,79 +36,42 @@ pub start-requires-clause-reported : goal.start-requires-clause-reported
 start-requires-clause-reported g c = omega (arith, c.requires.reported, c.args.config.now.few_reports)
 
 pub calls-requires-clause-floor : goal.calls-requires-clause-floor
-calls-requires-clause-floor g c = c.in-Ok-None.ensures.floor
+calls-requires-clause-floor g c = c.in-Ok.ensures.floor
 
 pub calls-requires-clause-bounds : goal.calls-requires-clause-bounds
 calls-requires-clause-bounds g c = c.requires.bounds
-
-pub go_on-requires-clause-floor : goal.go_on-requires-clause-floor
-go_on-requires-clause-floor g c = c.in-Ok-Some.ensures.floor
-
-pub go_on-requires-clause-reading : goal.go_on-requires-clause-reading
-go_on-requires-clause-reading g c = (rw c.in-Ok-Some.field-0-is at c.in-Ok-Some.ensures.reading).0
-
-pub go_on-requires-clause-below : goal.go_on-requires-clause-below
-go_on-requires-clause-below g c = (rw c.in-Ok-Some.field-0-is at c.in-Ok-Some.ensures.reading).1
-
-pub go_on-requires-clause-bounds : goal.go_on-requires-clause-bounds
-go_on-requires-clause-bounds g c = c.requires.bounds
-
-pub returns-in-Err-clause-counted : goal.returns-in-Err-clause-counted
-returns-in-Err-clause-counted g c = runs.cut_writes _ _ _ c.in-Err.ensures.cut refl
 
 pub returns-in-Err-clause-dials : goal.returns-in-Err-clause-dials
 returns-in-Err-clause-dials g c = c.start.ensures.dials
 
 pub returns-in-Err-clause-early : goal.returns-in-Err-clause-early
-returns-in-Err-clause-early g c = runs.cut_early _ c.in-Err.ensures.cut
+returns-in-Err-clause-early g c = c.in-Err.ensures.early
 
-pub returns-in-Ok-None-clause-floor : goal.returns-in-Ok-None-clause-floor
-returns-in-Ok-None-clause-floor g c = c.calls.ensures.floor
+pub returns-then-live-config-clause-floor : goal.returns-then-live-config-clause-floor
+returns-then-live-config-clause-floor g c = c.calls.ensures.floor
 
-pub returns-in-Ok-None-clause-made : goal.returns-in-Ok-None-clause-made
-returns-in-Ok-None-clause-made g c =
-    runs.on_ok c.calls.result (c.calls.ensures.keeps.made ∙ c.in-Ok-None.ensures.made)
+pub returns-then-live-config-clause-made : goal.returns-then-live-config-clause-made
+returns-then-live-config-clause-made g c =
+    runs.on_ok c.calls.result (c.calls.ensures.keeps.made ∙ c.in-Ok.ensures.made)
 
-pub returns-in-Ok-None-clause-reported : goal.returns-in-Ok-None-clause-reported
-returns-in-Ok-None-clause-reported g c =
-    let same : c.start.new.live.reported ≡ c.args.live.now.reported =
-    rw c.in-Ok-None.field-0-is at c.in-Ok-None.ensures.reported in
+pub returns-then-live-config-clause-reported : goal.returns-then-live-config-clause-reported
+returns-then-live-config-clause-reported g c =
     let few : c.calls.new.live.reported < c.args.config.now.reports =
-    omega (arith, c.calls.ensures.keeps.reported, same, c.requires.reported) in
+    grind (arith, common_steps, c.calls.ensures.keeps.reported) in
     runs.on_ok c.calls.result few
 
-pub returns-in-Ok-None-clause-counted : goal.returns-in-Ok-None-clause-counted
-returns-in-Ok-None-clause-counted g c = runs.calls_writes c.calls.result _ _ c.calls.ensures.cut refl
+pub returns-then-live-config-clause-dials : goal.returns-then-live-config-clause-dials
+returns-then-live-config-clause-dials g c = omega (arith, c.start.ensures.dials, c.calls.ensures.keeps.dials)
 
-pub returns-in-Ok-None-clause-dials : goal.returns-in-Ok-None-clause-dials
-returns-in-Ok-None-clause-dials g c = omega (arith, c.start.ensures.dials, c.calls.ensures.keeps.dials)
+pub returns-then-live-config-clause-early : goal.returns-then-live-config-clause-early
+returns-then-live-config-clause-early g c = c.calls.ensures.early
 
-pub returns-in-Ok-None-clause-early : goal.returns-in-Ok-None-clause-early
-returns-in-Ok-None-clause-early g c = runs.cuts_early c.calls.result c.calls.ensures.cut
-
-pub returns-in-Ok-None-clause-tried : goal.returns-in-Ok-None-clause-tried
-returns-in-Ok-None-clause-tried g c =
+pub returns-then-live-config-clause-tried : goal.returns-then-live-config-clause-tried
+returns-then-live-config-clause-tried g c =
     runs.tried_from c.calls.result c.calls.new.live.cii _ _ _ c.start.ensures.dials c.calls.ensures.tried
 
-pub returns-in-Ok-Some-clause-floor : goal.returns-in-Ok-Some-clause-floor
-returns-in-Ok-Some-clause-floor g c = c.go_on.ensures.floor
+pub returns-clause-dials : goal.returns-clause-dials
+returns-clause-dials g c = omega (arith, c.start.ensures.dials, c.hang_up.ensures.dials)
 
-pub returns-in-Ok-Some-clause-made : goal.returns-in-Ok-Some-clause-made
-returns-in-Ok-Some-clause-made g c =
-    runs.map_ok c.go_on.result (λ e. e ∙ c.in-Ok-Some.ensures.made) c.go_on.ensures.made
-
-pub returns-in-Ok-Some-clause-reported : goal.returns-in-Ok-Some-clause-reported
-returns-in-Ok-Some-clause-reported g c = c.go_on.ensures.reported
-
-pub returns-in-Ok-Some-clause-counted : goal.returns-in-Ok-Some-clause-counted
-returns-in-Ok-Some-clause-counted g c = c.go_on.ensures.counted
-
-pub returns-in-Ok-Some-clause-dials : goal.returns-in-Ok-Some-clause-dials
-returns-in-Ok-Some-clause-dials g c = omega (arith, c.start.ensures.dials, c.go_on.ensures.dials)
-
-pub returns-in-Ok-Some-clause-early : goal.returns-in-Ok-Some-clause-early
-returns-in-Ok-Some-clause-early g c = c.go_on.ensures.early
-
-pub returns-in-Ok-Some-clause-tried : goal.returns-in-Ok-Some-clause-tried
-returns-in-Ok-Some-clause-tried g c =
-    runs.tried_from c.go_on.result c.go_on.new.live.cii _ _ _ c.start.ensures.dials c.go_on.ensures.tried
+pub returns-clause-early : goal.returns-clause-early
+returns-clause-early g c = runs.hung_early _ driven.Done _ tt c.hang_up.ensures.kind

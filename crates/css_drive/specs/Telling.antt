@@ -1,0 +1,84 @@
+-- What a sink holds of a run's reports, and what its followers heard, as the notes of the run come.
+use Rattle.std.specs.Prelude.{◌≡◌, ◌⊎◌, ℕ, ◌+◌, List, [], ◌∷◌, ◌++◌, length, Option, Some, None}
+use Rattle.std.specs.Io.KnownBytes.{Appends}
+use Rattle.css_outside.specs.Bytes.{AppendsPrefix}
+use Rattle.css_outside.specs.Faults.{CountsOutFault}
+use Rattle.css_outside.specs.declared.fault.OutFault.{OutFault}
+use Rattle.css_companion.specs.Printed.{line_of}
+use Rattle.css_companion.specs.declared.report.Report.{Report}
+use Rattle.css_drive.specs.CompanionReports.{written, IsPart}
+use Rattle.css_drive.specs.CompanionRun.{Followed, FollowedInPart, HearFirst}
+use Rattle.css_drive.specs.Listening.{Listener, HearEach}
+use Rattle.css_drive.specs.Notes.{Note, Happened, Reported}
+
+-- ---- one report
+-- A report has this text, its line and what the followers said of it.
+pub record HasSaid (number : ℕ) (report : Report) (before now : List Listener) (text : List ℕ) : Type 0 where
+  pub words : List ℕ
+  pub is : text ≡ line_of number report None ++ words
+  pub heard : HearEach report before now words
+
+-- a report has no text, and the first of the followers heard it
+pub record HasSaidFirst (report : Report) (before now : List Listener) : Type 0 where
+  pub words : List ℕ
+  pub heard : HearFirst report before now words
+
+-- what a sink holds, and what its followers heard
+pub record Audience : Type 0 where
+  pub holds : Option (List ℕ)
+  pub heard : List Listener
+
+abbrev pub audience : Option (List ℕ) → List Listener → Audience
+audience holds heard = record { holds = holds; heard = heard }
+
+-- A report's line was written, with what the followers said of it.
+pub record IsWritten (was is : Audience) (number : ℕ) (report : Report) : Type 0 where
+  pub words : List ℕ
+  pub grew : Appends was.holds is.holds (line_of number report None ++ words)
+  pub heard : HearEach report was.heard is.heard words
+
+-- A report was written in part, or not at all.
+pub record IsPartlyWritten (was is : Audience) (number : ℕ) (report : Report) : Type 0 where
+  pub words : List ℕ
+  pub grew : AppendsPrefix was.holds is.holds (line_of number report None ++ words)
+  pub heard : HearEach report was.heard is.heard words ⊎ HearFirst report was.heard is.heard words
+
+-- a report was written, or the write failed so; the sink's faults are counted
+abbrev pub WritesReport : Option OutFault → Audience → Audience → ℕ → ℕ → ℕ → Report → Type 0
+WritesReport None was is before now number report = IsWritten was is number report × (now ≡ before)
+WritesReport (Some fault) was is before now number report =
+    IsPartlyWritten was is number report × CountsOutFault before now fault
+
+-- ---- all reports
+-- the reports among notes
+abbrev pub reports_in : List Note → List Report
+reports_in [] = []
+reports_in (Happened event ∷ notes) = reports_in notes
+reports_in (Reported number report ∷ notes) = report ∷ reports_in notes
+
+-- each report has its number
+abbrev pub AreNumbered : List Note → Type 0
+AreNumbered [] = Unit {0}
+AreNumbered (Happened event ∷ notes) = AreNumbered notes
+AreNumbered (Reported number report ∷ notes) = (number ≡ length (reports_in notes) + 1) × AreNumbered notes
+
+-- The sink holds these reports, and the followers heard them.
+pub record HasTold (started now : Audience) (reports : List Report) (said : List (List ℕ)) : Type 0 where
+  pub grew : Appends started.holds now.holds (written reports said)
+  pub followed : Followed reports said started.heard now.heard
+  pub each : length said ≡ length reports
+
+-- the same, but for the newest report, of which it may lack a part
+pub record HasToldPart (started now : Audience) (reports : List Report) : Type 0 where
+  pub said : List (List ℕ)
+  pub bytes : List ℕ
+  pub grew : Appends started.holds now.holds bytes
+  pub wrote : IsPart reports said bytes
+  pub followed : FollowedInPart reports said started.heard now.heard
+
+-- The reports among these notes were told: all, or all but a part of the newest where a write failed or memory ran out.
+abbrev pub Tells : Option OutFault → Audience → Audience → ℕ → ℕ → List Note → Type 0
+Tells None started now was is notes =
+    (AreNumbered notes → (said : List (List ℕ)) × HasTold started now (reports_in notes) said) × (is ≡ was)
+Tells (Some fault) started now was is notes =
+    (AreNumbered notes → HasToldPart started now (reports_in notes)) × CountsOutFault was is fault

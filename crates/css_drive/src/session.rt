@@ -1,0 +1,8 @@
+/// A companion's session.
+#[derive(Clone, Copy)]
+pub enum Session {
+    /// Of CSS-CII.
+    Cii,
+    /// Of CSS-TS.
+    Ts,
+}

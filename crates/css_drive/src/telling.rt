@@ -1,0 +1,93 @@
+//! The observer that writes a run's reports, with what its followers say of them.
+ghost use Rattle.std.specs.Prelude.{Option, MatchResult};
+ghost use Rattle.css_drive.specs.Telling.{HasSaid, HasSaidFirst, Tells, WritesReport, audience};
+
+use crate::listens::Listens;
+use crate::observes::Observes;
+use crate::session::Session;
+use css_companion::{Report, line};
+use css_num::{Memory, Text};
+use css_outside::{Clocked, OutFault, Sink, write_all};
+use std::alloc::Global;
+
+/// Writes each report to a sink, with what the followers say of it, in one write.
+#[derive(Drop)]
+pub(crate) struct Telling<'a, K: Sink, F: Listens> {
+    pub(crate) alloc: Global,
+    pub(crate) sink: &'a mut K,
+    pub(crate) followers: &'a mut F,
+    /// Why no report is written any more, if none is.
+    pub(crate) over: Option<OutFault>,
+}
+
+/// The text of a report: its line, and after it what the followers say of it.
+fn text_of<F: Listens>(
+    alloc: Global,
+    number: u64,
+    report: &Report,
+    followers: &mut F,
+) -> Result<Text, Memory>
+    ensures told { MatchResult result
+        (HasSaid number report.now (F.heard followers.old) (F.heard followers.new))
+        (λ _. HasSaidFirst report.now (F.heard followers.old) (F.heard followers.new)) }
+{
+    let mut text = line(alloc, number, report, None)?;
+    followers.tell(report, &mut text)?;
+    Ok(text)
+}
+
+/// Writes a report's line, and after it what the followers say of it, at once. Says why not, if it fails.
+fn tell_report<K: Sink, F: Listens>(
+    alloc: Global,
+    number: u64,
+    report: &Report,
+    sink: &mut K,
+    followers: &mut F,
+) -> Option<OutFault>
+    ensures { WritesReport result (audience (K.holds sink.old) (F.heard followers.old))
+        (audience (K.holds sink.new) (F.heard followers.new)) (K.faults sink.old) (K.faults sink.new)
+        number report.now }
+{
+    match text_of(alloc, number, report, followers) {
+        Err(Memory) => Some(OutFault::Memory),
+        Ok(text) => match write_all(sink, text.bytes()) {
+            Ok(()) => None,
+            Err(fault) => Some(fault),
+        },
+    }
+}
+
+impl<K: Sink, F: Listens> Observes for Telling<'_, K, F> {
+    ghost use Rattle.std.specs.Prelude.{◌≡◌};
+
+    ghost saw = { λ started telling notes. (telling.sink.ghost_name ≡ started.sink.ghost_name)
+        × (telling.followers.ghost_name ≡ started.followers.ghost_name)
+        × Tells telling.over (audience (K.holds started.sink.now) (F.heard started.followers.now))
+        (audience (K.holds telling.sink.now) (F.heard telling.followers.now)) (K.faults started.sink.now)
+        (K.faults telling.sink.now) notes };
+
+    ghost over = { λ telling. telling.over };
+
+    fn check(&self) -> Result<(), OutFault> {
+        match self.over {
+            None => Ok(()),
+            Some(fault) => Err(fault),
+        }
+    }
+
+    fn slept(&mut self) {}
+
+    fn turned(&mut self, _clocked: &Clocked) {}
+
+    fn reported(&mut self, _clocked: &Clocked, number: u64, report: &Report) {
+        self.over = tell_report(self.alloc, number, report, self.sink, self.followers);
+    }
+
+    fn asked(&mut self, _reading: u64) {}
+
+    fn landed(&mut self, _clocked: &Clocked, _bytes: &[u8]) {}
+
+    fn heard(&mut self, _session: Session, _text: &Text) {}
+
+    fn closed(&mut self, _session: Session) {}
+}

@@ -1,0 +1,7 @@
+use Rattle.css_drive.specs.Notes as notes
+use Rattle.css_record.proofs.Records as records
+use Rattle.css_record.proofs.recorder.RecorderObserves.turned.Goals as goal
+
+pub returns : goal.returns
+returns g c started old on s =
+    (s.0, records.notes_on _ _ _ _ _ _ _ _ (notes.turn_notes c.args.clocked.now) old on s.1 (c.put-self.ensures _ c.turn_lines.ensures))
