@@ -85,13 +85,7 @@ pub fn drive_companion<K: Sink, O: Outside, F: Listens>(
                 followers,
                 over: None,
             };
-            drive_telling(
-                alloc,
-                &config,
-                &mut companion,
-                outside,
-                &mut telling,
-            )
+            drive_telling(alloc, &config, &mut companion, outside, &mut telling)
         }
     }
 }

@@ -15,7 +15,9 @@ ghost use Rattle.css_drive.specs.CompanionStanding.{hung};
 ghost use Rattle.css_drive.specs.CompanionTurns.{is_asking};
 ghost use Rattle.css_drive.specs.Proper.{Now};
 
-use crate::companion_calls::{check, end_of, hear, lose_ts, note_sleep, read, refused, send_request};
+use crate::companion_calls::{
+    check, end_of, hear, lose_ts, note_sleep, read, refused, send_request,
+};
 use crate::companion_live::Live;
 use crate::config::DriveConfig;
 use crate::driven::Driven;

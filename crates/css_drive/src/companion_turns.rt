@@ -198,9 +198,7 @@ pub fn drive<O: Outside, W: Observes>(
         ts_open: None,
     };
     'turns: while live.made < config.turns {
-        match turn(
-            alloc, config, &mut live, companion, outside, observer,
-        ) {
+        match turn(alloc, config, &mut live, companion, outside, observer) {
             Ok(()) => {}
             Err(ended) => return ended_by(observer, ended),
         }

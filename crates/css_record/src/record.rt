@@ -89,13 +89,7 @@ pub fn drive_record<K: Sink, O: Outside>(
                     sink,
                     over: None,
                 };
-                drive_recorder(
-                    alloc,
-                    &config,
-                    &mut companion,
-                    outside,
-                    &mut recorder,
-                )
+                drive_recorder(alloc, &config, &mut companion, outside, &mut recorder)
             }
         },
     }

@@ -156,17 +156,11 @@ impl<K: Sink> Observes for Recorder<'_, K> {
     }
 
     fn reported(&mut self, clocked: &Clocked, number: u64, report: &Report) {
-        self.over = put(
-            self.sink,
-            report_lines(self.alloc, clocked, number, report),
-        );
+        self.over = put(self.sink, report_lines(self.alloc, clocked, number, report));
     }
 
     fn asked(&mut self, reading: u64) {
-        self.over = put(
-            self.sink,
-            line_of(self.alloc, &RecordLine::Ask { reading }),
-        );
+        self.over = put(self.sink, line_of(self.alloc, &RecordLine::Ask { reading }));
     }
 
     fn landed(&mut self, clocked: &Clocked, bytes: &[u8]) {

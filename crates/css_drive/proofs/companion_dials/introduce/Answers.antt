@@ -71,7 +71,6 @@ returns-clause-goes g c ts at_ts before started h s k when =
     refl refl)
     (ap text_sent pt, ap (λ x. due_at c.args.config.now (text_sent x) (Wrote p text ∷ h)) pt)
 
-
 pub returns-in-Err-clause-goes : goal.returns-in-Err-clause-goes
 returns-in-Err-clause-goes g c ts at_ts before started h s k when =
     stops_by_fault s (knows_lawful _ _ h k) _ _ _ c.in-Err.ensures.told (g.W.Observes.saw started c.send.new.observer)

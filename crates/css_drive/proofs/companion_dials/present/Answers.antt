@@ -73,7 +73,6 @@ returns-clause-goes g c ts at_ts before started h s k when =
     calls.over_stops s (SendText p text) d1 (Gone p) (outcome.Gone, refl) _ gone.told gone.same after saw (knows_lawful
     _ _ h k) refl refl _ _ c.in-Err-lose_ts.ensures.err
 
-
 pub returns-in-Err-clause-goes : goal.returns-in-Err-clause-goes
 returns-in-Err-clause-goes g c ts at_ts before started h s k when =
     stops_by_fault s (knows_lawful _ _ h k) _ _ _ c.in-Err.ensures.told (g.W.Observes.saw started c.send.new.observer)

@@ -17,6 +17,7 @@ use Rattle.css_drive.proofs.CompanionSteps.{knows_lawful}
 use Rattle.css_drive.proofs.CompanionCalls as calls
 use Rattle.css_drive.proofs.CompanionEnds as ends
 use Rattle.css_drive.proofs.companion_hears.request.Goals as goal
+
 pub returns-clause-goes : goal.returns-clause-goes
 returns-clause-goes g c some before started h s k d =
     let read = c.in_ok-clocked.ensures.told in
