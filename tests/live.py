@@ -1,7 +1,8 @@
 #!/usr/bin/env python3
 """Tries `css tv` and `css companion` on real sockets against plain peers of its own, good and bad.
 
-    tests/live.py [PROGRAM ..]       the program's words before the command; ./css where there are none
+    tests/live.py [PROGRAM ..]         the program's words before the command; ./css where there are none
+    tests/live.py --edge [PROGRAM ..]  the checks of the edge alone, in live_turns.py and the files beside it
 
 A television is watched by a prober, which asks its wall clock every 2 ms all the time. Both read the same monotone
 clock of this machine, so the time from the sending of a request to its receive value is told exactly: the greatest of
@@ -13,11 +14,16 @@ import json, multiprocessing, os, socket, struct, sys, time
 
 from live_peer import (CLOSE, PING, SETUP, TEXT, Peer, connection, dial, frame, nanos, request, serves, sets_up, stamp,
                        start, television)
+from live_dials import dials
+from live_ends import ends, signals
 from live_server import against_companion
+from live_turns import turns
+from live_upgrades import upgrades
 
 HERE = os.path.dirname(os.path.abspath(__file__))
-PROGRAM = sys.argv[1:] or [os.path.join(HERE, "..", "css")]
-PORT = 10000 + os.getpid() % 600 * 32
+EDGE = sys.argv[1:2] == ["--edge"]
+PROGRAM = sys.argv[2 if EDGE else 1:] or [os.path.join(HERE, "..", "css")]
+PORT = 10000 + os.getpid() % 200 * 100  # The hundred ports from here on are this run's.
 SCRIPT = "0 programme dvb://1.2.3\n0 timeline 1 urn:dvb:css:timeline:pts 1 90000 900000\n0 change 1\n"
 LONGEST_TURN = 20_000_000
 failed = []
@@ -143,14 +149,14 @@ def refusals(port):
         check("another path is refused", "404" in str(told), told)
     peer = Peer(connection(port), True)
     peer.conn.sendall(os.urandom(400) + b"\r\n\r\n")
-    check("garbage ends its connection", peer.ending() is None)
+    check("garbage ends its connection", peer.has_ended())
     peer = Peer(connection(port), True)
     try:
         for _ in range(4000):
             peer.conn.sendall(b"GET /cii HTTP/1.1\r\n" + b"X: " + b"a" * 60 + b"\r\n")
     except OSError:
         pass
-    check("a head without end ends its connection", peer.ending() is None)
+    check("a head without end ends its connection", peer.has_ended())
     peer = dial(port, "/cii")
     peer.text()
     peer.say("a text")
@@ -161,9 +167,9 @@ def slow_head(port):
     peer = Peer(connection(port), True)
     peer.conn.sendall(b"GET /cii HT")
     begun = time.monotonic()
-    ending = peer.ending(8)
+    ended = peer.has_ended(8)
     took = time.monotonic() - begun
-    check("a handshake that stops is dropped after 5 s", ending is None and 4.5 < took < 6, f"{took:.2f} s")
+    check("a handshake that stops is dropped after 5 s", ended and 4.5 < took < 6, f"{took:.2f} s")
 
 
 def long_messages(port):
@@ -360,13 +366,22 @@ def relay(port):
 
 # ---- all of it
 
+def edge(port):
+    """What a person meets at the edge, where peers or the system don't do what they should."""
+    for call in (turns, dials, ends, signals, upgrades):
+        call(port, PROGRAM, check)
+        port += 10
+
+
 if __name__ == "__main__":
-    against_television()
-    in_use(PORT)
-    hosts(PORT + 2)
-    addresses(PORT + 4)
-    pair(PORT + 6)
-    against_companion(PORT + 8, PROGRAM, check)
-    relay(PORT + 28)
+    if not EDGE:
+        against_television()
+        in_use(PORT)
+        hosts(PORT + 2)
+        addresses(PORT + 4)
+        pair(PORT + 6)
+        against_companion(PORT + 8, PROGRAM, check)
+        relay(PORT + 28)
+    edge(PORT + 32)
     print(f"{len(failed)} failed")
     sys.exit(1 if failed else 0)

@@ -108,6 +108,16 @@ class Peer:
         except TimeoutError:
             return "nothing"
 
+    def has_ended(self, seconds=3):
+        """Whether the connection ends; what comes before is passed over."""
+        try:
+            while True:
+                self.take(1, seconds)
+        except (EOFError, ConnectionError):
+            return True
+        except TimeoutError:
+            return False
+
 
 def connection(port, room=None):
     """A connection, which takes only so many unread bytes where room is given."""

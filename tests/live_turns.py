@@ -1,0 +1,103 @@
+"""No turn of a run is used up by nothing: a run against a silent television lasts as long as its turns say, and takes
+next to nothing of a processor."""
+import socket, time
+
+from live_edge import (UPGRADED, Beside, Clock, Listener, closed_port, companion, flood, greet, hold, lasted,
+                       on_processor, reset, state, stop, teller, upgraded, wait_for)
+from live_peer import CLOSE, request, start
+
+TURNS = ("--turns", "500")
+LEAST = 1.5  # 500 turns with a pause of 4 ms take 2 seconds.
+
+
+def silent_clock(check, program, command, words=()):
+    """A wall clock that never answers, asked in each turn."""
+    clock = Clock()
+    server = Listener(teller(state(clock.port)))
+    child = companion(program, server.port, "--turns", "1000000", "--ask-every", "1", *words, command=command)
+    try:
+        if not wait_for(lambda: clock.times):
+            check(f"a {command} asks a silent wall clock", False)
+            return
+        begun, before, asked = time.monotonic(), on_processor(child.pid), len(clock.times)
+        time.sleep(2)
+        took, used, asked = time.monotonic() - begun, on_processor(child.pid) - before, len(clock.times) - asked
+        check(f"a {command} beside a silent wall clock makes at most 300 turns a second", asked <= 300 * took,
+              f"{asked / took:.0f} a second")
+        check(f"a {command} beside a silent wall clock takes under 5 % of a processor", used < 0.05 * took,
+              f"{100 * used / took:.1f} %")
+    finally:
+        stop(child)
+        clock.end()
+        server.end()
+
+
+def turns_last(check, program, name, serve):
+    """A companion makes 500 turns against a server: they last."""
+    server, begun = Listener(serve), time.monotonic()
+    took = lasted(companion(program, server.port, *TURNS, "--ask-every", "1"), begun)
+    check(name, took >= LEAST, f"500 turns in {took:.2f} s")
+    server.end()
+
+
+def pinged(peer):
+    greet(peer)
+    flood(peer, 2000, 10)
+
+
+def closing(peer):
+    greet(peer)
+    peer.say(b"\x03\xe8", CLOSE)
+    hold(peer)
+
+
+def cut(peer):
+    greet(peer)
+    peer.conn.close()
+
+
+def told_and_cut(peer):
+    greet(peer)
+    peer.say(state())
+    time.sleep(0.1)
+    reset(peer.conn)
+
+
+def dripping(peer):
+    head = peer.head()
+    for byte in upgraded(head, (*UPGRADED, "X-Long: " + "a" * 8000)):
+        peer.conn.sendall(bytes([byte]))
+        time.sleep(0.0003)
+    hold(peer)
+
+
+def answers(check, program, port):
+    """A television has a request every 3 ms: each uses one turn, so that 600 turns last 1.8 seconds."""
+    begun = time.monotonic()
+    child = start(program, ["tv", "--port", str(port), "--turns", "600"])
+    udp = socket.socket(socket.AF_INET, socket.SOCK_DGRAM)
+    udp.connect(("127.0.0.1", port))
+    while child.poll() is None and time.monotonic() < begun + 20:
+        try:
+            udp.send(request(time.monotonic_ns()))
+        except OSError:
+            pass
+        time.sleep(0.003)
+    took = lasted(child, begun)
+    check("an answer to a request uses no further turn of a television", took >= 1.5, f"600 turns in {took:.2f} s")
+
+
+def turns(port, program, check):
+    nobody = f"udp://127.0.0.1:{closed_port()}"
+    Beside([
+        (silent_clock, program, "companion", ("--reports", "1000000")),
+        (silent_clock, program, "relay", ("--port", str(port))),
+        (turns_last, program, "a wall clock where nobody listens uses up no turns",
+         teller({**state(), "wcUrl": nobody})),
+        (turns_last, program, "2,000 pings a second use up no turns", pinged),
+        (turns_last, program, "a session that was closed uses up no turns", closing),
+        (turns_last, program, "a session that was cut uses up no turns", cut),
+        (turns_last, program, "a session that ended without a wall clock uses up no turns", told_and_cut),
+        (turns_last, program, "a handshake that comes byte by byte uses up no turns", dripping),
+        (answers, program, port + 2),
+    ]).tell(check)
