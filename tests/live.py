@@ -15,8 +15,12 @@ import json, multiprocessing, os, socket, struct, sys, time
 from live_peer import (CLOSE, PING, SETUP, TEXT, Peer, connection, dial, frame, nanos, request, serves, sets_up, stamp,
                        start, television)
 from live_dials import dials
+from live_edge import Beside
 from live_ends import ends, signals
+from live_hosts import published_hosts
 from live_server import against_companion
+from live_silent import silent
+from live_system import system
 from live_turns import turns
 from live_upgrades import upgrades
 
@@ -367,10 +371,14 @@ def relay(port):
 # ---- all of it
 
 def edge(port):
-    """What a person meets at the edge, where peers or the system don't do what they should."""
-    for call in (turns, dials, ends, signals, upgrades):
+    """What a person meets at the edge, where peers or the system don't do what they should. What takes a minute of
+    silence goes on beside the others."""
+    silence = Beside([(lambda check: silent(port + 62, PROGRAM, check),)])
+    for call, ports in ((turns, 4), (dials, 2), (ends, 8), (signals, 8), (upgrades, 2), (published_hosts, 12),
+                        (system, 24)):
         call(port, PROGRAM, check)
-        port += 10
+        port += ports
+    silence.tell(check)
 
 
 if __name__ == "__main__":

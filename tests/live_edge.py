@@ -231,12 +231,12 @@ def end_of(peer, seconds=3, over=None):
         return codes, texts, "by a reset"
 
 
-def dial_soon(port, path, room=None, seconds=20):
+def dial_soon(port, path, room=None, host="127.0.0.1", seconds=20):
     """A session with a television that may not listen yet."""
     end = time.monotonic() + seconds
     while True:
         try:
-            return dial(port, path, room)
+            return dial(port, path, room, host)
         except (OSError, EOFError):
             if time.monotonic() > end:
                 raise
@@ -266,9 +266,9 @@ def runs(process):
         return False
 
 
-def long_programme(number, length):
-    """Script lines of a programme whose state is a text of at least this length, at most 60,000 bytes."""
-    lines, count = f"0 programme dvb://{number}\n", length // 3900 + 1
-    for at in range(count):
-        lines += f"0 timeline {number} {str(number) + chr(97 + at) * 3900} 1 90000 0\n"
+def long_programme(number):
+    """Script lines of a programme whose state is a text of about 120,000 bytes: quotation marks are escaped in it."""
+    lines, marks = f"0 programme dvb://{number}\n", 3900 * '"'
+    for letter in "abcdefghijklmnop":
+        lines += f"0 timeline {number} {number}{letter}{marks} 1 90000 0\n"
     return lines

@@ -97,16 +97,30 @@ def of_television(check, program, port, name, script, wanted, turns="250"):
 
 def texts_at_the_end(check, program, port):
     """A peer that reads nothing until the end of a run is then told all that was said to it: about a megabyte."""
-    due = time.monotonic_ns() + 1_500_000_000
-    script = long_programme(1, 58000) + long_programme(2, 58000)
-    script += "".join(f"{due} change {at % 2 + 1}\n" for at in range(18))
-    child = start(program, ["tv", "--port", str(port), "--turns", "600"], script)
+    due, count = time.monotonic_ns() + 2_000_000_000, 8
+    script = long_programme(1) + long_programme(2)
+    script += "".join(f"{due} change {at % 2 + 1}\n" for at in range(count))
+    child = start(program, ["tv", "--port", str(port), "--turns", "700"], script)
     witness, slow = dial_soon(port, "/cii"), dial_soon(port, "/cii", room=4096)
-    first = len(slow.told())
-    end_of(witness, 20)
+    _, wanted, _ = end_of(witness, 20)
     codes, texts, how = end_of(slow, 3)
-    check("a peer that is slow at the end of a run is told all texts", first > 0 and texts == 18, f"{texts} of 18")
+    check("a peer that is slow at the end of a run is told all texts", texts == wanted and wanted > count // 2,
+          f"{texts} of {wanted}")
     check("and the close", (codes, how) == ([1000], "in order"), (codes, how))
+    stop(child)
+
+
+def held(check, program, port):
+    """Peers that don't answer the close hold the end of a run for a second at most."""
+    child = start(program, ["tv", "--port", str(port), "--turns", "250"], SCRIPT)
+    peers = [dial_soon(port, "/cii"), dial_soon(port + 1, "/ts")]
+    peers[0].ending(10)
+    begun = time.monotonic()
+    wait_for(lambda: child.poll() is not None, 5)
+    took = time.monotonic() - begun
+    check("peers that don't answer a close hold the end of a run for a second at most", took < 2, f"{took:.2f} s")
+    for peer in peers:
+        peer.conn.close()
     stop(child)
 
 
@@ -162,6 +176,7 @@ def ends(port, program, check):
         (of_television, program, port, "that made its turns", SCRIPT, 0),
         (of_television, program, port + 2, "whose script is refused", refused, 2),
         (texts_at_the_end, program, port + 4),
+        (held, program, port + 6),
     ]).tell(check)
 
 

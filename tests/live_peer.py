@@ -119,14 +119,14 @@ class Peer:
             return False
 
 
-def connection(port, room=None):
+def connection(port, room=None, host="127.0.0.1"):
     """A connection, which takes only so many unread bytes where room is given."""
-    conn = socket.socket(socket.AF_INET, socket.SOCK_STREAM)
+    conn = socket.socket(socket.AF_INET6 if ":" in host else socket.AF_INET, socket.SOCK_STREAM)
     if room is not None:
         conn.setsockopt(socket.SOL_SOCKET, socket.SO_RCVBUF, room)
         conn.setsockopt(socket.IPPROTO_TCP, socket.TCP_MAXSEG, 536)  # The other end keeps less, too.
     conn.settimeout(5)
-    conn.connect(("127.0.0.1", port))
+    conn.connect((host, port))
     conn.setsockopt(socket.IPPROTO_TCP, socket.TCP_NODELAY, 1)
     return conn
 
@@ -136,9 +136,9 @@ def upgrade_head(port, path, key):
             f"Sec-WebSocket-Key: {key.decode()}\r\nSec-WebSocket-Version: 13\r\n\r\n").encode()
 
 
-def dial(port, path, room=None):
+def dial(port, path, room=None, host="127.0.0.1"):
     """A session that this program dials."""
-    peer = Peer(connection(port, room), True)
+    peer = Peer(connection(port, room, host), True)
     key = base64.b64encode(os.urandom(16))
     peer.conn.sendall(upgrade_head(port, path, key))
     head = peer.head()
