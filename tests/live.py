@@ -18,6 +18,7 @@ from live_dials import dials
 from live_edge import Beside
 from live_ends import ends, signals
 from live_hosts import published_hosts
+from live_names import named_hosts
 from live_server import against_companion
 from live_silent import silent
 from live_system import system
@@ -352,7 +353,7 @@ def pair(port):
 
 
 def relay(port):
-    """A companion that knows a relay alone has its wall clock and state from it, and its timeline from the television."""
+    """A companion that knows a relay alone has its wall clock and state from it, and its timeline from the other."""
     child = television(PROGRAM, port, SCRIPT, [])
     words = ["relay", "--cii", f"ws://127.0.0.1:{port}/cii", "--port", str(port + 2)]
     relay = start(PROGRAM, [*words, "--turns", "400", "--ask-every", "50000000"])
@@ -373,12 +374,13 @@ def relay(port):
 def edge(port):
     """What a person meets at the edge, where peers or the system don't do what they should. What takes a minute of
     silence goes on beside the others."""
-    silence = Beside([(lambda check: silent(port + 62, PROGRAM, check),)])
-    for call, ports in ((turns, 4), (dials, 2), (ends, 8), (signals, 8), (upgrades, 2), (published_hosts, 12),
+    long_ones = Beside([(lambda check: silent(port + 62, PROGRAM, check),),
+                        (lambda check: named_hosts(port + 66, PROGRAM, check),)])
+    for call, ports in ((turns, 6), (dials, 2), (ends, 10), (signals, 8), (upgrades, 2), (published_hosts, 10),
                         (system, 24)):
         call(port, PROGRAM, check)
         port += ports
-    silence.tell(check)
+    long_ones.tell(check)
 
 
 if __name__ == "__main__":

@@ -95,6 +95,19 @@ def of_television(check, program, port, name, script, wanted, turns="250"):
     stop(child)
 
 
+def of_relay(check, program, port):
+    """How a relay's run ends for its television, and for a peer of its own."""
+    server, ends = Television([], False), {}
+    child = companion(program, server.server.port, "--port", str(port), "--turns", "250", command="relay")
+    ends["its peer"] = pings_until_close(dial_soon(port, "/cii"))
+    ends["its television"] = server.end_of("cii")
+    check("a relay that made its turns has its status", child.wait(10) == 0, child.stderr.read().decode().strip())
+    for whose, end in ends.items():
+        told_end(check, "a relay that made its turns", whose, end)
+    stop(child)
+    server.end()
+
+
 def texts_at_the_end(check, program, port):
     """A peer that reads nothing until the end of a run is then told all that was said to it: about a megabyte."""
     due, count = time.monotonic_ns() + 2_000_000_000, 8
@@ -175,8 +188,9 @@ def ends(port, program, check):
         (of_companion, program, "that can't write its reports", [], 5, (), "/dev/full"),
         (of_television, program, port, "that made its turns", SCRIPT, 0),
         (of_television, program, port + 2, "whose script is refused", refused, 2),
-        (texts_at_the_end, program, port + 4),
-        (held, program, port + 6),
+        (of_relay, program, port + 4),
+        (texts_at_the_end, program, port + 6),
+        (held, program, port + 8),
     ]).tell(check)
 
 

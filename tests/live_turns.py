@@ -1,10 +1,10 @@
 """No turn of a run is used up by nothing: a run against a silent television lasts as long as its turns say, and takes
 next to nothing of a processor."""
-import socket, time
+import socket, struct, time
 
-from live_edge import (UPGRADED, Beside, Clock, Listener, closed_port, companion, flood, greet, hold, lasted,
+from live_edge import (UPGRADED, Beside, Clock, Listener, closed_port, companion, dial_soon, flood, greet, hold, lasted,
                        on_processor, reset, state, stop, teller, upgraded, wait_for)
-from live_peer import CLOSE, request, start
+from live_peer import CLOSE, nanos, request, start
 
 TURNS = ("--turns", "500")
 LEAST = 1.5  # 500 turns with a pause of 4 ms take 2 seconds.
@@ -87,6 +87,34 @@ def answers(check, program, port):
     check("an answer to a request uses no further turn of a television", took >= 1.5, f"600 turns in {took:.2f} s")
 
 
+def port_zero(check, program, port):
+    """A datagram from port 0 can't be answered. Twenty that come before a request don't hold that up by their pauses.
+    Only root can send one."""
+    try:
+        raw = socket.socket(socket.AF_INET, socket.SOCK_RAW, socket.IPPROTO_UDP)
+    except PermissionError as error:
+        print(f"skipped a datagram from port 0: {error}", flush=True)
+        return
+    child = start(program, ["tv", "--port", str(port), "--turns", "1000000"])
+    dial_soon(port, "/cii").conn.close()
+    udp, delays = socket.socket(socket.AF_INET, socket.SOCK_DGRAM), []
+    udp.settimeout(1)
+    udp.connect(("127.0.0.1", port))
+    for _ in range(15):
+        for _ in range(20):
+            raw.sendto(struct.pack(">HHHH", 0, port, 40, 0) + request(1), ("127.0.0.1", 0))
+        sent = time.monotonic_ns()
+        udp.send(request(sent))
+        try:
+            delays.append(nanos(udp.recv(64)[16:24]) - sent)
+        except TimeoutError:
+            pass
+        time.sleep(0.01)
+    middle = sorted(delays)[len(delays) // 2] / 1e6 if delays else 1000.0
+    check("datagrams from port 0 don't hold up a request by pauses", middle < 10, f"{middle:.2f} ms in the middle")
+    stop(child)
+
+
 def turns(port, program, check):
     nobody = f"udp://127.0.0.1:{closed_port()}"
     Beside([
@@ -100,4 +128,5 @@ def turns(port, program, check):
         (turns_last, program, "a session that ended without a wall clock uses up no turns", told_and_cut),
         (turns_last, program, "a handshake that comes byte by byte uses up no turns", dripping),
         (answers, program, port + 2),
+        (port_zero, program, port + 4),
     ]).tell(check)

@@ -126,7 +126,7 @@ def binary(check, port, path):
 def at_television(port, program, check):
     child = start(program, ["tv", "--port", str(port), "--turns", "1000000"], "0 programme dvb://1\n0 change 1\n")
     dial_soon(port, "/cii").conn.close()
-    long_head = head_of(port)[:-2] + (b"X: " + b"a" * 95 + b"\r\n") * 800
+    long_head = head_of(port)[:-2] + b"X: " + b"a" * 80_000
     early = "a request that goes on after its head"
     Beside([
         (opens, "a list of tokens in Connection makes a session", port, KEPT),
@@ -141,7 +141,10 @@ def at_television(port, program, check):
          b"\r\nsec-websocket-version: 13\r\n"),
         (refused, "a request for a page", port, head_of(port, ("Accept: text/html",), key="", version=""),
          ["400", "426"]),
-        (refused, "a head that is too long", port, long_head, ["431"]),
+        (refused, "a head that is too long", port, long_head + b"\r\n\r\n", ["431"]),
+        (refused, "a head that is too long and has no end", port, long_head, ["431"]),
+        (refused, "a head of a thousand lines", port, head_of(port)[:-2] + b"X: a\r\n" * 1000 + b"\r\n",
+         ["400", "431"]),
         (slowly, port),
         (binary, port, "/cii"),
         (binary, port + 1, "/ts"),
