@@ -1,5 +1,5 @@
 """What the checks of the edge share: plain servers for a companion, what a run takes, and checks beside one another."""
-import json, os, select, socket, struct, threading, time
+import os, select, socket, struct, subprocess, threading, time
 
 from live_peer import CLOSE, PING, TEXT, TIMELINE, Peer, accept_key, dial, start
 
@@ -102,16 +102,12 @@ def closed_port():
         return one.getsockname()[1]
 
 
-def key_of(head):
-    keys = [line.split(b":", 1)[1].strip() for line in head.split(b"\r\n")
-            if line.lower().startswith(b"sec-websocket-key:")]
-    return keys[0]
-
-
 def upgraded(head, lines=UPGRADED):
     """The answer that makes a session of this head."""
+    keys = [line.split(b":", 1)[1].strip() for line in head.split(b"\r\n")
+            if line.lower().startswith(b"sec-websocket-key:")]
     told = "\r\n".join(["HTTP/1.1 101 Switching Protocols", *lines, "Sec-WebSocket-Accept: "])
-    return told.encode() + accept_key(key_of(head)) + b"\r\n\r\n"
+    return told.encode() + accept_key(keys[0]) + b"\r\n\r\n"
 
 
 def greet(peer, lines=UPGRADED):
@@ -182,7 +178,7 @@ def lasted(child, begun, seconds=20):
     """How long a run lasted that began then; it is ended where it takes too long."""
     try:
         child.wait(seconds)
-    except Exception:
+    except subprocess.TimeoutExpired:
         pass
     took = time.monotonic() - begun
     stop(child)

@@ -71,6 +71,12 @@ def dripping(peer):
     hold(peer)
 
 
+def refusing(peer):
+    peer.head()
+    peer.conn.sendall(b"HTTP/1.1 503 Service Unavailable\r\nConnection: close\r\n\r\n")
+    peer.conn.close()
+
+
 def answers(check, program, port):
     """A television has a request every 3 ms: each uses one turn, so that 600 turns last 1.8 seconds."""
     begun = time.monotonic()
@@ -127,6 +133,8 @@ def turns(port, program, check):
         (turns_last, program, "a session that was cut uses up no turns", cut),
         (turns_last, program, "a session that ended without a wall clock uses up no turns", told_and_cut),
         (turns_last, program, "a handshake that comes byte by byte uses up no turns", dripping),
+        (turns_last, program, "a server that refuses uses up no turns", refusing),
+        (turns_last, program, "a server that hangs up uses up no turns", lambda peer: peer.conn.close()),
         (answers, program, port + 2),
         (port_zero, program, port + 4),
     ]).tell(check)

@@ -1,5 +1,5 @@
 """Handshakes of WebSocket sessions as other programs write them, and the answers to requests that are none."""
-import base64, os, socket, struct, threading, time
+import base64, os, threading, time
 
 from live_edge import UPGRADED, Beside, Listener, companion, dial_soon, end_of, greet, stop, upgraded
 from live_peer import Peer, accept_key, connection, start
