@@ -179,7 +179,7 @@ def child_of_pair(check, program, port, number):
 
 def ends(port, program, check):
     moved = {**state(), "wcUrl": "udp://127.0.0.1:9"}
-    refused = f"{SCRIPT}{time.monotonic_ns() + 800_000_000} speed 65\n"
+    refused = f"{SCRIPT}{time.monotonic_ns() + 1_500_000_000} speed 65\n"
     Beside([
         (of_companion, program, "that made its reports", [], 0, ("--reports", "5")),
         (of_companion, program, "that is told no object", [b"[]"], 7),
@@ -187,7 +187,7 @@ def ends(port, program, check):
         (of_companion, program, "that is told a bad address", [{"tsUrl": "nowhere"}], 13, (), None, ("cii",)),
         (of_companion, program, "that can't write its reports", [], 5, (), "/dev/full"),
         (of_television, program, port, "that made its turns", SCRIPT, 0),
-        (of_television, program, port + 2, "whose script is refused", refused, 2),
+        (of_television, program, port + 2, "whose script is refused", refused, 2, "2000"),
         (of_relay, program, port + 4),
         (texts_at_the_end, program, port + 6),
         (held, program, port + 8),

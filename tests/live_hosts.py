@@ -44,7 +44,7 @@ def same(host, other):
 def is_refused(child, host):
     """Whether a run refuses its words, with a sentence on its host beside the status."""
     lines = child.stderr.read().decode().splitlines()
-    return child.returncode == 1 and any(host in line or "--host" in line for line in lines[1:])
+    return child.returncode == 1 and any(host in line or "--host" in line for line in lines)
 
 
 def published(check, program, port, host, reached, command=("tv",)):

@@ -131,7 +131,8 @@ class SlowReader:
     """Reads what a witness was told too, and knows how much of it the program still keeps itself."""
 
     def __init__(self, port, peer, witness):
-        self.port, self.peer, self.witness, self.count, self.ended = port, peer, witness, 0, False
+        self.port, self.peer, self.witness, self.ended = port, peer, witness, False
+        self.count = len(peer.bytes)  # Some may have come with the handshake.
 
     def waiting(self):
         unread = struct.unpack("i", fcntl.ioctl(self.peer.conn, termios.FIONREAD, b"    "))[0]
