@@ -1,5 +1,5 @@
 """What the checks of the edge share: plain servers for a companion, what a run takes, and checks beside one another."""
-import os, select, socket, struct, subprocess, threading, time
+import os, select, socket, struct, threading, time
 
 from live_peer import CLOSE, PING, TEXT, TIMELINE, Peer, accept_key, dial, start
 
@@ -174,21 +174,25 @@ def stop(child):
     child.stderr.close()
 
 
-def lasted(child, begun, seconds=20):
-    """How long a run lasted that began then; it is ended where it takes too long."""
-    try:
-        child.wait(seconds)
-    except subprocess.TimeoutExpired:
-        pass
-    took = time.monotonic() - begun
-    stop(child)
-    return took
-
-
-def on_processor(process):
-    """How long a process was on a processor so far, in seconds."""
+def processor_times(process):
+    """How long a process was on a processor so far, and how long it waited for one, in seconds."""
     with open(f"/proc/{process}/schedstat", encoding="ascii") as file:
-        return int(file.read().split()[0]) / 1e9
+        return [int(word) / 1e9 for word in file.read().split()[:2]]
+
+
+def has_ended(child):
+    """Whether a run has ended. It is kept, so that its times can be read."""
+    return bool(os.waitid(os.P_PID, child.pid, os.WEXITED | os.WNOHANG | os.WNOWAIT))
+
+
+def pauses_of(child, begun, works=False):
+    """How long a run that began then paused: it was on no processor and waited for none. Where it works in its pauses,
+    what it did counts too. One that takes too long is ended."""
+    wait_for(lambda: has_ended(child))
+    took = time.monotonic() - begun
+    used, waited = processor_times(child.pid)
+    stop(child)
+    return took - waited - (0 if works else used)
 
 
 def wait_for(holds, seconds=20):

@@ -1,7 +1,7 @@
 """What the system may do to a run: streams that don't block, a first word that is another path, few descriptors."""
 import os, subprocess, threading, time
 
-from live_edge import Beside, dial_soon, on_processor, stop
+from live_edge import Beside, dial_soon, processor_times, stop
 from live_peer import start
 from live_server import Server
 
@@ -41,9 +41,9 @@ def quiet_input(check, program):
     time.sleep(0.3)
     waits, share = child.poll() is None, 1.0
     if waits:
-        before, begun = on_processor(child.pid), time.monotonic()
+        before, begun = processor_times(child.pid)[0], time.monotonic()
         time.sleep(0.5)
-        share = (on_processor(child.pid) - before) / (time.monotonic() - begun)
+        share = (processor_times(child.pid)[0] - before) / (time.monotonic() - begun)
     try:
         for at in range(0, len(schedule), 400):
             os.write(sink, schedule[at:at + 400])

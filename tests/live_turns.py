@@ -1,13 +1,13 @@
-"""No turn of a run is used up by nothing: a run against a silent television lasts as long as its turns say, and takes
-next to nothing of a processor."""
+"""No turn of a run is used up by nothing: a run against a silent television pauses in each turn, and takes next to
+nothing of a processor."""
 import socket, struct, time
 
-from live_edge import (UPGRADED, Beside, Clock, Listener, closed_port, companion, dial_soon, flood, greet, hold, lasted,
-                       on_processor, reset, state, stop, teller, upgraded, wait_for)
+from live_edge import (UPGRADED, Beside, Clock, Listener, closed_port, companion, dial_soon, flood, greet, has_ended,
+                       hold, pauses_of, processor_times, reset, state, stop, teller, upgraded, wait_for)
 from live_peer import CLOSE, nanos, request, start
 
 TURNS = ("--turns", "500")
-LEAST = 1.5  # 500 turns with a pause of 4 ms take 2 seconds.
+LEAST = 1.5  # In 500 turns with a pause of 4 ms, 2 seconds are pauses.
 
 
 def silent_clock(check, program, command, words=()):
@@ -19,9 +19,11 @@ def silent_clock(check, program, command, words=()):
         if not wait_for(lambda: clock.times):
             check(f"a {command} asks a silent wall clock", False)
             return
-        begun, before, asked = time.monotonic(), on_processor(child.pid), len(clock.times)
+        begun, before, asked = time.monotonic(), processor_times(child.pid), len(clock.times)
         time.sleep(2)
-        took, used, asked = time.monotonic() - begun, on_processor(child.pid) - before, len(clock.times) - asked
+        took, after, asked = time.monotonic() - begun, processor_times(child.pid), len(clock.times) - asked
+        used, waited = after[0] - before[0], after[1] - before[1]
+        took -= waited  # In which it waited for a processor it could do nothing.
         check(f"a {command} beside a silent wall clock makes at most 300 turns a second", asked <= 300 * took,
               f"{asked / took:.0f} a second")
         check(f"a {command} beside a silent wall clock takes under 5 % of a processor", used < 0.05 * took,
@@ -32,11 +34,11 @@ def silent_clock(check, program, command, words=()):
         server.end()
 
 
-def turns_last(check, program, name, serve):
-    """A companion makes 500 turns against a server: they last."""
+def turns_last(check, program, name, serve, works=False):
+    """A companion makes 500 turns against a server, with the pauses of them all."""
     server, begun = Listener(serve), time.monotonic()
-    took = lasted(companion(program, server.port, *TURNS, "--ask-every", "1"), begun)
-    check(name, took >= LEAST, f"500 turns in {took:.2f} s")
+    pauses = pauses_of(companion(program, server.port, *TURNS, "--ask-every", "1"), begun, works)
+    check(name, pauses >= LEAST, f"500 turns with pauses of {pauses:.2f} s")
     server.end()
 
 
@@ -78,19 +80,20 @@ def refusing(peer):
 
 
 def answers(check, program, port):
-    """A television has a request every 3 ms: each uses one turn, so that 600 turns last 1.8 seconds."""
+    """A television has a request every 3 ms: each uses one turn, so that 600 turns pause for about 1.8 seconds."""
     begun = time.monotonic()
     child = start(program, ["tv", "--port", str(port), "--turns", "600"])
     udp = socket.socket(socket.AF_INET, socket.SOCK_DGRAM)
     udp.connect(("127.0.0.1", port))
-    while child.poll() is None and time.monotonic() < begun + 20:
+    while not has_ended(child) and time.monotonic() < begun + 20:
         try:
             udp.send(request(time.monotonic_ns()))
         except OSError:
             pass
         time.sleep(0.003)
-    took = lasted(child, begun)
-    check("an answer to a request uses no further turn of a television", took >= 1.5, f"600 turns in {took:.2f} s")
+    pauses = pauses_of(child, begun)
+    check("an answer to a request uses no further turn of a television", pauses >= 1.2,
+          f"600 turns with pauses of {pauses:.2f} s")
 
 
 def port_zero(check, program, port):
@@ -128,11 +131,11 @@ def turns(port, program, check):
         (silent_clock, program, "relay", ("--port", str(port))),
         (turns_last, program, "a wall clock where nobody listens uses up no turns",
          teller({**state(), "wcUrl": nobody})),
-        (turns_last, program, "2,000 pings a second use up no turns", pinged),
+        (turns_last, program, "2,000 pings a second use up no turns", pinged, True),
         (turns_last, program, "a session that was closed uses up no turns", closing),
         (turns_last, program, "a session that was cut uses up no turns", cut),
         (turns_last, program, "a session that ended without a wall clock uses up no turns", told_and_cut),
-        (turns_last, program, "a handshake that comes byte by byte uses up no turns", dripping),
+        (turns_last, program, "a handshake that comes byte by byte uses up no turns", dripping, True),
         (turns_last, program, "a server that refuses uses up no turns", refusing),
         (turns_last, program, "a server that hangs up uses up no turns", lambda peer: peer.conn.close()),
         (answers, program, port + 2),
