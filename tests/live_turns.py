@@ -23,11 +23,11 @@ def silent_clock(check, program, command, words=()):
         time.sleep(2)
         took, after, asked = time.monotonic() - begun, processor_times(child.pid), len(clock.times) - asked
         used, waited = after[0] - before[0], after[1] - before[1]
-        took -= waited  # In which it waited for a processor it could do nothing.
-        check(f"a {command} beside a silent wall clock makes at most 300 turns a second", asked <= 300 * took,
-              f"{asked / took:.0f} a second")
         check(f"a {command} beside a silent wall clock takes under 5 % of a processor", used < 0.05 * took,
               f"{100 * used / took:.1f} %")
+        took -= waited  # While it waited for a processor it could make no turn.
+        check(f"a {command} beside a silent wall clock makes at most 300 turns a second", asked <= 300 * took,
+              f"{asked / took:.0f} a second")
     finally:
         stop(child)
         clock.end()
