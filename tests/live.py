@@ -21,6 +21,7 @@ from live_hosts import published_hosts
 from live_names import named_hosts
 from live_server import against_companion
 from live_silent import silent
+from live_slow import slow_reader
 from live_system import system
 from live_turns import turns
 from live_upgrades import upgrades
@@ -375,7 +376,7 @@ def edge(port):
     """What a person meets at the edge, where peers or the system don't do what they should. What takes a minute of
     silence goes on beside the others."""
     long_ones = Beside([(lambda check: silent(port + 62, PROGRAM, check),),
-                        (lambda check: named_hosts(port + 66, PROGRAM, check),)])
+                        (lambda check: named_hosts(port + 64, PROGRAM, check),), (slow_reader, PROGRAM)])
     for call, ports in ((turns, 6), (dials, 2), (ends, 10), (signals, 8), (upgrades, 2), (published_hosts, 10),
                         (system, 24)):
         call(port, PROGRAM, check)

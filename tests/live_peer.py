@@ -1,6 +1,6 @@
 """A plain peer of `css` on real sockets, by hand: WebSocket frames and handshakes, requests of the wall clock, and the
 start of the program. tests/live.py and bench/live.py are made of it."""
-import base64, hashlib, json, os, select, socket, struct, subprocess, time
+import atexit, base64, hashlib, json, os, select, socket, struct, subprocess, time
 
 TEXT, CLOSE, PING, PONG = 1, 8, 9, 10
 TIMELINE = "urn:dvb:css:timeline:pts"
@@ -183,9 +183,21 @@ def request(now):
     return bytes(8) + stamp(now) + bytes(16)
 
 
+STARTED = []
+
+
+@atexit.register
+def end_started():
+    """Ends the runs that still go on, such as those of a check that didn't go through."""
+    for child in STARTED:
+        if child.poll() is None:
+            child.kill()
+
+
 def start(program, words, given=""):
     """A run of the program with these words and this standard input."""
     child = subprocess.Popen(program + words, stdin=subprocess.PIPE, stdout=subprocess.PIPE, stderr=subprocess.PIPE)
+    STARTED.append(child)
     try:
         child.stdin.write(given.encode())
         child.stdin.close()
