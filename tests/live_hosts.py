@@ -42,9 +42,9 @@ def same(host, other):
 
 
 def is_refused(child, host):
-    """Whether a run refuses its words, with a sentence on its host beside the status."""
+    """Whether a run refuses its words or its host, with a sentence on that."""
     lines = child.stderr.read().decode().splitlines()
-    return child.returncode == 1 and any(host in line or "--host" in line for line in lines)
+    return child.returncode in (1, 6) and any(host in line or "--host" in line for line in lines)
 
 
 def published(check, program, port, host, reached, command=("tv",)):

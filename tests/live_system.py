@@ -78,12 +78,14 @@ def slow_output(check, program):
     child.stderr.close()
 
 
-def file_of(program, port):
-    """The file that the system runs for these words, once all else that they name has run."""
+def running(program, port):
+    """The file that the system runs for these words, and the words before the command, once a script has ended."""
     child = start(program, ["tv", "--port", str(port), "--turns", "1000000"], SCRIPT)
     try:
         dial_soon(port, "/cii").conn.close()
-        return os.readlink(f"/proc/{child.pid}/exe")
+        with open(f"/proc/{child.pid}/cmdline", encoding="utf-8") as file:
+            words = file.read().split("\0")
+        return os.readlink(f"/proc/{child.pid}/exe"), words[:words.index("tv")]
     finally:
         stop(child)
 
@@ -103,7 +105,7 @@ def first_word(check, program, port, word):
 def descriptors(check, program, port, most):
     """A companion may have so many descriptors: it makes its reports, or tells that it can't."""
     server = Server(port)
-    limited = ["sh", "-c", f'ulimit -n {most}; exec "$@"', "sh", program]
+    limited = ["sh", "-c", f'ulimit -n {most}; exec "$@"', "sh", *program]
     child = start(limited, ["companion", "--cii", f"ws://127.0.0.1:{port}/cii", "--reports", "2", "--report-every",
                             "300000000", "--ask-every", "50000000", "--turns", "2000"])
     lines, errors = child.stdout.read().decode().splitlines(), child.stderr.read().decode().strip()
@@ -115,14 +117,14 @@ def descriptors(check, program, port, most):
 
 
 def system(port, program, check):
-    file = file_of(program, port)
-    if os.path.basename(file).startswith("ld"):
-        print("skipped first words and descriptors: a loader runs the program", flush=True)
-        Beside([(quiet_input, program), (slow_output, program)]).tell(check)
-        return
+    file, words = running(program, port)
+    first = ("/no/such/css", "/bin/true", "css")
+    if len(words) > 1:
+        print("skipped first words: a loader runs the program", flush=True)
+        first = ()
     Beside([
         (quiet_input, program),
         (slow_output, program),
-        *[(first_word, file, port + 2 * at, word) for at, word in enumerate(("/no/such/css", "/bin/true", "css"))],
-        *[(descriptors, file, port + 6 + 2 * most, most) for most in (4, 5, 6, 7, 8)],
+        *[(first_word, file, port + 2 * at, word) for at, word in enumerate(first)],
+        *[(descriptors, words, port + 6 + 2 * at, most) for at, most in enumerate((4, 5, 6, 7, 8))],
     ]).tell(check)
