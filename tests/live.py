@@ -1,7 +1,8 @@
 #!/usr/bin/env python3
 """Tries `css tv` and `css companion` on real sockets against plain peers of its own, good and bad.
 
-    tests/live.py [PROGRAM ..]       the program's words before the command; ./css where there are none
+    tests/live.py [PROGRAM ..]         the program's words before the command; ./css where there are none
+    tests/live.py --edge [PROGRAM ..]  the checks of the edge alone, in live_turns.py and the files beside it
 
 A television is watched by a prober, which asks its wall clock every 2 ms all the time. Both read the same monotone
 clock of this machine, so the time from the sending of a request to its receive value is told exactly: the greatest of
@@ -13,11 +14,22 @@ import json, multiprocessing, os, socket, struct, sys, time
 
 from live_peer import (CLOSE, PING, SETUP, TEXT, Peer, connection, dial, frame, nanos, request, serves, sets_up, stamp,
                        start, television)
+from live_dials import dials
+from live_edge import Beside
+from live_ends import ends, signals
+from live_hosts import published_hosts
+from live_names import named_hosts
 from live_server import against_companion
+from live_silent import silent
+from live_slow import slow_reader
+from live_system import system
+from live_turns import turns
+from live_upgrades import upgrades
 
 HERE = os.path.dirname(os.path.abspath(__file__))
-PROGRAM = sys.argv[1:] or [os.path.join(HERE, "..", "css")]
-PORT = 10000 + os.getpid() % 600 * 32
+EDGE = sys.argv[1:2] == ["--edge"]
+PROGRAM = sys.argv[2 if EDGE else 1:] or [os.path.join(HERE, "..", "css")]
+PORT = 10000 + os.getpid() % 200 * 100  # The hundred ports from here on are this run's.
 SCRIPT = "0 programme dvb://1.2.3\n0 timeline 1 urn:dvb:css:timeline:pts 1 90000 900000\n0 change 1\n"
 LONGEST_TURN = 20_000_000
 failed = []
@@ -143,14 +155,14 @@ def refusals(port):
         check("another path is refused", "404" in str(told), told)
     peer = Peer(connection(port), True)
     peer.conn.sendall(os.urandom(400) + b"\r\n\r\n")
-    check("garbage ends its connection", peer.ending() is None)
+    check("garbage ends its connection", peer.has_ended())
     peer = Peer(connection(port), True)
     try:
         for _ in range(4000):
             peer.conn.sendall(b"GET /cii HTTP/1.1\r\n" + b"X: " + b"a" * 60 + b"\r\n")
     except OSError:
         pass
-    check("a head without end ends its connection", peer.ending() is None)
+    check("a head without end ends its connection", peer.has_ended())
     peer = dial(port, "/cii")
     peer.text()
     peer.say("a text")
@@ -161,9 +173,9 @@ def slow_head(port):
     peer = Peer(connection(port), True)
     peer.conn.sendall(b"GET /cii HT")
     begun = time.monotonic()
-    ending = peer.ending(8)
+    ended = peer.has_ended(8)
     took = time.monotonic() - begun
-    check("a handshake that stops is dropped after 5 s", ending is None and 4.5 < took < 6, f"{took:.2f} s")
+    check("a handshake that stops is dropped after 5 s", ended and 4.5 < took < 6, f"{took:.2f} s")
 
 
 def long_messages(port):
@@ -310,21 +322,21 @@ def status_of(words, given=""):
 
 
 def hosts(port):
-    for host, wanted in (("0.0.0.0", 0), ("[::]", 0), ("localhost", 0), ("192.0.2.1", 6), ("no-such-name.invalid", 6),
-                         ("a b", 1)):
+    for host, wanted in (("localhost", 0), ("192.0.2.1", 6), ("no-such-name.invalid", 6), ("a b", 1)):
         told = status_of(["tv", "--port", str(port), "--turns", "1", "--host", host], SCRIPT)
         check(f"a television at the host '{host}'", told[0] == wanted, told)
 
 
 def addresses(port):
     """A companion reaches a television by some of these, and has no answer by the others."""
-    child = television(PROGRAM, port, SCRIPT, ["--host", "0.0.0.0"])
-    rest = ["--reports", "1", "--report-every", "300000000"]
-    for url, wanted in (("ws://127.0.0.1:{}/cii", "1 ticks "), ("ws://localhost:{}/cii", "1 ticks "),
-                        ("ws://user:word@127.0.0.1:{}/cii", "1 ticks "), ("ws://127.0.0.1:{}/cii#part", "1 ticks "),
-                        ("ws://127.0.0.1:0/cii", "1 none NoAnswer"), ("ws://127.0.0.1:{}/other", "1 none NoAnswer"),
-                        ("ws://no-such-name.invalid:{}/cii", "1 none NoAnswer")):
-        companion = start(PROGRAM, ["companion", "--cii", url.format(port), *rest])
+    child = television(PROGRAM, port, SCRIPT)
+    rest = ["--reports", "1", "--report-every", "1200000000"]
+    urls = (("ws://127.0.0.1:{}/cii", "1 ticks "), ("ws://localhost:{}/cii", "1 ticks "),
+            ("ws://user:word@127.0.0.1:{}/cii", "1 ticks "), ("ws://127.0.0.1:{}/cii#part", "1 ticks "),
+            ("ws://127.0.0.1:0/cii", "1 none NoAnswer"), ("ws://127.0.0.1:{}/other", "1 none NoAnswer"),
+            ("ws://no-such-name.invalid:{}/cii", "1 none NoAnswer"))
+    companions = [start(PROGRAM, ["companion", "--cii", url.format(port), *rest]) for url, _ in urls]
+    for (url, wanted), companion in zip(urls, companions):
         line = companion.stdout.read().decode().strip()
         check(f"a companion of {url.format('PORT')}", companion.wait(60) == 0 and line.startswith(wanted), line)
     told = status_of(["companion", "--cii", f"http://127.0.0.1:{port}/cii", *rest])
@@ -342,7 +354,7 @@ def pair(port):
 
 
 def relay(port):
-    """A companion that knows a relay alone has its wall clock and state from it, and its timeline from the television."""
+    """A companion that knows a relay alone has its wall clock and state from it, and its timeline from the other."""
     child = television(PROGRAM, port, SCRIPT, [])
     words = ["relay", "--cii", f"ws://127.0.0.1:{port}/cii", "--port", str(port + 2)]
     relay = start(PROGRAM, [*words, "--turns", "400", "--ask-every", "50000000"])
@@ -360,13 +372,27 @@ def relay(port):
 
 # ---- all of it
 
+def edge(port):
+    """What a person meets at the edge, where peers or the system don't do what they should. What takes a minute of
+    silence goes on beside the others."""
+    long_ones = Beside([(lambda check: silent(port + 62, PROGRAM, check),),
+                        (lambda check: named_hosts(port + 64, PROGRAM, check),), (slow_reader, PROGRAM)])
+    for call, ports in ((turns, 6), (dials, 2), (ends, 10), (signals, 8), (upgrades, 2), (published_hosts, 10),
+                        (system, 16)):
+        call(port, PROGRAM, check)
+        port += ports
+    long_ones.tell(check)
+
+
 if __name__ == "__main__":
-    against_television()
-    in_use(PORT)
-    hosts(PORT + 2)
-    addresses(PORT + 4)
-    pair(PORT + 6)
-    against_companion(PORT + 8, PROGRAM, check)
-    relay(PORT + 28)
+    if not EDGE:
+        against_television()
+        in_use(PORT)
+        hosts(PORT + 2)
+        addresses(PORT + 4)
+        pair(PORT + 6)
+        against_companion(PORT + 8, PROGRAM, check)
+        relay(PORT + 28)
+    edge(PORT + 32)
     print(f"{len(failed)} failed")
     sys.exit(1 if failed else 0)

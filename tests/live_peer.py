@@ -1,6 +1,6 @@
 """A plain peer of `css` on real sockets, by hand: WebSocket frames and handshakes, requests of the wall clock, and the
 start of the program. tests/live.py and bench/live.py are made of it."""
-import base64, hashlib, json, os, select, socket, struct, subprocess, time
+import atexit, base64, hashlib, json, os, select, socket, struct, subprocess, time
 
 TEXT, CLOSE, PING, PONG = 1, 8, 9, 10
 TIMELINE = "urn:dvb:css:timeline:pts"
@@ -108,15 +108,25 @@ class Peer:
         except TimeoutError:
             return "nothing"
 
+    def has_ended(self, seconds=3):
+        """Whether the connection ends; what comes before is passed over."""
+        try:
+            while True:
+                self.take(1, seconds)
+        except (EOFError, ConnectionError):
+            return True
+        except TimeoutError:
+            return False
 
-def connection(port, room=None):
+
+def connection(port, room=None, host="127.0.0.1"):
     """A connection, which takes only so many unread bytes where room is given."""
-    conn = socket.socket(socket.AF_INET, socket.SOCK_STREAM)
+    conn = socket.socket(socket.AF_INET6 if ":" in host else socket.AF_INET, socket.SOCK_STREAM)
     if room is not None:
         conn.setsockopt(socket.SOL_SOCKET, socket.SO_RCVBUF, room)
         conn.setsockopt(socket.IPPROTO_TCP, socket.TCP_MAXSEG, 536)  # The other end keeps less, too.
     conn.settimeout(5)
-    conn.connect(("127.0.0.1", port))
+    conn.connect((host, port))
     conn.setsockopt(socket.IPPROTO_TCP, socket.TCP_NODELAY, 1)
     return conn
 
@@ -126,9 +136,9 @@ def upgrade_head(port, path, key):
             f"Sec-WebSocket-Key: {key.decode()}\r\nSec-WebSocket-Version: 13\r\n\r\n").encode()
 
 
-def dial(port, path, room=None):
+def dial(port, path, room=None, host="127.0.0.1"):
     """A session that this program dials."""
-    peer = Peer(connection(port, room), True)
+    peer = Peer(connection(port, room, host), True)
     key = base64.b64encode(os.urandom(16))
     peer.conn.sendall(upgrade_head(port, path, key))
     head = peer.head()
@@ -173,9 +183,21 @@ def request(now):
     return bytes(8) + stamp(now) + bytes(16)
 
 
+STARTED = []
+
+
+@atexit.register
+def end_started():
+    """Ends the runs that still go on, such as those of a check that didn't go through."""
+    for child in STARTED:
+        if child.poll() is None:
+            child.kill()
+
+
 def start(program, words, given=""):
     """A run of the program with these words and this standard input."""
     child = subprocess.Popen(program + words, stdin=subprocess.PIPE, stdout=subprocess.PIPE, stderr=subprocess.PIPE)
+    STARTED.append(child)
     try:
         child.stdin.write(given.encode())
         child.stdin.close()

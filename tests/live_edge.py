@@ -1,0 +1,274 @@
+"""What the checks of the edge share: plain servers for a companion, what a run takes, and checks beside one another."""
+import os, select, socket, struct, threading, time
+
+from live_peer import CLOSE, PING, TEXT, TIMELINE, Peer, accept_key, dial, start
+
+UPGRADED = ("Upgrade: websocket", "Connection: Upgrade")
+FAULTS = (EOFError, OSError, ValueError, IndexError)
+
+
+class Recorder:
+    """Keeps checks, to be told later."""
+
+    def __init__(self):
+        self.kept = []
+
+    def __call__(self, name, holds, told=""):
+        self.kept.append((name, holds, told))
+
+
+class Beside:
+    """Calls that go on beside one another. Each is a function and its words, and is handed a check of its own first."""
+
+    def __init__(self, calls):
+        self.recorders = [Recorder() for _ in calls]
+        self.threads = [threading.Thread(target=self.make, args=(recorder, *call), daemon=True)
+                        for recorder, call in zip(self.recorders, calls)]
+        for thread in self.threads:
+            thread.start()
+
+    @staticmethod
+    def make(recorder, call, *words):
+        try:
+            call(recorder, *words)
+        except Exception as error:
+            recorder(f"{call.__name__} goes through", False, repr(error))
+
+    def tell(self, check):
+        """Waits for all of them, and tells their checks in order."""
+        for thread, recorder in zip(self.threads, self.recorders):
+            thread.join()
+            for kept in recorder.kept:
+                check(*kept)
+
+
+# ---- servers
+
+class Listener:
+    """Takes connections, notes when each came, and hands it to a function in a thread of its own."""
+
+    def __init__(self, serve, port=0, host="127.0.0.1"):
+        family = socket.AF_INET6 if ":" in host else socket.AF_INET
+        self.socket = socket.socket(family, socket.SOCK_STREAM)
+        self.socket.setsockopt(socket.SOL_SOCKET, socket.SO_REUSEADDR, 1)
+        self.socket.bind((host, port))
+        self.socket.listen(64)
+        self.port, self.times, self.serve = self.socket.getsockname()[1], [], serve
+        threading.Thread(target=self.take, daemon=True).start()
+
+    def take(self):
+        while True:
+            try:
+                conn, _ = self.socket.accept()
+            except OSError:
+                return
+            self.times.append(time.monotonic())
+            conn.setsockopt(socket.IPPROTO_TCP, socket.TCP_NODELAY, 1)
+            threading.Thread(target=self.hand, args=(conn,), daemon=True).start()
+
+    def hand(self, conn):
+        try:
+            self.serve(Peer(conn, False))
+        except FAULTS:
+            pass
+
+    def end(self):
+        self.socket.close()
+
+
+class Clock:
+    """A socket of datagrams that answers nothing, and notes when each came."""
+
+    def __init__(self):
+        self.socket = socket.socket(socket.AF_INET, socket.SOCK_DGRAM)
+        self.socket.bind(("127.0.0.1", 0))
+        self.port, self.times, self.ends = self.socket.getsockname()[1], [], False
+        threading.Thread(target=self.take, daemon=True).start()
+
+    def take(self):
+        while not self.ends:
+            if select.select([self.socket], [], [], 0.1)[0]:
+                self.socket.recv(64)
+                self.times.append(time.monotonic())
+
+    def end(self):
+        self.ends = True
+
+
+def closed_port():
+    """A port at which nobody listens."""
+    with socket.socket(socket.AF_INET, socket.SOCK_STREAM) as one:
+        one.bind(("127.0.0.1", 0))
+        return one.getsockname()[1]
+
+
+def upgraded(head, lines=UPGRADED):
+    """The answer that makes a session of this head."""
+    keys = [line.split(b":", 1)[1].strip() for line in head.split(b"\r\n")
+            if line.lower().startswith(b"sec-websocket-key:")]
+    told = "\r\n".join(["HTTP/1.1 101 Switching Protocols", *lines, "Sec-WebSocket-Accept: "])
+    return told.encode() + accept_key(keys[0]) + b"\r\n\r\n"
+
+
+def greet(peer, lines=UPGRADED):
+    """Makes a session of a connection. Its head."""
+    head = peer.head()
+    peer.conn.sendall(upgraded(head, lines))
+    return head
+
+
+def state(clock=None, timestamps=None):
+    """A state with a wall clock and timestamps at these ports of this machine."""
+    return {"protocolVersion": "1.1", "contentId": "dvb://1.2.3", "contentIdStatus": "final",
+            "presentationStatus": "okay", "mrsUrl": None, "teUrl": None,
+            "wcUrl": f"udp://127.0.0.1:{clock}" if clock else None,
+            "tsUrl": f"ws://127.0.0.1:{timestamps}/ts" if timestamps else None,
+            "timelines": [{"timelineSelector": TIMELINE,
+                           "timelineProperties": {"unitsPerTick": 1, "unitsPerSecond": 90000}}]}
+
+
+def hold(peer, seconds=60):
+    """Keeps a session open: what comes is passed over, and a ping isn't answered. Its close is answered."""
+    end = time.monotonic() + seconds
+    while time.monotonic() < end:
+        try:
+            opcode, payload = peer.hear(end - time.monotonic())
+        except TimeoutError:
+            return
+        if opcode == CLOSE:
+            peer.say(payload, CLOSE)
+            return
+
+
+def teller(*texts):
+    """A server that tells these texts on each session, and keeps it open."""
+    def serve(peer):
+        greet(peer)
+        for text in texts:
+            peer.say(text)
+        hold(peer)
+    return serve
+
+
+def flood(peer, count, seconds):
+    """Sends so many pings a second, in bursts of one millisecond."""
+    burst, end = max(1, count // 1000), time.monotonic() + seconds
+    while time.monotonic() < end:
+        for _ in range(burst):
+            peer.say(b"p", PING)
+        time.sleep(burst / count)
+
+
+# ---- runs
+
+def companion(program, port, *words, command="companion"):
+    """A run against the server at this port."""
+    return start(program, [command, "--cii", f"ws://127.0.0.1:{port}/cii", *words])
+
+
+def stop(child):
+    """Ends a run that still goes on."""
+    child.kill()
+    child.wait()
+    child.stdout.close()
+    child.stderr.close()
+
+
+def processor_times(process):
+    """How long a process was on a processor so far, and how long it waited for one, in seconds."""
+    with open(f"/proc/{process}/schedstat", encoding="ascii") as file:
+        return [int(word) / 1e9 for word in file.read().split()[:2]]
+
+
+def has_ended(child):
+    """Whether a run has ended. It is kept, so that its times can be read."""
+    return bool(os.waitid(os.P_PID, child.pid, os.WEXITED | os.WNOHANG | os.WNOWAIT))
+
+
+def pauses_of(child, begun, works=False):
+    """How long a run that began then paused: it was on no processor and waited for none. Where it works in its pauses,
+    what it did counts too. One that takes too long is ended."""
+    wait_for(lambda: has_ended(child))
+    took = time.monotonic() - begun
+    used, waited = processor_times(child.pid)
+    stop(child)
+    return took - waited - (0 if works else used)
+
+
+def wait_for(holds, seconds=20):
+    """Waits until something holds, and tells whether it does."""
+    end = time.monotonic() + seconds
+    while not holds() and time.monotonic() < end:
+        time.sleep(0.005)
+    return bool(holds())
+
+
+def reset(conn):
+    """Ends a connection at once, so that its other end is told of a reset."""
+    conn.setsockopt(socket.SOL_SOCKET, socket.SO_LINGER, struct.pack("ii", 1, 0))
+    conn.close()
+
+
+def end_of(peer, seconds=3, over=None):
+    """How a connection ends: the codes of the close frames on it and how many texts came before, and whether it was
+    ended in order, by a reset, or not at all. A close is answered; `over` is set before."""
+    codes, texts = [], 0
+    try:
+        while True:
+            opcode, payload = peer.hear(seconds)
+            texts += opcode == TEXT
+            if opcode == CLOSE:
+                codes.append(struct.unpack(">H", payload[:2])[0] if payload else 1005)
+                if over:
+                    over.set()
+                peer.say(payload, CLOSE)
+                peer.conn.shutdown(socket.SHUT_WR)
+    except EOFError:
+        return codes, texts, "in order"
+    except TimeoutError:
+        return codes, texts, "not at all"
+    except OSError:
+        return codes, texts, "by a reset"
+
+
+def dial_soon(port, path, room=None, host="127.0.0.1", seconds=20):
+    """A session with a television that may not listen yet."""
+    end = time.monotonic() + seconds
+    while True:
+        try:
+            return dial(port, path, room, host)
+        except (OSError, EOFError):
+            if time.monotonic() > end:
+                raise
+            time.sleep(0.02)
+
+
+def children_of(process):
+    """The processes that a process started and that haven't ended."""
+    found = []
+    for name in os.listdir("/proc"):
+        try:
+            with open(f"/proc/{name}/stat", encoding="utf-8") as file:
+                words = file.read().rsplit(")", 1)[1].split()
+            if name.isdigit() and words[0] != "Z" and int(words[1]) == process:
+                found.append(int(name))
+        except (OSError, IndexError):
+            pass
+    return found
+
+
+def runs(process):
+    """Whether a process hasn't ended yet."""
+    try:
+        with open(f"/proc/{process}/stat", encoding="utf-8") as file:
+            return file.read().rsplit(")", 1)[1].split()[0] != "Z"
+    except OSError:
+        return False
+
+
+def long_programme(number):
+    """Script lines of a programme whose state is a text of about 120,000 bytes: quotation marks are escaped in it."""
+    lines, marks = f"0 programme dvb://{number}\n", 3900 * '"'
+    for letter in "abcdefghijklmnop":
+        lines += f"0 timeline {number} {number}{letter}{marks} 1 90000 0\n"
+    return lines

@@ -1,0 +1,202 @@
+"""How a run ends: each peer is told all texts and a close frame, and no connection is reset. No child stays behind."""
+import os, signal, threading, time
+
+from live_edge import (Beside, Clock, Listener, children_of, companion, dial_soon, end_of, greet, long_programme, runs,
+                       state, stop, wait_for)
+from live_peer import PING, SETUP, start
+
+CONTROL = {"contentTime": "900000", "wallClockTime": "0", "timelineSpeedMultiplier": 1}
+SCRIPT = "0 programme dvb://1\n0 timeline 1 urn:dvb:css:timeline:pts 1 90000 0\n0 change 1\n"
+
+
+def pings_until_close(peer, seconds=20):
+    """Says pings until the session is closed, so that something unread waits at the other end all the time. How the
+    session ends."""
+    over = threading.Event()
+
+    def say():
+        try:
+            while not over.is_set():
+                peer.say(b"p" * 100, PING)
+                time.sleep(0.0005)
+        except OSError:
+            pass
+    threading.Thread(target=say, daemon=True).start()
+    codes, _, how = end_of(peer, seconds, over)
+    over.set()
+    return codes, how
+
+
+def told_end(check, name, kind, end):
+    """Whether a session was closed, and its connection then ended in order."""
+    check(f"{name}: the session of {kind} is closed with 1000, and not reset", end == ([1000], "in order"), end)
+
+
+class Television:
+    """A server of both sessions that tells these texts after its state, and notes how each session ends."""
+
+    def __init__(self, texts, has_ts=True):
+        self.ends, self.clock = {}, Clock()
+        self.timestamps = Listener(self.ts)
+        self.texts = [state(self.clock.port, self.timestamps.port if has_ts else None), *texts]
+        self.server = Listener(self.cii)
+
+    def cii(self, peer):
+        greet(peer)
+        peer.say(self.texts[0])
+        for text in self.texts[1:]:
+            time.sleep(0.3)
+            peer.say(text)
+        self.ends["cii"] = pings_until_close(peer)
+
+    def ts(self, peer):
+        greet(peer)
+        peer.say(CONTROL)
+        self.ends["ts"] = pings_until_close(peer)
+
+    def end_of(self, kind):
+        wait_for(lambda: kind in self.ends, 3)
+        return self.ends.get(kind, "nothing")
+
+    def end(self):
+        for one in (self.clock, self.timestamps, self.server):
+            one.end()
+
+
+def of_companion(check, program, name, texts, wanted, words=(), output=None, kinds=("cii", "ts")):
+    """How a companion's run ends against such a television."""
+    server = Television(texts, "ts" in kinds)
+    program = program if output is None else ["sh", "-c", f'exec "$@" >{output}', "sh", *program]
+    child = companion(program, server.server.port, "--turns", "3000", "--report-every", "200000000", *words)
+    status = child.wait(30)
+    told = child.stderr.read().decode().strip()
+    stop(child)
+    check(f"a companion {name} has its status", status == wanted, (status, told))
+    for kind in kinds:
+        told_end(check, f"a companion {name}", kind, server.end_of(kind))
+    server.end()
+
+
+def of_television(check, program, port, name, script, wanted, turns="250"):
+    """How a television's run ends for two peers."""
+    child = start(program, ["tv", "--port", str(port), "--turns", turns], script)
+    ends, peers = {}, [("cii", dial_soon(port, "/cii")), ("ts", dial_soon(port + 1, "/ts"))]
+    peers[1][1].say(SETUP)
+    threads = [threading.Thread(target=lambda kind=kind, peer=peer: ends.update({kind: pings_until_close(peer)}))
+               for kind, peer in peers]
+    for thread in threads:
+        thread.start()
+    for thread in threads:
+        thread.join()
+    status = child.wait(10)
+    check(f"a television {name} has its status", status == wanted, (status, child.stderr.read().decode().strip()))
+    for kind in ("cii", "ts"):
+        told_end(check, f"a television {name}", kind, ends.get(kind, "nothing"))
+    stop(child)
+
+
+def of_relay(check, program, port):
+    """How a relay's run ends for its television, and for a peer of its own."""
+    server, ends = Television([], False), {}
+    child = companion(program, server.server.port, "--port", str(port), "--turns", "250", command="relay")
+    ends["its peer"] = pings_until_close(dial_soon(port, "/cii"))
+    ends["its television"] = server.end_of("cii")
+    check("a relay that made its turns has its status", child.wait(10) == 0, child.stderr.read().decode().strip())
+    for whose, end in ends.items():
+        told_end(check, "a relay that made its turns", whose, end)
+    stop(child)
+    server.end()
+
+
+def texts_at_the_end(check, program, port):
+    """A peer that reads nothing until the end of a run is then told all that was said to it: about a megabyte."""
+    due, count = time.monotonic_ns() + 2_000_000_000, 8
+    script = long_programme(1) + long_programme(2)
+    script += "".join(f"{due} change {at % 2 + 1}\n" for at in range(count))
+    child = start(program, ["tv", "--port", str(port), "--turns", "700"], script)
+    witness, slow = dial_soon(port, "/cii"), dial_soon(port, "/cii", room=4096)
+    _, wanted, _ = end_of(witness, 20)
+    codes, texts, how = end_of(slow, 3)
+    check("a peer that is slow at the end of a run is told all texts", texts == wanted and wanted > count // 2,
+          f"{texts} of {wanted}")
+    check("and the close", (codes, how) == ([1000], "in order"), (codes, how))
+    stop(child)
+
+
+def held(check, program, port):
+    """Peers that don't answer the close hold the end of a run for a second at most."""
+    child = start(program, ["tv", "--port", str(port), "--turns", "250"], SCRIPT)
+    peers = [dial_soon(port, "/cii"), dial_soon(port + 1, "/ts")]
+    peers[0].ending(10)
+    begun = time.monotonic()
+    wait_for(lambda: child.poll() is not None, 5)
+    took = time.monotonic() - begun
+    check("peers that don't answer a close hold the end of a run for a second at most", took < 2, f"{took:.2f} s")
+    for peer in peers:
+        peer.conn.close()
+    stop(child)
+
+
+def television_at(check, program, port, number):
+    """A signal ends a television as its last turn would."""
+    child = start(program, ["tv", "--port", str(port), "--turns", "1000000"], SCRIPT)
+    peers = [("cii", dial_soon(port, "/cii")), ("ts", dial_soon(port + 1, "/ts"))]
+    time.sleep(0.2)
+    child.send_signal(number)
+    for kind, peer in peers:
+        codes, _, how = end_of(peer, 3)
+        told_end(check, f"a television at {number.name}", kind, (codes, how))
+    check(f"a television at {number.name} ends within 2 seconds", wait_for(lambda: child.poll() is not None, 2))
+    stop(child)
+
+
+def companion_at(check, program, number):
+    """A signal ends a companion as its last report would."""
+    server = Television([])
+    child = companion(program, server.server.port, "--turns", "1000000", "--reports", "1000000")
+    wait_for(lambda: server.timestamps.times)
+    time.sleep(0.2)
+    child.send_signal(number)
+    for kind in ("cii", "ts"):
+        told_end(check, f"a companion at {number.name}", kind, server.end_of(kind))
+    check(f"a companion at {number.name} ends within 2 seconds", wait_for(lambda: child.poll() is not None, 2))
+    stop(child)
+    server.end()
+
+
+def child_of_pair(check, program, port, number):
+    """A pair that is ended by a signal of its own, which its child doesn't get."""
+    child = start(program, ["pair", "--port", str(port), "--reports", "1000", "--report-every", "100000000"], SCRIPT)
+    child.stdout.readline()
+    started = children_of(child.pid)
+    child.send_signal(number)
+    ended = wait_for(lambda: child.poll() is not None and not any(map(runs, started)), 3)
+    check(f"a pair at {number.name} leaves no child behind", ended and len(started) == 1, f"{len(started)} started")
+    for one in filter(runs, started):
+        os.kill(one, signal.SIGKILL)
+    stop(child)
+
+
+def ends(port, program, check):
+    moved = {**state(), "wcUrl": "udp://127.0.0.1:9"}
+    refused = f"{SCRIPT}{time.monotonic_ns() + 1_500_000_000} speed 65\n"
+    Beside([
+        (of_companion, program, "that made its reports", [], 0, ("--reports", "5")),
+        (of_companion, program, "that is told no object", [b"[]"], 7),
+        (of_companion, program, "whose television moves", [moved], 8),
+        (of_companion, program, "that is told a bad address", [{"tsUrl": "nowhere"}], 13, (), None, ("cii",)),
+        (of_companion, program, "that can't write its reports", [], 5, (), "/dev/full"),
+        (of_television, program, port, "that made its turns", SCRIPT, 0),
+        (of_television, program, port + 2, "whose script is refused", refused, 2, "2000"),
+        (of_relay, program, port + 4),
+        (texts_at_the_end, program, port + 6),
+        (held, program, port + 8),
+    ]).tell(check)
+
+
+def signals(port, program, check):
+    """What SIGINT and SIGTERM do. A program that can't hear them leaves this out."""
+    Beside([(call, program, port + at * 4 + place, number)
+            for at, number in enumerate((signal.SIGINT, signal.SIGTERM))
+            for place, call in ((0, television_at), (2, child_of_pair))]
+           + [(companion_at, program, number) for number in (signal.SIGINT, signal.SIGTERM)]).tell(check)

@@ -1,0 +1,97 @@
+"""Names of hosts: one with two addresses, and one that nobody knows. They need a file of hosts and a server of names of
+their own, which only root can put in the place of the machine's, for the program alone."""
+import json, os, socket, struct, subprocess, tempfile, threading, time
+
+from live_edge import Beside, stop
+from live_peer import TEXT, start
+from live_server import Server, state_of
+
+NAME, UNKNOWN, RESOLVER = "two-homes", "nobody.example", "127.0.0.77"
+MOUNT = 'mount --bind "$0/hosts" /etc/hosts && mount --bind "$0/resolv.conf" /etc/resolv.conf && exec "$@"'
+
+
+class Names:
+    """A server of names that knows none, and notes which were asked for their IPv4 addresses."""
+
+    def __init__(self):
+        self.socket = socket.socket(socket.AF_INET, socket.SOCK_DGRAM)
+        self.socket.bind((RESOLVER, 53))
+        self.asked = []
+        threading.Thread(target=self.answer, daemon=True).start()
+
+    def answer(self):
+        while True:
+            try:
+                query, sender = self.socket.recvfrom(512)
+            except OSError:
+                return
+            at, labels = 12, []
+            while query[at]:
+                labels.append(query[at + 1:at + 1 + query[at]].decode())
+                at += 1 + query[at]
+            if struct.unpack(">H", query[at + 1:at + 3])[0] == 1:
+                self.asked.append(".".join(labels))
+            # The query with the marks of an answer, and of a name that isn't there.
+            self.socket.sendto(query[:2] + b"\x81\x83" + query[4:at + 5], sender)
+
+
+def words_with(folder):
+    """The words that run a program with a name of two addresses, and with the server of names above."""
+    with open(os.path.join(folder, "hosts"), "w", encoding="ascii") as file:
+        file.write(f"127.0.0.1 localhost\n::1 {NAME}\n127.0.0.1 {NAME}\n")
+    with open(os.path.join(folder, "resolv.conf"), "w", encoding="ascii") as file:
+        file.write(f"nameserver {RESOLVER}\n")
+    return ["unshare", "-m", "sh", "-c", MOUNT, folder]
+
+
+def addresses(words):
+    """The addresses of the name, in the order of the resolver; none where that can't be tried."""
+    ask = f"import socket; print(*[one[4][0] for one in socket.getaddrinfo('{NAME}', 1, type=socket.SOCK_STREAM)])"
+    try:
+        return subprocess.run([*words, "python3", "-c", ask], capture_output=True, timeout=10).stdout.decode().split()
+    except (OSError, subprocess.SubprocessError):
+        return []
+
+
+class Named(Server):
+    """A television at the name's last address."""
+
+    def cii(self, peer):
+        told = {"wcUrl": f"udp://{NAME}:{self.port}", "tsUrl": f"ws://{NAME}:{self.port + 1}/ts"}
+        peer.say(json.dumps({**state_of(self.port), **told}).encode(), TEXT)
+
+
+def two_homes(check, program, port, words):
+    """A television is at the second of two addresses of a name."""
+    server = Named(port)
+    child = start([*words, *program], ["companion", "--cii", f"ws://{NAME}:{port}/cii", "--reports", "5",
+                                       "--report-every", "500000000", "--turns", "3000"])
+    lines = child.stdout.read().decode().splitlines()
+    last = lines[-1] if lines else child.stderr.read().decode()
+    check("a wall clock at the second address of its name is asked", child.wait(20) == 0
+          and last.startswith("5 ticks "), last)
+    server.end()
+
+
+def unknown(check, program, names, words):
+    """A name that nobody knows is looked up once in five seconds."""
+    child = start([*words, *program],
+                  ["companion", "--cii", f"ws://{UNKNOWN}:6677/cii", "--turns", "1000000", "--reports", "1000000"])
+    time.sleep(6.5)
+    count = names.asked.count(UNKNOWN)
+    stop(child)
+    check("a name that isn't found is looked up at most once in 5 seconds", 1 <= count <= 2, f"{count} times in 6.5 s")
+
+
+def named_hosts(port, program, check):
+    with tempfile.TemporaryDirectory() as folder:
+        words = words_with(folder)
+        try:
+            names = Names()
+        except OSError as error:
+            print(f"skipped names of hosts: {error}", flush=True)
+            return
+        if addresses(words) != ["::1", "127.0.0.1"]:
+            print("skipped names of hosts: no file can be put in the place of the machine's", flush=True)
+            return
+        Beside([(two_homes, program, port, words), (unknown, program, names, words)]).tell(check)

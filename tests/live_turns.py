@@ -1,0 +1,143 @@
+"""No turn of a run is used up by nothing: a run against a silent television pauses in each turn, and takes next to
+nothing of a processor."""
+import socket, struct, time
+
+from live_edge import (UPGRADED, Beside, Clock, Listener, closed_port, companion, dial_soon, flood, greet, has_ended,
+                       hold, pauses_of, processor_times, reset, state, stop, teller, upgraded, wait_for)
+from live_peer import CLOSE, nanos, request, start
+
+TURNS = ("--turns", "500")
+LEAST = 1.5  # In 500 turns with a pause of 4 ms, 2 seconds are pauses.
+
+
+def silent_clock(check, program, command, words=()):
+    """A wall clock that never answers, asked in each turn."""
+    clock = Clock()
+    server = Listener(teller(state(clock.port)))
+    child = companion(program, server.port, "--turns", "1000000", "--ask-every", "1", *words, command=command)
+    try:
+        if not wait_for(lambda: clock.times):
+            check(f"a {command} asks a silent wall clock", False)
+            return
+        begun, before, asked = time.monotonic(), processor_times(child.pid), len(clock.times)
+        time.sleep(2)
+        took, after, asked = time.monotonic() - begun, processor_times(child.pid), len(clock.times) - asked
+        used, waited = after[0] - before[0], after[1] - before[1]
+        check(f"a {command} beside a silent wall clock takes under 5 % of a processor", used < 0.05 * took,
+              f"{100 * used / took:.1f} %")
+        took -= waited  # While it waited for a processor it could make no turn.
+        check(f"a {command} beside a silent wall clock makes at most 300 turns a second", asked <= 300 * took,
+              f"{asked / took:.0f} a second")
+    finally:
+        stop(child)
+        clock.end()
+        server.end()
+
+
+def turns_last(check, program, name, serve, works=False):
+    """A companion makes 500 turns against a server, with the pauses of them all."""
+    server, begun = Listener(serve), time.monotonic()
+    pauses = pauses_of(companion(program, server.port, *TURNS, "--ask-every", "1"), begun, works)
+    check(name, pauses >= LEAST, f"500 turns with pauses of {pauses:.2f} s")
+    server.end()
+
+
+def pinged(peer):
+    greet(peer)
+    flood(peer, 2000, 10)
+
+
+def closing(peer):
+    greet(peer)
+    peer.say(b"\x03\xe8", CLOSE)
+    hold(peer)
+
+
+def cut(peer):
+    greet(peer)
+    peer.conn.close()
+
+
+def told_and_cut(peer):
+    greet(peer)
+    peer.say(state())
+    time.sleep(0.1)
+    reset(peer.conn)
+
+
+def dripping(peer):
+    head = peer.head()
+    for byte in upgraded(head, (*UPGRADED, "X-Long: " + "a" * 8000)):
+        peer.conn.sendall(bytes([byte]))
+        time.sleep(0.0003)
+    hold(peer)
+
+
+def refusing(peer):
+    peer.head()
+    peer.conn.sendall(b"HTTP/1.1 503 Service Unavailable\r\nConnection: close\r\n\r\n")
+    peer.conn.close()
+
+
+def answers(check, program, port):
+    """A television has a request every 3 ms: each uses one turn, so that 600 turns pause for about 1.8 seconds."""
+    begun = time.monotonic()
+    child = start(program, ["tv", "--port", str(port), "--turns", "600"])
+    udp = socket.socket(socket.AF_INET, socket.SOCK_DGRAM)
+    udp.connect(("127.0.0.1", port))
+    while not has_ended(child) and time.monotonic() < begun + 20:
+        try:
+            udp.send(request(time.monotonic_ns()))
+        except OSError:
+            pass
+        time.sleep(0.003)
+    pauses = pauses_of(child, begun)
+    check("an answer to a request uses no further turn of a television", pauses >= 1.2,
+          f"600 turns with pauses of {pauses:.2f} s")
+
+
+def port_zero(check, program, port):
+    """A datagram from port 0 can't be answered. Twenty that come before a request don't hold that up by their pauses.
+    Only root can send one."""
+    try:
+        raw = socket.socket(socket.AF_INET, socket.SOCK_RAW, socket.IPPROTO_UDP)
+    except PermissionError as error:
+        print(f"skipped a datagram from port 0: {error}", flush=True)
+        return
+    child = start(program, ["tv", "--port", str(port), "--turns", "1000000"])
+    dial_soon(port, "/cii").conn.close()
+    udp, delays = socket.socket(socket.AF_INET, socket.SOCK_DGRAM), []
+    udp.settimeout(1)
+    udp.connect(("127.0.0.1", port))
+    for _ in range(15):
+        for _ in range(20):
+            raw.sendto(struct.pack(">HHHH", 0, port, 40, 0) + request(1), ("127.0.0.1", 0))
+        sent = time.monotonic_ns()
+        udp.send(request(sent))
+        try:
+            delays.append(nanos(udp.recv(64)[16:24]) - sent)
+        except TimeoutError:
+            pass
+        time.sleep(0.01)
+    middle = sorted(delays)[len(delays) // 2] / 1e6 if delays else 1000.0
+    check("datagrams from port 0 don't hold up a request by pauses", middle < 10, f"{middle:.2f} ms in the middle")
+    stop(child)
+
+
+def turns(port, program, check):
+    nobody = f"udp://127.0.0.1:{closed_port()}"
+    Beside([
+        (silent_clock, program, "companion", ("--reports", "1000000")),
+        (silent_clock, program, "relay", ("--port", str(port))),
+        (turns_last, program, "a wall clock where nobody listens uses up no turns",
+         teller({**state(), "wcUrl": nobody})),
+        (turns_last, program, "2,000 pings a second use up no turns", pinged, True),
+        (turns_last, program, "a session that was closed uses up no turns", closing),
+        (turns_last, program, "a session that was cut uses up no turns", cut),
+        (turns_last, program, "a session that ended without a wall clock uses up no turns", told_and_cut),
+        (turns_last, program, "a handshake that comes byte by byte uses up no turns", dripping, True),
+        (turns_last, program, "a server that refuses uses up no turns", refusing),
+        (turns_last, program, "a server that hangs up uses up no turns", lambda peer: peer.conn.close()),
+        (answers, program, port + 2),
+        (port_zero, program, port + 4),
+    ]).tell(check)
