@@ -16,7 +16,7 @@ from live_peer import (CLOSE, PING, SETUP, TEXT, Peer, connection, dial, frame, 
                        start, television)
 from live_dials import dials
 from live_edge import Beside
-from live_ends import ends, signals
+from live_ends import ends
 from live_hosts import published_hosts
 from live_names import named_hosts
 from live_server import against_companion
@@ -377,7 +377,7 @@ def edge(port):
     silence goes on beside the others."""
     long_ones = Beside([(lambda check: silent(port + 62, PROGRAM, check),),
                         (lambda check: named_hosts(port + 64, PROGRAM, check),), (slow_reader, PROGRAM)])
-    for call, ports in ((turns, 6), (dials, 2), (ends, 10), (signals, 8), (upgrades, 2), (published_hosts, 10),
+    for call, ports in ((turns, 6), (dials, 2), (ends, 10), (upgrades, 2), (published_hosts, 10),
                         (system, 16)):
         call(port, PROGRAM, check)
         port += ports

@@ -243,29 +243,6 @@ def dial_soon(port, path, room=None, host="127.0.0.1", seconds=20):
             time.sleep(0.02)
 
 
-def children_of(process):
-    """The processes that a process started and that haven't ended."""
-    found = []
-    for name in os.listdir("/proc"):
-        try:
-            with open(f"/proc/{name}/stat", encoding="utf-8") as file:
-                words = file.read().rsplit(")", 1)[1].split()
-            if name.isdigit() and words[0] != "Z" and int(words[1]) == process:
-                found.append(int(name))
-        except (OSError, IndexError):
-            pass
-    return found
-
-
-def runs(process):
-    """Whether a process hasn't ended yet."""
-    try:
-        with open(f"/proc/{process}/stat", encoding="utf-8") as file:
-            return file.read().rsplit(")", 1)[1].split()[0] != "Z"
-    except OSError:
-        return False
-
-
 def long_programme(number):
     """Script lines of a programme whose state is a text of about 120,000 bytes: quotation marks are escaped in it."""
     lines, marks = f"0 programme dvb://{number}\n", 3900 * '"'

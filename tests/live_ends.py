@@ -1,8 +1,8 @@
-"""How a run ends: each peer is told all texts and a close frame, and no connection is reset. No child stays behind."""
-import os, signal, threading, time
+"""How a run ends: each peer is told all texts and a close frame, and no connection is reset."""
+import threading, time
 
-from live_edge import (Beside, Clock, Listener, children_of, companion, dial_soon, end_of, greet, long_programme, runs,
-                       state, stop, wait_for)
+from live_edge import (Beside, Clock, Listener, companion, dial_soon, end_of, greet, long_programme, state, stop,
+                       wait_for)
 from live_peer import PING, SETUP, start
 
 CONTROL = {"contentTime": "900000", "wallClockTime": "0", "timelineSpeedMultiplier": 1}
@@ -137,46 +137,6 @@ def held(check, program, port):
     stop(child)
 
 
-def television_at(check, program, port, number):
-    """A signal ends a television as its last turn would."""
-    child = start(program, ["tv", "--port", str(port), "--turns", "1000000"], SCRIPT)
-    peers = [("cii", dial_soon(port, "/cii")), ("ts", dial_soon(port + 1, "/ts"))]
-    time.sleep(0.2)
-    child.send_signal(number)
-    for kind, peer in peers:
-        codes, _, how = end_of(peer, 3)
-        told_end(check, f"a television at {number.name}", kind, (codes, how))
-    check(f"a television at {number.name} ends within 2 seconds", wait_for(lambda: child.poll() is not None, 2))
-    stop(child)
-
-
-def companion_at(check, program, number):
-    """A signal ends a companion as its last report would."""
-    server = Television([])
-    child = companion(program, server.server.port, "--turns", "1000000", "--reports", "1000000")
-    wait_for(lambda: server.timestamps.times)
-    time.sleep(0.2)
-    child.send_signal(number)
-    for kind in ("cii", "ts"):
-        told_end(check, f"a companion at {number.name}", kind, server.end_of(kind))
-    check(f"a companion at {number.name} ends within 2 seconds", wait_for(lambda: child.poll() is not None, 2))
-    stop(child)
-    server.end()
-
-
-def child_of_pair(check, program, port, number):
-    """A pair that is ended by a signal of its own, which its child doesn't get."""
-    child = start(program, ["pair", "--port", str(port), "--reports", "1000", "--report-every", "100000000"], SCRIPT)
-    child.stdout.readline()
-    started = children_of(child.pid)
-    child.send_signal(number)
-    ended = wait_for(lambda: child.poll() is not None and not any(map(runs, started)), 3)
-    check(f"a pair at {number.name} leaves no child behind", ended and len(started) == 1, f"{len(started)} started")
-    for one in filter(runs, started):
-        os.kill(one, signal.SIGKILL)
-    stop(child)
-
-
 def ends(port, program, check):
     moved = {**state(), "wcUrl": "udp://127.0.0.1:9"}
     refused = f"{SCRIPT}{time.monotonic_ns() + 1_500_000_000} speed 65\n"
@@ -192,11 +152,3 @@ def ends(port, program, check):
         (texts_at_the_end, program, port + 6),
         (held, program, port + 8),
     ]).tell(check)
-
-
-def signals(port, program, check):
-    """What SIGINT and SIGTERM do. A program that can't hear them leaves this out."""
-    Beside([(call, program, port + at * 4 + place, number)
-            for at, number in enumerate((signal.SIGINT, signal.SIGTERM))
-            for place, call in ((0, television_at), (2, child_of_pair))]
-           + [(companion_at, program, number) for number in (signal.SIGINT, signal.SIGTERM)]).tell(check)
