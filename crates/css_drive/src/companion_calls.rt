@@ -1,5 +1,6 @@
 //! Single calls of a companion's run.
-ghost use Rattle.std.specs.Prelude.{◌≡◌, ◌≤◌, [], ◌∷◌, ℕ, List, Option, MatchResult, IfOk, IfErr, OnOk, OnErr, None, Some};
+ghost use Rattle.std.specs.Prelude.{◌≡◌, ◌≤◌, [], ◌∷◌, ℕ, List, Option, None, Some};
+ghost use Rattle.std.specs.Prelude.{MatchResult, IfOk, IfErr, OnOk, OnErr};
 ghost use Rattle.css_model.specs.History.{Entry, History};
 ghost use Rattle.css_model.specs.History.{Sent};
 ghost use Rattle.css_outside.specs.Faults.{CountsOutFault, HasRisen};

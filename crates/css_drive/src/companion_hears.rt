@@ -132,7 +132,8 @@ pub fn take<O: Outside, W: Observes>(
     requires { companion.old.client.floor ≤ (O.counts outside.old).last }
     ensures goes { Leads W.saw W.over config.now
         (at (O.told outside.old) (O.counts outside.old) live.old companion.old observer.old)
-        (at (O.told outside.new) (O.counts outside.new) live.new companion.new observer.new) from_take from_cii_text result }
+        (at (O.told outside.new) (O.counts outside.new) live.new companion.new observer.new)
+        from_take from_cii_text result }
     ensures floor { OnOk result (companion.new.client.floor ≤ (O.counts outside.new).last) }
     ensures keeps { Keeps (O.counts outside.old) (O.counts outside.new) live.old live.new }
     ensures early { IfErr result IsEarly }
@@ -176,7 +177,8 @@ pub fn hear_cii<O: Outside, W: Observes>(
     requires { companion.old.client.floor ≤ (O.counts outside.old).last }
     ensures goes { Leads W.saw W.over config.now
         (at (O.told outside.old) (O.counts outside.old) live.old companion.old observer.old)
-        (at (O.told outside.new) (O.counts outside.new) live.new companion.new observer.new) from_cii_text from_ts_text result }
+        (at (O.told outside.new) (O.counts outside.new) live.new companion.new observer.new)
+        from_cii_text from_ts_text result }
     ensures floor { OnOk result (companion.new.client.floor ≤ (O.counts outside.new).last) }
     ensures keeps { Keeps (O.counts outside.old) (O.counts outside.new) live.old live.new }
     ensures early { IfErr result IsEarly }
@@ -224,7 +226,8 @@ pub fn hear_ts<O: Outside, W: Observes>(
     requires { companion.old.client.floor ≤ (O.counts outside.old).last }
     ensures goes { Leads W.saw W.over config.now
         (at (O.told outside.old) (O.counts outside.old) live.old companion.old observer.old)
-        (at (O.told outside.new) (O.counts outside.new) live.new companion.new observer.new) from_ts_text from_end result }
+        (at (O.told outside.new) (O.counts outside.new) live.new companion.new observer.new)
+        from_ts_text from_end result }
     ensures floor { OnOk result (companion.new.client.floor ≤ (O.counts outside.new).last) }
     ensures keeps { Keeps (O.counts outside.old) (O.counts outside.new) live.old live.new }
     ensures early { IfErr result IsEarly }
