@@ -13,7 +13,7 @@ use std::alloc::Global;
 pub struct NetOutside<R: NetRuntime> {
     rt: R,
     tally: Tally,
-    sockets: Sockets<R>,
+    sockets: Sockets,
 }
 
 impl<R: NetRuntime> NetOutside<R> {
@@ -22,7 +22,7 @@ impl<R: NetRuntime> NetOutside<R> {
         NetOutside {
             rt,
             tally: Tally::new(),
-            sockets: Sockets::new(alloc, rt),
+            sockets: Sockets::new(alloc),
         }
     }
 
@@ -30,7 +30,7 @@ impl<R: NetRuntime> NetOutside<R> {
     /// Call it when the run is over.
     pub fn end(&mut self) {
         // What can't be told now never can.
-        let _ = self.sockets.end();
+        let _ = self.sockets.end(&self.rt);
     }
 }
 
@@ -40,13 +40,13 @@ impl<R: NetRuntime> Outside for NetOutside<R> {
     ghost counts = { λ outside. outside.tally };
 
     fn listen(&mut self, host: &Text, port: u16) -> Result<(), OutFault> {
-        let listens = self.sockets.listen(host, port);
+        let listens = self.sockets.listen(&self.rt, host, port);
         self.tally.plain(listens)
     }
 
     fn now(&mut self, why: Why) -> Result<Clocked, OutFault> {
         let begun = match why {
-            Why::Turn => self.sockets.begin_turn(),
+            Why::Turn => self.sockets.begin_turn(&self.rt),
             _ => Ok(()),
         };
         match begun {
@@ -59,7 +59,7 @@ impl<R: NetRuntime> Outside for NetOutside<R> {
         let Some(peer) = self.tally.next_peer() else {
             return self.tally.not_dialled(OutFault::Failed);
         };
-        let dialled = self.sockets.dial(kind, to, peer);
+        let dialled = self.sockets.dial(&self.rt, kind, to, peer);
         self.tally.dialled(peer, dialled)
     }
 
@@ -67,7 +67,7 @@ impl<R: NetRuntime> Outside for NetOutside<R> {
         let Some(peer) = self.tally.next_peer() else {
             return self.tally.plain(Err(OutFault::Failed));
         };
-        let came = self.sockets.accept(peer);
+        let came = self.sockets.accept(&self.rt, peer);
         self.tally.opened(peer, came)
     }
 
@@ -77,22 +77,22 @@ impl<R: NetRuntime> Outside for NetOutside<R> {
     }
 
     fn take_datagram(&mut self, into: &mut [u8; 64]) -> Result<Option<(u32, usize)>, OutFault> {
-        let taken = self.sockets.take_datagram(into);
+        let taken = self.sockets.take_datagram(&self.rt, into);
         self.tally.plain(taken)
     }
 
     fn take_text(&mut self, peer: u32) -> Result<Heard, OutFault> {
-        let heard = self.sockets.take_text(peer);
+        let heard = self.sockets.take_text(&self.rt, peer);
         self.tally.plain(heard)
     }
 
     fn send_text(&mut self, peer: u32, text: &[u8]) -> Result<Wrote, OutFault> {
-        let wrote = self.sockets.send_text(peer, text);
+        let wrote = self.sockets.send_text(&self.rt, peer, text);
         self.tally.plain(wrote)
     }
 
     fn hang_up(&mut self, peer: u32) -> Result<(), OutFault> {
-        let hung_up = self.sockets.hang_up(peer);
+        let hung_up = self.sockets.hang_up(&self.rt, peer);
         self.tally.plain(hung_up)
     }
 }

@@ -35,10 +35,9 @@ pub trait NetRuntime: Net + Clock + RandomSource + Copy {}
 
 impl<R: Net + Clock + RandomSource + Copy> NetRuntime for R {}
 
-/// The sockets of one end.
-pub(crate) struct Sockets<R: NetRuntime> {
+/// The sockets of one end. Each call that needs the runtime is handed it, so that the type has no bounds.
+pub(crate) struct Sockets {
     alloc: Global,
-    rt: R,
     watch: Watch,
     /// Whether the watch was not asked since the last look for a datagram.
     stale: bool,
@@ -51,8 +50,14 @@ pub(crate) struct Sockets<R: NetRuntime> {
     partings: Partings,
 }
 
-fn time<R: NetRuntime>(rt: &R) -> u64 {
+fn time<C: Clock>(rt: &C) -> u64 {
     monotone(rt).unwrap_or(0)
+}
+
+/// What is left of a pause that began then.
+fn left<C: Clock>(rt: &C, begun: u64) -> Duration {
+    let over = begun.saturating_add(PAUSE);
+    Duration::from_nanos(over.saturating_sub(time(rt)))
 }
 
 /// The name under which a session is watched.
@@ -61,11 +66,10 @@ fn name_of(peer: u32) -> usize {
 }
 
 // One function drops its many parts: what holds the sockets needn't see them.
-impl<R: NetRuntime> Drop for Sockets<R> {
+impl Drop for Sockets {
     fn drop(self) {
         let Sockets {
             alloc: _,
-            rt: _,
             watch: _,
             stale: _,
             paused: _,
@@ -78,12 +82,11 @@ impl<R: NetRuntime> Drop for Sockets<R> {
     }
 }
 
-impl<R: NetRuntime> Sockets<R> {
+impl Sockets {
     /// None is open.
-    pub(crate) fn new(alloc: Global, rt: R) -> Sockets<R> {
+    pub(crate) fn new(alloc: Global) -> Sockets {
         Sockets {
             alloc,
-            rt,
             watch: Watch::new(alloc),
             stale: true,
             paused: true,
@@ -110,39 +113,33 @@ impl<R: NetRuntime> Sockets<R> {
     }
 
     /// Waits until something comes on a session, or the pause is over, and notes where it came.
-    fn gather(&mut self, pause: Duration) -> Result<(), OutFault> {
+    fn gather<C: Clock>(&mut self, rt: &C, pause: Duration) -> Result<(), OutFault> {
         self.stale = false;
-        let named = self.watch.wait(&self.rt, pause).map_err(fault_of)?;
+        let named = self.watch.wait(rt, pause).map_err(fault_of)?;
         for name in named {
             self.mark(name);
         }
-        let now = time(&self.rt);
+        let now = time(rt);
         self.sessions.mind(now);
         self.partings.turn(now);
         Ok(())
     }
 
     /// Notes once in each turn what has come on the sessions.
-    fn look(&mut self) -> Result<(), OutFault> {
+    fn look<C: Clock>(&mut self, rt: &C) -> Result<(), OutFault> {
         if self.stale {
-            self.gather(Duration::ZERO)?;
+            self.gather(rt, Duration::ZERO)?;
         }
         Ok(())
     }
 
-    /// What is left of a pause that began then.
-    fn left(&self, begun: u64) -> Duration {
-        let over = begun.saturating_add(PAUSE);
-        Duration::from_nanos(over.saturating_sub(time(&self.rt)))
-    }
-
     /// A turn begins. Where the turn before had neither a pause nor a datagram there is a pause now, so that no peer
     /// can use turns up but by datagrams.
-    pub(crate) fn begin_turn(&mut self) -> Result<(), OutFault> {
+    pub(crate) fn begin_turn<C: Clock>(&mut self, rt: &C) -> Result<(), OutFault> {
         if !self.paused {
-            let begun = time(&self.rt);
-            self.gather(self.left(begun))?;
-            thread::sleep(&self.rt, self.left(begun));
+            let begun = time(rt);
+            self.gather(rt, left(rt, begun))?;
+            thread::sleep(rt, left(rt, begun));
         }
         self.paused = false;
         Ok(())
@@ -152,31 +149,37 @@ impl<R: NetRuntime> Sockets<R> {
 
     /// Listens at an address, and for sessions of CSS-TS at the next port. All addresses of this machine at once can't
     /// be listened at: nobody could dial what is then published.
-    fn listen_at(&mut self, address: SocketAddr, next_port: u16) -> Result<(), OutFault> {
+    fn listen_at<R: Net>(
+        &mut self,
+        rt: &R,
+        address: SocketAddr,
+        next_port: u16,
+    ) -> Result<(), OutFault> {
         if address.ip().is_unspecified() {
             return Err(OutFault::Failed);
         }
         let mut next = address;
         next.set_port(next_port);
-        let listener = self
-            .datagrams
-            .listener(&self.rt, address)
-            .map_err(fault_of)?;
-        self.upgrades
-            .listen(&self.rt, &mut self.watch, address, next)?;
+        let listener = self.datagrams.listener(rt, address).map_err(fault_of)?;
+        self.upgrades.listen(rt, &mut self.watch, address, next)?;
         self.datagrams.listen(listener);
         Ok(())
     }
 
     /// Listens at the first address of the host that is free.
-    pub(crate) fn listen(&mut self, host: &Text, port: u16) -> Result<(), OutFault> {
+    pub(crate) fn listen<R: Net>(
+        &mut self,
+        rt: &R,
+        host: &Text,
+        port: u16,
+    ) -> Result<(), OutFault> {
         let Some(next_port) = port.checked_add(1) else {
             return Err(OutFault::Failed);
         };
-        let addresses = addresses_of(self.alloc, &self.rt, host, port).map_err(fault_of)?;
+        let addresses = addresses_of(self.alloc, rt, host, port).map_err(fault_of)?;
         let mut last = OutFault::Failed;
         for address in &addresses {
-            match self.listen_at(*address, next_port) {
+            match self.listen_at(rt, *address, next_port) {
                 Ok(()) => return Ok(()),
                 Err(OutFault::Memory) => return Err(OutFault::Memory),
                 Err(fault) => last = fault,
@@ -224,15 +227,19 @@ impl<R: NetRuntime> Sockets<R> {
     }
 
     /// The next session that a peer opened. It becomes this peer's.
-    pub(crate) fn accept(&mut self, peer: u32) -> Result<Option<Kind>, OutFault>
+    pub(crate) fn accept<R: Net + Clock>(
+        &mut self,
+        rt: &R,
+        peer: u32,
+    ) -> Result<Option<Kind>, OutFault>
         ensures { IfOk result (λ came. IfSome came IsSession) }
     {
-        self.look()?;
+        self.look(rt)?;
         if self.upgrades.is_idle() {
             return Ok(None);
         }
-        let now = time(&self.rt);
-        self.upgrades.connect(&self.rt, &mut self.watch, now)?;
+        let now = time(rt);
+        self.upgrades.connect(rt, &mut self.watch, now)?;
         let Some((service, line)) = self.next_upgrade(now)? else {
             return Ok(None);
         };
@@ -245,9 +252,16 @@ impl<R: NetRuntime> Sockets<R> {
 
     // ---- a companion's sockets
 
-    fn call(&mut self, kind: Kind, to: &Address, peer: u32, now: u64) -> Result<(), OutFault> {
+    fn call<R: Net + RandomSource>(
+        &mut self,
+        rt: &R,
+        kind: Kind,
+        to: &Address,
+        peer: u32,
+        now: u64,
+    ) -> Result<(), OutFault> {
         let caller = self.dials.of(kind);
-        let Some(line) = caller.go_on(&self.rt, &mut self.watch, to, now)? else {
+        let Some(line) = caller.go_on(rt, &mut self.watch, to, now)? else {
             return Err(OutFault::Failed);
         };
         let line = self.renamed(line, peer).map_err(fault_of)?;
@@ -255,41 +269,52 @@ impl<R: NetRuntime> Sockets<R> {
     }
 
     /// Opens a session, or the socket of datagrams, for this peer. A dial that isn't done goes on at the next.
-    pub(crate) fn dial(&mut self, kind: Kind, to: &Address, peer: u32) -> Result<(), OutFault> {
-        let now = time(&self.rt);
+    pub(crate) fn dial<R: Net + Clock + RandomSource>(
+        &mut self,
+        rt: &R,
+        kind: Kind,
+        to: &Address,
+        peer: u32,
+    ) -> Result<(), OutFault> {
+        let now = time(rt);
         match kind {
             Kind::Wc => {
                 let reached = self.dials.cii.reached();
-                self.datagrams.dial(&self.rt, to, reached, peer, now)
+                self.datagrams.dial(rt, to, reached, peer, now)
             }
-            Kind::Cii | Kind::Ts => self.call(kind, to, peer, now),
+            Kind::Cii | Kind::Ts => self.call(rt, kind, to, peer, now),
         }
     }
 
     // ---- datagrams
 
     /// Waits for a datagram. A pause that was cut for nothing goes on.
-    fn wait_for(&mut self, into: &mut [u8; 64]) -> Result<Option<(u32, usize)>, OutFault>
+    fn wait_for<C: Clock>(
+        &mut self,
+        rt: &C,
+        into: &mut [u8; 64],
+    ) -> Result<Option<(u32, usize)>, OutFault>
         ensures room { IfOk result FitsRoom }
     {
-        let begun = time(&self.rt);
+        let begun = time(rt);
         for _ in 0..MOST_CUTS {
-            let left = self.left(begun);
+            let left = left(rt, begun);
             if left == Duration::ZERO {
                 return Ok(None);
             }
-            self.datagrams.wait(&self.rt, left)?;
+            self.datagrams.wait(rt, left)?;
             if let Some(taken) = self.datagrams.take(into)? {
                 return Ok(Some(taken));
             }
         }
-        thread::sleep(&self.rt, self.left(begun));
+        thread::sleep(rt, left(rt, begun));
         Ok(None)
     }
 
     /// The next datagram. Where none has come it is waited for.
-    pub(crate) fn take_datagram(
+    pub(crate) fn take_datagram<C: Clock>(
         &mut self,
+        rt: &C,
         into: &mut [u8; 64],
     ) -> Result<Option<(u32, usize)>, OutFault>
         ensures room { IfOk result FitsRoom }
@@ -299,7 +324,7 @@ impl<R: NetRuntime> Sockets<R> {
         if let Some(taken) = self.datagrams.take(into)? {
             return Ok(Some(taken));
         }
-        self.wait_for(into)
+        self.wait_for(rt, into)
     }
 
     pub(crate) fn send_datagram(&self, peer: u32, bytes: &[u8; 32]) -> Result<(), OutFault> {
@@ -308,8 +333,8 @@ impl<R: NetRuntime> Sockets<R> {
 
     // ---- sessions
 
-    fn part(&mut self, peer: u32) -> Result<(), OutFault> {
-        let now = time(&self.rt);
+    fn part<C: Clock>(&mut self, rt: &C, peer: u32) -> Result<(), OutFault> {
+        let now = time(rt);
         match self.sessions.part(peer) {
             Some(line) => self.partings.add(name_of(peer), line, now),
             None => Ok(()),
@@ -317,37 +342,42 @@ impl<R: NetRuntime> Sockets<R> {
     }
 
     /// What a session has to tell.
-    pub(crate) fn take_text(&mut self, peer: u32) -> Result<Heard, OutFault> {
-        self.look()?;
-        let now = time(&self.rt);
+    pub(crate) fn take_text<C: Clock>(&mut self, rt: &C, peer: u32) -> Result<Heard, OutFault> {
+        self.look(rt)?;
+        let now = time(rt);
         let heard = self.sessions.hear(peer, now)?;
         if matches!(heard, Heard::Closed) {
-            self.part(peer)?;
+            self.part(rt, peer)?;
         }
         Ok(heard)
     }
 
     /// Says a text, which is UTF-8. A peer that takes nothing for too long is gone.
-    pub(crate) fn send_text(&mut self, peer: u32, text: &[u8]) -> Result<Wrote, OutFault> {
+    pub(crate) fn send_text<C: Clock>(
+        &mut self,
+        rt: &C,
+        peer: u32,
+        text: &[u8],
+    ) -> Result<Wrote, OutFault> {
         let Ok(text) = str::from_utf8(text) else {
             return Err(OutFault::Failed);
         };
         let wrote = self.sessions.say(peer, text)?;
         if wrote == Wrote::Gone {
-            self.part(peer)?;
+            self.part(rt, peer)?;
         }
         Ok(wrote)
     }
 
-    fn close(&mut self, peer: u32, mut line: Line) -> Result<(), OutFault> {
+    fn close<C: Clock>(&mut self, rt: &C, peer: u32, mut line: Line) -> Result<(), OutFault> {
         line.close(CloseCode::Normal);
-        self.partings.add(name_of(peer), line, time(&self.rt))
+        self.partings.add(name_of(peer), line, time(rt))
     }
 
     /// Closes a session, if it is open.
-    pub(crate) fn hang_up(&mut self, peer: u32) -> Result<(), OutFault> {
+    pub(crate) fn hang_up<C: Clock>(&mut self, rt: &C, peer: u32) -> Result<(), OutFault> {
         match self.sessions.part(peer) {
-            Some(line) => self.close(peer, line),
+            Some(line) => self.close(rt, peer, line),
             None => Ok(()),
         }
     }
@@ -355,24 +385,24 @@ impl<R: NetRuntime> Sockets<R> {
     // ---- the end
 
     /// Closes what is open.
-    fn close_all(&mut self) -> Result<(), OutFault> {
+    fn close_all<C: Clock>(&mut self, rt: &C) -> Result<(), OutFault> {
         for _ in 0..u64::MAX {
             let Some((peer, line)) = self.sessions.part_last() else {
                 break;
             };
-            self.close(peer, line)?;
+            self.close(rt, peer, line)?;
         }
         Ok(())
     }
 
     /// Closes what is open, and waits until the peers have what they were told, for a second at most.
-    pub(crate) fn end(&mut self) -> Result<(), OutFault> {
-        self.close_all()?;
+    pub(crate) fn end<C: Clock>(&mut self, rt: &C) -> Result<(), OutFault> {
+        self.close_all(rt)?;
         for _ in 0..LONGEST_PARTING / PAUSE {
             if self.partings.is_empty() {
                 break;
             }
-            self.gather(Duration::from_nanos(PAUSE))?;
+            self.gather(rt, Duration::from_nanos(PAUSE))?;
         }
         Ok(())
     }
