@@ -187,7 +187,7 @@ pub const LATE_CUTS: &[Row] = &[
     Row { fails: &[20], lines: 11, ..CUT },
 ];
 
-/// A recorded run in which a write fails.
+/// A recorded run in which a write fails. A report's line is written with that of its turn.
 const UNWRITTEN: Row = Row {
     name: "a write of a record fails",
     ended: "WriteFault",
@@ -204,9 +204,7 @@ pub const UNWRITTEN_RECORDS: &[Row] = &[
     Row { sink_fails: &[6], lines: 5, ..UNWRITTEN },
     Row { sink_fails: &[7], lines: 6, ..UNWRITTEN },
     Row { sink_fails: &[8], lines: 7, ..UNWRITTEN },
-    Row { sink_fails: &[9], lines: 8, ..UNWRITTEN },
-    Row { sink_fails: &[10], lines: 9, ..UNWRITTEN },
-    Row { sink_fails: &[11], lines: 10, ..UNWRITTEN },
+    Row { sink_fails: &[9], lines: 9, ..UNWRITTEN },
 ];
 
 pub const CUES: Row = Row {
