@@ -9,6 +9,7 @@ use css_drive::{Before, Nobody};
 use css_follow::{Cues, Meter};
 use css_net::{ChildSpawner, NetOutside, StdSink, StdSource};
 use css_outside::write_all;
+use css_told::{TellingOutside, TellingSink};
 use std::env::Env;
 use std::io::{Error, ErrorKind};
 use std::process::ExitCode;
@@ -33,8 +34,8 @@ fn without_words(error: &Error) -> Status {
 
 fn main(rt: HostRuntime) -> ExitCode {
     let mut source = StdSource::new(rt.reader(), &rt);
-    let mut sink = StdSink::new(io::writer(&rt), &rt);
-    let mut outside = NetOutside::new(rt.alloc(), &rt);
+    let mut sink = TellingSink::new(StdSink::new(io::writer(&rt), &rt));
+    let mut outside = TellingOutside::new(NetOutside::new(rt.alloc(), &rt));
     let mut spawner = ChildSpawner::new(rt.alloc(), &rt);
     let mut followers = Before {
         first: Cues::new(rt.alloc()),
@@ -56,7 +57,7 @@ fn main(rt: HostRuntime) -> ExitCode {
         ),
         Err(error) => without_words(error),
     };
-    outside.end();
+    outside.into_inner().end();
     let mut errors = StdSink::new(rt.stderr().lock(), &rt);
     let number = tell(rt.alloc(), &status, &mut errors).number;
     if let Ok(words) = &words {

@@ -1,0 +1,99 @@
+ghost use Rattle.std.specs.Prelude.{◌≡◌, Some, []};
+
+use crate::diary::Diary;
+use crate::note::Note;
+use css_model::{Kind, Why};
+use css_num::Text;
+use css_outside::{Address, Clocked, Heard, OutFault, Outside, Wrote};
+
+/// An outside that tells what its inner outside answered.
+#[derive(Drop)]
+pub struct TellingOutside<O> {
+    inner: O,
+    diary: Diary,
+}
+
+impl<O: Outside> TellingOutside<O> {
+    /// No call was made yet.
+    pub fn new(inner: O) -> TellingOutside<O>
+        ensures diary { result.diary.history ≡ [] }
+        ensures inner { result.inner ≡ inner }
+    {
+        TellingOutside {
+            inner,
+            diary: Diary::new(),
+        }
+    }
+
+    /// The inner outside, once the run is over.
+    pub fn into_inner(self) -> O
+        ensures { result ≡ self.inner }
+    {
+        let TellingOutside { inner, diary: _ } = self;
+        inner
+    }
+}
+
+impl<O: Outside> Outside for TellingOutside<O> {
+    ghost told = { λ outside. Some outside.diary.history };
+
+    ghost counts = { λ outside. O.counts outside.inner };
+
+    fn listen(&mut self, host: &Text, port: u16) -> Result<(), OutFault> {
+        self.inner.listen(host, port)?;
+        self.diary.note(&Note::Listens(host, port));
+        Ok(())
+    }
+
+    fn now(&mut self, why: Why) -> Result<Clocked, OutFault> {
+        let clocked = self.inner.now(why)?;
+        self.diary.note(&Note::Reads(why, clocked));
+        Ok(clocked)
+    }
+
+    fn dial(&mut self, kind: Kind, to: &Address) -> Result<u32, OutFault> {
+        let dialled = self.inner.dial(kind, to);
+        match dialled {
+            Ok(peer) => self.diary.note(&Note::Dials(kind, to, peer)),
+            Err(OutFault::Failed) => self.diary.note(&Note::DialsInVain(kind, to)),
+            Err(OutFault::Memory) => {}
+        }
+        dialled
+    }
+
+    fn accept(&mut self) -> Result<Option<(u32, Kind)>, OutFault> {
+        let came = self.inner.accept()?;
+        self.diary.note(&Note::Opens(came));
+        Ok(came)
+    }
+
+    fn send_datagram(&mut self, peer: u32, bytes: &[u8; 32]) -> Result<(), OutFault> {
+        self.inner.send_datagram(peer, bytes)?;
+        self.diary.note(&Note::Sends(peer, bytes));
+        Ok(())
+    }
+
+    fn take_datagram(&mut self, into: &mut [u8; 64]) -> Result<Option<(u32, usize)>, OutFault> {
+        let came = self.inner.take_datagram(into)?;
+        self.diary.note(&Note::Takes(into, came));
+        Ok(came)
+    }
+
+    fn take_text(&mut self, peer: u32) -> Result<Heard, OutFault> {
+        let heard = self.inner.take_text(peer)?;
+        self.diary.note(&Note::Hears(peer, &heard));
+        Ok(heard)
+    }
+
+    fn send_text(&mut self, peer: u32, text: &[u8]) -> Result<Wrote, OutFault> {
+        let wrote = self.inner.send_text(peer, text)?;
+        self.diary.note(&Note::Writes(peer, text, wrote));
+        Ok(wrote)
+    }
+
+    fn hang_up(&mut self, peer: u32) -> Result<(), OutFault> {
+        self.inner.hang_up(peer)?;
+        self.diary.note(&Note::HangsUp(peer));
+        Ok(())
+    }
+}
