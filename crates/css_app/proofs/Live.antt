@@ -27,7 +27,7 @@ pub driven-reads : (ended : Driven) (count : ℕ) → CountsReads count count (d
 driven-reads driven.Done count = refl
 driven-reads (driven.BadLine line why) count = refl
 driven-reads driven.WriteFault count = refl
-driven-reads driven.NetFault count = refl
+driven-reads (driven.NetFault failure) count = refl
 driven-reads (driven.BadCii text fault) count = refl
 driven-reads (driven.Moved property old new) count = refl
 driven-reads (driven.Spent turns) count = refl
@@ -40,7 +40,7 @@ pub driven-writes : (ended : Driven) (before now : ℕ) → CountsWriteFault bef
 driven-writes driven.Done before now counted = counted
 driven-writes (driven.BadLine line why) before now counted = counted
 driven-writes driven.WriteFault before now counted = counted
-driven-writes driven.NetFault before now counted = counted
+driven-writes (driven.NetFault failure) before now counted = counted
 driven-writes (driven.BadCii text fault) before now counted = counted
 driven-writes (driven.Moved property old new) before now counted = counted
 driven-writes (driven.Spent turns) before now counted = counted
@@ -54,7 +54,7 @@ pub driven-no_writes : (ended : Driven) (count : ℕ) → ended ≢ driven.Write
 driven-no_writes driven.Done count none = refl
 driven-no_writes (driven.BadLine line why) count none = refl
 driven-no_writes driven.WriteFault count none = absurd (none refl)
-driven-no_writes driven.NetFault count none = refl
+driven-no_writes (driven.NetFault failure) count none = refl
 driven-no_writes (driven.BadCii text fault) count none = refl
 driven-no_writes (driven.Moved property old new) count none = refl
 driven-no_writes (driven.Spent turns) count none = refl
@@ -67,7 +67,7 @@ pub driven-calls : (ended : Driven) (before now : ℕ) → CountsNetFault before
 driven-calls driven.Done before now counted = counted
 driven-calls (driven.BadLine line why) before now counted = counted
 driven-calls driven.WriteFault before now counted = counted
-driven-calls driven.NetFault before now counted = counted
+driven-calls (driven.NetFault failure) before now counted = counted
 driven-calls (driven.BadCii text fault) before now counted = counted
 driven-calls (driven.Moved property old new) before now counted = counted
 driven-calls (driven.Spent turns) before now counted = counted
@@ -80,7 +80,7 @@ pub driven-dials : (ended : Driven) (before now : ℕ) → CountsDialFaults befo
 driven-dials driven.Done before now counted = counted
 driven-dials (driven.BadLine line why) before now counted = counted
 driven-dials driven.WriteFault before now counted = counted
-driven-dials driven.NetFault before now counted = counted
+driven-dials (driven.NetFault failure) before now counted = counted
 driven-dials (driven.BadCii text fault) before now counted = counted
 driven-dials (driven.Moved property old new) before now counted = counted
 driven-dials (driven.Spent turns) before now counted = counted
@@ -98,7 +98,7 @@ due_or_memory due driven.Done w w' c c' ends wrote called nw nc = inr ends
 due_or_memory due (driven.BadLine line why) w w' c c' ends wrote called nw nc = inr ends
 due_or_memory due driven.WriteFault w w' c c' ends wrote called nw nc =
     absurd (omega (arith, wrote.risen nw.below, nw.same))
-due_or_memory due driven.NetFault w w' c c' ends wrote called nw nc =
+due_or_memory due (driven.NetFault failure) w w' c c' ends wrote called nw nc =
     absurd (omega (arith, called.risen nc.below, nc.same))
 due_or_memory due (driven.BadCii text fault) w w' c c' ends wrote called nw nc = inr ends
 due_or_memory due (driven.Moved property old new) w w' c c' ends wrote called nw nc = inr ends
@@ -161,7 +161,7 @@ sheet_lacks left status.Usage bytes sheet r r' none is ok counted n = absurd non
 sheet_lacks left (status.BadLine line why) bytes sheet r r' none is ok counted n = absurd none
 sheet_lacks left (status.Broken line earlier excess) bytes sheet r r' none is ok counted n = absurd none
 sheet_lacks left status.WriteFault bytes sheet r r' none is ok counted n = absurd none
-sheet_lacks left status.NetFault bytes sheet r r' none is ok counted n = absurd none
+sheet_lacks left (status.NetFault failure) bytes sheet r r' none is ok counted n = absurd none
 sheet_lacks left (status.BadCii text fault) bytes sheet r r' none is ok counted n = absurd none
 sheet_lacks left (status.Moved property old new) bytes sheet r r' none is ok counted n = absurd none
 sheet_lacks left (status.Spent turns) bytes sheet r r' none is ok counted n = absurd none
@@ -183,7 +183,7 @@ script_lacks left status.Done bytes script r r' none is ok counted n = absurd no
 script_lacks left status.Usage bytes script r r' none is ok counted n = absurd none
 script_lacks left (status.Broken line earlier excess) bytes script r r' none is ok counted n = absurd none
 script_lacks left status.WriteFault bytes script r r' none is ok counted n = absurd none
-script_lacks left status.NetFault bytes script r r' none is ok counted n = absurd none
+script_lacks left (status.NetFault failure) bytes script r r' none is ok counted n = absurd none
 script_lacks left (status.BadCii text fault) bytes script r r' none is ok counted n = absurd none
 script_lacks left (status.Moved property old new) bytes script r r' none is ok counted n = absurd none
 script_lacks left (status.Spent turns) bytes script r r' none is ok counted n = absurd none

@@ -23,12 +23,12 @@ use Rattle.css_app.specs.Pairs.{PairsAsDue, RunsBeside, child_status, is_done, w
 -- ---- the status of both
 -- what holds of each status of a child that was waited for
 of_child : (P : Status → Type 0) (finished : Result ℤ OutFault) → P status.Done
-    → ((ended : ℤ) → P (status.ChildFault (Some ended))) → P (status.ChildFault None) → P status.Memory
-    → P (child_status finished)
+    → ((ended : ℤ) → P (status.ChildFault (Ok ended))) → ((failure : Failure) → P (status.ChildFault (Err failure)))
+    → P status.Memory → P (child_status finished)
 of_child P (Ok ended) done other none memory =
-    elim (int_eq ended (pos 0)) as (λ b. P (cond b status.Done (status.ChildFault (Some ended))))
+    elim (int_eq ended (pos 0)) as (λ b. P (cond b status.Done (status.ChildFault (Ok ended))))
     [ true ↦ done | false ↦ other ended ]
-of_child P (Err fault.Failed) done other none memory = none
+of_child P (Err (fault.Failed failure)) done other none memory = none failure
 of_child P (Err fault.Memory) done other none memory = memory
 
 -- what holds of a companion's status, and of a child's where the companion is done, holds of the status of both
@@ -38,7 +38,7 @@ of_both : (P : Status → Type 0) (ended : Driven) (finished : Result ℤ OutFau
 of_both P driven.Done finished child p = child p
 of_both P (driven.BadLine line why) finished child p = p
 of_both P driven.WriteFault finished child p = p
-of_both P driven.NetFault finished child p = p
+of_both P (driven.NetFault failure) finished child p = p
 of_both P (driven.BadCii text fault) finished child p = p
 of_both P (driven.Moved property old new) finished child p = p
 of_both P (driven.Spent turns) finished child p = p
@@ -56,37 +56,37 @@ module _ (config : DriveConfig) (plans : List Plan) (before now : Stage) (compan
       (of_both P made.ended finished child (subst P made.tells p))
 
   pub keeps_no_usage : IsNoUsage companion → IsNoUsage (with_child companion finished)
-  keeps_no_usage told = keeps IsNoUsage (λ so. of_child IsNoUsage finished tt (λ e. tt) tt tt) told
+  keeps_no_usage told = keeps IsNoUsage (λ so. of_child IsNoUsage finished tt (λ e. tt) (λ f. tt) tt) told
 
   pub keeps_reads : (r r' : ℕ) → CountsReads r r' companion → CountsReads r r' (with_child companion finished)
   keeps_reads r r' counted =
-      keeps (CountsReads r r') (λ same. of_child (CountsReads r r') finished same (λ e. same) same same) counted
+      keeps (CountsReads r r') (λ same. of_child (CountsReads r r') finished same (λ e. same) (λ f. same) same) counted
 
   pub keeps_writes : (w w' : ℕ) → CountsWrites w w' companion → CountsWrites w w' (with_child companion finished)
   keeps_writes w w' counted =
-      keeps (CountsWrites w w') (λ same. of_child (CountsWrites w w') finished same (λ e. same) same same) counted
+      keeps (CountsWrites w w') (λ same. of_child (CountsWrites w w') finished same (λ e. same) (λ f. same) same) counted
 
   pub keeps_calls : (c c' : ℕ) → CountsCalls c c' companion → CountsCalls c c' (with_child companion finished)
   keeps_calls c c' counted =
-      keeps (CountsCalls c c') (λ same. of_child (CountsCalls c c') finished same (λ e. same) same same) counted
+      keeps (CountsCalls c c') (λ same. of_child (CountsCalls c c') finished same (λ e. same) (λ f. same) same) counted
 
   pub keeps_dials : (d d' : ℕ) → CountsDials d d' companion → CountsDials d d' (with_child companion finished)
   keeps_dials d d' counted =
-      keeps (CountsDials d d') (λ same. of_child (CountsDials d d') finished same (λ e. same) same same) counted
+      keeps (CountsDials d d') (λ same. of_child (CountsDials d d') finished same (λ e. same) (λ f. same) same) counted
 
 -- ---- the spawner
 never_falls : (finished : Result ℤ OutFault) (before now : ℕ) → CountsCall before now finished → before ≤ now
 never_falls (Ok ended) before now counted = omega (arith, counted)
-never_falls (Err fault.Failed) before now counted = counted.kept
+never_falls (Err (fault.Failed failure)) before now counted = counted.kept
 never_falls (Err fault.Memory) before now counted = omega (arith, counted)
 
 child_counts : (finished : Result ℤ OutFault) (before now : ℕ) → CountsCall before now finished
     → CountsSpawns before now (child_status finished)
 child_counts (Ok ended) before now counted =
     elim (int_eq ended (pos 0))
-    as (λ b. CountsSpawns before now (cond b status.Done (status.ChildFault (Some ended))))
+    as (λ b. CountsSpawns before now (cond b status.Done (status.ChildFault (Ok ended))))
     [ true ↦ counted | false ↦ counted ]
-child_counts (Err fault.Failed) before now counted = counted
+child_counts (Err (fault.Failed failure)) before now counted = counted
 child_counts (Err fault.Memory) before now counted = omega (arith, counted)
 
 driven_spawns : (ended : Driven) (finished : Result ℤ OutFault) (before now : ℕ) → CountsCall before now finished
@@ -94,7 +94,7 @@ driven_spawns : (ended : Driven) (finished : Result ℤ OutFault) (before now : 
 driven_spawns driven.Done finished before now counted = child_counts finished before now counted
 driven_spawns (driven.BadLine line why) finished before now counted = never_falls finished before now counted
 driven_spawns driven.WriteFault finished before now counted = never_falls finished before now counted
-driven_spawns driven.NetFault finished before now counted = never_falls finished before now counted
+driven_spawns (driven.NetFault failure) finished before now counted = never_falls finished before now counted
 driven_spawns (driven.BadCii text fault) finished before now counted = never_falls finished before now counted
 driven_spawns (driven.Moved property old new) finished before now counted = never_falls finished before now counted
 driven_spawns (driven.Spent turns) finished before now counted = never_falls finished before now counted
@@ -142,7 +142,7 @@ paired_as_due : (config : DriveConfig) (before now : Option History) (companion 
     → PairsAsDue config before now (with_child companion finished)
 paired_as_due config before now companion (Ok ended) old new due counted none =
     inr (record { companion = companion; due = due; ended = ended; tells = refl })
-paired_as_due config before now companion (Err fault.Failed) old new due counted none =
+paired_as_due config before now companion (Err (fault.Failed failure)) old new due counted none =
     absurd (omega (arith, counted.risen none.below, none.same))
 paired_as_due config before now companion (Err fault.Memory) old new due counted none = by (is_done companion) refl
   where

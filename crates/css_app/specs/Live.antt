@@ -37,7 +37,7 @@ abbrev pub driven_status : Driven → Status
 driven_status driven.Done = status.Done
 driven_status (driven.BadLine line why) = status.BadLine line why
 driven_status driven.WriteFault = status.WriteFault
-driven_status driven.NetFault = status.NetFault
+driven_status (driven.NetFault failure) = status.NetFault failure
 driven_status (driven.BadCii text fault) = status.BadCii text fault
 driven_status (driven.Moved property old new) = status.Moved property old new
 driven_status (driven.Spent turns) = status.Spent turns
@@ -60,7 +60,7 @@ script_status _ = status.Memory
 -- ---- counts of faults
 -- The outside's count of faults of calls other than dials has risen where a call failed, and else is as it was.
 abbrev pub CountsCalls : ℕ → ℕ → Status → Type 0
-CountsCalls before now status.NetFault = HasRisen before now
+CountsCalls before now (status.NetFault failure) = HasRisen before now
 CountsCalls before now _ = now ≡ before
 
 -- Where no dial succeeded, the count of failed dials has risen. It never falls.
@@ -72,8 +72,8 @@ CountsDials before now _ = before ≤ now
 -- It never falls.
 abbrev pub CountsSpawns : ℕ → ℕ → Status → Type 0
 CountsSpawns before now status.Done = now ≡ before
-CountsSpawns before now (status.ChildFault None) = HasRisen before now
-CountsSpawns before now (status.ChildFault (Some ended)) = now ≡ before
+CountsSpawns before now (status.ChildFault (Err failure)) = HasRisen before now
+CountsSpawns before now (status.ChildFault (Ok ended)) = now ≡ before
 CountsSpawns before now _ = before ≤ now
 
 -- A status that comes before a run tells no fault of the sink, of the outside or of a spawner.

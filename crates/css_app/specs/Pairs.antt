@@ -58,8 +58,8 @@ is_done _ = false
 
 -- the status where the companion's run is done, and the child was waited for
 abbrev pub child_status : Result ℤ OutFault → Status
-child_status (Ok ended) = if int_eq ended (pos 0) then status.Done else status.ChildFault (Some ended)
-child_status (Err fault.Failed) = status.ChildFault None
+child_status (Ok ended) = if int_eq ended (pos 0) then status.Done else status.ChildFault (Ok ended)
+child_status (Err (fault.Failed failure)) = status.ChildFault (Err failure)
 child_status (Err fault.Memory) = status.Memory
 
 -- a companion's status other than `Done` comes before the child's
@@ -83,7 +83,7 @@ pub record GivesScriptText (before now : Option (List ℕ)) (text : List ℕ) : 
 
 -- ---- what became of both
 abbrev pub IsNoStart : Status → Type 0
-IsNoStart (status.ChildFault None) = ⊤
+IsNoStart (status.ChildFault (Err failure)) = ⊤
 IsNoStart status.Memory = ⊤
 IsNoStart _ = ⊥
 

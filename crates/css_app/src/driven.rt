@@ -12,7 +12,7 @@ pub(crate) fn status_of(driven: Driven) -> Status
         Driven::Done => Status::Done,
         Driven::BadLine { line, why } => Status::BadLine { line, why },
         Driven::WriteFault => Status::WriteFault,
-        Driven::NetFault => Status::NetFault,
+        Driven::NetFault(failure) => Status::NetFault(failure),
         Driven::BadCii { text, fault } => Status::BadCii { text, fault },
         Driven::Moved { property, old, new } => Status::Moved { property, old, new },
         Driven::Spent { turns } => Status::Spent { turns },

@@ -57,7 +57,7 @@ pub fn generate<K: Sink>(
 {
     match write_lines(alloc, seed, lines, companions, sink) {
         Ok(()) => Status::Done,
-        Err(OutFault::Failed) => Status::WriteFault,
+        Err(OutFault::Failed(_)) => Status::WriteFault,
         Err(OutFault::Memory) => Status::Memory,
     }
 }

@@ -35,11 +35,13 @@ fn child_status(finished: Result<i32, OutFault>) -> Status
                 Status::Done
             } else {
                 Status::ChildFault {
-                    status: Some(ended),
+                    status: Ok(ended),
                 }
             }
         }
-        Err(OutFault::Failed) => Status::ChildFault { status: None },
+        Err(OutFault::Failed(failure)) => Status::ChildFault {
+            status: Err(failure),
+        },
         Err(OutFault::Memory) => Status::Memory,
     }
 }
@@ -85,7 +87,9 @@ fn run_beside<K: Sink, O: Outside, P: Spawner, F: Listens>(
 {
     match spawner.start(words, script) {
         Ok(()) => {}
-        Err(OutFault::Failed) => return Status::ChildFault { status: None },
+        Err(OutFault::Failed(failure)) => return Status::ChildFault {
+            status: Err(failure),
+        },
         Err(OutFault::Memory) => return Status::Memory,
     }
     let companion = make_run(alloc, config, sink, outside, followers);
@@ -114,8 +118,8 @@ fn prepare<F: Listens>(
 ///
 /// `BadLine` comes exactly at the first line that is too long or outside the grammar of scripts, before a child is
 /// started; what the child's player refuses shows as the child's status. A companion's status other than `Done` comes
-/// before the child's. `ChildFault` has the child's status, which isn't 0; or none, where the child couldn't be
-/// started, or waited for.
+/// before the child's. `ChildFault` has the child's status, which isn't 0; or what the system said, where the child
+/// couldn't be started, or waited for.
 pub fn pair<S: Source, K: Sink, O: Outside, P: Spawner, F: Listens>(
     alloc: Global,
     config: DriveConfig,

@@ -1,6 +1,7 @@
 use css_cii::{CiiFault, CiiName};
 use css_companion::Report;
 use css_num::Text;
+use css_outside::Failure;
 use css_schedule::LineWhy;
 use std::fmt;
 
@@ -31,8 +32,8 @@ pub enum Status {
     ReadFault,
     /// A write failed. A part of the output of the lines that were read, or of the reports that were due, was written.
     WriteFault,
-    /// A call of the network or of the clock failed. Of a dial that failed nothing is told here: it is made again.
-    NetFault,
+    /// A call of the network or of the clock failed, and the system said this of it. Of a dial that failed nothing is told here: it is made again.
+    NetFault(Failure),
     /// The text of the CSS-CII session with this number, counted from 1, has this fault, which is never `Memory`.
     BadCii {
         text: u64,
@@ -52,9 +53,10 @@ pub enum Status {
     Unreachable {
         turns: u64,
     },
-    /// The child ended with this status, which isn't 0; or it couldn't be started, or waited for.
+    /// The child ended with this status, which isn't 0; or it couldn't be started, or waited for, and the system said
+    /// this of it.
     ChildFault {
-        status: Option<i32>,
+        status: Result<i32, Failure>,
     },
     /// This line of the cue sheet, counted from 1, is the first one that is outside the grammar.
     BadSheet {
@@ -88,7 +90,7 @@ impl Drop for Status {
             } => {}
             Status::ReadFault => {}
             Status::WriteFault => {}
-            Status::NetFault => {}
+            Status::NetFault(_) => {}
             Status::BadCii { text: _, fault: _ } => {}
             Status::Moved {
                 property: _,
@@ -121,7 +123,7 @@ impl Status {
             Status::Broken { .. } => 3,
             Status::ReadFault => 4,
             Status::WriteFault => 5,
-            Status::NetFault => 6,
+            Status::NetFault(_) => 6,
             Status::BadCii { .. } => 7,
             Status::Moved { .. } => 8,
             Status::Spent { .. } => 9,
@@ -153,14 +155,14 @@ impl fmt::Display for Status {
             } => write!(f, "line {line}: broken with line {earlier} by {excess}"),
             Status::ReadFault => f.write_str("read fault"),
             Status::WriteFault => f.write_str("write fault"),
-            Status::NetFault => f.write_str("net fault"),
+            Status::NetFault(_) => f.write_str("net fault"),
             Status::BadCii { text, fault } => write!(f, "cii text {text}: {fault}"),
             Status::Moved { property, .. } => write!(f, "moved {property}"),
             Status::Spent { turns } => write!(f, "spent after {turns} turns"),
             Status::Unreachable { turns } => write!(f, "unreachable after {turns} turns"),
-            Status::ChildFault { status: None } => f.write_str("child fault"),
+            Status::ChildFault { status: Err(_) } => f.write_str("child fault"),
             Status::ChildFault {
-                status: Some(status),
+                status: Ok(status),
             } => write!(f, "child status {status}"),
             Status::BadSheet { line } => write!(f, "sheet line {line}"),
             Status::BadUrl { property } => write!(f, "bad url {property}"),

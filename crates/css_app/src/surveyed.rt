@@ -69,7 +69,7 @@ pub fn survey<K: Sink>(
 {
     match write_survey(alloc, seed, lines, companions, sink) {
         Ok(()) => Status::Done,
-        Err(OutFault::Failed) => Status::WriteFault,
+        Err(OutFault::Failed(_)) => Status::WriteFault,
         Err(OutFault::Memory) => Status::Memory,
     }
 }

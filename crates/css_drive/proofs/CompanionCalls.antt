@@ -19,6 +19,7 @@ use Rattle.css_cii.specs.declared.state.State.{State}
 use Rattle.css_outside.specs.Outsides.{Counts, with_entries, clock_entries, sleep_entries, heard_entries, wrote_entries}
 use Rattle.css_outside.specs.declared.calls.Heard.{Heard as Answer}
 use Rattle.css_outside.specs.declared.calls.Heard.TheVariants as answer
+use Rattle.css_outside.specs.declared.failure.Failure.{Failure}
 use Rattle.css_outside.specs.declared.fault.OutFault.{OutFault}
 use Rattle.std.specs.Option.{option_map}
 use Rattle.css_outside.specs.declared.calls.Clocked.{Clocked}
@@ -414,7 +415,7 @@ refusal_ends None rest ended r = by ended r
   where
     by : (ended : Driven) → IsRefusal None ended → MayEnd rest ended
     by driven.Memory r = tt
-    by driven.NetFault r = tt
+    by (driven.NetFault failure) r = tt
     by driven.WriteFault r = tt
     by driven.Done r = absurd r
     by (driven.BadLine line why) r = absurd r
@@ -427,7 +428,7 @@ refusal_ends (Some f) rest ended r = by ended r
   where
     by : (ended : Driven) → IsRefusal (Some f) ended → MayEnd (Ends (end_by f)) ended
     by driven.Memory r = tt
-    by driven.NetFault r = tt
+    by (driven.NetFault failure) r = tt
     by driven.WriteFault r = tt
     by driven.Done r = ap Ends (sym r)
     by (driven.BadLine line why) r = ap Ends (sym r)
@@ -437,14 +438,14 @@ refusal_ends (Some f) rest ended r = by ended r
     by (driven.Unreachable turns) r = ap Ends (sym r)
     by (driven.BadUrl property) r = ap Ends (sym r)
 
-pub refusal_quiet : (refusal : Option CompanionFault) → IsRefusal refusal driven.NetFault → ⊥
+pub refusal_quiet : (refusal : Option CompanionFault) → {failure : Failure} → IsRefusal refusal (driven.NetFault failure) → ⊥
 refusal_quiet None r = r
 refusal_quiet (Some (fault.BadCii number reason)) r = cc
 refusal_quiet (Some (fault.Moved property old new)) r = cc
 refusal_quiet (Some fault.Memory) r = cc
 
 refusal_own : (refusal : Option CompanionFault) (ended : Driven) → IsRefusal refusal ended → IsOwn ended
-refusal_own refusal driven.NetFault r = refusal_quiet refusal r
+refusal_own refusal (driven.NetFault failure) r = refusal_quiet refusal r
 refusal_own None driven.WriteFault r = r
 refusal_own (Some (fault.BadCii number reason)) driven.WriteFault r = cc
 refusal_own (Some (fault.Moved property old new)) driven.WriteFault r = cc
@@ -537,7 +538,7 @@ pub bad_place : (property : CiiName) (told : Option (Result Address AddressFault
     Driven)
     → GivesPlace property told (Err ended) → MayEnd (dial_to None k property told rest) ended
 bad_place property told k rest driven.Memory g = tt
-bad_place property told k rest driven.NetFault g = tt
+bad_place property told k rest (driven.NetFault failure) g = tt
 bad_place property told k rest driven.WriteFault g = tt
 bad_place property told k rest driven.Done g = absurd (let e : driven.Done ≡ driven.BadUrl property = g.1 in cc)
 bad_place property told k rest (driven.BadLine line why) g = absurd (let e : driven.BadLine line why ≡ driven.BadUrl
@@ -553,13 +554,13 @@ bad_place property told k rest (driven.Unreachable turns) g = absurd (let e : dr
 bad_place property told k rest (driven.BadUrl p) g =
     ap (λ x. dial_to None k property x rest) g.2 ∙ ap Ends (sym g.1)
 
-pub bad_quiet : (property : CiiName) (told : Option (Result Address AddressFault))
-    → GivesPlace property told (Err driven.NetFault) → ⊥
-bad_quiet property told g = let e : driven.NetFault ≡ driven.BadUrl property = g.1 in cc
+pub bad_quiet : (property : CiiName) (told : Option (Result Address AddressFault)) {failure : Failure}
+    → GivesPlace property told (Err (driven.NetFault failure)) → ⊥
+bad_quiet property told {failure} g = let e : driven.NetFault failure ≡ driven.BadUrl property = g.1 in cc
 
 pub bad_own : (property : CiiName) (told : Option (Result Address AddressFault)) (ended : Driven)
     → GivesPlace property told (Err ended) → IsOwn ended
-bad_own property told driven.NetFault g = bad_quiet property told g
+bad_own property told (driven.NetFault failure) g = bad_quiet property told g
 bad_own property told driven.WriteFault g = let e : driven.WriteFault ≡ driven.BadUrl property = g.1 in cc
 bad_own property told driven.Done g = tt
 bad_own property told (driven.BadLine line why) g = tt

@@ -21,7 +21,7 @@ use Rattle.css_drive.specs.CompanionStanding.{Shown, Facts, facts_of, facts_in, 
 use Rattle.css_drive.specs.CompanionStanding.{asked_after}
 use Rattle.css_drive.specs.CompanionStanding.{IsOver, IsHangingUp, IsSo, hung, ending_of}
 use Rattle.css_drive.specs.CompanionTurns.{turn_at, first_turn, turns, dialled, opened, any_dialled, is_peer, unless}
-use Rattle.css_drive.specs.Ends.{MayEnd}
+use Rattle.css_drive.specs.Ends.{MayEnd, IsNetFault}
 use Rattle.css_drive.specs.Notes as events
 use Rattle.css_drive.specs.Notes.{Note, Happened, Reported, Turn, noted, turn_notes}
 use Rattle.css_drive.specs.Proper.{Due, Now, HangUp, Ends, MayAdd, More}
@@ -231,7 +231,7 @@ pub over_ends : (end : Driven) → IsOver end → MayEnd (Ends end) end
 over_ends driven.Done o = refl
 over_ends (driven.Spent n) o = refl
 over_ends (driven.Unreachable n) o = refl
-over_ends driven.NetFault o = tt
+over_ends (driven.NetFault failure) o = tt
 over_ends driven.WriteFault o = tt
 over_ends driven.Memory o = tt
 over_ends (driven.BadLine line why) o = refl
@@ -239,14 +239,23 @@ over_ends (driven.BadCii text fault) o = refl
 over_ends (driven.Moved property old new) o = refl
 over_ends (driven.BadUrl property) o = refl
 
-pub over_quiet : (end : Driven) → IsOver end → end ≡ driven.NetFault → ⊥
-over_quiet end o e = subst IsOver e o
+pub over_quiet : (end : Driven) → IsOver end → IsNetFault end → ⊥
+over_quiet (driven.NetFault failure) o e = o
+over_quiet driven.WriteFault o e = e
+over_quiet driven.Memory o e = e
+over_quiet driven.Done o e = e
+over_quiet (driven.BadLine line why) o e = e
+over_quiet (driven.BadCii text fault) o e = e
+over_quiet (driven.Moved property old new) o e = e
+over_quiet (driven.Spent turns) o e = e
+over_quiet (driven.Unreachable turns) o e = e
+over_quiet (driven.BadUrl property) o e = e
 
 pub over_so : (over : Option OutFault) (end : Driven) → IsOver end → IsSo over end
 over_so over driven.Done o = tt
 over_so over (driven.Spent n) o = tt
 over_so over (driven.Unreachable n) o = tt
-over_so over driven.NetFault o = absurd o
+over_so over (driven.NetFault failure) o = absurd o
 over_so over driven.WriteFault o = absurd o
 over_so over driven.Memory o = tt
 over_so over (driven.BadLine line why) o = tt

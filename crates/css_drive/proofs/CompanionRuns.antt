@@ -39,7 +39,7 @@ pub fault_early : (ended : Driven) → IsFault ended → IsEarly ended
 fault_early driven.Done f = absurd f
 fault_early (driven.BadLine line why) f = absurd f
 fault_early driven.WriteFault f = absurd f
-fault_early driven.NetFault f = tt
+fault_early (driven.NetFault failure) f = tt
 fault_early (driven.BadCii text fault) f = absurd f
 fault_early (driven.Moved property old new) f = absurd f
 fault_early (driven.Spent n) f = absurd f
@@ -49,7 +49,7 @@ fault_early driven.Memory f = tt
 
 pub fails_early : (over : Option OutFault) (ended : Driven) → IsEndBy over ended → IsEarly ended
 fails_early None ended f = fault_early ended f
-fails_early (Some fault.Failed) ended f = subst IsEarly (sym f) tt
+fails_early (Some (fault.Failed failure)) ended f = subst IsEarly (sym f) tt
 fails_early (Some fault.Memory) ended f = subst IsEarly (sym f) tt
 
 pub hung_early : (over : Option OutFault) (end ended : Driven) → IsEarly end → (ended ≡ end) ⊎ IsEndBy over ended
@@ -63,7 +63,7 @@ pub early_dials : (before now : ℕ) (ended : Driven) → IsEarly ended → befo
 early_dials before now driven.Done f e = e
 early_dials before now (driven.BadLine line why) f e = e
 early_dials before now driven.WriteFault f e = e
-early_dials before now driven.NetFault f e = e
+early_dials before now (driven.NetFault failure) f e = e
 early_dials before now (driven.BadCii text fault) f e = e
 early_dials before now (driven.Moved property old new) f e = e
 early_dials before now (driven.Spent n) f e = absurd f
@@ -74,7 +74,7 @@ early_dials before now driven.Memory f e = e
 pub final_dials : (over : Option OutFault) (before now : ℕ) (ended : Driven) → CountsDialFaults before now ended
     → before ≤ now → CountsDialFaults before now (final_end over ended)
 final_dials None before now ended c le = c
-final_dials (Some fault.Failed) before now ended c le = le
+final_dials (Some (fault.Failed failure)) before now ended c le = le
 final_dials (Some fault.Memory) before now ended c le = le
 
 -- a run that ended where no dial of CSS-CII succeeded
@@ -131,12 +131,12 @@ made_of config before now saw over ended result e s =
     ends : (o : Option OutFault) → MayEnd (due config s.history) ended
         → MayEnd (due config s.history) (final_end o ended)
     ends None m = m
-    ends (Some fault.Failed) m = tt
+    ends (Some (fault.Failed failure)) m = tt
     ends (Some fault.Memory) m = tt
 
     so : (o : Option OutFault) (d : Driven) → IsSo o d → IsEndOf o (final_end o d)
     so None d i = λ is. let Q : Driven → Type 0 = λ x. IsSo None x in (subst Q is i) refl
-    so (Some fault.Failed) d i = refl
+    so (Some (fault.Failed failure)) d i = refl
     so (Some fault.Memory) d i = refl
 
 pub counted_of : (config : DriveConfig) (before now : Shown) (saw : List Note → Type 0) (over : Option OutFault)
@@ -147,7 +147,7 @@ counted_of config before now saw over ended result e s =
   where
     same : (o : OutFault) (d : Driven) → IsSo (Some o) d
         → CountsNetFault before.counts.faults now.counts.faults d → now.counts.faults ≡ before.counts.faults
-    same o driven.NetFault i c = let none : Some o ≡ None = i in cc
+    same o (driven.NetFault failure) i c = let none : Some o ≡ None = i in cc
     same o driven.WriteFault i c = c
     same o driven.Done i c = c
     same o (driven.BadLine line why) i c = c
@@ -162,7 +162,7 @@ counted_of config before now saw over ended result e s =
         → CountsNetFault before.counts.faults now.counts.faults d
         → CountsNetFault before.counts.faults now.counts.faults (final_end o d)
     by None d i c = c
-    by (Some fault.Failed) d i c = same fault.Failed d i c
+    by (Some (fault.Failed failure)) d i c = same fault.Failed d i c
     by (Some fault.Memory) d i c = same fault.Memory d i c
 
 -- ---- the beginning

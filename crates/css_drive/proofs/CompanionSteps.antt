@@ -19,7 +19,7 @@ use Rattle.css_drive.specs.CompanionDue.{due, IsProperRun}
 use Rattle.css_drive.specs.CompanionStanding.{Shown, Facts, facts_of, facts_in, KnowsPeers, Stands, Knows, Comes, Stops}
 use Rattle.css_drive.specs.CompanionStanding.{IsFault, IsEndBy, IsSo, Fails}
 use Rattle.css_drive.specs.CompanionTurns.{dialled, dialled_by, opened, ended_by, open_after, unless, newest, is_peer}
-use Rattle.css_drive.specs.Ends.{MayEnd, CountsNetFault}
+use Rattle.css_drive.specs.Ends.{MayEnd, IsNetFault, CountsNetFault}
 use Rattle.css_drive.specs.Notes.{Note, noted}
 use Rattle.css_drive.specs.Proper.{Due, MayAdd, More}
 use Rattle.css_drive.specs.declared.companion_live.Live.{Live}
@@ -145,9 +145,9 @@ knows_as config was is history e k = subst (λ (x : Companion). Knows config x h
 
 -- ---- counts
 -- nothing is counted at an end that is no fault of the outside
-pub counts_same : (before now : ℕ) (ended : Driven) → (ended ≡ driven.NetFault → ⊥) → now ≡ before
+pub counts_same : (before now : ℕ) (ended : Driven) → (IsNetFault ended → ⊥) → now ≡ before
     → CountsNetFault before now ended
-counts_same before now driven.NetFault never e = absurd (never refl)
+counts_same before now (driven.NetFault failure) never e = absurd (never tt)
 counts_same before now driven.Done never e = e
 counts_same before now (driven.BadLine line why) never e = e
 counts_same before now driven.WriteFault never e = e
@@ -164,12 +164,12 @@ counts_from a b n ended e c = let P : ℕ → Type 0 = λ x. CountsNetFault x n 
 -- ---- ends
 -- an end that neither the outside nor an observer makes, or want of memory
 abbrev pub IsOwn : Driven → Type 0
-IsOwn driven.NetFault = ⊥
+IsOwn (driven.NetFault failure) = ⊥
 IsOwn driven.WriteFault = ⊥
 IsOwn _ = Unit {0}
 
 own_so : (over : Option OutFault) (ended : Driven) → IsOwn ended → IsSo over ended
-own_so over driven.NetFault own = absurd own
+own_so over (driven.NetFault failure) own = absurd own
 own_so over driven.WriteFault own = absurd own
 own_so over driven.Done own = tt
 own_so over (driven.BadLine line why) own = tt
@@ -180,15 +180,27 @@ own_so over (driven.Unreachable turns) own = tt
 own_so over (driven.BadUrl property) own = tt
 own_so over driven.Memory own = tt
 
+own_quiet : (ended : Driven) → IsOwn ended → IsNetFault ended → ⊥
+own_quiet (driven.NetFault failure) own n = own
+own_quiet driven.WriteFault own n = n
+own_quiet driven.Memory own n = n
+own_quiet driven.Done own n = n
+own_quiet (driven.BadLine line why) own n = n
+own_quiet (driven.BadCii text fault) own n = n
+own_quiet (driven.Moved property old new) own n = n
+own_quiet (driven.Spent turns) own n = n
+own_quiet (driven.Unreachable turns) own n = n
+own_quiet (driven.BadUrl property) own n = n
+
 own_counts : (before now : ℕ) (ended : Driven) → IsOwn ended → now ≡ before → CountsNetFault before now ended
-own_counts before now ended own e = counts_same before now ended (λ is. subst IsOwn is own) e
+own_counts before now ended own e = counts_same before now ended (own_quiet ended own) e
 
 -- a call that was not made or failed
 pub fails_so : (over : Option OutFault) (ended : Driven) → IsEndBy over ended → IsSo over ended
 fails_so None ended f = by ended f
   where
     by : (ended : Driven) → IsFault ended → IsSo None ended
-    by driven.NetFault f = refl
+    by (driven.NetFault failure) f = refl
     by driven.Memory f = tt
     by driven.WriteFault f = absurd f
     by driven.Done f = absurd f
@@ -198,15 +210,15 @@ fails_so None ended f = by ended f
     by (driven.Spent n) f = absurd f
     by (driven.Unreachable n) f = absurd f
     by (driven.BadUrl property) f = absurd f
-fails_so (Some fault.Failed) ended f =
-    let P : Driven → Type 0 = λ x. IsSo (Some fault.Failed) x in
-    let never : Some fault.Failed ≡ None → ⊥ = λ e. cc in
+fails_so (Some (fault.Failed failure)) ended f =
+    let P : Driven → Type 0 = λ x. IsSo (Some (fault.Failed failure)) x in
+    let never : Some (fault.Failed failure) ≡ None → ⊥ = λ e. cc in
     subst P (sym f) never
 fails_so (Some fault.Memory) ended f = let P : Driven → Type 0 = λ x. IsSo (Some fault.Memory) x in subst P (sym f) tt
 
 -- nothing was told, and it ends by a fault
 pub fault_ends : (d : Due) (ended : Driven) → IsFault ended → MayEnd d ended
-fault_ends d driven.NetFault f = tt
+fault_ends d (driven.NetFault failure) f = tt
 fault_ends d driven.Memory f = tt
 fault_ends d driven.WriteFault f = absurd f
 fault_ends d driven.Done f = absurd f
@@ -219,7 +231,7 @@ fault_ends d (driven.BadUrl property) f = absurd f
 
 pub fails_end : (d : Due) (over : Option OutFault) (ended : Driven) → IsEndBy over ended → MayEnd d ended
 fails_end d None ended f = fault_ends d ended f
-fails_end d (Some fault.Failed) ended f = subst (MayEnd d) (sym f) tt
+fails_end d (Some (fault.Failed failure)) ended f = subst (MayEnd d) (sym f) tt
 fails_end d (Some fault.Memory) ended f = subst (MayEnd d) (sym f) tt
 
 -- a `?` that ends the function

@@ -259,7 +259,7 @@ wrote_whole : (reports : List Report) (said : List (List ℕ)) (ended : Driven) 
     → HasWritten reports said (written reports said) ended
 wrote_whole reports said driven.WriteFault e = part_whole reports said e
 wrote_whole reports said driven.Memory e = part_whole reports said e
-wrote_whole reports said driven.NetFault e = refl
+wrote_whole reports said (driven.NetFault failure) e = refl
 wrote_whole reports said driven.Done e = refl
 wrote_whole reports said (driven.BadLine line why) e = refl
 wrote_whole reports said (driven.BadCii text fault) e = refl
@@ -294,7 +294,7 @@ followed_whole : (reports : List Report) (said : List (List ℕ)) (before now : 
     → Followed reports said before now → HasFollowed reports said before now ended
 followed_whole reports said before now driven.WriteFault f = followed_part reports said before now f
 followed_whole reports said before now driven.Memory f = followed_part reports said before now f
-followed_whole reports said before now driven.NetFault f = f
+followed_whole reports said before now (driven.NetFault failure) f = f
 followed_whole reports said before now driven.Done f = f
 followed_whole reports said before now (driven.BadLine line why) f = f
 followed_whole reports said before now (driven.BadCii text fault) f = f
@@ -357,7 +357,7 @@ pub ran_by : (config : DriveConfig) (before now : Option History) (started audie
     → Ran config before now started.holds audience.holds started.heard audience.heard ended
 ran_by config before now started audience was is saw None ended m t =
     ran_whole config before now started audience was is saw None ended m t
-ran_by config before now started audience was is saw (Some fault.Failed) ended m t =
+ran_by config before now started audience was is saw (Some (fault.Failed failure)) ended m t =
     let part = t.0 (are_numbered config m.history) in
     let e = reports_noted config m.history in
     let P : List Report → Type 0 = λ x. IsPart x part.said part.bytes in
@@ -382,7 +382,7 @@ ran_by config before now started audience was is saw (Some fault.Memory) ended m
 pub writes_same : (before now : ℕ) (ended : Driven) → (ended ≡ driven.WriteFault → ⊥) → now ≡ before
     → CountsWriteFault before now ended
 writes_same before now driven.WriteFault never e = absurd (never refl)
-writes_same before now driven.NetFault never e = e
+writes_same before now (driven.NetFault failure) never e = e
 writes_same before now driven.Done never e = e
 writes_same before now (driven.BadLine line why) never e = e
 writes_same before now (driven.BadCii text reason) never e = e
@@ -400,7 +400,7 @@ CountsOver (Some cause) before now = CountsOutFault before now cause
 pub writes_by : (over : Option OutFault) (before now : ℕ) (ended : Driven) → IsEndOf over ended
     → CountsOver over before now → CountsWriteFault before now ended
 writes_by None before now ended so c = writes_same before now ended so c
-writes_by (Some fault.Failed) before now ended so c = subst (CountsWriteFault before now) (sym so) c
+writes_by (Some (fault.Failed failure)) before now ended so c = subst (CountsWriteFault before now) (sym so) c
 writes_by (Some fault.Memory) before now ended so c = subst (CountsWriteFault before now) (sym so) c
 
 pub tells_counts : (over : Option OutFault) (started now : Audience) (was is : ℕ) (notes : List Note)

@@ -4,7 +4,6 @@ use Rattle.std.proofs.Common.{arith, Result, Ok, Err, drop}
 use Rattle.std.specs.Prelude.{◌≢◌, All, IsErrOf, IfErr}
 use Rattle.std.proofs.lemmas.List.Elements.{All-nil}
 use Rattle.css_model.specs.History.{History, Listening}
-use Rattle.css_outside.specs.Faults.{HasRisen}
 use Rattle.css_outside.specs.Outsides.{Counts, with_entries}
 use Rattle.css_server.specs.Tickets.{Server}
 use Rattle.css_tv.specs.Serving.{server_of}
@@ -84,20 +83,6 @@ pub ran_by : {run : TvRun} {start told : Option History} {ended : Driven} → St
     → TvRan run start told ended
 ran_by x = record { h = x.h; grew = x.grew; proper = x.proper; numbered = x.numbered; ends = x.ends; whole = x.whole }
 
-counts_by : (before now : ℕ) (ended : Driven) → (ended ≡ driven.NetFault → HasRisen before now)
-    → (ended ≢ driven.NetFault → now ≡ before)
-    → CountsNetFault before now ended
-counts_by before now driven.NetFault f g = f refl
-counts_by before now driven.Done f g = g (λ e. absurd (cc))
-counts_by before now driven.WriteFault f g = g (λ e. absurd (cc))
-counts_by before now driven.Memory f g = g (λ e. absurd (cc))
-counts_by before now (driven.BadLine line why) f g = g (λ e. absurd (cc))
-counts_by before now (driven.BadCii text fault) f g = g (λ e. absurd (cc))
-counts_by before now (driven.Moved property old new) f g = g (λ e. absurd (cc))
-counts_by before now (driven.Spent n) f g = g (λ e. absurd (cc))
-counts_by before now (driven.Unreachable n) f g = g (λ e. absurd (cc))
-counts_by before now (driven.BadUrl k) f g = g (λ e. absurd (cc))
-
 -- a run that stopped after calls of which none failed
 pub counts_stopped : {T : Type 0} (before mid now : Counts) (ended : Driven) → mid.dial_faults ≡ before.dial_faults
     → mid.faults ≡ before.faults
@@ -108,8 +93,7 @@ counts_stopped before mid now ended dials faults (Err f) is k =
     record {
       dials = k.dials ∙ dials;
       faults =
-          counts_by before.faults now.faults ended (λ e.
-          subst (λ n. HasRisen n now.faults) faults (k.failed (ap Err (same ∙ e))))
-          (λ other. k.other (λ e. other (sym same ∙ e)) ∙ faults);
+          subst (λ n. CountsNetFault n now.faults ended) faults
+          (subst (CountsNetFault mid.faults now.faults) same k.failed);
       no_writes = λ e. k.no_writes (same ∙ e);
     }

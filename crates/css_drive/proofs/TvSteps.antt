@@ -121,7 +121,7 @@ told_more {run} {start} {told} {h = h} t d is call may told' e peers' numbered b
 
 -- ---- faults
 fault_ends : (d : Due) (ended : Driven) → IsFault ended → MayEnd d ended
-fault_ends d driven.NetFault f = tt
+fault_ends d (driven.NetFault failure) f = tt
 fault_ends d driven.Memory f = tt
 fault_ends d driven.WriteFault f = absurd f
 fault_ends d driven.Done f = absurd f
@@ -133,7 +133,7 @@ fault_ends d (driven.Unreachable n) f = absurd f
 fault_ends d (driven.BadUrl k) f = absurd f
 
 fault_whole : (run : TvRun) (h : History) (ended : Driven) → IsFault ended → MadeTurns run h ended
-fault_whole run h driven.NetFault f = tt
+fault_whole run h (driven.NetFault failure) f = tt
 fault_whole run h driven.Memory f = tt
 fault_whole run h driven.WriteFault f = absurd f
 fault_whole run h driven.Done f = absurd f

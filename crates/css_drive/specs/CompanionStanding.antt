@@ -116,7 +116,7 @@ pub record Comes (config : DriveConfig) (before now : Shown) (saw : List Note �
 
 -- An observer that is over ends no run by a fault of the outside, and one that isn't over by no fault of a write.
 abbrev pub IsSo : Option OutFault → Driven → Type 0
-IsSo over driven.NetFault = over ≡ None
+IsSo over (driven.NetFault failure) = over ≡ None
 IsSo over driven.WriteFault = over ≡ None → ⊥
 IsSo over _ = ⊤
 
@@ -180,13 +180,13 @@ SawMore {W} saw old new newest result = (started : W) (notes : List Note) → sa
 -- ---- single calls
 -- a fault of the outside, or want of memory
 abbrev pub IsFault : Driven → Type 0
-IsFault driven.NetFault = ⊤
+IsFault (driven.NetFault failure) = ⊤
 IsFault driven.Memory = ⊤
 IsFault _ = ⊥
 
 -- an end that comes in the midst of a turn
 abbrev pub IsCut : Driven → Type 0
-IsCut driven.NetFault = ⊤
+IsCut (driven.NetFault failure) = ⊤
 IsCut driven.Memory = ⊤
 IsCut (driven.BadCii text fault) = ⊤
 IsCut (driven.Moved property old new) = ⊤
@@ -202,13 +202,13 @@ IsEarly _ = ⊤
 -- the end that an observer makes that is over, or a fault of the outside
 abbrev pub IsEndBy : Option OutFault → Driven → Type 0
 IsEndBy None ended = IsFault ended
-IsEndBy (Some fault.Failed) ended = ended ≡ driven.WriteFault
+IsEndBy (Some (fault.Failed failure)) ended = ended ≡ driven.WriteFault
 IsEndBy (Some fault.Memory) ended = ended ≡ driven.Memory
 
 -- the end of a run that would end so, but for an observer that is over
 abbrev pub final_end : Option OutFault → Driven → Driven
 final_end None ended = ended
-final_end (Some fault.Failed) ended = driven.WriteFault
+final_end (Some (fault.Failed failure)) ended = driven.WriteFault
 final_end (Some fault.Memory) ended = driven.Memory
 
 -- a call was not made, or failed, and told nothing
@@ -298,7 +298,7 @@ hung (Some peer) = HungUp peer ∷ []
 -- An observer's run ended so: it saw all, but where a write failed or memory ran out.
 abbrev pub IsEndOf : Option OutFault → Driven → Type 0
 IsEndOf None ended = ended ≡ driven.WriteFault → ⊥
-IsEndOf (Some fault.Failed) ended = ended ≡ driven.WriteFault
+IsEndOf (Some (fault.Failed failure)) ended = ended ≡ driven.WriteFault
 IsEndOf (Some fault.Memory) ended = ended ≡ driven.Memory
 
 -- A run's calls since `before` are these, and each was due. The run ended where it may, and the observer saw its notes.

@@ -15,7 +15,7 @@ Told (Some told) history = told ≡ history
 -- A run that has this due may end so. A fault of a device, or want of memory, ends it at any time, and else it ends
 -- exactly as it is due.
 abbrev pub MayEnd : Due → Driven → Type 0
-MayEnd due driven.NetFault = ⊤
+MayEnd due (driven.NetFault failure) = ⊤
 MayEnd due driven.WriteFault = ⊤
 MayEnd due driven.Memory = ⊤
 MayEnd due driven.Done = due ≡ Ends driven.Done
@@ -26,9 +26,14 @@ MayEnd due (driven.Spent turns) = due ≡ Ends (driven.Spent turns)
 MayEnd due (driven.Unreachable turns) = due ≡ Ends (driven.Unreachable turns)
 MayEnd due (driven.BadUrl property) = due ≡ Ends (driven.BadUrl property)
 
+-- a call of the outside other than a dial failed
+abbrev pub IsNetFault : Driven → Type 0
+IsNetFault (driven.NetFault failure) = ⊤
+IsNetFault _ = ⊥
+
 -- The count of faults of calls other than dials has risen at `NetFault`, and is as before at every other end.
 abbrev pub CountsNetFault : ℕ → ℕ → Driven → Type 0
-CountsNetFault before now driven.NetFault = HasRisen before now
+CountsNetFault before now (driven.NetFault failure) = HasRisen before now
 CountsNetFault before now _ = now ≡ before
 
 -- The sink's count of faults has risen at `WriteFault`, and is as before at every other end.

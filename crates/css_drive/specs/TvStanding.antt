@@ -3,7 +3,6 @@ use Rattle.std.specs.Prelude.{◌≡◌, ◌≢◌, ◌≤◌, ◌<◌, ◌+◌,
 use Rattle.std.specs.Prelude.{All, Option, Some, None, Result, MatchResult, IsErrOf, IfErr, OnOk}
 use Rattle.css_model.specs.declared.Why.{Why}
 use Rattle.css_model.specs.History.{History, Accepted}
-use Rattle.css_outside.specs.Faults.{HasRisen}
 use Rattle.css_outside.specs.Outsides.{Counts, with_entries, clock_entries}
 use Rattle.css_sessions.specs.Kept.{talk_of}
 use Rattle.css_sessions.specs.Told.{life_of}
@@ -15,7 +14,7 @@ use Rattle.css_tv.specs.declared.event.TvEvent.{TvEvent}
 use Rattle.css_tv.specs.declared.event.TvEvent.TheVariants as event
 use Rattle.css_schedule.specs.declared.line.ScriptLine.{ScriptLine}
 use Rattle.css_drive.specs.Proper.{Due, IsProper}
-use Rattle.css_drive.specs.Ends.{MayEnd}
+use Rattle.css_drive.specs.Ends.{MayEnd, CountsNetFault}
 use Rattle.css_drive.specs.TvProgress.{Place, Turned, Asked, Progress, settled, open_after, addresses_in, progress_of}
 use Rattle.css_drive.specs.TvDue.{TvRun, due, due_at, from_end, from_hang_ups}
 use Rattle.css_drive.specs.TvPeers.{Knows, Narrows, above, has}
@@ -27,7 +26,7 @@ use Rattle.css_drive.specs.declared.on_air.OnAir.{OnAir}
 -- ---- single calls
 -- a fault of the outside, or want of memory
 abbrev pub IsFault : Driven → Type 0
-IsFault driven.NetFault = ⊤
+IsFault (driven.NetFault failure) = ⊤
 IsFault driven.Memory = ⊤
 IsFault _ = ⊥
 
@@ -48,8 +47,7 @@ pub record HasCause {T : Type 0} (before now : Counts) (result : Result T Driven
   pub peers : before.peers ≤ now.peers
   pub kept : before.faults ≤ now.faults
   pub ok : OnOk result (now.faults ≡ before.faults)
-  pub failed : IsErrOf result driven.NetFault → HasRisen before.faults now.faults
-  pub other : IfErr result (λ ended. ended ≢ driven.NetFault → now.faults ≡ before.faults)
+  pub failed : IfErr result (λ ended. CountsNetFault before.faults now.faults ended)
   pub no_writes : IfErr result (λ ended. ended ≢ driven.WriteFault)
 
 -- ---- the history and the television

@@ -27,7 +27,7 @@ pub fn end_of(fault: OutFault) -> Driven
     ensures counted { (before : ℕ) → (now : ℕ) → CountsOutFault before now fault → CountsNetFault before now result }
 {
     match fault {
-        OutFault::Failed => Driven::NetFault,
+        OutFault::Failed(failure) => Driven::NetFault(failure),
         OutFault::Memory => Driven::Memory,
     }
 }
@@ -51,7 +51,7 @@ fn unseen(fault: OutFault) -> Driven
     ensures counted { (count : ℕ) → CountsNetFault count count result }
 {
     match fault {
-        OutFault::Failed => Driven::WriteFault,
+        OutFault::Failed(_) => Driven::WriteFault,
         OutFault::Memory => Driven::Memory,
     }
 }
@@ -75,7 +75,7 @@ pub fn ended_by<W: Observes>(observer: &W, ended: Driven) -> Driven
 {
     match observer.check() {
         Ok(()) => ended,
-        Err(OutFault::Failed) => Driven::WriteFault,
+        Err(OutFault::Failed(_)) => Driven::WriteFault,
         Err(OutFault::Memory) => Driven::Memory,
     }
 }
@@ -101,7 +101,7 @@ pub fn try_dial<O: Outside, W: Observes>(
     check(observer)?;
     match outside.dial(kind, to) {
         Ok(peer) => Ok(Some(peer)),
-        Err(OutFault::Failed) => Ok(None),
+        Err(OutFault::Failed(_)) => Ok(None),
         Err(OutFault::Memory) => Err(Driven::Memory),
     }
 }

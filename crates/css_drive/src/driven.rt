@@ -1,5 +1,6 @@
 use css_cii::{CiiFault, CiiName};
 use css_num::Text;
+use css_outside::Failure;
 use css_schedule::LineWhy;
 
 /// How a run ended.
@@ -14,8 +15,8 @@ pub enum Driven {
     },
     /// A write failed.
     WriteFault,
-    /// A call of the network or of the clock failed.
-    NetFault,
+    /// A call of the network or of the clock failed. The system said this of it.
+    NetFault(Failure),
     /// The CII text with this number, counted from 1, has this fault, which is never `Memory`.
     BadCii {
         text: u64,

@@ -2,6 +2,8 @@ ghost use Rattle.std.specs.Prelude.{◌≡◌, ◌≢◌, ◌∷◌, [], List, O
 ghost use Rattle.css_model.specs.History.{History};
 ghost use Rattle.css_tv.specs.Standing.{IsEvent, IsFresh, calls_of};
 ghost use Rattle.css_tv.specs.declared.event.TvOut.{TvOut as Output};
+ghost use Rattle.css_outside.specs.Faults.{CountsOutFault};
+ghost use Rattle.css_drive.specs.Ends.{CountsNetFault};
 ghost use Rattle.css_drive.specs.TvDue.{TvRun};
 ghost use Rattle.css_drive.specs.TvProgress.{Progress, happened, settled, addresses_in};
 ghost use Rattle.css_drive.specs.TvStanding.{IsFault, HasCause, Closes, Told, Stays, Stands, Goes, IsAccepted};
@@ -15,12 +17,11 @@ use std::alloc::Global;
 /// How a run ends when a call of the outside fails.
 pub(crate) fn fault_of(fault: OutFault) -> Driven
     ensures fault { IsFault result }
-    ensures net { result ≡ driven.NetFault → fault ≡ OutFault.Failed }
-    ensures other { fault ≡ OutFault.Failed → result ≡ driven.NetFault }
+    ensures counted { (before : ℕ) → (now : ℕ) → CountsOutFault before now fault → CountsNetFault before now result }
     ensures no_writes { result ≢ driven.WriteFault }
 {
     match fault {
-        OutFault::Failed => Driven::NetFault,
+        OutFault::Failed(failure) => Driven::NetFault(failure),
         OutFault::Memory => Driven::Memory,
     }
 }

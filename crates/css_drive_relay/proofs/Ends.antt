@@ -9,7 +9,7 @@ use Rattle.css_model.specs.History.{HungUp, History}
 use Rattle.css_outside.specs.Faults.{HasRisen}
 use Rattle.css_relay.specs.Relays.{Relay}
 use Rattle.css_drive.specs.CompanionStanding.{Shown, Adds, IsFault, IsCut}
-use Rattle.css_drive.specs.Ends.{MayEnd, CountsDialFaults}
+use Rattle.css_drive.specs.Ends.{MayEnd, IsNetFault, CountsDialFaults}
 use Rattle.css_drive.specs.Proper.{Due, Now, HangUp, Ends}
 use Rattle.css_model.specs.declared.Why.TheVariants as why
 use Rattle.css_drive.specs.declared.driven.Driven.{Driven}
@@ -109,9 +109,9 @@ module _ {run : RelayRun} {start now : Shown} {live : Live} {relay : Relay} wher
       (ends (is_some live.cii || is_some live.wc) (due_at run (facts_in live) x.history x.place)
       (due_hanging run live x.history enough index x.place x.hanging ∙ ap (from_hang_ups (final run (facts_in live))) none))
     where
-      never : (b : Bool) → cond b driven.Done (driven.Unreachable run.turns) ≡ driven.NetFault → ⊥
-      never true e = cc
-      never false e = cc
+      never : (b : Bool) → IsNetFault (cond b driven.Done (driven.Unreachable run.turns)) → ⊥
+      never true e = e
+      never false e = e
 
       ends : (b : Bool) (d : Due) → d ≡ Ends (cond b driven.Done (driven.Unreachable run.turns))
           → MayEnd d (cond b driven.Done (driven.Unreachable run.turns))
@@ -148,7 +148,7 @@ ending_counts run f before now le tried ended (inl e) =
     by None true tried = le
     by None false tried = tried refl
     by (Some p) b tried = le
-ending_counts run f before now le tried driven.NetFault (inr c) = le
+ending_counts run f before now le tried (driven.NetFault failure) (inr c) = le
 ending_counts run f before now le tried driven.Memory (inr c) = le
 ending_counts run f before now le tried driven.WriteFault (inr c) = absurd c
 ending_counts run f before now le tried driven.Done (inr c) = absurd c
@@ -161,7 +161,7 @@ ending_counts run f before now le tried (driven.BadUrl property) (inr c) = absur
 
 -- a run that is cut counts no failed dial
 pub cut_counts : (before now : ℕ) → before ≤ now → (ended : Driven) → IsCut ended → CountsDialFaults before now ended
-cut_counts before now le driven.NetFault c = le
+cut_counts before now le (driven.NetFault failure) c = le
 cut_counts before now le driven.Memory c = le
 cut_counts before now le (driven.BadCii text fault) c = le
 cut_counts before now le (driven.Moved property old new) c = le

@@ -10,7 +10,7 @@ use Rattle.css_companion.specs.Meanings.{kind_of, cii_text, ts_text, closes_ts}
 use Rattle.css_companion.proofs.Telling as telling
 use Rattle.css_relay.specs.Relays.{Relay}
 use Rattle.css_drive.specs.CompanionStanding.{Shown, Failed, asked_after}
-use Rattle.css_drive.specs.Ends.{MayEnd, CountsNetFault}
+use Rattle.css_drive.specs.Ends.{MayEnd, IsNetFault, CountsNetFault}
 use Rattle.css_drive.specs.Proper.{Due, Now, MayAdd, More}
 use Rattle.css_drive.specs.declared.driven.Driven.{Driven}
 use Rattle.css_drive.specs.declared.driven.Driven.TheVariants as driven
@@ -149,7 +149,7 @@ stops_by_fault {run} {start} {now} {history = history} s l next ended f =
 
 -- the end is due, or memory is wanting
 pub stops_here : {run : RelayRun} {start now : Shown} {p : Progress} {history : History}
-    → Runs run start now p history → IsLawful history → (ended : Driven) → (ended ≡ driven.NetFault → ⊥)
+    → Runs run start now p history → IsLawful history → (ended : Driven) → (IsNetFault ended → ⊥)
     → MayEnd (due_for run history p) ended → Stops run start now ended
 stops_here {run} {start} {now} {history = history} s l ended never ends =
     let P : Due → Type 0 = λ x. MayEnd x ended in

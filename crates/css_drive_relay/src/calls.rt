@@ -19,7 +19,7 @@ pub(crate) fn end_of(fault: OutFault) -> Driven
     ensures counted { (before : ℕ) → (now : ℕ) → CountsOutFault before now fault → CountsNetFault before now result }
 {
     match fault {
-        OutFault::Failed => Driven::NetFault,
+        OutFault::Failed(failure) => Driven::NetFault(failure),
         OutFault::Memory => Driven::Memory,
     }
 }
@@ -43,7 +43,7 @@ pub(crate) fn try_dial<O: Outside>(
 {
     match outside.dial(kind, to) {
         Ok(peer) => Ok(Some(peer)),
-        Err(OutFault::Failed) => Ok(None),
+        Err(OutFault::Failed(_)) => Ok(None),
         Err(OutFault::Memory) => Err(Driven::Memory),
     }
 }

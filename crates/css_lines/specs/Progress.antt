@@ -22,7 +22,7 @@ line_stop line refused.Memory = Memory
 
 -- the stop that a sink's fault makes
 abbrev pub sink_stop : {Cause : Type 0} → OutFault → Stop Cause
-sink_stop fault.Failed = WriteFault
+sink_stop (fault.Failed failure) = WriteFault
 sink_stop fault.Memory = Memory
 
 -- no line feed stands in the bytes

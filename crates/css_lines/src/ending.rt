@@ -34,7 +34,7 @@ impl<C> From<OutFault> for Stop<C> {
 
     fn from(fault: OutFault) -> Stop<C> {
         match fault {
-            OutFault::Failed => Stop::WriteFault,
+            OutFault::Failed(_) => Stop::WriteFault,
             OutFault::Memory => Stop::Memory,
         }
     }

@@ -2,7 +2,7 @@
 use Rattle.std.specs.Prelude.{◌≡◌, ℕ, ◌≤◌, ◌<◌, IsTrue, ◌+◌, ◌&&◌, ◌||◌, ◌==◌, not, nat_le, nat_lt}
 use Rattle.std.specs.Prelude.{List, [], ◌∷◌, ◌++◌, take, drop, length, fold, position, Bool, true}
 use Rattle.std.specs.Prelude.{false, Option, Some, None, if◌then◌else◌, nat_eq, slice_get, remove}
-use Rattle.std.specs.Prelude.{Result, Ok, Err, MatchResult, IsErr, IsErrOf, Contains, ◌↔◌}
+use Rattle.std.specs.Prelude.{Result, Ok, Err, MatchResult, IsErr, Contains, ◌↔◌}
 use Rattle.std.specs.List.{list_any}
 use Rattle.std.specs.Option.{option_and_then, option_map}
 use Rattle.css_model.specs.declared.Why.{Why}
@@ -11,6 +11,7 @@ use Rattle.css_model.specs.declared.Kind.{Kind}
 use Rattle.css_model.specs.declared.Kind.TheVariants as kind
 use Rattle.css_model.specs.History.{History, Listening, Dialling, Dialled, NotDialled, Sent, HungUp, Took, TookNone}
 use Rattle.css_outside.specs.declared.fault.OutFault.{OutFault}
+use Rattle.css_outside.specs.Faults.{HasFailed}
 use Rattle.css_outside.specs.declared.fault.OutFault.TheVariants as fault
 use Rattle.css_outside.specs.Outsides.{Counts, clock_entries, opening_entries, heard_entries, wrote_entries}
 use Rattle.css_outside.specs.declared.calls.Clocked.{Clocked}
@@ -235,11 +236,11 @@ counts_at state = record { dial_faults = 0; faults = 0; last = state.last; peers
 
 -- a call fails exactly where its number stands in the list of those that do
 abbrev pub FailsWhereTold : {T : Type 0} → Scripted → Result T OutFault → Type 0
-FailsWhereTold state result = IsErrOf result fault.Failed ↔ Contains state.fails (next_count state.calls)
+FailsWhereTold state result = HasFailed result ↔ Contains state.fails (next_count state.calls)
 
 -- A dial that is to fail may lack the memory to be told.
 pub record DialFailsWhereTold {T : Type 0} (state : Scripted) (result : Result T OutFault) : Type 0 where
-  pub only : IsErrOf result fault.Failed → Contains state.fails (next_count state.calls)
+  pub only : HasFailed result → Contains state.fails (next_count state.calls)
   pub always : Contains state.fails (next_count state.calls) → IsErr result
 
 -- ---- what a call leaves
@@ -261,5 +262,5 @@ dial_failed kind to state = telling (NotDialled kind ∷ Dialling kind to ∷ []
 
 abbrev pub StepsDial : Kind → Address → Scripted → Scripted → Result ℕ OutFault → Type 0
 StepsDial kind to before now (Ok peer) = now ≡ counted (dialled kind to before)
-StepsDial kind to before now (Err fault.Failed) = now ≡ counted (dial_failed kind to before)
+StepsDial kind to before now (Err (fault.Failed failure)) = now ≡ counted (dial_failed kind to before)
 StepsDial kind to before now (Err fault.Memory) = now ≡ counted before

@@ -1,8 +1,8 @@
 -- What a spawner in memory was asked, and how its children ended.
 use Rattle.std.specs.Prelude.{◌≡◌, ℕ, ◌+◌, ◌-◌, ℤ, pos, List, [], ◌∷◌, fold}
-use Rattle.std.specs.Prelude.{Result, ◌↔◌, IsErrOf, Contains}
+use Rattle.std.specs.Prelude.{Result, ◌↔◌, Contains}
 use Rattle.css_outside.specs.declared.fault.OutFault.{OutFault}
-use Rattle.css_outside.specs.declared.fault.OutFault.TheVariants as fault
+use Rattle.css_outside.specs.Faults.{HasFailed}
 use Rattle.css_outside.specs.Spawners.{Spawned, Started, Finished}
 use Rattle.css_memory.specs.declared.memory_spawner.SpawnNote.{SpawnNote}
 use Rattle.css_memory.specs.declared.memory_spawner.SpawnNote.TheVariants as note
@@ -35,4 +35,4 @@ next_status (status ∷ later) = status
 
 -- a call fails exactly where its number stands in the list of those that do
 abbrev pub SpawnFailsWhereTold : {T : Type 0} → Failures → Result T OutFault → Type 0
-SpawnFailsWhereTold failing result = IsErrOf result fault.Failed ↔ Contains failing.fails (next_count failing.calls)
+SpawnFailsWhereTold failing result = HasFailed result ↔ Contains failing.fails (next_count failing.calls)

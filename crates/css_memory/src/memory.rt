@@ -1,13 +1,13 @@
 ghost use Rattle.std.specs.Prelude.{◌≡◌, ◌<◌, ◌≤◌, ◌↔◌, [], Some, length, min, IfOk, OnErr, IsErr, IsErrOf, Contains};
 ghost use Rattle.std.specs.Io.{ReadsAtMost};
 ghost use Rattle.std.specs.Io.KnownBytes.{ReadConsumes, WriteAppends};
-ghost use Rattle.css_outside.specs.Faults.{CountsReadFaults, CountsCall};
+ghost use Rattle.css_outside.specs.Faults.{CountsReadFaults, CountsCall, HasFailed};
 ghost use Rattle.css_outside.specs.Devices.{read_count};
 ghost use Rattle.css_memory.specs.Failing.{next_count};
 
 use crate::failing::FailingCalls;
 use css_num::Memory;
-use css_outside::{Failed, NeverFailsSink, NeverFailsSource, OutFault, Sink, Source};
+use css_outside::{Failed, Failure, NeverFailsSink, NeverFailsSource, OutFault, Sink, Source};
 use std::alloc::Global;
 use std::marker::Model;
 
@@ -141,14 +141,14 @@ impl Sink for MemorySink {
         ensures counted { CountsCall self.old.faults self.new.faults result }
 
         // Which writes fail, and how many bytes the others take.
-        ensures fails { IsErrOf result OutFault.Failed ↔ Contains self.old.fails (next_count self.old.calls) }
+        ensures fails { HasFailed result ↔ Contains self.old.fails (next_count self.old.calls) }
         ensures count { IfOk result (λ count. count ≡ min self.old.piece (length bytes.now)) }
-        ensures risen { IsErrOf result OutFault.Failed → self.new.faults ≡ next_count self.old.faults }
+        ensures risen { HasFailed result → self.new.faults ≡ next_count self.old.faults }
         ensures others { self.new
             ≡ record self.old { holds = self.new.holds; calls = next_count self.old.calls; faults = self.new.faults } }
     {
         if self.failing.next_fails() {
-            return Err(OutFault::Failed);
+            return Err(OutFault::Failed(Failure::Other));
         }
         self.bytes.write(bytes)
     }

@@ -11,7 +11,7 @@ use crate::script::OutsideScript;
 use crate::scripted::Devices;
 use css_model::{Kind, Why};
 use css_num::{Memory, Text};
-use css_outside::{Address, Clocked, Heard, OutFault, Outside, Wrote};
+use css_outside::{Address, Clocked, Failure, Heard, OutFault, Outside, Wrote};
 use std::alloc::Global;
 use std::marker::Model;
 
@@ -70,7 +70,7 @@ impl Outside for MemoryOutside {
     {
         if self.devices.next_fails() {
             self.faults = self.faults.saturating_add(1);
-            return Err(OutFault::Failed);
+            return Err(OutFault::Failed(Failure::Other));
         }
         Ok(self.devices.listen(host, port)?)
     }
@@ -86,7 +86,7 @@ impl Outside for MemoryOutside {
     {
         if self.devices.next_fails() {
             self.faults = self.faults.saturating_add(1);
-            return Err(OutFault::Failed);
+            return Err(OutFault::Failed(Failure::Other));
         }
         Ok(self.devices.now(why)?)
     }
@@ -101,7 +101,7 @@ impl Outside for MemoryOutside {
         if self.devices.next_fails() {
             self.devices.fail_dial(kind, to)?;
             self.dial_faults = self.dial_faults.saturating_add(1);
-            return Err(OutFault::Failed);
+            return Err(OutFault::Failed(Failure::Other));
         }
         Ok(self.devices.dial(kind, to)?)
     }
@@ -115,7 +115,7 @@ impl Outside for MemoryOutside {
     {
         if self.devices.next_fails() {
             self.faults = self.faults.saturating_add(1);
-            return Err(OutFault::Failed);
+            return Err(OutFault::Failed(Failure::Other));
         }
         Ok(self.devices.accept()?)
     }
@@ -130,7 +130,7 @@ impl Outside for MemoryOutside {
     {
         if self.devices.next_fails() {
             self.faults = self.faults.saturating_add(1);
-            return Err(OutFault::Failed);
+            return Err(OutFault::Failed(Failure::Other));
         }
         Ok(self.devices.send_datagram(peer, bytes)?)
     }
@@ -146,7 +146,7 @@ impl Outside for MemoryOutside {
     {
         if self.devices.next_fails() {
             self.faults = self.faults.saturating_add(1);
-            return Err(OutFault::Failed);
+            return Err(OutFault::Failed(Failure::Other));
         }
         Ok(self.devices.take_datagram(into)?)
     }
@@ -162,7 +162,7 @@ impl Outside for MemoryOutside {
     {
         if self.devices.next_fails() {
             self.faults = self.faults.saturating_add(1);
-            return Err(OutFault::Failed);
+            return Err(OutFault::Failed(Failure::Other));
         }
         Ok(self.devices.take_text(peer)?)
     }
@@ -178,7 +178,7 @@ impl Outside for MemoryOutside {
     {
         if self.devices.next_fails() {
             self.faults = self.faults.saturating_add(1);
-            return Err(OutFault::Failed);
+            return Err(OutFault::Failed(Failure::Other));
         }
         Ok(self.devices.send_text(peer, text)?)
     }
@@ -192,7 +192,7 @@ impl Outside for MemoryOutside {
     {
         if self.devices.next_fails() {
             self.faults = self.faults.saturating_add(1);
-            return Err(OutFault::Failed);
+            return Err(OutFault::Failed(Failure::Other));
         }
         Ok(self.devices.hang_up(peer)?)
     }

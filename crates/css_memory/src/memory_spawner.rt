@@ -8,7 +8,7 @@ ghost use Rattle.css_memory.specs.Spawning as spawners;
 use crate::failing::FailingCalls;
 use crate::places::past;
 use css_num::{Memory, Text};
-use css_outside::{OutFault, Spawner};
+use css_outside::{Failure, OutFault, Spawner};
 use std::alloc::Global;
 use std::marker::Model;
 
@@ -120,7 +120,7 @@ impl Spawner for MemorySpawner {
         ensures statuses { self.new.statuses ≡ self.old.statuses }
     {
         if self.failing.next_fails() {
-            return Err(OutFault::Failed);
+            return Err(OutFault::Failed(Failure::Other));
         }
         let words = copied(self.alloc, words)?;
         let input = Text::of(self.alloc, input)?;
@@ -141,7 +141,7 @@ impl Spawner for MemorySpawner {
         ensures next { OnOk result (self.new.statuses ≡ drop 1 self.old.statuses) }
     {
         if self.failing.next_fails() {
-            return Err(OutFault::Failed);
+            return Err(OutFault::Failed(Failure::Other));
         }
         let status = next_status(&self.statuses, self.ended);
         add_note(&mut self.notes, SpawnNote::Finished(status))?;

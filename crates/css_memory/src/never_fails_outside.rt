@@ -1,5 +1,6 @@
 ghost use Rattle.std.specs.Prelude.{◌≡◌, ◌+◌, [], ◌∷◌, Some, IfOk, IsTrue, ◌≢◌, Err};
 ghost use Rattle.css_model.specs.History.{Listening, Sent, HungUp};
+ghost use Rattle.css_outside.specs.Faults.{HasFailed};
 ghost use Rattle.css_outside.specs.Outsides.{Tells, TellsDial, CountsPlain, CountsClock};
 ghost use Rattle.css_outside.specs.Outsides.{CountsDial, CountsOpening, FitsRoom};
 ghost use Rattle.css_outside.specs.Outsides as calls;
@@ -51,7 +52,7 @@ impl Outside for NeverFailsOutside {
     fn listen(&mut self, host: &Text, port: u16) -> Result<(), OutFault>
         ensures told { Tells (Some self.old.told) (Some self.new.told) result (λ _. Listening host.now port ∷ []) }
         ensures counted { CountsPlain (counts_at self.old) (counts_at self.new) result }
-        ensures never { result ≢ Err OutFault.Failed }
+        ensures never { HasFailed result → ⊥ }
         ensures steps { Steps self.old self.new result (telling (Listening host.now port ∷ []) self.old) }
     {
         Ok(self.devices.listen(host, port)?)
@@ -60,7 +61,7 @@ impl Outside for NeverFailsOutside {
     fn now(&mut self, why: Why) -> Result<Clocked, OutFault>
         ensures told { Tells (Some self.old.told) (Some self.new.told) result (calls.clock_entries why) }
         ensures counted { CountsClock (counts_at self.old) (counts_at self.new) result }
-        ensures never { result ≢ Err OutFault.Failed }
+        ensures never { HasFailed result → ⊥ }
         ensures value { IfOk result (λ clocked. clocked ≡ scripts.next_reading self.old.last self.old.readings) }
         ensures steps { Steps self.old self.new result (scripts.read_once why self.old) }
     {
@@ -70,7 +71,7 @@ impl Outside for NeverFailsOutside {
     fn dial(&mut self, kind: Kind, to: &Address) -> Result<u32, OutFault>
         ensures told { TellsDial (Some self.old.told) (Some self.new.told) kind to.now result }
         ensures counted { CountsDial (counts_at self.old) (counts_at self.new) result }
-        ensures never { result ≢ Err OutFault.Failed }
+        ensures never { HasFailed result → ⊥ }
         ensures value { IfOk result (λ peer. peer ≡ self.old.peers + 1) }
         ensures steps { Steps self.old self.new result (scripts.dialled kind to.now self.old) }
     {
@@ -80,7 +81,7 @@ impl Outside for NeverFailsOutside {
     fn accept(&mut self) -> Result<Option<(u32, Kind)>, OutFault>
         ensures told { Tells (Some self.old.told) (Some self.new.told) result calls.opening_entries }
         ensures counted { CountsOpening (counts_at self.old) (counts_at self.new) result }
-        ensures never { result ≢ Err OutFault.Failed }
+        ensures never { HasFailed result → ⊥ }
         ensures value { IfOk result (λ came. came ≡ scripts.next_opening self.old) }
         ensures steps { Steps self.old self.new result (scripts.opened_once self.old) }
     {
@@ -90,7 +91,7 @@ impl Outside for NeverFailsOutside {
     fn send_datagram(&mut self, peer: u32, bytes: &[u8; 32]) -> Result<(), OutFault>
         ensures told { Tells (Some self.old.told) (Some self.new.told) result (λ _. Sent peer bytes.now ∷ []) }
         ensures counted { CountsPlain (counts_at self.old) (counts_at self.new) result }
-        ensures never { result ≢ Err OutFault.Failed }
+        ensures never { HasFailed result → ⊥ }
         ensures steps { Steps self.old self.new result (telling (Sent peer bytes.now ∷ []) self.old) }
     {
         Ok(self.devices.send_datagram(peer, bytes)?)
@@ -100,7 +101,7 @@ impl Outside for NeverFailsOutside {
         ensures told { Tells (Some self.old.told) (Some self.new.told) result (calls.datagram_entries into.new) }
         ensures room { IfOk result FitsRoom }
         ensures counted { CountsPlain (counts_at self.old) (counts_at self.new) result }
-        ensures never { result ≢ Err OutFault.Failed }
+        ensures never { HasFailed result → ⊥ }
         ensures value { IfOk result (λ came. came ≡ scripts.taken_from (scripts.next_item self.old.datagrams)) }
         ensures steps { Steps self.old self.new result (scripts.took_once self.old) }
     {
@@ -110,7 +111,7 @@ impl Outside for NeverFailsOutside {
     fn take_text(&mut self, peer: u32) -> Result<Heard, OutFault>
         ensures told { Tells (Some self.old.told) (Some self.new.told) result (calls.heard_entries peer) }
         ensures counted { CountsPlain (counts_at self.old) (counts_at self.new) result }
-        ensures never { result ≢ Err OutFault.Failed }
+        ensures never { HasFailed result → ⊥ }
         ensures value { IfOk result (λ said. said ≡ scripts.next_heard peer self.old) }
         ensures steps { Steps self.old self.new result (scripts.heard_once peer self.old) }
     {
@@ -120,7 +121,7 @@ impl Outside for NeverFailsOutside {
     fn send_text(&mut self, peer: u32, text: &[u8]) -> Result<Wrote, OutFault>
         ensures told { Tells (Some self.old.told) (Some self.new.told) result (calls.wrote_entries peer text.now) }
         ensures counted { CountsPlain (counts_at self.old) (counts_at self.new) result }
-        ensures never { result ≢ Err OutFault.Failed }
+        ensures never { HasFailed result → ⊥ }
         ensures value { IfOk result (λ wrote. wrote ≡ scripts.next_wrote self.old) }
         ensures steps { Steps self.old self.new result (scripts.wrote_once peer text.now self.old) }
     {
@@ -130,7 +131,7 @@ impl Outside for NeverFailsOutside {
     fn hang_up(&mut self, peer: u32) -> Result<(), OutFault>
         ensures told { Tells (Some self.old.told) (Some self.new.told) result (λ _. HungUp peer ∷ []) }
         ensures counted { CountsPlain (counts_at self.old) (counts_at self.new) result }
-        ensures never { result ≢ Err OutFault.Failed }
+        ensures never { HasFailed result → ⊥ }
         ensures steps { Steps self.old self.new result (telling (HungUp peer ∷ []) self.old) }
     {
         Ok(self.devices.hang_up(peer)?)

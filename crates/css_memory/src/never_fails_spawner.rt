@@ -1,5 +1,5 @@
 ghost use Rattle.std.specs.Prelude.{◌≡◌, ◌≢◌, ◌+◌, ◌<◌, [], Some, Err, drop, IfOk, OnOk, OnErr};
-ghost use Rattle.css_outside.specs.Faults.{CountsCall};
+ghost use Rattle.css_outside.specs.Faults.{CountsCall, HasFailed};
 ghost use Rattle.css_outside.specs.Spawners.{Started, Finished, TellsSpawned};
 ghost use Rattle.css_memory.specs.Spawning as spawners;
 
@@ -54,7 +54,7 @@ impl Spawner for NeverFailsSpawner {
         ensures ok { OnOk result (spawners.running_of self.new.told ≡ spawners.running_of self.old.told + 1) }
         ensures err { OnErr result (spawners.running_of self.new.told ≡ spawners.running_of self.old.told) }
         ensures counted { CountsCall 0 0 result }
-        ensures never { result ≢ Err OutFault.Failed }
+        ensures never { HasFailed result → ⊥ }
         ensures statuses { self.new.statuses ≡ self.old.statuses }
     {
         self.inner.start(words, input)
@@ -66,7 +66,7 @@ impl Spawner for NeverFailsSpawner {
         ensures ok { OnOk result (spawners.running_of self.new.told + 1 ≡ spawners.running_of self.old.told) }
         ensures err { OnErr result (spawners.running_of self.new.told ≡ spawners.running_of self.old.told) }
         ensures counted { CountsCall 0 0 result }
-        ensures never { result ≢ Err OutFault.Failed }
+        ensures never { HasFailed result → ⊥ }
         ensures value { IfOk result (λ status. status ≡ spawners.next_status self.old.statuses) }
         ensures next { OnOk result (self.new.statuses ≡ drop 1 self.old.statuses) }
     {

@@ -1,5 +1,5 @@
 -- How a device counts its faults.
-use Rattle.std.specs.Prelude.{◌≡◌, ℕ, ◌-◌, ◌^◌, ◌<◌, ◌≤◌, Result, MatchResult}
+use Rattle.std.specs.Prelude.{◌≡◌, ℕ, ◌-◌, ◌^◌, ◌<◌, ◌≤◌, Result, Ok, Err, MatchResult, ⊤}
 use Rattle.css_outside.specs.declared.fault.Failed as plain
 use Rattle.css_outside.specs.declared.fault.OutFault.{OutFault}
 use Rattle.css_outside.specs.declared.fault.OutFault.TheVariants.{Failed, Memory}
@@ -13,9 +13,15 @@ pub record HasRisen (before now : ℕ) : Type 0 where
 abbrev pub CountsReadFaults : {T : Type 0} → ℕ → ℕ → Result T plain.Failed → Type 0
 CountsReadFaults before now result = MatchResult result (λ _. now ≡ before) (λ _. HasRisen before now)
 
+-- the device failed, whatever the system said of it
+abbrev pub HasFailed : {T : Type 0} → Result T OutFault → Type 0
+HasFailed (Ok value) = ⊥
+HasFailed (Err (Failed failure)) = ⊤
+HasFailed (Err Memory) = ⊥
+
 -- the count has risen where the device failed, and is as it was where memory ran out
 abbrev pub CountsOutFault : ℕ → ℕ → OutFault → Type 0
-CountsOutFault before now Failed = HasRisen before now
+CountsOutFault before now (Failed failure) = HasRisen before now
 CountsOutFault before now Memory = now ≡ before
 
 -- a call that succeeds leaves the count as it was, and so does want of memory; one that fails has it risen

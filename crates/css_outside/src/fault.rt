@@ -1,7 +1,9 @@
 ghost use Rattle.std.specs.Prelude.{◌≡◌};
 ghost use Rattle.css_outside.specs.declared.fault.OutFault.{OutFault};
 ghost use Rattle.css_outside.specs.declared.fault.OutFault.TheVariants as fault;
+ghost use Rattle.css_outside.specs.declared.failure.Failure.TheVariants as failure;
 
+use crate::failure::Failure;
 use css_num::Memory;
 use std::error::Error;
 use std::fmt;
@@ -25,8 +27,8 @@ impl Error for Failed {}
 /// Why a device took nothing more. Want of memory is no fault of the device: its count of faults stays as it was.
 #[derive(Clone, Copy, Debug, PartialEq, Eq, Hash)]
 pub enum OutFault {
-    /// The device failed, and its count of faults has risen.
-    Failed,
+    /// The device failed, and its count of faults has risen. The system said this of it.
+    Failed(Failure),
     /// Memory ran out.
     Memory,
 }
@@ -39,7 +41,7 @@ impl fmt::Display for OutFault {
 
     fn fmt<W: fmt::Write>(&self, f: &mut fmt::Formatter<W>) -> fmt::Result {
         match self {
-            OutFault::Failed => Failed.fmt(f),
+            OutFault::Failed(_) => Failed.fmt(f),
             OutFault::Memory => Memory.fmt(f),
         }
     }
@@ -48,10 +50,10 @@ impl fmt::Display for OutFault {
 impl Error for OutFault {}
 
 impl From<Failed> for OutFault {
-    ghost from_gives = { λ _ answer. answer ≡ fault.Failed };
+    ghost from_gives = { λ _ answer. answer ≡ fault.Failed failure.Other };
 
     fn from(_: Failed) -> OutFault {
-        OutFault::Failed
+        OutFault::Failed(Failure::Other)
     }
 }
 

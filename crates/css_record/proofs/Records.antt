@@ -89,7 +89,7 @@ holds_whole : (ended : Driven) (held holds : Option (List ℕ)) (whole : List �
 holds_whole driven.Done held holds whole p = p
 holds_whole (driven.BadLine line why) held holds whole p = p
 holds_whole driven.WriteFault held holds whole p = whole_prefix held holds whole p
-holds_whole driven.NetFault held holds whole p = p
+holds_whole (driven.NetFault failure) held holds whole p = p
 holds_whole (driven.BadCii text reason) held holds whole p = p
 holds_whole (driven.Moved property old new) held holds whole p = p
 holds_whole (driven.Spent n) held holds whole p = p
@@ -102,7 +102,7 @@ holds_by : (over : Option OutFault) (ended : Driven) (a b c : Option (List ℕ))
     → IsEndOf over ended → Appends a b header → Writes over b c f n lines → HoldsRecord a c (header ++ lines) ended
 holds_by None ended a b c f n header lines so p w =
     holds_whole ended a c (header ++ lines) (Appends-trans a b c header lines p w.0)
-holds_by (Some fault.Failed) ended a b c f n header lines so p w =
+holds_by (Some (fault.Failed failure)) ended a b c f n header lines so p w =
     subst (HoldsRecord a c (header ++ lines)) (sym so) (prefix_on a b c header lines p w.0)
 holds_by (Some fault.Memory) ended a b c f n header lines so p w =
     subst (HoldsRecord a c (header ++ lines)) (sym so) (prefix_on a b c header lines p w.0)

@@ -81,7 +81,7 @@ pub fn drive_record<K: Sink, O: Outside>(
     match begin(alloc, &config) {
         Err(Memory) => Driven::Memory,
         Ok((mut companion, header)) => match put(sink, Ok(header)) {
-            Some(OutFault::Failed) => Driven::WriteFault,
+            Some(OutFault::Failed(_)) => Driven::WriteFault,
             Some(OutFault::Memory) => Driven::Memory,
             None => {
                 let mut recorder = Recorder {

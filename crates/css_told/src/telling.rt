@@ -55,7 +55,7 @@ impl<O: Outside> Outside for TellingOutside<O> {
         let dialled = self.inner.dial(kind, to);
         match dialled {
             Ok(peer) => self.diary.note(&Note::Dials(kind, to, peer)),
-            Err(OutFault::Failed) => self.diary.note(&Note::DialsInVain(kind, to)),
+            Err(OutFault::Failed(_)) => self.diary.note(&Note::DialsInVain(kind, to)),
             Err(OutFault::Memory) => {}
         }
         dialled
