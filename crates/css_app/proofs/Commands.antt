@@ -17,7 +17,7 @@ use Rattle.css_app.specs.declared.child.Child.{Child}
 use Rattle.css_app.specs.declared.status.Status.{Status}
 use Rattle.css_app.specs.declared.status.Status.TheVariants as status
 use Rattle.css_app.specs.Commands.{ByCompanion, ByRecord, CompanionsBy, Does, EitherCompanion, EndsAsAsked, IsAskedRun}
-use Rattle.css_app.specs.Commands.{PairsAsAsked, PairsBy, RecordsBy, asked_child, asked_tv}
+use Rattle.css_app.specs.Commands.{PairsAsAsked, PairsBy, RecordsBy, asked_child, asked_drive}
 use Rattle.css_app.specs.Devices.{FollowersUse, OutsideUse, SinkUse, SourceUse, SpawnerUse, stage_after, stage_before}
 use Rattle.css_app.specs.Ended.{IsNoUsage}
 use Rattle.css_app.specs.Live.{Companions, EndsAsDue, Stage}
@@ -113,7 +113,7 @@ usage_only (Ok Migrate) source sink outside spawner followers result did is =
 usage_only (Ok (Companion asked)) source sink outside spawner followers result did is =
     absurd (subst IsNoUsage is (either_no_usage asked.recorded asked source sink outside followers result did))
 usage_only (Ok (Tv asked)) source sink outside spawner followers result did is =
-    absurd (subst IsNoUsage is (serves_no_dial (asked_tv asked) asked.turns source.left_old source.left_new
+    absurd (subst IsNoUsage is (serves_no_dial (asked_drive asked) source.left_old source.left_new
     outside.told_old outside.told_new result did.ran).0.0)
 usage_only (Ok (Pair asked)) source sink outside spawner followers result did is =
     absurd (subst IsNoUsage is (pairs_by_no_usage asked followers.takes source (stage_before sink outside followers)

@@ -15,8 +15,8 @@ use Rattle.css_drive.specs.declared.config.DriveConfig.{DriveConfig}
 use Rattle.css_drive.specs.declared.driven.Driven.{Driven}
 use Rattle.css_drive.specs.declared.driven.Driven.TheVariants as driven
 use Rattle.css_drive.specs.Ends.{MayEnd}
-use Rattle.css_drive.specs.TvDue.{TvRun, due}
-use Rattle.css_tv.specs.declared.config.TvConfig.{TvConfig}
+use Rattle.css_drive.specs.TvDue.{TvRun, run_of, due}
+use Rattle.css_drive.specs.declared.tv_config.TvDrive.{TvDrive}
 use Rattle.css_app.specs.declared.child.Child.{Child}
 use Rattle.css_app.specs.declared.replay.Cause.{Cause}
 use Rattle.css_app.specs.declared.replay.Cause.TheVariants as causes
@@ -265,15 +265,15 @@ served_dials run h (driven.Unreachable turns) ends n = absurd (never_unreachable
 served_dials run h (driven.BadUrl property) ends n = omega arith
 served_dials run h driven.Memory ends n = omega arith
 
-pub serves_no_dial : (config : TvConfig) (turns : ℕ) (left_old left_new : Option (List ℕ))
+pub serves_no_dial : (drive : TvDrive) (left_old left_new : Option (List ℕ))
     (told_old told_new : Option History) (result : Status)
-    → Serves config turns left_old left_new told_old told_new result → HasNoDial result
-serves_no_dial config turns left_old left_new told_old told_new result (inl none) =
+    → Serves drive left_old left_new told_old told_new result → HasNoDial result
+serves_no_dial drive left_old left_new told_old told_new result (inl none) =
     script_no_dial left_old result none.cause
-serves_no_dial config turns left_old left_new told_old told_new result (inr ran) =
+serves_no_dial drive left_old left_new told_old told_new result (inr ran) =
     subst HasNoDial (sym ran.tells) (
       driven_no_child ran.ended,
-      served_dials (record { config = config; turns = turns; script = ran.script }) ran.ran.h ran.ended ran.ran.ends,
+      served_dials (run_of drive ran.script) ran.ran.h ran.ended ran.ran.ends,
     )
 
 start_no_usage : (result : Status) → IsNoStart result → IsNoUsage result

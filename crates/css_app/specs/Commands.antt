@@ -3,7 +3,9 @@ use Rattle.std.specs.Prelude.{◌≡◌, ◌⊎◌, ℕ, Bool, true, false, not,
 use Rattle.css_model.specs.History.{Address, History}
 use Rattle.css_agree.specs.Promise as agree
 use Rattle.css_audit.specs.Promise.{SaysRight}
+use Rattle.css_drive.specs.TvDue.{run_of}
 use Rattle.css_drive.specs.declared.config.DriveConfig.{DriveConfig}
+use Rattle.css_drive.specs.declared.tv_config.TvDrive.{TvDrive}
 use Rattle.css_follow.specs.Following.{Plan}
 use Rattle.css_follow.specs.Sheets.{sheet_in}
 use Rattle.css_follow.specs.declared.sheet.Sheet.{Sheet}
@@ -89,7 +91,7 @@ pub record IsAskedRun (asked : OptionsAsked) (cii : Address) (run : DriveConfig)
   pub local_precision : run.companion.local.precision ≡ asked.local_precision
   pub dials : run.cii ≡ cii
   pub reports : run.reports ≡ asked.reports
-  pub turns : run.turns ≡ asked.turns
+  pub limit : run.limit ≡ asked.limit
   pub report_every : run.report_every ≡ asked.report_every
   pub ask_every : run.ask_every ≡ asked.ask_every
   pub present : run.present ≡ asked.present
@@ -104,10 +106,19 @@ asked_tv asked = record {
   port = asked.port;
 }
 
+-- its run
+abbrev pub asked_drive : TvAsked → TvDrive
+asked_drive asked = record { tv = asked_tv asked; limit = asked.limit; relative = asked.relative }
+
 -- the same as a child
 abbrev pub asked_child : TvAsked → Child
-asked_child asked =
-    record { port = asked.port; precision = asked.precision; error = asked.error; follow = asked.follow }
+asked_child asked = record {
+  port = asked.port;
+  precision = asked.precision;
+  error = asked.error;
+  follow = asked.follow;
+  relative = asked.relative;
+}
 
 -- ---- `replay`
 -- The status says how the schedule was read, and the sink holds the output of its lines. Whatever the source, what the
@@ -212,13 +223,12 @@ EitherCompanion false asked source sink outside followers result =
 -- ---- `tv`
 -- Each call of the outside is the one that is due by the script and by what came.
 pub record ByTv (asked : TvAsked) (source : SourceUse) (outside : OutsideUse) (result : Status) : Type 0 where
-  pub ran : Serves (asked_tv asked) asked.turns source.left_old source.left_new outside.told_old outside.told_new result
+  pub ran : Serves (asked_drive asked) source.left_old source.left_new outside.told_old outside.told_new result
   -- over devices that don't fail a run by a script ends as its calls say
   pub complete : (bytes : List ℕ) (script : List ScriptLine) → source.left_old ≡ Some bytes
       → script_in bytes ≡ Ok script
       → HasNotFailed source.faults_old source.faults_new → HasNotFailed outside.faults_old outside.faults_new
-      → ServesAsDue (record { config = asked_tv asked; turns = asked.turns; script = script })
-      outside.told_old outside.told_new result
+      → ServesAsDue (run_of (asked_drive asked) script) outside.told_old outside.told_new result
 
 -- ---- `pair`
 -- what became of the script, of the child and of the run that the options ask for

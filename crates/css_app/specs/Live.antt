@@ -18,13 +18,13 @@ use Rattle.css_drive.specs.CompanionRun.{Ran}
 use Rattle.css_drive.specs.Listening.{Listener, all_plans, all_seen}
 use Rattle.css_drive.specs.Proper.{IsProper, Ends}
 use Rattle.css_drive.specs.TvDue as tv
-use Rattle.css_drive.specs.TvDue.{TvRun}
+use Rattle.css_drive.specs.TvDue.{TvRun, run_of}
 use Rattle.css_drive.specs.TvRan.{TvRan}
 use Rattle.css_drive.specs.declared.config.DriveConfig.{DriveConfig}
 use Rattle.css_drive.specs.declared.driven.Driven.{Driven}
 use Rattle.css_drive.specs.declared.driven.Driven.TheVariants as driven
 use Rattle.css_schedule.specs.declared.line.ScriptLine.{ScriptLine}
-use Rattle.css_tv.specs.declared.config.TvConfig.{TvConfig}
+use Rattle.css_drive.specs.declared.tv_config.TvDrive.{TvDrive}
 use Rattle.css_app.specs.declared.scripts.NoLine.{NoLine}
 use Rattle.css_app.specs.declared.status.Status.{Status}
 use Rattle.css_app.specs.declared.status.Status.TheVariants as status
@@ -181,12 +181,12 @@ EndsAsDue config before now result = (result ≡ status.Memory) ⊎ IsAsDue conf
 
 -- ---- a television's run
 -- the source was read to its end, its bytes are this script, and a run was made by it
-pub record ServesByScript (config : TvConfig) (turns : ℕ) (left_old left_new : Option (List ℕ))
+pub record ServesByScript (drive : TvDrive) (left_old left_new : Option (List ℕ))
     (told_old told_new : Option History) (result : Status) : Type 0 where
   pub script : List ScriptLine
   pub gives : GivesScript left_old left_new script
   pub ended : Driven
-  pub ran : TvRan (record { config = config; turns = turns; script = script }) told_old told_new ended
+  pub ran : TvRan (run_of drive script) told_old told_new ended
   pub tells : result ≡ driven_status ended
 
 -- no run was made, and nothing was asked of the outside
@@ -195,10 +195,10 @@ pub record ServesNone (left : Option (List ℕ)) (told_old told_new : Option His
   pub cause : HasNoScript left result
 
 -- what `tv` comes to
-abbrev pub Serves : TvConfig → ℕ → Option (List ℕ) → Option (List ℕ) → Option History → Option History → Status → Type 0
-Serves config turns left_old left_new told_old told_new result =
+abbrev pub Serves : TvDrive → Option (List ℕ) → Option (List ℕ) → Option History → Option History → Status → Type 0
+Serves drive left_old left_new told_old told_new result =
     ServesNone left_old told_old told_new result
-    ⊎ ServesByScript config turns left_old left_new told_old told_new result
+    ⊎ ServesByScript drive left_old left_new told_old told_new result
 
 -- the run was made to an end that was due
 pub record IsServedAsDue (run : TvRun) (before now : Option History) (result : Status) : Type 0 where

@@ -8,6 +8,8 @@ use Rattle.std.specs.Io.KnownBytes.{Consumes, IsAtEnd}
 use Rattle.css_model.specs.History.{Address, History}
 use Rattle.css_outside.specs.Spawners.{Spawned, Started, Finished, TellsSpawned}
 use Rattle.css_outside.specs.declared.fault.OutFault.{OutFault}
+use Rattle.css_outside.specs.declared.limit.Limit.{Limit}
+use Rattle.css_outside.specs.declared.limit.Limit.TheVariants as limit
 use Rattle.css_outside.specs.declared.fault.OutFault.TheVariants as fault
 use Rattle.css_follow.specs.Following.{Plan}
 use Rattle.css_follow.specs.declared.sheet.Sheet.{Sheet}
@@ -24,16 +26,22 @@ use Rattle.css_app.specs.Scripts.{script_in}
 abbrev pub option_word : List ℕ → ℤ → List ℕ
 option_word name value = name ++ signed_decimal value
 
-abbrev pub follow_words : Bool → List (List ℕ)
-follow_words true = codes "--follow" ∷ []
-follow_words false = []
+-- how long a run goes on
+abbrev pub limit_word : Limit → List ℕ
+limit_word (limit.Turns turns) = option_word (codes "--turns=") (pos turns)
+limit_word (limit.Seconds seconds) = option_word (codes "--seconds=") (pos seconds)
 
--- the words with which the television is started, which makes so many turns
-abbrev pub child_words : Child → ℕ → List (List ℕ)
-child_words child turns =
-    (codes "tv" ∷ option_word (codes "--port=") (pos child.port) ∷ option_word (codes "--turns=") (pos turns)
+-- a flag, where it is set
+abbrev pub flag_words : List ℕ → Bool → List (List ℕ)
+flag_words name true = name ∷ []
+flag_words name false = []
+
+-- the words with which the television is started, whose run has this limit
+abbrev pub child_words : Child → Limit → List (List ℕ)
+child_words child limit =
+    ((codes "tv" ∷ option_word (codes "--port=") (pos child.port) ∷ limit_word limit
     ∷ option_word (codes "--precision=") child.precision ∷ option_word (codes "--error=") (pos child.error) ∷ [])
-    ++ follow_words child.follow
+    ++ flag_words (codes "--follow") child.follow) ++ flag_words (codes "--relative") child.relative
 
 -- where its session of CSS-CII is dialled: `ws://127.0.0.1:P/cii`
 abbrev pub address_at : ℕ → Address
@@ -126,7 +134,7 @@ pub record PairsByScript (config : DriveConfig) (takes : Sheet → List Plan) (c
     : Type 0 where
   pub text : List ℕ
   pub gives : GivesScriptText left_old left_new text
-  pub beside : Beside config (takes empty_sheet) (child_words child config.turns) text before now kids_old kids_new
+  pub beside : Beside config (takes empty_sheet) (child_words child config.limit) text before now kids_old kids_new
       result
 
 -- what `pair` comes to

@@ -18,7 +18,7 @@ pub record IsAskedRelay (asked : RelayAsked) (run : RelayRun) : Type 0 where
   pub dials : run.cii ≡ asked.cii
   pub host : run.host ≡ asked.host
   pub port : run.port ≡ asked.port
-  pub turns : run.turns ≡ asked.turns
+  pub limit : run.limit ≡ asked.limit
   pub ask_every : run.ask_every ≡ asked.ask_every
   pub local_error : run.companion.local.error ≡ asked.local_error
   pub local_precision : run.companion.local.precision ≡ asked.local_precision

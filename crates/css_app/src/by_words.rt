@@ -3,13 +3,14 @@ ghost use Rattle.std.specs.Prelude.{◌≡◌, ◌≤◌, ◌≤ℤ◌, pos, ℕ
 ghost use Rattle.std.specs.Str.{IsUtf8};
 ghost use Rattle.css_drive.specs.Configs.{IsWritable};
 ghost use Rattle.css_model.specs.Numbers.{max_error};
+ghost use Rattle.css_outside.specs.Limits.{IsLimit};
 ghost use Rattle.css_words.specs.Companion.{companion_of, options_of};
 ghost use Rattle.css_words.specs.Generator.{generator_of};
 ghost use Rattle.css_words.specs.Pair.{pair_of};
 ghost use Rattle.css_words.specs.Tv.{tv_of};
 ghost use Rattle.css_words.specs.Written.{AreWritable};
 ghost use Rattle.css_app.specs.Commands.{ByCompanion, ByGenerate, ByPair, ByRecord, BySurvey, ByTv};
-ghost use Rattle.css_app.specs.Commands.{EitherCompanion, IsAskedRun, asked_child, asked_tv};
+ghost use Rattle.css_app.specs.Commands.{EitherCompanion, IsAskedRun, asked_child, asked_drive};
 ghost use Rattle.css_app.specs.Devices.{followers_use, outside_use, sink_use, source_use, spawner_use};
 ghost use Rattle.css_app.specs.Ended.{CountsReads, CountsWrites};
 ghost use Rattle.css_app.specs.Live.{CountsCalls, CountsDials, CountsSpawns, TellsNoLive};
@@ -25,7 +26,7 @@ use crate::status::Status;
 use crate::surveyed::survey;
 use css_client::Local;
 use css_companion::CompanionConfig;
-use css_drive::{DriveConfig, Listens};
+use css_drive::{DriveConfig, Listens, TvDrive};
 use css_num::Memory;
 use css_outside::{Address, Outside, Sink, Source, Spawner};
 use css_tv::TvConfig;
@@ -49,7 +50,7 @@ fn run_of(options: CompanionOptions, cii: Address) -> DriveConfig
         },
         cii,
         reports: options.reports,
-        turns: options.turns,
+        limit: options.limit,
         report_every: options.report_every,
         ask_every: options.ask_every,
         present: options.present,
@@ -136,21 +137,26 @@ pub(crate) fn companion_by<S: Source, K: Sink, O: Outside, F: Listens>(
     follow_by(alloc, words, source, sink, outside, followers)
 }
 
-// The television that these words ask for.
-fn config_of(words: TvWords) -> TvConfig
+// The television's run that these words ask for.
+fn tv_run_of(words: TvWords) -> TvDrive
     requires { IsUtf8 words.host }
-    ensures asked { result ≡ asked_tv (tv_of words) }
-    ensures precision { result.precision ≤ℤ pos 30 }
-    ensures error { result.error ≤ max_error }
-    ensures host { IsUtf8 result.host }
-    ensures port { result.port ≤ 65534 }
+    ensures asked { result ≡ asked_drive (tv_of words) }
+    ensures limit { IsLimit result.limit }
+    ensures precision { result.tv.precision ≤ℤ pos 30 }
+    ensures error { result.tv.error ≤ max_error }
+    ensures host { IsUtf8 result.tv.host }
+    ensures port { result.tv.port ≤ 65534 }
 {
-    TvConfig {
-        precision: words.precision,
-        error: words.error,
-        follow: words.follow,
-        host: words.host,
-        port: words.port,
+    TvDrive {
+        tv: TvConfig {
+            precision: words.precision,
+            error: words.error,
+            follow: words.follow,
+            host: words.host,
+            port: words.port,
+        },
+        limit: words.limit,
+        relative: words.relative,
     }
 }
 
@@ -172,9 +178,8 @@ pub(crate) fn tv_by<S: Source, O: Outside>(
         (O.counts outside.new).dial_faults result }
     ensures spawns { (count : ℕ) → CountsSpawns count count result }
 {
-    let turns = words.turns;
-    let config = config_of(words);
-    tv(alloc, config, turns, source, outside)
+    let run = tv_run_of(words);
+    tv(alloc, run, source, outside)
 }
 
 // The child that these words ask for.
@@ -186,6 +191,7 @@ fn child_of(words: &TvWords) -> Child
         precision: words.precision,
         error: words.error,
         follow: words.follow,
+        relative: words.relative,
     }
 }
 

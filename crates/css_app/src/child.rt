@@ -2,7 +2,7 @@ ghost use Rattle.std.specs.Prelude.{◌≡◌, ◌++◌, ◌∷◌, [], pos, IfO
 ghost use Rattle.css_app.specs.Pairs as pairs;
 
 use css_num::{Memory, Text};
-use css_outside::Address;
+use css_outside::{Address, Limit};
 use std::alloc::Global;
 
 /// The television that is started beside a companion, as a child.
@@ -16,6 +16,8 @@ pub struct Child {
     pub error: u32,
     /// Whether its responses promise follow-ups.
     pub follow: bool,
+    /// Whether the times of its script count from its first turn.
+    pub relative: bool,
 }
 
 /// Where the session of CSS-CII of a child with this port is dialled.
@@ -39,24 +41,34 @@ fn add_option(alloc: Global, words: &mut Vec<Text>, name: &[u8], value: i128) ->
     Ok(())
 }
 
-// Adds the word that asks for follow-ups, where they are promised.
-fn add_follow(alloc: Global, words: &mut Vec<Text>, follow: bool) -> Result<(), Memory>
-    ensures { OnOk result (words.new.items ≡ words.old.items ++ pairs.follow_words follow) }
+// Adds the word of a flag, where it is set.
+fn add_flag(alloc: Global, words: &mut Vec<Text>, name: &[u8], set: bool) -> Result<(), Memory>
+    ensures { OnOk result (words.new.items ≡ words.old.items ++ pairs.flag_words name.now set) }
 {
-    if follow {
-        words.push(Text::of(alloc, b"--follow")?)?;
+    if set {
+        words.push(Text::of(alloc, name)?)?;
     }
     Ok(())
 }
 
-/// The words with which a child is started that makes so many turns.
-pub(crate) fn child_words(alloc: Global, child: &Child, turns: u64) -> Result<Vec<Text>, Memory>
-    ensures { IfOk result (λ words. words.items ≡ pairs.child_words child.now turns) }
+// Adds the option that says how long a run goes on.
+fn add_limit(alloc: Global, words: &mut Vec<Text>, limit: Limit) -> Result<(), Memory>
+    ensures { OnOk result (words.new.items ≡ words.old.items ++ pairs.limit_word limit ∷ []) }
+{
+    match limit {
+        Limit::Turns(turns) => add_option(alloc, words, b"--turns=", i128::from(turns)),
+        Limit::Seconds(seconds) => add_option(alloc, words, b"--seconds=", i128::from(seconds)),
+    }
+}
+
+/// The words with which a child is started whose run has this limit.
+pub(crate) fn child_words(alloc: Global, child: &Child, limit: Limit) -> Result<Vec<Text>, Memory>
+    ensures { IfOk result (λ words. words.items ≡ pairs.child_words child.now limit) }
 {
     let mut words = Vec::new(alloc);
     words.push(Text::of(alloc, b"tv")?)?;
     add_option(alloc, &mut words, b"--port=", i128::from(child.port))?;
-    add_option(alloc, &mut words, b"--turns=", i128::from(turns))?;
+    add_limit(alloc, &mut words, limit)?;
     add_option(
         alloc,
         &mut words,
@@ -64,6 +76,7 @@ pub(crate) fn child_words(alloc: Global, child: &Child, turns: u64) -> Result<Ve
         i128::from(child.precision),
     )?;
     add_option(alloc, &mut words, b"--error=", i128::from(child.error))?;
-    add_follow(alloc, &mut words, child.follow)?;
+    add_flag(alloc, &mut words, b"--follow", child.follow)?;
+    add_flag(alloc, &mut words, b"--relative", child.relative)?;
     Ok(words)
 }

@@ -15,7 +15,7 @@ use crate::status::Status;
 use css_drive::{DriveConfig, Listens};
 use css_follow::Sheet;
 use css_num::{Memory, Text};
-use css_outside::{OutFault, Outside, Sink, Source, Spawner};
+use css_outside::{Limit, OutFault, Outside, Sink, Source, Spawner};
 use std::alloc::Global;
 
 // Whether a run was made to its end.
@@ -101,15 +101,15 @@ fn run_beside<K: Sink, O: Outside, P: Spawner, F: Listens>(
 fn prepare<F: Listens>(
     alloc: Global,
     child: &Child,
-    turns: u64,
+    limit: Limit,
     followers: &mut F,
 ) -> Result<Vec<Text>, Memory>
-    ensures words { IfOk result (λ words. words.items ≡ pairs.child_words child.now turns) }
+    ensures words { IfOk result (λ words. words.items ≡ pairs.child_words child.now limit) }
     ensures heard { all_seen (F.heard followers.new) ≡ all_seen (F.heard followers.old) }
     ensures plans { OnOk result (all_plans (F.heard followers.new) ≡ F.takes followers.old pairs.empty_sheet) }
 {
     followers.prepare(&Sheet::empty(alloc))?;
-    child_words(alloc, child, turns)
+    child_words(alloc, child, limit)
 }
 
 /// Reads a script from the source, to its end, starts the television `tv` with it as a child, and is a companion beside
@@ -160,7 +160,7 @@ pub fn pair<S: Source, K: Sink, O: Outside, P: Spawner, F: Listens>(
         Ok(script) => script,
         Err(status) => return status,
     };
-    match prepare(alloc, child, config.turns, followers) {
+    match prepare(alloc, child, config.limit, followers) {
         Ok(words) => run_beside(
             alloc, config, &words, &script, sink, outside, spawner, followers,
         ),

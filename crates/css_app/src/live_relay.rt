@@ -37,7 +37,7 @@ fn run_of(alloc: Global, words: RelayWords) -> RelayRun
         cii: words.cii,
         host: words.host,
         port: words.port,
-        turns: words.turns,
+        limit: words.limit,
         ask_every: words.ask_every,
     }
 }

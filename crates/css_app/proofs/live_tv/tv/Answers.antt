@@ -1,5 +1,5 @@
 use Rattle.std.proofs.Common.{List, subst, sym, refl, inl, inr, ◌∙◌}
-use Rattle.css_drive.specs.TvDue.{TvRun}
+use Rattle.css_drive.specs.TvDue.{run_of}
 use Rattle.css_drive.specs.TvRan.{TvRan}
 use Rattle.css_schedule.specs.declared.line.ScriptLine.{ScriptLine}
 use Rattle.css_app.specs.Ended.{CountsReads, CountsWrites}
@@ -30,7 +30,7 @@ returns-clause-ran g c =
       gives = c.in-Ok.ensures.value;
       ended = c.drive_tv-ended.result;
       ran = subst (λ (script : List ScriptLine).
-          TvRan (record { config = c.args.config; turns = c.args.turns; script = script })
+          TvRan (run_of c.args.run script)
           (g.O.Outside.told c.args.outside.now) (g.O.Outside.told c.drive_tv-ended.new.outside)
           c.drive_tv-ended.result) c.deref.ensures.value c.drive_tv-ended.ensures.ran;
       tells = c.status_of.ensures;
@@ -38,7 +38,7 @@ returns-clause-ran g c =
 
 pub returns-clause-complete : goal.returns-clause-complete
 returns-clause-complete g c bytes script is ok read called =
-    let run : TvRun = record { config = c.args.config; turns = c.args.turns; script = script } in
+    let run = run_of c.args.run script in
     let same = same_script (g.S.Source.left c.args.source.now) bytes (g.S.Source.left c.take_script.new.source)
     c.in-Ok.script.items script is c.in-Ok.ensures.value ok in
     subst (ServesAsDue run (g.O.Outside.told c.args.outside.now) (g.O.Outside.told c.drive_tv-ended.new.outside))
@@ -46,7 +46,7 @@ returns-clause-complete g c bytes script is ok read called =
     (served_as_due run (g.O.Outside.told c.args.outside.now) (g.O.Outside.told c.drive_tv-ended.new.outside)
     c.drive_tv-ended.result _ _
     (subst (λ (lines : List ScriptLine).
-    TvRan (record { config = c.args.config; turns = c.args.turns; script = lines })
+    TvRan (run_of c.args.run lines)
     (g.O.Outside.told c.args.outside.now) (g.O.Outside.told c.drive_tv-ended.new.outside)
     c.drive_tv-ended.result) (c.deref.ensures.value ∙ same) c.drive_tv-ended.ensures.ran)
     c.drive_tv-ended.ensures.counted.no_writes c.drive_tv-ended.ensures.counted.faults called)
