@@ -5,7 +5,8 @@
     tools/build.py --prove        builds, runs nothing, and says how long it took
 
 A crate waits for those below it. Of those that wait no longer, the one with the longest chain above it comes first.
-There is a prover for each processor, but only one for each 3 GB of free memory. rt locks the crates below the one that
+There is a prover for each processor, but only one for each 3 GB of free memory. Each prover may use every processor, so
+that none is idle while few crates can be proved; the crate with the longest chain goes before the others. rt locks the crates below the one that
 it proves, so each prover works in a room: a copy of the sources, to which the proved crates are linked. What it proved
 is carried back to crates/NAME/out, where rt finds it. An interrupt keeps what was proved.
 """
@@ -113,9 +114,9 @@ class Room:
         rows = (TOP / "crates.txt").read_text().splitlines(True)
         (folder / "crates.txt").write_text("".join(row for row in rows if re.split("[ :]", row)[0] in crates))
 
-    def start(self, crate, needed, jobs):
-        """Starts to prove a crate by so many jobs, over those below it."""
-        self.crate, self.jobs = crate, jobs
+    def start(self, crate, needed, jobs, is_first):
+        """Starts to prove a crate by so many jobs, over those below it. One that isn't the first gives way."""
+        self.crate = crate
         for dep in needed - self.has:
             hand_on(TOP / "crates" / dep, self.folder / "crates" / dep, "rlib")
         self.has |= needed | {crate}
@@ -123,7 +124,7 @@ class Room:
         hand_on(TOP / "crates" / crate, here, "rlib")
         hand_on(TOP / "crates" / crate, here, "incremental", moves=True)
         with open(self.folder / "log", "w") as log:
-            words = ["rt", "lib", "--jobs", str(jobs)]
+            words = ["nice", "-n", "0" if is_first else "5", "rt", "lib", "--jobs", str(jobs)]
             how = {"stdin": subprocess.DEVNULL, "stdout": log, "stderr": subprocess.STDOUT}
             self.prover = subprocess.Popen(words, cwd=here, start_new_session=True, **how)
 
@@ -191,14 +192,12 @@ def prove_libraries(libraries, below, progress, folder, count):
                 proved.add(room.crate)
                 idle_rooms.append(room)
             ready = [crate for crate in waiting if needed[crate] <= proved]
-            for at, crate in enumerate(ready):
-                idle = count - sum(room.jobs for room in running)
-                if idle > 0:
-                    room = idle_rooms.pop() if idle_rooms else Room(folder / str(len(running)), libraries)
-                    running.append(room)
-                    # a crate gets the processors that no other one waits for
-                    room.start(crate, needed[crate], max(1, min(4, idle // (len(ready) - at))))
-                    waiting.remove(crate)
+            for crate in ready[: count - len(running)]:
+                room = idle_rooms.pop() if idle_rooms else Room(folder / str(len(running)), libraries)
+                longest = max(chain[it] for it in [*ready, *(other.crate for other in running)])
+                running.append(room)
+                room.start(crate, needed[crate], count, chain[crate] == longest)
+                waiting.remove(crate)
             if running:
                 progress.tell(len(proved), [room.crate for room in running])
             time.sleep(0.2)
