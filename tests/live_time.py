@@ -1,0 +1,96 @@
+"""Runs that last as long as they are asked to: under a flood of datagrams too, and with script times from the start."""
+import socket, time
+
+from live_edge import Beside, closed_port, companion, dial_soon, stop
+from live_peer import start, television
+
+SCRIPT = "0 programme dvb://1\n0 programme dvb://2\n0 timeline 1 urn:dvb:css:timeline:pts 1 90000 0\n0 change 1\n"
+LATER = 1_000_000_000
+
+
+def lasted(check, name, child, seconds, status, begun, late=1.5):
+    """Whether a run that was begun then ended after so many seconds, and with this status."""
+    ended = child.wait(60)
+    took = time.monotonic() - begun
+    told = child.stderr.read().decode().splitlines()
+    check(f"{name} ends when its time is over", seconds <= took < seconds + late and ended == status,
+          f"{took:.2f} s, status {ended}, {told[:1]}")
+    stop(child)
+    return told
+
+
+def flooded(check, program, port):
+    """25,000 datagrams a second, most of them no requests, use up none of a television's time."""
+    begun = time.monotonic()
+    child = start(program, ["tv", "--port", str(port), "--seconds", "5"], SCRIPT)
+    with socket.socket(socket.AF_INET, socket.SOCK_DGRAM) as udp:
+        udp.connect(("127.0.0.1", port))
+        sent = 0
+        while time.monotonic() < begun + 6 and child.poll() is None:
+            for _ in range(25):
+                try:
+                    udp.send(b"x" * 32)
+                    sent += 1
+                except OSError:
+                    pass  # Nobody listens yet, or any longer.
+            time.sleep(0.001)
+    lasted(check, f"a television under a flood of {sent // 5} datagrams a second", child, 5, 0, begun)
+
+
+def alone(check, program):
+    """A companion that reaches nobody."""
+    begun = time.monotonic()
+    child = companion(program, closed_port(), "--seconds", "2", "--reports", "9", "--report-every", "500000000")
+    lines = child.stdout.read().decode().splitlines()
+    told = lasted(check, "a companion of nobody", child, 2, 10, begun)
+    check("and made the reports of its time", [line.split()[0] for line in lines] == ["1", "2", "3", "4"], lines)
+    check("and says that it reached nobody", told and told[0].startswith("css: unreachable after "), told)
+
+
+def relayed(check, program, port):
+    """A relay of a television, and a companion of the relay: each ends when its time is over."""
+    set_on = television(program, port, SCRIPT)
+    begun = time.monotonic()
+    relay = companion(program, port, "--port", str(port + 2), "--seconds", "3", command="relay")
+    second = companion(program, port + 2, "--seconds", "2", "--reports", "1000")
+    lasted(check, "a companion of a relay", second, 2, 9, begun)
+    lasted(check, "a relay", relay, 3, 0, begun)
+    stop(set_on)
+
+
+def paired(check, program, port):
+    """A pair hands its time and its script's to its child."""
+    begun = time.monotonic()
+    child = start(program, ["pair", "--port", str(port), "--seconds", "3", "--relative", "--reports", "2",
+                            "--report-every", "1200000000", "--ask-every", "100000000"],
+                  SCRIPT + f"{2 * LATER} speed 0\n")
+    lines = child.stdout.read().decode().splitlines()
+    status = child.wait(30)
+    told = child.stderr.read().decode().strip()
+    check("a pair with seconds makes its reports", status == 0 and [line.split()[1] for line in lines] == ["ticks"] * 2,
+          (status, lines, told))
+    check("and its child ends with its time", 2.4 <= time.monotonic() - begun < 6, f"{time.monotonic() - begun:.2f} s")
+    stop(child)
+
+
+def scripted(check, program, port):
+    """A script says after how long something happens."""
+    child = start(program, ["tv", "--port", str(port), "--seconds", "4", "--relative"],
+                  SCRIPT + f"{2 * LATER} change 2\n")
+    begun = time.monotonic()
+    peer = dial_soon(port, "/cii")
+    first, second = peer.text(5), peer.text(5)
+    took = time.monotonic() - begun
+    check("a relative script's line happens after its time", (first.get("contentId"), second.get("contentId"))
+          == ("dvb://1", "dvb://2") and 1.2 < took < 3.2, (first.get("contentId"), second.get("contentId"), took))
+    stop(child)
+
+
+def lasting(port, program, check):
+    Beside([
+        (flooded, program, port),
+        (alone, program),
+        (relayed, program, port + 2),
+        (paired, program, port + 6),
+        (scripted, program, port + 8),
+    ]).tell(check)
