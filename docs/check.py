@@ -4,7 +4,8 @@
     docs/check.py          runs ./css, which proves and builds the program where it is old
 
 A session is a block of README.md or docs/*.md in which a line begins with "$ ". The lines behind it are what the
-command writes: those that begin with "css: " on standard error, and all others on standard output. In a block that
+command writes: those that begin with "css: " on standard error, and all others on standard output. A hint that comes
+may be left out, since nothing is promised of it; one that is shown has to come. In a block that
 begins with "```text live" numbers differ from run to run, so only the words are compared; a line that begins with
 "television$ " is a command that runs beside those after it, to the end of the block.
 A block that begins with "```rust FILE" is a part of this file. The status is 1 where a page shows something else than
@@ -83,6 +84,7 @@ def session_faults(page):
         for number, command, shown in sessions(lines, first):
             out, errors = run(command)
             told = [line for line in shown if line.startswith("css: ")]
+            errors = [line for line in errors if line in told or not line.startswith("css: hint: ")]
             if seen(out) != seen(line for line in shown if line not in told) or errors != told:
                 yield f"line {number}: $ {command}\n" + "\n".join(out + errors)
         if beside:
