@@ -5,9 +5,9 @@
 
 A session is a block of README.md or docs/*.md in which a line begins with "$ ". The lines behind it are what the
 command writes: those that begin with "css: " on standard error, and all others on standard output. A hint that comes
-may be left out, since nothing is promised of it; one that is shown has to come. In a block that
-begins with "```text live" numbers differ from run to run, so only the words are compared; a line that begins with
-"television$ " is a command that runs beside those after it, to the end of the block.
+may be left out, since nothing is promised of it; one that is shown has to come. In a block that begins with "```text
+live" numbers differ from run to run, so only the words are compared; a line that begins with "television$ " is a
+command that runs beside those after it, to the end of the block.
 A block that begins with "```rust FILE" is a part of this file. The status is 1 where a page shows something else than
 what comes.
 """
