@@ -1,7 +1,7 @@
 #!/usr/bin/env python3
 """Turns the record of a companion into answers, of which `agree` tells what they say together.
 
-    docs/answers.py < RECORD | ./css agree
+    tools/answers.py < RECORD | ./css agree
 
 A record has each datagram that landed, with the reading at its landing. Those that answer one of the last 64 requests
 become lines `answer`, in the order of their landings, each with an `at` behind it. A follow-up counts from the landing
@@ -49,7 +49,7 @@ def answers(lines):
 def main():
     header, *lines = (line.split(" ") for line in sys.stdin.read().splitlines() or [""])
     if header[:2] != ["css-record", "1"] or len(header) != 6:
-        sys.exit("docs/answers.py: this is no record")
+        sys.exit("tools/answers.py: this is no record")
     print(f"css-agree 1 {header[2]} {header[3]}")
     for counted, line in answers(lines):
         print(f"{line}\nat {counted}")
