@@ -23,8 +23,10 @@ from live_server import against_companion
 from live_silent import silent
 from live_slow import slow_reader
 from live_system import system
+from live_time import lasting
 from live_turns import turns
 from live_upgrades import upgrades
+from live_words import statuses
 
 HERE = os.path.dirname(os.path.abspath(__file__))
 EDGE = sys.argv[1:2] == ["--edge"]
@@ -378,7 +380,7 @@ def edge(port):
     long_ones = Beside([(lambda check: silent(port + 62, PROGRAM, check),),
                         (lambda check: named_hosts(port + 64, PROGRAM, check),), (slow_reader, PROGRAM)])
     for call, ports in ((turns, 6), (dials, 2), (ends, 10), (upgrades, 2), (published_hosts, 10),
-                        (system, 16)):
+                        (system, 16), (lasting, 10), (statuses, 6)):
         call(port, PROGRAM, check)
         port += ports
     long_ones.tell(check)
