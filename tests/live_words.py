@@ -37,8 +37,8 @@ def words(check, program):
             ("tv --seconds 0", "31536000"), ("tv --host ::1", "bracket"), ("companion", "--cii"),
             ("companion --cii wss://h/cii", "wss"), ("companion --cii http://h/cii", "ws:"),
             ("companion --cii ws://h/cii --reports 0", "1000000"),
-            ("companion --cii ws://h/cii --earliest 1", "--latest"), ("relay --relative --cii ws://h/cii", "--relative"),
-            ("generate --seed 1", "--lines"), ("tv extra", "extra")):
+            ("companion --cii ws://h/cii --earliest 1", "--latest"),
+            ("relay --relative --cii ws://h/cii", "--relative"), ("generate --seed 1", "--lines"), ("tv extra", "extra")):
         check_end(check, f"css {text}", start(program, text.split()), 1, "css: usage", hint)
 
 
@@ -60,7 +60,7 @@ def offline(check, program):
                                  stdout=full, stderr=subprocess.PIPE)
     check_end(check, "a write that fails", child, 5, "css: write fault", None)
     check_end(check, "a cue sheet that is refused",
-              start(program, ["companion", "--cii", "ws://127.0.0.1:9/cii"], "css-cues 1\nnothing\n"), 12,
+              start(program, ["companion", "--cii", "ws://127.0.0.1:9/cii"], "cue 5 one\nnothing\n"), 12,
               "css: sheet line 2", ".")
 
 
@@ -117,10 +117,10 @@ def companions(check, program):
 
 def records(check, program):
     """A record with a wrong report."""
-    given = b"css-record 1 0 0 urn:dvb:css:timeline:pts -\nreport 5 1 ticks 1 2\n"
+    given = b"css-record 1 0 0 urn:dvb:css:timeline:pts -\nturn 5\nreport 1 ticks 1 2\n"
     made = subprocess.run([*program, "audit"], input=given, capture_output=True, check=False)
     lines = made.stderr.decode().split("\n")
-    check("a wrong report", made.returncode == 15 and lines[0] == "css: line 2: wrong report", (made.returncode, lines))
+    check("a wrong report", made.returncode == 15 and lines[0] == "css: line 3: wrong report", (made.returncode, lines))
     check("a wrong report: the right one", len(lines) == 3 and is_hint(lines[1]) and "NoAnswer" in lines[1], lines)
 
 
