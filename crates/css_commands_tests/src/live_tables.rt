@@ -114,6 +114,48 @@ pub const COMPANIONS: &[Row] = &[
     ("the sink fails at the second report", Case { writes: &[2], ..COMPANION }, "write fault", FIRST),
 ];
 
+/// Three readings, each a second after the one before.
+const SECONDS: World = World {
+    times: Times::Seconds,
+    ..SILENT
+};
+
+/// The first reading is 5000, and the second 6000.
+const LATE: World = World {
+    times: Times::Late,
+    ..SILENT
+};
+
+/// A line that the player refuses when it is due, at 1000.
+const AT_1000: Case<'static> = Case {
+    input: b"1000 speed 1\n",
+    world: LATE,
+    ..BLANK
+};
+
+/// A companion of two seconds. Its third turn is the last, and makes no call after its report.
+const TWO_SECONDS: Case<'static> = Case {
+    words: "companion --cii ws://127.0.0.1:6677/cii --seconds 2 --reports 9",
+    world: SECONDS,
+    ..BLANK
+};
+
+/// Runs that end with their time, and scripts whose times count from the first turn.
+#[rattlefmt::skip]
+pub const TIMED: &[Row] = &[
+    ("every dial fails", Case { calls: &[2, 4, 6], ..TWO_SECONDS }, "unreachable after 3 turns", NONE),
+    ("a dial succeeds", TWO_SECONDS, "spent after 3 turns", NONE),
+    ("a television", Case { words: "tv --seconds 1", world: SECONDS, calls: &[6], ..BLANK }, "done", b""),
+    ("a relay", Case { words: "relay --cii ws://h/cii --seconds 1", world: SECONDS, calls: &[3, 7], ..BLANK },
+        "unreachable after 2 turns", b""),
+    ("a pair", Case { words: "pair --seconds 2 --reports 9", world: SECONDS, calls: &[2, 4], ..BLANK },
+        "unreachable after 3 turns", NONE),
+    ("both bounds", Case { words: "tv --seconds 1 --turns 5", ..BLANK }, "usage", b""),
+    ("times of the clock", Case { words: "tv --turns 1", ..AT_1000 }, "line 1: no programme", b""),
+    ("times from the start", Case { words: "tv --relative --turns 1", ..AT_1000 }, "done", b""),
+    ("a turn later", Case { words: "tv --relative --turns 2", ..AT_1000 }, "line 1: no programme", b""),
+];
+
 /// Runs of `tv` and of `relay`.
 #[rattlefmt::skip]
 pub const TELEVISIONS: &[Row] = &[

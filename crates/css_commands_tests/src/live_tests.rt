@@ -1,6 +1,6 @@
 //! The live commands over devices in memory.
 
-use crate::live_tables::{CHANGED, COMPANIONS, EARLY, FAILING, PAIR, PAIRS, RECORDS, TELEVISIONS};
+use crate::live_tables::{CHANGED, COMPANIONS, EARLY, FAILING, PAIR, PAIRS, RECORDS, TELEVISIONS, TIMED};
 use crate::running::{Case, NO_MEMORY, check_rows, check_run};
 use std::alloc::Global;
 use std::process::Abort;
@@ -13,6 +13,7 @@ fn each_run_ends_as_it_should(rt: HostRuntime) {
     check_rows(&rt, rt.alloc(), TELEVISIONS);
     check_rows(&rt, rt.alloc(), PAIRS);
     check_rows(&rt, rt.alloc(), RECORDS);
+    check_rows(&rt, rt.alloc(), TIMED);
 }
 
 fn check_fails(rt: &impl Abort, alloc: Global, calls: &[u64], ended: &str, printed: &[u8]) {

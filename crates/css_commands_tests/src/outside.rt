@@ -23,6 +23,8 @@ pub enum Times {
     Soon,
     /// 0, 1 and 2 seconds.
     Seconds,
+    /// 5000 and 6000.
+    Late,
 }
 
 /// What a session gives.
@@ -77,6 +79,7 @@ fn readings_of(rt: &impl Abort, alloc: Global, times: Times) -> Vec<Clocked>
         ].to_vec(alloc),
         Times::Soon => [awake(0), awake(1), awake(2)].to_vec(alloc),
         Times::Seconds => [awake(0), awake(1_000_000_000), awake(2_000_000_000)].to_vec(alloc),
+        Times::Late => [awake(5_000), awake(6_000)].to_vec(alloc),
     }.expect(rt, "memory")
 }
 

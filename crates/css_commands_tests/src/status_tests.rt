@@ -6,7 +6,7 @@ use css_cii::{CiiFault, CiiName};
 use css_companion::{Cause, Report};
 use css_memory::MemorySink;
 use css_num::Text;
-use css_outside::OutFault;
+use css_outside::{Failure, OutFault};
 use css_schedule::PlayerFault;
 use std::alloc::Global;
 use std::process::Abort;
@@ -39,13 +39,13 @@ const STATUSES: [(Status, u8, &str); 23] = [
     (Status::Broken { line: 4, earlier: 2, excess: 256_000_000 }, 3, "css: line 4: broken with line 2 by 256000000\n"),
     (Status::ReadFault, 4, "css: read fault\n"),
     (Status::WriteFault, 5, "css: write fault\n"),
-    (Status::NetFault, 6, "css: net fault\n"),
+    (Status::NetFault(Failure::InUse), 6, "css: net fault\n"),
     (Status::BadCii { text: 1, fault: CiiFault::NotJson }, 7, "css: cii text 1: not json\n"),
     (Status::BadCii { text: 3, fault: CiiFault::Field(CiiName::ContentId) }, 7, "css: cii text 3: field contentId\n"),
     (Status::Spent { turns: 10_000 }, 9, "css: spent after 10000 turns\n"),
     (Status::Unreachable { turns: 3 }, 10, "css: unreachable after 3 turns\n"),
-    (Status::ChildFault { status: None }, 11, "css: child fault\n"),
-    (Status::ChildFault { status: Some(i32::MIN) }, 11, "css: child status -2147483648\n"),
+    (Status::ChildFault { status: Err(Failure::Other) }, 11, "css: child fault\n"),
+    (Status::ChildFault { status: Ok(i32::MIN) }, 11, "css: child status -2147483648\n"),
     (Status::BadSheet { line: 12 }, 12, "css: sheet line 12\n"),
     (Status::BadUrl { property: CiiName::TsUrl }, 13, "css: bad url tsUrl\n"),
     (Status::Memory, 14, "css: memory\n"),
@@ -73,7 +73,7 @@ fn a_line_that_is_not_printed_changes_no_number(rt: HostRuntime) {
     let ending = tell(rt.alloc(), &Status::ReadFault, &mut sink);
     check(&rt, sink.bytes(), b"css: re", "what is printed");
     assert!(rt;
-        ending.number == 4 && ending.told == Err(OutFault::Failed),
+        ending.number == 4 && ending.told == Err(OutFault::Failed(Failure::Other)),
         "its number"
     );
 }
