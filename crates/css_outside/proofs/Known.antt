@@ -86,5 +86,5 @@ read_faults_never_fall before now (Err failed) counted = counted.kept
 pub write_faults_never_fall : {T : Type 0} (before now : ℕ) (result : Result T OutFault)
     → CountsCall before now result → before ≤ now
 write_faults_never_fall before now (Ok answer) counted = omega (arith, counted)
-write_faults_never_fall before now (Err fault.Failed) counted = counted.kept
+write_faults_never_fall before now (Err (fault.Failed failure)) counted = counted.kept
 write_faults_never_fall before now (Err fault.Memory) counted = omega (arith, counted)
