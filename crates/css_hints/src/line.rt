@@ -22,11 +22,8 @@ fn printable(byte: u8) -> u8
 fn front(bytes: &[u8]) -> &[u8]
     ensures { length result.now ≤ 199 }
 {
-    if bytes.len() > MOST {
-        &bytes[..MOST]
-    } else {
-        bytes
-    }
+    let (front, _) = bytes.split_at(bytes.len().min(MOST));
+    front
 }
 
 /// The front of these bytes as words of a line.
