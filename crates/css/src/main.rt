@@ -1,19 +1,22 @@
 //! The program `css` over the real streams, sockets and programs.
 #![tactic(auto)]
 
-mod hints;
-
-use crate::hints::hint;
 use css_app::{Status, run, tell};
 use css_drive::{Before, Nobody};
 use css_follow::{Cues, Meter};
+use css_hints::{Asked, hint};
 use css_net::{ChildSpawner, NetOutside, StdSink, StdSource};
-use css_outside::write_all;
+use css_outside::{Sink, write_all};
 use css_told::{TellingOutside, TellingSink};
+use std::alloc::Global;
 use std::env::Env;
-use std::io::{Error, ErrorKind};
+use std::io::{Error, ErrorKind, IsTerminal};
 use std::process::ExitCode;
 use std::{env, io};
+
+// What a companion at a terminal waits for.
+const SHEET_WANTED: &str =
+    "css: companion reads a cue sheet from standard input until its end (< /dev/null for none)";
 
 // The words after the program's name.
 fn words<R: Env + AllocGlobal>(rt: &R) -> io::Result<Vec<String>> {
@@ -32,38 +35,70 @@ fn without_words(error: &Error) -> Status {
     }
 }
 
+// Whether the words are those of a companion that reads a cue sheet, if they are those of a command.
+fn asks_for_sheet(words: &[String]) -> bool {
+    match words.split_first() {
+        Some((name, rest)) => name.as_str() == "companion"
+            && !rest.iter().any(|word| word.as_str() == "--record"),
+        None => false,
+    }
+}
+
+// Tells a person at a terminal what a companion waits for.
+fn tell_of_sheet(rt: &HostRuntime, words: &[String]) {
+    if asks_for_sheet(words) && rt.stdin().is_terminal() {
+        // A person who can't be told this can type a sheet all the same.
+        let _ = eprintln!(rt; "{SHEET_WANTED}");
+    }
+}
+
+// Writes the line that helps after a status, where one does.
+fn print_hint<K: Sink>(alloc: Global, status: &Status, asked: &Asked<'_>, sink: &mut K) {
+    if let Some(line) = hint(alloc, status, asked) {
+        let _ = write_all(sink, line.bytes());
+    }
+}
+
+// Who follows a companion: its cues and its meter.
+fn cues_and_meter(alloc: Global) -> Before<Cues, Before<Meter, Nobody>> {
+    Before {
+        first: Cues::new(alloc),
+        rest: Before {
+            first: Meter::new(alloc),
+            rest: Nobody,
+        },
+    }
+}
+
 fn main(rt: HostRuntime) -> ExitCode {
     let mut source = StdSource::new(rt.reader(), &rt);
     let mut sink = TellingSink::new(StdSink::new(io::writer(&rt), &rt));
     let mut outside = TellingOutside::new(NetOutside::new(rt.alloc(), &rt));
     let mut spawner = ChildSpawner::new(rt.alloc(), &rt);
-    let mut followers = Before {
-        first: Cues::new(rt.alloc()),
-        rest: Before {
-            first: Meter::new(rt.alloc()),
-            rest: Nobody,
-        },
-    };
+    let mut followers = cues_and_meter(rt.alloc());
     let words = words(&rt);
     let status = match &words {
-        Ok(words) => run(
-            rt.alloc(),
-            words,
-            &mut source,
-            &mut sink,
-            &mut outside,
-            &mut spawner,
-            &mut followers,
-        ),
+        Ok(words) => {
+            tell_of_sheet(&rt, words);
+            run(
+                rt.alloc(),
+                words,
+                &mut source,
+                &mut sink,
+                &mut outside,
+                &mut spawner,
+                &mut followers,
+            )
+        }
         Err(error) => without_words(error),
     };
-    outside.into_inner().end();
+    let mut outside = outside.into_inner();
+    outside.end();
     let mut errors = StdSink::new(rt.stderr().lock(), &rt);
     let number = tell(rt.alloc(), &status, &mut errors).number;
     if let Ok(words) = &words {
-        if let Some(words) = hint(number, words) {
-            let _ = write_all(&mut errors, words.as_bytes());
-        }
+        let dial = outside.last_dial_failure();
+        print_hint(rt.alloc(), &status, &Asked { words, dial }, &mut errors);
     }
     ExitCode::from(number)
 }

@@ -4,7 +4,7 @@ ghost use Rattle.css_outside.specs.Faults.{CountsCall};
 
 use crate::faults::{fault_of, no_memory, no_room};
 use css_num::Text;
-use css_outside::{OutFault, Spawner};
+use css_outside::{Failure, OutFault, Spawner};
 use std::alloc::Global;
 use std::env::Env;
 use std::fs::Files;
@@ -162,7 +162,7 @@ impl<'a, R: Processes + Env + Files> ChildSpawner<'a, R> {
     {
         let count = self.children.len();
         if count == 0 {
-            return Err(OutFault::Failed);
+            return Err(OutFault::Failed(Failure::Other));
         }
         let ended = self.children[count - 1].wait().map_err(fault_of)?;
         match ended.code() {
@@ -170,7 +170,7 @@ impl<'a, R: Processes + Env + Files> ChildSpawner<'a, R> {
                 self.children.truncate(count - 1);
                 Ok(status)
             }
-            None => Err(OutFault::Failed),
+            None => Err(OutFault::Failed(Failure::Other)),
         }
     }
 
@@ -181,9 +181,9 @@ impl<'a, R: Processes + Env + Files> ChildSpawner<'a, R> {
     {
         match outcome {
             Ok(value) => Ok(value),
-            Err(OutFault::Failed) => {
+            Err(OutFault::Failed(failure)) => {
                 self.faults = self.faults.saturating_add(1);
-                Err(OutFault::Failed)
+                Err(OutFault::Failed(failure))
             }
             Err(OutFault::Memory) => Err(OutFault::Memory),
         }

@@ -4,7 +4,8 @@
 ghost use Rattle.std.specs.Prelude.{◌≡◌, None};
 ghost use Rattle.std.specs.Io.{ReadsAtMost, WritesAtMost};
 
-use css_outside::{Failed, OutFault, Sink, Source};
+use crate::faults::fault_of;
+use css_outside::{Failed, Failure, OutFault, Sink, Source};
 use std::io::{ErrorKind, Read, Write};
 use std::time::{Clock, Duration};
 use std::{io, thread};
@@ -117,16 +118,16 @@ impl<'a, W: Write, C: Clock> Sink for StdSink<'a, W, C> {
         match write_through(&mut self.inner, self.clock, bytes) {
             Ok(0) if !bytes.is_empty() => {
                 self.faults = self.faults.saturating_add(1);
-                Err(OutFault::Failed)
+                Err(OutFault::Failed(Failure::Other))
             }
             Ok(count) => Ok(count),
-            Err(error) => {
-                if error.kind() == ErrorKind::OutOfMemory {
-                    return Err(OutFault::Memory);
+            Err(error) => match fault_of(error) {
+                OutFault::Failed(failure) => {
+                    self.faults = self.faults.saturating_add(1);
+                    Err(OutFault::Failed(failure))
                 }
-                self.faults = self.faults.saturating_add(1);
-                Err(OutFault::Failed)
-            }
+                OutFault::Memory => Err(OutFault::Memory),
+            },
         }
     }
 }

@@ -4,7 +4,7 @@ ghost use Rattle.css_outside.specs.Outsides.{CountsPlain, CountsClock, CountsDia
 
 use crate::clock::{Clocks, has_slept, read_clocks};
 use css_model::LIMIT;
-use css_outside::{Clocked, Kind, OutFault};
+use css_outside::{Clocked, Failure, Kind, OutFault};
 use std::marker::Model;
 use std::time::Clock;
 
@@ -85,9 +85,9 @@ impl Tally {
     {
         match outcome {
             Ok(value) => Ok(value),
-            Err(OutFault::Failed) => {
+            Err(OutFault::Failed(failure)) => {
                 self.fail();
-                Err(OutFault::Failed)
+                Err(OutFault::Failed(failure))
             }
             Err(OutFault::Memory) => Err(OutFault::Memory),
         }
@@ -99,9 +99,9 @@ impl Tally {
         ensures same { result ≡ Err fault }
     {
         match fault {
-            OutFault::Failed => {
+            OutFault::Failed(failure) => {
                 self.dial_faults = self.dial_faults.saturating_add(1);
-                Err(OutFault::Failed)
+                Err(OutFault::Failed(failure))
             }
             OutFault::Memory => Err(OutFault::Memory),
         }
@@ -141,9 +141,9 @@ impl Tally {
                 self.peers = peer;
                 Ok(Some((peer, kind)))
             }
-            Err(OutFault::Failed) => {
+            Err(OutFault::Failed(failure)) => {
                 self.fail();
-                Err(OutFault::Failed)
+                Err(OutFault::Failed(failure))
             }
             Err(OutFault::Memory) => Err(OutFault::Memory),
         }
@@ -154,7 +154,7 @@ impl Tally {
         ensures counted { CountsClock self.old self.new result }
     {
         let Some(clocks) = read_clocks(clock) else {
-            return self.unread(OutFault::Failed);
+            return self.unread(OutFault::Failed(Failure::Other));
         };
         let slept = match self.before {
             Some(before) => has_slept(before, clocks),
@@ -181,7 +181,7 @@ impl Tally {
         let reading = self.reading_of(monotone, slept);
         if reading >= LIMIT {
             self.fail();
-            return Err(OutFault::Failed);
+            return Err(OutFault::Failed(Failure::Other));
         }
         self.last = reading;
         Ok(Clocked { reading, slept })

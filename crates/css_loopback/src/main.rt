@@ -9,7 +9,7 @@ use css_app::{Status, run, tell};
 use css_drive::Nobody;
 use css_net::{ChildSpawner, NetOutside, StdSink, StdSource};
 use css_num::{Memory, Text};
-use css_outside::{OutFault, Outside, Sink, Source, Spawner};
+use css_outside::{Failure, OutFault, Outside, Sink, Source, Spawner};
 use std::alloc::Global;
 use std::env::Env;
 use std::fs::Files;
@@ -20,9 +20,9 @@ use std::time::Clock;
 use std::{env, io, process, str};
 
 /// What the runs need of the system.
-trait System: Net + Clock + RandomSource + Processes + Env + Files {}
+trait System: Net + Clock + RandomSource + Processes + Env + Files + Eprint {}
 
-impl<R: Net + Clock + RandomSource + Processes + Env + Files> System for R {}
+impl<R: Net + Clock + RandomSource + Processes + Env + Files + Eprint> System for R {}
 
 /// What the televisions show.
 const SCRIPT: &str = "\
@@ -113,7 +113,7 @@ fn written_by<R: System>(
     let status = command(alloc, rt, &words, &mut StdSource::new(input, rt), &mut sink);
     match number_of(status) {
         0 => Ok(written),
-        _ => Err(OutFault::Failed),
+        _ => Err(OutFault::Failed(Failure::Other)),
     }
 }
 
@@ -240,7 +240,7 @@ fn audited<R: System, P: Spawner>(
 ) -> Result<Vec<u8>, OutFault> {
     let record = recorded(alloc, rt, port, spawner)?;
     if !has_interval(&record) {
-        return Err(OutFault::Failed);
+        return Err(OutFault::Failed(Failure::Other));
     }
     written_by(alloc, rt, "audit", &record)
 }

@@ -6,7 +6,7 @@ use crate::pace::Pace;
 use crate::watch::Watch;
 use css_devices::FIRST_SENDER;
 use css_devices::faults::{fault_of, no_room};
-use css_outside::{Address, OutFault};
+use css_outside::{Address, Failure, OutFault};
 use mio::net::UdpSocket;
 use std::alloc::Global;
 use std::io;
@@ -140,7 +140,7 @@ impl Listener {
     fn send(&self, peer: u32, bytes: &[u8; 32]) -> Result<(), OutFault> {
         match self.senders.address_of(peer) {
             Some(address) => send_through(&self.socket, Some(address), bytes),
-            None => Err(OutFault::Failed),
+            None => Err(OutFault::Failed(Failure::Other)),
         }
     }
 }
@@ -172,7 +172,7 @@ impl Link {
 
     fn send(&self, peer: u32, bytes: &[u8; 32]) -> Result<(), OutFault> {
         if peer != self.peer {
-            return Err(OutFault::Failed);
+            return Err(OutFault::Failed(Failure::Other));
         }
         send_through(&self.socket, None, bytes)
     }
@@ -231,7 +231,7 @@ impl Datagrams {
 
     /// Opens a socket for the datagrams of one peer: at the address where its sessions were reached, if its host has
     /// that one, and else at the first that can be used. Sockets of datagrams can be opened to addresses where nobody
-    /// is.
+    /// is. False where no dial may begin now.
     pub(crate) fn dial<R: Net>(
         &mut self,
         rt: &R,
@@ -239,18 +239,20 @@ impl Datagrams {
         reached: Option<IpAddr>,
         peer: u32,
         now: u64,
-    ) -> Result<(), OutFault> {
-        let mut addresses = self.pace.begin(self.alloc, rt, &to.host, to.port, now)?;
+    ) -> Result<bool, OutFault> {
+        let Some(mut addresses) = self.pace.begin(self.alloc, rt, &to.host, to.port, now)? else {
+            return Ok(false);
+        };
         if let Some(place) = addresses
             .iter()
             .position(|address| Some(address.ip()) == reached)
         {
             addresses.swap(0, place);
         }
-        let mut last = OutFault::Failed;
+        let mut last = OutFault::Failed(Failure::NoSuchHost);
         for address in &addresses {
             match self.link(rt, *address, peer) {
-                Ok(()) => return Ok(()),
+                Ok(()) => return Ok(true),
                 Err(error) => last = fault_of(error),
             }
         }
@@ -290,12 +292,12 @@ impl Datagrams {
         if peer < FIRST_SENDER {
             return match &self.link {
                 Some(link) => link.send(peer, bytes),
-                None => Err(OutFault::Failed),
+                None => Err(OutFault::Failed(Failure::Other)),
             };
         }
         match &self.listener {
             Some(listener) => listener.send(peer, bytes),
-            None => Err(OutFault::Failed),
+            None => Err(OutFault::Failed(Failure::Other)),
         }
     }
 }

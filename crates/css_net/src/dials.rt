@@ -10,7 +10,7 @@ use crate::upgrades::{LONGEST_HANDSHAKE, READS};
 use crate::watch::Watch;
 use css_devices::faults::{fault_of, no_memory, no_room, would_wait};
 use css_num::{Memory, Text};
-use css_outside::{Address, Kind, OutFault};
+use css_outside::{Address, Failure, Kind, OutFault};
 use httparse::{EMPTY_HEADER, Header, Response, Status};
 use mio::net::TcpStream;
 use std::alloc::Global;
@@ -41,7 +41,7 @@ fn request_of(alloc: Global, to: &Address, key: [u8; 24]) -> Result<Vec<u8>, Out
     let mut output = Vec::new(alloc);
     match write_request(&request, &mut output) {
         Ok(()) => Ok(output),
-        Err(_) => Err(OutFault::Failed),
+        Err(_) => Err(OutFault::Failed(Failure::Other)),
     }
 }
 
@@ -55,24 +55,31 @@ fn gives_session(fields: &[Header<'_>], key: &[u8; 24]) -> bool {
         && value_of(fields, "Sec-WebSocket-Protocol").is_none()
 }
 
-/// Whether this head is the answer that a request with this key wants.
-fn is_accepted(head: &[u8], key: &[u8; 24]) -> bool {
+/// Whether this head is the answer that a request with this key wants, and else what it says.
+fn accepted(head: &[u8], key: &[u8; 24]) -> Result<(), Failure> {
     let mut fields = [EMPTY_HEADER; MOST_FIELDS];
     let mut response = Response::new(&mut fields);
     match response.parse(head) {
-        Ok(Status::Complete(_)) => response.code == Some(101)
-            && response.version == Some(1)
-            && gives_session(response.headers, key),
-        _ => false,
+        Ok(Status::Complete(_)) => {}
+        _ => return Err(Failure::Other),
+    }
+    match response.code {
+        Some(101) => {}
+        Some(status) => return Err(Failure::HttpStatus(status)),
+        None => return Err(Failure::Other),
+    }
+    if response.version == Some(1) && gives_session(response.headers, key) {
+        Ok(())
+    } else {
+        Err(Failure::Other)
     }
 }
 
-/// What a turn of a handshake came to.
+/// What a turn of a handshake came to that hasn't failed.
 #[derive(Clone, Copy)]
 enum Turn {
     Waits,
     Opened,
-    Ended,
 }
 
 /// A connection to one address, and the handshake on it.
@@ -141,54 +148,51 @@ impl Call {
     }
 
     /// Writes what the stream takes of the request.
-    fn write(&mut self) -> Turn {
+    fn write(&mut self) -> Result<Turn, OutFault> {
         let rest = self.request.get(self.written..).unwrap_or(&[]);
         if rest.is_empty() {
-            return Turn::Opened;
+            return Ok(Turn::Opened);
         }
         match self.stream.write(rest) {
             Ok(count) => {
                 self.written = self.written.saturating_add(count);
-                Turn::Waits
+                Ok(Turn::Waits)
             }
             Err(error) => {
                 if would_wait(error.kind()) {
-                    Turn::Waits
+                    Ok(Turn::Waits)
                 } else {
-                    Turn::Ended
+                    Err(fault_of(error))
                 }
             }
         }
     }
 
     /// Reads what has come of the answer.
-    fn read(&mut self) -> Result<Turn, Memory> {
+    fn read(&mut self) -> Result<Turn, OutFault> {
         self.stream.begin_turn(READS);
         for _ in 0..READS {
             match self.head.read(&mut self.stream)? {
                 Progress::More => {}
                 Progress::Waits => return Ok(Turn::Waits),
-                Progress::Whole => {
-                    return Ok(if is_accepted(self.head.bytes(), &self.key) {
-                        Turn::Opened
-                    } else {
-                        Turn::Ended
-                    });
-                }
-                Progress::TooLong | Progress::Ended => return Ok(Turn::Ended),
+                Progress::Whole => return match accepted(self.head.bytes(), &self.key) {
+                    Ok(()) => Ok(Turn::Opened),
+                    Err(failure) => Err(OutFault::Failed(failure)),
+                },
+                Progress::TooLong | Progress::Ended => return Err(OutFault::Failed(Failure::Other)),
             }
         }
         Ok(Turn::Waits)
     }
 
     /// One turn, which may be its last. One that takes too long ends.
-    fn turn(&mut self, now: u64) -> Result<Turn, Memory> {
+    fn turn(&mut self, now: u64) -> Result<Turn, OutFault> {
         if now.saturating_sub(self.since) >= LONGEST_HANDSHAKE {
-            return Ok(Turn::Ended);
+            return Err(OutFault::Failed(Failure::TimedOut));
         }
-        match self.write() {
+        match self.write()? {
             Turn::Opened => self.read(),
-            turn => Ok(turn),
+            Turn::Waits => Ok(Turn::Waits),
         }
     }
 
@@ -266,17 +270,11 @@ impl Dial {
         let Some(address) = self.next_address() else {
             return Ok(());
         };
-        match Call::begin(alloc, rt, watch, to, address, now) {
-            Ok(call) => {
-                self.call = Some(call);
-                Ok(())
-            }
-            Err(OutFault::Memory) => Err(OutFault::Memory),
-            Err(OutFault::Failed) => Ok(()),
-        }
+        self.call = Some(Call::begin(alloc, rt, watch, to, address, now)?);
+        Ok(())
     }
 
-    /// One turn of the handshake, which may be its last.
+    /// One turn of the handshake, which may be its last. One that fails is dropped.
     fn turn(&mut self, alloc: Global, now: u64) -> Result<Option<Line>, OutFault> {
         let Some(mut call) = self.call.take() else {
             return Ok(None);
@@ -287,7 +285,6 @@ impl Dial {
                 Ok(None)
             }
             Turn::Opened => Ok(Some(call.line(alloc)?)),
-            Turn::Ended => Ok(None),
         }
     }
 
@@ -339,14 +336,16 @@ impl Caller {
         }
     }
 
-    /// Makes sure that a dial to this address stands. One to another place, or with nothing left to be tried, is
-    /// dropped.
+    /// Has a dial to this address stand, where one may begin now. One to another place, or with nothing left to be
+    /// tried, is dropped.
     fn have<R: Net>(&mut self, rt: &R, to: &Address, now: u64) -> Result<(), OutFault> {
         if self.goes_on(to) {
             return Ok(());
         }
         self.dial = None;
-        let addresses = self.pace.begin(self.alloc, rt, &to.host, to.port, now)?;
+        let Some(addresses) = self.pace.begin(self.alloc, rt, &to.host, to.port, now)? else {
+            return Ok(());
+        };
         let dial = Dial::new(to, addresses)?;
         self.dial = Some(Box::new(self.alloc, dial).map_err(no_room)?);
         Ok(())
@@ -371,7 +370,7 @@ impl Caller {
         Ok(line)
     }
 
-    /// Dials, or goes on dialling, and gives the session once it stands.
+    /// Dials, or goes on dialling, and gives the session once it stands. It is Err once for each address that failed.
     pub(crate) fn go_on<R: Net + RandomSource>(
         &mut self,
         rt: &R,
@@ -385,6 +384,34 @@ impl Caller {
             self.dial = None;
         }
         Ok(line)
+    }
+}
+
+/// How the last dial of each kind failed. Before one has, no answer came in time.
+#[derive(Clone, Copy)]
+pub(crate) struct Failures {
+    wc: Failure,
+    cii: Failure,
+    ts: Failure,
+}
+
+impl Failures {
+    /// None has failed.
+    pub(crate) fn new() -> Failures {
+        Failures {
+            wc: Failure::TimedOut,
+            cii: Failure::TimedOut,
+            ts: Failure::TimedOut,
+        }
+    }
+
+    /// How the last dial of a kind failed.
+    pub(crate) fn of(&mut self, kind: Kind) -> &mut Failure {
+        match kind {
+            Kind::Wc => &mut self.wc,
+            Kind::Cii => &mut self.cii,
+            Kind::Ts => &mut self.ts,
+        }
     }
 }
 

@@ -7,6 +7,7 @@
 mod datagrams;
 mod dials;
 mod heads;
+mod log;
 mod masks;
 mod metered;
 mod names;

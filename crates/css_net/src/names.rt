@@ -1,6 +1,8 @@
 //! Where a host is reached, and the texts that a dial is made with.
 
+use css_devices::faults::fault_of;
 use css_num::Text;
+use css_outside::{Failure, OutFault};
 use std::alloc::Global;
 use std::io::ErrorKind;
 use std::net::{Ipv4Addr, Ipv6Addr, Net, SocketAddr, SocketAddrV4, SocketAddrV6, ToSocketAddrs};
@@ -24,15 +26,23 @@ pub(crate) fn authority_of(alloc: Global, host: &Text, port: u16) -> io::Result<
     Ok(format!(in alloc; "{host}:{port}")?)
 }
 
+/// Why a host's addresses aren't known: its name isn't found, where the system says nothing else.
+fn not_found(error: io::Error) -> OutFault {
+    match fault_of(error) {
+        OutFault::Failed(Failure::Other) => OutFault::Failed(Failure::NoSuchHost),
+        fault => fault,
+    }
+}
+
 /// The addresses of a port of a host, in the order of the resolver. A name is looked up, which may take seconds.
 pub(crate) fn addresses_of<R: Net>(
     alloc: Global,
     rt: &R,
     host: &Text,
     port: u16,
-) -> io::Result<Vec<SocketAddr>> {
-    let authority = authority_of(alloc, host, port)?;
-    resolved(alloc, rt, &authority)
+) -> Result<Vec<SocketAddr>, OutFault> {
+    let authority = authority_of(alloc, host, port).map_err(not_found)?;
+    resolved(alloc, rt, &authority).map_err(not_found)
 }
 
 /// Any free port of this machine, in the family of an address.

@@ -1,9 +1,10 @@
 ghost use Rattle.std.specs.Prelude.{◌≡◌, None};
 
+use crate::log::Log;
 use crate::sockets::{NetRuntime, Sockets};
 use css_devices::Tally;
 use css_num::Text;
-use css_outside::{Address, Clocked, Heard, Kind, OutFault, Outside, Why, Wrote};
+use css_outside::{Address, Clocked, Failure, Heard, Kind, OutFault, Outside, Why, Wrote};
 use std::alloc::Global;
 
 /// The system's clock and its sockets.
@@ -14,16 +15,25 @@ pub struct NetOutside<R: NetRuntime> {
     rt: R,
     tally: Tally,
     sockets: Sockets,
+    dial_failure: Option<Failure>,
 }
 
 impl<R: NetRuntime> NetOutside<R> {
-    /// No socket is open, and the clock wasn't read.
+    /// No socket is open, and the clock wasn't read. With `CSS_LOG=1` in the environment a line is written on standard
+    /// error for each thing that is done, at most 10,000 of them.
     pub fn new(alloc: Global, rt: R) -> NetOutside<R> {
         NetOutside {
             rt,
             tally: Tally::new(),
-            sockets: Sockets::new(alloc),
+            sockets: Sockets::new(alloc, Log::of(&rt)),
+            dial_failure: None,
         }
+    }
+
+    /// How the last dial that failed did, where one has. Of one that isn't done it is how the one before it failed,
+    /// and `TimedOut` where there was none.
+    pub fn last_dial_failure(&self) -> Option<Failure> {
+        self.dial_failure
     }
 
     /// Closes the sessions that are open, and waits until the peers have what they were told, for a second at most.
@@ -57,15 +67,18 @@ impl<R: NetRuntime> Outside for NetOutside<R> {
 
     fn dial(&mut self, kind: Kind, to: &Address) -> Result<u32, OutFault> {
         let Some(peer) = self.tally.next_peer() else {
-            return self.tally.not_dialled(OutFault::Failed);
+            return self.tally.not_dialled(OutFault::Failed(Failure::Other));
         };
         let dialled = self.sockets.dial(&self.rt, kind, to, peer);
+        if let Err(OutFault::Failed(failure)) = &dialled {
+            self.dial_failure = Some(*failure);
+        }
         self.tally.dialled(peer, dialled)
     }
 
     fn accept(&mut self) -> Result<Option<(u32, Kind)>, OutFault> {
         let Some(peer) = self.tally.next_peer() else {
-            return self.tally.plain(Err(OutFault::Failed));
+            return self.tally.plain(Err(OutFault::Failed(Failure::Other)));
         };
         let came = self.sockets.accept(&self.rt, peer);
         self.tally.opened(peer, came)

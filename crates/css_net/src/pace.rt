@@ -1,7 +1,7 @@
 //! When a dial may begin, and when a name may be looked up.
 
 use crate::names::addresses_of;
-use css_devices::faults::{fault_of, no_memory};
+use css_devices::faults::no_memory;
 use css_num::Text;
 use css_outside::OutFault;
 use std::alloc::Global;
@@ -59,7 +59,7 @@ impl Pace {
         Ok(())
     }
 
-    /// Begins a dial, where one may begin: the addresses of its host. A name is looked up, which may take seconds.
+    /// Begins a dial, where one may begin now: the addresses of its host. A name is looked up, which may take seconds.
     pub(crate) fn begin<R: Net>(
         &mut self,
         alloc: Global,
@@ -67,17 +67,17 @@ impl Pace {
         host: &Text,
         port: u16,
         now: u64,
-    ) -> Result<Vec<SocketAddr>, OutFault> {
+    ) -> Result<Option<Vec<SocketAddr>>, OutFault> {
         if self.rests(now) || self.misses(host, now) {
-            return Err(OutFault::Failed);
+            return Ok(None);
         }
         self.begun = Some(now);
-        match addresses_of(alloc, rt, host, port).map_err(fault_of) {
-            Ok(addresses) => Ok(addresses),
+        match addresses_of(alloc, rt, host, port) {
+            Ok(addresses) => Ok(Some(addresses)),
             Err(OutFault::Memory) => Err(OutFault::Memory),
-            Err(OutFault::Failed) => {
+            Err(OutFault::Failed(failure)) => {
                 self.miss(host, now)?;
-                Err(OutFault::Failed)
+                Err(OutFault::Failed(failure))
             }
         }
     }

@@ -9,6 +9,7 @@ use mio::net::TcpStream;
 use std::alloc::Global;
 use std::io;
 use std::io::Read;
+use std::net::SocketAddr;
 use tungstenite::{
     Bytes, CloseCode, CloseFrame, Error, Message, Role, Utf8Bytes, WebSocket, WebSocketConfig,
 };
@@ -42,7 +43,18 @@ pub(crate) enum Came {
     /// No whole message.
     Nothing,
     /// The session ended.
-    End,
+    End(End),
+}
+
+/// Why a session ended.
+#[derive(Clone, Copy)]
+pub(crate) enum End {
+    /// Its peer closed it.
+    ByPeer,
+    /// Its connection broke, or takes too little.
+    Broken,
+    /// This end closed it, and told its peer so by this code.
+    ByUs(CloseCode),
 }
 
 /// Why a call on a session gave nothing.
@@ -89,12 +101,14 @@ type Socket = WebSocket<Metered, Masks>;
 /// The line to a peer, once its handshake is done.
 pub(crate) struct Line {
     socket: Socket,
+    /// Why it ended, once it has.
+    end: End,
 }
 
 // One function drops its many parts: what holds one needn't see them.
 impl Drop for Line {
     fn drop(self) {
-        let Line { socket: _ } = self;
+        let Line { socket: _, end: _ } = self;
     }
 }
 
@@ -112,6 +126,7 @@ impl Line {
                 Role::Server,
                 limits,
             ),
+            end: End::Broken,
         }
     }
 
@@ -127,12 +142,17 @@ impl Line {
                 Role::Client,
                 limits,
             ),
+            end: End::Broken,
         }
     }
 
     /// What has come.
     pub(crate) fn hear(&mut self, alloc: Global) -> Result<Came, Memory> {
-        hear(alloc, &mut self.socket)
+        let came = hear(alloc, &mut self.socket)?;
+        if let Came::End(end) = &came {
+            self.end = *end;
+        }
+        Ok(came)
     }
 
     /// Says a text. What the stream doesn't take at once goes out in later turns.
@@ -152,7 +172,18 @@ impl Line {
 
     /// Tells the peer that the session ends, if it still listens.
     pub(crate) fn close(&mut self, code: CloseCode) {
+        self.end = End::ByUs(code);
         close(&mut self.socket, code)
+    }
+
+    /// Why it ended.
+    pub(crate) fn end(&self) -> End {
+        self.end
+    }
+
+    /// Where its peer is, if it is still there.
+    pub(crate) fn from(&mut self) -> Option<SocketAddr> {
+        self.stream().peer_addr().ok()
     }
 
     /// Writes out what waits.
@@ -219,7 +250,7 @@ fn came_by(alloc: Global, message: &Message) -> Result<Came, Stop> {
             Err(Memory) => Err(Stop::Memory),
         },
         Message::Binary(_) => Err(Stop::Refuses(CloseCode::Unsupported)),
-        Message::Close(_) => Ok(Came::End),
+        Message::Close(_) => Ok(Came::End(End::ByPeer)),
         _ => Ok(Came::Other),
     }
 }
@@ -234,10 +265,10 @@ fn next(alloc: Global, socket: &mut Socket) -> Result<Came, Stop> {
 fn hear(alloc: Global, socket: &mut Socket) -> Result<Came, Memory> {
     socket.get_mut().begin_turn(READS);
     match next(alloc, socket) {
-        Ok(Came::End) => {
+        Ok(Came::End(end)) => {
             // The answer to the peer's close.
             let _ = flush(socket);
-            Ok(Came::End)
+            Ok(Came::End(end))
         }
         Ok(came) => Ok(came),
         Err(stop) => hear_nothing(socket, stop),
@@ -250,8 +281,8 @@ fn hear_nothing(socket: &mut Socket, stop: Stop) -> Result<Came, Memory> {
         Stop::Waits => Ok(Came::Nothing),
         Stop::Refuses(code) => {
             close(socket, code);
-            Ok(Came::End)
+            Ok(Came::End(End::ByUs(code)))
         }
-        Stop::Over => Ok(Came::End),
+        Stop::Over => Ok(Came::End(End::Broken)),
     }
 }

@@ -51,7 +51,7 @@ impl Session {
                 self.named = self.line.was_cut();
                 Ok(Heard::Quiet)
             }
-            Came::End => Ok(Heard::Closed),
+            Came::End(_) => Ok(Heard::Closed),
         }
     }
 

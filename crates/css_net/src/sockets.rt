@@ -3,7 +3,8 @@ ghost use Rattle.std.specs.Prelude.{IfOk, IfSome};
 ghost use Rattle.css_outside.specs.Outsides.{FitsRoom, IsSession};
 
 use crate::datagrams::Datagrams;
-use crate::dials::Dials;
+use crate::dials::{Dials, Failures};
+use crate::log::{Event, Log};
 use crate::names::addresses_of;
 use crate::partings::{LONGEST_PARTING, Partings};
 use crate::session::Line;
@@ -13,8 +14,9 @@ use crate::watch::{NOBODY, Watch};
 use css_devices::faults::fault_of;
 use css_devices::monotone;
 use css_num::Text;
-use css_outside::{Address, Heard, Kind, OutFault, Wrote};
+use css_outside::{Address, Failure, Heard, Kind, OutFault, Wrote};
 use std::alloc::Global;
+use std::env::Env;
 use std::net::{Net, SocketAddr};
 use std::random::RandomSource;
 use std::time::{Clock, Duration};
@@ -31,9 +33,9 @@ const MOST_ENDED: usize = 16;
 const FIRST_SESSION: usize = 16;
 
 /// What the sockets need of the runtime, such as a reference to the host's.
-pub trait NetRuntime: Net + Clock + RandomSource + Copy {}
+pub trait NetRuntime: Net + Clock + RandomSource + Env + Eprint + Copy {}
 
-impl<R: Net + Clock + RandomSource + Copy> NetRuntime for R {}
+impl<R: Net + Clock + RandomSource + Env + Eprint + Copy> NetRuntime for R {}
 
 /// The sockets of one end. Each call that needs the runtime is handed it, so that the type has no bounds.
 pub(crate) struct Sockets {
@@ -46,8 +48,10 @@ pub(crate) struct Sockets {
     datagrams: Datagrams,
     upgrades: Upgrades,
     dials: Dials,
+    failures: Failures,
     sessions: Sessions,
     partings: Partings,
+    log: Log,
 }
 
 fn time<C: Clock>(rt: &C) -> u64 {
@@ -76,15 +80,17 @@ impl Drop for Sockets {
             datagrams: _,
             upgrades: _,
             dials: _,
+            failures: _,
             sessions: _,
             partings: _,
+            log: _,
         } = self;
     }
 }
 
 impl Sockets {
     /// None is open.
-    pub(crate) fn new(alloc: Global) -> Sockets {
+    pub(crate) fn new(alloc: Global, log: Log) -> Sockets {
         Sockets {
             alloc,
             watch: Watch::new(alloc),
@@ -93,8 +99,10 @@ impl Sockets {
             datagrams: Datagrams::new(alloc),
             upgrades: Upgrades::new(alloc),
             dials: Dials::new(alloc),
+            failures: Failures::new(),
             sessions: Sessions::new(alloc),
             partings: Partings::new(alloc),
+            log,
         }
     }
 
@@ -156,7 +164,7 @@ impl Sockets {
         next_port: u16,
     ) -> Result<(), OutFault> {
         if address.ip().is_unspecified() {
-            return Err(OutFault::Failed);
+            return Err(OutFault::Failed(Failure::NotHere));
         }
         let mut next = address;
         next.set_port(next_port);
@@ -166,26 +174,45 @@ impl Sockets {
         Ok(())
     }
 
-    /// Listens at the first address of the host that is free.
-    pub(crate) fn listen<R: Net>(
+    /// Listens at the first address of the host that is free, and gives it.
+    fn listen_first<R: Net>(
         &mut self,
         rt: &R,
         host: &Text,
         port: u16,
-    ) -> Result<(), OutFault> {
+    ) -> Result<SocketAddr, OutFault> {
         let Some(next_port) = port.checked_add(1) else {
-            return Err(OutFault::Failed);
+            return Err(OutFault::Failed(Failure::Other));
         };
-        let addresses = addresses_of(self.alloc, rt, host, port).map_err(fault_of)?;
-        let mut last = OutFault::Failed;
+        let addresses = addresses_of(self.alloc, rt, host, port)?;
+        let mut last = OutFault::Failed(Failure::NoSuchHost);
         for address in &addresses {
             match self.listen_at(rt, *address, next_port) {
-                Ok(()) => return Ok(()),
+                Ok(()) => return Ok(*address),
                 Err(OutFault::Memory) => return Err(OutFault::Memory),
                 Err(fault) => last = fault,
             }
         }
         Err(last)
+    }
+
+    /// Listens at the first address of the host that is free.
+    pub(crate) fn listen<R: Net + Eprint>(
+        &mut self,
+        rt: &R,
+        host: &Text,
+        port: u16,
+    ) -> Result<(), OutFault> {
+        match self.listen_first(rt, host, port) {
+            Ok(address) => {
+                self.log.write(rt, Event::Listens(address));
+                Ok(())
+            }
+            Err(fault) => {
+                self.log.write(rt, Event::ListensNot(host, port, fault));
+                Err(fault)
+            }
+        }
     }
 
     /// The stream of a session, watched under its peer's name from now on.
@@ -195,15 +222,21 @@ impl Sockets {
     }
 
     /// The next handshake that a peer began and that stands.
-    fn next_upgrade(&mut self, now: u64) -> Result<Option<(Service, Line)>, OutFault> {
+    fn next_upgrade<R: Eprint>(
+        &mut self,
+        rt: &R,
+        now: u64,
+    ) -> Result<Option<(Service, Line)>, OutFault> {
         for _ in 0..MOST_ENDED {
             match self.upgrades.turn()? {
                 None => return Ok(None),
                 Some(Upgraded::Opened(service, stream, rest)) => {
                     return Ok(Some((service, Line::served(self.alloc, stream, rest))));
                 }
-                Some(Upgraded::Refused(name, stream)) => {
-                    let line = Line::served(self.alloc, stream, Vec::new(self.alloc));
+                Some(Upgraded::Refused(name, refusal, stream)) => {
+                    let mut line = Line::served(self.alloc, stream, Vec::new(self.alloc));
+                    let event = Event::Refused(line.from(), refusal.words());
+                    self.log.write(rt, event);
                     self.partings.add(name, line, now)?;
                 }
                 Some(Upgraded::Ended) => {}
@@ -213,21 +246,32 @@ impl Sockets {
     }
 
     /// Opens a session that a peer asked for, where there is room.
-    fn open(&mut self, line: Line, peer: u32, now: u64) -> Result<bool, OutFault> {
+    fn open<R: Eprint>(
+        &mut self,
+        rt: &R,
+        kind: Kind,
+        line: Line,
+        peer: u32,
+        now: u64,
+    ) -> Result<bool, OutFault> {
         let Ok(mut line) = self.renamed(line, peer) else {
             return Ok(false);
         };
+        let from = line.from();
         if self.sessions.is_full() {
+            self.log
+                .write(rt, Event::Refused(from, "too many sessions are open"));
             line.close(CloseCode::Again);
             self.partings.add(name_of(peer), line, now)?;
             return Ok(false);
         }
+        self.log.write(rt, Event::Opened(kind, peer, from));
         self.sessions.open(peer, line, true, now)?;
         Ok(true)
     }
 
     /// The next session that a peer opened. It becomes this peer's.
-    pub(crate) fn accept<R: Net + Clock>(
+    pub(crate) fn accept<R: Net + Clock + Eprint>(
         &mut self,
         rt: &R,
         peer: u32,
@@ -240,10 +284,10 @@ impl Sockets {
         }
         let now = time(rt);
         self.upgrades.connect(rt, &mut self.watch, now)?;
-        let Some((service, line)) = self.next_upgrade(now)? else {
+        let Some((service, line)) = self.next_upgrade(rt, now)? else {
             return Ok(None);
         };
-        if self.open(line, peer, now)? {
+        if self.open(rt, service.kind(), line, peer, now)? {
             Ok(Some(service.kind()))
         } else {
             Ok(None)
@@ -252,6 +296,7 @@ impl Sockets {
 
     // ---- a companion's sockets
 
+    /// Dials a session, or goes on dialling it. False where it isn't done, or where no dial may begin now.
     fn call<R: Net + RandomSource>(
         &mut self,
         rt: &R,
@@ -259,23 +304,24 @@ impl Sockets {
         to: &Address,
         peer: u32,
         now: u64,
-    ) -> Result<(), OutFault> {
+    ) -> Result<bool, OutFault> {
         let caller = self.dials.of(kind);
         let Some(line) = caller.go_on(rt, &mut self.watch, to, now)? else {
-            return Err(OutFault::Failed);
+            return Ok(false);
         };
         let line = self.renamed(line, peer).map_err(fault_of)?;
-        self.sessions.open(peer, line, false, now)
+        self.sessions.open(peer, line, false, now)?;
+        Ok(true)
     }
 
-    /// Opens a session, or the socket of datagrams, for this peer. A dial that isn't done goes on at the next.
-    pub(crate) fn dial<R: Net + Clock + RandomSource>(
+    /// Opens a session, or the socket of datagrams, for this peer. False where that isn't done, or may not begin now.
+    fn dial_on<R: Net + Clock + RandomSource>(
         &mut self,
         rt: &R,
         kind: Kind,
         to: &Address,
         peer: u32,
-    ) -> Result<(), OutFault> {
+    ) -> Result<bool, OutFault> {
         let now = time(rt);
         match kind {
             Kind::Wc => {
@@ -283,6 +329,31 @@ impl Sockets {
                 self.datagrams.dial(rt, to, reached, peer, now)
             }
             Kind::Cii | Kind::Ts => self.call(rt, kind, to, peer, now),
+        }
+    }
+
+    /// Opens a session, or the socket of datagrams, for this peer. A dial that isn't done goes on at the next, and is
+    /// told as the last one that failed.
+    pub(crate) fn dial<R: Net + Clock + RandomSource + Eprint>(
+        &mut self,
+        rt: &R,
+        kind: Kind,
+        to: &Address,
+        peer: u32,
+    ) -> Result<(), OutFault> {
+        match self.dial_on(rt, kind, to, peer) {
+            Ok(true) => {
+                self.log.write(rt, Event::Dialled(kind, to, peer));
+                Ok(())
+            }
+            Ok(false) => Err(OutFault::Failed(*self.failures.of(kind))),
+            Err(fault) => {
+                self.log.write(rt, Event::DialledNot(kind, to, fault));
+                if let OutFault::Failed(failure) = fault {
+                    *self.failures.of(kind) = failure;
+                }
+                Err(fault)
+            }
         }
     }
 
@@ -333,16 +404,25 @@ impl Sockets {
 
     // ---- sessions
 
-    fn part<C: Clock>(&mut self, rt: &C, peer: u32) -> Result<(), OutFault> {
-        let now = time(rt);
+    /// Lets a line part that was this peer's.
+    fn leave<C: Clock + Eprint>(&mut self, rt: &C, peer: u32, line: Line) -> Result<(), OutFault> {
+        self.log.write(rt, Event::Closed(peer, line.end()));
+        self.partings.add(name_of(peer), line, time(rt))
+    }
+
+    fn part<C: Clock + Eprint>(&mut self, rt: &C, peer: u32) -> Result<(), OutFault> {
         match self.sessions.part(peer) {
-            Some(line) => self.partings.add(name_of(peer), line, now),
+            Some(line) => self.leave(rt, peer, line),
             None => Ok(()),
         }
     }
 
     /// What a session has to tell.
-    pub(crate) fn take_text<C: Clock>(&mut self, rt: &C, peer: u32) -> Result<Heard, OutFault> {
+    pub(crate) fn take_text<C: Clock + Eprint>(
+        &mut self,
+        rt: &C,
+        peer: u32,
+    ) -> Result<Heard, OutFault> {
         self.look(rt)?;
         let now = time(rt);
         let heard = self.sessions.hear(peer, now)?;
@@ -353,14 +433,14 @@ impl Sockets {
     }
 
     /// Says a text, which is UTF-8. A peer that takes nothing for too long is gone.
-    pub(crate) fn send_text<C: Clock>(
+    pub(crate) fn send_text<C: Clock + Eprint>(
         &mut self,
         rt: &C,
         peer: u32,
         text: &[u8],
     ) -> Result<Wrote, OutFault> {
         let Ok(text) = str::from_utf8(text) else {
-            return Err(OutFault::Failed);
+            return Err(OutFault::Failed(Failure::Other));
         };
         let wrote = self.sessions.say(peer, text)?;
         if wrote == Wrote::Gone {
@@ -369,13 +449,18 @@ impl Sockets {
         Ok(wrote)
     }
 
-    fn close<C: Clock>(&mut self, rt: &C, peer: u32, mut line: Line) -> Result<(), OutFault> {
+    fn close<C: Clock + Eprint>(
+        &mut self,
+        rt: &C,
+        peer: u32,
+        mut line: Line,
+    ) -> Result<(), OutFault> {
         line.close(CloseCode::Normal);
-        self.partings.add(name_of(peer), line, time(rt))
+        self.leave(rt, peer, line)
     }
 
     /// Closes a session, if it is open.
-    pub(crate) fn hang_up<C: Clock>(&mut self, rt: &C, peer: u32) -> Result<(), OutFault> {
+    pub(crate) fn hang_up<C: Clock + Eprint>(&mut self, rt: &C, peer: u32) -> Result<(), OutFault> {
         match self.sessions.part(peer) {
             Some(line) => self.close(rt, peer, line),
             None => Ok(()),
@@ -385,7 +470,7 @@ impl Sockets {
     // ---- the end
 
     /// Closes what is open.
-    fn close_all<C: Clock>(&mut self, rt: &C) -> Result<(), OutFault> {
+    fn close_all<C: Clock + Eprint>(&mut self, rt: &C) -> Result<(), OutFault> {
         for _ in 0..u64::MAX {
             let Some((peer, line)) = self.sessions.part_last() else {
                 break;
@@ -396,7 +481,7 @@ impl Sockets {
     }
 
     /// Closes what is open, and waits until the peers have what they were told, for a second at most.
-    pub(crate) fn end<C: Clock>(&mut self, rt: &C) -> Result<(), OutFault> {
+    pub(crate) fn end<C: Clock + Eprint>(&mut self, rt: &C) -> Result<(), OutFault> {
         self.close_all(rt)?;
         for _ in 0..LONGEST_PARTING / PAUSE {
             if self.partings.is_empty() {

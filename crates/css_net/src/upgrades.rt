@@ -66,7 +66,7 @@ impl Service {
 
 /// Why an upgrade is refused.
 #[derive(Clone, Copy)]
-enum Refusal {
+pub(crate) enum Refusal {
     Malformed,
     OtherPath,
     OtherMethod,
@@ -75,6 +75,17 @@ enum Refusal {
 }
 
 impl Refusal {
+    /// Its words for a person.
+    pub(crate) fn words(self) -> &'static str {
+        match self {
+            Refusal::Malformed => "it is malformed",
+            Refusal::OtherPath => "another path",
+            Refusal::OtherMethod => "another method",
+            Refusal::NoUpgrade => "no upgrade to a WebSocket of version 13",
+            Refusal::TooLong => "it is too long",
+        }
+    }
+
     fn answer(self) -> &'static [u8] {
         match self {
             Refusal::Malformed =>
@@ -168,7 +179,7 @@ enum Turn {
     /// The session stands.
     Opened,
     /// The peer was told why there is no session.
-    Refused,
+    Refused(Refusal),
     /// The connection ended.
     Ended,
 }
@@ -179,7 +190,7 @@ pub(crate) enum Upgraded {
     /// The session stands, and this came after its handshake.
     Opened(Service, Metered, Vec<u8>),
     /// There is no session. The connection has this name, and its peer was told why.
-    Refused(usize, Metered),
+    Refused(usize, Refusal, Metered),
     /// The connection is gone.
     Ended,
 }
@@ -237,7 +248,7 @@ impl Upgrade {
     }
 
     fn refuse(&mut self, refusal: Refusal) -> Turn {
-        self.write(refusal.answer(), Turn::Refused)
+        self.write(refusal.answer(), Turn::Refused(refusal))
     }
 
     /// Answers a head that is whole.
@@ -287,7 +298,7 @@ impl Upgrade {
         } = self;
         match turn {
             Turn::Opened => Ok(Upgraded::Opened(service, stream, head.rest(alloc)?)),
-            Turn::Refused => Ok(Upgraded::Refused(name, stream)),
+            Turn::Refused(refusal) => Ok(Upgraded::Refused(name, refusal, stream)),
             Turn::Waits | Turn::Ended => Ok(Upgraded::Ended),
         }
     }

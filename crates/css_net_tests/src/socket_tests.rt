@@ -2,7 +2,7 @@
 
 use css_net::{NetOutside, NetRuntime};
 use css_num::Text;
-use css_outside::{Address, Heard, Kind, Outside};
+use css_outside::{Address, Failure, Heard, Kind, OutFault, Outside};
 use std::alloc::Global;
 use std::process::{self, Abort};
 
@@ -142,6 +142,73 @@ fn relay<R: NetRuntime>(rt: &impl Abort, alloc: Global, net: R, port: u16) {
     check_relaying(rt, &mut tv, &mut relay, &mut companion, &at, &own);
 }
 
+/// Hosts that can't be listened on while another television listens on this machine, and why.
+#[rattlefmt::skip]
+const UNHEARD: [(&[u8], Failure); 4] = [
+    (b"127.0.0.1", Failure::InUse),
+    (b"0.0.0.0", Failure::NotHere),
+    (b"192.0.2.1", Failure::NotHere),
+    (b"\xff", Failure::NoSuchHost),
+];
+
+/// A host that can't be listened on is told as such.
+fn check_unheard<O: Outside>(
+    rt: &impl Abort,
+    outside: &mut O,
+    host: &Text,
+    port: u16,
+    failure: Failure,
+) {
+    let listens = outside.listen(host, port);
+    assert!(rt; listens == Err(OutFault::Failed(failure)), "{failure:?}");
+}
+
+fn listen_in_vain<R: NetRuntime>(rt: &impl Abort, alloc: Global, net: R, port: u16) {
+    let mut tv = NetOutside::new(alloc, net);
+    listen(rt, &mut tv, &television_at(rt, alloc, port));
+    for (host, failure) in UNHEARD {
+        let mut outside = NetOutside::new(alloc, net);
+        check_unheard(rt, &mut outside, &text(rt, alloc, host), port, failure);
+    }
+}
+
+/// What the dials of a session come to in the end.
+fn failure_of<O: Outside>(tv: &mut O, companion: &mut O, to: &Address) -> Option<OutFault> {
+    let mut last = None;
+    for _ in 0..TURNS {
+        last = companion.dial(Kind::Cii, to).err();
+        let _ = tv.take_datagram(&mut [0u8; 64]);
+        let _ = tv.accept();
+    }
+    last
+}
+
+/// A dial that can't succeed is told as such, by the outside too.
+fn check_refused<R: NetRuntime>(
+    rt: &impl Abort,
+    tv: &mut NetOutside<R>,
+    mut companion: NetOutside<R>,
+    to: &Address,
+    failure: Failure,
+) {
+    let last = failure_of(tv, &mut companion, to);
+    assert!(rt; last == Some(OutFault::Failed(failure)), "{failure:?}");
+    assert!(rt; companion.last_dial_failure() == Some(failure));
+}
+
+/// Dials at another path of a television, and at a port where nobody listens.
+fn dial_in_vain<R: NetRuntime>(rt: &impl Abort, alloc: Global, net: R, port: u16) {
+    let mut tv = NetOutside::new(alloc, net);
+    let mut to = television_at(rt, alloc, port);
+    listen(rt, &mut tv, &to);
+    to.path = text(rt, alloc, b"/other");
+    let companion = NetOutside::new(alloc, net);
+    check_refused(rt, &mut tv, companion, &to, Failure::HttpStatus(404));
+    to.port = port.wrapping_add(2);
+    let companion = NetOutside::new(alloc, net);
+    check_refused(rt, &mut tv, companion, &to, Failure::Refused);
+}
+
 #[test]
 fn texts_and_datagrams_go_there_and_back(rt: HostRuntime) {
     let port = 10000 + (process::id(rt.process()) % 5000 * 4) as u16;
@@ -152,4 +219,16 @@ fn texts_and_datagrams_go_there_and_back(rt: HostRuntime) {
 fn one_who_listens_dials_too(rt: HostRuntime) {
     let port = 30000 + (process::id(rt.process()) % 5000 * 4) as u16;
     relay(&rt, rt.alloc(), &rt, port);
+}
+
+#[test]
+fn a_host_that_cannot_be_listened_on_is_told(rt: HostRuntime) {
+    let port = 50000 + (process::id(rt.process()) % 1000 * 2) as u16;
+    listen_in_vain(&rt, rt.alloc(), &rt, port);
+}
+
+#[test]
+fn a_dial_tells_how_it_failed(rt: HostRuntime) {
+    let port = 52000 + (process::id(rt.process()) % 1000 * 4) as u16;
+    dial_in_vain(&rt, rt.alloc(), &rt, port);
 }

@@ -1,0 +1,90 @@
+//! What a line of the input has to be like.
+
+use crate::options::command_in;
+use css_app::LineWhy;
+use css_schedule::PlayerFault;
+use std::alloc::Global;
+
+/// How long the lines of a command's input may be.
+fn lengths(command: &str) -> &'static str {
+    match command {
+        "audit" => "a line has at most 16,777,216 bytes, and a record 268,435,456",
+        "replay" =>
+            "a line has at most 4,096 bytes and the input 67,108,864; in version 2 4,352 and 134,217,728",
+        _ => "a line has at most 4,096 bytes, and the input 67,108,864",
+    }
+}
+
+/// What the first line of a command's input is like.
+fn header_of(command: &str) -> &'static str {
+    match command {
+        "replay" =>
+            "line 1 is: css-schedule 1 MODE EW KW EL PL SELECTOR STEM, or: css-schedule 2 MODE EW KW COUNT",
+        "migrate" =>
+            "line 1 is: css-schedule 1 MODE EW KW EL PL SELECTOR STEM; what is of version 2 stays as it is",
+        "agree" => "line 1 is: css-agree 1 EL PL",
+        "audit" => "line 1 is: css-record 1 EL PL SELECTOR STEM",
+        _ => script_line(),
+    }
+}
+
+fn script_line() -> &'static str {
+    "a line is W VERB .., with the verb programme, timeline, change, speed or seek, and single spaces"
+}
+
+/// What each further line of a command's input is like.
+fn line_of(command: &str) -> &'static str {
+    match command {
+        "replay" =>
+            "a line is T W L VERB .. (version 2: T W K L VERB ..), single spaces, numbers in their range",
+        "migrate" => "a line is T W L VERB .., with single spaces, and numbers in their range",
+        "agree" => "a line is: answer T1 T2 T3 T4 K E, or: at R",
+        "audit" =>
+            "a line is slept, turn R, ask R, land R HEX, cii HEX, ts HEX, closed cii, closed ts, or a report",
+        _ => script_line(),
+    }
+}
+
+/// What a line names that isn't there.
+fn absence(command: &str) -> &'static str {
+    match command {
+        "audit" => "a report stands directly after a turn",
+        _ =>
+            "it names a request, take or datagram that isn't there, or a session that isn't open or was before",
+    }
+}
+
+/// The limit of the player that was hit.
+fn limit(fault: PlayerFault) -> Option<&'static str> {
+    match fault {
+        PlayerFault::NoProgramme => Some(
+            "there is no programme of this number, or none is shown yet",
+        ),
+        PlayerFault::Speed => Some("a speed is from -64 to 64"),
+        PlayerFault::Range => Some("a position and a base are from -10^17 to 10^17"),
+        PlayerFault::Full => Some("there are at most 1,000 programmes, and 16 timelines in each"),
+        PlayerFault::Memory => None,
+    }
+}
+
+/// What a line of the input that was refused has to be like.
+pub(crate) fn bad_line(alloc: Global, words: &[String], line: u64, why: LineWhy) -> Option<String> {
+    let command = command_in(words);
+    let words = match why {
+        LineWhy::Long => lengths(command),
+        LineWhy::Form if line == 1 => header_of(command),
+        LineWhy::Form => line_of(command),
+        LineWhy::Absent => absence(command),
+        LineWhy::Player(fault) => limit(fault)?,
+    };
+    String::from_str(alloc, words).ok()
+}
+
+/// What a line of a cue sheet has to be like.
+pub(crate) fn bad_sheet(alloc: Global) -> Option<String> {
+    String::from_str(
+        alloc,
+        "a line is: cue TICK NAME, at most 1,000 of them, or: meter COUNT, at most one; single spaces",
+    )
+    .ok()
+}

@@ -1,0 +1,60 @@
+//! What the texts of a television's session have wrong, and the reports of a record.
+
+use css_cii::{CiiFault, CiiName};
+use css_companion::{Report, line};
+use css_num::Text;
+use std::alloc::Global;
+use std::str;
+
+/// How much of a text stands in a line, in bytes.
+const MOST: usize = 60;
+
+/// The front of a text.
+fn front(text: &Text) -> &str {
+    let bytes = text.bytes();
+    str::from_utf8(bytes.get(..MOST).unwrap_or(bytes)).unwrap_or("?")
+}
+
+/// What a message's fault means.
+pub(crate) fn bad_cii(alloc: Global, text: u64, fault: CiiFault) -> Option<String> {
+    match fault {
+        CiiFault::NotJson => format!(in alloc; "text {text} of the CSS-CII session isn't JSON"),
+        CiiFault::NotObject => format!(in alloc;
+            "text {text} of the CSS-CII session is JSON, but no object"
+        ),
+        CiiFault::Field(name) => {
+            let name = name.as_str();
+            format!(in alloc;
+                "text {text} of the CSS-CII session: its {name} isn't of the form that it has to have"
+            )
+        }
+        CiiFault::Memory => return None,
+    }
+    .ok()
+}
+
+/// What an address has to be.
+pub(crate) fn bad_url(alloc: Global, property: CiiName) -> Option<String> {
+    let form = match property {
+        CiiName::WcUrl => "udp://HOST:PORT",
+        _ => "ws://HOST:PORT/PATH",
+    };
+    let name = property.as_str();
+    format!(in alloc; "the television's {name} is no address of the form {form}").ok()
+}
+
+/// From where to where an address moved.
+pub(crate) fn moved(alloc: Global, property: CiiName, old: &Text, new: &Text) -> Option<String> {
+    let name = property.as_str();
+    let old = front(old);
+    let new = front(new);
+    format!(in alloc; "{name} was {old} and is {new}: start the companion again").ok()
+}
+
+/// The report that a line of a record was to have.
+pub(crate) fn wrong_report(alloc: Global, right: &Report) -> Option<String> {
+    let line = line(alloc, 0, right, None).ok()?;
+    let words = str::from_utf8(line.bytes()).unwrap_or("0 ?");
+    let report = words.strip_prefix("0 ").unwrap_or(words).trim_end();
+    format!(in alloc; "the report that was to be made here is: {report}").ok()
+}
