@@ -12,16 +12,15 @@ use Rattle.clap.specs.Walk.{nothing_held, walk_from}
 use Rattle.clap.specs.Words.{App, Row, Text, matches_of}
 use Rattle.css_words.specs.Commands.{Agree, Audit, Companion, Generate, Migrate, Pair, Relay, Replay, Survey, Tv}
 use Rattle.css_words.specs.Commands.{command_in, is_bare_dashes, named, no_options}
-use Rattle.css_words.specs.Companion.{companion_app, companion_in, companion_options, companion_rows}
+use Rattle.css_words.specs.Companion.{companion_app, companion_flags, companion_in, companion_options, companion_rows}
 use Rattle.css_words.specs.Generator.{generator_app, generator_in, generator_options, generator_rows}
 use Rattle.css_words.specs.Laws.{UnknownOptionsAreUsage, options_of_command}
 use Rattle.css_words.specs.Options.{◌>>=◌, rows_in, unless_refused}
 use Rattle.css_words.specs.Pair.{pair_app, pair_in, pair_options, pair_rows}
 use Rattle.css_words.specs.Relay.{relay_app, relay_in, relay_options, relay_rows}
-use Rattle.css_words.specs.Tv.{tv_app, tv_in, tv_options, tv_rows}
+use Rattle.css_words.specs.Tv.{tv_app, tv_flags, tv_in, tv_options, tv_rows}
 use Rattle.css_words.specs.declared.fault.WordsFault.TheVariants.{Usage}
-use Rattle.css_words.proofs.Walks.{IsRefusal, at_once, neither}
-use Rattle.css_words.proofs.Walks.{unknown_beside_flag, unknown_option, walk_refused}
+use Rattle.css_words.proofs.Walks.{IsRefusal, at_once, neither, unknown_option, walk_refused}
 
 by_refusal : (kinds : Kinds) (rows : List Row) → IsRefusal kinds → unless_refused kinds rows ≡ Err Usage
 by_refusal [] rows h = absurd h
@@ -60,12 +59,12 @@ module _ (name : Text) (before after : List Text) (word option : Text) (value : 
         name = option;
         given = value;
         spelled = long;
-        unknown = unknown_option generator_options option unknown_name;
+        unknown = unknown_option generator_options [] option unknown_name;
       })
       (record { within = refl; whole = refl })) in
       rw (refused_rows generator_app (name ∷ (before ++ word ∷ after)) refusal) refl
 
-  companion_usage : list_any (λ known. bytes_eq known option) (companion_options ++ codes "record" ∷ []) ≡ false
+  companion_usage : list_any (λ known. bytes_eq known option) (companion_options ++ companion_flags) ≡ false
       → companion_in (name ∷ (before ++ word ∷ after)) ≡ Err Usage
   unfolding companion_in companion_rows
   companion_usage unknown_name =
@@ -76,7 +75,7 @@ module _ (name : Text) (before after : List Text) (word option : Text) (value : 
         name = option;
         given = value;
         spelled = long;
-        unknown = unknown_beside_flag companion_options (codes "record") option unknown_name;
+        unknown = unknown_option companion_options companion_flags option unknown_name;
       })
       (record { within = refl; whole = refl })) in
       rw (refused_rows companion_app (name ∷ (before ++ word ∷ after)) refusal) refl
@@ -92,12 +91,12 @@ module _ (name : Text) (before after : List Text) (word option : Text) (value : 
         name = option;
         given = value;
         spelled = long;
-        unknown = unknown_option relay_options option unknown_name;
+        unknown = unknown_option relay_options [] option unknown_name;
       })
       (record { within = refl; whole = refl })) in
       rw (refused_rows relay_app (name ∷ (before ++ word ∷ after)) refusal) refl
 
-  tv_usage : list_any (λ known. bytes_eq known option) (tv_options ++ codes "follow" ∷ []) ≡ false
+  tv_usage : list_any (λ known. bytes_eq known option) (tv_options ++ tv_flags) ≡ false
       → tv_in (name ∷ (before ++ word ∷ after)) ≡ Err Usage
   unfolding tv_in tv_rows
   tv_usage unknown_name =
@@ -108,12 +107,12 @@ module _ (name : Text) (before after : List Text) (word option : Text) (value : 
         name = option;
         given = value;
         spelled = long;
-        unknown = unknown_beside_flag tv_options (codes "follow") option unknown_name;
+        unknown = unknown_option tv_options tv_flags option unknown_name;
       })
       (record { within = refl; whole = refl })) in
       rw (refused_rows tv_app (name ∷ (before ++ word ∷ after)) refusal) refl
 
-  pair_usage : list_any (λ known. bytes_eq known option) (pair_options ++ codes "follow" ∷ []) ≡ false
+  pair_usage : list_any (λ known. bytes_eq known option) (pair_options ++ tv_flags) ≡ false
       → pair_in (name ∷ (before ++ word ∷ after)) ≡ Err Usage
   unfolding pair_in pair_rows
   pair_usage unknown_name =
@@ -124,7 +123,7 @@ module _ (name : Text) (before after : List Text) (word option : Text) (value : 
         name = option;
         given = value;
         spelled = long;
-        unknown = unknown_beside_flag pair_options (codes "follow") option unknown_name;
+        unknown = unknown_option pair_options tv_flags option unknown_name;
       })
       (record { within = refl; whole = refl })) in
       rw (refused_rows pair_app (name ∷ (before ++ word ∷ after)) refusal) refl
@@ -136,9 +135,9 @@ module _ (name : Text) (before after : List Text) (word option : Text) (value : 
   words = name ∷ rest
 
   by_tests : (replay agree audit migrate companion tv pair relay generate survey : Bool)
-      → list_any (λ known. bytes_eq known option) (if companion then companion_options ++ codes "record" ∷ []
-      else if tv then tv_options ++ codes "follow" ∷ []
-      else if pair then pair_options ++ codes "follow" ∷ []
+      → list_any (λ known. bytes_eq known option) (if companion then companion_options ++ companion_flags
+      else if tv then tv_options ++ tv_flags
+      else if pair then pair_options ++ tv_flags
       else if relay then relay_options
       else if generate then generator_options
       else if survey then generator_options

@@ -2,17 +2,19 @@
 use Rattle.std.proofs.Common.{◌≡◌, refl, ℕ, List, Result, Ok, Err, codes}
 use Rattle.clap.specs.Words.{Row, Text}
 use Rattle.css_model.specs.History.{Address}
+use Rattle.css_outside.specs.declared.limit.Limit.{Limit}
 use Rattle.css_words.specs.Companion.{cii, period, local_error, local_precision}
 use Rattle.css_words.specs.Options.{◌>>=◌, text_or}
 use Rattle.css_words.specs.Relay.{NumbersAsked, RelayAsked, numbers, port, relay_in, relay_rows}
-use Rattle.css_words.specs.Tv.{turns, cii_url, dialled}
+use Rattle.css_words.specs.Tv.{limit, cii_url, dialled}
 use Rattle.css_words.specs.declared.fault.WordsFault.{WordsFault}
 
-abbrev of_five : ℕ → ℕ → ℕ → ℕ → ℕ → NumbersAsked
-of_five v w x y z = record { port = v; turns = w; ask_every = x; local_error = y; local_precision = z }
+abbrev of_five : ℕ → Limit → ℕ → ℕ → ℕ → NumbersAsked
+of_five v w x y z = record { port = v; limit = w; ask_every = x; local_error = y; local_precision = z }
 
--- five numbers one by one, and together
-together : (A : Result Address WordsFault) (a b c d e : Result ℕ WordsFault)
+-- a port, a limit and three numbers one by one, and together
+together : (A : Result Address WordsFault) (a : Result ℕ WordsFault) (b : Result Limit WordsFault)
+    (c d e : Result ℕ WordsFault)
     (rest : Address → NumbersAsked → Result RelayAsked WordsFault)
     → (A >>= λ cii. a >>= λ v. b >>= λ w. c >>= λ x. d >>= λ y. e >>= λ z. rest cii (of_five v w x y z))
     ≡ (A >>= λ cii. (a >>= λ v. b >>= λ w. c >>= λ x. d >>= λ y. e >>= λ z. Ok (of_five v w x y z)) >>= rest cii)
@@ -31,7 +33,7 @@ asked rows cii numbers = do
   Ok (record {
     cii = cii;
     port = numbers.port;
-    turns = numbers.turns;
+    limit = numbers.limit;
     ask_every = numbers.ask_every;
     local_error = numbers.local_error;
     local_precision = numbers.local_precision;
@@ -42,5 +44,5 @@ pub grouped : (words : List Text) (rows : List Row) → relay_rows words ≡ Ok 
     → relay_in words ≡ (cii rows >>= λ cii. numbers rows >>= asked rows cii)
 unfolding relay_in
 grouped words rows is =
-    rw is (together (cii rows) (port rows) (turns rows) (period (codes "ask-every") rows) (local_error rows)
+    rw is (together (cii rows) (port rows) (limit rows) (period (codes "ask-every") rows) (local_error rows)
     (local_precision rows) (asked rows))

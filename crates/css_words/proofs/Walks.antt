@@ -14,7 +14,9 @@ use Rattle.clap.specs.Walk.{Held, Outcome, Rule, Step, Text, Waiting, Walk, afte
 use Rattle.clap.specs.Walk.{arg_by_long, done, has_long, idle, long_or_other, next, option, plain, plain_word}
 use Rattle.clap.specs.Walk.{positional, refused, settled, short_or_plain, subcommand, trailing}
 use Rattle.clap.specs.Walk.{bundle, long_met, value, waits, walked, walked_from, word_met}
-use Rattle.css_words.specs.Options.{flag_rule, option_rule}
+use Rattle.clap.specs.declared.builder.action.ArgAction.{ArgAction}
+use Rattle.clap.specs.declared.builder.action.ArgAction.TheVariants.{Set, SetTrue}
+use Rattle.css_words.specs.Options.{arg_rule}
 
 -- something is refused
 abbrev pub IsRefusal : Kinds → Type 0
@@ -202,16 +204,17 @@ any_of-append p (x ∷ xs) ys h =
 abbrev has_name : Text → Rule → Bool
 has_name name a = not (is_some a.index) && has_long a name
 
--- options of other names are passed over
-passed_over : (names : List Text) (tail : List Rule) (name : Text)
+-- arguments of other names are passed over
+passed_over : (action : ArgAction) (names : List Text) (tail : List Rule) (name : Text)
     → list_any (λ known. bytes_eq known name) names ≡ false
-    → find (has_name name) (filled_from 1 (map option_rule names ++ tail)) ≡ find (has_name name) (filled_from 1 tail)
-passed_over [] tail name h = refl
-passed_over (known ∷ names) tail name h =
+    → find (has_name name) (filled_from 1 (map (arg_rule action) names ++ tail))
+    ≡ find (has_name name) (filled_from 1 tail)
+passed_over action [] tail name h = refl
+passed_over action (known ∷ names) tail name h =
     let parts = neither (bytes_eq known name) (list_any (λ k. bytes_eq k name) names) h in
-    ap (λ (b : Bool). cond (b || false) (Some (with_index 1 (filled (option_rule known))))
-    (find (has_name name) (filled_from 1 (map option_rule names ++ tail)))) parts.0
-    ∙ passed_over names tail name parts.1
+    ap (λ (b : Bool). cond (b || false) (Some (with_index 1 (filled (arg_rule action known))))
+    (find (has_name name) (filled_from 1 (map (arg_rule action) names ++ tail)))) parts.0
+    ∙ passed_over action names tail name parts.1
 
 help_alone : (name : Text) (b : Bool)
     → (cond (b || false) (Some (with_index 1 (filled help_rule))) None ≡ None)
@@ -226,29 +229,16 @@ by_tail rules name is = elim (help_alone name (bytes_eq (codes "help") name)) [
   | inr help ↦ inr (is ∙ help)
 ]
 
--- the rules of a command with these options
-abbrev pub rules_with : List Text → List Rule
-rules_with names = filled_from 1 (map option_rule names ++ help_rule ∷ [])
+-- the rules of a command with these options and flags
+abbrev pub flag_rules : List Text → List Rule
+flag_rules flags = map (arg_rule SetTrue) flags ++ help_rule ∷ []
 
-pub unknown_option : (names : List Text) (name : Text) → list_any (λ known. bytes_eq known name) names ≡ false
-    → IsUnknown (rules_with names) name
-unknown_option names name h = by_tail (rules_with names) name (passed_over names (help_rule ∷ []) name h)
+abbrev pub rules_with : List Text → List Text → List Rule
+rules_with names flags = filled_from 1 (map (arg_rule Set) names ++ flag_rules flags)
 
--- and a flag
-abbrev pub rules_and_flag : List Text → Text → List Rule
-rules_and_flag names flag = filled_from 1 (map option_rule names ++ flag_rule flag ∷ help_rule ∷ [])
-
-flag_over : (flag name : Text) → bytes_eq flag name ≡ false
-    → find (has_name name) (filled_from 1 (flag_rule flag ∷ help_rule ∷ []))
-    ≡ find (has_name name) (filled_from 1 (help_rule ∷ []))
-flag_over flag name h =
-    ap (λ (b : Bool). cond (b || false) (Some (with_index 1 (filled (flag_rule flag))))
-    (find (has_name name) (filled_from 1 (help_rule ∷ [])))) h
-
-pub unknown_beside_flag : (names : List Text) (flag name : Text)
-    → list_any (λ known. bytes_eq known name) (names ++ flag ∷ []) ≡ false → IsUnknown (rules_and_flag names flag) name
-unknown_beside_flag names flag name h =
-    let parts = any_of-append (λ known. bytes_eq known name) names (flag ∷ []) h in
-    let other = neither (bytes_eq flag name) false parts.1 in
-    by_tail (rules_and_flag names flag) name
-    (passed_over names (flag_rule flag ∷ help_rule ∷ []) name parts.0 ∙ flag_over flag name other.0)
+pub unknown_option : (names flags : List Text) (name : Text)
+    → list_any (λ known. bytes_eq known name) (names ++ flags) ≡ false → IsUnknown (rules_with names flags) name
+unknown_option names flags name h =
+    let parts = any_of-append (λ known. bytes_eq known name) names flags h in
+    by_tail (rules_with names flags) name
+    (passed_over Set names (flag_rules flags) name parts.0 ∙ passed_over SetTrue flags (help_rule ∷ []) name parts.1)

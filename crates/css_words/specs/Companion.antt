@@ -1,16 +1,17 @@
 -- Which companion the words of `companion` ask for.
 use Rattle.std.specs.Prelude.{ℕ, Bool, List, [], ◌∷◌, codes, Option, Some, None, Result, Ok, Err}
-use Rattle.clap.specs.Words.{App, Row, Text, first_of, with_rule}
+use Rattle.clap.specs.Words.{App, Row, Text, first_of}
 use Rattle.css_model.specs.History.{Address}
 use Rattle.css_model.specs.declared.Kind.TheVariants.{Cii}
+use Rattle.css_outside.specs.declared.limit.Limit.{Limit}
 use Rattle.css_tsmsg.specs.declared.bound.Bound.{Bound}
 use Rattle.css_address.specs.Addresses.{address_of}
 use Rattle.css_address.specs.declared.fault.AddressFault.{AddressFault}
 use Rattle.css_words.specs.Bounds.{earliest, latest}
 use Rattle.css_words.specs.Faults.{address_fault}
-use Rattle.css_words.specs.Options.{◌>>=◌, app_with, flag_rule, is_set, number_in, optional, text_or, rows_in}
+use Rattle.css_words.specs.Options.{◌>>=◌, app_taking, is_set, number_in, optional, text_or, rows_in}
 use Rattle.css_words.specs.Recorded.{checked}
-use Rattle.css_words.specs.Tv.{turns}
+use Rattle.css_words.specs.Tv.{limit}
 use Rattle.css_words.specs.declared.fault.WordsFault.{WordsFault}
 use Rattle.css_words.specs.declared.fault.WordsFault.TheVariants.{Usage}
 use Rattle.css_words.specs.declared.words.CompanionOptions.{CompanionOptions}
@@ -21,7 +22,7 @@ pub record OptionsAsked : Type 0 where
   pub selector : Text
   pub stem : Text
   pub reports : ℕ
-  pub turns : ℕ
+  pub limit : Limit
   pub report_every : ℕ
   pub ask_every : ℕ
   pub local_error : ℕ
@@ -33,7 +34,7 @@ options_of options = record {
   selector = options.selector;
   stem = options.stem;
   reports = options.reports;
-  turns = options.turns;
+  limit = options.limit;
   report_every = options.report_every;
   ask_every = options.ask_every;
   local_error = options.local_error;
@@ -85,7 +86,7 @@ present rows = present_given (first_of (codes "earliest") rows) (first_of (codes
 unfoldable pub options_in : List Row → Result OptionsAsked WordsFault
 options_in rows = do
   reports ← reports rows
-  turns ← turns rows
+  limit ← limit rows
   report_every ← period (codes "report-every") rows
   ask_every ← period (codes "ask-every") rows
   local_error ← local_error rows
@@ -95,7 +96,7 @@ options_in rows = do
     selector = text_or (codes "urn:dvb:css:timeline:pts") (codes "selector") rows;
     stem = text_or [] (codes "stem") rows;
     reports = reports;
-    turns = turns;
+    limit = limit;
     report_every = report_every;
     ask_every = ask_every;
     local_error = local_error;
@@ -115,14 +116,18 @@ cii_given (Some text) = address_read (address_of Cii text)
 abbrev pub cii : List Row → Result Address WordsFault
 cii rows = cii_given (first_of (codes "cii") rows)
 
--- its options, beside the flag
+-- its options and its flag
 abbrev pub companion_options : List Text
 companion_options =
-    codes "cii" ∷ codes "selector" ∷ codes "stem" ∷ codes "reports" ∷ codes "turns" ∷ codes "report-every"
-    ∷ codes "ask-every" ∷ codes "local-error" ∷ codes "local-precision" ∷ codes "earliest" ∷ codes "latest" ∷ []
+    codes "cii" ∷ codes "selector" ∷ codes "stem" ∷ codes "reports" ∷ codes "turns" ∷ codes "seconds"
+    ∷ codes "report-every" ∷ codes "ask-every" ∷ codes "local-error" ∷ codes "local-precision" ∷ codes "earliest"
+    ∷ codes "latest" ∷ []
+
+abbrev pub companion_flags : List Text
+companion_flags = codes "record" ∷ []
 
 abbrev pub companion_app : App
-companion_app = with_rule (app_with companion_options) (flag_rule (codes "record"))
+companion_app = app_taking companion_options companion_flags
 
 unfoldable pub companion_rows : List Text → Result (List Row) WordsFault
 companion_rows words = rows_in companion_app words

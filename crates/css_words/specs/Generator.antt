@@ -2,7 +2,7 @@
 use Rattle.std.specs.Prelude.{ℕ, List, [], ◌∷◌, codes, Option, Some, None, Result, Ok}
 use Rattle.clap.specs.Words.{App, Row, Text, first_of}
 use Rattle.css_words.specs.Lines.{least_lines}
-use Rattle.css_words.specs.Options.{◌>>=◌, app_with, number_in, required, rows_in}
+use Rattle.css_words.specs.Options.{◌>>=◌, app_taking, number_in, required, rows_in}
 use Rattle.css_words.specs.declared.fault.WordsFault.{WordsFault}
 use Rattle.css_words.specs.declared.words.GeneratorWords.{GeneratorWords}
 
@@ -20,7 +20,7 @@ abbrev pub generator_options : List Text
 generator_options = codes "seed" ∷ codes "lines" ∷ codes "companions" ∷ []
 
 abbrev pub generator_app : App
-generator_app = app_with generator_options
+generator_app = app_taking generator_options []
 
 unfoldable pub generator_rows : List Text → Result (List Row) WordsFault
 generator_rows words = rows_in generator_app words

@@ -5,19 +5,19 @@ use Rattle.std.specs.List.{list_any}
 use Rattle.clap.specs.Lexer.{long_of}
 use Rattle.clap.specs.Words.{Text}
 use Rattle.css_words.specs.Commands.{Generate, command_in}
-use Rattle.css_words.specs.Companion.{companion_options}
+use Rattle.css_words.specs.Companion.{companion_flags, companion_options}
 use Rattle.css_words.specs.Generator.{generator_options}
 use Rattle.css_words.specs.Pair.{pair_options}
 use Rattle.css_words.specs.Relay.{relay_options}
-use Rattle.css_words.specs.Tv.{tv_options}
+use Rattle.css_words.specs.Tv.{tv_flags, tv_options}
 use Rattle.css_words.specs.declared.fault.WordsFault.TheVariants.{Usage}
 
--- the names of the options of a command
+-- the names of the options and flags of a command
 abbrev pub options_of_command : Text → List Text
 options_of_command name =
-    if bytes_eq name (codes "companion") then companion_options ++ codes "record" ∷ []
-    else if bytes_eq name (codes "tv") then tv_options ++ codes "follow" ∷ []
-    else if bytes_eq name (codes "pair") then pair_options ++ codes "follow" ∷ []
+    if bytes_eq name (codes "companion") then companion_options ++ companion_flags
+    else if bytes_eq name (codes "tv") then tv_options ++ tv_flags
+    else if bytes_eq name (codes "pair") then pair_options ++ tv_flags
     else if bytes_eq name (codes "relay") then relay_options
     else if bytes_eq name (codes "generate") then generator_options
     else if bytes_eq name (codes "survey") then generator_options

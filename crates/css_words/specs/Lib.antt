@@ -1,6 +1,7 @@
 pub mod Faults
 pub mod Options
 pub mod Lines
+pub mod Limits
 pub mod Generator
 pub mod Bounds
 pub mod Tv

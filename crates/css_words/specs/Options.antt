@@ -22,30 +22,14 @@ or_usage None = Err Usage
 or_usage (Some value) = Ok value
 
 -- ---- what a command takes
--- `--name value` or `--name=value`
-abbrev pub option_rule : Text → Rule
-option_rule name = record (new_rule name) { long = Some name; action = Some Set }
-
--- `--name`
-abbrev pub flag_rule : Text → Rule
-flag_rule name = record (new_rule name) { long = Some name; action = Some SetTrue }
-
-abbrev pub with_option : App → Text → App
-with_option app name = with_rule app (option_rule name)
-
--- the command with options of these names, each of which takes a value and may be left out
-abbrev pub app_with : List Text → App
-app_with names = fold with_option (new_app (codes "css")) names
-
--- ---- how it is built
--- an argument, by what a use of it does
+-- an argument, by what a use of it does: `--name value` or `--name=value` sets an option, and `--name` a flag
 abbrev pub arg_rule : ArgAction → Text → Rule
 arg_rule action name = record (new_rule name) { long = Some name; action = Some action }
 
 abbrev pub with_args : ArgAction → App → List Text → App
 with_args action app names = fold (λ app name. with_rule app (arg_rule action name)) app names
 
--- the command with options and flags of these names
+-- the command with options of these names, each of which takes a value, and with flags; each may be left out
 abbrev pub app_taking : List Text → List Text → App
 app_taking names flags = with_args SetTrue (with_args Set (new_app (codes "css")) names) flags
 

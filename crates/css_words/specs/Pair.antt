@@ -1,9 +1,9 @@
 -- Which television and which companion the words of `pair` ask for.
 use Rattle.std.specs.Prelude.{List, [], ◌∷◌, codes, Result, Ok}
-use Rattle.clap.specs.Words.{App, Row, Text, with_rule}
+use Rattle.clap.specs.Words.{App, Row, Text}
 use Rattle.css_words.specs.Companion.{OptionsAsked, options_in, options_of}
-use Rattle.css_words.specs.Options.{◌>>=◌, app_with, flag_rule, rows_in}
-use Rattle.css_words.specs.Tv.{TvAsked, tv_at, tv_of}
+use Rattle.css_words.specs.Options.{◌>>=◌, app_taking, rows_in}
+use Rattle.css_words.specs.Tv.{TvAsked, tv_at, tv_flags, tv_of}
 use Rattle.css_words.specs.declared.fault.WordsFault.{WordsFault}
 use Rattle.css_words.specs.declared.words.PairWords.{PairWords}
 
@@ -15,20 +15,20 @@ pub record PairAsked : Type 0 where
 abbrev pub pair_of : PairWords → PairAsked
 pair_of words = record { companion = options_of words.companion; tv = tv_of words.tv }
 
--- a companion's options and a television's, beside the flag: without an address and without a host
+-- a companion's options and a television's, without an address and without a host; the flags are the television's
 abbrev pub pair_options : List Text
 pair_options =
-    codes "selector" ∷ codes "stem" ∷ codes "reports" ∷ codes "turns" ∷ codes "report-every" ∷ codes "ask-every"
-    ∷ codes "local-error" ∷ codes "local-precision" ∷ codes "earliest" ∷ codes "latest" ∷ codes "port"
-    ∷ codes "precision" ∷ codes "error" ∷ []
+    codes "selector" ∷ codes "stem" ∷ codes "reports" ∷ codes "turns" ∷ codes "seconds" ∷ codes "report-every"
+    ∷ codes "ask-every" ∷ codes "local-error" ∷ codes "local-precision" ∷ codes "earliest" ∷ codes "latest"
+    ∷ codes "port" ∷ codes "precision" ∷ codes "error" ∷ []
 
 abbrev pub pair_app : App
-pair_app = with_rule (app_with pair_options) (flag_rule (codes "follow"))
+pair_app = app_taking pair_options tv_flags
 
 unfoldable pub pair_rows : List Text → Result (List Row) WordsFault
 pair_rows words = rows_in pair_app words
 
--- the turns are those of both
+-- the limit is that of both
 unfoldable pub pair_in : List Text → Result PairAsked WordsFault
 pair_in words = do
   rows ← pair_rows words

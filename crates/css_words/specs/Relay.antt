@@ -2,9 +2,10 @@
 use Rattle.std.specs.Prelude.{ℕ, List, [], ◌∷◌, codes, Result, Ok}
 use Rattle.clap.specs.Words.{App, Row, Text}
 use Rattle.css_model.specs.History.{Address}
+use Rattle.css_outside.specs.declared.limit.Limit.{Limit}
 use Rattle.css_words.specs.Companion.{cii, period, local_error, local_precision}
-use Rattle.css_words.specs.Options.{◌>>=◌, app_with, rows_in, number_in, optional, text_or}
-use Rattle.css_words.specs.Tv.{turns, cii_url, dialled}
+use Rattle.css_words.specs.Options.{◌>>=◌, app_taking, rows_in, number_in, optional, text_or}
+use Rattle.css_words.specs.Tv.{limit, cii_url, dialled}
 use Rattle.css_words.specs.declared.fault.WordsFault.{WordsFault}
 use Rattle.css_words.specs.declared.words.RelayNumbers.{RelayNumbers}
 use Rattle.css_words.specs.declared.words.RelayWords.{RelayWords}
@@ -13,7 +14,7 @@ use Rattle.css_words.specs.declared.words.RelayWords.{RelayWords}
 pub record RelayAsked : Type 0 where
   pub cii : Address
   pub port : ℕ
-  pub turns : ℕ
+  pub limit : Limit
   pub ask_every : ℕ
   pub local_error : ℕ
   pub local_precision : ℕ
@@ -23,7 +24,7 @@ abbrev pub relay_of : RelayWords → RelayAsked
 relay_of words = record {
   cii = words.cii;
   port = words.port;
-  turns = words.turns;
+  limit = words.limit;
   ask_every = words.ask_every;
   local_error = words.local_error;
   local_precision = words.local_precision;
@@ -36,11 +37,11 @@ port = optional 6690 (number_in 1024 65534) (codes "port")
 
 abbrev pub relay_options : List Text
 relay_options =
-    codes "cii" ∷ codes "port" ∷ codes "turns" ∷ codes "ask-every" ∷ codes "local-error" ∷ codes "local-precision"
-    ∷ codes "host" ∷ []
+    codes "cii" ∷ codes "port" ∷ codes "turns" ∷ codes "seconds" ∷ codes "ask-every" ∷ codes "local-error"
+    ∷ codes "local-precision" ∷ codes "host" ∷ []
 
 abbrev pub relay_app : App
-relay_app = app_with relay_options
+relay_app = app_taking relay_options []
 
 unfoldable pub relay_rows : List Text → Result (List Row) WordsFault
 relay_rows words = rows_in relay_app words
@@ -48,7 +49,7 @@ relay_rows words = rows_in relay_app words
 -- its numbers
 pub record NumbersAsked : Type 0 where
   pub port : ℕ
-  pub turns : ℕ
+  pub limit : Limit
   pub ask_every : ℕ
   pub local_error : ℕ
   pub local_precision : ℕ
@@ -56,7 +57,7 @@ pub record NumbersAsked : Type 0 where
 abbrev pub numbers_of : RelayNumbers → NumbersAsked
 numbers_of numbers = record {
   port = numbers.port;
-  turns = numbers.turns;
+  limit = numbers.limit;
   ask_every = numbers.ask_every;
   local_error = numbers.local_error;
   local_precision = numbers.local_precision;
@@ -65,13 +66,13 @@ numbers_of numbers = record {
 abbrev pub numbers : List Row → Result NumbersAsked WordsFault
 numbers rows = do
   port ← port rows
-  turns ← turns rows
+  limit ← limit rows
   ask_every ← period (codes "ask-every") rows
   local_error ← local_error rows
   local_precision ← local_precision rows
   Ok (record {
     port = port;
-    turns = turns;
+    limit = limit;
     ask_every = ask_every;
     local_error = local_error;
     local_precision = local_precision;
@@ -83,7 +84,7 @@ relay_in words = do
   rows ← relay_rows words
   cii ← cii rows
   port ← port rows
-  turns ← turns rows
+  limit ← limit rows
   ask_every ← period (codes "ask-every") rows
   local_error ← local_error rows
   local_precision ← local_precision rows
@@ -91,7 +92,7 @@ relay_in words = do
   Ok (record {
     cii = cii;
     port = port;
-    turns = turns;
+    limit = limit;
     ask_every = ask_every;
     local_error = local_error;
     local_precision = local_precision;

@@ -1,14 +1,16 @@
 -- Which television the words of `tv` ask for.
 use Rattle.std.specs.Prelude.{ℕ, ℤ, pos, negsuc, int_lt, Bool, if◌then◌else◌, List, [], ◌∷◌, ◌++◌, codes, decimal}
-use Rattle.std.specs.Prelude.{Result, Ok, Err}
-use Rattle.clap.specs.Words.{App, Row, Text, with_rule}
+use Rattle.std.specs.Prelude.{Option, Some, None, Result, Ok, Err}
+use Rattle.clap.specs.Words.{App, Row, Text, first_of}
 use Rattle.css_model.specs.History.{Address}
 use Rattle.css_model.specs.declared.Kind.TheVariants.{Cii}
 use Rattle.css_num.specs.Words.{signed_number_of}
+use Rattle.css_outside.specs.declared.limit.Limit.{Limit}
+use Rattle.css_outside.specs.declared.limit.Limit.TheVariants.{Turns, Seconds}
 use Rattle.css_address.specs.Addresses.{address_of}
 use Rattle.css_address.specs.declared.fault.AddressFault.{AddressFault}
 use Rattle.css_words.specs.Faults.{address_fault}
-use Rattle.css_words.specs.Options.{◌>>=◌, or_usage, app_with, flag_rule, rows_in}
+use Rattle.css_words.specs.Options.{◌>>=◌, or_usage, app_taking, rows_in}
 use Rattle.css_words.specs.Options.{number_in, optional, text_or, is_set}
 use Rattle.css_words.specs.declared.fault.WordsFault.{WordsFault}
 use Rattle.css_words.specs.declared.fault.WordsFault.TheVariants.{Usage}
@@ -17,19 +19,21 @@ use Rattle.css_words.specs.declared.words.TvWords.{TvWords}
 -- what a television is started with
 pub record TvAsked : Type 0 where
   pub port : ℕ
-  pub turns : ℕ
+  pub limit : Limit
   pub precision : ℤ
   pub error : ℕ
   pub follow : Bool
+  pub relative : Bool
   pub host : Text
 
 abbrev pub tv_of : TvWords → TvAsked
 tv_of words = record {
   port = words.port;
-  turns = words.turns;
+  limit = words.limit;
   precision = words.precision;
   error = words.error;
   follow = words.follow;
+  relative = words.relative;
   host = words.host;
 }
 
@@ -37,8 +41,15 @@ tv_of words = record {
 abbrev pub port : List Row → Result ℕ WordsFault
 port = optional 6677 (number_in 1024 65534) (codes "port")
 
-abbrev pub turns : List Row → Result ℕ WordsFault
-turns = optional 10000 (number_in 1 1000000) (codes "turns")
+-- how long a run goes on: so many turns, or so many seconds, and 10,000 turns where neither is given
+abbrev pub limit_given : Option Text → Option Text → Result Limit WordsFault
+limit_given None None = Ok (Turns 10000)
+limit_given (Some turns) None = number_in 1 1000000 turns >>= λ turns. Ok (Turns turns)
+limit_given None (Some seconds) = number_in 1 31536000 seconds >>= λ seconds. Ok (Seconds seconds)
+limit_given (Some turns) (Some seconds) = Err Usage
+
+abbrev pub limit : List Row → Result Limit WordsFault
+limit rows = limit_given (first_of (codes "turns") rows) (first_of (codes "seconds") rows)
 
 -- an exponent of -128 to 30
 abbrev pub exponent : ℤ → Result ℤ WordsFault
@@ -58,15 +69,16 @@ error = optional 128000 (number_in 0 25600000) (codes "error")
 unfoldable pub tv_at : Text → List Row → Result TvAsked WordsFault
 tv_at host rows = do
   port ← port rows
-  turns ← turns rows
+  limit ← limit rows
   precision ← precision rows
   error ← error rows
   Ok (record {
     port = port;
-    turns = turns;
+    limit = limit;
     precision = precision;
     error = error;
     follow = is_set (codes "follow") rows;
+    relative = is_set (codes "relative") rows;
     host = host;
   })
 
@@ -84,12 +96,16 @@ abbrev pub dialled : Text → Result (Unit {0}) WordsFault
 dialled url = dialled_at (address_of Cii url)
 
 -- ---- the whole
--- its options, beside the flag
+-- its options and flags
 abbrev pub tv_options : List Text
-tv_options = codes "port" ∷ codes "turns" ∷ codes "precision" ∷ codes "error" ∷ codes "host" ∷ []
+tv_options =
+    codes "port" ∷ codes "turns" ∷ codes "seconds" ∷ codes "precision" ∷ codes "error" ∷ codes "host" ∷ []
+
+abbrev pub tv_flags : List Text
+tv_flags = codes "follow" ∷ codes "relative" ∷ []
 
 abbrev pub tv_app : App
-tv_app = with_rule (app_with tv_options) (flag_rule (codes "follow"))
+tv_app = app_taking tv_options tv_flags
 
 unfoldable pub tv_rows : List Text → Result (List Row) WordsFault
 tv_rows words = rows_in tv_app words

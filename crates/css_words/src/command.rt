@@ -39,8 +39,8 @@ pub enum Command {
     Survey(GeneratorWords),
 }
 
-// Whether the word is `-` or `--` alone.
-fn is_bare_dashes(word: &str) -> bool
+/// Whether the word is `-` or `--` alone.
+pub fn is_bare_dashes(word: &str) -> bool
     ensures { result ≡ commands.is_bare_dashes word.now }
 {
     word == "-" || word == "--"
@@ -109,14 +109,16 @@ fn command_named(
 /// without `+`.
 ///
 /// - `replay`, `agree`, `audit` and `migrate` take no options.
-/// - `companion` needs `--cii`, a `ws:` address. It takes `--selector`, `--stem`, `--reports`, `--turns`,
+/// - `companion` needs `--cii`, a `ws:` address. It takes `--selector`, `--stem`, `--reports`, a limit,
 ///   `--report-every`, `--ask-every`, `--local-error`, `--local-precision`, and both `--earliest` and `--latest`. With
 ///   the flag `--record` the selector is a word, and the stem is a word other than `-` or empty, where a word is one
 ///   byte or more, each from `!` to `~`.
-/// - `tv` takes `--port`, `--turns`, `--precision`, `--error`, `--follow` and `--host`.
+/// - `tv` takes `--port`, a limit, `--precision`, `--error` and `--host`, and the flags `--follow` and `--relative`.
 /// - `pair` takes what both take, without an address and a host.
-/// - `relay` needs `--cii`. It takes `--port`, `--turns`, `--ask-every`, `--local-error`, `--local-precision` and
+/// - `relay` needs `--cii`. It takes `--port`, a limit, `--ask-every`, `--local-error`, `--local-precision` and
 ///   `--host`.
+/// - A limit is `--turns`, 1 to 1,000,000, or `--seconds`, 1 to 31,536,000, and not both. With neither it is 10,000
+///   turns.
 /// - `generate` and `survey` need `--seed`, 0 to 2^63 - 1, and `--lines`, 9 to 200,000. They take `--companions`, 2 to
 ///   16; then there are at least 4 lines, and 6 for each companion.
 ///

@@ -1,4 +1,4 @@
-ghost use Rattle.std.specs.Prelude.{◌≡◌, ◌≤◌, ℕ, IfOk, IfSome, List, Ok, map, string_bytes};
+ghost use Rattle.std.specs.Prelude.{◌≡◌, ◌≤◌, ℕ, IfOk, IfSome, List, Ok, codes, map, string_bytes};
 ghost use Rattle.clap.specs.Words.{found_of, rows_of};
 ghost use Rattle.css_num.specs.Gives.{GivesBy};
 ghost use Rattle.css_words.specs.Companion as companion;
@@ -7,9 +7,9 @@ ghost use Rattle.css_words.specs.declared.fault.WordsFault.TheVariants as faults
 
 use crate::bounds::{earliest, latest};
 use crate::fault::WordsFault;
-use crate::options::{is_set, matches_of, number_or, text_given, text_given_or};
+use crate::options::{NumberOption, is_set, matches_of, number_or, text_given, text_given_or};
 use crate::recorded::check_recorded;
-use crate::tv::turns;
+use crate::tv::limit;
 use crate::words::{CompanionOptions, CompanionWords};
 use clap::ArgMatches;
 use css_address::{Address, Kind, address};
@@ -17,12 +17,13 @@ use css_num::Text;
 use css_tsmsg::Bound;
 use std::alloc::Global;
 
-static OPTIONS: [&str; 11] = [
+pub static OPTIONS: [&str; 12] = [
     "cii",
     "selector",
     "stem",
     "reports",
     "turns",
+    "seconds",
     "report-every",
     "ask-every",
     "local-error",
@@ -31,10 +32,45 @@ static OPTIONS: [&str; 11] = [
     "latest",
 ];
 
-static FLAGS: [&str; 1] = ["record"];
+pub static FLAGS: [&str; 1] = ["record"];
+
+pub const REPORTS: NumberOption = NumberOption {
+    name: "reports",
+    default: 10,
+    least: 1,
+    most: 1_000_000,
+};
+
+pub const REPORT_EVERY: NumberOption = NumberOption {
+    name: "report-every",
+    default: 1_000_000_000,
+    least: 1,
+    most: 1_000_000_000_000,
+};
+
+pub const ASK_EVERY: NumberOption = NumberOption {
+    name: "ask-every",
+    default: 1_000_000_000,
+    least: 1,
+    most: 1_000_000_000_000,
+};
+
+pub const LOCAL_ERROR: NumberOption = NumberOption {
+    name: "local-error",
+    default: 128_000,
+    least: 0,
+    most: 2_560_000,
+};
+
+pub const LOCAL_PRECISION: NumberOption = NumberOption {
+    name: "local-precision",
+    default: 1_000,
+    least: 0,
+    most: 1_000_000_000,
+};
 
 /// The timeline of a companion that isn't told one.
-const DEFAULT_SELECTOR: &str = "urn:dvb:css:timeline:pts";
+pub const DEFAULT_SELECTOR: &str = "urn:dvb:css:timeline:pts";
 
 // How many reports are made.
 fn reports(matches: &ArgMatches<'_>) -> Result<u64, WordsFault>
@@ -42,16 +78,25 @@ fn reports(matches: &ArgMatches<'_>) -> Result<u64, WordsFault>
     ensures least { IfOk result (λ reports. 1 ≤ reports) }
     ensures most { IfOk result (λ reports. reports ≤ 1000000) }
 {
-    number_or(matches, "reports", 10, 1, 1_000_000)
+    number_or(matches, REPORTS)
 }
 
-/// A time between two events in nanoseconds.
-pub fn period(matches: &ArgMatches<'_>, name: &str) -> Result<u64, WordsFault>
-    ensures value { result ≡ companion.period name.now (rows_of (found_of matches.now)) }
+// The time between two reports in nanoseconds.
+fn report_every(matches: &ArgMatches<'_>) -> Result<u64, WordsFault>
+    ensures value { result ≡ companion.period (codes "report-every") (rows_of (found_of matches.now)) }
     ensures least { IfOk result (λ period. 1 ≤ period) }
     ensures most { IfOk result (λ period. period ≤ 1000000000000) }
 {
-    number_or(matches, name, 1_000_000_000, 1, 1_000_000_000_000)
+    number_or(matches, REPORT_EVERY)
+}
+
+/// The time between two requests of the wall clock in nanoseconds.
+pub fn ask_every(matches: &ArgMatches<'_>) -> Result<u64, WordsFault>
+    ensures value { result ≡ companion.period (codes "ask-every") (rows_of (found_of matches.now)) }
+    ensures least { IfOk result (λ period. 1 ≤ period) }
+    ensures most { IfOk result (λ period. period ≤ 1000000000000) }
+{
+    number_or(matches, ASK_EVERY)
 }
 
 /// The greatest frequency error of its own clock.
@@ -59,7 +104,7 @@ pub fn local_error(matches: &ArgMatches<'_>) -> Result<u32, WordsFault>
     ensures value { result ≡ companion.local_error (rows_of (found_of matches.now)) }
     ensures most { IfOk result (λ error. error ≤ 2560000) }
 {
-    let error = number_or(matches, "local-error", 128_000, 0, 2_560_000)?;
+    let error = number_or(matches, LOCAL_ERROR)?;
     Ok(error as u32)
 }
 
@@ -68,7 +113,7 @@ pub fn local_precision(matches: &ArgMatches<'_>) -> Result<u64, WordsFault>
     ensures value { result ≡ companion.local_precision (rows_of (found_of matches.now)) }
     ensures most { IfOk result (λ precision. precision ≤ 1000000000) }
 {
-    number_or(matches, "local-precision", 1_000, 0, 1_000_000_000)
+    number_or(matches, LOCAL_PRECISION)
 }
 
 // Both bounds, whose texts are these.
@@ -82,8 +127,8 @@ fn window(earliest_text: &str, latest_text: &str) -> Result<(Bound, Bound), Word
     Ok((earliest, latest))
 }
 
-// The earliest and the latest time of presentation, where both were given.
-fn present(matches: &ArgMatches<'_>) -> Result<Option<(Bound, Bound)>, WordsFault>
+/// The earliest and the latest time of presentation, where both were given.
+pub fn present(matches: &ArgMatches<'_>) -> Result<Option<(Bound, Bound)>, WordsFault>
     ensures value { result ≡ companion.present (rows_of (found_of matches.now)) }
     ensures range { IfOk result (λ present. IfSome present IsWindow) }
 {
@@ -105,9 +150,9 @@ pub fn options_in(alloc: Global, matches: &ArgMatches<'_>) -> Result<CompanionOp
     ensures writable { IfOk result AreWritable }
 {
     let reports = reports(matches)?;
-    let turns = turns(matches)?;
-    let report_every = period(matches, "report-every")?;
-    let ask_every = period(matches, "ask-every")?;
+    let limit = limit(matches)?;
+    let report_every = report_every(matches)?;
+    let ask_every = ask_every(matches)?;
     let local_error = local_error(matches)?;
     let local_precision = local_precision(matches)?;
     let present = present(matches)?;
@@ -119,7 +164,7 @@ pub fn options_in(alloc: Global, matches: &ArgMatches<'_>) -> Result<CompanionOp
         selector,
         stem,
         reports,
-        turns,
+        limit,
         report_every,
         ask_every,
         local_error,
@@ -155,7 +200,7 @@ fn companion_from(alloc: Global, matches: &ArgMatches<'_>) -> Result<CompanionWo
     let cii = cii(alloc, matches)?;
     let options = options_in(alloc, matches)?;
     let recorded = is_set(matches, "record");
-    check_recorded(recorded, &options.selector, &options.stem)?;
+    check_recorded(recorded, options.selector.bytes(), options.stem.bytes())?;
     Ok(CompanionWords {
         cii,
         options,

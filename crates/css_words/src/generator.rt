@@ -11,14 +11,14 @@ use crate::words::GeneratorWords;
 use clap::ArgMatches;
 use std::alloc::Global;
 
-static OPTIONS: [&str; 3] = ["seed", "lines", "companions"];
+pub static OPTIONS: [&str; 3] = ["seed", "lines", "companions"];
 
-const MOST_SEED: u64 = (1 << 63) - 1;
+pub const MOST_SEED: u64 = (1 << 63) - 1;
 
-const MOST_LINES: u64 = 200_000;
+pub const MOST_LINES: u64 = 200_000;
 
-// How many companions the schedule has, where it is told.
-fn companions(matches: &ArgMatches<'_>) -> Result<Option<u32>, WordsFault>
+/// How many companions the schedule has, where it is told.
+pub fn companions(matches: &ArgMatches<'_>) -> Result<Option<u32>, WordsFault>
     ensures value { result ≡ generator.companions (rows_of (found_of matches.now)) }
     ensures least { IfOk result (λ companions. 2 ≤ unwrap_or companions 2) }
     ensures most { IfOk result (λ companions. unwrap_or companions 2 ≤ 16) }
@@ -32,9 +32,9 @@ fn companions(matches: &ArgMatches<'_>) -> Result<Option<u32>, WordsFault>
     }
 }
 
-// How many lines the schedule has at least: its header, a line for each companion told, three of the television, and
-// five that open the sessions of a companion.
-fn least_lines(companions: Option<u32>) -> u64
+/// How many lines the schedule has at least: its header, a line for each companion told, three of the television, and
+/// five that open the sessions of a companion.
+pub fn least_lines(companions: Option<u32>) -> u64
     requires some { 2 ≤ unwrap_or companions 2 }
     ensures value { result ≡ lines.least_lines companions }
     ensures least { 9 ≤ result }

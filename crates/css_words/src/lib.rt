@@ -4,6 +4,7 @@
 mod bounds;
 mod command;
 mod companion;
+mod complaints;
 mod fault;
 mod generator;
 pub mod laws;
@@ -13,10 +14,13 @@ mod recorded;
 mod relay;
 mod tv;
 mod words;
+mod wrong;
 
 pub use command::{Command, command_of};
+pub use complaints::complaint;
 pub use css_address::Address;
 pub use css_num::{Memory, Text};
+pub use css_outside::Limit;
 pub use css_tsmsg::Bound;
 pub use fault::WordsFault;
 pub use words::{CompanionOptions, CompanionWords, GeneratorWords, PairWords, RelayWords, TvWords};

@@ -10,6 +10,18 @@ use clap::{Arg, ArgAction, ArgMatches};
 use css_num::whole_number;
 use std::alloc::Global;
 
+/// An option that tells a number and may be left out.
+#[derive(Clone, Copy)]
+pub struct NumberOption {
+    pub name: &'static str,
+    /// The number where the option isn't given.
+    pub default: u64,
+    pub least: u64,
+    pub most: u64,
+    pub ghost low: { least ≤ default },
+    pub ghost high: { default ≤ most },
+}
+
 // An argument of this name, by what a use of it does.
 fn arg<'a>(alloc: Global, name: &'a str, action: ArgAction) -> Arg<'a>
     ensures rule { rule_of result ≡ options.arg_rule action name.entry.now }
@@ -34,6 +46,22 @@ fn with_args<'a>(
         more = more.arg(arg(alloc, *name, action))?;
     }
     Ok(more)
+}
+
+/// The command with these options, each of which takes a value, and these flags. All may be left out.
+pub fn command_taking<'a>(
+    alloc: Global,
+    names: &'a [&'a str],
+    flags: &'a [&'a str],
+) -> Result<clap::Command<'a>, WordsFault>
+    ensures takes { IfOk result (λ command. app_of command
+        ≡ options.app_taking (map (λ name. name.now) names.entry.now) (map (λ name. name.now) flags.entry.now)) }
+    ensures memory { IfErr result (λ fault. fault ≡ faults.Memory) }
+{
+    let command = clap::Command::new(alloc, "css");
+    let command = with_args(alloc, command, names, ArgAction::Set)?;
+    let command = with_args(alloc, command, flags, ArgAction::SetTrue)?;
+    Ok(command)
 }
 
 // What the words say of the command's arguments. The first word is the command's name.
@@ -62,9 +90,7 @@ pub fn matches_of<'a>(
         (options.rows_in (options.app_taking (map (λ name. name.now) names.entry.now)
         (map (λ name. name.now) flags.entry.now)) (map string_bytes words.entry.now)) }
 {
-    let command = clap::Command::new(alloc, "css");
-    let command = with_args(alloc, command, names, ArgAction::Set)?;
-    let command = with_args(alloc, command, flags, ArgAction::SetTrue)?;
+    let command = command_taking(alloc, names, flags)?;
     matches_in(command, words)
 }
 
@@ -127,23 +153,15 @@ pub fn number(
     }
 }
 
-/// The number from `least` to `most` of an option, or the default one where it wasn't given.
-pub fn number_or(
-    matches: &ArgMatches<'_>,
-    name: &str,
-    default: u64,
-    least: u64,
-    most: u64,
-) -> Result<u64, WordsFault>
-    requires low { least ≤ default }
-    requires high { default ≤ most }
-    ensures value { result
-        ≡ options.optional default (options.number_in least most) name.now (rows_of (found_of matches.now)) }
-    ensures least { IfOk result (λ number. least ≤ number) }
-    ensures most { IfOk result (λ number. number ≤ most) }
+/// The number of an option, or the default one where it wasn't given.
+pub fn number_or(matches: &ArgMatches<'_>, option: NumberOption) -> Result<u64, WordsFault>
+    ensures value { result ≡ options.optional option.default (options.number_in option.least option.most)
+        option.name.now (rows_of (found_of matches.now)) }
+    ensures least { IfOk result (λ number. option.least ≤ number) }
+    ensures most { IfOk result (λ number. number ≤ option.most) }
 {
-    match text_given(matches, name) {
-        None => Ok(default),
-        Some(text) => number_in(text, least, most),
+    match text_given(matches, option.name) {
+        None => Ok(option.default),
+        Some(text) => number_in(text, option.least, option.most),
     }
 }

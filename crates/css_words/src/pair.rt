@@ -9,17 +9,18 @@ ghost use Rattle.css_words.specs.declared.fault.WordsFault.TheVariants as faults
 use crate::companion::options_in;
 use crate::fault::WordsFault;
 use crate::options::matches_of;
-use crate::tv::{LOCAL_HOST, tv_at};
+use crate::tv::{FLAGS, LOCAL_HOST, tv_at};
 use crate::words::PairWords;
 use clap::ArgMatches;
 use css_num::Text;
 use std::alloc::Global;
 
-static OPTIONS: [&str; 13] = [
+pub static OPTIONS: [&str; 14] = [
     "selector",
     "stem",
     "reports",
     "turns",
+    "seconds",
     "report-every",
     "ask-every",
     "local-error",
@@ -30,8 +31,6 @@ static OPTIONS: [&str; 13] = [
     "precision",
     "error",
 ];
-
-static FLAGS: [&str; 1] = ["follow"];
 
 fn pair_matches<'a>(alloc: Global, words: &'a [String]) -> Result<ArgMatches<'a>, WordsFault>
     ensures { GivesBy (λ matches. rows_of (found_of matches)) faults.Memory result

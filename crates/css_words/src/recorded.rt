@@ -3,7 +3,6 @@ ghost use Rattle.std.specs.List.{list_all};
 ghost use Rattle.css_words.specs.Recorded as recorded;
 
 use crate::fault::WordsFault;
-use css_num::Text;
 
 // Whether each byte is from `!` to `~`.
 fn are_graphic(bytes: &[u8]) -> bool
@@ -27,13 +26,13 @@ fn is_stem(bytes: &[u8]) -> bool
 }
 
 /// That the header of a record can name the selector and the stem, where the run is recorded.
-pub fn check_recorded(is_recorded: bool, selector: &Text, stem: &Text) -> Result<(), WordsFault>
+pub fn check_recorded(is_recorded: bool, selector: &[u8], stem: &[u8]) -> Result<(), WordsFault>
     ensures { result ≡ recorded.checked is_recorded selector.now stem.now }
 {
     if !is_recorded {
         return Ok(());
     }
-    if is_word(selector.bytes()) && is_stem(stem.bytes()) {
+    if is_word(selector) && is_stem(stem) {
         return Ok(());
     }
     Err(WordsFault::Usage)

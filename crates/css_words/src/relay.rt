@@ -5,24 +5,32 @@ ghost use Rattle.css_num.specs.Gives.{GivesBy};
 ghost use Rattle.css_words.specs.Relay as relay;
 ghost use Rattle.css_words.specs.declared.fault.WordsFault.TheVariants as faults;
 
-use crate::companion::{cii, local_error, local_precision, period};
+use crate::companion::{ask_every, cii, local_error, local_precision};
 use crate::fault::WordsFault;
-use crate::options::{matches_of, number_or, text_given_or};
-use crate::tv::{LOCAL_HOST, check_host, turns};
+use crate::options::{NumberOption, matches_of, number_or, text_given_or};
+use crate::tv::{LOCAL_HOST, check_host, limit};
 use crate::words::{RelayNumbers, RelayWords};
 use clap::ArgMatches;
 use css_num::Text;
 use std::alloc::Global;
 
-static OPTIONS: [&str; 7] = [
+pub static OPTIONS: [&str; 8] = [
     "cii",
     "port",
     "turns",
+    "seconds",
     "ask-every",
     "local-error",
     "local-precision",
     "host",
 ];
+
+pub const PORT: NumberOption = NumberOption {
+    name: "port",
+    default: 6690,
+    least: 1024,
+    most: 65_534,
+};
 
 // The port of the relay.
 fn port(matches: &ArgMatches<'_>) -> Result<u16, WordsFault>
@@ -30,7 +38,7 @@ fn port(matches: &ArgMatches<'_>) -> Result<u16, WordsFault>
     ensures least { IfOk result (λ port. 1024 ≤ port) }
     ensures most { IfOk result (λ port. port ≤ 65534) }
 {
-    let port = number_or(matches, "port", 6690, 1024, 65_534)?;
+    let port = number_or(matches, PORT)?;
     Ok(port as u16)
 }
 
@@ -46,13 +54,13 @@ fn numbers(matches: &ArgMatches<'_>) -> Result<RelayNumbers, WordsFault>
     ensures { GivesBy relay.numbers_of faults.Memory result (relay.numbers (rows_of (found_of matches.now))) }
 {
     let port = port(matches)?;
-    let turns = turns(matches)?;
-    let ask_every = period(matches, "ask-every")?;
+    let limit = limit(matches)?;
+    let ask_every = ask_every(matches)?;
     let local_error = local_error(matches)?;
     let local_precision = local_precision(matches)?;
     Ok(RelayNumbers {
         port,
-        turns,
+        limit,
         ask_every,
         local_error,
         local_precision,
@@ -69,11 +77,11 @@ fn relay_from(alloc: Global, matches: &ArgMatches<'_>) -> Result<RelayWords, Wor
     let numbers = numbers(matches)?;
     let host = text_given_or(matches, "host", LOCAL_HOST);
     let host = Text::of(alloc, host.as_bytes())?;
-    check_host(alloc, &host, numbers.port)?;
+    check_host(alloc, host.bytes(), numbers.port)?;
     Ok(RelayWords {
         cii,
         port: numbers.port,
-        turns: numbers.turns,
+        limit: numbers.limit,
         ask_every: numbers.ask_every,
         local_error: numbers.local_error,
         local_precision: numbers.local_precision,

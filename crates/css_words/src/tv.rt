@@ -2,27 +2,54 @@ ghost use Rattle.std.specs.Prelude.{◌≡◌, ◌≤◌, IfOk, map, string_byte
 ghost use Rattle.std.specs.Str.{IsUtf8};
 ghost use Rattle.clap.specs.Words.{found_of, rows_of};
 ghost use Rattle.css_num.specs.Gives.{GivesBy};
+ghost use Rattle.css_outside.specs.Limits.{IsLimit};
 ghost use Rattle.css_words.specs.Tv as tv;
 ghost use Rattle.css_words.specs.declared.fault.WordsFault.TheVariants as faults;
 
 use crate::fault::WordsFault;
-use crate::options::{is_set, matches_of, number_or, text_given, text_given_or};
+use crate::options::{
+    NumberOption, is_set, matches_of, number_in, number_or, text_given, text_given_or,
+};
 use crate::words::TvWords;
 use clap::ArgMatches;
 use css_address::{Kind, address};
 use css_num::{Text, signed_number};
+use css_outside::Limit;
 use std::alloc::Global;
 
-static OPTIONS: [&str; 5] = ["port", "turns", "precision", "error", "host"];
+pub static OPTIONS: [&str; 6] = ["port", "turns", "seconds", "precision", "error", "host"];
 
-static FLAGS: [&str; 1] = ["follow"];
+/// The flags of a television, whether a companion stands beside it or not.
+pub static FLAGS: [&str; 2] = ["follow", "relative"];
 
 /// The host of a television that only its own machine can reach.
 pub const LOCAL_HOST: &str = "127.0.0.1";
 
-const LEAST_PRECISION: i64 = -128;
+pub const PORT: NumberOption = NumberOption {
+    name: "port",
+    default: 6677,
+    least: 1024,
+    most: 65_534,
+};
 
-const MOST_PRECISION: i64 = 30;
+pub const ERROR: NumberOption = NumberOption {
+    name: "error",
+    default: 128_000,
+    least: 0,
+    most: 25_600_000,
+};
+
+/// How many turns a run makes where no limit is given.
+const DEFAULT_TURNS: u64 = 10_000;
+
+pub const MOST_TURNS: u64 = 1_000_000;
+
+/// A year of 365 days.
+pub const MOST_SECONDS: u64 = 31_536_000;
+
+pub const LEAST_PRECISION: i64 = -128;
+
+pub const MOST_PRECISION: i64 = 30;
 
 const DEFAULT_PRECISION: i8 = -20;
 
@@ -42,8 +69,8 @@ fn precision_in(text: &str) -> Result<i8, WordsFault>
     Ok(precision as i8)
 }
 
-// The precision, or that of a television that isn't told one.
-fn precision(matches: &ArgMatches<'_>) -> Result<i8, WordsFault>
+/// The precision, or that of a television that isn't told one.
+pub fn precision(matches: &ArgMatches<'_>) -> Result<i8, WordsFault>
     ensures value { result ≡ tv.precision (rows_of (found_of matches.now)) }
     ensures most { IfOk result (λ precision. precision ≤ℤ pos 30) }
 {
@@ -59,7 +86,7 @@ fn port(matches: &ArgMatches<'_>) -> Result<u16, WordsFault>
     ensures least { IfOk result (λ port. 1024 ≤ port) }
     ensures most { IfOk result (λ port. port ≤ 65534) }
 {
-    let port = number_or(matches, "port", 6677, 1024, 65_534)?;
+    let port = number_or(matches, PORT)?;
     Ok(port as u16)
 }
 
@@ -68,25 +95,29 @@ fn error(matches: &ArgMatches<'_>) -> Result<u32, WordsFault>
     ensures value { result ≡ tv.error (rows_of (found_of matches.now)) }
     ensures most { IfOk result (λ error. error ≤ 25600000) }
 {
-    let error = number_or(matches, "error", 128_000, 0, 25_600_000)?;
+    let error = number_or(matches, ERROR)?;
     Ok(error as u32)
 }
 
-/// How many turns are made.
-pub fn turns(matches: &ArgMatches<'_>) -> Result<u64, WordsFault>
-    ensures value { result ≡ tv.turns (rows_of (found_of matches.now)) }
-    ensures least { IfOk result (λ turns. 1 ≤ turns) }
-    ensures most { IfOk result (λ turns. turns ≤ 1000000) }
+/// How long a run goes on: by turns or by seconds, and not by both.
+pub fn limit(matches: &ArgMatches<'_>) -> Result<Limit, WordsFault>
+    ensures value { result ≡ tv.limit (rows_of (found_of matches.now)) }
+    ensures range { IfOk result IsLimit }
 {
-    number_or(matches, "turns", 10_000, 1, 1_000_000)
+    match (text_given(matches, "turns"), text_given(matches, "seconds")) {
+        (None, None) => Ok(Limit::Turns(DEFAULT_TURNS)),
+        (Some(turns), None) => Ok(Limit::Turns(number_in(turns, 1, MOST_TURNS)?)),
+        (None, Some(seconds)) => Ok(Limit::Seconds(number_in(seconds, 1, MOST_SECONDS)?)),
+        (Some(_), Some(_)) => Err(WordsFault::Usage),
+    }
 }
 
 // The URL of the session of CSS-CII at this host and port.
-fn cii_url(alloc: Global, host: &Text, port: u16) -> Result<Text, WordsFault>
+fn cii_url(alloc: Global, host: &[u8], port: u16) -> Result<Text, WordsFault>
     ensures { GivesBy (λ url. url) faults.Memory result (Ok (tv.cii_url host.now port)) }
 {
     let mut url = Text::of(alloc, b"ws://")?;
-    url.push(host.bytes())?;
+    url.push(host)?;
     url.push(b":")?;
     url.push_number(i128::from(port))?;
     url.push(b"/cii")?;
@@ -94,7 +125,7 @@ fn cii_url(alloc: Global, host: &Text, port: u16) -> Result<Text, WordsFault>
 }
 
 /// That companions can dial this host.
-pub fn check_host(alloc: Global, host: &Text, port: u16) -> Result<(), WordsFault>
+pub fn check_host(alloc: Global, host: &[u8], port: u16) -> Result<(), WordsFault>
     ensures { GivesBy (λ checked. checked) faults.Memory result (tv.dialled (tv.cii_url host.now port)) }
 {
     let url = cii_url(alloc, host, port)?;
@@ -111,16 +142,18 @@ pub fn tv_at(matches: &ArgMatches<'_>, host: Text) -> Result<TvWords, WordsFault
     ensures utf8 { IfOk result (λ words. IsUtf8 words.host) }
 {
     let port = port(matches)?;
-    let turns = turns(matches)?;
+    let limit = limit(matches)?;
     let precision = precision(matches)?;
     let error = error(matches)?;
     let follow = is_set(matches, "follow");
+    let relative = is_set(matches, "relative");
     Ok(TvWords {
         port,
-        turns,
+        limit,
         precision,
         error,
         follow,
+        relative,
         host,
     })
 }
@@ -144,6 +177,6 @@ pub fn tv_words(alloc: Global, words: &[String]) -> Result<TvWords, WordsFault>
         text_given_or(&matches, "host", LOCAL_HOST).as_bytes(),
     )?;
     let asked = tv_at(&matches, host)?;
-    check_host(alloc, &asked.host, asked.port)?;
+    check_host(alloc, asked.host.bytes(), asked.port)?;
     Ok(asked)
 }

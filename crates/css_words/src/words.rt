@@ -1,8 +1,11 @@
 ghost use Rattle.std.specs.Prelude.{◌≤◌, ◌<◌, ◌^◌, unwrap_or, pos, ◌≤ℤ◌};
+ghost use Rattle.css_outside.specs.Limits.{IsLimit};
+ghost use Rattle.css_words.specs.Limits.{IsLimit-prop};
 ghost use Rattle.css_words.specs.Lines.{least_lines};
 
 use css_address::Address;
 use css_num::Text;
+use css_outside::Limit;
 use css_tsmsg::Bound;
 
 /// Which schedule is to be generated.
@@ -28,20 +31,21 @@ pub struct GeneratorWords {
 pub struct TvWords {
     /// The port of its wall clock: 1,024 to 65,534. The sessions' port is the next one.
     pub port: u16,
-    /// How many turns are made: 1 to 1,000,000.
-    pub turns: u64,
+    /// How long it runs: 1 to 1,000,000 turns, or 1 to 31,536,000 seconds.
+    pub limit: Limit,
     /// The precision of its wall clock: 2^precision seconds, with an exponent of -128 to 30.
     pub precision: i8,
     /// The greatest frequency error of its wall clock in 1/256 ppm, at most 25,600,000.
     pub error: u32,
     /// Whether its responses promise follow-ups.
     pub follow: bool,
+    /// Whether the times of its script count from its first turn.
+    pub relative: bool,
     /// The host that companions are told, which is UTF-8.
     pub host: Text,
     pub ghost least_port: { 1024 ≤ port },
     pub ghost most_port: { port ≤ 65534 },
-    pub ghost some_turns: { 1 ≤ turns },
-    pub ghost few_turns: { turns ≤ 1000000 },
+    pub ghost limit_range: { IsLimit limit } by { IsLimit-prop limit },
     pub ghost fine: { precision ≤ℤ pos 30 },
     pub ghost small_error: { error ≤ 25600000 },
 }
@@ -55,8 +59,8 @@ pub struct CompanionOptions {
     pub stem: Text,
     /// How many reports are made: 1 to 1,000,000.
     pub reports: u64,
-    /// How many turns are made at most: 1 to 1,000,000.
-    pub turns: u64,
+    /// How long it runs at most: 1 to 1,000,000 turns, or 1 to 31,536,000 seconds.
+    pub limit: Limit,
     /// The time between two reports in nanoseconds: 1 to 10^12.
     pub report_every: u64,
     /// The time between two requests of the wall clock in nanoseconds: 1 to 10^12.
@@ -70,8 +74,7 @@ pub struct CompanionOptions {
     pub present: Option<(Bound, Bound)>,
     pub ghost some_reports: { 1 ≤ reports },
     pub ghost few_reports: { reports ≤ 1000000 },
-    pub ghost some_turns: { 1 ≤ turns },
-    pub ghost few_turns: { turns ≤ 1000000 },
+    pub ghost limit_range: { IsLimit limit } by { IsLimit-prop limit },
     pub ghost reports_apart: { 1 ≤ report_every },
     pub ghost reports_come: { report_every ≤ 1000000000000 },
     pub ghost requests_apart: { 1 ≤ ask_every },
@@ -91,7 +94,7 @@ pub struct CompanionWords {
     pub recorded: bool,
 }
 
-/// A television and a companion of it. The companion's turns are the television's too.
+/// A television and a companion of it. The companion's limit is the television's too.
 #[derive(Drop)]
 pub struct PairWords {
     pub companion: CompanionOptions,
@@ -105,8 +108,8 @@ pub struct RelayWords {
     pub cii: Address,
     /// The port of its own wall clock and sessions: 1,024 to 65,534.
     pub port: u16,
-    /// How many turns are made: 1 to 1,000,000.
-    pub turns: u64,
+    /// How long it runs: 1 to 1,000,000 turns, or 1 to 31,536,000 seconds.
+    pub limit: Limit,
     /// The time between two requests of the television's wall clock in nanoseconds: 1 to 10^12.
     pub ask_every: u64,
     /// The greatest frequency error of its own clock in 1/256 ppm, at most 2,560,000.
@@ -117,8 +120,7 @@ pub struct RelayWords {
     pub host: Text,
     pub ghost least_port: { 1024 ≤ port },
     pub ghost most_port: { port ≤ 65534 },
-    pub ghost some_turns: { 1 ≤ turns },
-    pub ghost few_turns: { turns ≤ 1000000 },
+    pub ghost limit_range: { IsLimit limit } by { IsLimit-prop limit },
     pub ghost requests_apart: { 1 ≤ ask_every },
     pub ghost requests_come: { ask_every ≤ 1000000000000 },
     pub ghost small_error: { local_error ≤ 2560000 },
@@ -129,14 +131,13 @@ pub struct RelayWords {
 #[derive(Clone, Copy)]
 pub(crate) struct RelayNumbers {
     pub(crate) port: u16,
-    pub(crate) turns: u64,
+    pub(crate) limit: Limit,
     pub(crate) ask_every: u64,
     pub(crate) local_error: u32,
     pub(crate) local_precision: u64,
     pub(crate) ghost least_port: { 1024 ≤ port },
     pub(crate) ghost most_port: { port ≤ 65534 },
-    pub(crate) ghost some_turns: { 1 ≤ turns },
-    pub(crate) ghost few_turns: { turns ≤ 1000000 },
+    pub(crate) ghost limit_range: { IsLimit limit } by { IsLimit-prop limit },
     pub(crate) ghost requests_apart: { 1 ≤ ask_every },
     pub(crate) ghost requests_come: { ask_every ≤ 1000000000000 },
     pub(crate) ghost small_error: { local_error ≤ 2560000 },

@@ -1,16 +1,16 @@
-use Rattle.std.proofs.Common.{◌≡◌, refl, rules, map, codes, [], ◌∷◌}
-use Rattle.css_words.specs.Companion.{companion_options, companion_rows}
+use Rattle.std.proofs.Common.{◌≡◌, refl, rules, map}
+use Rattle.css_words.specs.Companion.{companion_flags, companion_options, companion_rows}
 use Rattle.css_words.proofs.companion.companion_matches.Goals as goal
 
 pub matches_of-requires : goal.matches_of-requires
 matches_of-requires c =
     let names : map (λ name. name.now) c.as_slice.result.now ≡ companion_options = search rules in
-    let flags : map (λ name. name.now) c.as_slice-2.result.now ≡ codes "record" ∷ [] = search rules in
+    let flags : map (λ name. name.now) c.as_slice-2.result.now ≡ companion_flags = search rules in
     rw (names, flags) refl
 
 pub returns : goal.returns
 unfolding companion_rows
 returns c =
     let names : map (λ name. name.now) c.as_slice.result.now ≡ companion_options = search rules in
-    let flags : map (λ name. name.now) c.as_slice-2.result.now ≡ codes "record" ∷ [] = search rules in
+    let flags : map (λ name. name.now) c.as_slice-2.result.now ≡ companion_flags = search rules in
     rw (names, flags) at c.matches_of.ensures
