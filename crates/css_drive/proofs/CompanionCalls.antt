@@ -438,14 +438,15 @@ refusal_ends (Some f) rest ended r = by ended r
     by (driven.Unreachable turns) r = ap Ends (sym r)
     by (driven.BadUrl property) r = ap Ends (sym r)
 
-pub refusal_quiet : (refusal : Option CompanionFault) → {failure : Failure} → IsRefusal refusal (driven.NetFault failure) → ⊥
-refusal_quiet None r = r
-refusal_quiet (Some (fault.BadCii number reason)) r = cc
-refusal_quiet (Some (fault.Moved property old new)) r = cc
-refusal_quiet (Some fault.Memory) r = cc
+pub refusal_quiet : (refusal : Option CompanionFault) (failure : Failure) → IsRefusal refusal (driven.NetFault failure)
+    → ⊥
+refusal_quiet None failure r = r
+refusal_quiet (Some (fault.BadCii number reason)) failure r = cc
+refusal_quiet (Some (fault.Moved property old new)) failure r = cc
+refusal_quiet (Some fault.Memory) failure r = cc
 
 refusal_own : (refusal : Option CompanionFault) (ended : Driven) → IsRefusal refusal ended → IsOwn ended
-refusal_own refusal (driven.NetFault failure) r = refusal_quiet refusal r
+refusal_own refusal (driven.NetFault failure) r = refusal_quiet refusal failure r
 refusal_own None driven.WriteFault r = r
 refusal_own (Some (fault.BadCii number reason)) driven.WriteFault r = cc
 refusal_own (Some (fault.Moved property old new)) driven.WriteFault r = cc

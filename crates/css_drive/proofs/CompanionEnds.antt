@@ -1,16 +1,22 @@
 -- How a turn begins, and how a run ends.
-use Rattle.std.proofs.Common.{◌≡◌, ℕ, ◌+◌, suc, ap, sym, ◌∙◌, subst, refl, Bool, true, false, cond}
+use Rattle.std.proofs.Common.{◌≡◌, ℕ, ◌+◌, ◌<◌, suc, arith, ap, sym, ◌∙◌, subst, refl, Bool, true, false, cond}
 use Rattle.std.proofs.Common.{List, [], ◌∷◌, ◌++◌, length, Option, Some, None, eq-eqb}
-use Rattle.std.specs.Prelude.{is_some, nat_lt, ◌||◌, ◌&&◌, unwrap_or}
+use Rattle.std.proofs.lemmas.Bool.{ltb-true}
+use Rattle.std.proofs.lemmas.Grind.{common_steps}
+use Rattle.std.specs.Prelude.{is_some, nat_lt, not, ◌||◌, ◌&&◌, unwrap_or}
 use Rattle.css_model.specs.declared.Kind.TheVariants as kind
 use Rattle.css_model.specs.declared.Why.TheVariants as why
 use Rattle.css_model.specs.Explains.{IsLawful}
 use Rattle.css_model.specs.History.{Entry, Listening, Slept, Clock, Dialling, Dialled, NotDialled, Accepted}
 use Rattle.css_model.specs.History.{NoneCame, Sent}
 use Rattle.css_model.specs.History.{Took, TookNone, Quiet, Heard, Closed, Wrote, Gone, HungUp, History}
+use Rattle.css_outside.specs.Limits as limits
+use Rattle.css_outside.specs.Limits.{most_turns, IsLimit}
 use Rattle.css_outside.specs.Outsides.{clock_entries, sleep_entries}
 use Rattle.css_outside.specs.declared.calls.Clocked.{Clocked}
 use Rattle.css_outside.specs.declared.fault.OutFault.{OutFault}
+use Rattle.css_outside.specs.declared.limit.Limit.{Limit}
+use Rattle.css_outside.specs.declared.limit.Limit.TheVariants as limit
 use Rattle.css_companion.specs.declared.report.Report.{Report}
 use Rattle.css_companion.proofs.Headline as headline
 use Rattle.css_drive.specs.CompanionDue.{due, hang_up, from_hang_ups, from_turn, from_cii, from_end, final}
@@ -20,7 +26,8 @@ use Rattle.css_drive.specs.CompanionReports.{IsPromisedAt, KeepsPromises}
 use Rattle.css_drive.specs.CompanionStanding.{Shown, Facts, facts_of, facts_in, Stands}
 use Rattle.css_drive.specs.CompanionStanding.{asked_after}
 use Rattle.css_drive.specs.CompanionStanding.{IsOver, IsHangingUp, IsSo, hung, ending_of}
-use Rattle.css_drive.specs.CompanionTurns.{turn_at, first_turn, turns, dialled, opened, any_dialled, is_peer, unless}
+use Rattle.css_drive.specs.CompanionTurns.{turn_at, first_turn, this_turn, turns, first_of, counted, is_late, goes_on}
+use Rattle.css_drive.specs.CompanionTurns.{dialled, opened, any_dialled, is_peer, unless}
 use Rattle.css_drive.specs.Ends.{MayEnd, IsNetFault}
 use Rattle.css_drive.specs.Notes as events
 use Rattle.css_drive.specs.Notes.{Note, Happened, Reported, Turn, noted, turn_notes}
@@ -175,56 +182,135 @@ ending_over : (turns : ℕ) (b : Bool) → IsOver (cond b (driven.Spent turns) (
 ending_over turns true = tt
 ending_over turns false = tt
 
+-- before the first turn none was made
+none_made : (h : History) → first_turn h ≡ None → turns h ≡ 0
+none_made [] e = refl
+none_made (entry ∷ older) e = by (turn_at entry) (none_made older) e
+  where
+    by : (o : Option ℕ) → (first_turn older ≡ None → turns older ≡ 0) → first_of o (first_turn older) ≡ None
+        → counted o (turns older) ≡ 0
+    by None below e = below e
+    by (Some r) below e = absurd (cc)
+
+cut_short : (a : Bool) (x y : Due) → cond (a && false) x y ≡ y
+cut_short true x y = refl
+cut_short false x y = refl
+
+-- ---- limits
+-- where another turn follows, fewer were made than 2^40
+pub below_most : (l : Limit) (first turn : Option ℕ) (made : ℕ) → IsLimit l → goes_on l first turn made ≡ true
+    → made < 1099511627776
+below_most l first turn made r e = by l r (ltb-true made (most_turns l) (left (nat_lt made (most_turns l)) e))
+  where
+    left : (a : Bool) → (a && not (is_late l first turn)) ≡ true → a ≡ true
+    left true e = refl
+    left false e = e
+
+    by : (l : Limit) → IsLimit l → made < most_turns l → made < 1099511627776
+    by (limit.Turns n) r lt = omega (arith, r.1, lt)
+    by (limit.Seconds n) r lt = lt
+
+-- a run has at least one turn
+first_goes_on : (l : Limit) (turn : Option ℕ) → IsLimit l → goes_on l None turn 0 ≡ false → ⊥
+first_goes_on (limit.Turns n) turn r e = grind (arith, common_steps, r.0, e)
+first_goes_on (limit.Seconds n) turn r e = absurd (cc)
+
+-- the first turn is never the last by its time
+pub never_late : (l : Limit) (first turn : Option ℕ) → IsLimit l → first ≡ turn → is_late l first turn ≡ true → ⊥
+never_late l None turn r e late = absurd (cc)
+never_late l (Some reading) turn r e late = by l r (ap (λ o. is_late l (Some reading) o) e ∙ late)
+  where
+    by : (l : Limit) → IsLimit l → limits.is_over l reading reading ≡ true → ⊥
+    by (limit.Turns n) r e = absurd (cc)
+    by (limit.Seconds n) r e = grind (arith, common_steps, r.0, e)
+
 -- ---- whether the run goes on
 module _ (config : DriveConfig) (before now : Shown) (saw : List Note → Type 0) (live : Live)
     (history : History) (s : Stands config before now saw live history) where
   short_so : (b : Bool) → nat_lt live.reported config.reports ≡ b → is_short config history ≡ b
   short_so b e = ap (λ n. nat_lt n config.reports) (ap {A = Facts} (λ x. x.reported) s.facts) ∙ e
 
-  pub goes_on : due config history ≡ from_turn config history → nat_lt live.reported config.reports ≡ true
-      → due config history ≡ from_cii config history
-  goes_on d e = d ∙ ap (λ b. cond b (from_cii config history) (from_hang_ups (final config history) history))
-      (short_so true e)
+  late_so : (b : Bool) → is_late config.limit live.first live.turn ≡ b
+      → is_late config.limit (first_turn history) (this_turn history) ≡ b
+  late_so b e = ap {A = Facts} (λ x. is_late config.limit x.first x.turn) s.facts ∙ e
+
+  more_so : (b : Bool) → goes_on config.limit live.first live.turn live.made ≡ b
+      → goes_on config.limit (first_turn history) (this_turn history) (turns history) ≡ b
+  more_so b e = ap {A = Facts} (λ x. goes_on config.limit x.first x.turn x.made) s.facts ∙ e
+
+  -- what is due where reports are still to be made, and where not
+  in_turn : (b : Bool) → nat_lt live.reported config.reports ≡ b
+      → from_turn config history
+      ≡ cond (b && not (is_late config.limit (first_turn history) (this_turn history))) (from_cii config history)
+      (from_end config history)
+  in_turn b e = ap (λ x. cond (x && not (is_late config.limit (first_turn history) (this_turn history)))
+      (from_cii config history) (from_end config history)) (short_so b e)
+
+  at_end : (b : Bool) → nat_lt live.reported config.reports ≡ b
+      → from_end config history
+      ≡ cond (b && goes_on config.limit (first_turn history) (this_turn history) (turns history)) (Now why.Turn)
+      (from_hang_ups (final config history) history)
+  at_end b e = ap (λ x. cond (x && goes_on config.limit (first_turn history) (this_turn history) (turns history))
+      (Now why.Turn) (from_hang_ups (final config history) history)) (short_so b e)
+
+  final_as : (b : Bool) → nat_lt live.reported config.reports ≡ b
+      → final config history
+      ≡ cond b (cond (any_dialled history) (driven.Spent (turns history)) (driven.Unreachable (turns history)))
+      driven.Done
+  final_as b e = ap (λ x. cond x (cond (any_dialled history) (driven.Spent (turns history)) (driven.Unreachable (turns
+      history))) driven.Done) (short_so b e)
+
+  pub makes_calls : due config history ≡ from_turn config history → nat_lt live.reported config.reports ≡ true
+      → is_late config.limit live.first live.turn ≡ false → due config history ≡ from_cii config history
+  makes_calls d few soon =
+      d ∙ in_turn true few
+      ∙ ap (λ b. cond (not b) (from_cii config history) (from_end config history)) (late_so false soon)
+
+  pub is_last : due config history ≡ from_turn config history → is_late config.limit live.first live.turn ≡ true
+      → due config history ≡ from_end config history
+  is_last d late =
+      d ∙ ap (λ b. cond (is_short config history && not b) (from_cii config history) (from_end config history))
+      (late_so true late) ∙ cut_short (is_short config history) (from_cii config history) (from_end config history)
 
   pub is_done : due config history ≡ from_turn config history → nat_lt live.reported config.reports ≡ false
       → IsHangingUp config driven.Done history
-  is_done d e =
-      let f : final config history ≡ driven.Done = ap (λ b. cond b (cond (any_dialled history) (driven.Spent
-      config.turns) (driven.Unreachable config.turns)) driven.Done) (short_so false e) in
-      record {
-        over = tt;
-        first = d ∙ ap (λ b. cond b (from_cii config history) (from_hang_ups (final config history) history))
-            (short_so false e) ∙ ap (λ x. from_hang_ups x history) f;
-        final_so = f;
-      }
+  is_done d none = record {
+    over = tt;
+    first = d ∙ in_turn false none ∙ at_end false none ∙ ap (λ x. from_hang_ups x history) (final_as false none);
+    final_so = final_as false none;
+  }
 
   pub next_turn : due config history ≡ from_end config history → nat_lt live.reported config.reports ≡ true
-      → nat_lt live.made config.turns ≡ true → due config history ≡ Now why.Turn
+      → goes_on config.limit live.first live.turn live.made ≡ true → due config history ≡ Now why.Turn
   next_turn d few again =
-      d ∙ ap (λ b. cond (b && nat_lt (turns history) config.turns) (Now why.Turn) (from_hang_ups (final config
-      history) history)) (short_so true few)
-      ∙ ap (λ b. cond (true && b) (Now why.Turn) (from_hang_ups (final config history) history)) (ap (λ n. nat_lt n
-      config.turns) (ap {A = Facts} (λ x. x.made) s.facts) ∙ again)
+      d ∙ at_end true few
+      ∙ ap (λ b. cond b (Now why.Turn) (from_hang_ups (final config history) history)) (more_so true again)
 
   pub is_over : due config history ≡ from_end config history → nat_lt live.reported config.reports ≡ true
-      → nat_lt live.made config.turns ≡ false → IsHangingUp config (ending_of config.turns live.cii live.wc live.ts)
-      history
-  is_over d few made =
-      let f : final config history ≡ ending_of config.turns live.cii live.wc live.ts =
-      ap (λ b. cond b (cond (any_dialled history) (driven.Spent config.turns) (driven.Unreachable config.turns))
-      driven.Done) (short_so true few)
-      ∙ ap (λ b. cond b (driven.Spent config.turns) (driven.Unreachable config.turns)) (any_is history)
-      ∙ ap {A = Facts} (λ x. ending_of config.turns x.cii x.wc x.ts) s.facts in
+      → goes_on config.limit live.first live.turn live.made ≡ false
+      → IsHangingUp config (ending_of live.made live.cii live.wc live.ts) history
+  is_over d few last =
+      let f : final config history ≡ ending_of live.made live.cii live.wc live.ts =
+      final_as true few
+      ∙ ap (λ b. cond b (driven.Spent (turns history)) (driven.Unreachable (turns history))) (any_is history)
+      ∙ ap {A = Facts} (λ x. ending_of x.made x.cii x.wc x.ts) s.facts in
       record {
-        over = ending_over config.turns (is_some live.cii || (is_some live.wc || is_some live.ts));
+        over = ending_over live.made (is_some live.cii || (is_some live.wc || is_some live.ts));
         first =
-            d ∙ ap (λ b. cond (b && nat_lt (turns history) config.turns) (Now why.Turn) (from_hang_ups (final config
-            history) history)) (short_so true few)
-            ∙ ap (λ b. cond (true && b) (Now why.Turn) (from_hang_ups (final config history) history)) (ap (λ n.
-            nat_lt n config.turns) (ap {A = Facts} (λ x. x.made) s.facts) ∙ made)
+            d ∙ at_end true few
+            ∙ ap (λ b. cond b (Now why.Turn) (from_hang_ups (final config history) history)) (more_so false last)
             ∙ ap (λ x. from_hang_ups x history) f;
         final_so = f;
       }
+
+  -- the last turn comes after a first one
+  pub has_begun : goes_on config.limit live.first live.turn live.made ≡ false → live.first ≡ None → ⊥
+  has_begun last none =
+      let made : live.made ≡ 0 = sym (ap {A = Facts} (λ x. x.made) s.facts)
+      ∙ none_made history (ap {A = Facts} (λ x. x.first) s.facts ∙ none) in
+      let first : goes_on config.limit None live.turn 0 ≡ false = ap (λ o. goes_on config.limit o live.turn 0)
+      (sym none) ∙ ap (λ n. goes_on config.limit live.first live.turn n) (sym made) ∙ last in
+      first_goes_on config.limit live.turn config.limit_range first
 
 -- ---- hanging up
 pub over_ends : (end : Driven) → IsOver end → MayEnd (Ends end) end

@@ -3,7 +3,7 @@ use Rattle.std.proofs.Common.{◌≡◌, ℕ, ◌+◌, ◌≤◌, ◌<◌, arith
 use Rattle.std.proofs.Common.{inl, inr, map}
 use Rattle.std.proofs.Common.{List, [], ◌∷◌, ◌++◌, length, drop, Option, Some, None, Result, Ok, Err}
 use Rattle.std.proofs.lemmas.Bool.{ltb-true, ltb-false}
-use Rattle.std.specs.Prelude.{◌&&◌, nat_lt, ◌⊎◌, is_some, if◌then◌else◌}
+use Rattle.std.specs.Prelude.{◌&&◌, not, ◌⊎◌, is_some, if◌then◌else◌}
 use Rattle.css_model.specs.declared.Kind.{Kind}
 use Rattle.css_model.specs.declared.Kind.TheVariants as kind
 use Rattle.css_model.specs.declared.Why.{Why}
@@ -36,7 +36,7 @@ use Rattle.css_drive.specs.CompanionDue.{unless_refused, point_of, end_by, IsPro
 use Rattle.css_drive.specs.CompanionLaws.{ReportsAreAsAsked, MakesReports, FollowersHear, HasHeard, EachHasHeard}
 use Rattle.css_drive.specs.CompanionReports.{due_reports, is_due, report_at, with_report}
 use Rattle.css_drive.specs.CompanionTurns.{turn_at, first_turn, this_turn, turns, dialled, opened, any_dialled}
-use Rattle.css_drive.specs.CompanionTurns.{asked_turn, is_asking}
+use Rattle.css_drive.specs.CompanionTurns.{asked_turn, is_asking, is_late, goes_on}
 use Rattle.css_drive.specs.CompanionRun.{Followed, after_all}
 use Rattle.css_drive.specs.Listening.{Listener, hearing, words_of}
 use Rattle.css_drive.specs.Proper.{Due, Listen, Now, Dial, Accept, SendDatagram, TakeDatagram, TakeText, SendText}
@@ -198,10 +198,11 @@ again false left rest d f e = f e
 
 module _ (config : DriveConfig) (h : History) (d : Due) (t : IsFinal d) where
   hang_ups : from_hang_ups (final config h) h ≡ d → Verdict (is_short config h) d
-  hang_ups e = hangs (opened kind.Cii h) (opened kind.Ts h) (is_short config h) (any_dialled h) config.turns d t e
+  hang_ups e = hangs (opened kind.Cii h) (opened kind.Ts h) (is_short config h) (any_dialled h) (turns h) d t e
 
   end_turn : from_end config h ≡ d → Verdict (is_short config h) d
-  end_turn e = again (is_short config h) (nat_lt (turns h) config.turns) (from_hang_ups (final config h) h) d hang_ups e
+  end_turn e = again (is_short config h) (goes_on config.limit (first_turn h) (this_turn h) (turns h)) (from_hang_ups
+      (final config h) h) d hang_ups e
 
   ts_turn : from_ts_text config h ≡ d → Verdict (is_short config h) d
   ts_turn e = end_turn (after_text (opened kind.Ts h) (from_end config h) d t e)
@@ -229,8 +230,8 @@ module _ (config : DriveConfig) (h : History) (d : Due) (t : IsFinal d) where
 
   point_turn : (p : Point) → due_at config p h ≡ d → Verdict (is_short config h) d
   point_turn dues.Start e = end_turn e
-  point_turn dues.Begun e = either (is_short config h) (from_cii config h) (from_hang_ups (final config h) h) d
-      (Verdict (is_short config h) d) dial_cii_turn hang_ups e
+  point_turn dues.Begun e = either (is_short config h && not (is_late config.limit (first_turn h) (this_turn h)))
+      (from_cii config h) (from_end config h) d (Verdict (is_short config h) d) dial_cii_turn end_turn e
   point_turn (dues.Called kind.Cii) e = dial_wc_turn e
   point_turn (dues.Called kind.Wc) e = dial_ts_turn e
   point_turn (dues.Called kind.Ts) e = ask_turn e

@@ -15,6 +15,7 @@ use Rattle.css_drive.specs.CompanionDue.{due, from_end}
 use Rattle.css_drive.specs.CompanionReports.{report_at}
 use Rattle.css_drive.specs.CompanionStanding.{Shown, Knows, Comes, Stops, Made, IsFault, IsOver, IsEarly, IsSo}
 use Rattle.css_drive.specs.CompanionStanding.{IsEndBy, IsEndOf, final_end, ending_of, facts_of, facts_in, KnowsPeers}
+use Rattle.css_drive.specs.CompanionStanding.{HasTried}
 use Rattle.css_drive.specs.Ends.{MayEnd, CountsNetFault, CountsDialFaults}
 use Rattle.css_drive.specs.Notes.{Note}
 use Rattle.css_drive.specs.Proper.{Empty, Due}
@@ -101,15 +102,22 @@ risen_from was before now le r = record {
   risen = λ lt. grind (arith, common_steps, le, r.kept, r.risen, lt);
 }
 
+-- and one that rose until an earlier one has risen since
+pub risen_to : (was before now : ℕ) → before ≤ now → HasRisen was before → HasRisen was now
+risen_to was before now le r = record {
+  kept = omega (arith, le, r.kept);
+  risen = λ lt. grind (arith, common_steps, le, r.kept, r.risen, lt);
+}
+
 -- ---- what calls answer
 pub on_ok : {T E P : Type 0} (r : Result T E) → P → OnOk r P
 on_ok (Ok v) p = p
 on_ok (Err e) p = tt
 
-pub tried_from : {T E : Type 0} (r : Result T E) (cii : Option ℕ) (was before now : ℕ) → was ≤ before
-    → OnOk r (cii ≡ None → HasRisen before now) → OnOk r (cii ≡ None → HasRisen was now)
-tried_from (Ok v) cii was before now le f = λ none. risen_from was before now le (f none)
-tried_from (Err e) cii was before now le f = tt
+pub tried_from : {T E : Type 0} (r : Result T E) (live : Live) (was before now : ℕ) → was ≤ before
+    → OnOk r (live.cii ≡ None → HasRisen before now) → OnOk r (HasTried was now live)
+tried_from (Ok v) live was before now le f = λ begun none. risen_from was before now le (f none)
+tried_from (Err e) live was before now le f = tt
 
 -- ---- the end
 -- the run stopped, and its observer has the last word
@@ -162,7 +170,7 @@ counted_of config before now saw over ended result e s =
         → CountsNetFault before.counts.faults now.counts.faults d
         → CountsNetFault before.counts.faults now.counts.faults (final_end o d)
     by None d i c = c
-    by (Some (fault.Failed failure)) d i c = same fault.Failed d i c
+    by (Some (fault.Failed failure)) d i c = same (fault.Failed failure) d i c
     by (Some fault.Memory) d i c = same fault.Memory d i c
 
 -- ---- the beginning

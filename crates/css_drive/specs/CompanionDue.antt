@@ -1,6 +1,6 @@
 -- Which call a companion's run has to make next: a function of what its calls did so far.
 use Rattle.std.specs.Prelude.{◌≡◌, ℕ, nat_lt, List, [], ◌∷◌, length, Bool, ◌&&◌, if◌then◌else◌, Option, Some, None}
-use Rattle.std.specs.Prelude.{is_some}
+use Rattle.std.specs.Prelude.{is_some, not}
 use Rattle.std.specs.Prelude.{Result, Ok, Err}
 use Rattle.std.specs.Option.{option_map}
 use Rattle.css_model.specs.declared.Why.{Why}
@@ -26,7 +26,8 @@ use Rattle.css_companion.specs.declared.fault.CompanionFault.{CompanionFault}
 use Rattle.css_companion.specs.declared.fault.CompanionFault.TheVariants as fault
 use Rattle.css_drive.specs.Proper.{Due, Now, Dial, SendDatagram, TakeDatagram, TakeText, SendText, HangUp, Ends}
 use Rattle.css_drive.specs.Proper.{IsProper}
-use Rattle.css_drive.specs.CompanionTurns.{turns, this_turn, dialled, opened, any_dialled, asked_turn, is_asking}
+use Rattle.css_drive.specs.CompanionTurns.{first_turn, this_turn, turns, is_late, goes_on, dialled, opened, any_dialled}
+use Rattle.css_drive.specs.CompanionTurns.{asked_turn, is_asking}
 use Rattle.css_drive.specs.CompanionReports.{due_reports}
 use Rattle.css_drive.specs.declared.config.DriveConfig.{DriveConfig}
 use Rattle.css_drive.specs.declared.driven.Driven.{Driven}
@@ -114,13 +115,14 @@ is_short config history = nat_lt (length (due_reports config history)) config.re
 abbrev pub final : DriveConfig → History → Driven
 final config history =
     if is_short config history
-    then (if any_dialled history then driven.Spent config.turns else driven.Unreachable config.turns)
+    then (if any_dialled history then driven.Spent (turns history) else driven.Unreachable (turns history))
     else driven.Done
 
--- another turn, while reports are to be made and turns are left
+-- another turn, while reports are to be made and the last turn hasn't come
 abbrev pub from_end : DriveConfig → History → Due
 from_end config history =
-    if is_short config history && nat_lt (turns history) config.turns then Now why.Turn
+    if is_short config history && goes_on config.limit (first_turn history) (this_turn history) (turns history)
+    then Now why.Turn
     else from_hang_ups (final config history) history
 
 abbrev pub take_text : Option ℕ → Due → Due
@@ -174,10 +176,12 @@ dial_first None to rest = Dial kind.Cii to
 abbrev pub from_cii : DriveConfig → History → Due
 from_cii config history = dial_first (dialled kind.Cii history) config.cii (from_wc config history)
 
--- after the last report the run ends
+-- the calls of a turn, but after the last report and in the turn that is the last by its time
 abbrev pub from_turn : DriveConfig → History → Due
 from_turn config history =
-    if is_short config history then from_cii config history else from_hang_ups (final config history) history
+    if is_short config history && not (is_late config.limit (first_turn history) (this_turn history))
+    then from_cii config history
+    else from_end config history
 
 abbrev pub sending : ℕ → Option (List ℕ) → Due → Due
 sending peer None rest = rest

@@ -9,6 +9,7 @@ use Rattle.css_model.specs.declared.Kind.{Kind}
 use Rattle.css_model.specs.declared.Kind.TheVariants as kind
 use Rattle.css_model.specs.Explains.{IsLawful}
 use Rattle.css_model.specs.History.{Address, Entry, Dialling, Dialled, NotDialled, HungUp, History}
+use Rattle.css_outside.specs.Faults.{HasRisen}
 use Rattle.css_outside.specs.Outsides.{Counts, with_entries, clock_entries, sleep_entries}
 use Rattle.css_outside.specs.declared.calls.Clocked.{Clocked}
 use Rattle.css_companion.specs.Meanings.{kind_of}
@@ -319,6 +320,10 @@ pub record Keeps (old new : Counts) (before now : Live) : Type 0 where
   pub reported : now.reported ≡ before.reported
   pub dials : old.dial_faults ≤ new.dial_faults
   pub dialled : now.cii ≡ None → before.cii ≡ None
+
+-- where a turn was begun, and no dial of CSS-CII succeeded, one has failed since
+abbrev pub HasTried : ℕ → ℕ → Live → Type 0
+HasTried started now live = (live.first ≡ None → ⊥) → live.cii ≡ None → HasRisen started now
 
 abbrev pub ending_of : ℕ → Option ℕ → Option ℕ → Option ℕ → Driven
 ending_of turns cii wc ts =

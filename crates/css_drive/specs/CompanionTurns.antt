@@ -1,10 +1,12 @@
 -- What the history of a companion's run says of its turns: their readings, the dials, the sessions and the requests.
-use Rattle.std.specs.Prelude.{ℕ, ◌+◌, nat_le, List, [], ◌∷◌, Bool, true, false, ◌==◌, if◌then◌else◌, Option, Some}
-use Rattle.std.specs.Prelude.{None, unwrap_or}
+use Rattle.std.specs.Prelude.{ℕ, ◌+◌, nat_le, nat_lt, List, [], ◌∷◌, Bool, true, false, not, ◌&&◌, ◌==◌}
+use Rattle.std.specs.Prelude.{if◌then◌else◌, Option, Some, None, unwrap_or}
 use Rattle.css_model.specs.declared.Why.TheVariants as why
 use Rattle.css_model.specs.declared.Kind.{Kind}
 use Rattle.css_model.specs.declared.Kind.TheVariants as kind
 use Rattle.css_model.specs.History.{Entry, Slept, Clock, Dialled, Sent, Closed, Gone, HungUp, History}
+use Rattle.css_outside.specs.Limits.{most_turns, is_over}
+use Rattle.css_outside.specs.declared.limit.Limit.{Limit}
 
 -- ---- the readings of turns
 -- the reading of a turn that begins with an entry
@@ -41,6 +43,16 @@ counted (Some reading) count = count + 1
 abbrev pub turns : History → ℕ
 turns [] = 0
 turns (entry ∷ older) = counted (turn_at entry) (turns older)
+
+-- ---- how long a run goes on
+-- whether a turn is the last by its time, where the first one had the reading `first`
+abbrev pub is_late : Limit → Option ℕ → Option ℕ → Bool
+is_late limit None turn = false
+is_late limit (Some first) turn = is_over limit first (unwrap_or turn 0)
+
+-- whether another turn follows this one, where so many were begun
+abbrev pub goes_on : Limit → Option ℕ → Option ℕ → ℕ → Bool
+goes_on limit first turn made = nat_lt made (most_turns limit) && not (is_late limit first turn)
 
 -- ---- dials and sessions
 abbrev pub is_kind : Kind → Kind → Bool

@@ -58,9 +58,10 @@ fn drive_telling<K: Sink, O: Outside, F: Listens>(
 /// with what the followers say of it, in one write of the sink.
 ///
 /// Both texts of the companion are UTF-8, and its bounds are a presentation. The run ends as `Done` with the last
-/// report, and as `Spent`, or `Unreachable` where no dial succeeded, with the last turn. A text of the CII session that
-/// is refused ends it as `BadCii` or `Moved`, and an address that is none as `BadUrl`, at once. So does a fault of a
-/// device, or want of memory; of the faults of a dial only want of memory does.
+/// report, and as `Spent`, or `Unreachable` where no dial succeeded, with the last turn. In a turn that is the last by
+/// its time nothing is called after its report but the hang-ups. A text of the CII session that is refused ends the run
+/// as `BadCii` or `Moved`, and an address that is none as `BadUrl`, at once. So does a fault of a device, or want of
+/// memory; of the faults of a dial only want of memory does.
 pub fn drive_companion<K: Sink, O: Outside, F: Listens>(
     alloc: Global,
     config: DriveConfig,

@@ -21,7 +21,7 @@ pub struct Live {
     /// The peers of the sessions that are open.
     pub cii_open: Option<u32>,
     pub ts_open: Option<u32>,
-    pub ghost made_few: { made ≤ 1000000 },
+    pub ghost made_few: { made ≤ 1099511627776 },
     pub ghost reported_few: { reported ≤ 1000000 },
     pub ghost first_below: { ForSome first (λ reading. reading < 4294967296000000000) },
     pub ghost asked_below: { ForSome asked (λ reading. reading < 4294967296000000000) },

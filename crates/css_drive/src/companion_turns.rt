@@ -2,10 +2,13 @@
 ghost use Rattle.std.specs.Prelude.{◌≡◌, ◌≤◌, ◌<◌, ◌+◌, [], ℕ, IfSome, OnOk, IfErr, None};
 ghost use Rattle.std.specs.Option.{ForSome};
 ghost use Rattle.css_outside.specs.Faults.{HasRisen};
+ghost use Rattle.css_outside.specs.Limits.{IsLimit};
 ghost use Rattle.css_drive.specs.Configs.{IsWindow};
 ghost use Rattle.css_drive.specs.CompanionDue.{from_turn, from_cii, from_end};
 ghost use Rattle.css_drive.specs.CompanionReports.{is_due};
-ghost use Rattle.css_drive.specs.CompanionStanding.{Knows, at, a_turn, Leads, Keeps, IsEarly, Made, ending_of};
+ghost use Rattle.css_drive.specs.CompanionStanding.{Knows, at, a_turn, Leads, Keeps, IsEarly, Made, HasTried};
+ghost use Rattle.css_drive.specs.CompanionStanding.{ending_of};
+ghost use Rattle.css_drive.specs.CompanionTurns as turns;
 ghost use Rattle.css_drive.specs.Ends.{CountsNetFault, CountsDialFaults};
 
 use crate::companion_calls::{ended_by, read};
@@ -16,7 +19,7 @@ use crate::config::DriveConfig;
 use crate::driven::Driven;
 use crate::observes::Observes;
 use css_companion::Companion;
-use css_outside::{Outside, Why};
+use css_outside::{Limit, Outside, Why};
 use std::alloc::Global;
 
 fn reports_at(every: u64, reading: u64, first: Option<u64>, reported: u64) -> bool
@@ -31,6 +34,25 @@ fn reports_at(every: u64, reading: u64, first: Option<u64>, reported: u64) -> bo
     }
 }
 
+/// Whether the present turn is the last by its time.
+fn is_late(limit: Limit, live: &Live) -> bool
+    requires { IsLimit limit }
+    ensures { result ≡ turns.is_late limit live.now.first live.now.turn }
+{
+    match live.first {
+        None => false,
+        Some(first) => limit.is_over(first, live.turn.unwrap_or(0)),
+    }
+}
+
+/// Whether another turn follows, while reports are to be made.
+fn goes_on(limit: Limit, live: &Live) -> bool
+    requires { IsLimit limit }
+    ensures { result ≡ turns.goes_on limit live.now.first live.now.turn live.now.made }
+{
+    live.made < limit.most_turns() && !is_late(limit, live)
+}
+
 /// Begins a turn, and makes the report that is due, if one is.
 pub fn start<O: Outside, W: Observes>(
     config: &DriveConfig,
@@ -40,7 +62,7 @@ pub fn start<O: Outside, W: Observes>(
     observer: &mut W,
 ) -> Result<(), Driven>
     requires floor { companion.old.client.floor ≤ (O.counts outside.old).last }
-    requires made { live.old.made < 1000000 }
+    requires made { live.old.made < 1099511627776 }
     requires reported { live.old.reported < 1000000 }
     ensures goes { Leads W.saw W.over config.now
         (at (O.told outside.old) (O.counts outside.old) live.old companion.old observer.old)
@@ -48,6 +70,8 @@ pub fn start<O: Outside, W: Observes>(
         a_turn from_turn result }
     ensures floor { OnOk result (companion.new.client.floor ≤ (O.counts outside.new).last) }
     ensures made { OnOk result (live.new.made ≡ live.old.made + 1) }
+    ensures first { OnOk result (live.old.first ≡ None → live.new.first ≡ live.new.turn) }
+    ensures dialled { OnOk result (live.new.cii ≡ None → live.old.cii ≡ None) }
     ensures dials { (O.counts outside.old).dial_faults ≤ (O.counts outside.new).dial_faults }
     ensures early { IfErr result IsEarly }
 {
@@ -114,7 +138,7 @@ pub fn calls<O: Outside, W: Observes>(
     hear_ts(config, live, companion, outside, observer)
 }
 
-/// Makes a turn. The run ends after its last report.
+/// Makes a turn, of which nothing follows the report if it is the last by its time. The run ends after its last report.
 // Each goal has its answer: the search would not end.
 #[tactic(none)]
 fn turn<O: Outside, W: Observes>(
@@ -126,7 +150,7 @@ fn turn<O: Outside, W: Observes>(
     observer: &mut W,
 ) -> Result<(), Driven>
     requires floor { companion.old.client.floor ≤ (O.counts outside.old).last }
-    requires made { live.old.made < 1000000 }
+    requires made { live.old.made < 1099511627776 }
     requires reported { live.old.reported < config.now.reports }
     requires bounds { IfSome config.now.present IsWindow }
     ensures goes { Leads W.saw W.over config.now
@@ -138,31 +162,32 @@ fn turn<O: Outside, W: Observes>(
     ensures reported { OnOk result (live.new.reported < config.now.reports) }
     ensures dials { (O.counts outside.old).dial_faults ≤ (O.counts outside.new).dial_faults }
     ensures early { IfErr result IsEarly }
-    ensures tried { OnOk result (live.new.cii ≡ None
-        → HasRisen (O.counts outside.old).dial_faults (O.counts outside.new).dial_faults) }
+    ensures tried { (started : ℕ) → started ≤ (O.counts outside.old).dial_faults
+        → HasTried started (O.counts outside.old).dial_faults live.old
+        → OnOk result (HasTried started (O.counts outside.new).dial_faults live.new) }
 {
     match start(config, live, companion, outside, observer) {
         Ok(()) => {}
         Err(ended) => return Err(ended),
     }
-    if live.reported < config.reports {
-        return calls(alloc, config, live, companion, outside, observer);
+    if live.reported >= config.reports {
+        return Err(hang_up(config, live, outside, observer, Driven::Done));
     }
-    Err(hang_up(config, live, outside, observer, Driven::Done))
+    if is_late(config.limit, live) {
+        return Ok(());
+    }
+    calls(alloc, config, live, companion, outside, observer)
 }
 
-/// How a run ends whose turns are made.
-pub fn ending(config: &DriveConfig, live: &Live) -> Driven
-    ensures { result ≡ ending_of config.now.turns live.now.cii live.now.wc live.now.ts }
+/// How a run ends whose last turn is made.
+pub fn ending(live: &Live) -> Driven
+    ensures { result ≡ ending_of live.now.made live.now.cii live.now.wc live.now.ts }
 {
+    let turns = live.made;
     if live.cii.is_some() || live.wc.is_some() || live.ts.is_some() {
-        Driven::Spent {
-            turns: config.turns,
-        }
+        Driven::Spent { turns }
     } else {
-        Driven::Unreachable {
-            turns: config.turns,
-        }
+        Driven::Unreachable { turns }
     }
 }
 
@@ -197,13 +222,13 @@ pub fn drive<O: Outside, W: Observes>(
         cii_open: None,
         ts_open: None,
     };
-    'turns: while live.made < config.turns {
+    'turns: while goes_on(config.limit, &live) {
         match turn(alloc, config, &mut live, companion, outside, observer) {
             Ok(()) => {}
             Err(ended) => return ended_by(observer, ended),
         }
     }
-    let end = ending(config, &live);
+    let end = ending(&live);
     let ended = hang_up(config, &live, outside, observer, end);
     ended_by(observer, ended)
 }

@@ -1,7 +1,9 @@
 ghost use Rattle.std.specs.Prelude.{◌≤◌};
+ghost use Rattle.css_outside.specs.Limits.{IsLimit};
+ghost use Rattle.css_drive.specs.Limits.{IsLimit-prop};
 
 use css_companion::CompanionConfig;
-use css_outside::Address;
+use css_outside::{Address, Limit};
 use css_tsmsg::Bound;
 
 /// What a companion's run is to do.
@@ -12,8 +14,8 @@ pub struct DriveConfig {
     pub cii: Address,
     /// How many reports are made: 1 to 1,000,000.
     pub reports: u64,
-    /// How many turns are made at most: 1 to 1,000,000.
-    pub turns: u64,
+    /// How long the run goes on while reports are to be made.
+    pub limit: Limit,
     /// The time between two reports in nanoseconds: 1 to 10^12.
     pub report_every: u64,
     /// The time between two requests of the wall clock in nanoseconds: 1 to 10^12.
@@ -23,8 +25,7 @@ pub struct DriveConfig {
     pub present: Option<(Bound, Bound)>,
     pub ghost some_reports: { 1 ≤ reports },
     pub ghost few_reports: { reports ≤ 1000000 },
-    pub ghost some_turns: { 1 ≤ turns },
-    pub ghost few_turns: { turns ≤ 1000000 },
+    pub ghost limit_range: { IsLimit limit } by { IsLimit-prop limit },
     pub ghost reports_apart: { 1 ≤ report_every },
     pub ghost reports_come: { report_every ≤ 1000000000000 },
     pub ghost requests_apart: { 1 ≤ ask_every },
@@ -38,7 +39,7 @@ impl Drop for DriveConfig {
             companion: _,
             cii: _,
             reports: _,
-            turns: _,
+            limit: _,
             report_every: _,
             ask_every: _,
             present: _,

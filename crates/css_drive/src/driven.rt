@@ -6,7 +6,7 @@ use css_schedule::LineWhy;
 /// How a run ended.
 #[derive(Drop)]
 pub enum Driven {
-    /// The run was made to its end: all reports were written, or all turns were made.
+    /// The run was made to its end: all reports were written, or the last turn was made.
     Done,
     /// This line of the script, counted from 1, is refused.
     BadLine {
@@ -28,11 +28,11 @@ pub enum Driven {
         old: Text,
         new: Text,
     },
-    /// All turns were made, a dial succeeded, and the last report did not come.
+    /// The last turn was made, as many as these, a dial succeeded, and the last report did not come.
     Spent {
         turns: u64,
     },
-    /// All turns were made, every dial failed, and the last report did not come.
+    /// The last turn was made, as many as these, every dial failed, and the last report did not come.
     Unreachable {
         turns: u64,
     },

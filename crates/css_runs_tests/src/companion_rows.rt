@@ -57,6 +57,13 @@ const REFUSED: Row = Row { told: "", ..L };
 #[rattlefmt::skip]
 const SOON: Row = Row { turns: 3, reports: 1, times: &[0, 1, 2], texts: &[], told: "", ..L };
 
+/// Nine reports in two seconds.
+#[rattlefmt::skip]
+const TIMED: Row = Row {
+    seconds: 2, reports: 9, times: &[0, 1_000_000_000, 2_000_000_000], report_every: 1_000_000_000,
+    told: WITHOUT_ANSWER, ..SOON
+};
+
 /// A run in which a call fails.
 const CUT: Row = Row {
     name: "a call fails",
@@ -142,6 +149,13 @@ pub const TURNS: &[Row] = &[
     Row { name: "every dial fails, and the report comes", times: &[0, 1_000_000_000, 2_000_000_000],
         report_every: 1_000_000_000, fails: &[2, 4, 6], told: "1 none NoAnswer", ..SOON },
     Row { name: "the CII session is quiet", ended: "Spent { turns: 3 }", ..SOON },
+    Row { name: "every dial fails for two seconds", fails: &[2, 4], ended: "Unreachable { turns: 3 }", ..TIMED },
+    Row { name: "in the last turn by time nothing is heard", fails: &[8], ended: "Spent { turns: 3 }",
+        texts: &[(1, Some("{}")), (1, Some("{}")), (1, Some("[]"))],
+        record: Some("HEADER; turn 0; cii 7b7d; turn 1000000000; report 1 none NoAnswer; cii 7b7d; \
+            turn 2000000000; report 2 none NoAnswer"), ..TIMED },
+    Row { name: "the session is hung up after the last turn by time", fails: &[7], ended: "NetFault", ..TIMED },
+    Row { name: "in the last turn by time the last report comes", reports: 2, ended: "Done", ..TIMED },
 ];
 
 /// Dials and writes that fail.

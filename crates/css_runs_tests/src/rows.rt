@@ -8,6 +8,8 @@ use std::alloc::{AllocError, Global};
 pub struct Row {
     pub name: &'static str,
     pub turns: u64,
+    /// How many seconds the run goes on: where there are some, they bound it in place of the turns.
+    pub seconds: u64,
     /// The greatest error of the end's own clock, in 1/256 ppm.
     pub error: u32,
     /// A television's script, and whether it promises follow-ups.
@@ -45,6 +47,7 @@ pub struct Row {
 pub const QUIET: Row = Row {
     name: "nothing comes",
     turns: 1,
+    seconds: 0,
     error: 0,
     script: "",
     follow: false,

@@ -3,6 +3,7 @@ ghost use Rattle.std.specs.Prelude.{◌≡◌, ◌≤◌, negsuc, All, IfOk, IfS
 ghost use Rattle.std.specs.Str.{IsUtf8};
 ghost use Rattle.css_drive.specs.Configs.{IsWindow, IsWritable};
 ghost use Rattle.css_drive_relay.specs.Ran.{IsWritable as IsWritableRelay};
+ghost use Rattle.css_outside.specs.Limits.{IsLimit};
 ghost use Rattle.css_schedule.specs.Ranges.{IsScriptLine};
 
 use crate::noted::Noted;
@@ -13,7 +14,7 @@ use css_drive::{DriveConfig, Driven, Listens, drive_companion, drive_tv};
 use css_drive_relay::{RelayRun, drive_relay};
 use css_memory::MemorySink;
 use css_num::Text;
-use css_outside::Address;
+use css_outside::{Address, Limit};
 use css_record::drive_record;
 use css_schedule::{ScriptLine, read_script};
 use css_tsmsg::Bound;
@@ -34,6 +35,17 @@ fn amount(rt: &impl Abort, value: u64, most: u64) -> u64
 {
     assert!(rt; 1 <= value && value <= most);
     value
+}
+
+/// How long the run of a row goes on.
+fn limit_of(rt: &impl Abort, row: &Row) -> Limit
+    ensures { IsLimit result }
+{
+    if row.seconds == 0 {
+        Limit::Turns(amount(rt, row.turns, 1_000_000))
+    } else {
+        Limit::Seconds(amount(rt, row.seconds, 31_536_000))
+    }
 }
 
 /// What an end wants of the television as a companion.
@@ -85,7 +97,7 @@ fn companion_config(rt: &impl Abort, alloc: Global, row: &Row) -> DriveConfig
         companion: wanted_of(rt, alloc, row, "urn:dvb:css:timeline:pts"),
         cii: cii_of(rt, alloc),
         reports: amount(rt, row.reports, 1_000_000),
-        turns: amount(rt, row.turns, 1_000_000),
+        limit: limit_of(rt, row),
         report_every: amount(rt, row.report_every, 1_000_000_000_000),
         ask_every: amount(rt, row.ask_every, 1_000_000_000_000),
         present: window_of(row.presents),
@@ -139,7 +151,7 @@ fn end_words(alloc: Global, driven: &Driven) -> Result<String, AllocError> {
             "BadLine {{ line: {line}, why: {why:?} }}"
         ),
         Driven::WriteFault => format!(in alloc; "WriteFault"),
-        Driven::NetFault => format!(in alloc; "NetFault"),
+        Driven::NetFault(_) => format!(in alloc; "NetFault"),
         Driven::BadCii { text, fault } => format!(in alloc;
             "BadCii {{ text: {text}, fault: {fault:?} }}"
         ),

@@ -2,6 +2,7 @@ use Rattle.std.proofs.Common.{◌≡◌, ℕ, ◌<◌, ◌≤◌, refl, sym, ◌
 use Rattle.std.specs.Prelude.{nat_lt}
 use Rattle.std.proofs.lemmas.Grind.{common_steps}
 use Rattle.css_drive.specs.CompanionStanding.{IsHangingUp}
+use Rattle.css_drive.specs.CompanionTurns.{goes_on}
 use Rattle.css_drive.specs.Ends.{CountsDialFaults}
 use Rattle.css_drive.specs.declared.driven.Driven.{Driven}
 use Rattle.css_drive.proofs.CompanionSteps.{knows_lawful}
@@ -16,14 +17,18 @@ turns-init g c = record {
   floor = omega (arith, c.requires.floor);
   reported = omega arith;
   dials = omega arith;
-  tried = λ some. absurd (omega (arith, some));
+  tried = λ begun. absurd (begun refl);
 }
+
+pub goes_on-requires : goal.goes_on-requires
+goes_on-requires g c = c.args.config.now.limit_range
 
 pub turns-preserved : goal.turns-preserved
 turns-preserved g c =
     let cfg = c.args.config.now in
     let w = c.turns.invariant.run in
-    let more : nat_lt c.turns.live.made cfg.turns ≡ true = grind (arith, common_steps) in
+    let more : goes_on cfg.limit c.turns.live.first c.turns.live.turn c.turns.live.made ≡ true = sym c.goes_on.ensures
+    ∙ c.turns-test.true in
     let few : nat_lt c.turns.live.reported cfg.reports ≡ true = grind (arith, common_steps) in
     let d = ends.next_turn cfg _ _ _ c.turns.live w.history w.stands w.next few more in
     record {
@@ -31,11 +36,15 @@ turns-preserved g c =
       floor = c.in-Ok.ensures.floor;
       reported = c.in-Ok.ensures.reported;
       dials = omega (arith, c.turn.ensures.dials, c.turns.invariant.dials);
-      tried = λ some none. runs.risen_from _ _ _ c.turns.invariant.dials (c.in-Ok.ensures.tried none);
+      tried = c.in-Ok.ensures.tried _ c.turns.invariant.dials c.turns.invariant.tried;
     }
 
 pub turn-requires-clause-floor : goal.turn-requires-clause-floor
 turn-requires-clause-floor g c = c.turns.invariant.floor
+
+pub turn-requires-clause-made : goal.turn-requires-clause-made
+turn-requires-clause-made g c =
+    ends.below_most _ _ _ _ c.args.config.now.limit_range (sym c.goes_on.ensures ∙ c.turns-test.true)
 
 pub turn-requires-clause-reported : goal.turn-requires-clause-reported
 turn-requires-clause-reported g c = c.turns.invariant.reported
@@ -47,7 +56,8 @@ pub returns-in-Err-clause-made : goal.returns-in-Err-clause-made
 returns-in-Err-clause-made g c =
     let cfg = c.args.config.now in
     let w = c.turns.invariant.run in
-    let more : nat_lt c.turns.live.made cfg.turns ≡ true = grind (arith, common_steps) in
+    let more : goes_on cfg.limit c.turns.live.first c.turns.live.turn c.turns.live.made ≡ true = sym c.goes_on.ensures
+    ∙ c.turns-test.true in
     let few : nat_lt c.turns.live.reported cfg.reports ≡ true = grind (arith, common_steps) in
     let d = ends.next_turn cfg _ _ _ c.turns.live w.history w.stands w.next few more in
     runs.made_of cfg _ _ _ _ _ _ c.ended_by.ensures (c.in-Err.ensures.goes _ _ w.history w.stands w.known d)
@@ -56,7 +66,8 @@ pub returns-in-Err-clause-net_faults : goal.returns-in-Err-clause-net_faults
 returns-in-Err-clause-net_faults g c =
     let cfg = c.args.config.now in
     let w = c.turns.invariant.run in
-    let more : nat_lt c.turns.live.made cfg.turns ≡ true = grind (arith, common_steps) in
+    let more : goes_on cfg.limit c.turns.live.first c.turns.live.turn c.turns.live.made ≡ true = sym c.goes_on.ensures
+    ∙ c.turns-test.true in
     let few : nat_lt c.turns.live.reported cfg.reports ≡ true = grind (arith, common_steps) in
     let d = ends.next_turn cfg _ _ _ c.turns.live w.history w.stands w.next few more in
     runs.counted_of cfg _ _ _ _ _ _ c.ended_by.ensures (c.in-Err.ensures.goes _ _ w.history w.stands w.known d)
@@ -72,7 +83,8 @@ pub returns-clause-made : goal.returns-clause-made
 returns-clause-made g c =
     let cfg = c.args.config.now in
     let w = c.turns.invariant.run in
-    let over : nat_lt c.turns.live.made cfg.turns ≡ false = grind (arith, common_steps) in
+    let over : goes_on cfg.limit c.turns.live.first c.turns.live.turn c.turns.live.made ≡ false = sym c.goes_on.ensures
+    ∙ c.turns-test.false in
     let few : nat_lt c.turns.live.reported cfg.reports ≡ true = grind (arith, common_steps) in
     let P : Driven → Type 0 = λ x. IsHangingUp cfg x w.history in
     let hanging = subst P (sym c.ending-end.ensures) (ends.is_over cfg _ _ _ c.turns.live w.history w.stands w.next few
@@ -84,7 +96,8 @@ pub returns-clause-net_faults : goal.returns-clause-net_faults
 returns-clause-net_faults g c =
     let cfg = c.args.config.now in
     let w = c.turns.invariant.run in
-    let over : nat_lt c.turns.live.made cfg.turns ≡ false = grind (arith, common_steps) in
+    let over : goes_on cfg.limit c.turns.live.first c.turns.live.turn c.turns.live.made ≡ false = sym c.goes_on.ensures
+    ∙ c.turns-test.false in
     let few : nat_lt c.turns.live.reported cfg.reports ≡ true = grind (arith, common_steps) in
     let P : Driven → Type 0 = λ x. IsHangingUp cfg x w.history in
     let hanging = subst P (sym c.ending-end.ensures) (ends.is_over cfg _ _ _ c.turns.live w.history w.stands w.next few
@@ -95,9 +108,10 @@ returns-clause-net_faults g c =
 pub returns-clause-dial_faults : goal.returns-clause-dial_faults
 returns-clause-dial_faults g c =
     let i = c.turns.invariant in
-    let some : 1 ≤ c.turns.live.made = grind (arith, common_steps, c.args.config.now.some_turns) in
-    let hung = runs.hung_dials _ _ c.args.config.now.turns c.turns.live.cii c.turns.live.wc c.turns.live.ts _ _ _ i.dials
-    (i.tried some) c.ending-end.ensures c.hang_up-ended.ensures.kind in
+    let begun = ends.has_begun c.args.config.now _ _ _ c.turns.live i.run.history i.run.stands (sym c.goes_on.ensures
+    ∙ c.turns-test.false) in
+    let hung = runs.hung_dials _ _ c.turns.live.made c.turns.live.cii c.turns.live.wc c.turns.live.ts _ _ _ i.dials
+    (i.tried begun) c.ending-end.ensures c.hang_up-ended.ensures.kind in
     let P : ℕ → Type 0 = λ n. CountsDialFaults (g.O.Outside.counts c.args.outside.now).dial_faults n c.ended_by-2.result in
     subst P (sym c.hang_up-ended.ensures.dials) (subst (CountsDialFaults _ _) (sym c.ended_by-2.ensures) (runs.final_dials
     (g.W.Observes.over c.turns.observer) _ _ _ hung i.dials))

@@ -1,7 +1,7 @@
-use Rattle.std.proofs.Common.{◌≡◌, ◌-◌, ◌≤◌, ◌<◌, None}
-use Rattle.css_outside.specs.Faults.{HasRisen}
+use Rattle.std.proofs.Common.{◌-◌, ◌≤◌, ◌<◌}
+use Rattle.css_outside.specs.Limits.{most_turns}
 use Rattle.css_drive.specs.CompanionDue.{from_end}
-use Rattle.css_drive.specs.CompanionStanding.{Comes, shown}
+use Rattle.css_drive.specs.CompanionStanding.{Comes, HasTried, shown}
 use Rattle.css_drive.proofs.companion_turns.drive.Given as goal
 
 abbrev pub invariant-turns : goal.invariant-turns
@@ -12,9 +12,8 @@ invariant-turns g l = record {
   floor : l.companion.client.floor ≤ (g.O.Outside.counts l.outside).last;
   reported : l.live.reported < l.config.reports;
   dials : (g.O.Outside.counts l.fn.outside).dial_faults ≤ (g.O.Outside.counts l.outside).dial_faults;
-  tried : 1 ≤ l.live.made → l.live.cii ≡ None
-      → HasRisen (g.O.Outside.counts l.fn.outside).dial_faults (g.O.Outside.counts l.outside).dial_faults;
+  tried : HasTried (g.O.Outside.counts l.fn.outside).dial_faults (g.O.Outside.counts l.outside).dial_faults l.live;
 }
 
 abbrev pub decreases-turns : goal.decreases-turns
-decreases-turns g l = l.config.turns - l.live.made
+decreases-turns g l = most_turns l.config.limit - l.live.made
