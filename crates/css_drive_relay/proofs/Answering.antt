@@ -1,6 +1,6 @@
 -- Why what a relay sends in answer answers a request that it took.
 use Rattle.std.proofs.Common.{◌≡◌, ℕ, subst, refl, Bool, true, false, List, [], ◌∷◌, Option, Some, None, inl}
-use Rattle.std.proofs.Common.{inr, Result, Ok, Err}
+use Rattle.std.proofs.Common.{inr, cond, Result, Ok, Err}
 use Rattle.css_model.specs.declared.Message.{Message}
 use Rattle.css_model.specs.declared.Why.TheVariants as why
 use Rattle.css_model.specs.History.{Entry, History, Once, Listening, Slept, Clock, Dialling, Dialled, NotDialled, Accepted}
@@ -8,6 +8,7 @@ use Rattle.css_model.specs.History.{NoneCame, Sent, Took, TookNone, Quiet, Heard
 use Rattle.css_model.specs.WallClock.{Local}
 use Rattle.css_cii.specs.declared.state.State.{State}
 use Rattle.css_companion.specs.declared.fault.CompanionFault.{CompanionFault}
+use Rattle.css_drive.specs.CompanionTurns.{is_late}
 use Rattle.css_relay.specs.Answers.{Ticket, received_after, answered_after, datagram_of}
 use Rattle.css_relay.specs.declared.fault.RelayFault.{RelayFault}
 use Rattle.css_relay.proofs.TwoHops as two
@@ -15,6 +16,7 @@ use Rattle.css_drive_relay.specs.Places.{Place, Facts, Received, Answers, Taken,
 use Rattle.css_drive_relay.specs.Places.{Rejecting, Dropping, Over, progress_of, next_asked, telling, telling_if}
 use Rattle.css_drive_relay.specs.Places.{opened_if, television_told, sent, hung_up, passed, heard, closed, told, gone}
 use Rattle.css_drive_relay.specs.Places.{received, received_at, answering, answered_at, lost, without_first}
+use Rattle.css_drive_relay.specs.Places.{Asked, Begun, with_turn}
 use Rattle.css_drive_relay.specs.Laws.{IsAnswerTo, AnswersAreTrueTo}
 use Rattle.css_drive_relay.specs.declared.config.RelayRun.{RelayRun}
 
@@ -69,6 +71,10 @@ later own history entry (Answers peer bytes) t = answered_later entry t
 later own history entry _ t = tt
 
 -- ---- places that tell nothing
+none_begun : (own : Local) (history : History) (b : Bool) → Tells own history (cond b (Asked []) Begun)
+none_begun own history true = tt
+none_begun own history false = tt
+
 none_next : (own : Local) (history : History) (o : Option ℕ) (peers : List ℕ) → Tells own history (next_asked o peers)
 none_next own history None peers = tt
 none_next own history (Some p) peers = tt
@@ -193,7 +199,9 @@ tells : (run : RelayRun) (history : History) → Tells run.companion.local histo
 tells run [] = tt
 tells run (Listening host port ∷ older) = tt
 tells run (Slept ∷ older) = later run.companion.local older Slept (progress_of run older).place (tells run older)
-tells run (Clock why.Turn reading ∷ older) = tt
+tells run (Clock why.Turn reading ∷ older) =
+    let f : Facts = with_turn reading (progress_of run older).facts in
+    none_begun run.companion.local (Clock why.Turn reading ∷ older) (is_late run.limit f.first f.turn)
 tells run (Clock why.Ask reading ∷ older) = tt
 tells run (Clock why.Land reading ∷ older) = tt
 tells run (Clock why.Take reading ∷ older) =

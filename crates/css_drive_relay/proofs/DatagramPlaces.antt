@@ -1,11 +1,12 @@
 -- What the places of a relay's run say of its last calls: which clock was read for a datagram.
 use Rattle.std.proofs.Common.{◌≡◌, ℕ, Bool, true, false, List, [], ◌∷◌, ◌++◌, Option, Some, None, length}
-use Rattle.std.proofs.Common.{refl, sym, ap, subst, inl, inr}
+use Rattle.std.proofs.Common.{refl, sym, ap, subst, inl, inr, cond}
 use Rattle.std.specs.Prelude.{is_some, ⊤, Result, Ok, Err}
 use Rattle.std.specs.Result.{result_ok}
 use Rattle.css_cii.specs.declared.state.State.{State}
 use Rattle.css_companion.specs.declared.fault.CompanionFault.{CompanionFault}
 use Rattle.css_drive.specs.CompanionDue.{refusal_of, send_to}
+use Rattle.css_drive.specs.CompanionTurns.{is_late}
 use Rattle.css_model.specs.Wire.{encoded, request_at}
 use Rattle.css_model.specs.WallClock.{Local}
 use Rattle.css_drive.specs.Proper.{Due, Listen, Now, Dial, Accept, SendDatagram, TakeDatagram, TakeText, SendText}
@@ -27,7 +28,7 @@ use Rattle.css_relay.specs.Answers.{Ticket, received_after, answered_after, data
 use Rattle.css_relay.specs.declared.fault.RelayFault.{RelayFault}
 use Rattle.css_drive_relay.specs.Places as places
 use Rattle.css_drive_relay.specs.Places.{Place, Taken, Received, Asking, Answers, Welcomed, Greeting, Telling}
-use Rattle.css_drive_relay.specs.Places.{Asked, Rejecting}
+use Rattle.css_drive_relay.specs.Places.{Asked, Begun, Rejecting}
 use Rattle.css_drive_relay.specs.Places.{Dropping, Over, Facts, progress_of, is_kept, next_asked, telling, telling_if}
 use Rattle.css_drive_relay.specs.Due.{due_at, from_taken, IsProperRelay}
 use Rattle.css_drive_relay.specs.SecondHop.{given_at, given_by, IsResponse}
@@ -49,6 +50,13 @@ IsIdle (Taken peer bytes) = ⊥
 IsIdle (Asking reading) = ⊥
 IsIdle (Answers peer datagram) = ⊥
 IsIdle _ = ⊤
+
+free_begun : (run : RelayRun) (f : Facts) → IsFree (places.begun run f)
+free_begun run f = by (is_late run.limit f.first f.turn)
+  where
+    by : (b : Bool) → IsFree (cond b (Asked []) Begun)
+    by true = tt
+    by false = tt
 
 free_next : (o : Option ℕ) (peers : List ℕ) → IsFree (next_asked o peers)
 free_next None peers = tt
@@ -169,7 +177,8 @@ shape_free run h free = shows_free run h (progress_of run h).place free
 -- ---- a call at a place that is for no datagram
 idle_clock : (run : RelayRun) (h : History) → IsIdle (progress_of run h).place → (w : Why) (reading : ℕ)
     → Shape run (Clock w reading ∷ h)
-idle_clock run h idle why.Turn reading = tt
+idle_clock run h idle why.Turn reading =
+    shape_free run (Clock why.Turn reading ∷ h) (free_begun run (places.with_turn reading (progress_of run h).facts))
 idle_clock run h idle why.Ask reading = (h, refl)
 idle_clock run h idle why.Land reading = tt
 idle_clock run h idle why.Take reading =

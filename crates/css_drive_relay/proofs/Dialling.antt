@@ -11,9 +11,10 @@ use Rattle.css_companion.specs.Meanings.{state_of}
 use Rattle.css_relay.specs.Relays.{Relay}
 use Rattle.css_drive.specs.CompanionDue.{dial_first, dial_to, place}
 use Rattle.css_drive.specs.CompanionStanding.{Shown, HasDialled, GivesPlace}
-use Rattle.css_drive.specs.Ends.{MayEnd}
+use Rattle.css_drive.specs.Ends.{MayEnd, IsNetFault}
 use Rattle.css_drive.specs.Proper.{Due, Dial}
 use Rattle.css_drive.specs.declared.driven.Driven.{Driven}
+use Rattle.css_drive.specs.declared.driven.Driven.TheVariants as driven
 use Rattle.css_drive.proofs.CompanionCalls.{bad_place, bad_quiet}
 use Rattle.css_drive_relay.specs.Places.{Facts, Place, Begun, Called, Progress, after}
 use Rattle.css_drive_relay.specs.Due.{due_at, from_wc, from_ask}
@@ -41,6 +42,12 @@ pub wc_made : (o : Option ℕ) (url found : Option (Result Address AddressFault)
     → url ≡ found → dial_to o kind.Wc WcUrl url rest ≡ dial_to None kind.Wc WcUrl found rest
 wc_made None url found rest e f = ap (λ x. dial_to None kind.Wc WcUrl x rest) f
 wc_made (Some p) url found rest e f = absurd (cc)
+
+-- no call failed
+place_quiet : (url : Option (Result Address AddressFault)) (ended : Driven) → GivesPlace WcUrl url (Err ended)
+    → IsNetFault ended → ⊥
+place_quiet url (driven.NetFault failure) g failed = bad_quiet WcUrl url g
+place_quiet url ended g failed = failed
 
 -- the address of the wall clock in a state
 abbrev pub wc_place : State → Option (Result Address AddressFault)
@@ -133,8 +140,7 @@ module _ (live : Live) {run : RelayRun} {start now : Shown} {relay : Relay} {his
         → (url : Option (Result Address AddressFault)) → place kind.Wc (state_of history).wc_url ≡ url
         → (ended : Driven) → GivesPlace WcUrl url (Err ended) → Stops run start now ended
     wc_ended s is-due none url found ended g =
-        let P : Driven → Type 0 = λ x. GivesPlace WcUrl url (Err x) in
         let Q : Due → Type 0 = λ x. MayEnd x ended in
-        stops_here s.runs (lawful s.knows) ended (λ e. bad_quiet WcUrl url (subst P e g))
+        stops_here s.runs (lawful s.knows) ended (place_quiet url ended g)
         (subst Q (sym (is-due ∙ wc_made live.wc _ _ (from_ask run (facts_in live) history) none found))
         (bad_place WcUrl url kind.Wc (from_ask run (facts_in live) history) ended g))

@@ -3,12 +3,14 @@ use Rattle.css_cii.specs.States.{empty}
 use Rattle.css_cii.specs.declared.state.State.{State}
 use Rattle.std.proofs.Common.{◌≡◌, ap₂, ℕ, ◌≤◌, ◌<◌, arith, ap, sym, ◌∙◌, subst, refl, Bool, true, false, cond, inl, inr}
 use Rattle.std.proofs.Common.{List, [], ◌∷◌, ◌++◌, drop, Option, Some, None}
-use Rattle.std.specs.Prelude.{◌⊎◌, ◌||◌, ◌+◌, is_some, nat_lt}
+use Rattle.std.specs.Prelude.{◌⊎◌, ◌||◌, ◌+◌, ◌&&◌, ◌*◌, is_some, nat_lt, nat_le, not, unwrap_or}
+use Rattle.std.specs.Option.{ForSome}
 use Rattle.std.proofs.lemmas.List.Elements.{All-nil}
 use Rattle.css_model.specs.History.{HungUp, History}
 use Rattle.css_outside.specs.Faults.{HasRisen}
 use Rattle.css_relay.specs.Relays.{Relay}
 use Rattle.css_drive.specs.CompanionStanding.{Shown, Adds, IsFault, IsCut}
+use Rattle.css_drive.specs.CompanionTurns.{goes_on, is_late}
 use Rattle.css_drive.specs.Ends.{MayEnd, IsNetFault, CountsDialFaults}
 use Rattle.css_drive.specs.Proper.{Due, Now, HangUp, Ends}
 use Rattle.css_model.specs.declared.Why.TheVariants as why
@@ -18,7 +20,10 @@ use Rattle.css_drive_relay.specs.Places.{Facts, Place, Progress, Asked, Over, af
 use Rattle.css_drive_relay.specs.Due.{due_at, final, from_hang_ups}
 use Rattle.css_drive_relay.specs.Standing.{IsAccepted, Runs, Stands, IsAt, Stops, IsHanging, HangsUp, KeepsDials}
 use Rattle.css_drive_relay.specs.Standing.{facts_in, stood}
+use Rattle.css_outside.specs.Limits.{IsLimit, most_turns}
 use Rattle.css_outside.specs.Outsides.{Counts}
+use Rattle.css_outside.specs.declared.limit.Limit.{Limit}
+use Rattle.css_outside.specs.declared.limit.Limit.TheVariants.{Turns, Seconds}
 use Rattle.css_drive_relay.specs.declared.config.RelayRun.{RelayRun}
 use Rattle.css_drive_relay.specs.declared.live.Live.{Live}
 use Rattle.css_drive_relay.proofs.Peers.{accepted, television, unused}
@@ -28,32 +33,25 @@ use Rattle.css_drive_relay.proofs.Steps.{knows_plain, knows_clock, lawful, runs_
 use Rattle.css_drive_relay.proofs.Steps.{numbers_read}
 use Rattle.css_drive_relay.proofs.Steps.{stops_here}
 use Rattle.css_drive_relay.specs.Ran.{RelayRan}
-use Rattle.css_drive_relay.specs.Places.{Begun, beginning}
-use Rattle.css_drive_relay.specs.Standing.{Knows, HasRead, listening}
+use Rattle.css_drive_relay.specs.Places as places
+use Rattle.css_drive_relay.specs.Places.{Begun, beginning, with_turn}
+use Rattle.css_drive_relay.specs.Standing.{Knows, HasRead, listening, named}
 use Rattle.css_drive.specs.Proper.{Listen, Empty}
 use Rattle.css_model.specs.History.{Listening}
 use Rattle.css_outside.specs.Outsides.{with_entries, clock_entries}
 use Rattle.css_outside.specs.declared.calls.Clocked.{Clocked}
 use Rattle.std.proofs.lemmas.Bool.Decides.{nat_tests}
 
-made_all : (made turns : ℕ) → turns ≤ made → (x y : Due) → cond (nat_lt made turns) x y ≡ y
-made_all made turns le x y = by (nat_lt made turns) refl
-  where
-    by : (b : Bool) → nat_lt made turns ≡ b → cond b x y ≡ y
-    by true e = absurd (grind (arith, nat_tests, le, e))
-    by false e = refl
-
 module _ (run : RelayRun) (live : Live) (history : History) where
   -- what is due as so many of them were hung up
-  pub due_hanging : run.turns ≤ live.made → (index : ℕ) (place : Place)
+  pub due_hanging : goes_on run.limit live.first live.turn live.made ≡ false → (index : ℕ) (place : Place)
       → IsHanging (all_open (facts_in live)) index place
       → due_at run (facts_in live) history place
-      ≡ from_hang_ups (final run (facts_in live)) (drop index (all_open (facts_in live)))
+      ≡ from_hang_ups (final (facts_in live)) (drop index (all_open (facts_in live)))
   due_hanging enough index place (inl e) =
       ap (due_at run (facts_in live) history) e.1
-      ∙ made_all live.made run.turns enough (Now why.Turn)
-      (from_hang_ups (final run (facts_in live)) (all_open (facts_in live)))
-      ∙ ap (λ n. from_hang_ups (final run (facts_in live)) (drop n (all_open (facts_in live)))) (sym e.0)
+      ∙ ap (λ b. cond b (Now why.Turn) (from_hang_ups (final (facts_in live)) (all_open (facts_in live)))) enough
+      ∙ ap (λ n. from_hang_ups (final (facts_in live)) (drop n (all_open (facts_in live)))) (sym e.0)
   due_hanging enough index place (inr e) = ap (due_at run (facts_in live) history) e
 
 -- one more was
@@ -71,7 +69,7 @@ after_hanging run live history peer index rest place (inr e) is =
 
 module _ {run : RelayRun} {start now : Shown} {live : Live} {relay : Relay} where
   pub hung : {index : ℕ} (next : Shown) → HangsUp run start now relay live (all_open (facts_in live)) index
-      → run.turns ≤ live.made → (peer later : ℕ)
+      → goes_on run.limit live.first live.turn live.made ≡ false → (peer later : ℕ)
       → drop index (all_open (facts_in live)) ≡ peer ∷ drop later (all_open (facts_in live))
       → Adds now next (HungUp peer ∷ [])
       → HangsUp run start next relay live (all_open (facts_in live)) later
@@ -85,7 +83,7 @@ module _ {run : RelayRun} {start now : Shown} {live : Live} {relay : Relay} wher
         stands = record {
           runs = runs_more x.stands.runs (HangUp peer)
               (due_hanging run live x.history enough index x.place x.hanging
-              ∙ ap (from_hang_ups (final run (facts_in live))) is) (HungUp peer ∷ []) refl next a.told
+              ∙ ap (from_hang_ups (final (facts_in live))) is) (HungUp peer ∷ []) refl next a.told
               (same_faults a.same) (stood live (Over rest))
               (ap (λ (p : Progress). after run (HungUp peer) x.history p) x.stands.runs.progress
               ∙ after_hanging run live x.history peer index rest x.place x.hanging is)
@@ -101,20 +99,20 @@ module _ {run : RelayRun} {start now : Shown} {live : Live} {relay : Relay} wher
 
   -- all of them were
   pub all_hung : {index : ℕ} → HangsUp run start now relay live (all_open (facts_in live)) index
-      → run.turns ≤ live.made → drop index (all_open (facts_in live)) ≡ []
-      → Stops run start now (final run (facts_in live))
+      → goes_on run.limit live.first live.turn live.made ≡ false → drop index (all_open (facts_in live)) ≡ []
+      → Stops run start now (final (facts_in live))
   all_hung {index} x enough none =
-      stops_here x.stands.runs (lawful x.stands.knows) (final run (facts_in live))
+      stops_here x.stands.runs (lawful x.stands.knows) (final (facts_in live))
       (never (is_some live.cii || is_some live.wc))
       (ends (is_some live.cii || is_some live.wc) (due_at run (facts_in live) x.history x.place)
-      (due_hanging run live x.history enough index x.place x.hanging ∙ ap (from_hang_ups (final run (facts_in live))) none))
+      (due_hanging run live x.history enough index x.place x.hanging ∙ ap (from_hang_ups (final (facts_in live))) none))
     where
-      never : (b : Bool) → IsNetFault (cond b driven.Done (driven.Unreachable run.turns)) → ⊥
+      never : (b : Bool) → IsNetFault (cond b driven.Done (driven.Unreachable live.made)) → ⊥
       never true e = e
       never false e = e
 
-      ends : (b : Bool) (d : Due) → d ≡ Ends (cond b driven.Done (driven.Unreachable run.turns))
-          → MayEnd d (cond b driven.Done (driven.Unreachable run.turns))
+      ends : (b : Bool) (d : Due) → d ≡ Ends (cond b driven.Done (driven.Unreachable live.made))
+          → MayEnd d (cond b driven.Done (driven.Unreachable live.made))
       ends true d e = e
       ends false d e = e
 
@@ -136,28 +134,28 @@ keeps_on a b = record { made = b.made ∙ a.made; dials = b.dials ∙ a.dials; c
 
 -- ---- what is counted
 -- where a dial succeeded, or one failed
-pub ending_counts : (run : RelayRun) (f : Facts) (before now : ℕ) → before ≤ now
-    → (f.cii ≡ None → HasRisen before now) → (ended : Driven) → (ended ≡ final run f) ⊎ IsFault ended
+pub ending_counts : (f : Facts) (before now : ℕ) → before ≤ now
+    → (f.cii ≡ None → HasRisen before now) → (ended : Driven) → (ended ≡ final f) ⊎ IsFault ended
     → CountsDialFaults before now ended
-ending_counts run f before now le tried ended (inl e) =
+ending_counts f before now le tried ended (inl e) =
     let P : Driven → Type 0 = λ x. CountsDialFaults before now x in
     subst P (sym e) (by f.cii (is_some f.wc) tried)
   where
     by : (o : Option ℕ) (b : Bool) → (o ≡ None → HasRisen before now)
-        → CountsDialFaults before now (cond (is_some o || b) driven.Done (driven.Unreachable run.turns))
+        → CountsDialFaults before now (cond (is_some o || b) driven.Done (driven.Unreachable f.turns))
     by None true tried = le
     by None false tried = tried refl
     by (Some p) b tried = le
-ending_counts run f before now le tried (driven.NetFault failure) (inr c) = le
-ending_counts run f before now le tried driven.Memory (inr c) = le
-ending_counts run f before now le tried driven.WriteFault (inr c) = absurd c
-ending_counts run f before now le tried driven.Done (inr c) = absurd c
-ending_counts run f before now le tried (driven.BadLine line why) (inr c) = absurd c
-ending_counts run f before now le tried (driven.BadCii text fault) (inr c) = absurd c
-ending_counts run f before now le tried (driven.Moved property old new) (inr c) = absurd c
-ending_counts run f before now le tried (driven.Spent n) (inr c) = absurd c
-ending_counts run f before now le tried (driven.Unreachable n) (inr c) = absurd c
-ending_counts run f before now le tried (driven.BadUrl property) (inr c) = absurd c
+ending_counts f before now le tried (driven.NetFault failure) (inr c) = le
+ending_counts f before now le tried driven.Memory (inr c) = le
+ending_counts f before now le tried driven.WriteFault (inr c) = absurd c
+ending_counts f before now le tried driven.Done (inr c) = absurd c
+ending_counts f before now le tried (driven.BadLine line why) (inr c) = absurd c
+ending_counts f before now le tried (driven.BadCii text fault) (inr c) = absurd c
+ending_counts f before now le tried (driven.Moved property old new) (inr c) = absurd c
+ending_counts f before now le tried (driven.Spent n) (inr c) = absurd c
+ending_counts f before now le tried (driven.Unreachable n) (inr c) = absurd c
+ending_counts f before now le tried (driven.BadUrl property) (inr c) = absurd c
 
 -- a run that is cut counts no failed dial
 pub cut_counts : (before now : ℕ) → before ≤ now → (ended : Driven) → IsCut ended → CountsDialFaults before now ended
@@ -176,14 +174,13 @@ cut_counts before now le (driven.Unreachable n) c = absurd c
 pub cut_writes : (ended : Driven) → IsCut ended → ended ≡ driven.WriteFault → ⊥
 cut_writes ended c e = let P : Driven → Type 0 = λ x. IsCut x in absurd (subst P e c)
 
-pub ending_writes : (run : RelayRun) (f : Facts) (ended : Driven) → (ended ≡ final run f) ⊎ IsFault ended
-    → ended ≡ driven.WriteFault → ⊥
-ending_writes run f ended (inl e) is = by (is_some f.cii || is_some f.wc) (sym e ∙ is)
+pub ending_writes : (f : Facts) (ended : Driven) → (ended ≡ final f) ⊎ IsFault ended → ended ≡ driven.WriteFault → ⊥
+ending_writes f ended (inl e) is = by (is_some f.cii || is_some f.wc) (sym e ∙ is)
   where
-    by : (b : Bool) → cond b driven.Done (driven.Unreachable run.turns) ≡ driven.WriteFault → ⊥
+    by : (b : Bool) → cond b driven.Done (driven.Unreachable f.turns) ≡ driven.WriteFault → ⊥
     by true e = cc
     by false e = cc
-ending_writes run f ended (inr c) is = let P : Driven → Type 0 = λ x. IsFault x in absurd (subst P is c)
+ending_writes f ended (inr c) is = let P : Driven → Type 0 = λ x. IsFault x in absurd (subst P is c)
 
 pub dials_same : (before mid now : ℕ) (ended : Driven) → now ≡ mid → CountsDialFaults before mid ended
     → CountsDialFaults before now ended
@@ -256,6 +253,7 @@ ran_none run told = record {
 pub first_facts : (state : State) (peers : List ℕ) → state ≡ empty → peers ≡ []
     → ◌≡◌ {A = Facts} (record {
       turns = 0;
+      first = None;
       turn = None;
       asked = None;
       cii = None;
@@ -266,6 +264,7 @@ pub first_facts : (state : State) (peers : List ℕ) → state ≡ empty → pee
     }) beginning.facts
 first_facts state peers e f = ap₂ (λ (s : State) (p : List ℕ). record {
   turns = 0;
+  first = None;
   turn = None;
   asked = None;
   cii = None;
@@ -282,32 +281,84 @@ begins f {run} {start} {now} {relay} {history} e s =
     subst (λ (x : Facts). Stands run start now relay (record { facts = x; place = Asked [] }) history) (sym e) s
 
 -- ---- turns
-pub turn_due : (run : RelayRun) (live : Live) (history : History) → live.made < run.turns
+pub turn_due : (run : RelayRun) (live : Live) (history : History)
+    → goes_on run.limit live.first live.turn live.made ≡ true
     → due_at run (facts_in live) history (Asked []) ≡ Now why.Turn
-turn_due run live history few = by (nat_lt live.made run.turns) refl
+turn_due run live history on =
+    ap (λ b. cond b (Now why.Turn) (from_hang_ups (final (facts_in live)) (all_open (facts_in live)))) on
+
+-- how many there are at most
+most_few : (limit : Limit) → IsLimit limit → most_turns limit ≤ 1099511627776
+most_few (Turns turns) range = let few = range.1 in omega (arith, few)
+most_few (Seconds seconds) range = omega arith
+
+some_turns : (limit : Limit) → IsLimit limit → 1 ≤ most_turns limit
+some_turns (Turns turns) range = range.0
+some_turns (Seconds seconds) range = omega arith
+
+pub one_more : (run : RelayRun) (f : Facts) → goes_on run.limit f.first f.turn f.turns ≡ true
+    → f.turns < most_turns run.limit
+one_more run f on = by (nat_lt f.turns (most_turns run.limit)) refl on
   where
-    by : (b : Bool) → nat_lt live.made run.turns ≡ b
-        → cond b (Now why.Turn) (from_hang_ups (final run (facts_in live)) (all_open (facts_in live))) ≡ Now why.Turn
-    by true e = refl
-    by false e = absurd (grind (arith, nat_tests, few, e))
+    by : (b : Bool) → nat_lt f.turns (most_turns run.limit) ≡ b
+        → (b && not (is_late run.limit f.first f.turn)) ≡ true → f.turns < most_turns run.limit
+    by true e on = grind (arith, nat_tests, e)
+    by false e on = absurd cc
+
+pub few_turns : (run : RelayRun) (f : Facts) → goes_on run.limit f.first f.turn f.turns ≡ true
+    → f.turns < 1099511627776
+few_turns run f on =
+    let less = one_more run f on in
+    let most = most_few run.limit run.limit_range in
+    omega (arith, less, most)
+
+-- the turns are over only once one was begun
+pub was_begun : (limit : Limit) → IsLimit limit → (first this : Option ℕ) (made : ℕ)
+    → ForSome first (λ x. 1 ≤ made) → goes_on limit first this made ≡ false → 1 ≤ made
+was_begun limit range (Some first) this made some over = some first refl
+was_begun limit range None this made some over = by (nat_lt made (most_turns limit)) refl over
+  where
+    by : (b : Bool) → nat_lt made (most_turns limit) ≡ b → (b && true) ≡ false → 1 ≤ made
+    by true e over = absurd cc
+    by false e over = let least = some_turns limit range in grind (arith, nat_tests, e, least)
+
+-- the first turn isn't the last by its time
+pub was_second : (limit : Limit) → IsLimit limit → (first : Option ℕ) (made reading : ℕ)
+    → ForSome first (λ x. 1 ≤ made) → is_late limit (Some (unwrap_or first reading)) (Some reading) ≡ true → 1 ≤ made
+was_second limit range (Some first) made reading some last = some first refl
+was_second (Turns turns) range None made reading none last = absurd cc
+was_second (Seconds seconds) range None made reading none last =
+    let over : nat_le (reading + seconds * 1000000000) reading ≡ true = last in
+    let some = range.0 in
+    absurd (grind (arith, nat_tests, over, some))
+
+-- where the turn is the last by its time, and where it isn't
+pub begun_at : (run : RelayRun) (f : Facts) (last : Bool) → last ≡ is_late run.limit f.first f.turn
+    → places.begun run f ≡ cond last (Asked []) Begun
+begun_at run f last e = ap (λ b. cond b (Asked []) Begun) (sym e)
+
+none_named : (b : Bool) → named (cond b (Asked []) Begun) ≡ []
+none_named true = refl
+none_named false = refl
 
 pub begun : {run : RelayRun} {start now next : Shown} {was is : Relay} {live later last : Live} {history : History}
     → Stands run start now was (stood live (Asked [])) history
     → due_at run (facts_in live) history (Asked []) ≡ Now why.Turn → (clocked : Clocked)
     → HasRead now next live later was is why.Turn clocked
-    → facts_in last ≡ record (facts_in later) { turns = later.made + 1; turn = Some clocked.reading }
-    → IsAt run start next is last Begun
+    → facts_in last ≡ with_turn clocked.reading (facts_in later)
+    → IsAt run start next is last (places.begun run (facts_in last))
 begun {run} {next = next} {is = relay} {live} {later} {last} {history} s d clocked r e =
     let n = r.peers in
     record {
       history = clock_entries why.Turn clocked ++ history;
       stands = record {
-        runs = runs_read s.runs why.Turn d clocked next r (stood last Begun)
-            (ap (λ (f : Facts). record { facts = f; place = Begun }) (sym e))
+        runs = runs_read s.runs why.Turn d clocked next r (stood last (places.begun run (facts_in last)))
+            (ap (λ (f : Facts). record { facts = f; place = places.begun run f }) (sym e))
             (peers_quiet s.runs.peers (omega (arith, n)) (kinds_read why.Turn clocked history)
             (numbers_read next.counts.peers why.Turn clocked history (still s.runs.peers (omega (arith, n))))
             (ap {A = Facts} (λ x. x.peers) e ∙ ap {A = Facts} (λ x. x.peers) r.only)
-            (ap {A = Facts} (λ x. x.television) e ∙ ap {A = Facts} (λ x. x.television) r.only) refl);
+            (ap {A = Facts} (λ x. x.television) e ∙ ap {A = Facts} (λ x. x.television) r.only)
+            (none_named (is_late run.limit last.first last.turn)));
         knows = knows_clock clocked history why.Turn refl (λ older. refl) (r.known run history s.knows);
       };
     }

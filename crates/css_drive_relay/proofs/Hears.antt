@@ -15,9 +15,10 @@ use Rattle.css_companion.specs.declared.fault.CompanionFault.{CompanionFault}
 use Rattle.css_relay.specs.Relays.{Relay, wc_url_of, relayed_state}
 use Rattle.css_drive.specs.CompanionDue.{refusal_of, end_by}
 use Rattle.css_drive.specs.CompanionStanding.{Shown, Adds, Failed, IsRefusal}
-use Rattle.css_drive.specs.Ends.{MayEnd}
+use Rattle.css_drive.specs.Ends.{MayEnd, IsNetFault}
 use Rattle.css_drive.specs.Proper.{TakeText, SendText, HangUp, Ends}
 use Rattle.css_drive.specs.declared.driven.Driven.{Driven}
+use Rattle.css_drive.specs.declared.driven.Driven.TheVariants as driven
 use Rattle.css_drive.proofs.CompanionCalls.{refusal_ends, refusal_quiet, lawful_plain}
 use Rattle.css_drive_relay.specs.Places.{Facts, Progress, Asked, Welcomed, Dropping, after}
 use Rattle.css_drive_relay.specs.Places.{lost, next_asked, welcomed, telling, telling_if, published, television_told}
@@ -175,7 +176,6 @@ module _ (live : Live) {run : RelayRun} {start now next : Shown} {history : Hist
   refused peer bytes s k told faults le refusal is ended r =
       let state : State = relayed_state (wc_url_of run.host run.port) (state_of (Heard peer bytes ∷ history)) in
       let h : History = Heard peer bytes ∷ history in
-      let P : Driven → Type 0 = λ x. IsRefusal refusal x in
       stops_here
       (runs_more s (TakeText peer) refl (Heard peer bytes ∷ []) (session.Text bytes, refl) next told faults
       (television_told refusal state (facts_in live))
@@ -183,13 +183,17 @@ module _ (live : Live) {run : RelayRun} {start now next : Shown} {history : Hist
       ∙ ap (λ (x : Option CompanionFault). television_told x state (facts_in live)) is)
       (peers refusal))
       (lawful_plain (Heard peer bytes) history (lawful k) refl refl) ended
-      (λ e. refusal_quiet refusal (subst P e r)) (ends refusal r)
+      (quiet ended r) (ends refusal r)
     where
       h : History
       h = Heard peer bytes ∷ history
 
       state : State
       state = relayed_state (wc_url_of run.host run.port) (state_of (Heard peer bytes ∷ history))
+
+      quiet : (x : Driven) → IsRefusal refusal x → IsNetFault x → ⊥
+      quiet (driven.NetFault failure) r failed = refusal_quiet refusal failure r
+      quiet x r failed = failed
 
       peers : (x : Option CompanionFault) → KnowsPeers next.counts.peers (television_told x state (facts_in live)) h
       peers None = record {

@@ -1,7 +1,7 @@
 -- A relay's run that is done made all its turns.
 use Rattle.std.proofs.Common.{◌≡◌, ℕ, ◌+◌, ◌≤◌, ◌<◌, Bool, true, false, cond, List, [], ◌∷◌, ◌++◌, Option, Some, None}
 use Rattle.std.proofs.Common.{refl, sym, ap, subst, ◌∙◌, arith, inl, inr, take}
-use Rattle.std.specs.Prelude.{◌||◌, ◌&&◌, ◌⊎◌, nat_lt, is_some, ⊤, length, Result, Ok, Err}
+use Rattle.std.specs.Prelude.{◌||◌, ◌&&◌, ◌⊎◌, nat_lt, not, is_some, unwrap_or, ⊤, length, Result, Ok, Err}
 use Rattle.std.proofs.lemmas.Bool.Decides.{nat_tests}
 use Rattle.css_address.specs.declared.fault.AddressFault.{AddressFault}
 use Rattle.css_cii.specs.declared.name.CiiName.{CiiName}
@@ -9,7 +9,7 @@ use Rattle.css_cii.specs.declared.state.State.{State}
 use Rattle.css_companion.specs.declared.fault.CompanionFault.{CompanionFault}
 use Rattle.css_companion.specs.declared.fault.CompanionFault.TheVariants as fault
 use Rattle.css_drive.specs.CompanionDue.{dial_to, dial_first, send_to, refusal_of, end_by}
-use Rattle.css_drive.specs.CompanionTurns.{turns, any_dialled, is_asking}
+use Rattle.css_drive.specs.CompanionTurns.{turns, first_turn, this_turn, is_late, goes_on, any_dialled, is_asking}
 use Rattle.css_drive.specs.Ends.{MayEnd}
 use Rattle.css_drive.specs.Proper.{Due, Listen, Now, Dial, Accept, SendDatagram, TakeDatagram, TakeText, SendText}
 use Rattle.css_drive.specs.Proper.{HangUp, Ends, MayAdd, Empty, More}
@@ -23,6 +23,7 @@ use Rattle.css_model.specs.History.{History, Address, Listening, Slept, Clock, D
 use Rattle.css_model.specs.History.{NoneCame, Sent, Took, TookNone, Quiet, Heard, Closed, Wrote, Gone, HungUp}
 use Rattle.css_model.specs.History.{request_in}
 use Rattle.css_model.specs.Wire.{encoded, request_at}
+use Rattle.css_outside.specs.Limits.{most_turns}
 use Rattle.css_outside.specs.Outsides.{opening_entries, datagram_entries, heard_entries, wrote_entries, sleep_entries}
 use Rattle.css_outside.specs.declared.calls.Heard.{Heard as SessionHeard}
 use Rattle.css_outside.specs.declared.calls.Heard.TheVariants as heard
@@ -37,8 +38,9 @@ use Rattle.css_drive_relay.specs.Places.{Facts, Progress, progress_of, all_open,
 use Rattle.css_drive_relay.specs.Places.{telling_if}
 use Rattle.css_drive_relay.specs.Due.{due, due_at, final, from_hang_ups, from_end, from_texts, from_tellings, from_ask}
 use Rattle.css_drive_relay.specs.Due.{from_wc, from_dial, from_taken, IsProperRelay}
-use Rattle.css_drive_relay.specs.Made.{MadeTurns, TurnsAreMade}
+use Rattle.css_drive_relay.specs.Made.{HasMadeAll, MadeTurns, TurnsAreMade}
 use Rattle.css_drive_relay.specs.Told.{relayed}
+use Rattle.css_drive_relay.proofs.Ends.{one_more}
 use Rattle.css_drive_relay.specs.declared.config.RelayRun.{RelayRun}
 
 -- ---- places
@@ -52,6 +54,13 @@ abbrev pub IsDropped : Place → Type 0
 IsDropped (Rejecting peer) = ⊤
 IsDropped (Dropping peer left) = ⊤
 IsDropped _ = ⊥
+
+over_begun : (run : RelayRun) (f : Facts) → IsOver (places.begun run f) → ⊥
+over_begun run f = by (is_late run.limit f.first f.turn)
+  where
+    by : (b : Bool) → IsOver (cond b (Asked []) Begun) → ⊥
+    by true e = e
+    by false e = e
 
 over_next : (o : Option ℕ) (peers : List ℕ) → IsOver (next_asked o peers) → ⊥
 over_next None peers e = e
@@ -99,24 +108,39 @@ over_told f place e = e
 abbrev pub reached : Facts → Bool
 reached f = is_some f.cii || is_some f.wc
 
--- So many turns were begun, and no more than there are to be; all of them where the turns are over. And whether a dial
+-- how many turns were begun, and the readings of the first and the last one
+abbrev pub Turns : Type 0
+Turns = ℕ × Option ℕ × Option ℕ
+
+abbrev pub begun : Facts → Turns
+begun f = (f.turns, f.first, f.turn)
+
+abbrev pub made_of : History → Turns
+made_of h = (turns h, first_turn h, this_turn h)
+
+-- there is no other turn
+abbrev pub IsMade : RelayRun → Facts → Type 0
+IsMade run f = goes_on run.limit f.first f.turn f.turns ≡ false
+
+-- These turns were begun, and no more than there are to be; all of them where the turns are over. And whether a dial
 -- succeeded.
-pub record Counts (run : RelayRun) (made : ℕ) (any : Bool) (p : Progress) : Type 0 where
-  pub turns : p.facts.turns ≡ made
-  pub few : p.facts.turns ≤ run.turns
-  pub over : IsOver p.place → run.turns ≤ p.facts.turns
+pub record Counts (run : RelayRun) (made : Turns) (any : Bool) (p : Progress) : Type 0 where
+  pub turns : begun p.facts ≡ made
+  pub few : p.facts.turns ≤ most_turns run.limit
+  pub over : IsOver p.place → IsMade run p.facts
   pub dialled : reached p.facts ≡ any
 
 abbrev pub Good : RelayRun → History → Type 0
-Good run h = Counts run (turns h) (any_dialled h) (progress_of run h)
+Good run h = Counts run (made_of h) (any_dialled h) (progress_of run h)
 
-pub stays : {run : RelayRun} {made : ℕ} {any : Bool} {p : Progress} → Counts run made any p → (q : Progress)
-    → q.facts.turns ≡ p.facts.turns → reached q.facts ≡ reached p.facts
-    → (IsOver q.place → run.turns ≤ p.facts.turns) → Counts run made any q
+pub stays : {run : RelayRun} {made : Turns} {any : Bool} {p : Progress} → Counts run made any p → (q : Progress)
+    → begun q.facts ≡ begun p.facts → reached q.facts ≡ reached p.facts
+    → (IsOver q.place → IsMade run p.facts) → Counts run made any q
 stays {run} t q same dials over = record {
   turns = same ∙ t.turns;
-  few = subst (λ (n : ℕ). n ≤ run.turns) (sym same) t.few;
-  over = λ e. subst (λ (n : ℕ). run.turns ≤ n) (sym same) (over e);
+  few = subst (λ (x : Turns). x.0 ≤ most_turns run.limit) (sym same) t.few;
+  over = λ e. subst (λ (x : Turns). goes_on run.limit x.1 x.2 x.0
+      ≡ false) (sym same) (over e);
   dialled = dials ∙ t.dialled;
 }
 
@@ -124,31 +148,31 @@ stays {run} t q same dials over = record {
 -- A turn is due where one is left. A session is hung up in a turn, or since the turns are over. The end of a run whose
 -- turns are over is the one that is told by its dials.
 abbrev pub MayCount : RelayRun → Facts → Place → Due → Type 0
-MayCount run f place (Now why.Turn) = f.turns < run.turns
+MayCount run f place (Now why.Turn) = f.turns < most_turns run.limit
 MayCount run f place (Dial kind.Ts to) = ⊥
-MayCount run f place (HangUp peer) = IsDropped place ⊎ (run.turns ≤ f.turns)
-MayCount run f place (Ends driven.Done) = (run.turns ≤ f.turns) × (reached f ≡ true)
+MayCount run f place (HangUp peer) = IsDropped place ⊎ IsMade run f
+MayCount run f place (Ends driven.Done) = IsMade run f × (reached f ≡ true)
 MayCount run f place (Ends (driven.Unreachable count)) =
-    (count ≡ run.turns) × (run.turns ≤ f.turns) × (reached f ≡ false)
+    (count ≡ f.turns) × IsMade run f × (reached f ≡ false)
 MayCount run f place _ = ⊤
 
 module _ (run : RelayRun) (f : Facts) (history : History) (place : Place) where
-  counts_ends : (b : Bool) → reached f ≡ b → run.turns ≤ f.turns
-      → MayCount run f place (Ends (cond b driven.Done (driven.Unreachable run.turns)))
-  counts_ends true e le = (le, e)
-  counts_ends false e le = (refl, le, e)
+  counts_ends : (b : Bool) → reached f ≡ b → IsMade run f
+      → MayCount run f place (Ends (cond b driven.Done (driven.Unreachable f.turns)))
+  counts_ends true e made = (made, e)
+  counts_ends false e made = (refl, made, e)
 
-  counts_hanging : (peers : List ℕ) → run.turns ≤ f.turns → MayCount run f place (from_hang_ups (final run f) peers)
-  counts_hanging [] le = counts_ends (reached f) refl le
-  counts_hanging (peer ∷ peers) le = inr le
+  counts_hanging : (peers : List ℕ) → IsMade run f → MayCount run f place (from_hang_ups (final f) peers)
+  counts_hanging [] made = counts_ends (reached f) refl made
+  counts_hanging (peer ∷ peers) made = inr made
 
   counts_ending : MayCount run f place (from_end run f history)
-  counts_ending = by (nat_lt f.turns run.turns) refl
+  counts_ending = by (goes_on run.limit f.first f.turn f.turns) refl
     where
-      by : (b : Bool) → nat_lt f.turns run.turns ≡ b
-          → MayCount run f place (cond b (Now why.Turn) (from_hang_ups (final run f) (all_open f)))
-      by true e = grind (arith, nat_tests, e)
-      by false e = counts_hanging (all_open f) (grind (arith, nat_tests, e))
+      by : (b : Bool) → goes_on run.limit f.first f.turn f.turns ≡ b
+          → MayCount run f place (cond b (Now why.Turn) (from_hang_ups (final f) (all_open f)))
+      by true on = one_more run f on
+      by false made = counts_hanging (all_open f) made
 
   counts_asking : (left : List ℕ) → MayCount run f place (from_texts run left f history)
   counts_asking [] = counts_ending
@@ -198,7 +222,7 @@ module _ (run : RelayRun) (f : Facts) (history : History) (place : Place) where
   counts_refused (fault.Moved property old new) = tt
   counts_refused fault.Memory = tt
 
-counts_due : (run : RelayRun) (f : Facts) (history : History) (place : Place) → (IsOver place → run.turns ≤ f.turns)
+counts_due : (run : RelayRun) (f : Facts) (history : History) (place : Place) → (IsOver place → IsMade run f)
     → MayCount run f place (due_at run f history place)
 counts_due run f history Begins over = tt
 counts_due run f history Begun over =
@@ -234,9 +258,9 @@ module _ (run : RelayRun) (older : History) (t : Good run older) where
       → MayCount run (progress_of run older).facts (progress_of run older).place (Now w)
       → Good run (Clock w reading ∷ older)
   after_clock why.Turn reading c = record {
-    turns = ap (λ n. n + 1) t.turns;
+    turns = ap (λ (x : Turns). (x.0 + 1, Some (unwrap_or x.1 reading), Some reading)) t.turns;
     few = omega (arith, c);
-    over = λ e. absurd e;
+    over = λ e. absurd (over_begun run (places.with_turn reading (progress_of run older).facts) e);
     dialled = t.dialled;
   }
   after_clock why.Ask reading c =
@@ -276,7 +300,7 @@ module _ (run : RelayRun) (older : History) (t : Good run older) where
       f : Facts
       f = (progress_of run older).facts
 
-      by : (b : Bool) → Counts run (turns older) (any_dialled older) (places.opened_if b peer f)
+      by : (b : Bool) → Counts run (made_of older) (any_dialled older) (places.opened_if b peer f)
       by true = stays t (places.opened_if true peer f) refl refl (λ e. absurd e)
       by false = stays t (places.opened_if false peer f) refl refl (λ e. absurd e)
 
@@ -286,7 +310,7 @@ module _ (run : RelayRun) (older : History) (t : Good run older) where
       f : Facts
       f = (progress_of run older).facts
 
-      by : (place : Place) → Counts run (turns older) (any_dialled older) (places.sent place f)
+      by : (place : Place) → Counts run (made_of older) (any_dialled older) (places.sent place f)
       by (Asking reading) = stays t (places.sent (Asking reading) f) refl refl (λ e. absurd e)
       by place = stays t (places.sent place f) refl refl (λ e. absurd e)
 
@@ -305,13 +329,13 @@ module _ (run : RelayRun) (older : History) (t : Good run older) where
       state = relayed run (Heard peer bytes ∷ older)
 
       told : (refusal : Option CompanionFault)
-          → Counts run (turns older) (any_dialled older) (places.television_told refusal state f)
+          → Counts run (made_of older) (any_dialled older) (places.television_told refusal state f)
       told None = stays t (places.television_told None state f) refl refl
           (λ e. absurd (over_telling_if _ (record f { state = state }) e))
       told (Some x) = stays t (places.television_told (Some x) state f) refl refl (λ e. absurd e)
 
-      by : (place : Place) → (IsOver place → run.turns ≤ f.turns)
-          → Counts run (turns older) (any_dialled older) (places.heard run peer bytes older place f)
+      by : (place : Place) → (IsOver place → IsMade run f)
+          → Counts run (made_of older) (any_dialled older) (places.heard run peer bytes older place f)
       by (Welcomed p) over = told (refusal_of (Some bytes) older)
       by (Asked left) over = stays t (places.heard run peer bytes older (Asked left) f) refl refl over
       by place over = stays t (places.heard run peer bytes older place f) refl refl over
@@ -322,8 +346,8 @@ module _ (run : RelayRun) (older : History) (t : Good run older) where
       f : Facts
       f = (progress_of run older).facts
 
-      by : (place : Place) → (IsOver place → run.turns ≤ f.turns)
-          → Counts run (turns older) (any_dialled older) (places.closed peer place f)
+      by : (place : Place) → (IsOver place → IsMade run f)
+          → Counts run (made_of older) (any_dialled older) (places.closed peer place f)
       by (Welcomed p) over = stays t (places.closed peer (Welcomed p) f) refl refl over
       by (Asked left) over = stays t (places.closed peer (Asked left) f) refl refl over
       by place over = stays t (places.closed peer place f) refl refl over
@@ -344,8 +368,8 @@ module _ (run : RelayRun) (older : History) (t : Good run older) where
       g : Facts
       g = places.lost peer f
 
-      by : (place : Place) → (IsOver place → run.turns ≤ f.turns)
-          → Counts run (turns older) (any_dialled older) (places.gone peer place f)
+      by : (place : Place) → (IsOver place → IsMade run f)
+          → Counts run (made_of older) (any_dialled older) (places.gone peer place f)
       by (Greeting p) over =
           stays t (places.gone peer (Greeting p) f) refl refl (λ e. absurd (over_next g.television g.peers e))
       by (Telling text left) over =
@@ -367,13 +391,12 @@ module _ (run : RelayRun) (older : History) (t : Good run older) where
       f : Facts
       f = (progress_of run older).facts
 
-      at_last : (place : Place) → (IsDropped place → ⊥) → IsDropped place ⊎ (run.turns ≤ f.turns)
-          → run.turns ≤ f.turns
+      at_last : (place : Place) → (IsDropped place → ⊥) → IsDropped place ⊎ IsMade run f → IsMade run f
       at_last place never (inl d) = absurd (never d)
-      at_last place never (inr le) = le
+      at_last place never (inr made) = made
 
-      by : (place : Place) → (IsOver place → run.turns ≤ f.turns) → IsDropped place ⊎ (run.turns ≤ f.turns)
-          → Counts run (turns older) (any_dialled older) (record { facts = f; place = places.hung_up place f })
+      by : (place : Place) → (IsOver place → IsMade run f) → IsDropped place ⊎ IsMade run f
+          → Counts run (made_of older) (any_dialled older) (record { facts = f; place = places.hung_up place f })
       by (Rejecting p) over c =
           stays t (record { facts = f; place = places.hung_up (Rejecting p) f }) refl refl
           (λ e. absurd (over_next f.television f.peers e))
@@ -435,21 +458,34 @@ all_good run h (More {older} call may proper) =
     call_good run older t (due run older) (counts_due run p.facts older p.place t.over) call may
 
 -- ---- the end
+made_all : (run : RelayRun) (x : Turns) → x.0 ≤ most_turns run.limit
+    → goes_on run.limit x.1 x.2 x.0 ≡ false
+    → (x.0 ≡ most_turns run.limit) ⊎ (is_late run.limit x.1 x.2 ≡ true)
+made_all run x few =
+    by (nat_lt x.0 (most_turns run.limit)) (is_late run.limit x.1 x.2) refl refl
+  where
+    by : (more last : Bool) → nat_lt x.0 (most_turns run.limit) ≡ more → is_late run.limit x.1 x.2 ≡ last
+        → (more && not last) ≡ false → (x.0 ≡ most_turns run.limit) ⊎ (is_late run.limit x.1 x.2 ≡ true)
+    by more true e last made = inr last
+    by true false e last made = absurd cc
+    by false false e last made = inl (grind (arith, nat_tests, e, few))
+
+has_made_all : (run : RelayRun) (h : History) → Good run h → IsMade run (progress_of run h).facts → HasMadeAll run h
+has_made_all run h t made =
+    subst (λ (x : Turns). (x.0 ≡ most_turns run.limit) ⊎ (is_late run.limit x.1 x.2 ≡ true)) t.turns
+    (made_all run (begun (progress_of run h).facts) t.few made)
+
 is_made : (run : RelayRun) (h : History) (ended : Driven) → Good run h
     → MayCount run (progress_of run h).facts (progress_of run h).place (due run h) → MayEnd (due run h) ended
     → MadeTurns run h ended
 is_made run h driven.Done t c ends =
     let f : Facts = (progress_of run h).facts in
     let at_end = subst (λ (d : Due). MayCount run f (progress_of run h).place d) ends c in
-    let few = t.few in
-    let all = at_end.0 in
-    (sym t.turns ∙ omega (arith, few, all), sym t.dialled ∙ at_end.1)
+    (has_made_all run h t at_end.0, sym t.dialled ∙ at_end.1)
 is_made run h (driven.Unreachable count) t c ends =
     let f : Facts = (progress_of run h).facts in
     let at_end = subst (λ (d : Due). MayCount run f (progress_of run h).place d) ends c in
-    let few = t.few in
-    let all = at_end.1 in
-    (at_end.0, sym t.turns ∙ omega (arith, few, all), sym t.dialled ∙ at_end.2)
+    (at_end.0 ∙ ap (λ (x : Turns). x.0) t.turns, has_made_all run h t at_end.1, sym t.dialled ∙ at_end.2)
 is_made run h ended t c ends = tt
 
 pub turns_are_made : TurnsAreMade

@@ -1,10 +1,10 @@
 -- What is due at most places of a relay's run: neither a text nor a datagram is sent.
 use Rattle.std.proofs.Common.{ℕ, Bool, true, false, cond, List, [], ◌∷◌, Option, Some, None}
-use Rattle.std.specs.Prelude.{◌&&◌, nat_lt, is_some, ⊤, Result, Ok, Err}
+use Rattle.std.specs.Prelude.{◌&&◌, is_some, ⊤, Result, Ok, Err}
 use Rattle.css_address.specs.declared.fault.AddressFault.{AddressFault}
 use Rattle.css_cii.specs.declared.name.CiiName.{CiiName}
 use Rattle.css_drive.specs.CompanionDue.{dial_to, dial_first}
-use Rattle.css_drive.specs.CompanionTurns.{is_asking}
+use Rattle.css_drive.specs.CompanionTurns.{goes_on, is_asking}
 use Rattle.css_drive.specs.Proper.{Due, Now, SendDatagram, TakeDatagram, SendText}
 use Rattle.css_drive.specs.declared.driven.Driven.{Driven}
 use Rattle.css_model.specs.declared.Kind.{Kind}
@@ -37,11 +37,11 @@ plain_hanging ended [] = tt
 plain_hanging ended (peer ∷ peers) = tt
 
 plain_ending : (run : RelayRun) (f : Facts) (history : History) → IsPlain (from_end run f history)
-plain_ending run f history = by (nat_lt f.turns run.turns)
+plain_ending run f history = by (goes_on run.limit f.first f.turn f.turns)
   where
-    by : (b : Bool) → IsPlain (cond b (Now why.Turn) (from_hang_ups (final run f) (all_open f)))
+    by : (b : Bool) → IsPlain (cond b (Now why.Turn) (from_hang_ups (final f) (all_open f)))
     by true = tt
-    by false = plain_hanging (final run f) (all_open f)
+    by false = plain_hanging (final f) (all_open f)
 
 plain_asking : (run : RelayRun) (left : List ℕ) (f : Facts) (history : History)
     → IsPlain (from_texts run left f history)
@@ -97,4 +97,4 @@ plain_due run f history (Telling text []) silent = plain_asking run f.peers f hi
 plain_due run f history (Telling text (peer ∷ left)) silent = absurd silent
 plain_due run f history (Asked left) silent = plain_asking run left f history
 plain_due run f history (Dropping peer left) silent = tt
-plain_due run f history (Over left) silent = plain_hanging (final run f) left
+plain_due run f history (Over left) silent = plain_hanging (final f) left

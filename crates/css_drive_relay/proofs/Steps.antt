@@ -167,7 +167,7 @@ pub stops_by_memory : {run : RelayRun} {start now : Shown} {p : Progress} {histo
     → Runs run start now p history → IsLawful history → (ended : Driven) → ended ≡ driven.Memory
     → Stops run start now ended
 stops_by_memory {run} {start} {now} s l ended e =
-    subst (λ (x : Driven). Stops run start now x) (sym e) (stops_here s l driven.Memory (λ x. cc) tt)
+    subst (λ (x : Driven). Stops run start now x) (sym e) (stops_here s l driven.Memory (λ x. x) tt)
 
 -- the end is in another form
 pub stops_as : {run : RelayRun} {start now : Shown} {ended : Driven} → Stops run start now ended → (other : Driven)

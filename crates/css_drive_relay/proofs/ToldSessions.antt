@@ -6,6 +6,7 @@ use Rattle.std.proofs.lemmas.Bool.Decides.{nat_tests}
 use Rattle.css_cii.specs.declared.state.State.{State}
 use Rattle.css_companion.specs.declared.fault.CompanionFault.{CompanionFault}
 use Rattle.css_drive.specs.CompanionDue.{send_to, refusal_of}
+use Rattle.css_drive.specs.CompanionTurns.{is_late}
 use Rattle.css_drive.specs.Proper.{Due, Listen, Now, Dial, Accept, SendDatagram, TakeDatagram, TakeText, SendText}
 use Rattle.css_drive.specs.Proper.{HangUp, Ends, MayAdd, Empty, More}
 use Rattle.css_drive.specs.TvPeers.{has}
@@ -76,6 +77,13 @@ waits_welcomed : (o : Option ℕ) (peers : List ℕ) → waiting (next_asked o p
 waits_welcomed None peers = refl
 waits_welcomed (Some p) peers = refl
 
+waits_begun : (run : RelayRun) (f : Facts) → waiting (places.begun run f) ≡ []
+waits_begun run f = by (is_late run.limit f.first f.turn)
+  where
+    by : (b : Bool) → waiting (cond b (Asked []) Begun) ≡ []
+    by true = refl
+    by false = refl
+
 waits_received : (run : RelayRun) (reading : ℕ) (older : History) (place : Place) → waiting place ≡ []
     → waiting (places.received_at run reading older place) ≡ []
 waits_received run reading older (Taken peer bytes) e =
@@ -132,7 +140,9 @@ module _ (run : RelayRun) (peer : ℕ) (older : History) (t : Good run peer olde
   after_no_dial k = stays t none (progress_of run (NotDialled k ∷ older)) refl refl refl
 
   after_clock : (w : Why) (reading : ℕ) → Good run peer (Clock w reading ∷ older)
-  after_clock why.Turn reading = stays t none (progress_of run (Clock why.Turn reading ∷ older)) refl refl refl
+  after_clock why.Turn reading =
+      stays t none (progress_of run (Clock why.Turn reading ∷ older)) refl refl
+      (waits_begun run (places.with_turn reading (progress_of run older).facts))
   after_clock why.Ask reading = stays t none (progress_of run (Clock why.Ask reading ∷ older)) refl refl refl
   after_clock why.Land reading = stays t none (progress_of run (Clock why.Land reading ∷ older)) refl refl refl
   after_clock why.Take reading =

@@ -1,5 +1,5 @@
 -- Which call a relay's run has to make next: a function of what its calls did so far.
-use Rattle.std.specs.Prelude.{ℕ, nat_lt, List, [], ◌∷◌, ◌&&◌, ◌||◌, Bool, if◌then◌else◌, is_some}
+use Rattle.std.specs.Prelude.{ℕ, List, [], ◌∷◌, ◌&&◌, ◌||◌, Bool, if◌then◌else◌, is_some}
 use Rattle.css_model.specs.declared.Why.TheVariants as why
 use Rattle.css_model.specs.declared.Kind.{Kind}
 use Rattle.css_model.specs.declared.Kind.TheVariants as kind
@@ -9,7 +9,7 @@ use Rattle.css_cii.specs.declared.name.CiiName.TheVariants.{WcUrl}
 use Rattle.css_sessions.specs.Kept.{full_text}
 use Rattle.css_companion.specs.Meanings.{state_of}
 use Rattle.css_drive.specs.CompanionDue.{dial_to, dial_first, place, send_to, end_by}
-use Rattle.css_drive.specs.CompanionTurns.{is_asking}
+use Rattle.css_drive.specs.CompanionTurns.{goes_on, is_asking}
 use Rattle.css_drive.specs.Proper.{Due, Listen, Now, Accept, SendDatagram, TakeDatagram}
 use Rattle.css_drive.specs.Proper.{TakeText, SendText, HangUp, Ends, IsProper}
 use Rattle.css_drive.specs.declared.driven.Driven.{Driven}
@@ -21,8 +21,8 @@ use Rattle.css_drive_relay.specs.declared.config.RelayRun.{RelayRun}
 
 -- ---- the steps of a turn, the last first: what is due from there on
 -- how a run ends whose turns are made
-abbrev pub final : RelayRun → Facts → Driven
-final run f = if is_some f.cii || is_some f.wc then driven.Done else driven.Unreachable run.turns
+abbrev pub final : Facts → Driven
+final f = if is_some f.cii || is_some f.wc then driven.Done else driven.Unreachable f.turns
 
 -- these sessions are hung up, and then the run ends
 abbrev pub from_hang_ups : Driven → List ℕ → Due
@@ -32,7 +32,7 @@ from_hang_ups end (peer ∷ peers) = HangUp peer
 -- the next turn, if there is one
 abbrev pub from_end : RelayRun → Facts → History → Due
 from_end run f history =
-    if nat_lt f.turns run.turns then Now why.Turn else from_hang_ups (final run f) (all_open f)
+    if goes_on run.limit f.first f.turn f.turns then Now why.Turn else from_hang_ups (final f) (all_open f)
 
 -- these sessions are asked for a text
 abbrev pub from_texts : RelayRun → List ℕ → Facts → History → Due
@@ -84,7 +84,7 @@ due_at run f history (Refused fault) = Ends (end_by fault)
 due_at run f history (Telling text left) = from_tellings run text left f history
 due_at run f history (Asked left) = from_texts run left f history
 due_at run f history (Dropping peer left) = HangUp peer
-due_at run f history (Over left) = from_hang_ups (final run f) left
+due_at run f history (Over left) = from_hang_ups (final f) left
 
 abbrev pub due_for : RelayRun → History → Progress → Due
 due_for run history p = due_at run p.facts history p.place

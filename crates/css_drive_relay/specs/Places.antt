@@ -1,6 +1,6 @@
 -- How far a relay's run has come: a function of what its calls did so far.
 use Rattle.std.specs.Prelude.{ℕ, ◌+◌, ◌==◌, Bool, true, false, nat_lt, not, filter, List, [], ◌∷◌, ◌++◌, length, if◌then◌else◌}
-use Rattle.std.specs.Prelude.{Option, Some, None, Result, Ok, Err}
+use Rattle.std.specs.Prelude.{Option, Some, None, unwrap_or, Result, Ok, Err}
 use Rattle.css_model.specs.declared.Why.{Why}
 use Rattle.css_model.specs.declared.Why.TheVariants as why
 use Rattle.css_model.specs.declared.Kind.{Kind}
@@ -16,6 +16,7 @@ use Rattle.css_relay.specs.Answers.{Ticket, received_after, answered_after, data
 use Rattle.css_relay.specs.Relays.{wc_url_of, relayed_state}
 use Rattle.css_relay.specs.declared.fault.RelayFault.{RelayFault}
 use Rattle.css_drive.specs.CompanionDue.{refusal_of}
+use Rattle.css_drive.specs.CompanionTurns.{is_late}
 use Rattle.css_drive_relay.specs.declared.config.RelayRun.{RelayRun}
 
 -- Where a run stands: by its last entry that is no sleep.
@@ -55,11 +56,12 @@ pub data Place : Type 0 where
   -- the turns are over, and these sessions are still to be hung up
   Over : (left : List ℕ) → Place
 
--- How many turns were begun, and the reading of the last one; the reading of the turn of the last request since the last
--- sleep; the peers that were dialled, and the television's session of CSS-CII where it is open; the state that the
--- accepted sessions were told last; and these sessions, in the order in which they came.
+-- How many turns were begun, and the readings of the first and the last one; the reading of the turn of the last
+-- request since the last sleep; the peers that were dialled, and the television's session of CSS-CII where it is open;
+-- the state that the accepted sessions were told last; and these sessions, in the order in which they came.
 pub record Facts : Type 0 where
   pub turns : ℕ
+  pub first : Option ℕ
   pub turn : Option ℕ
   pub asked : Option ℕ
   pub cii : Option ℕ
@@ -153,11 +155,17 @@ sent (Asking reading) f = record { facts = record f { asked = f.turn }; place = 
 sent place f = record { facts = f; place = Served }
 
 -- ---- clock and dials
+abbrev pub with_turn : ℕ → Facts → Facts
+with_turn reading f =
+    record f { turns = f.turns + 1; first = Some (unwrap_or f.first reading); turn = Some reading }
+
+-- A turn's reading was told. The last one by its time ends there.
+abbrev pub begun : RelayRun → Facts → Place
+begun run f = if is_late run.limit f.first f.turn then Asked [] else Begun
+
 abbrev pub after_clock : RelayRun → Why → ℕ → History → Progress → Progress
-after_clock run why.Turn reading older p = record {
-  facts = record p.facts { turns = p.facts.turns + 1; turn = Some reading };
-  place = Begun;
-}
+after_clock run why.Turn reading older p = let now : Facts = with_turn reading p.facts in
+    record { facts = now; place = begun run now }
 after_clock run why.Ask reading older p = at (Asking reading) p
 after_clock run why.Land reading older p = at Served p
 after_clock run why.Take reading older p = at (received_at run reading older p.place) p
@@ -257,6 +265,7 @@ abbrev pub beginning : Progress
 beginning = record {
   facts = record {
     turns = 0;
+    first = None;
     turn = None;
     asked = None;
     cii = None;

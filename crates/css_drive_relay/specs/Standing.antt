@@ -27,6 +27,7 @@ use Rattle.css_drive_relay.specs.declared.live.Live.{Live}
 abbrev pub facts_in : Live → Facts
 facts_in live = record {
   turns = live.made;
+  first = live.first;
   turn = live.turn;
   asked = live.asked;
   cii = live.cii;

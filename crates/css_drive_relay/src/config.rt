@@ -1,8 +1,10 @@
 ghost use Rattle.std.specs.Prelude.{◌≤◌};
+ghost use Rattle.css_outside.specs.Limits.{IsLimit};
+ghost use Rattle.css_drive.specs.Limits.{IsLimit-prop};
 
 use css_companion::CompanionConfig;
 use css_num::Text;
-use css_outside::Address;
+use css_outside::{Address, Limit};
 
 /// What a relay's run is to do.
 pub struct RelayRun {
@@ -14,12 +16,11 @@ pub struct RelayRun {
     pub host: Text,
     /// The port on which it listens.
     pub port: u16,
-    /// How many turns are made: 1 to 1,000,000.
-    pub turns: u64,
+    /// How long turns are made.
+    pub limit: Limit,
     /// The time between two requests of the television's wall clock in nanoseconds: 1 to 10^12.
     pub ask_every: u64,
-    pub ghost some_turns: { 1 ≤ turns },
-    pub ghost few_turns: { turns ≤ 1000000 },
+    pub ghost limit_range: { IsLimit limit } by { IsLimit-prop limit },
     pub ghost requests_apart: { 1 ≤ ask_every },
     pub ghost requests_come: { ask_every ≤ 1000000000000 },
 }
@@ -32,7 +33,7 @@ impl Drop for RelayRun {
             cii: _,
             host: _,
             port: _,
-            turns: _,
+            limit: _,
             ask_every: _,
         } = self;
     }

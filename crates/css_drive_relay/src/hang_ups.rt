@@ -1,10 +1,11 @@
 //! The end of a relay's run: all open sessions are hung up in order of peer.
-ghost use Rattle.std.specs.Prelude.{◌≡◌, ◌≤◌, ◌⊎◌, [], length, IfOk, IfErr, OnOk};
+ghost use Rattle.std.specs.Prelude.{◌≡◌, ◌≤◌, ◌⊎◌, [], false, length, IfOk, IfErr, OnOk};
 ghost use Rattle.css_model.specs.History.{History};
 ghost use Rattle.css_relay.specs.Relays.{Relay as KnownRelay};
 ghost use Rattle.css_drive.specs.CompanionStanding.{Shown, shown, IsFault};
 ghost use Rattle.css_drive_relay.specs.Places as places;
 ghost use Rattle.css_drive_relay.specs.Places.{Asked};
+ghost use Rattle.css_drive.specs.CompanionTurns.{goes_on};
 ghost use Rattle.css_drive_relay.specs.Due.{final};
 ghost use Rattle.css_drive_relay.specs.Standing.{facts_in, stood, Stands, Stops, Finishes};
 
@@ -68,9 +69,9 @@ fn hang_up_each<O: Outside>(
     requires { peers.now.items ≡ places.all_open (facts_in live.now) }
     ensures ends { (start : Shown) (relay : KnownRelay) (history : History)
         → Stands run.now start (shown (O.told outside.old) (O.counts outside.old)) relay (stood live.now (Asked []))
-        history → run.now.turns ≤ live.now.made
+        history → goes_on run.now.limit live.now.first live.now.turn live.now.made ≡ false
         → Finishes run.now start (shown (O.told outside.new) (O.counts outside.new))
-        (final run.now (facts_in live.now)) result }
+        (final (facts_in live.now)) result }
     ensures dials { (O.counts outside.new).dial_faults ≡ (O.counts outside.old).dial_faults }
     ensures fault { IfErr result IsFault }
 {
@@ -84,13 +85,13 @@ fn hang_up_each<O: Outside>(
 }
 
 /// How a run ends whose turns are made.
-fn ending(run: &RelayRun, live: &Live) -> Driven
-    ensures { result ≡ final run.now (facts_in live.now) }
+fn ending(live: &Live) -> Driven
+    ensures { result ≡ final (facts_in live.now) }
 {
     if live.cii.is_some() || live.wc.is_some() {
         Driven::Done
     } else {
-        Driven::Unreachable { turns: run.turns }
+        Driven::Unreachable { turns: live.made }
     }
 }
 
@@ -98,10 +99,10 @@ fn ending(run: &RelayRun, live: &Live) -> Driven
 pub(crate) fn finish<O: Outside>(run: &RelayRun, live: &Live, outside: &mut O) -> Driven
     ensures ends { (start : Shown) (relay : KnownRelay) (history : History)
         → Stands run.now start (shown (O.told outside.old) (O.counts outside.old)) relay (stood live.now (Asked []))
-        history → run.now.turns ≤ live.now.made
+        history → goes_on run.now.limit live.now.first live.now.turn live.now.made ≡ false
         → Stops run.now start (shown (O.told outside.new) (O.counts outside.new)) result }
     ensures dials { (O.counts outside.new).dial_faults ≡ (O.counts outside.old).dial_faults }
-    ensures kind { (result ≡ final run.now (facts_in live.now)) ⊎ IsFault result }
+    ensures kind { (result ≡ final (facts_in live.now)) ⊎ IsFault result }
 {
     let peers = match all_open(live) {
         Ok(peers) => peers,
@@ -111,5 +112,5 @@ pub(crate) fn finish<O: Outside>(run: &RelayRun, live: &Live, outside: &mut O) -
         Ok(()) => {}
         Err(ended) => return ended,
     }
-    ending(run, live)
+    ending(live)
 }

@@ -1,4 +1,4 @@
-ghost use Rattle.std.specs.Prelude.{◌<◌};
+ghost use Rattle.std.specs.Prelude.{◌≤◌, ◌<◌};
 ghost use Rattle.std.specs.Option.{ForSome};
 
 use crate::published::Published;
@@ -7,6 +7,8 @@ use crate::published::Published;
 pub struct Live {
     /// How many turns were begun.
     pub made: u64,
+    /// The reading of the first turn.
+    pub first: Option<u64>,
     /// The reading of the present turn.
     pub turn: Option<u64>,
     /// The reading of the turn in which the last request was sent, if one was sent since the last sleep.
@@ -20,6 +22,8 @@ pub struct Live {
     pub state: Published,
     /// The accepted sessions that are open, in the order in which they came.
     pub peers: Vec<u32>,
+    pub ghost first_below: { ForSome first (λ reading. reading < 4294967296000000000) },
+    pub ghost first_made: { ForSome first (λ reading. 1 ≤ made) },
     pub ghost asked_below: { ForSome asked (λ reading. reading < 4294967296000000000) },
     pub ghost turn_below: { ForSome turn (λ reading. reading < 4294967296000000000) },
 }
@@ -29,6 +33,7 @@ impl Drop for Live {
     fn drop(self) {
         let Live {
             made: _,
+            first: _,
             turn: _,
             asked: _,
             cii: _,

@@ -1,14 +1,17 @@
 //! A relay's run over any devices.
-ghost use Rattle.std.specs.Prelude.{◌≡◌, ◌≢◌, ◌≤◌, ◌<◌, ◌+◌, [], OnOk, IfOk, IfErr, None};
+ghost use Rattle.std.specs.Prelude.{◌≡◌, ◌≢◌, ◌≤◌, ◌<◌, ◌+◌, [], true, OnOk, IfOk, IfErr, None};
 ghost use Rattle.css_model.specs.History.{History};
 ghost use Rattle.css_outside.specs.Faults.{HasRisen};
+ghost use Rattle.css_outside.specs.Outsides.{Counts};
 ghost use Rattle.css_drive.specs.CompanionStanding.{Shown, shown, IsCut};
+ghost use Rattle.css_drive.specs.CompanionTurns as turns;
+ghost use Rattle.css_drive_relay.specs.Places as places;
 ghost use Rattle.css_drive_relay.specs.Places.{Place, Asked, Begun};
 ghost use Rattle.css_drive_relay.specs.Due.{due_at, from_take};
 ghost use Rattle.css_drive.specs.Ends.{CountsDialFaults};
 ghost use Rattle.css_drive_relay.specs.Ran.{IsWritable, RelayRan, CountsRelayRun};
 ghost use Rattle.css_drive_relay.specs.Standing.{facts_in, stood, listening, Stands, Stops, Knows, Goes, Arrives};
-ghost use Rattle.css_drive_relay.specs.Standing.{Keeps, KeepsDials};
+ghost use Rattle.css_drive_relay.specs.Standing.{Keeps, KeepsDials, HasTried};
 
 use crate::calls::{end_of, read};
 use crate::config::RelayRun;
@@ -26,6 +29,23 @@ use css_outside::{Outside, Why};
 use css_relay::Relay;
 use std::alloc::Global;
 
+/// Whether the present turn is the last by its time.
+fn is_late(run: &RelayRun, live: &Live) -> bool
+    ensures { result ≡ turns.is_late run.now.limit live.now.first live.now.turn }
+{
+    match live.first {
+        None => false,
+        Some(first) => run.limit.is_over(first, live.turn.unwrap_or(0)),
+    }
+}
+
+/// Whether there is another turn.
+fn goes_on(run: &RelayRun, live: &Live) -> bool
+    ensures { result ≡ turns.goes_on run.now.limit live.now.first live.now.turn live.now.made }
+{
+    live.made < run.limit.most_turns() && !is_late(run, live)
+}
+
 /// Begins a turn.
 fn begin<O: Outside>(
     run: &RelayRun,
@@ -34,20 +54,24 @@ fn begin<O: Outside>(
     outside: &mut O,
 ) -> Result<(), Driven>
     requires floor { relay.old.companion.client.floor ≤ (O.counts outside.old).last }
-    requires few { live.old.made < 1000000 }
+    requires few { live.old.made < 1099511627776 }
     ensures goes { (start : Shown) (history : History)
         → Stands run.now start (shown (O.told outside.old) (O.counts outside.old)) relay.old (stood live.old (Asked []))
-        history → live.old.made < run.now.turns
-        → Arrives run.now start (shown (O.told outside.new) (O.counts outside.new)) relay.new live.new Begun result }
+        history → turns.goes_on run.now.limit live.old.first live.old.turn live.old.made ≡ true
+        → Arrives run.now start (shown (O.told outside.new) (O.counts outside.new)) relay.new live.new
+        (places.begun run.now (facts_in live.new)) result }
     ensures floor { OnOk result (relay.new.companion.client.floor ≤ (O.counts outside.new).last) }
     ensures made { OnOk result (live.new.made ≡ live.old.made + 1) }
+    ensures second { OnOk result (turns.is_late run.now.limit live.new.first live.new.turn ≡ true
+        → 1 ≤ live.old.made) }
     ensures cii { OnOk result (live.new.cii ≡ live.old.cii) }
     ensures dials { (O.counts outside.new).dial_faults ≡ (O.counts outside.old).dial_faults }
     ensures cut { IfErr result IsCut }
 {
     let reading = read(outside, relay, live, Why::Turn)?.reading;
-    live.turn = Some(reading);
     live.made += 1;
+    live.first = Some(live.first.unwrap_or(reading));
+    live.turn = Some(reading);
     Ok(())
 }
 
@@ -114,7 +138,7 @@ fn attend<O: Outside>(
     hear_all(run, live, outside)
 }
 
-/// Makes a turn.
+/// Makes a turn. One that is the last by its time ends with its reading.
 fn turn<O: Outside>(
     alloc: Global,
     run: &RelayRun,
@@ -123,22 +147,26 @@ fn turn<O: Outside>(
     outside: &mut O,
 ) -> Result<(), Driven>
     requires floor { relay.old.companion.client.floor ≤ (O.counts outside.old).last }
-    requires few { live.old.made < 1000000 }
+    requires few { live.old.made < 1099511627776 }
     ensures goes { (start : Shown) (history : History)
         → Stands run.now start (shown (O.told outside.old) (O.counts outside.old)) relay.old (stood live.old (Asked []))
-        history → live.old.made < run.now.turns
+        history → turns.goes_on run.now.limit live.old.first live.old.turn live.old.made ≡ true
         → Arrives run.now start (shown (O.told outside.new) (O.counts outside.new)) relay.new live.new
         (Asked []) result }
     ensures floor { OnOk result (relay.new.companion.client.floor ≤ (O.counts outside.new).last) }
     ensures made { OnOk result (live.new.made ≡ live.old.made + 1) }
     ensures dials { (O.counts outside.old).dial_faults ≤ (O.counts outside.new).dial_faults }
-    ensures tried { OnOk result (live.new.cii ≡ None
-        → HasRisen (O.counts outside.old).dial_faults (O.counts outside.new).dial_faults) }
+    ensures tried { (before : Counts) → before.dial_faults ≤ (O.counts outside.old).dial_faults
+        → HasTried before (O.counts outside.old) live.old
+        → OnOk result (HasTried before (O.counts outside.new) live.new) }
     ensures cut { IfErr result IsCut }
 {
     match begin(run, live, relay, outside) {
         Ok(()) => {}
         Err(ended) => return Err(ended),
+    }
+    if is_late(run, live) {
+        return Ok(());
     }
     match call(alloc, run, live, relay, outside) {
         Ok(()) => {}
@@ -177,6 +205,7 @@ fn make_turns<O: Outside>(
 {
     let mut live = Live {
         made: 0,
+        first: None,
         turn: None,
         asked: None,
         cii: None,
@@ -185,7 +214,7 @@ fn make_turns<O: Outside>(
         state: Published::new(State::empty()),
         peers: Vec::new(alloc),
     };
-    'turns: while live.made < run.turns {
+    'turns: while goes_on(run, &live) {
         match turn(alloc, run, &mut live, relay, outside) {
             Ok(()) => {}
             Err(ended) => return ended,
@@ -194,12 +223,13 @@ fn make_turns<O: Outside>(
     finish(run, &live, outside)
 }
 
-/// Makes a relay's run: it listens, makes 1 to 1,000,000 turns, and hangs up the sessions that are open then.
+/// Makes a relay's run: it listens, makes the turns of its limit, and hangs up the sessions that are open then.
 ///
 /// In each turn it dials and asks the television as a companion does. It takes one datagram: a request is answered from
 /// its own estimate of the television's wall clock, or dropped where that has a fault, and anything else lands. It
 /// accepts one session: one of CSS-CII is told the state that the relay tells, unless 256 are open, and any other is
-/// hung up. It hears the television, and tells what is new. A text of any other session ends that session.
+/// hung up. It hears the television, and tells what is new. A text of any other session ends that session. In a turn
+/// that is the last by its time it does nothing but read the clock.
 ///
 /// The texts of the configuration are UTF-8. The run ends as `Done` with the last turn, or as `Unreachable` where no
 /// dial succeeded. A text of the television that is refused ends it as `BadCii` or `Moved`, and an address of its wall

@@ -59,6 +59,12 @@ pub const CALLS: &[Row] = &[
     Row { fails: &[7], told: "SERVE; turn; dial; take; accept; text 1; hang 1", ..CUT },
     Row { name: "every dial fails", turns: 2, fails: &[3, 7], ended: "Unreachable { turns: 2 }",
         told: "SERVE; turn; dial; take; accept; turn; dial; take; accept", ..QUIET },
+    Row { name: "no call but the hang-up follows the reading of the last turn by time", seconds: 1,
+        times: &[5, 999_999_999, 1_000_000_005],
+        told: "SERVE; turn; dial; take; accept; text 1; turn; take; accept; text 1; turn; hang 1", ..QUIET },
+    Row { name: "every dial fails for a second", seconds: 1, times: &[5, 999_999_999, 1_000_000_005], fails: &[3, 7],
+        ended: "Unreachable { turns: 3 }",
+        told: "SERVE; turn; dial; take; accept; turn; dial; take; accept; turn", ..QUIET },
     Row { name: "a dial that failed is made again", turns: 2, fails: &[3],
         told: "SERVE; turn; dial; take; accept; turn; dial; take; accept; text 1; hang 1", ..QUIET },
 ];

@@ -112,7 +112,7 @@ fn relay_config(rt: &impl Abort, alloc: Global, row: &Row) -> RelayRun
         cii: cii_of(rt, alloc),
         host: text(rt, alloc, "relay.example"),
         port: 6690,
-        turns: amount(rt, row.turns, 1_000_000),
+        limit: limit_of(rt, row),
         ask_every: amount(rt, row.ask_every, 1_000_000_000_000),
     }
 }

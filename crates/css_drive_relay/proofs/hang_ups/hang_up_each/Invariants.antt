@@ -1,7 +1,8 @@
-use Rattle.std.proofs.Common.{◌≡◌, ◌≤◌, []}
+use Rattle.std.proofs.Common.{◌≡◌, [], false}
 use Rattle.css_model.specs.History.{History}
 use Rattle.css_relay.specs.Relays.{Relay}
 use Rattle.css_drive.specs.CompanionStanding.{Shown, shown}
+use Rattle.css_drive.specs.CompanionTurns.{goes_on}
 use Rattle.css_drive_relay.specs.Places.{Asked, all_open}
 use Rattle.css_drive_relay.specs.Standing.{facts_in, stood, Stands, HangsUp}
 use Rattle.css_drive_relay.proofs.hang_ups.hang_up_each.Given as goal
@@ -10,7 +11,7 @@ abbrev pub invariant-loop-peer : goal.invariant-loop-peer
 invariant-loop-peer g l = record {
   goes : (start : Shown) (relay : Relay) (history : History)
       → Stands l.run start (shown (g.O.Outside.told l.fn.outside) (g.O.Outside.counts l.fn.outside)) relay
-      (stood l.live (Asked [])) history → l.run.turns ≤ l.live.made
+      (stood l.live (Asked [])) history → goes_on l.run.limit l.live.first l.live.turn l.live.made ≡ false
       → HangsUp l.run start (shown (g.O.Outside.told l.outside) (g.O.Outside.counts l.outside)) relay l.live
       (all_open (facts_in l.live)) l.peer-index;
   dials : (g.O.Outside.counts l.outside).dial_faults ≡ (g.O.Outside.counts l.fn.outside).dial_faults;

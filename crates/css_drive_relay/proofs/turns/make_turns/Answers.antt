@@ -1,8 +1,5 @@
-use Rattle.std.proofs.Common.{◌∙◌, arith}
-use Rattle.std.proofs.lemmas.Grind.{common_steps}
+use Rattle.std.proofs.Common.{◌∙◌, sym, arith}
 use Rattle.css_drive_relay.proofs.Ends as ends
-use Rattle.std.proofs.Common.{◌≤◌}
-use Rattle.css_drive.proofs.CompanionRuns.{risen_from}
 use Rattle.css_drive_relay.specs.Standing.{facts_in}
 use Rattle.css_drive_relay.proofs.turns.make_turns.Goals as goal
 
@@ -22,19 +19,24 @@ turns-preserved g c =
     let i = c.turns.invariant in
     record {
       goes = λ start h s.
-          let x = i.goes start h s in c.in-Ok.ensures.goes start x.history x.stands c.turns-test.true;
+          let x = i.goes start h s in
+          c.in-Ok.ensures.goes start x.history x.stands (sym c.goes_on.ensures ∙ c.turns-test.true);
       floor = c.in-Ok.ensures.floor;
       dials = omega (arith, c.turn.ensures.dials, i.dials);
-      tried = λ some none. risen_from _ _ _ i.dials (c.in-Ok.ensures.tried none);
+      tried = c.in-Ok.ensures.tried (g.O.Outside.counts c.args.outside.now) i.dials i.tried;
     }
 
 pub turn-requires-clause-floor : goal.turn-requires-clause-floor
 turn-requires-clause-floor g c = c.turns.invariant.floor
 
+pub turn-requires-clause-few : goal.turn-requires-clause-few
+turn-requires-clause-few g c =
+    ends.few_turns c.args.run.now (facts_in c.turns.live) (sym c.goes_on.ensures ∙ c.turns-test.true)
+
 pub returns-in-Err-clause-ends : goal.returns-in-Err-clause-ends
 returns-in-Err-clause-ends g c start h s =
     let x = c.turns.invariant.goes start h s in
-    c.in-Err.ensures.goes start x.history x.stands c.turns-test.true
+    c.in-Err.ensures.goes start x.history x.stands (sym c.goes_on.ensures ∙ c.turns-test.true)
 
 pub returns-in-Err-clause-dials : goal.returns-in-Err-clause-dials
 returns-in-Err-clause-dials g c =
@@ -46,15 +48,17 @@ returns-in-Err-clause-no_writes g c = ends.cut_writes _ c.in-Err.ensures.cut
 pub returns-clause-ends : goal.returns-clause-ends
 returns-clause-ends g c start h s =
     let x = c.turns.invariant.goes start h s in
-    let over = c.turns-test.false in
-    c.finish.ensures.ends start _ x.history x.stands (omega (arith, over))
+    c.finish.ensures.ends start _ x.history x.stands (sym c.goes_on.ensures ∙ c.turns-test.false)
 
 pub returns-clause-dials : goal.returns-clause-dials
 returns-clause-dials g c =
     let i = c.turns.invariant in
-    let some : 1 ≤ c.turns.live.made = grind (arith, common_steps, c.args.run.now.some_turns) in
+    let run = c.args.run.now in
+    let live = c.turns.live in
+    let some = ends.was_begun run.limit run.limit_range live.first live.turn live.made live.first_made
+    (sym c.goes_on.ensures ∙ c.turns-test.false) in
     ends.dials_same _ _ _ _ c.finish.ensures.dials
-    (ends.ending_counts c.args.run.now (facts_in c.turns.live) _ _ i.dials (i.tried some) _ c.finish.ensures.kind)
+    (ends.ending_counts (facts_in live) _ _ i.dials (i.tried some) _ c.finish.ensures.kind)
 
 pub returns-clause-no_writes : goal.returns-clause-no_writes
-returns-clause-no_writes g c = ends.ending_writes c.args.run.now (facts_in c.turns.live) _ c.finish.ensures.kind
+returns-clause-no_writes g c = ends.ending_writes (facts_in c.turns.live) _ c.finish.ensures.kind

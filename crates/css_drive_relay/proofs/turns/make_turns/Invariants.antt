@@ -1,5 +1,6 @@
 use Rattle.std.proofs.Common.{◌≤◌, ◌-◌, []}
 use Rattle.css_model.specs.History.{History}
+use Rattle.css_outside.specs.Limits.{most_turns}
 use Rattle.css_drive.specs.CompanionStanding.{Shown, shown}
 use Rattle.css_drive_relay.specs.Places.{Asked}
 use Rattle.css_drive_relay.specs.Standing.{listening, Stands, IsAt, HasTried}
@@ -18,4 +19,4 @@ invariant-turns g l = record {
 }
 
 abbrev pub decreases-turns : goal.decreases-turns
-decreases-turns g l = l.run.turns - l.live.made
+decreases-turns g l = most_turns l.run.limit - l.live.made
