@@ -8,10 +8,13 @@ use std::alloc::{AllocError, Global};
 pub struct Row {
     pub name: &'static str,
     pub turns: u64,
+    /// How many seconds the run goes on: where there are some, they bound it in place of the turns.
+    pub seconds: u64,
     /// The greatest error of the end's own clock, in 1/256 ppm.
     pub error: u32,
-    /// A television's script, and whether it promises follow-ups.
+    /// A television's script, whether its times count from the first turn, and whether it promises follow-ups.
     pub script: &'static str,
+    pub relative: bool,
     pub follow: bool,
     /// How many reports a companion makes, the nanoseconds between two, and whether it tells what it can present.
     pub reports: u64,
@@ -45,8 +48,10 @@ pub struct Row {
 pub const QUIET: Row = Row {
     name: "nothing comes",
     turns: 1,
+    seconds: 0,
     error: 0,
     script: "",
+    relative: false,
     follow: false,
     reports: 1,
     report_every: 10,

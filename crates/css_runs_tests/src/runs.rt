@@ -3,17 +3,18 @@ ghost use Rattle.std.specs.Prelude.{◌≡◌, ◌≤◌, negsuc, All, IfOk, IfS
 ghost use Rattle.std.specs.Str.{IsUtf8};
 ghost use Rattle.css_drive.specs.Configs.{IsWindow, IsWritable};
 ghost use Rattle.css_drive_relay.specs.Ran.{IsWritable as IsWritableRelay};
+ghost use Rattle.css_outside.specs.Limits.{IsLimit};
 ghost use Rattle.css_schedule.specs.Ranges.{IsScriptLine};
 
 use crate::noted::Noted;
 use crate::rows::{Row, lines_of};
 use css_client::Local;
 use css_companion::CompanionConfig;
-use css_drive::{DriveConfig, Driven, Listens, drive_companion, drive_tv};
+use css_drive::{DriveConfig, Driven, Listens, TvDrive, drive_companion, drive_tv};
 use css_drive_relay::{RelayRun, drive_relay};
 use css_memory::MemorySink;
 use css_num::Text;
-use css_outside::Address;
+use css_outside::{Address, Limit};
 use css_record::drive_record;
 use css_schedule::{ScriptLine, read_script};
 use css_tsmsg::Bound;
@@ -34,6 +35,17 @@ fn amount(rt: &impl Abort, value: u64, most: u64) -> u64
 {
     assert!(rt; 1 <= value && value <= most);
     value
+}
+
+/// How long the run of a row goes on.
+fn limit_of(rt: &impl Abort, row: &Row) -> Limit
+    ensures { IsLimit result }
+{
+    if row.seconds == 0 {
+        Limit::Turns(amount(rt, row.turns, 1_000_000))
+    } else {
+        Limit::Seconds(amount(rt, row.seconds, 31_536_000))
+    }
 }
 
 /// What an end wants of the television as a companion.
@@ -105,19 +117,24 @@ fn relay_config(rt: &impl Abort, alloc: Global, row: &Row) -> RelayRun
     }
 }
 
-fn television_config(rt: &impl Abort, alloc: Global, row: &Row) -> TvConfig
-    ensures host { IsUtf8 result.host }
-    ensures precision { result.precision ≡ negsuc 29 }
-    ensures error { result.error ≤ 25600000 }
-    ensures port { result.port ≡ 6677 }
+fn television_config(rt: &impl Abort, alloc: Global, row: &Row) -> TvDrive
+    ensures host { IsUtf8 result.tv.host }
+    ensures precision { result.tv.precision ≡ negsuc 29 }
+    ensures error { result.tv.error ≤ 25600000 }
+    ensures port { result.tv.port ≡ 6677 }
+    ensures limit { IsLimit result.limit }
 {
     assert!(rt; row.error <= 25_600_000);
-    TvConfig {
-        precision: -30,
-        error: row.error,
-        follow: row.follow,
-        host: text(rt, alloc, "127.0.0.1"),
-        port: 6677,
+    TvDrive {
+        tv: TvConfig {
+            precision: -30,
+            error: row.error,
+            follow: row.follow,
+            host: text(rt, alloc, "127.0.0.1"),
+            port: 6677,
+        },
+        limit: limit_of(rt, row),
+        relative: row.relative,
     }
 }
 
@@ -139,7 +156,7 @@ fn end_words(alloc: Global, driven: &Driven) -> Result<String, AllocError> {
             "BadLine {{ line: {line}, why: {why:?} }}"
         ),
         Driven::WriteFault => format!(in alloc; "WriteFault"),
-        Driven::NetFault => format!(in alloc; "NetFault"),
+        Driven::NetFault(_) => format!(in alloc; "NetFault"),
         Driven::BadCii { text, fault } => format!(in alloc;
             "BadCii {{ text: {text}, fault: {fault:?} }}"
         ),
@@ -174,8 +191,7 @@ pub fn television(
 ) -> Result<(), Fail> {
     let script = script_lines(alloc, row.script)?;
     let config = television_config(rt, alloc, row);
-    let turns = amount(rt, row.turns, 1_000_000);
-    let driven = drive_tv(alloc, config, turns, &script, outside);
+    let driven = drive_tv(alloc, config, &script, outside);
     Ok(assert_ended(rt, alloc, row, &driven)?)
 }
 
