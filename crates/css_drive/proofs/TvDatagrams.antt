@@ -1,5 +1,5 @@
 -- How a run comes on by a reading of the clock, and by a datagram.
-use Rattle.std.proofs.Common.{◌≡◌, ℕ, ◌+◌, ◌≤◌, Bool, true, false, List, [], ◌∷◌, ◌++◌, Option, Some, None, refl, sym}
+use Rattle.std.proofs.Common.{◌≡◌, ℕ, ◌+◌, ◌≤◌, Bool, true, false, cond, List, [], ◌∷◌, ◌++◌, Option, Some, None, refl, sym}
 use Rattle.std.proofs.Common.{ap, subst, ◌∙◌, arith}
 use Rattle.std.proofs.Common.{Result, Ok, Err, take}
 use Rattle.std.specs.Option.{option_map, option_to_list}
@@ -20,7 +20,8 @@ use Rattle.css_drive.specs.TvProgress.{Place, Turned, Taken, Received, Answers, 
 use Rattle.css_drive.specs.TvProgress.{answers, answering}
 use Rattle.css_drive.specs.TvProgress.{ticketed, received_at, answered_at, sent_at, progress_of, settled, happened}
 use Rattle.css_drive.specs.TvProgress.{open_after}
-use Rattle.css_drive.specs.TvDue.{TvRun, due_for}
+use Rattle.css_drive.specs.TvDue.{TvRun, due_for, from_hang_ups}
+use Rattle.css_drive.specs.TvTurns.{is_over}
 use Rattle.css_drive.specs.TvStanding.{IsRead, Told, Stays, IsAt, Comes}
 use Rattle.css_drive.proofs.TvSteps.{due_free, told_more, told_as, below_later, stays_on, continues, settled_at_place}
 
@@ -46,20 +47,29 @@ clock_told {run} {h = h} t w d reading told' false e peers' le =
     (ap (after (addresses_in run.config) (Clock w reading)) t.progress)
 
 -- ---- a datagram that came
+-- one is taken, unless the turn is the last by its time
+take_due : {run : TvRun} {start told : Option History} {peers : ℕ} {tv : Television} {p : Progress} {h : History}
+    {reading : ℕ}
+    → IsAt run start told peers tv (Turned reading) p p h → is_over p.turns ≡ false → due_for run p ≡ TakeDatagram
+take_due {run} {p = p} {reading = reading} s on =
+    let live = open_after (addresses_in run.config) p.events in
+    due_free run p (Turned reading) s.stays.accepted s.owes s.at
+    ∙ ap (λ b. cond b (from_hang_ups live) TakeDatagram) on
+
 pub took_none : {run : TvRun} {start told : Option History} {peers : ℕ} {tv : Television} {p : Progress} {h : History}
     {reading : ℕ}
-    → IsAt run start told peers tv (Turned reading) p p h → (bytes : List ℕ) (told' : Option History)
+    → IsAt run start told peers tv (Turned reading) p p h → is_over p.turns ≡ false → (bytes : List ℕ)
+    → (told' : Option History)
     → told' ≡ with_entries (TookNone ∷ []) told
     → (peers' : ℕ) → peers ≤ peers' → Comes run start told' peers' tv p Served []
-took_none {run} {p = p} {h = h} {reading} s bytes told' e peers' le =
+took_none {run} {p = p} {h = h} {reading} s on bytes told' e peers' le =
     let q : Progress = record p { place = Served } in
     record {
       p = q;
       h = TookNone ∷ h;
       stands = record {
         history =
-            told_more s.history TakeDatagram (due_free run p (Turned reading) s.stays.accepted s.owes s.at) (TookNone
-            ∷ []) (bytes, None, refl)
+            told_more s.history TakeDatagram (take_due s on) (TookNone ∷ []) (bytes, None, refl)
             told' e peers' s.history.numbered (below_later _ _ h (omega (arith, le)) s.history.below) q
             (ap (after (addresses_in run.config) TookNone) s.history.progress);
         stays = stays_on s.stays q refl refl refl peers' le;
@@ -71,15 +81,16 @@ took_none {run} {p = p} {h = h} {reading} s bytes told' e peers' le =
 
 pub took_one : {run : TvRun} {start told : Option History} {peers : ℕ} {tv : Television} {p : Progress} {h : History}
     {reading : ℕ}
-    → IsAt run start told peers tv (Turned reading) p p h → (bytes : List ℕ) (peer count : ℕ) (told' : Option History)
+    → IsAt run start told peers tv (Turned reading) p p h → is_over p.turns ≡ false → (bytes : List ℕ)
+    (peer count : ℕ) (told' : Option History)
     → told' ≡ with_entries (Took peer (take count bytes) ∷ []) told → (peers' : ℕ) → peers ≤ peers'
     → let q : Progress = record p { place = Taken peer (take count bytes) } in
     IsAt run start told' peers' tv (Taken peer (take count bytes)) q q (Took peer (take count bytes) ∷ h)
-took_one {run} {p = p} {h = h} {reading} s bytes peer count told' e peers' le =
+took_one {run} {p = p} {h = h} {reading} s on bytes peer count told' e peers' le =
     let q : Progress = record p { place = Taken peer (take count bytes) } in
     record {
       history =
-          told_more s.history TakeDatagram (due_free run p (Turned reading) s.stays.accepted s.owes s.at)
+          told_more s.history TakeDatagram (take_due s on)
           (Took peer (take count bytes) ∷ [])
           (bytes, Some (peer, count), refl) told' e peers' s.history.numbered
           (below_later _ _ h (omega (arith, le)) s.history.below) q

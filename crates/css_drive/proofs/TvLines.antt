@@ -24,7 +24,8 @@ use Rattle.css_schedule.specs.declared.line.Verb.TheVariants as verb
 use Rattle.css_drive.specs.Proper.{Due, Ends}
 use Rattle.css_drive.specs.TvProgress.{Place, Turned, Progress, settled, settled_at, carry, with_line, past_line}
 use Rattle.css_drive.specs.TvProgress.{played, played_if, event_of, happened}
-use Rattle.css_drive.specs.TvProgress.{outcome_after, addresses_in, is_free, is_free_of, open_after}
+use Rattle.css_drive.specs.TvProgress.{outcome_after, addresses_in, is_free, is_free_of, is_due, open_after}
+use Rattle.css_drive.specs.TvTurns.{since}
 use Rattle.css_drive.specs.TvDue.{TvRun, due, due_for, unless_refused, unless_owed, bad_line, due_at}
 use Rattle.css_drive.specs.TvPeers.{Covers, AreRising}
 use Rattle.css_drive.specs.TvStanding.{Told, Stays, Comes, Continues, Stops, IsAccepted, Keeps, Airs}
@@ -36,7 +37,8 @@ use Rattle.css_drive.proofs.TvSteps.{told_as, stays_on, continues, outcome_same,
 use Rattle.css_drive.proofs.TvPeers as lists
 
 -- what is left waits for what the line has the television do
-carried_on : (a : Addresses) (r : ℕ) (q : Progress) → q.place ≡ Turned r → carry a r q.lines q ≡ settled a q
+carried_on : (a : Addresses) (r : ℕ) (q : Progress) → q.place ≡ Turned r
+    → carry a (since q.turns) r q.lines q ≡ settled a q
 carried_on a r q at = sym (ap (λ place. settled_at a place q) at)
 
 -- ---- a line that is no event
@@ -44,7 +46,7 @@ pub passed_over : {run : TvRun} {start told : Option History} {peers : ℕ} {tv 
     (r : ℕ) (line : ScriptLine)
     (left : List ScriptLine)
     → Told run start told peers
-    (carry (addresses_in run.config) r left (with_line (addresses_in run.config) r line left p)) h
+    (carry (addresses_in run.config) (since p.turns) r left (with_line (addresses_in run.config) r line left p)) h
     → Stays run tv peers p → p.place ≡ Turned r → p.owed ≡ [] → None ≡ event_of r line.verb
     → Comes run start told peers tv (past_line left p) (Turned r) []
 passed_over {run} {p = p} {h = h} r line left t s at owes e =
@@ -55,7 +57,8 @@ passed_over {run} {p = p} {h = h} r line left t s at owes e =
       h = h;
       stands = record {
         history =
-            told_as (settled a q) t (ap (λ x. carry a r left (played_if a left p x)) (sym e) ∙ carried_on a r q at);
+            told_as (settled a q) t
+            (ap (λ x. carry a (since p.turns) r left (played_if a left p x)) (sym e) ∙ carried_on a r q at);
         stays = stays_on s q refl refl refl _ (omega arith);
       };
       at = at;
@@ -74,17 +77,18 @@ pub line_told : {run : TvRun} {start told : Option History} {peers : ℕ} {tv : 
     (r : ℕ) (line : ScriptLine)
     (left : List ScriptLine)
     → Told run start told peers
-    (carry (addresses_in run.config) r left (with_line (addresses_in run.config) r line left p)) h
+    (carry (addresses_in run.config) (since p.turns) r left (with_line (addresses_in run.config) r line left p)) h
     → Stays run tv peers p → p.place ≡ Turned r → (e : TvEvent) → Some e ≡ event_of r line.verb
     → (new : Stage) (after : List TvOut) → IsAfterBy tv.stage new [] after (outcome_at e tv.stage)
     → Told run start told peers
     (settled (addresses_in run.config) (happened (addresses_in run.config) e (past_line left p))) h
 line_told {run} {tv = tv} {p = p} r line left t s at e is new after done =
     let a = addresses_in run.config in
+    let from = since p.turns in
     told_as _ t
-    (ap (λ x. carry a r left (played_if a left p x)) (sym is)
-    ∙ ap (λ x. carry a r left (played a e left p x)) (sym (outcome_same s e))
-    ∙ ap (carry a r left) (played_ok a e left p tv.stage new [] after (outcome_at e tv.stage) done)
+    (ap (λ x. carry a from r left (played_if a left p x)) (sym is)
+    ∙ ap (λ x. carry a from r left (played a e left p x)) (sym (outcome_same s e))
+    ∙ ap (carry a from r left) (played_ok a e left p tv.stage new [] after (outcome_at e tv.stage) done)
     ∙ carried_on a r (happened a e (past_line left p)) at)
 
 -- an event of a line opens no session
@@ -125,7 +129,7 @@ pub line_refused : {run : TvRun} {start told : Option History} {peers : ℕ} {tv
     {h : History} (r : ℕ) (line : ScriptLine)
     (left : List ScriptLine)
     → Told run start told peers
-    (carry (addresses_in run.config) r left (with_line (addresses_in run.config) r line left p)) h
+    (carry (addresses_in run.config) (since p.turns) r left (with_line (addresses_in run.config) r line left p)) h
     → Stays run tv peers p → (e : TvEvent) → Some e ≡ event_of r line.verb → (f : PlayerFault)
     → (outcome_at e tv.stage ≡ Err (fault.Player f)) ⊎ (fault.Player f ≡ fault.Memory) → (before : ℕ)
     → p.carried ≡ before
@@ -134,10 +138,11 @@ line_refused {run} {start} {told} {peers} {p = p} {h = h} r line left t s e is f
 line_refused {run} {start} {told} {peers} {p = p} {h = h} r line left t s e is f (inl refused) before carried =
     let a = addresses_in run.config in
     let q : Progress = record p { refused = Some (fault.Player f) } in
+    let from = since p.turns in
     let now : Told run start told peers q h = told_as q t
-    (ap (λ x. carry a r left (played_if a left p x)) (sym is)
-    ∙ ap (λ x. carry a r left (played a e left p x)) (sym (outcome_same s e) ∙ refused)
-    ∙ carry_stops a r left q (not_free_refused q (fault.Player f) refl)) in
+    (ap (λ x. carry a from r left (played_if a left p x)) (sym is)
+    ∙ ap (λ x. carry a from r left (played a e left p x)) (sym (outcome_same s e) ∙ refused)
+    ∙ carry_stops a from r left q (not_free_refused q (fault.Player f) refl)) in
     record {
       h = h;
       grew = t.grew;
@@ -152,38 +157,47 @@ free : (p : Progress) → p.refused ≡ None → p.owed ≡ [] → is_free p ≡
 free p r e = ap (λ x. is_free_of x p.owed) r ∙ ap (is_free_of None) e
 
 pub next_line : (a : Addresses) (r : ℕ) (p : Progress) (line : ScriptLine) (left : List ScriptLine) → p.place ≡ Turned r
-    → p.refused ≡ None → p.owed ≡ []
-    → p.lines ≡ line ∷ left → line.due ≤ r → settled a p ≡ carry a r left (with_line a r line left p)
-next_line a r p line left at accepted owes lines due =
-    let is : nat_le line.due r ≡ true = grind (arith, nat_tests) in
-    ap (λ place. settled_at a place p) at ∙ ap (λ ls. carry a r ls p) lines
-    ∙ ap (λ b. cond (b && nat_le line.due r) (carry a r left (with_line a r line left p)) p) (free p accepted owes)
-    ∙ ap (λ b. cond b (carry a r left (with_line a r line left p)) p) is
+    → p.refused ≡ None → p.owed ≡ [] → p.lines ≡ line ∷ left → is_due (since p.turns) r line ≡ true
+    → settled a p ≡ carry a (since p.turns) r left (with_line a r line left p)
+next_line a r p line left at accepted owes lines is =
+    let from = since p.turns in
+    ap (λ place. settled_at a place p) at ∙ ap (λ ls. carry a from r ls p) lines
+    ∙ ap (λ b. cond (b && is_due from r line) (carry a from r left (with_line a r line left p)) p)
+    (free p accepted owes)
+    ∙ ap (λ b. cond b (carry a from r left (with_line a r line left p)) p) is
+
+pub never : (b : Bool) → (b && false) ≡ false
+never true = refl
+never false = refl
 
 pub line_waits : (a : Addresses) (r : ℕ) (p : Progress) (line : ScriptLine) (left : List ScriptLine)
     → p.place ≡ Turned r → p.lines ≡ line ∷ left
-    → r < line.due → settled a p ≡ p
-line_waits a r p line left at lines later =
-    let is : nat_le line.due r ≡ false = grind (arith, nat_tests) in
-    ap (λ place. settled_at a place p) at ∙ ap (λ ls. carry a r ls p) lines
-    ∙ ap (λ b. cond (is_free p && b) (carry a r left (with_line a r line left p)) p) is
-    ∙ ap (λ b. cond b (carry a r left (with_line a r line left p)) p) (never (is_free p))
-  where
-    never : (b : Bool) → (b && false) ≡ false
-    never true = refl
-    never false = refl
+    → is_due (since p.turns) r line ≡ false → settled a p ≡ p
+line_waits a r p line left at lines is =
+    let from = since p.turns in
+    ap (λ place. settled_at a place p) at ∙ ap (λ ls. carry a from r ls p) lines
+    ∙ ap (λ b. cond (is_free p && b) (carry a from r left (with_line a r line left p)) p) is
+    ∙ ap (λ b. cond b (carry a from r left (with_line a r line left p)) p) (never (is_free p))
 
 pub no_line : (a : Addresses) (r : ℕ) (p : Progress) → p.place ≡ Turned r → p.lines ≡ [] → settled a p ≡ p
-no_line a r p at lines = ap (λ place. settled_at a place p) at ∙ ap (λ ls. carry a r ls p) lines
+no_line a r p at lines =
+    ap (λ place. settled_at a place p) at ∙ ap (λ ls. carry a (since p.turns) r ls p) lines
+
+-- whether a line is due, by the number from which its time counts
+pub due_by : (from r : ℕ) (line : ScriptLine) (n : ℕ) → from ≡ n → n + line.due ≤ r → is_due from r line ≡ true
+due_by from r line n e le = ap (λ m. is_due m r line) e ∙ grind (arith, nat_tests)
+
+pub waits_by : (from r : ℕ) (line : ScriptLine) (n : ℕ) → from ≡ n → r < n + line.due → is_due from r line ≡ false
+waits_by from r line n e lt = ap (λ m. is_due m r line) e ∙ grind (arith, nat_tests)
 
 -- ---- the whole loop
 -- the loop is where a part of it has come
 pub airs_on : {run : TvRun} {start told : Option History} {peers : ℕ} {air : OnAir} {p : Progress} {place : Place}
     → Keeps run peers air p → (peers' : ℕ) → peers ≤ peers' → (air' : OnAir) → air'.peers.items ≡ air.peers.items
-    → air'.made ≡ air.made → air'.lines ≡ air.lines
+    → air'.turns ≡ air.turns → air'.lines ≡ air.lines
     → (x : Comes run start told peers' air'.tv p place []) → settled (addresses_in run.config) x.p ≡ x.p
     → Airs run start told peers' air' place x.p x.p x.h
-airs_on {run} {air = air} {p = p} k peers' le air' same made lines x exact = record {
+airs_on {run} {air = air} {p = p} k peers' le air' same turns lines x exact = record {
   is_at = record { history = told_as x.p x.stands.history exact; stays = x.stands.stays; at = x.at; owes = x.owes };
   keeps = record {
     knows = record {
@@ -193,7 +207,7 @@ airs_on {run} {air = air} {p = p} k peers' le air' same made lines x exact = rec
           subst (λ xs. Covers xs (open_after (addresses_in run.config) x.p.events)) (sym same)
           (x.same.narrows _ k.knows.covers);
     };
-    turns = x.same.turns ∙ k.turns ∙ sym made;
+    turns = x.same.turns ∙ k.turns ∙ sym turns;
     carried = x.same.carried ∙ k.carried ∙ sym lines;
     lines = x.same.lines ∙ k.lines ∙ ap (λ n. drop n run.script) (sym lines);
   };

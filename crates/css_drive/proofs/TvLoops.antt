@@ -2,15 +2,14 @@
 use Rattle.std.proofs.Common.{◌≡◌, ℕ, ◌+◌, ◌≤◌, ◌<◌, Bool, true, false, cond, List, [], ◌∷◌, ◌++◌, Option, Some, None}
 use Rattle.std.proofs.Common.{refl, sym, ap, subst, ◌∙◌, arith}
 use Rattle.std.proofs.Common.{drop, length}
-use Rattle.std.specs.Prelude.{nat_lt, filter, All}
+use Rattle.std.specs.Prelude.{filter, All}
 use Rattle.std.specs.List.{remove}
-use Rattle.std.proofs.lemmas.Bool.Decides.{nat_tests}
 use Rattle.css_model.specs.History.{History, HungUp}
 use Rattle.css_outside.specs.Outsides.{with_entries}
 use Rattle.css_drive.specs.Proper.{Due, Now, TakeText, HangUp, Ends}
 use Rattle.css_model.specs.declared.Why.TheVariants as why
 use Rattle.css_drive.specs.TvProgress.{Place, Asked, Over, Progress, addresses_in, after, open_after, settled, hung_up}
-use Rattle.css_drive.specs.TvProgress.{progress_of}
+use Rattle.css_drive.specs.TvTurns.{goes_on}
 use Rattle.css_drive.specs.TvDue.{TvRun, due, due_for, due_at, from_end, from_hang_ups, from_texts}
 use Rattle.css_drive.specs.TvPeers.{has, above, AreRising, Covers}
 use Rattle.css_drive.specs.TvStanding.{Stays, Comes, Keeps, Airs, Reaches, Hears, HangsUp, IsAtEnd, Stops}
@@ -30,17 +29,17 @@ text_due {run} x peer rest e there =
     let live = open_after (addresses_in run.config) x.p.events in
     let s = x.airs.is_at in
     ap (due_for run) s.history.progress ∙ due_free run x.p (Asked x.last) s.stays.accepted s.owes s.at
-    ∙ ap (from_texts run.turns x.p.turns live)
+    ∙ ap (from_texts x.p.turns live)
     (x.left ∙ ap (filter (λ peer. has peer live)) e ∙ lists.next_has peer live rest there)
 
 pub text_heard : {run : TvRun} {start told told' : Option History} {peers peers' : ℕ} {air : OnAir} {at : ℕ}
     → (x : Hears run start told peers air at)
     → (peer : ℕ) → drop at air.peers.items ≡ peer ∷ drop (at + 1) air.peers.items → peers ≤ peers' → (air' : OnAir)
-    → air'.peers.items ≡ air.peers.items → air'.made ≡ air.made → air'.lines ≡ air.lines
+    → air'.peers.items ≡ air.peers.items → air'.turns ≡ air.turns → air'.lines ≡ air.lines
     → Comes run start told' peers' air'.tv x.p (Asked (Some peer)) [] → Hears run start told' peers' air' (at + 1)
-text_heard {run} {peers' = peers'} {air} {at} x peer e le air' same made lines y =
+text_heard {run} {peers' = peers'} {air} {at} x peer e le air' same turns lines y =
     let airs =
-    airs_on x.airs.keeps peers' le air' same made lines y
+    airs_on x.airs.keeps peers' le air' same turns lines y
     (settled_at_place (addresses_in run.config) y.p (Asked (Some peer)) y.at refl) in
     let e' : drop at air'.peers.items ≡ peer ∷ drop (at + 1) air'.peers.items =
     ap (drop at) same ∙ e ∙ ap (λ xs. peer ∷ drop (at + 1) xs) (sym same) in
@@ -58,10 +57,10 @@ pub peer_removed : {run : TvRun} {start told : Option History} {peers : ℕ} {ai
     → (x : Hears run start told peers air at)
     → (peer : ℕ) (rest : List ℕ) → drop at air.peers.items ≡ peer ∷ rest
     → has peer (open_after (addresses_in run.config) x.p.events) ≡ false
-    → (air' : OnAir) → air'.tv ≡ air.tv → air'.peers.items ≡ remove air.peers.items at → air'.made ≡ air.made
+    → (air' : OnAir) → air'.tv ≡ air.tv → air'.peers.items ≡ remove air.peers.items at → air'.turns ≡ air.turns
     → air'.lines ≡ air.lines
     → Hears run start told peers air' at
-peer_removed {run} {peers = peers} {air} {at} x peer rest e lacks air' tv items made lines =
+peer_removed {run} {peers = peers} {air} {at} x peer rest e lacks air' tv items turns lines =
     let live = open_after (addresses_in run.config) x.p.events in
     let k = x.airs.keeps in
     record {
@@ -86,7 +85,7 @@ peer_removed {run} {peers = peers} {air} {at} x peer rest e lacks air' tv items 
                 subst (λ xs. Covers xs live) (sym items)
                 (lists.covers_removed at peer air.peers.items live rest e lacks k.knows.covers);
           };
-          turns = k.turns ∙ sym made;
+          turns = k.turns ∙ sym turns;
           carried = k.carried ∙ sym lines;
           lines = k.lines ∙ ap (λ n. drop n run.script) (sym lines);
         };
@@ -105,25 +104,24 @@ all_heard {run} x none = record {
   h = x.h;
   airs = x.airs;
   fits = let live = open_after (addresses_in run.config) x.p.events in
-      ap (from_texts run.turns x.p.turns live) (x.left ∙ ap (filter (λ peer. has peer live)) none);
+      ap (from_texts x.p.turns live) (x.left ∙ ap (filter (λ peer. has peer live)) none);
 }
 
 -- ---- hang-ups
 pub hangs_up : {run : TvRun} {start told : Option History} {peers : ℕ} {air : OnAir} {place : Place} {p : Progress}
     {h : History}
-    → Airs run start told peers air place p p h → IsAtEnd run place p → run.turns ≤ air.made
+    → Airs run start told peers air place p p h → IsAtEnd run place p → goes_on air.turns ≡ false
     → HangsUp run start told peers air 0
-hangs_up {run} {air = air} {place} {p} {h} s fits enough =
+hangs_up {run} {air = air} {place} {p} {h} s fits over =
     let live = open_after (addresses_in run.config) p.events in
-    let made : p.turns ≡ air.made = s.keeps.turns in
-    let over : nat_lt p.turns run.turns ≡ false = grind (arith, nat_tests) in
     record {
       place = place;
       p = p;
       h = h;
       airs = s;
       left =
-          fits ∙ ap (λ b. cond b (Now why.Turn) (from_hang_ups live)) over ∙ ap from_hang_ups (sym s.keeps.knows.covers);
+          fits ∙ ap (λ b. cond b (Now why.Turn) (from_hang_ups live)) (ap goes_on s.keeps.turns ∙ over)
+          ∙ ap from_hang_ups (sym s.keeps.knows.covers);
     }
 
 pub hang_due : {run : TvRun} {start told : Option History} {peers : ℕ} {air : OnAir} {at : ℕ}
@@ -195,12 +193,10 @@ hung_past {run} {air = air} {at} x peer e lacks =
 
 pub all_hung : {run : TvRun} {start told : Option History} {peers : ℕ} {air : OnAir} {at : ℕ}
     → (x : HangsUp run start told peers air at)
-    → drop at air.peers.items ≡ [] → run.turns ≤ air.made → Stops run start told driven.Done
-all_hung {run} {air = air} x none enough =
+    → drop at air.peers.items ≡ [] → goes_on air.turns ≡ false → Stops run start told driven.Done
+all_hung {run} {air = air} x none over =
     let live = open_after (addresses_in run.config) x.p.events in
     let s = x.airs.is_at in
-    let made : (progress_of run.config run.script x.h).turns ≡ air.made =
-    ap (λ y. y.turns) s.history.progress ∙ x.airs.keeps.turns in
     record {
       h = x.h;
       grew = s.history.grew;
@@ -208,5 +204,5 @@ all_hung {run} {air = air} x none enough =
       numbered = s.history.numbered;
       ends = ap (due_for run) s.history.progress ∙ due_free run x.p x.place s.stays.accepted s.owes s.at ∙ x.left
           ∙ ap (λ xs. from_hang_ups (filter (λ peer. has peer live) xs)) none;
-      whole = omega (arith, made, enough);
+      whole = ap (λ y. goes_on y.turns) s.history.progress ∙ ap goes_on x.airs.keeps.turns ∙ over;
     }

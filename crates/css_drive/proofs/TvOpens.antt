@@ -48,10 +48,10 @@ unused_of {run} {peers = peers} {air} {p = p} s = λ peer lt.
 pub came_open : {run : TvRun} {start told : Option History} {greatest : ℕ} {air : OnAir} {p : Progress} (peer : ℕ)
     (kind : Kind)
     → Keeps run greatest air p → greatest < peer → p.place ≡ Asked None → (peers : ℕ) → peer ≤ peers → (air' : OnAir)
-    → air'.peers.items ≡ air.peers.items ++ peer ∷ [] → air'.made ≡ air.made → air'.lines ≡ air.lines
+    → air'.peers.items ≡ air.peers.items ++ peer ∷ [] → air'.turns ≡ air.turns → air'.lines ≡ air.lines
     → Comes run start told peers air'.tv (happened (addresses_in run.config) (event.Opened peer kind) p) p.place []
     → Reaches run start told peers air' IsUnasked
-came_open {run} {greatest = greatest} {air} {p} peer kind k lt at peers le air' items made lines y =
+came_open {run} {greatest = greatest} {air} {p} peer kind k lt at peers le air' items turns lines y =
     let a = addresses_in run.config in
     let xs = air.peers.items in
     let before = lists.below_next greatest peer xs lt k.knows.below in
@@ -75,7 +75,7 @@ came_open {run} {greatest = greatest} {air} {p} peer kind k lt at peers le air' 
             covers = subst (λ ys. Covers ys (open_after a y.p.events)) (sym items)
                 (y.same.narrows _ (event_covers a peer kind p.events xs before k.knows.covers));
           };
-          turns = y.same.turns ∙ k.turns ∙ sym made;
+          turns = y.same.turns ∙ k.turns ∙ sym turns;
           carried = y.same.carried ∙ k.carried ∙ sym lines;
           lines = y.same.lines ∙ k.lines ∙ ap (λ n. drop n run.script) (sym lines);
         };
@@ -86,14 +86,14 @@ came_open {run} {greatest = greatest} {air} {p} peer kind k lt at peers le air' 
 pub arrives_open : {T : Type 0} (run : TvRun) (start told : Option History) {greatest : ℕ} {air : OnAir} {p : Progress}
     (peer : ℕ) (kind : Kind)
     → Keeps run greatest air p → greatest < peer → p.place ≡ Asked None → (peers : ℕ) → peer ≤ peers → (air' : OnAir)
-    → air'.peers.items ≡ air.peers.items ++ peer ∷ [] → air'.made ≡ air.made → air'.lines ≡ air.lines
+    → air'.peers.items ≡ air.peers.items ++ peer ∷ [] → air'.turns ≡ air.turns → air'.lines ≡ air.lines
     → (result : Result T Driven)
     → Goes run start told peers air'.tv (happened (addresses_in run.config) (event.Opened peer kind) p) p.place []
     result
     → Arrives run start told peers air' IsUnasked result
-arrives_open run start told peer kind k lt at peers le air' items made lines (Ok x) y =
-    came_open peer kind k lt at peers le air' items made lines y
-arrives_open run start told peer kind k lt at peers le air' items made lines (Err ended) y = y
+arrives_open run start told peer kind k lt at peers le air' items turns lines (Ok x) y =
+    came_open peer kind k lt at peers le air' items turns lines y
+arrives_open run start told peer kind k lt at peers le air' items turns lines (Err ended) y = y
 
 -- ---- from part to part
 -- at another name of its place
@@ -110,10 +110,10 @@ airs_at s place' e = record {
 pub served : {run : TvRun} {start told told' : Option History} {peers : ℕ} {air : OnAir}
     → (x : Reaches run start told peers air IsTurned)
     → (peers' : ℕ) → peers ≤ peers' → (tv : Television) → (y : Comes run start told' peers' tv x.p Served [])
-    → Airs run start told' peers' (record { tv = tv; peers = air.peers; lines = air.lines; made = air.made }) Served y.p
+    → Airs run start told' peers' (record { tv = tv; peers = air.peers; lines = air.lines; turns = air.turns }) Served y.p
     y.p y.h
 served {run} {air = air} x peers' le tv y =
-    airs_on x.airs.keeps peers' le (record { tv = tv; peers = air.peers; lines = air.lines; made = air.made }) refl refl
+    airs_on x.airs.keeps peers' le (record { tv = tv; peers = air.peers; lines = air.lines; turns = air.turns }) refl refl
     refl y
     (settled_at_place (addresses_in run.config) y.p Served y.at refl)
 

@@ -1,5 +1,5 @@
 -- How a television's run begins, and how it ends.
-use Rattle.std.proofs.Common.{◌≡◌, ℕ, ◌+◌, ◌≤◌, ◌<◌, List, [], ◌∷◌, Option, Some, None, refl, sym, ap, subst, ◌∙◌}
+use Rattle.std.proofs.Common.{◌≡◌, Bool, ℕ, ◌+◌, ◌≤◌, ◌<◌, List, [], ◌∷◌, Option, Some, None, refl, sym, ap, subst, ◌∙◌}
 use Rattle.std.proofs.Common.{arith, Result, Ok, Err, drop}
 use Rattle.std.specs.Prelude.{◌≢◌, All, IsErrOf, IfErr}
 use Rattle.std.proofs.lemmas.List.Elements.{All-nil}
@@ -9,11 +9,15 @@ use Rattle.css_server.specs.Tickets.{Server}
 use Rattle.css_tv.specs.Serving.{server_of}
 use Rattle.css_tv.specs.Stages.{Television}
 use Rattle.css_tv.specs.Standing.{StandsFor}
-use Rattle.css_tv.specs.declared.config.TvConfig.{TvConfig}
 use Rattle.css_drive.specs.Ends.{CountsNetFault}
 use Rattle.css_drive.specs.Proper.{Listen, Empty}
 use Rattle.css_drive.specs.TvProgress.{Place, Listens, Progress, addresses_in, beginning}
 use Rattle.css_drive.specs.TvDue.{TvRun}
+use Rattle.css_drive.specs.TvTurns.{no_turns, IsRanged}
+use Rattle.css_drive.specs.declared.turns.Turns.{Turns}
+use Rattle.css_model.specs.declared.TheConstants.{LIMIT}
+use Rattle.css_outside.specs.Limits.{IsLimit}
+use Rattle.css_outside.specs.declared.limit.Limit.{Limit}
 use Rattle.css_drive.specs.TvPeers.{AreRising, Covers}
 use Rattle.css_drive.specs.TvRan.{TvRan, CountsTvRun}
 use Rattle.css_drive.specs.TvStanding.{HasCause, Told, Stops, Reaches, IsAtEnd}
@@ -24,39 +28,39 @@ use Rattle.css_drive.proofs.TvSteps.{told_more}
 
 -- ---- the beginning
 pub at_first : (run : TvRun) (start : Option History) (peers : ℕ)
-    → Told run start start peers (beginning run.config run.script) []
+    → Told run start start peers (beginning run) []
 at_first run start peers =
     record { grew = same start; proper = Empty; numbered = tt; below = tt; progress = refl } where
       same : (s : Option History) → s ≡ with_entries [] s
       same None = refl
       same (Some h) = refl
 
-pub listens : (run : TvRun) (start told : Option History) (peers : ℕ) (config : TvConfig) → run.config ≡ config
-    → told ≡ with_entries (Listening config.host config.port ∷ []) start
-    → Told run start told peers (record (beginning run.config run.script) { place = Listens })
-    (Listening config.host config.port ∷ [])
-listens run start told peers config e grew =
+pub listens : (run : TvRun) (start told : Option History) (peers : ℕ)
+    → told ≡ with_entries (Listening run.config.host run.config.port ∷ []) start
+    → Told run start told peers (record (beginning run) { place = Listens })
+    (Listening run.config.host run.config.port ∷ [])
+listens run start told peers grew =
     told_more (at_first run start peers) (Listen run.config.host run.config.port) refl
-    (Listening config.host config.port ∷ [])
-    (ap (λ (c : TvConfig). Listening c.host c.port ∷ []) (sym e)) told grew peers tt tt
-    (record (beginning run.config run.script) { place = Listens }) refl
+    (Listening run.config.host run.config.port ∷ []) refl told grew peers tt tt
+    (record (beginning run) { place = Listens }) refl
 
-pub begun : (run : TvRun) (start told : Option History) (peers : ℕ) (config : TvConfig) → run.config ≡ config
-    → told ≡ with_entries (Listening config.host config.port ∷ []) start → (air : OnAir)
-    → air.tv.stage.addresses ≡ addresses_in config → StandsFor air.tv.stage [] → air.tv.server ≡ server_of config
-    → air.peers.items ≡ [] → air.lines ≡ 0 → air.made ≡ 0 → Reaches run start told peers air (IsAtEnd run)
-begun run start told peers config e grew air addresses stands server none lines made =
-    let p : Progress = record (beginning run.config run.script) { place = Listens } in
+pub begun : (run : TvRun) (start told : Option History) (peers : ℕ)
+    → told ≡ with_entries (Listening run.config.host run.config.port ∷ []) start → (air : OnAir)
+    → air.tv.stage.addresses ≡ addresses_in run.config → StandsFor air.tv.stage []
+    → air.tv.server ≡ server_of run.config → air.peers.items ≡ [] → air.lines ≡ 0
+    → air.turns ≡ no_turns run.limit run.relative → Reaches run start told peers air (IsAtEnd run)
+begun run start told peers grew air addresses stands server none lines turns =
+    let p : Progress = record (beginning run) { place = Listens } in
     record {
       place = Listens;
       p = p;
-      h = Listening config.host config.port ∷ [];
+      h = Listening run.config.host run.config.port ∷ [];
       airs = record {
         is_at = record {
-          history = listens run start told peers config e grew;
+          history = listens run start told peers grew;
           stays = record {
-            addresses = addresses ∙ ap addresses_in (sym e);
-            server = server ∙ ap server_of (sym e);
+            addresses = addresses;
+            server = server;
             stage = stands;
             accepted = refl;
             unused = λ peer lt. refl;
@@ -70,13 +74,17 @@ begun run start told peers config e grew air addresses stands server none lines 
             below = subst (All (λ peer. peer ≤ peers)) (sym none) (All-nil (λ peer. peer ≤ peers));
             covers = subst (λ xs. Covers xs []) (sym none) refl;
           };
-          turns = sym made;
+          turns = sym turns;
           carried = sym lines;
           lines = ap (λ n. drop n run.script) (sym lines);
         };
       };
       fits = refl;
     }
+
+pub none_ranged : (t : Turns) (limit : Limit) (relative : Bool) → t ≡ no_turns limit relative → IsLimit limit → IsRanged t
+none_ranged t limit relative e k =
+    subst IsRanged (sym e) (record { limit = k; first = omega arith; last = omega arith })
 
 -- ---- the end
 pub ran_by : {run : TvRun} {start told : Option History} {ended : Driven} → Stops run start told ended

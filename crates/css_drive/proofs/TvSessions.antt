@@ -1,7 +1,7 @@
 -- Each session is told the first of what it was to be told, over the calls of a proper run.
 use Rattle.std.proofs.Common.{◌≡◌, ℕ, ◌≤◌, Bool, true, false, cond, List, [], ◌∷◌, ◌++◌, length, Option, Some, None}
 use Rattle.std.proofs.Common.{refl, sym, ap, subst, ◌∙◌, arith, inl, inr, append_assoc}
-use Rattle.std.specs.Prelude.{nat_lt, reverse, ⊤}
+use Rattle.std.specs.Prelude.{reverse, ⊤}
 use Rattle.css_model.specs.declared.Why.TheVariants as why
 use Rattle.css_model.specs.History.{History, Accepted}
 use Rattle.css_tv.specs.declared.event.TvOut.{TvOut}
@@ -12,7 +12,9 @@ use Rattle.css_drive.specs.Proper.{Due, Listen, Now, Dial, Accept, SendDatagram,
 use Rattle.css_drive.specs.Proper.{HangUp, Ends, MayAdd, IsProper, Empty, More}
 use Rattle.css_drive.specs.TvProgress.{Place, Begins, Listens, Turned, Taken, Received, Answers, Served, Asked, Over}
 use Rattle.css_drive.specs.TvProgress.{addresses_in, progress_of, open_after}
-use Rattle.css_drive.specs.TvDue.{TvRun, due, due_at, from_end, from_hang_ups, from_texts, from_answers}
+use Rattle.css_drive.specs.TvDue.{TvRun, due, due_at, from_end, from_hang_ups, from_texts, from_turn, from_answers}
+use Rattle.css_drive.specs.TvTurns.{goes_on, is_over}
+use Rattle.css_drive.specs.declared.turns.Turns.{Turns}
 use Rattle.css_drive.specs.TvDue.{unless_owed, unless_refused}
 use Rattle.css_drive.specs.TvPeers.{above}
 use Rattle.css_drive.specs.TvRan.{AreNumbered}
@@ -33,30 +35,36 @@ no_text_hanging : (live : List ℕ) → IsNoText (from_hang_ups live)
 no_text_hanging [] = tt
 no_text_hanging (peer ∷ peers) = tt
 
-no_text_ending : (turns made : ℕ) (live : List ℕ) → IsNoText (from_end turns made live)
-no_text_ending turns made live = by (nat_lt made turns) where
+no_text_ending : (turns : Turns) (live : List ℕ) → IsNoText (from_end turns live)
+no_text_ending turns live = by (goes_on turns) where
   by : (b : Bool) → IsNoText (cond b (Now why.Turn) (from_hang_ups live))
   by true = tt
   by false = no_text_hanging live
 
-no_text_asking : (turns made : ℕ) (live peers : List ℕ) → IsNoText (from_texts turns made live peers)
-no_text_asking turns made live [] = no_text_ending turns made live
-no_text_asking turns made live (peer ∷ peers) = tt
+no_text_asking : (turns : Turns) (live peers : List ℕ) → IsNoText (from_texts turns live peers)
+no_text_asking turns live [] = no_text_ending turns live
+no_text_asking turns live (peer ∷ peers) = tt
+
+no_text_taking : (turns : Turns) (live : List ℕ) → IsNoText (from_turn turns live)
+no_text_taking turns live = by (is_over turns) where
+  by : (b : Bool) → IsNoText (cond b (from_hang_ups live) TakeDatagram)
+  by true = no_text_hanging live
+  by false = tt
 
 no_text_answering : (peer : ℕ) (datagrams : List (List ℕ)) → IsNoText (from_answers peer datagrams)
 no_text_answering peer [] = tt
 no_text_answering peer (datagram ∷ datagrams) = tt
 
-no_text : (run : TvRun) (live : List ℕ) (made : ℕ) (place : Place) → IsNoText (due_at run live made place)
-no_text run live made Begins = tt
-no_text run live made Listens = no_text_ending run.turns made live
-no_text run live made (Turned reading) = tt
-no_text run live made (Taken peer bytes) = tt
-no_text run live made (Received peer ticket) = tt
-no_text run live made (Answers peer datagrams) = no_text_answering peer datagrams
-no_text run live made Served = tt
-no_text run live made (Asked last) = no_text_asking run.turns made live (above last live)
-no_text run live made (Over last) = no_text_hanging (above (Some last) live)
+no_text : (run : TvRun) (live : List ℕ) (turns : Turns) (place : Place) → IsNoText (due_at run live turns place)
+no_text run live turns Begins = tt
+no_text run live turns Listens = no_text_ending turns live
+no_text run live turns (Turned reading) = no_text_taking turns live
+no_text run live turns (Taken peer bytes) = tt
+no_text run live turns (Received peer ticket) = tt
+no_text run live turns (Answers peer datagrams) = no_text_answering peer datagrams
+no_text run live turns Served = tt
+no_text run live turns (Asked last) = no_text_asking turns live (above last live)
+no_text run live turns (Over last) = no_text_hanging (above (Some last) live)
 
 -- ---- a call
 abbrev Step : TvRun → ℕ → History → History → Type 0
@@ -64,7 +72,7 @@ Step run peer older call = AreNumbered (call ++ older) → Good run peer (call +
 
 -- a call that is no text, where nothing is owed
 call_good : (run : TvRun) (peer : ℕ) (older : History) (d : Due) → IsNoText d
-    → (progress_of run.config run.script older).owed ≡ [] → (call : History) → MayAdd d call → Good run peer older
+    → (progress_of run older).owed ≡ [] → (call : History) → MayAdd d call → Good run peer older
     → Step run peer older call
 call_good run peer older (Listen host port) quiet none call may t =
     subst (Step run peer older) (sym may) (λ numbered. t)
@@ -89,8 +97,8 @@ call_good run peer older (Ends ended) quiet none call may t = absurd may
 
 -- a call that is due
 due_good : (run : TvRun) (peer : ℕ) (older : History) (call : History) (r : Option TvFault) (owed : List TvOut)
-    → (progress_of run.config run.script older).owed ≡ owed
-    → MayAdd (let p = progress_of run.config run.script older in unless_refused p.carried r (unless_owed owed
+    → (progress_of run older).owed ≡ owed
+    → MayAdd (let p = progress_of run older in unless_refused p.carried r (unless_owed owed
     (due_at run (open_after (addresses_in run.config) p.events) p.turns p.place))) call
     → Good run peer older → Step run peer older call
 due_good run peer older call (Some (fault.Player f)) owed owes may t = absurd may
@@ -100,7 +108,7 @@ due_good run peer older call None (out.Say p text ∷ os) owes may t =
 due_good run peer older call None (out.HangUp p ∷ os) owes may t =
     subst (Step run peer older) (sym may) (λ numbered. hung_due run peer older p os owes t)
 due_good run peer older call None [] owes may t =
-    let p = progress_of run.config run.script older in
+    let p = progress_of run older in
     let live = open_after (addresses_in run.config) p.events in
     call_good run peer older (due_at run live p.turns p.place) (no_text run live p.turns p.place) owes call may t
 
@@ -120,7 +128,7 @@ all_good run peer [] Empty numbered = record {
   over = λ e. absurd (cc);
 }
 all_good run peer h (More {older} call may proper) numbered =
-    let p = progress_of run.config run.script older in
+    let p = progress_of run older in
     due_good run peer older call p.refused p.owed refl may
     (all_good run peer older proper (numbered_rest call older numbered)) numbered
 
@@ -136,7 +144,7 @@ ended_owes (Some fault.Memory) owed carried rest e = absurd (cc)
 pub sessions_are_told : SessionsAreTold
 sessions_are_told run h proper numbered peer =
     let t = all_good run peer h proper numbered in
-    let p = progress_of run.config run.script h in
+    let p = progress_of run h in
     let live = open_after (addresses_in run.config) p.events in
     let texts : p.owed ≡ [] → news_of peer p.owed ≡ [] = λ e. ap (news_of peer) e in
     let unsent = reverse (news_of peer p.owed) ++ t.missing in

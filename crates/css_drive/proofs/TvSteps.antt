@@ -2,7 +2,7 @@
 use Rattle.std.proofs.Common.{◌≡◌, ℕ, ◌+◌, ◌≤◌, ◌<◌, Bool, true, false, cond, eqb, List, [], ◌∷◌, ◌++◌, Option, Some}
 use Rattle.std.proofs.Common.{None}
 use Rattle.std.proofs.Common.{refl, sym, ap, ap₂, subst, ◌∙◌, arith, append_assoc, append-nil, Result, Ok, Err}
-use Rattle.std.specs.Prelude.{MatchResult, nat_le, nat_lt, ◌&&◌}
+use Rattle.std.specs.Prelude.{MatchResult, ◌≢◌, nat_lt, ◌&&◌}
 use Rattle.std.proofs.lemmas.Bool.Decides.{nat_tests}
 use Rattle.css_model.specs.declared.Kind.{Kind}
 use Rattle.css_model.specs.declared.Why.{Why}
@@ -26,15 +26,16 @@ use Rattle.css_tv.specs.declared.fault.TvFault.{TvFault}
 use Rattle.css_tv.specs.declared.state.Addresses.{Addresses}
 use Rattle.css_schedule.specs.declared.line.ScriptLine.{ScriptLine}
 use Rattle.css_drive.specs.Proper.{Due, SendText, HangUp, Ends, MayAdd, More}
-use Rattle.css_drive.specs.Ends.{MayEnd}
+use Rattle.css_drive.specs.Ends.{MayEnd, CountsNetFault}
 use Rattle.css_drive.specs.TvProgress.{Place, Turned, Progress, settled, settled_at, carry, with_line, is_free}
-use Rattle.css_drive.specs.TvProgress.{is_free_of}
+use Rattle.css_drive.specs.TvProgress.{is_free_of, is_due}
+use Rattle.css_drive.specs.TvTurns.{since}
 use Rattle.css_drive.specs.TvProgress.{open_after, addresses_in, progress_of, after, happened, outcome_after}
 use Rattle.css_drive.specs.TvProgress.{outs_after, outs_in}
 use Rattle.css_drive.specs.TvDue.{TvRun, due, due_for, due_at, unless_owed, unless_refused}
 use Rattle.css_drive.specs.TvPeers.{Narrows, Covers}
 use Rattle.css_drive.specs.TvRan.{AreBelow, AreNumbered, MadeTurns}
-use Rattle.css_drive.specs.TvStanding.{IsFault, Told, Stays, Stands, Stops, Comes, Continues, Goes, Closes, IsAccepted}
+use Rattle.css_drive.specs.TvStanding.{HasCause, KeepsCounts, IsFault, Told, Stays, Stands, Stops, Comes, Continues, Goes, Closes, IsAccepted}
 use Rattle.css_drive.specs.declared.driven.Driven.{Driven}
 use Rattle.css_drive.specs.declared.driven.Driven.TheVariants as driven
 use Rattle.css_drive.proofs.TvCalls.{IsOther, IsNoOpening, event_narrows, event_unused}
@@ -49,16 +50,16 @@ not_free p o os e = ap (is_free_of p.refused) e ∙ by p.refused where
 pub not_free_refused : (p : Progress) (f : TvFault) → p.refused ≡ Some f → is_free p ≡ false
 not_free_refused p f e = ap (λ r. is_free_of r p.owed) e
 
-pub carry_stops : (a : Addresses) (r : ℕ) (lines : List ScriptLine) (p : Progress) → is_free p ≡ false
-    → carry a r lines p ≡ p
-carry_stops a r [] p e = refl
-carry_stops a r (line ∷ left) p e =
-    ap (λ b. cond (b && nat_le line.due r) (carry a r left (with_line a r line left p)) p) e
+pub carry_stops : (a : Addresses) (s r : ℕ) (lines : List ScriptLine) (p : Progress) → is_free p ≡ false
+    → carry a s r lines p ≡ p
+carry_stops a s r [] p e = refl
+carry_stops a s r (line ∷ left) p e =
+    ap (λ b. cond (b && is_due s r line) (carry a s r left (with_line a r line left p)) p) e
 
 pub settled_stops : (a : Addresses) (p : Progress) → is_free p ≡ false → settled a p ≡ p
 settled_stops a p e = go p.place where
   go : (place : Place) → settled_at a place p ≡ p
-  go (Turned r) = carry_stops a r p.lines p e
+  go (Turned r) = carry_stops a (since p.turns) r p.lines p e
   go _ = refl
 
 -- at another place nothing waits
@@ -110,7 +111,7 @@ pub told_more : {run : TvRun} {start told : Option History} {peers : ℕ} {p : P
     → Told run start told peers p h → (d : Due) → due_for run p ≡ d → (call : History) → MayAdd d call
     → (told' : Option History) → told' ≡ with_entries call told
     → (peers' : ℕ) → AreNumbered (call ++ h) → AreBelow (peers' + 1) (call ++ h)
-    → (q : Progress) → progress_of run.config run.script (call ++ h) ≡ q → Told run start told' peers' q (call ++ h)
+    → (q : Progress) → progress_of run (call ++ h) ≡ q → Told run start told' peers' q (call ++ h)
 told_more {run} {start} {told} {h = h} t d is call may told' e peers' numbered below q progress = record {
   grew = grown start told told' call h t.grew e;
   proper = More call (subst (λ x. MayAdd x call) (sym (ap (due_for run) t.progress ∙ is)) may) t.proper;
@@ -143,6 +144,42 @@ fault_whole run h (driven.Moved property old new) f = absurd f
 fault_whole run h (driven.Spent n) f = absurd f
 fault_whole run h (driven.Unreachable n) f = absurd f
 fault_whole run h (driven.BadUrl k) f = absurd f
+
+faults_kept : (before now : ℕ) (ended : Driven) → CountsNetFault before now ended → before ≤ now
+faults_kept before now (driven.NetFault failure) c = c.kept
+faults_kept before now _ c = omega (arith, c)
+
+-- a call of the outside failed that opened no session
+pub cause_by : {T : Type 0} (before now : Counts) (ended : Driven) → now.dial_faults ≡ before.dial_faults
+    → now.peers ≡ before.peers → CountsNetFault before.faults now.faults ended → ended ≢ driven.WriteFault
+    → HasCause {T = T} before now (Err ended)
+cause_by before now ended dials peers counted none = record {
+  dials = dials;
+  peers = omega (arith, peers);
+  kept = faults_kept before.faults now.faults ended counted;
+  ok = tt;
+  failed = counted;
+  no_writes = none;
+}
+
+-- so did one that does nothing else
+pub cause_plain : {T : Type 0} {U : Type 0} {result : Result U OutFault} (before now : Counts) (ended : Driven)
+    → CountsPlain before now result → CountsNetFault before.faults now.faults ended → ended ≢ driven.WriteFault
+    → HasCause {T = T} before now (Err ended)
+cause_plain before now ended k counted none =
+    cause_by before now ended (ap (λ x. x.dial_faults) k.same) (ap (λ x. x.peers) k.same) counted none
+
+-- no call had failed before
+pub cause_later : {T : Type 0} (before mid now : Counts) (ended : Driven) → KeepsCounts before mid
+    → HasCause {T = T} mid now (Err ended) → HasCause {T = T} before now (Err ended)
+cause_later before mid now ended kept k = record {
+  dials = k.dials ∙ kept.dials;
+  peers = omega (arith, k.peers, kept.peers);
+  kept = omega (arith, k.kept, kept.faults);
+  ok = tt;
+  failed = subst (λ n. CountsNetFault n now.faults ended) kept.faults k.failed;
+  no_writes = k.no_writes;
+}
 
 -- nothing was told, and the run ends by a fault
 pub stops_by_fault : {run : TvRun} {start told : Option History} {peers : ℕ} {p : Progress} {h : History}

@@ -57,15 +57,15 @@ other_than peer p n lt le = grind (arith, nat_tests)
 
 -- one event more that opens no session of the peer
 unused_more : (run : TvRun) (peer : ℕ) (older : History) (e : TvEvent) → IsOther peer e
-    → At (Unused (addresses_in run.config) peer) (progress_of run.config run.script older)
+    → At (Unused (addresses_in run.config) peer) (progress_of run older)
     → life_of peer (calls_of (addresses_in run.config)
-    (e ∷ (progress_of run.config run.script older).events)).sessions ≡ None
+    (e ∷ (progress_of run older).events)).sessions ≡ None
 unused_more run peer older e other none =
-    event_unused (addresses_in run.config) e (progress_of run.config run.script older).events peer other none
+    event_unused (addresses_in run.config) e (progress_of run older).events peer other none
 
 -- a peer whose number is above those of all that came has no session
 unused : (run : TvRun) (peer n : ℕ) → n ≤ peer → (h : History) → AreBelow n h
-    → At (Unused (addresses_in run.config) peer) (progress_of run.config run.script h)
+    → At (Unused (addresses_in run.config) peer) (progress_of run h)
 unused run peer n le [] below = refl
 unused run peer n le (Accepted p peer_kind.Wc ∷ older) below = unused run peer n le older below.1
 unused run peer n le (Accepted p peer_kind.Cii ∷ older) below =
@@ -80,21 +80,21 @@ unused run peer n le (Closed p ∷ older) below =
     unused_more run peer older (event.Closed p) tt (unused run peer n le older below)
 unused run peer n le (Wrote p text ∷ older) below =
     let a = addresses_in run.config in
-    kept_settled a (Unused a peer) (unused_kept a peer) (one_done (progress_of run.config run.script older))
+    kept_settled a (Unused a peer) (unused_kept a peer) (one_done (progress_of run older))
     (unused run peer n le older below)
 unused run peer n le (Gone p ∷ older) below =
     let a = addresses_in run.config in
     kept_settled a (Unused a peer) (unused_kept a peer)
-    (happened a (event.Closed p) (one_done (progress_of run.config run.script older)))
+    (happened a (event.Closed p) (one_done (progress_of run older)))
     (unused_more run peer older (event.Closed p) tt (unused run peer n le older below))
 unused run peer n le (HungUp p ∷ older) below =
     let a = addresses_in run.config in
-    let before = progress_of run.config run.script older in
+    let before = progress_of run older in
     kept_settled a (Unused a peer) (unused_kept a peer) (hung_up p before.owed before)
     (hung_up_owed (Unused a peer) p before before.owed (λ os. unused run peer n le older below))
 unused run peer n le (entry ∷ older) below =
     let a = addresses_in run.config in
-    kept_plain a (Unused a peer) (unused_kept a peer) entry tt (progress_of run.config run.script older)
+    kept_plain a (Unused a peer) (unused_kept a peer) entry tt (progress_of run older)
     (unused run peer n le older below)
 
 -- ---- events
@@ -230,25 +230,25 @@ tells_hung a peer sent gone events other os t = record {
 -- ---- a call
 abbrev pub Good : TvRun → ℕ → History → Type 0
 Good run peer h =
-    At (Telling (addresses_in run.config) peer (sent_to peer h) (is_gone peer h)) (progress_of run.config run.script h)
+    At (Telling (addresses_in run.config) peer (sent_to peer h) (is_gone peer h)) (progress_of run h)
 
 -- an entry that isn't of a session leaves what was sent
 pub plain_good : (run : TvRun) (peer : ℕ) (older : History) (entry : Entry) → IsPlain entry → Good run peer older
     → At (Telling (addresses_in run.config) peer (sent_to peer older) (is_gone peer older))
-    (progress_of run.config run.script (entry ∷ older))
+    (progress_of run (entry ∷ older))
 plain_good run peer older entry plain t =
     let a = addresses_in run.config in
     kept_plain a (Telling a peer (sent_to peer older) (is_gone peer older))
     (tells_kept a peer (sent_to peer older) (is_gone peer older)) entry plain
-    (progress_of run.config run.script older) t
+    (progress_of run older) t
 
 event_good : (run : TvRun) (peer : ℕ) (older : History) (e : TvEvent)
-    → IsFresh e (calls_of (addresses_in run.config) (progress_of run.config run.script older).events).sessions
-    → (progress_of run.config run.script older).owed ≡ [] → Good run peer older
+    → IsFresh e (calls_of (addresses_in run.config) (progress_of run older).events).sessions
+    → (progress_of run older).owed ≡ [] → Good run peer older
     → At (Telling (addresses_in run.config) peer (sent_to peer older) (is_gone peer older))
-    (happened (addresses_in run.config) e (progress_of run.config run.script older))
+    (happened (addresses_in run.config) e (progress_of run older))
 event_good run peer older e fresh none t =
-    let before = progress_of run.config run.script older in
+    let before = progress_of run older in
     tells_event (addresses_in run.config) peer (sent_to peer older) (is_gone peer older) e before.events before.owed t
     none fresh
 
@@ -258,7 +258,7 @@ clock_good run peer older w reading false t = plain_good run peer older (Clock w
 clock_good run peer older w reading true t = plain_good run peer (Slept ∷ older) (Clock w reading) tt t
 
 pub opening_good : (run : TvRun) (peer : ℕ) (older : History) (came : Option (ℕ × PeerKind))
-    → (progress_of run.config run.script older).owed ≡ [] → AreNumbered (opening_entries came ++ older)
+    → (progress_of run older).owed ≡ [] → AreNumbered (opening_entries came ++ older)
     → Good run peer older → Good run peer (opening_entries came ++ older)
 opening_good run peer older None none numbered t = t
 opening_good run peer older (Some (p, peer_kind.Wc)) none numbered t = t
@@ -273,7 +273,7 @@ datagram_good run peer older room None t = t
 datagram_good run peer older room (Some (p, count)) t = t
 
 pub heard_good : (run : TvRun) (peer : ℕ) (older : History) (p : ℕ) (h : SessionHeard)
-    → (progress_of run.config run.script older).owed ≡ [] → Good run peer older
+    → (progress_of run older).owed ≡ [] → Good run peer older
     → Good run peer (heard_entries p h ++ older)
 heard_good run peer older p heard.Quiet none t = t
 heard_good run peer older p (heard.Text text) none t = event_good run peer older (event.Heard p text) tt none t
@@ -281,11 +281,11 @@ heard_good run peer older p heard.Closed none t = event_good run peer older (eve
 
 -- a text that is owed first is sent, or told as gone
 pub wrote_good : (run : TvRun) (peer : ℕ) (older : History) (p : ℕ) (text : List ℕ) (os : List TvOut) (o : Outcome)
-    → (progress_of run.config run.script older).owed ≡ out.Say p text ∷ os → Good run peer older
+    → (progress_of run older).owed ≡ out.Say p text ∷ os → Good run peer older
     → Good run peer (wrote_entries p text o ++ older)
 wrote_good run peer older p text os outcome.Sent owes t =
     let a = addresses_in run.config in
-    let before = progress_of run.config run.script older in
+    let before = progress_of run older in
     let gone = is_gone peer older in
     let sent = with_text (sent_by peer (Wrote p text)) (sent_to peer older) in
     let owing : Telling a peer (sent_to peer older) gone before.events (out.Say p text ∷ os) =
@@ -295,7 +295,7 @@ wrote_good run peer older p text os outcome.Sent owes t =
     (tells_sent a peer (sent_to peer older) gone before.events p text os (eqb p peer) refl owing))
 wrote_good run peer older p text os outcome.Gone owes t =
     let a = addresses_in run.config in
-    let before = progress_of run.config run.script older in
+    let before = progress_of run older in
     let sent = sent_to peer older in
     let gone = is_gone peer (Gone p ∷ older) in
     let owing : Telling a peer sent (is_gone peer older) before.events (out.Say p text ∷ os) =
@@ -308,22 +308,22 @@ wrote_good run peer older p text os outcome.Gone owes t =
 
 pub hung_good : (run : TvRun) (peer : ℕ) (older : History) (p : ℕ) (owed : List TvOut)
     → At (Telling (addresses_in run.config) peer (sent_to peer older) (is_gone peer older))
-    (hung_up p owed (progress_of run.config run.script older))
-    → (progress_of run.config run.script older).owed ≡ owed → Good run peer (HungUp p ∷ older)
+    (hung_up p owed (progress_of run older))
+    → (progress_of run older).owed ≡ owed → Good run peer (HungUp p ∷ older)
 hung_good run peer older p owed t is =
     let a = addresses_in run.config in
-    let before = progress_of run.config run.script older in
+    let before = progress_of run older in
     let Q = Telling a peer (sent_to peer older) (is_gone peer older) in
     kept_settled a Q (tells_kept a peer (sent_to peer older) (is_gone peer older)) (hung_up p before.owed before)
     (subst (λ (xs : List TvOut). At Q (hung_up p xs before)) (sym is) t)
 
 -- what is owed first is a session's end
 pub hung_due : (run : TvRun) (peer : ℕ) (older : History) (p : ℕ) (os : List TvOut)
-    → (progress_of run.config run.script older).owed ≡ out.HangUp p ∷ os → Good run peer older
+    → (progress_of run older).owed ≡ out.HangUp p ∷ os → Good run peer older
     → Good run peer (HungUp p ∷ older)
 hung_due run peer older p os owes t =
     let a = addresses_in run.config in
-    let before = progress_of run.config run.script older in
+    let before = progress_of run older in
     let sent = sent_to peer older in
     let gone = is_gone peer older in
     hung_good run peer older p (out.HangUp p ∷ os)

@@ -1,7 +1,7 @@
 -- What a television's run sent to a session is the first of what the session was to be told.
 use Rattle.std.proofs.Common.{◌≡◌, ℕ, ◌+◌, ◌≤◌, suc, Bool, true, false, cond, eqb, List, [], ◌∷◌, ◌++◌, length, Option}
 use Rattle.std.proofs.Common.{Some, None, refl, sym, ap, subst, ◌∙◌, arith, length-append, Result, Ok, Err}
-use Rattle.std.specs.Prelude.{◌&&◌, nat_le, reverse, option_map, ⊤}
+use Rattle.std.specs.Prelude.{◌&&◌, reverse, option_map, ⊤}
 use Rattle.std.proofs.lemmas.List.{length-reverse}
 use Rattle.std.proofs.lemmas.Bool.Decides.{nat_tests}
 use Rattle.css_model.specs.declared.Why.{Why}
@@ -24,9 +24,10 @@ use Rattle.css_schedule.specs.declared.line.ScriptLine.{ScriptLine}
 use Rattle.css_schedule.specs.declared.line.Verb.{Verb}
 use Rattle.css_schedule.specs.declared.line.Verb.TheVariants.{Programme, Timeline, Viewer}
 use Rattle.css_drive.specs.TvProgress.{Place, Turned, Taken, Received, Progress, outcome_after, outs_after, happened}
-use Rattle.css_drive.specs.TvProgress.{event_of, played, played_if, with_line, is_free, is_free_of, carry}
+use Rattle.css_drive.specs.TvProgress.{event_of, played, played_if, with_line, is_free, is_free_of, is_due, carry}
 use Rattle.css_drive.specs.TvProgress.{settled_at, settled, ticketed, received_at, answered_at, after}
 use Rattle.css_drive.specs.TvTold.{lost}
+use Rattle.css_drive.specs.TvTurns.{begun, since}
 use Rattle.css_drive.proofs.TvCalls.{called_in}
 use Rattle.css_drive.proofs.TvNews.{news_of, sessions-after, event-lawful, event-texts, event-few}
 
@@ -177,15 +178,16 @@ kept_verb a Q k reading (Viewer unused command) left p none q =
     (k (event.Viewer command reading) tt p.events p.owed none q)
 kept_verb a Q k reading _ left p none q = q
 
-kept_carry : (a : Addresses) (Q : List TvEvent → List TvOut → Type 0) → IsKept a Q → (reading : ℕ)
-    (lines : List ScriptLine) (p : Progress) → At Q p → At Q (carry a reading lines p)
-kept_carry a Q k reading [] p q = q
-kept_carry a Q k reading (line ∷ left) p q =
-    by (is_free p) (nat_le line.due reading) refl (kept_carry a Q k reading left (with_line a reading line left p))
+kept_carry : (a : Addresses) (Q : List TvEvent → List TvOut → Type 0) → IsKept a Q → (from reading : ℕ)
+    (lines : List ScriptLine) (p : Progress) → At Q p → At Q (carry a from reading lines p)
+kept_carry a Q k from reading [] p q = q
+kept_carry a Q k from reading (line ∷ left) p q =
+    by (is_free p) (is_due from reading line) refl
+    (kept_carry a Q k from reading left (with_line a reading line left p))
   where
     by : (free due : Bool) → is_free p ≡ free
-        → (At Q (with_line a reading line left p) → At Q (carry a reading left (with_line a reading line left p)))
-        → At Q (cond (free && due) (carry a reading left (with_line a reading line left p)) p)
+        → (At Q (with_line a reading line left p) → At Q (carry a from reading left (with_line a reading line left p)))
+        → At Q (cond (free && due) (carry a from reading left (with_line a reading line left p)) p)
     by true true e on = on (kept_verb a Q k reading line.verb left p (free_owes p.refused p.owed e) q)
     by true false e on = q
     by false due e on = q
@@ -194,7 +196,7 @@ pub kept_settled : (a : Addresses) (Q : List TvEvent → List TvOut → Type 0) 
     → At Q (settled a p)
 kept_settled a Q k p q = by p.place where
   by : (place : Place) → At Q (settled_at a place p)
-  by (Turned reading) = kept_carry a Q k reading p.lines p q
+  by (Turned reading) = kept_carry a Q k (since p.turns) reading p.lines p q
   by _ = q
 
 kept_ticketed : (Q : List TvEvent → List TvOut → Type 0) (peer reading : ℕ) (p : Progress)
@@ -215,7 +217,7 @@ kept_answered Q reading _ p q = q
 kept_clock : (a : Addresses) (Q : List TvEvent → List TvOut → Type 0) → IsKept a Q → (w : Why) (reading : ℕ)
     (p : Progress) → At Q p → At Q (after a (Clock w reading) p)
 kept_clock a Q k why.Turn reading p q =
-    kept_settled a Q k (record p { turns = p.turns + 1; place = Turned reading }) q
+    kept_settled a Q k (record p { turns = begun reading p.turns; place = Turned reading }) q
 kept_clock a Q k why.Take reading p q = kept_received Q reading p.place p q
 kept_clock a Q k why.Give reading p q = kept_answered Q reading p.place p q
 kept_clock a Q k _ reading p q = q

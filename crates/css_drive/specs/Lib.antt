@@ -13,6 +13,7 @@ pub mod CompanionStanding
 pub mod CompanionLaws
 pub mod SameEvents
 pub mod TvPeers
+pub mod TvTurns
 pub mod TvProgress
 pub mod TvDue
 pub mod TvRan

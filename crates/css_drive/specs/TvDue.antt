@@ -1,8 +1,7 @@
 -- Which call a television's run has to make next: a function of what its calls did so far.
-use Rattle.std.specs.Prelude.{ℕ, ◌+◌, nat_lt, List, [], ◌∷◌, if◌then◌else◌, Option, Some, None}
+use Rattle.std.specs.Prelude.{ℕ, ◌+◌, List, [], ◌∷◌, if◌then◌else◌, Option, Some, None}
 use Rattle.css_model.specs.declared.Why.TheVariants as why
 use Rattle.css_model.specs.History.{History}
-use Rattle.css_tv.specs.declared.config.TvConfig.{TvConfig}
 use Rattle.css_tv.specs.declared.event.TvOut.{TvOut}
 use Rattle.css_tv.specs.declared.event.TvOut.TheVariants as out
 use Rattle.css_tv.specs.declared.fault.TvFault.{TvFault}
@@ -14,15 +13,22 @@ use Rattle.css_drive.specs.Proper.{Due, Listen, Now, Accept, SendDatagram, TakeD
 use Rattle.css_drive.specs.Proper.{TakeText, SendText, HangUp, Ends}
 use Rattle.css_drive.specs.TvProgress.{Place, Begins, Listens, Turned, Taken, Received, Answers, Served, Asked, Over}
 use Rattle.css_drive.specs.TvProgress.{Progress, open_after, addresses_in, progress_of}
+pub use Rattle.css_drive.specs.TvProgress.{TvRun}
+use Rattle.css_drive.specs.TvTurns.{is_over, goes_on}
 use Rattle.css_drive.specs.TvPeers.{above}
 use Rattle.css_drive.specs.declared.driven.Driven.{Driven}
 use Rattle.css_drive.specs.declared.driven.Driven.TheVariants as driven
+use Rattle.css_drive.specs.declared.turns.Turns.{Turns}
+use Rattle.css_drive.specs.declared.tv_config.TvDrive.{TvDrive}
 
--- what a television is started with, how many turns it makes, and its script
-pub record TvRun : Type 0 where
-  pub config : TvConfig
-  pub turns : ℕ
-  pub script : List ScriptLine
+-- the run of a configuration with a script
+abbrev pub run_of : TvDrive → List ScriptLine → TvRun
+run_of drive script = record {
+  config = drive.tv;
+  limit = drive.limit;
+  relative = drive.relative;
+  script = script;
+}
 
 -- ---- the steps of a turn, the last first: what is due from there on
 -- the open sessions are hung up in order of peer, and the run is done
@@ -31,28 +37,32 @@ from_hang_ups [] = Ends driven.Done
 from_hang_ups (peer ∷ peers) = HangUp peer
 
 -- the next turn, if there is one
-abbrev pub from_end : ℕ → ℕ → List ℕ → Due
-from_end turns made live = if nat_lt made turns then Now why.Turn else from_hang_ups live
+abbrev pub from_end : Turns → List ℕ → Due
+from_end turns live = if goes_on turns then Now why.Turn else from_hang_ups live
 
 -- each open session is asked for a text in order of peer
-abbrev pub from_texts : ℕ → ℕ → List ℕ → List ℕ → Due
-from_texts turns made live [] = from_end turns made live
-from_texts turns made live (peer ∷ peers) = TakeText peer
+abbrev pub from_texts : Turns → List ℕ → List ℕ → Due
+from_texts turns live [] = from_end turns live
+from_texts turns live (peer ∷ peers) = TakeText peer
+
+-- a datagram, unless the turn is the last by its time
+abbrev pub from_turn : Turns → List ℕ → Due
+from_turn turns live = if is_over turns then from_hang_ups live else TakeDatagram
 
 abbrev pub from_answers : ℕ → List (List ℕ) → Due
 from_answers peer [] = Accept
 from_answers peer (datagram ∷ datagrams) = SendDatagram peer datagram
 
-abbrev pub due_at : TvRun → List ℕ → ℕ → Place → Due
-due_at run live made Begins = Listen run.config.host run.config.port
-due_at run live made Listens = from_end run.turns made live
-due_at run live made (Turned reading) = TakeDatagram
-due_at run live made (Taken peer bytes) = Now why.Take
-due_at run live made (Received peer ticket) = Now why.Give
-due_at run live made (Answers peer datagrams) = from_answers peer datagrams
-due_at run live made Served = Accept
-due_at run live made (Asked last) = from_texts run.turns made live (above last live)
-due_at run live made (Over last) = from_hang_ups (above (Some last) live)
+abbrev pub due_at : TvRun → List ℕ → Turns → Place → Due
+due_at run live turns Begins = Listen run.config.host run.config.port
+due_at run live turns Listens = from_end turns live
+due_at run live turns (Turned reading) = from_turn turns live
+due_at run live turns (Taken peer bytes) = Now why.Take
+due_at run live turns (Received peer ticket) = Now why.Give
+due_at run live turns (Answers peer datagrams) = from_answers peer datagrams
+due_at run live turns Served = Accept
+due_at run live turns (Asked last) = from_texts turns live (above last live)
+due_at run live turns (Over last) = from_hang_ups (above (Some last) live)
 
 -- what a step has the television do is done first, in order
 abbrev pub unless_owed : List TvOut → Due → Due
@@ -76,4 +86,4 @@ due_for run p = unless_refused p.carried p.refused (unless_owed p.owed
 
 -- what is due after a history
 abbrev pub due : TvRun → History → Due
-due run h = due_for run (progress_of run.config run.script h)
+due run h = due_for run (progress_of run h)

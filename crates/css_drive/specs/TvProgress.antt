@@ -27,6 +27,17 @@ use Rattle.css_tv.specs.declared.state.Addresses.{Addresses}
 use Rattle.css_schedule.specs.declared.line.ScriptLine.{ScriptLine}
 use Rattle.css_schedule.specs.declared.line.Verb.{Verb}
 use Rattle.css_schedule.specs.declared.line.Verb.TheVariants.{Programme, Timeline, Viewer}
+use Rattle.css_outside.specs.declared.limit.Limit.{Limit}
+use Rattle.css_drive.specs.declared.turns.Turns.{Turns}
+use Rattle.css_drive.specs.TvTurns.{no_turns, begun, since}
+
+-- what a television is started with, how long its run goes on, and its script, whose times are readings, or count from
+-- that of the first turn
+pub record TvRun : Type 0 where
+  pub config : TvConfig
+  pub limit : Limit
+  pub relative : Bool
+  pub script : List ScriptLine
 
 -- ---- places
 -- Where a run stands: by its last entry that is no output of a step and no sleep.
@@ -50,11 +61,11 @@ pub data Place : Type 0 where
   -- the turns are over, and sessions are hung up in order of peer, up to this one so far
   Over : (last : ℕ) → Place
 
--- How many turns were begun, and where the last one stands; the television's end of the wall clock; what happened at
+-- Which turns were begun, and where the last one stands; the television's end of the wall clock; what happened at
 -- the television, the newest event first; what is still to be done at its sessions, in order; the lines of the script
 -- that were not carried out yet, and how many were; and why the first of those lines is refused, if it was.
 pub record Progress : Type 0 where
-  pub turns : ℕ
+  pub turns : Turns
   pub place : Place
   pub server : Server
   pub events : List TvEvent
@@ -117,14 +128,18 @@ is_free_of (Some fault) owed = false
 abbrev pub is_free : Progress → Bool
 is_free p = is_free_of p.refused p.owed
 
+-- A line is due in a turn whose reading isn't below its time, which counts from the reading `from`.
+abbrev pub is_due : ℕ → ℕ → ScriptLine → Bool
+is_due from reading line = nat_le (from + line.due) reading
+
 -- Lines are carried out as long as they are due, each as soon as nothing is owed for those before it.
-abbrev pub carry : Addresses → ℕ → List ScriptLine → Progress → Progress
-carry a reading [] p = p
-carry a reading (line ∷ left) p =
-    if is_free p && nat_le line.due reading then carry a reading left (with_line a reading line left p) else p
+abbrev pub carry : Addresses → ℕ → ℕ → List ScriptLine → Progress → Progress
+carry a from reading [] p = p
+carry a from reading (line ∷ left) p =
+    if is_free p && is_due from reading line then carry a from reading left (with_line a reading line left p) else p
 
 abbrev pub settled_at : Addresses → Place → Progress → Progress
-settled_at a (Turned reading) p = carry a reading p.lines p
+settled_at a (Turned reading) p = carry a (since p.turns) reading p.lines p
 settled_at a _ p = p
 
 -- at the beginning of a turn the lines that are due are carried out
@@ -175,7 +190,7 @@ hung_up peer [] p = record p { place = Over peer }
 hung_up peer (out ∷ owed) p = record p { owed = owed }
 
 abbrev pub after_clock : Addresses → Why → ℕ → Progress → Progress
-after_clock a why.Turn reading p = settled a (record p { turns = p.turns + 1; place = Turned reading })
+after_clock a why.Turn reading p = settled a (record p { turns = begun reading p.turns; place = Turned reading })
 after_clock a why.Take reading p = received_at reading p.place p
 after_clock a why.Give reading p = answered_at reading p.place p
 after_clock a _ reading p = p
@@ -212,19 +227,19 @@ abbrev pub addresses_in : TvConfig → Addresses
 addresses_in c = addresses_of c.host c.port
 
 -- nothing was done yet
-abbrev pub beginning : TvConfig → List ScriptLine → Progress
-beginning c script = record {
-  turns = 0;
+abbrev pub beginning : TvRun → Progress
+beginning run = record {
+  turns = no_turns run.limit run.relative;
   place = Begins;
-  server = server_of c;
+  server = server_of run.config;
   events = [];
   owed = [];
-  lines = script;
+  lines = run.script;
   carried = 0;
   refused = None;
 }
 
--- how far the run of a television with this script has come
-abbrev pub progress_of : TvConfig → List ScriptLine → History → Progress
-progress_of c script [] = beginning c script
-progress_of c script (entry ∷ older) = after (addresses_in c) entry (progress_of c script older)
+-- how far a run has come
+abbrev pub progress_of : TvRun → History → Progress
+progress_of run [] = beginning run
+progress_of run (entry ∷ older) = after (addresses_in run.config) entry (progress_of run older)

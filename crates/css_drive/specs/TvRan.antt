@@ -1,11 +1,12 @@
 -- What a television's run did, and how it ended.
-use Rattle.std.specs.Prelude.{◌≡◌, ◌≢◌, ◌<◌, ◌≤◌, ℕ, List, [], ◌∷◌, Option, ⊤}
+use Rattle.std.specs.Prelude.{◌≡◌, ◌≢◌, ◌<◌, ℕ, List, [], ◌∷◌, false, Option, ⊤}
 use Rattle.css_model.specs.History.{Entry, History, Accepted}
 use Rattle.css_outside.specs.Outsides.{Counts, with_entries}
 use Rattle.css_drive.specs.Ends.{MayEnd, CountsNetFault}
 use Rattle.css_drive.specs.Proper.{IsProper}
 use Rattle.css_drive.specs.TvDue.{TvRun, due}
 use Rattle.css_drive.specs.TvProgress.{progress_of}
+use Rattle.css_drive.specs.TvTurns.{goes_on}
 use Rattle.css_drive.specs.declared.driven.Driven.{Driven}
 use Rattle.css_drive.specs.declared.driven.Driven.TheVariants as driven
 
@@ -21,9 +22,9 @@ AreNumbered [] = ⊤
 AreNumbered (Accepted peer kind ∷ older) = AreBelow peer older × AreNumbered older
 AreNumbered (_ ∷ older) = AreNumbered older
 
--- all turns were begun, if the run is done
+-- If the run is done, no other turn begins: as many were begun as may be, or the last one was over by its time.
 abbrev pub MadeTurns : TvRun → History → Driven → Type 0
-MadeTurns run h driven.Done = run.turns ≤ (progress_of run.config run.script h).turns
+MadeTurns run h driven.Done = goes_on (progress_of run h).turns ≡ false
 MadeTurns run h _ = ⊤
 
 -- The calls of the run added this history to what the outside tells. It is proper, and the run ended where it may.

@@ -57,7 +57,7 @@ pub record Told (run : TvRun) (start told : Option History) (peers : ℕ) (p : P
   pub proper : IsProper (due run) h
   pub numbered : AreNumbered h
   pub below : AreBelow (peers + 1) h
-  pub progress : progress_of run.config run.script h ≡ p
+  pub progress : progress_of run h ≡ p
 
 -- The television is the one that has come so far, and no line was refused.
 pub record Stays (run : TvRun) (tv : Television) (peers : ℕ) (p : Progress) : Type 0 where
@@ -130,10 +130,10 @@ pub record IsAt (run : TvRun) (start told : Option History) (peers : ℕ) (tv : 
   pub owes : p.owed ≡ []
 
 -- ---- the whole loop
--- what the loop keeps beside the television: its peers, and how many turns and lines there were
+-- what the loop keeps beside the television: its peers, its turns, and how many lines were carried out
 pub record Keeps (run : TvRun) (peers : ℕ) (air : OnAir) (p : Progress) : Type 0 where
   pub knows : Knows air.peers.items peers (open_after (addresses_in run.config) p.events)
-  pub turns : p.turns ≡ air.made
+  pub turns : p.turns ≡ air.turns
   pub carried : p.carried ≡ air.lines
   pub lines : p.lines ≡ drop air.lines run.script
 
@@ -168,7 +168,7 @@ IsUnasked place p = place ≡ Asked None
 -- the turn is over, or none was begun
 abbrev pub IsAtEnd : TvRun → Place → Progress → Type 0
 IsAtEnd run place p = let live = open_after (addresses_in run.config) p.events in
-    due_at run live p.turns place ≡ from_end run.turns p.turns live
+    due_at run live p.turns place ≡ from_end p.turns live
 
 -- no peer above the greatest has a session
 abbrev pub IsUnused : ℕ → Television → Type 0
@@ -179,7 +179,6 @@ pub record IsReady (told : Option History) (peers : ℕ) (air : OnAir) (script :
   pub run : TvRun
   pub start : Option History
   pub reaches : Reaches run start told peers air (IsAtEnd run)
-  pub goes_on : air.made < run.turns
   pub script_so : run.script ≡ script
 
 -- ---- within loops

@@ -29,7 +29,7 @@ is_gone peer (_ ∷ older) = is_gone peer older
 
 -- the texts that a peer's session was to be told by what happened, the newest first
 abbrev pub to_tell : TvRun → ℕ → History → List (List ℕ)
-to_tell run peer h = texts_after (addresses_in run.config) peer (progress_of run.config run.script h).events
+to_tell run peer h = texts_after (addresses_in run.config) peer (progress_of run h).events
 
 -- how many texts are lost at most: the one that was told as gone
 abbrev pub lost : Bool → ℕ
@@ -42,7 +42,7 @@ lost true = 1
 pub record TellsSession (run : TvRun) (h : History) (peer : ℕ) : Type 0 where
   pub unsent : List (List ℕ)
   pub first : to_tell run peer h ≡ unsent ++ sent_to peer h
-  pub whole : (progress_of run.config run.script h).owed ≡ [] → length unsent ≤ lost (is_gone peer h)
+  pub whole : (progress_of run h).owed ≡ [] → length unsent ≤ lost (is_gone peer h)
   pub done : due run h ≡ Ends driven.Done → length unsent ≤ lost (is_gone peer h)
 
 -- Every run tells its sessions so.

@@ -1,3 +1,4 @@
+use crate::turns::Turns;
 use css_tv::Tv;
 
 /// What a television's run keeps from call to call.
@@ -7,8 +8,7 @@ pub(crate) struct OnAir {
     pub(crate) peers: Vec<u32>,
     /// How many lines of the script were carried out.
     pub(crate) lines: usize,
-    /// How many turns were begun.
-    pub(crate) made: u64,
+    pub(crate) turns: Turns,
 }
 
 // By hand: a derived drop is opened at each exit of each caller's proof.
@@ -18,7 +18,7 @@ impl Drop for OnAir {
             tv: _,
             peers: _,
             lines: _,
-            made: _,
+            turns: _,
         } = self;
     }
 }

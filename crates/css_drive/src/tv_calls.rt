@@ -1,4 +1,4 @@
-ghost use Rattle.std.specs.Prelude.{◌≡◌, ◌<◌, ◌≤◌, ◌∷◌, [], ℕ, List, Option, Some, None, IfOk};
+ghost use Rattle.std.specs.Prelude.{◌≡◌, ◌<◌, ◌≤◌, ◌∷◌, [], ℕ, List, Option, Some, None, false, IfOk};
 ghost use Rattle.std.specs.Prelude.{MatchResult};
 ghost use Rattle.css_model.specs.History.{History, Sent};
 ghost use Rattle.css_sessions.specs.Kept.{talk_of};
@@ -7,6 +7,7 @@ ghost use Rattle.css_drive.specs.Proper.{TakeText};
 ghost use Rattle.css_drive.specs.TvDue.{TvRun, due};
 ghost use Rattle.css_drive.specs.TvProgress.{Progress, Place, Turned, Taken, Received, Served, Asked};
 ghost use Rattle.css_drive.specs.TvProgress.{happened, addresses_in};
+ghost use Rattle.css_drive.specs.TvTurns.{is_over, goes_on};
 ghost use Rattle.css_drive.specs.TvStanding.{IsFault, HasCause, IsRead, Adds, Told, IsAt, Goes, Airs, Arrives, Keeps};
 ghost use Rattle.css_drive.specs.TvStanding.{Stays, IsUnasked, IsAtEnd, IsUnused, Finishes};
 ghost use Rattle.css_drive.specs.declared.driven.Driven.TheVariants as driven;
@@ -83,6 +84,7 @@ fn receive<O: Outside>(tv: &mut Tv, outside: &mut O, peer: u32, bytes: &[u8]) ->
 pub(crate) fn serve<O: Outside>(tv: &mut Tv, outside: &mut O) -> Result<(), Driven>
     ensures goes { (run : TvRun) (start : Option History) (p : Progress) (h : History) (reading : ℕ)
         → IsAt run start (O.told outside.old) (O.counts outside.old).peers tv.old (Turned reading) p p h
+        → is_over p.turns ≡ false
         → Goes run start (O.told outside.new) (O.counts outside.new).peers tv.new p Served [] result }
     ensures cause { HasCause (O.counts outside.old) (O.counts outside.new) result }
 {
@@ -109,7 +111,7 @@ fn open<O: Outside>(
         → Stays run air.old.tv greatest p → p.place ≡ Asked None → p.owed ≡ [] → Keeps run greatest air.old p
         → greatest < peer → peer ≤ (O.counts outside.old).peers
         → Arrives run start (O.told outside.new) (O.counts outside.new).peers air.new IsUnasked result }
-    ensures made { air.new.made ≡ air.old.made }
+    ensures turns { air.new.turns ≡ air.old.turns }
     ensures cause { HasCause (O.counts outside.old) (O.counts outside.new) result }
 {
     match air.peers.push(peer) {
@@ -129,7 +131,7 @@ pub(crate) fn welcome<O: Outside>(
     ensures goes { (run : TvRun) (start : Option History) (p : Progress) (h : History)
         → Airs run start (O.told outside.old) (O.counts outside.old).peers air.old Served p p h
         → Arrives run start (O.told outside.new) (O.counts outside.new).peers air.new IsUnasked result }
-    ensures made { air.new.made ≡ air.old.made }
+    ensures turns { air.new.turns ≡ air.old.turns }
     ensures cause { HasCause (O.counts outside.old) (O.counts outside.new) result }
 {
     match outside.accept() {
@@ -166,7 +168,7 @@ pub(crate) fn hear_all<O: Outside>(
     ensures goes { (run : TvRun) (start : Option History) (p : Progress) (h : History)
         → Airs run start (O.told outside.old) (O.counts outside.old).peers air.old (Asked None) p p h
         → Arrives run start (O.told outside.new) (O.counts outside.new).peers air.new (IsAtEnd run) result }
-    ensures made { air.new.made ≡ air.old.made }
+    ensures turns { air.new.turns ≡ air.old.turns }
     ensures cause { HasCause (O.counts outside.old) (O.counts outside.new) result }
 {
     let mut at = 0;
@@ -189,7 +191,7 @@ pub(crate) fn hear_all<O: Outside>(
 pub(crate) fn hang_up_all<O: Outside>(air: &OnAir, outside: &mut O) -> Result<(), Driven>
     ensures ends { (run : TvRun) (start : Option History) (p : Progress) (h : History) (place : Place)
         → Airs run start (O.told outside.old) (O.counts outside.old).peers air.now place p p h
-        → IsAtEnd run place p → run.turns ≤ air.now.made
+        → IsAtEnd run place p → goes_on air.now.turns ≡ false
         → Finishes run start (O.told outside.new) driven.Done result }
     ensures cause { HasCause (O.counts outside.old) (O.counts outside.new) result }
 {

@@ -6,6 +6,7 @@ ghost use Rattle.css_tv.specs.Stages.{Stage};
 ghost use Rattle.css_tv.specs.Standing.{IsEvent};
 ghost use Rattle.css_drive.specs.TvDue.{TvRun};
 ghost use Rattle.css_drive.specs.TvProgress.{Progress, Turned, carry, with_line, past_line, settled, addresses_in};
+ghost use Rattle.css_drive.specs.TvTurns.{IsRanged, since};
 ghost use Rattle.css_drive.specs.TvProgress as spec;
 ghost use Rattle.css_drive.specs.TvStanding.{HasCause, Told, Stays, Goes, Airs, Arrives, IsTurned};
 
@@ -61,7 +62,8 @@ fn carry_out<O: Outside>(
     requires before { before < 18446744073709551615 }
     ensures goes { (run : TvRun) (start : Option History) (p : Progress) (h : History) (left : List Line)
         → Told run start (O.told outside.old) (O.counts outside.old).peers
-        (carry (addresses_in run.config) reading left (with_line (addresses_in run.config) reading line.now left p)) h
+        (carry (addresses_in run.config) (since p.turns) reading left
+        (with_line (addresses_in run.config) reading line.now left p)) h
         → Stays run tv.old (O.counts outside.old).peers p → p.place ≡ Turned reading → p.owed ≡ []
         → p.carried ≡ before
         → Goes run start (O.told outside.new) (O.counts outside.new).peers tv.new
@@ -94,16 +96,18 @@ pub(crate) fn carry_lines<O: Outside>(
 ) -> Result<(), Driven>
     requires script { All IsScriptLine script.now }
     requires reading { reading < LIMIT }
+    requires ranged { IsRanged air.old.turns }
     ensures goes { (run : TvRun) (start : Option History) (p : Progress) (h : History) → run.script ≡ script.now
         → Airs run start (O.told outside.old) (O.counts outside.old).peers air.old (Turned reading) p
         (settled (addresses_in run.config) p) h
         → Arrives run start (O.told outside.new) (O.counts outside.new).peers air.new IsTurned result }
-    ensures made { air.new.made ≡ air.old.made }
+    ensures turns { air.new.turns ≡ air.old.turns }
     ensures cause { HasCause (O.counts outside.old) (O.counts outside.new) result }
 {
+    let from = air.turns.since();
     'lines: while air.lines < script.len() {
         let line = &script[air.lines];
-        if reading < line.due {
+        if reading < from + line.due {
             return Ok(());
         }
         match carry_out(alloc, &mut air.tv, outside, line, air.lines, reading) {

@@ -1,4 +1,4 @@
-ghost use Rattle.std.specs.Prelude.{◌≡◌, ◌≢◌, ◌∷◌, [], List, Option, OnOk, IfErr};
+ghost use Rattle.std.specs.Prelude.{◌≡◌, ◌≢◌, ◌∷◌, [], ℕ, List, Option, OnOk, IfErr};
 ghost use Rattle.css_model.specs.History.{History};
 ghost use Rattle.css_tv.specs.Standing.{IsEvent, IsFresh, calls_of};
 ghost use Rattle.css_tv.specs.declared.event.TvOut.{TvOut as Output};

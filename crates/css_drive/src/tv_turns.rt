@@ -1,9 +1,12 @@
-ghost use Rattle.std.specs.Prelude.{◌≡◌, ◌+◌, ◌<◌, ◌≤◌, ◌≤ℤ◌, pos, All, Option, OnOk, MatchResult};
+ghost use Rattle.std.specs.Prelude.{◌≡◌, ◌≤◌, ◌≤ℤ◌, pos, true, List, All, Option, OnOk, IfOk, MatchResult};
 ghost use Rattle.css_model.specs.History.{History};
 ghost use Rattle.std.specs.Str.{IsUtf8};
 ghost use Rattle.css_model.specs.Numbers.{max_error};
+ghost use Rattle.css_outside.specs.Limits.{IsLimit};
 ghost use Rattle.css_schedule.specs.Ranges.{IsScriptLine};
-ghost use Rattle.css_drive.specs.TvDue.{TvRun};
+ghost use Rattle.css_schedule.specs.declared.line.ScriptLine.{ScriptLine as Line};
+ghost use Rattle.css_drive.specs.TvDue.{TvRun, run_of};
+ghost use Rattle.css_drive.specs.TvTurns.{IsRanged, IsOneMore, goes_on};
 ghost use Rattle.css_drive.specs.TvProgress.{Progress, Place};
 ghost use Rattle.css_drive.specs.TvRan.{TvRan, CountsTvRun};
 ghost use Rattle.css_drive.specs.TvStanding.{HasCause, Airs, Arrives, Reaches, Stops, Finishes};
@@ -12,12 +15,14 @@ ghost use Rattle.css_drive.specs.declared.driven.Driven.TheVariants as driven;
 
 use crate::driven::Driven;
 use crate::on_air::OnAir;
+use crate::turns::Turns;
 use crate::tv_calls::{hang_up_all, hear_all, read, serve, welcome};
+use crate::tv_config::TvDrive;
 use crate::tv_lines::carry_lines;
 use crate::tv_outputs::fault_of;
 use css_outside::{Outside, Why};
 use css_schedule::ScriptLine;
-use css_tv::{Tv, TvConfig};
+use css_tv::Tv;
 use std::alloc::Global;
 
 /// Begins a turn: its reading, and the lines of the script that are due.
@@ -28,20 +33,21 @@ fn begin<O: Outside>(
     script: &[ScriptLine],
 ) -> Result<(), Driven>
     requires script { All IsScriptLine script.now }
-    requires few { air.old.made < 1000000 }
+    requires ranged { IsRanged air.old.turns }
+    requires more { goes_on air.old.turns ≡ true }
     ensures goes { (run : TvRun) (start : Option History) (p : Progress) (h : History) (place : Place)
-        → run.script ≡ script.now → air.old.made < run.turns → IsAtEnd run place p
+        → run.script ≡ script.now → IsAtEnd run place p
         → Airs run start (O.told outside.old) (O.counts outside.old).peers air.old place p p h
         → Arrives run start (O.told outside.new) (O.counts outside.new).peers air.new IsTurned result }
-    ensures made { OnOk result (air.new.made ≡ air.old.made + 1) }
+    ensures turns { OnOk result (IsOneMore air.old.turns air.new.turns) }
     ensures cause { HasCause (O.counts outside.old) (O.counts outside.new) result }
 {
     let reading = read(outside, Why::Turn)?;
-    air.made += 1;
+    air.turns.begin(reading);
     carry_lines(alloc, air, outside, script, reading)
 }
 
-/// Makes a turn.
+/// Makes a turn. One that is the last by its time has no calls after those of its lines.
 fn turn<O: Outside>(
     alloc: Global,
     air: &mut OnAir,
@@ -49,18 +55,22 @@ fn turn<O: Outside>(
     script: &[ScriptLine],
 ) -> Result<(), Driven>
     requires script { All IsScriptLine script.now }
-    requires few { air.old.made < 1000000 }
+    requires ranged { IsRanged air.old.turns }
+    requires more { goes_on air.old.turns ≡ true }
     requires ready { IsReady (O.told outside.old) (O.counts outside.old).peers air.old script.now }
     ensures goes { (run : TvRun) (start : Option History) (p : Progress) (h : History) (place : Place)
-        → run.script ≡ script.now → air.old.made < run.turns → IsAtEnd run place p
+        → run.script ≡ script.now → IsAtEnd run place p
         → Airs run start (O.told outside.old) (O.counts outside.old).peers air.old place p p h
         → Arrives run start (O.told outside.new) (O.counts outside.new).peers air.new (IsAtEnd run) result }
-    ensures made { OnOk result (air.new.made ≡ air.old.made + 1) }
+    ensures turns { OnOk result (IsOneMore air.old.turns air.new.turns) }
     ensures cause { HasCause (O.counts outside.old) (O.counts outside.new) result }
 {
     match begin(alloc, air, outside, script) {
         Ok(()) => {}
         Err(ended) => return Err(ended),
+    }
+    if air.turns.is_over() {
+        return Ok(());
     }
     match serve(&mut air.tv, outside) {
         Ok(()) => {}
@@ -73,24 +83,22 @@ fn turn<O: Outside>(
     hear_all(alloc, air, outside)
 }
 
-/// Makes so many turns, and then hangs up the open sessions.
+/// Makes the turns, and then hangs up the open sessions.
 fn make_turns<O: Outside>(
     alloc: Global,
     air: &mut OnAir,
-    turns: u64,
     script: &[ScriptLine],
     outside: &mut O,
 ) -> Result<(), Driven>
     requires script { All IsScriptLine script.now }
-    requires few { turns ≤ 1000000 }
-    requires ready { (run : TvRun) × (start : Option History) × (run.script ≡ script.now) × (run.turns ≡ turns)
-        × Reaches run start (O.told outside.old) (O.counts outside.old).peers air.old (IsAtEnd run) }
-    ensures ends { (run : TvRun) (start : Option History) → run.script ≡ script.now → run.turns ≡ turns
+    requires ranged { IsRanged air.old.turns }
+    requires ready { IsReady (O.told outside.old) (O.counts outside.old).peers air.old script.now }
+    ensures ends { (run : TvRun) (start : Option History) → run.script ≡ script.now
         → Reaches run start (O.told outside.old) (O.counts outside.old).peers air.old (IsAtEnd run)
         → Finishes run start (O.told outside.new) driven.Done result }
     ensures cause { HasCause (O.counts outside.old) (O.counts outside.new) result }
 {
-    'turns: while air.made < turns {
+    'turns: while air.turns.goes_on() {
         match turn(alloc, air, outside, script) {
             Ok(()) => {}
             Err(ended) => return Err(ended),
@@ -100,59 +108,61 @@ fn make_turns<O: Outside>(
 }
 
 /// Listens, and makes a television that has done nothing yet.
-fn start<O: Outside>(alloc: Global, config: TvConfig, outside: &mut O) -> Result<OnAir, Driven>
-    requires precision { config.precision ≤ℤ pos 30 }
-    requires error { config.error ≤ max_error }
-    requires host { IsUtf8 config.host }
-    requires port { config.port ≤ 65534 }
-    ensures goes { (run : TvRun) → run.config ≡ config → MatchResult result
-        (λ air. Reaches run (O.told outside.old) (O.told outside.new) (O.counts outside.new).peers air (IsAtEnd run))
-        (Stops run (O.told outside.old) (O.told outside.new)) }
+fn start<O: Outside>(alloc: Global, run: TvDrive, outside: &mut O) -> Result<OnAir, Driven>
+    requires precision { run.tv.precision ≤ℤ pos 30 }
+    requires error { run.tv.error ≤ max_error }
+    requires host { IsUtf8 run.tv.host }
+    requires port { run.tv.port ≤ 65534 }
+    requires limit { IsLimit run.limit }
+    ensures goes { (script : List Line) → MatchResult result
+        (λ air. Reaches (run_of run script) (O.told outside.old) (O.told outside.new) (O.counts outside.new).peers air
+        (IsAtEnd (run_of run script)))
+        (Stops (run_of run script) (O.told outside.old) (O.told outside.new)) }
+    ensures ranged { IfOk result (λ air. IsRanged air.turns) }
     ensures cause { HasCause (O.counts outside.old) (O.counts outside.new) result }
 {
-    match outside.listen(&config.host, config.port) {
+    let turns = Turns::new(run.limit, run.relative);
+    match outside.listen(&run.tv.host, run.tv.port) {
         Ok(()) => {}
         Err(fault) => return Err(fault_of(fault)),
     }
-    match Tv::new(alloc, config) {
+    match Tv::new(alloc, run.tv) {
         Err(_) => Err(Driven::Memory),
         Ok(tv) => Ok(OnAir {
             tv,
             peers: Vec::new(alloc),
             lines: 0,
-            made: 0,
+            turns,
         }),
     }
 }
 
-/// Makes a television's run: it listens, makes 1 to 1,000,000 turns, and hangs up the sessions that are open then.
+/// Makes a television's run: it listens, makes turns up to its limit, and hangs up the sessions that are open then.
 ///
-/// A line of the script is carried out in the first turn whose reading isn't below the line's, after all lines before
-/// it, and a viewer's command has that reading. A line that the player refuses ends the run with `BadLine`; lines are
-/// counted from 1. `NetFault` comes only where a call of the outside failed.
+/// A line of the script is carried out in the first turn whose reading isn't below the line's time, after all lines
+/// before it, and a viewer's command has that reading. In a turn that is the last by its time, nothing else is done. A
+/// line that the player refuses ends the run with `BadLine`; lines are counted from 1. `NetFault` comes only where a
+/// call of the outside failed.
 pub fn drive_tv<O: Outside>(
     alloc: Global,
-    config: TvConfig,
-    turns: u64,
+    run: TvDrive,
     script: &[ScriptLine],
     outside: &mut O,
 ) -> Driven
-    requires precision { config.precision ≤ℤ pos 30 }
-    requires error { config.error ≤ max_error }
-    requires host { IsUtf8 config.host }
-    requires port { config.port ≤ 65534 }
-    requires some_turns { 1 ≤ turns }
-    requires few_turns { turns ≤ 1000000 }
+    requires precision { run.tv.precision ≤ℤ pos 30 }
+    requires error { run.tv.error ≤ max_error }
+    requires host { IsUtf8 run.tv.host }
+    requires port { run.tv.port ≤ 65534 }
+    requires limit { IsLimit run.limit }
     requires script { All IsScriptLine script.now }
-    ensures ran { TvRan (record { config = config; turns = turns; script = script.now })
-        (O.told outside.old) (O.told outside.new) result }
+    ensures ran { TvRan (run_of run script.now) (O.told outside.old) (O.told outside.new) result }
     ensures counted { CountsTvRun (O.counts outside.old) (O.counts outside.new) result }
 {
-    let mut air = match start(alloc, config, outside) {
+    let mut air = match start(alloc, run, outside) {
         Ok(air) => air,
         Err(ended) => return ended,
     };
-    let made = make_turns(alloc, &mut air, turns, script, outside);
+    let made = make_turns(alloc, &mut air, script, outside);
     drop(air);
     match made {
         Ok(()) => Driven::Done,

@@ -12,8 +12,9 @@ pub struct Row {
     pub seconds: u64,
     /// The greatest error of the end's own clock, in 1/256 ppm.
     pub error: u32,
-    /// A television's script, and whether it promises follow-ups.
+    /// A television's script, whether its times count from the first turn, and whether it promises follow-ups.
     pub script: &'static str,
+    pub relative: bool,
     pub follow: bool,
     /// How many reports a companion makes, the nanoseconds between two, and whether it tells what it can present.
     pub reports: u64,
@@ -50,6 +51,7 @@ pub const QUIET: Row = Row {
     seconds: 0,
     error: 0,
     script: "",
+    relative: false,
     follow: false,
     reports: 1,
     report_every: 10,

@@ -10,7 +10,7 @@ use crate::noted::Noted;
 use crate::rows::{Row, lines_of};
 use css_client::Local;
 use css_companion::CompanionConfig;
-use css_drive::{DriveConfig, Driven, Listens, drive_companion, drive_tv};
+use css_drive::{DriveConfig, Driven, Listens, TvDrive, drive_companion, drive_tv};
 use css_drive_relay::{RelayRun, drive_relay};
 use css_memory::MemorySink;
 use css_num::Text;
@@ -117,19 +117,24 @@ fn relay_config(rt: &impl Abort, alloc: Global, row: &Row) -> RelayRun
     }
 }
 
-fn television_config(rt: &impl Abort, alloc: Global, row: &Row) -> TvConfig
-    ensures host { IsUtf8 result.host }
-    ensures precision { result.precision ≡ negsuc 29 }
-    ensures error { result.error ≤ 25600000 }
-    ensures port { result.port ≡ 6677 }
+fn television_config(rt: &impl Abort, alloc: Global, row: &Row) -> TvDrive
+    ensures host { IsUtf8 result.tv.host }
+    ensures precision { result.tv.precision ≡ negsuc 29 }
+    ensures error { result.tv.error ≤ 25600000 }
+    ensures port { result.tv.port ≡ 6677 }
+    ensures limit { IsLimit result.limit }
 {
     assert!(rt; row.error <= 25_600_000);
-    TvConfig {
-        precision: -30,
-        error: row.error,
-        follow: row.follow,
-        host: text(rt, alloc, "127.0.0.1"),
-        port: 6677,
+    TvDrive {
+        tv: TvConfig {
+            precision: -30,
+            error: row.error,
+            follow: row.follow,
+            host: text(rt, alloc, "127.0.0.1"),
+            port: 6677,
+        },
+        limit: limit_of(rt, row),
+        relative: row.relative,
     }
 }
 
@@ -186,8 +191,7 @@ pub fn television(
 ) -> Result<(), Fail> {
     let script = script_lines(alloc, row.script)?;
     let config = television_config(rt, alloc, row);
-    let turns = amount(rt, row.turns, 1_000_000);
-    let driven = drive_tv(alloc, config, turns, &script, outside);
+    let driven = drive_tv(alloc, config, &script, outside);
     Ok(assert_ended(rt, alloc, row, &driven)?)
 }
 

@@ -34,6 +34,11 @@ fn lines_of_a_script_are_due_or_refused(rt: HostRuntime) -> Result<(), Fail> {
 }
 
 #[test]
+fn a_television_ends_by_its_time(rt: HostRuntime) -> Result<(), Fail> {
+    assert_televisions(&rt, rt.alloc(), television_rows::LIMITS)
+}
+
+#[test]
 fn a_television_answers_requests_alone(rt: HostRuntime) -> Result<(), Fail> {
     assert_televisions(&rt, rt.alloc(), television_rows::DATAGRAMS)
 }

@@ -71,6 +71,24 @@ pub const SCRIPTS: &[Row] = &[
         times: &[0, 10], ended: "BadLine { line: 2, why: Player(NoProgramme) }",
         told: "LISTEN; turn; take; accept; turn", ..QUIET },
     Row { name: "a line that waits for the one before it", script: "10 programme dvb://1\n0 speed 1", ..QUIET },
+    Row { name: "times that count from the first turn", turns: 2, relative: true,
+        script: "0 programme dvb://1\n0 timeline 1 urn:dvb:css:timeline:pts 1 90000 0\n1000 change 1",
+        times: &[5000, 6000], openings: &[Some(Kind::Ts)], texts: &[(1, SETUP)],
+        told: "LISTEN; turn; take; accept; text 1; \
+            say 1 {\"contentTime\":null,\"timelineSpeedMultiplier\":null,\"wallClockTime\":\"0\"}; \
+            turn; say 1 {\"contentTime\":\"0\",\"timelineSpeedMultiplier\":1,\"wallClockTime\":\"6000\"}; \
+            take; accept; text 1; hang 1", ..QUIET },
+];
+
+/// The third turn is the last by its time.
+#[rattlefmt::skip]
+pub const LIMITS: &[Row] = &[
+    Row { name: "a second", seconds: 1, times: &[5, 999_999_999, 1_000_000_005],
+        told: "LISTEN; turn; take; accept; turn; take; accept; turn", ..QUIET },
+    Row { name: "a line in the last turn", seconds: 1, script: "0 programme dvb://1\n1000000005 change 1",
+        times: &[5, 999_999_999, 1_000_000_005], openings: &[Some(Kind::Cii)],
+        told: "LISTEN; turn; take; accept; say 1 DARK; text 1; turn; take; accept; text 1; \
+            turn; say 1 SHOWN; hang 1", ..QUIET },
 ];
 
 #[rattlefmt::skip]

@@ -1,4 +1,5 @@
 use Rattle.std.proofs.Common.{◌≡◌, ◌≤◌, ◌+◌, ◌∙◌, ◌∷◌, ℕ, List, sym, subst, arith, drop, get_or}
+use Rattle.css_drive.proofs.TvSteps.{cause_later, cause_plain}
 use Rattle.css_drive.proofs.TvHears.{is_live}
 use Rattle.css_drive.proofs.TvSteps.{stops_by_fault, peers_kept}
 use Rattle.css_drive.proofs.TvLines.{peer_at, peers_all}
@@ -52,3 +53,12 @@ returns-clause-ends g c run start p h place s fits enough =
     let x = c.loop-peer.invariant.goes run start p h place s fits enough in
     let over = c.loop-peer-test.false in
     all_hung x (peers_all c.args.air.now.peers.items c.loop-peer.peer-index (omega (arith, over))) enough
+
+pub returns-in-Err-clause-cause : goal.returns-in-Err-clause-cause
+returns-in-Err-clause-cause g c =
+    let mid = g.O.Outside.counts c.loop-peer.outside in
+    cause_later (g.O.Outside.counts c.args.outside.now) mid (g.O.Outside.counts c.hang_up.new.self) c.fault_of.result
+    c.loop-peer.invariant.counts
+    (cause_plain mid (g.O.Outside.counts c.hang_up.new.self) c.fault_of.result
+    c.in-Err.ensures.counted (c.fault_of.ensures.counted _ _ c.in-Err.ensures.counted.faults)
+    c.fault_of.ensures.no_writes)

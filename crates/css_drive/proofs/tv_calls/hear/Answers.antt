@@ -2,6 +2,7 @@ use Rattle.std.proofs.Common.{refl, [], ◌∷◌, Some, ℕ, List}
 use Rattle.css_model.specs.History.{Heard, Closed}
 use Rattle.css_tv.specs.declared.event.TvEvent.TheVariants as event
 use Rattle.css_drive.specs.TvProgress.{Progress, Asked, addresses_in, happened}
+use Rattle.css_drive.proofs.TvSteps.{cause_plain}
 use Rattle.css_drive.proofs.TvSteps.{goes_on, stays_on, peers_kept}
 use Rattle.css_drive.proofs.TvHears.{quiet_heard, text_told, closing_told, asked_continues}
 use Rattle.css_drive.proofs.tv_calls.hear.Goals as goal
@@ -35,3 +36,9 @@ returns-in-Ok-Closed-clause-goes g c run start p h last s d =
     (asked_continues run p (Asked (Some peer)) (event.Closed peer) tt)
     (c.play-in-Ok-Closed.ensures.goes run start q (Closed peer ∷ h) t (stays_on s.stays q refl refl refl _ le) s.owes tt
     tt)
+
+pub returns-in-Err-clause-cause : goal.returns-in-Err-clause-cause
+returns-in-Err-clause-cause g c =
+    cause_plain (g.O.Outside.counts c.args.outside.now) (g.O.Outside.counts c.take_text.new.self)
+    c.fault_of.result c.in-Err.ensures.counted (c.fault_of.ensures.counted _ _ c.in-Err.ensures.counted.faults)
+    c.fault_of.ensures.no_writes

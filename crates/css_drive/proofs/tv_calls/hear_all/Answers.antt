@@ -37,14 +37,14 @@ peers-preserved-then-is_open g c =
             tv = c.hear.new.tv;
             peers = c.peers.air.peers;
             lines = c.peers.air.lines;
-            made = c.peers.air.made;
+            turns = c.peers.air.turns;
           }) refl refl refl y;
       counts = record {
         dials = c.in-Ok.ensures.cause.dials ∙ c.peers.invariant.counts.dials;
         peers = omega (arith, c.in-Ok.ensures.cause.peers, c.peers.invariant.counts.peers);
         faults = c.in-Ok.ensures.cause.ok ∙ c.peers.invariant.counts.faults;
       };
-      made = c.peers.invariant.made;
+      turns = c.peers.invariant.turns;
     }
 
 pub peers-preserved : goal.peers-preserved
@@ -64,10 +64,10 @@ peers-preserved g c =
             tv = c.peers.air.tv;
             peers = c.remove.new.self;
             lines = c.peers.air.lines;
-            made = c.peers.air.made;
+            turns = c.peers.air.turns;
           }) refl c.remove.ensures.items refl refl;
       counts = c.peers.invariant.counts;
-      made = c.peers.invariant.made;
+      turns = c.peers.invariant.turns;
     }
 
 pub returns-clause-goes : goal.returns-clause-goes

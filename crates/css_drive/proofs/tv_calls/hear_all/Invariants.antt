@@ -12,7 +12,7 @@ invariant-peers g l = record {
       h
       → Hears run start (g.O.Outside.told l.outside) (g.O.Outside.counts l.outside).peers l.air l.at;
   counts : KeepsCounts (g.O.Outside.counts l.fn.outside) (g.O.Outside.counts l.outside);
-  made : l.air.made ≡ l.fn.air.made;
+  turns : l.air.turns ≡ l.fn.air.turns;
 }
 
 abbrev pub decreases-peers : goal.decreases-peers

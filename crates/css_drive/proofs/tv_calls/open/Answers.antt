@@ -25,7 +25,7 @@ returns-clause-goes g c run start p h greatest t s at owes k lt le =
       tv = c.play.new.tv;
       peers = c.push.new.self;
       lines = c.args.air.now.lines;
-      made = c.args.air.now.made;
+      turns = c.args.air.now.turns;
     } in
     arrives_open run start (g.O.Outside.told c.play.new.outside) peer kind k lt at m (omega (arith, le, kept)) air'
     c.in-Ok.ensures.items refl refl c.play.result

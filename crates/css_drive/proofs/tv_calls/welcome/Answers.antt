@@ -1,8 +1,10 @@
-use Rattle.std.proofs.Common.{◌≡◌, ◌∙◌, ◌+◌, ◌≤◌, ◌<◌, sym, arith, refl, List, [], ◌∷◌, ℕ, None}
+use Rattle.std.proofs.Common.{◌≡◌, ◌∙◌, ◌+◌, ◌≤◌, ◌<◌, ap, sym, arith, refl, List, [], ◌∷◌, ℕ, None}
 use Rattle.css_model.specs.declared.Kind.TheVariants as peer_kind
 use Rattle.css_model.specs.History.{Accepted}
 use Rattle.css_num.specs.declared.protocol.Kind.TheVariants as kind
 use Rattle.css_drive.specs.TvProgress.{Progress, Asked}
+use Rattle.css_outside.specs.Outsides.{Counts}
+use Rattle.css_drive.proofs.TvSteps.{cause_by}
 use Rattle.css_drive.proofs.TvSteps.{stays_on}
 use Rattle.css_drive.proofs.TvHears.{none_came, one_came}
 use Rattle.css_drive.proofs.tv_calls.welcome.Goals as goal
@@ -53,3 +55,10 @@ returns-in-Ok-Some-default-Ts-clause-goes g c run start p h s =
     (stays_on s.is_at.stays q refl refl refl n (omega arith)) refl s.is_at.owes
     (record { knows = s.keeps.knows; turns = s.keeps.turns; carried = s.keeps.carried; lines = s.keeps.lines }) lt
     (omega (arith, is))
+
+pub returns-in-Err-clause-cause : goal.returns-in-Err-clause-cause
+returns-in-Err-clause-cause g c =
+    let k = c.in-Err.ensures.counted in
+    cause_by (g.O.Outside.counts c.args.outside.now) (g.O.Outside.counts c.accept.new.self) c.fault_of.result
+    (ap (λ (x : Counts). x.dial_faults) k.same) k.peer (c.fault_of.ensures.counted _ _ k.faults)
+    c.fault_of.ensures.no_writes

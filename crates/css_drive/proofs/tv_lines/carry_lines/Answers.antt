@@ -1,20 +1,22 @@
-use Rattle.std.proofs.Common.{◌≡◌, ◌∙◌, ◌+◌, ◌≤◌, ◌<◌, ◌∷◌, arith, refl, List, [], ℕ, drop, length}
+use Rattle.std.proofs.Common.{◌≡◌, ◌∙◌, ◌+◌, ◌≤◌, ◌<◌, ◌∷◌, arith, ap, sym, refl, List, [], ℕ, drop, length}
 use Rattle.css_schedule.specs.declared.line.ScriptLine.{ScriptLine}
 use Rattle.css_drive.specs.TvProgress.{addresses_in}
 use Rattle.css_drive.proofs.TvSteps.{told_as}
-use Rattle.css_drive.proofs.TvLines.{next_line, line_waits, no_line, dropped_at, dropped_all}
+use Rattle.css_drive.specs.TvTurns.{since}
+use Rattle.css_drive.proofs.TvLines.{next_line, line_waits, no_line, due_by, waits_by, dropped_at, dropped_all}
 use Rattle.css_drive.proofs.TvCarries.{left_lines, turned_out, line_carried}
 use Rattle.css_drive.proofs.tv_lines.carry_lines.Goals as goal
 
-pub returns-then-reading-line-clause-goes : goal.returns-then-reading-line-clause-goes
-returns-then-reading-line-clause-goes g c run start p h script s =
+pub returns-then-reading-from-clause-goes : goal.returns-then-reading-from-clause-goes
+returns-then-reading-from-clause-goes g c run start p h script s =
     let x = c.lines.invariant.goes run start p h script s in
     let xs : List ScriptLine = c.args.script.now in
     let line : ScriptLine = c.index-script-air.result in
     let i : ℕ = c.lines.air.lines in
     turned_out x (line_waits (addresses_in run.config) c.args.reading x.p line (drop (i + 1) xs) x.airs.is_at.at
     (left_lines x xs script (line ∷ drop (i + 1) xs) (dropped_at xs i line c.lines-test.true c.index-script-air.is))
-    c.if-reading-line.true)
+    (waits_by (since x.p.turns) c.args.reading line c.since-from.result
+    (ap since (x.airs.keeps.turns ∙ c.lines.invariant.turns) ∙ sym c.since-from.ensures.value) c.if-reading-from.true))
 
 pub returns-in-Err-clause-goes : goal.returns-in-Err-clause-goes
 returns-in-Err-clause-goes g c run start p h script s =
@@ -24,13 +26,15 @@ returns-in-Err-clause-goes g c run start p h script s =
     let i : ℕ = c.lines.air.lines in
     let r : ℕ = c.args.reading in
     let a = addresses_in run.config in
-    let later = c.if-reading-line.false in
+    let later = c.if-reading-from.false in
     let lines =
     left_lines x xs script (line ∷ drop (i + 1) xs) (dropped_at xs i line c.lines-test.true c.index-script-air.is) in
     c.in-Err.ensures.goes run start x.p x.h (drop (i + 1) xs)
     (told_as _ x.airs.is_at.history
     (next_line a r x.p line (drop (i + 1) xs) x.airs.is_at.at x.airs.is_at.stays.accepted x.airs.is_at.owes lines
-    (omega (arith, later))))
+    (due_by (since x.p.turns) r line c.since-from.result
+    (ap since (x.airs.keeps.turns ∙ c.lines.invariant.turns) ∙ sym c.since-from.ensures.value)
+    (omega (arith, later)))))
     x.airs.is_at.stays x.airs.is_at.at x.airs.is_at.owes x.airs.keeps.carried
 
 pub lines-preserved : goal.lines-preserved
@@ -42,7 +46,7 @@ lines-preserved g c = record {
       let i : ℕ = c.lines.air.lines in
       let r : ℕ = c.args.reading in
       let a = addresses_in run.config in
-      let later = c.if-reading-line.false in
+      let later = c.if-reading-from.false in
       let lines =
       left_lines x xs script (line ∷ drop (i + 1) xs)
       (dropped_at xs i line c.lines-test.true c.index-script-air.is) in
@@ -50,14 +54,16 @@ lines-preserved g c = record {
       (c.in-Ok.ensures.goes run start x.p x.h (drop (i + 1) xs)
       (told_as _ x.airs.is_at.history
       (next_line a r x.p line (drop (i + 1) xs) x.airs.is_at.at x.airs.is_at.stays.accepted x.airs.is_at.owes lines
-      (omega (arith, later))))
+      (due_by (since x.p.turns) r line c.since-from.result
+      (ap since (x.airs.keeps.turns ∙ c.lines.invariant.turns) ∙ sym c.since-from.ensures.value)
+      (omega (arith, later)))))
       x.airs.is_at.stays x.airs.is_at.at x.airs.is_at.owes x.airs.keeps.carried);
   counts = record {
     dials = c.in-Ok.ensures.cause.dials ∙ c.lines.invariant.counts.dials;
     peers = omega (arith, c.in-Ok.ensures.cause.peers, c.lines.invariant.counts.peers);
     faults = c.in-Ok.ensures.cause.ok ∙ c.lines.invariant.counts.faults;
   };
-  made = c.lines.invariant.made;
+  turns = c.lines.invariant.turns;
 }
 
 pub returns-clause-goes : goal.returns-clause-goes

@@ -13,7 +13,7 @@ invariant-lines g l = record {
       (settled (addresses_in run.config) p) h
       → Carries run start (g.O.Outside.told l.outside) (g.O.Outside.counts l.outside).peers l.air l.reading;
   counts : KeepsCounts (g.O.Outside.counts l.fn.outside) (g.O.Outside.counts l.outside);
-  made : l.air.made ≡ l.fn.air.made;
+  turns : l.air.turns ≡ l.fn.air.turns;
 }
 
 abbrev pub decreases-lines : goal.decreases-lines

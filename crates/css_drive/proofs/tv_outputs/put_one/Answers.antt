@@ -1,5 +1,6 @@
 use Rattle.std.proofs.Common.{◌≡◌, ◌∷◌, [], ◌∙◌, ap, sym, ℕ}
 use Rattle.css_tv.specs.declared.event.TvOut.TheVariants as out
+use Rattle.css_drive.proofs.TvSteps.{cause_plain}
 use Rattle.css_drive.proofs.TvSteps.{peers_kept}
 use Rattle.css_drive.proofs.TvPuts.{wrote_one, gone_one, hung_one}
 use Rattle.css_drive.proofs.tv_outputs.put_one.Goals as goal
@@ -25,3 +26,15 @@ pub returns-in-Ok-clause-goes : goal.returns-in-Ok-clause-goes
 returns-in-Ok-clause-goes g c run start p h rest s e =
     hung_one s c.in-HangUp.peer rest (e ∙ ap (λ x. x ∷ rest) c.in-HangUp.is) _ c.in-Ok.ensures.told _
     (peers_kept c.in-Ok.ensures.counted)
+
+pub returns-in-Err-clause-cause : goal.returns-in-Err-clause-cause
+returns-in-Err-clause-cause g c =
+    cause_plain (g.O.Outside.counts c.args.outside.now) (g.O.Outside.counts c.send_text.new.self)
+    c.fault_of.result c.in-Err.ensures.counted (c.fault_of.ensures.counted _ _ c.in-Err.ensures.counted.faults)
+    c.fault_of.ensures.no_writes
+
+pub returns-in-Err-hang_up-clause-cause : goal.returns-in-Err-hang_up-clause-cause
+returns-in-Err-hang_up-clause-cause g c =
+    cause_plain (g.O.Outside.counts c.args.outside.now) (g.O.Outside.counts c.hang_up.new.self)
+    c.fault_of-in-Err-hang_up.result c.in-Err-hang_up.ensures.counted (c.fault_of-in-Err-hang_up.ensures.counted _ _ c.in-Err-hang_up.ensures.counted.faults)
+    c.fault_of-in-Err-hang_up.ensures.no_writes

@@ -1,26 +1,29 @@
-use Rattle.std.proofs.Common.{◌≡◌, ◌+◌, ◌∙◌, ℕ, refl}
-use Rattle.css_drive.specs.TvDue.{TvRun}
+use Rattle.std.proofs.Common.{◌≡◌, refl}
+use Rattle.css_drive.specs.TvDue.{TvRun, run_of}
 use Rattle.css_drive.proofs.TvRuns.{ran_by, counts_stopped}
 use Rattle.css_drive.proofs.tv_turns.drive_tv.Goals as goal
 
 pub returns-in-Err-clause-ran : goal.returns-in-Err-clause-ran
-returns-in-Err-clause-ran g c =
-    let run : TvRun = record { config = c.args.config; turns = c.args.turns; script = c.args.script.now } in
-    ran_by (c.in-Err.ensures.goes run refl)
+returns-in-Err-clause-ran g c = ran_by (c.in-Err.ensures.goes c.args.script.now)
 
 pub make_turns-made-requires-clause-ready : goal.make_turns-made-requires-clause-ready
-make_turns-made-requires-clause-ready g c =
-    let run : TvRun = record { config = c.args.config; turns = c.args.turns; script = c.args.script.now } in
-    (run, g.O.Outside.told c.args.outside.now, refl, refl, c.in-Ok.ensures.goes run refl)
+make_turns-made-requires-clause-ready g c = record {
+  run = run_of c.args.run c.args.script.now;
+  start = g.O.Outside.told c.args.outside.now;
+  reaches = c.in-Ok.ensures.goes c.args.script.now;
+  script_so = refl;
+}
 
 pub returns-in-Ok-made-clause-ran : goal.returns-in-Ok-made-clause-ran
 returns-in-Ok-made-clause-ran g c =
-    let run : TvRun = record { config = c.args.config; turns = c.args.turns; script = c.args.script.now } in
+    let run : TvRun = run_of c.args.run c.args.script.now in
     ran_by
-    (c.in-Ok-made.ensures.ends run (g.O.Outside.told c.args.outside.now) refl refl (c.in-Ok.ensures.goes run refl))
+    (c.in-Ok-made.ensures.ends run (g.O.Outside.told c.args.outside.now) refl
+    (c.in-Ok.ensures.goes c.args.script.now))
 
 pub returns-in-Err-made-clause-ran : goal.returns-in-Err-made-clause-ran
 returns-in-Err-made-clause-ran g c =
-    let run : TvRun = record { config = c.args.config; turns = c.args.turns; script = c.args.script.now } in
+    let run : TvRun = run_of c.args.run c.args.script.now in
     ran_by
-    (c.in-Err-made.ensures.ends run (g.O.Outside.told c.args.outside.now) refl refl (c.in-Ok.ensures.goes run refl))
+    (c.in-Err-made.ensures.ends run (g.O.Outside.told c.args.outside.now) refl
+    (c.in-Ok.ensures.goes c.args.script.now))

@@ -1,24 +1,37 @@
 use Rattle.std.proofs.Common.{◌≡◌, ◌+◌, ◌∙◌, ℕ, refl}
 use Rattle.css_drive.specs.declared.driven.Driven.TheVariants as driven
+use Rattle.css_drive.proofs.TvSteps.{cause_plain}
 use Rattle.css_drive.proofs.TvSteps.{stops_by_fault}
-use Rattle.css_drive.proofs.TvRuns.{at_first, listens, begun}
+use Rattle.css_drive.proofs.TvRuns.{at_first, listens, begun, none_ranged}
+use Rattle.css_drive.specs.TvDue.{run_of}
 use Rattle.css_drive.proofs.tv_turns.start.Goals as goal
 
 pub returns-in-Err-clause-goes : goal.returns-in-Err-clause-goes
-returns-in-Err-clause-goes g c run e =
-    stops_by_fault (at_first run (g.O.Outside.told c.args.outside.now) 0) (g.O.Outside.told c.listen.new.self)
+returns-in-Err-clause-goes g c script =
+    stops_by_fault (at_first (run_of c.args.run script) (g.O.Outside.told c.args.outside.now) 0) (g.O.Outside.told c.listen.new.self)
     c.in-Err.ensures.told
     c.fault_of.result c.fault_of.ensures.fault
 
 pub returns-in-Err-new-clause-goes : goal.returns-in-Err-new-clause-goes
-returns-in-Err-new-clause-goes g c run e =
+returns-in-Err-new-clause-goes g c script =
     let told = g.O.Outside.told c.listen.new.self in
-    stops_by_fault (listens run (g.O.Outside.told c.args.outside.now) told 0 c.args.config e c.in-Ok.ensures.told) told
+    stops_by_fault
+    (listens (run_of c.args.run script) (g.O.Outside.told c.args.outside.now) told 0 c.in-Ok.ensures.told) told
     refl driven.Memory tt
 
 pub returns-in-Ok-new-clause-goes : goal.returns-in-Ok-new-clause-goes
-returns-in-Ok-new-clause-goes g c run e =
-    begun run (g.O.Outside.told c.args.outside.now) (g.O.Outside.told c.listen.new.self)
-    (g.O.Outside.counts c.listen.new.self).peers c.args.config e
+returns-in-Ok-new-clause-goes g c script =
+    begun (run_of c.args.run script) (g.O.Outside.told c.args.outside.now) (g.O.Outside.told c.listen.new.self)
+    (g.O.Outside.counts c.listen.new.self).peers
     c.in-Ok.ensures.told _ c.in-Ok-new.ensures.addresses c.in-Ok-new.ensures.stands c.in-Ok-new.ensures.server
-    c.new-in-Ok-new.ensures.items refl refl
+    c.new-in-Ok-new.ensures.items refl c.new-turns.ensures
+
+pub returns-in-Ok-new-clause-ranged : goal.returns-in-Ok-new-clause-ranged
+returns-in-Ok-new-clause-ranged g c =
+    none_ranged c.new-turns.result c.args.run.limit c.args.run.relative c.new-turns.ensures c.requires.limit
+
+pub returns-in-Err-clause-cause : goal.returns-in-Err-clause-cause
+returns-in-Err-clause-cause g c =
+    cause_plain (g.O.Outside.counts c.args.outside.now) (g.O.Outside.counts c.listen.new.self)
+    c.fault_of.result c.in-Err.ensures.counted (c.fault_of.ensures.counted _ _ c.in-Err.ensures.counted.faults)
+    c.fault_of.ensures.no_writes
