@@ -1,4 +1,3 @@
-pub mod Limits
 pub mod Configs
 pub mod Proper
 pub mod Ends

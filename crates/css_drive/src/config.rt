@@ -1,6 +1,5 @@
 ghost use Rattle.std.specs.Prelude.{◌≤◌};
-ghost use Rattle.css_outside.specs.Limits.{IsLimit};
-ghost use Rattle.css_drive.specs.Limits.{IsLimit-prop};
+ghost use Rattle.css_outside.specs.Limits.{IsLimit, IsLimit-prop};
 
 use css_companion::CompanionConfig;
 use css_outside::{Address, Limit};

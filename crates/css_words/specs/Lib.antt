@@ -1,7 +1,6 @@
 pub mod Faults
 pub mod Options
 pub mod Lines
-pub mod Limits
 pub mod Generator
 pub mod Bounds
 pub mod Tv

@@ -1,6 +1,5 @@
 ghost use Rattle.std.specs.Prelude.{◌≤◌, ◌<◌, ◌^◌, unwrap_or, pos, ◌≤ℤ◌};
-ghost use Rattle.css_outside.specs.Limits.{IsLimit};
-ghost use Rattle.css_words.specs.Limits.{IsLimit-prop};
+ghost use Rattle.css_outside.specs.Limits.{IsLimit, IsLimit-prop};
 ghost use Rattle.css_words.specs.Lines.{least_lines};
 
 use css_address::Address;
