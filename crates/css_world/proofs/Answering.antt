@@ -1,7 +1,7 @@
 -- An answer is given, and a datagram lands: both ends stand for the line too.
 use Rattle.std.proofs.Common.{◌≡◌, ◌≢◌, ℕ, ◌-◌, append_assoc, ◌<◌, ◌≤◌, arith}
 use Rattle.std.proofs.Common.{Bool, true, false, not}
-use Rattle.std.proofs.Common.{List, [], ◌∷◌, ◌++◌, length, refl, ap, sym, subst, ◌∙◌, eq-eqb, ne_eqb}
+use Rattle.std.proofs.Common.{List, [], ◌∷◌, ◌++◌, length, refl, ap, sym, subst, ◌∙◌, ◌⊎◌, inl, inr, eq-eqb, ne_eqb}
 use Rattle.std.specs.Prelude.{◌&&◌, map, unwrap_or, slice_set, Option, Some, None, is_some, option_to_list}
 use Rattle.std.specs.Option.{option_map, option_flatten}
 use Rattle.css_model.specs.declared.Message.{Message}
@@ -26,13 +26,12 @@ use Rattle.css_world.specs.Numbering.{stored, spent}
 use Rattle.css_world.specs.Standing.{World, AreStored, owner}
 use Rattle.css_world.specs.Standing.{open_ticket, EndsStand, IsAnswerTo, Answers}
 use Rattle.css_world.specs.Lanes.{LaneStands}
-use Rattle.css_world.specs.Sessions.{peer_of}
 use Rattle.css_world.specs.Verdicts.{is_for}
-use Rattle.css_num.specs.declared.protocol.Kind.TheVariants as kind
-use Rattle.css_world.specs.Flights.{Session, SessionStands}
 use Rattle.css_world.specs.declared.lane.Lane.{Lane}
 use Rattle.css_world.proofs.Storing.{mapped_some, numbered_within, pushed, spent_stored}
 use Rattle.css_world.proofs.Carrying.{own_line, all_lanes, one_lane}
+use Rattle.css_world.proofs.Made.{made_count}
+use Rattle.css_world.proofs.Numbers.{stored_none, mapped_none}
 
 -- ---- an answer
 -- a server's response tells what it declares
@@ -74,24 +73,17 @@ answer_same server header ticket reading answered precision error is = record {
 abbrev AreDatagrams : List (List ℕ) → List Message → Type 0
 AreDatagrams items made = AreStored (λ number. encoded) items made
 
--- a response alone is stored
-response_stored : (items : List (List ℕ)) (older : List Message) (response : Message) (follow_up : Option Message)
-    → None ≡ option_map encoded follow_up
-    → AreDatagrams items older
-    → AreDatagrams (items ++ encoded response ∷ []) ((option_to_list follow_up ++ response ∷ []) ++ older)
-response_stored items older response None none are =
-    pushed (λ number. encoded) items older response (encoded response) are refl
-response_stored items older response (Some message) none are = absurd (cc)
-
--- a response and its follow-up are stored
-both_stored : (items : List (List ℕ)) (older : List Message) (response : Message) (follow_up : Option Message)
-    (bytes : List ℕ) → Some bytes ≡ option_map encoded follow_up
-    → AreDatagrams items older → AreDatagrams ((items ++ encoded response ∷ []) ++ bytes ∷ [])
-    ((option_to_list follow_up ++ response ∷ []) ++ older)
-both_stored items older response None bytes some are = absurd (cc)
-both_stored items older response (Some message) bytes some are =
-    pushed (λ number. encoded) (items ++ encoded response ∷ []) (response ∷ older) message bytes
-    (pushed (λ number. encoded) items older response (encoded response) are refl) (cc)
+-- a first item is stored, and the one after it, if there is one
+answer_pushed : {A B : Type 0} (see : A → B) (items : List B) (older : List A) (first : A) (more : Option A)
+    → AreStored (λ number. see) items older
+    → AreStored (λ number. see) (items ++ see first ∷ option_to_list (option_map see more))
+    ((option_to_list more ++ first ∷ []) ++ older)
+answer_pushed see items older first None are = pushed (λ number. see) items older first (see first) are refl
+answer_pushed {A} {B} see items older first (Some second) are =
+    subst (λ (kept : List B). AreStored (λ number. see) kept (second ∷ first ∷ older))
+    (append_assoc items (see first ∷ []) (see second ∷ []))
+    (pushed (λ number. see) (items ++ see first ∷ []) (first ∷ older) second (see second)
+    (pushed (λ number. see) items older first (see first) are refl) refl)
 
 -- what a ticket that is taken out was
 pub open_is : (lines : List Numbered) (take : ℕ) (o : Option Ticket) (ticket : Ticket)
@@ -133,87 +125,57 @@ not_open lines take (Some ticket) e = by (is_given take lines) refl
     by true is = rw is refl
     by false is = absurd (let no : ◌≡◌ {A = Option Ticket} (Some ticket) None = rw is at e in cc)
 
--- the companion of an answer, once for each of its datagrams, the oldest first
-abbrev pub owners_of : ℕ → Option Message → List ℕ
-owners_of asker None = asker ∷ []
-owners_of asker (Some follow_up) = asker ∷ asker ∷ []
-
 -- a companion is stored as itself
 pub owner_stored : (o : Option ℕ) (number who : ℕ) → option_map (owner number) o ≡ Some who → o ≡ Some who
 owner_stored None number who is = absurd (cc)
 owner_stored (Some x) number who is = is
 
--- a response with no follow-up is stored
-pub alone_made : (header : Header) (ticket : Ticket) (reading : ℕ) (answered : Answered)
-    (items made : List (List ℕ)) (older : List Message)
-    → IsAnswerTo (server_of header) ticket reading answered → answered.follow_up ≡ None
-    → made ≡ items ++ answered.response ∷ [] → AreStored (λ number. encoded) items older
-    → AreStored (λ number. encoded) made (answers_to (server_of header) reading (Some ticket) ++ older)
-alone_made header ticket reading answered items made older is none put are =
-    let response : Message = response_to (server_of header) ticket reading in
-    let so : made ≡ items ++ encoded response ∷ [] = put ∙ ap (λ (bytes : List ℕ). items ++ bytes ∷ []) is.response in
-    subst (λ (kept : List (List ℕ)). AreDatagrams kept (answers_to (server_of header) reading (Some ticket) ++ older))
-    (sym so)
-    (response_stored items older response (follow_up_for (server_of header) ticket reading)
-    (sym none ∙ is.follow_up) are)
+-- the datagrams of an answer are stored
+answer_made : (server : Server) (ticket : Ticket) (reading : ℕ) (answered : Answered) (items : List (List ℕ))
+    (older : List Message) → IsAnswerTo server ticket reading answered → AreDatagrams items older
+    → AreDatagrams (items ++ answered.response ∷ option_to_list answered.follow_up)
+    (answers_to server reading (Some ticket) ++ older)
+answer_made server ticket reading answered items older is are =
+    let response : Message = response_to server ticket reading in
+    let follow_up : Option Message = follow_up_for server ticket reading in
+    subst (λ (r : List ℕ). AreDatagrams (items ++ r ∷ option_to_list answered.follow_up)
+    (answers_to server reading (Some ticket) ++ older)) (sym is.response)
+    (subst (λ (f : Option (List ℕ)). AreDatagrams (items ++ encoded response ∷ option_to_list f)
+    (answers_to server reading (Some ticket) ++ older)) (sym is.follow_up)
+    (answer_pushed encoded items older response follow_up are))
 
--- and so is one with its follow-up
-pub both_made : (header : Header) (ticket : Ticket) (reading : ℕ) (answered : Answered) (bytes : List ℕ)
-    (items first made : List (List ℕ)) (older : List Message)
-    → IsAnswerTo (server_of header) ticket reading answered → answered.follow_up ≡ Some bytes
-    → first ≡ items ++ answered.response ∷ [] → made ≡ first ++ bytes ∷ [] → AreStored (λ number. encoded) items older
-    → AreStored (λ number. encoded) made (answers_to (server_of header) reading (Some ticket) ++ older)
-both_made header ticket reading answered bytes items first made older is some put put_too are =
-    let response : Message = response_to (server_of header) ticket reading in
-    let so : first ≡ items ++ encoded response ∷ [] = put ∙ ap (λ (b : List ℕ). items ++ b ∷ []) is.response in
-    let both : made ≡ (items ++ encoded response ∷ []) ++ bytes ∷ [] =
-    put_too ∙ ap (λ (f : List (List ℕ)). f ++ bytes ∷ []) so in
-    subst (λ (kept : List (List ℕ)). AreDatagrams kept (answers_to (server_of header) reading (Some ticket) ++ older))
-    (sym both)
-    (both_stored items older response (follow_up_for (server_of header) ticket reading) bytes
-    (sym some ∙ is.follow_up) are)
-
--- the companions of the datagrams of an answer are stored, once for each of them
-owners_stored : (items : List ℕ) (older : List ℕ) (asker : ℕ) (response : Message) (follow_up : Option Message)
-    → AreStored owner items older
-    → AreStored owner (items ++ owners_of asker follow_up)
-    (map (λ (m : Message). asker) (option_to_list follow_up ++ response ∷ []) ++ older)
-owners_stored items older asker response None are = pushed owner items older asker asker are refl
-owners_stored items older asker response (Some message) are =
-    subst (λ (kept : List ℕ). AreStored owner kept (asker ∷ asker ∷ older))
-    (append_assoc items (asker ∷ []) (asker ∷ []))
-    (pushed owner (items ++ asker ∷ []) (asker ∷ older) asker asker (pushed owner items older asker asker are refl)
-    refl)
-
--- of a response with no follow-up there is one
-pub alone_owned : (asker : ℕ) (bytes : Option (List ℕ)) (follow_up : Option Message) (items made : List ℕ)
-    → bytes ≡ option_map encoded follow_up → bytes ≡ None → made ≡ items ++ asker ∷ []
-    → made ≡ items ++ owners_of asker follow_up
-alone_owned asker bytes None items made is none put = put
-alone_owned asker bytes (Some message) items made is none put = absurd (cc)
-
--- and of one with its follow-up there are two
-pub both_owned : (asker : ℕ) (bytes : Option (List ℕ)) (sent : List ℕ) (follow_up : Option Message)
-    (items first made : List ℕ)
-    → bytes ≡ option_map encoded follow_up → bytes ≡ Some sent → first ≡ items ++ asker ∷ []
-    → made ≡ first ++ asker ∷ [] → made ≡ items ++ owners_of asker follow_up
-both_owned asker bytes sent None items first made is some put put_too = absurd (cc)
-both_owned asker bytes sent (Some message) items first made is some put put_too =
-    put_too ∙ ap (λ (xs : List ℕ). xs ++ asker ∷ []) put ∙ append_assoc items (asker ∷ []) (asker ∷ [])
+-- and the companion that they are for, once for each of them
+answer_owned : (server : Server) (ticket : Ticket) (reading asker : ℕ) (answered : Answered) (items older : List ℕ)
+    → IsAnswerTo server ticket reading answered → AreStored owner items older
+    → AreStored owner (items ++ asker ∷ option_to_list (option_map (λ bytes. asker) answered.follow_up))
+    (map (λ (m : Message). asker) (answers_to server reading (Some ticket)) ++ older)
+answer_owned server ticket reading asker answered items older is are =
+    by (follow_up_for server ticket reading) is.follow_up
+  where
+    by : (f : Option Message) → answered.follow_up ≡ option_map encoded f
+        → AreStored owner (items ++ asker ∷ option_to_list (option_map (λ bytes. asker) answered.follow_up))
+        (map (λ (m : Message). asker) (option_to_list f ++ response_to server ticket reading ∷ []) ++ older)
+    by None none = subst (λ (o : Option (List ℕ)). AreStored owner
+        (items ++ asker ∷ option_to_list (option_map (λ bytes. asker) o)) (asker ∷ older)) (sym none)
+        (answer_pushed (λ who. who) items older asker None are)
+    by (Some message) some = subst (λ (o : Option (List ℕ)). AreStored owner
+        (items ++ asker ∷ option_to_list (option_map (λ bytes. asker) o)) (asker ∷ asker ∷ older)) (sym some)
+        (answer_pushed (λ who. who) items older asker (Some asker) are)
 
 -- so does `give`
 pub given : (old : World) (lines : List Numbered) (number t w who l take reading asker : ℕ) (ticket : Ticket)
-    (tv : Television) (made : List (List ℕ)) (owners : List ℕ)
+    (answered : Answered) (tv : Television) (made : List (List ℕ)) (owners : List ℕ)
     → EndsStand old lines → option_flatten (stored old.tv.takes.items take) ≡ Some ticket
     → stored old.taken_for take ≡ Some asker
     → tv.tv ≡ old.tv.tv → tv.takes.items ≡ spent old.tv.takes.items take
-    → AreStored (λ number. encoded) made
-    (answers_to (server_of old.header) reading (Some ticket) ++ datagrams old.header lines)
-    → owners ≡ old.made_for ++ owners_of asker (follow_up_for (server_of old.header) ticket reading)
+    → IsAnswerTo (server_of old.header) ticket reading answered
+    → made ≡ old.datagrams ++ answered.response ∷ option_to_list answered.follow_up
+    → owners ≡ old.made_for ++ asker ∷ option_to_list (option_map (λ bytes. asker) answered.follow_up)
     → ((is_some (numbered take (tickets old.header lines)) && not (is_given take lines)) ≡ true)
     × EndsStand (record old { tv = tv; datagrams = made; made_for = owners })
     (own_line number t w who l (Give take reading) ∷ lines)
-given old lines number t w who l take reading asker ticket tv made owners ends found whose same_tv put are put_too =
+given old lines number t w who l take reading asker ticket answered tv made owners ends found whose same_tv put is
+    stored_so put_too =
     let before : List Ticket = tickets old.header lines in
     let now : Numbered = own_line number t w who l (Give take reading) in
     let was_open : (numbered take before ≡ Some ticket) × (is_given take lines ≡ false) =
@@ -240,11 +202,13 @@ given old lines number t w who l take reading asker ticket tv made owners ends f
     let within : take ≤ length before = numbered_within take before ticket was_taken in
     let ahead : (n : ℕ) → length before < n → is_given n (now ∷ lines) ≡ false = λ n above.
     let differs : take ≢ n = omega arith in rw (ne_eqb take n differs) (ends.none_ahead n above) in
-    let owned : AreStored owner (old.made_for ++ owners_of asker (follow_up_for (server_of old.header) ticket reading))
-    (map (λ (m : Message). asker) (answers_to (server_of old.header) reading (Some ticket)) ++ made_for old.header
-    lines) =
-    owners_stored old.made_for (made_for old.header lines) asker (response_to (server_of old.header) ticket reading)
-    (follow_up_for (server_of old.header) ticket reading) ends.made_for in (
+    let are : AreDatagrams made (answers_to (server_of old.header) reading (Some ticket) ++ datagrams old.header lines) =
+    subst (λ (kept : List (List ℕ)). AreDatagrams kept (answers_to (server_of old.header) reading (Some ticket)
+    ++ datagrams old.header lines)) (sym stored_so)
+    (answer_made (server_of old.header) ticket reading answered old.datagrams (datagrams old.header lines) is
+    ends.datagrams) in
+    let owned = answer_owned (server_of old.header) ticket reading asker answered old.made_for
+    (made_for old.header lines) is ends.made_for in (
       can,
       record {
         lanes = all_lanes old.header lines number t w who l (Give take reading) old.lanes (λ n. refl) ends.lanes;
@@ -268,38 +232,34 @@ given old lines number t w who l take reading asker ticket tv made owners ends f
 
 -- ---- a landing
 pub landed : (old : World) (lines : List Numbered) (number t w who l datagram reading : ℕ) (bytes : List ℕ)
-    (before lane : Lane)
-    → EndsStand old lines → 1 ≤ who → who ≤ length old.lanes → stored old.lanes who ≡ Some before
+    (lane : Lane) (companion : Companion)
+    → EndsStand old lines → 1 ≤ who → who ≤ length old.lanes → stored old.lanes who ≡ Some lane
     → stored old.datagrams datagram ≡ Some bytes → stored old.made_for datagram ≡ Some who
-    → companions.StandsFor lane.companion (Clock why.Land reading ∷ Took peer bytes ∷ history_of who old.header lines)
-    → lane.cii ≡ before.cii → lane.ts ≡ before.ts
+    → companions.StandsFor companion (Clock why.Land reading ∷ Took peer bytes ∷ history_of who old.header lines)
     → (is_for who (numbered datagram (made_for old.header lines)) ≡ true)
-    × EndsStand (record old { lanes = slice_set old.lanes (who - 1) lane })
+    × EndsStand (record old { lanes = slice_set old.lanes (who - 1) (record lane { companion = companion }) })
     (own_line number t w who l (Land datagram reading) ∷ lines)
-landed old lines number t w who l datagram reading bytes before lane ends first within is_lane found whose stands
-    same_cii
-    same_ts =
+landed old lines number t w who l datagram reading bytes lane companion ends first within is_lane found whose stands =
     let made : List Message = datagrams old.header lines in
-    let events = events_of old.header lines in
     let own = history_of who old.header lines in
-    let was = ends.lanes who before is_lane in
+    let was = ends.lanes who lane is_lane in
     let came = mapped_some encoded (numbered datagram made) bytes (sym (ends.datagrams.each datagram) ∙ found) in
     let same : bytes_of (numbered datagram made) ≡ bytes = ap bytes_of came.1 ∙ came.2 in
     let mine = owner_stored (numbered datagram (made_for old.header lines)) datagram who
     (sym (ends.made_for.each datagram) ∙ whose) in
-    let stand : LaneStands who events (Clock why.Land reading ∷ Took peer (bytes_of (numbered datagram made)) ∷ own)
-    lane =
+    let stand : LaneStands who (events_of old.header lines)
+    (Clock why.Land reading ∷ Took peer (bytes_of (numbered datagram made)) ∷ own)
+    (record lane { companion = companion }) =
     record {
-      companion = subst (λ (b : List ℕ). companions.StandsFor lane.companion
-          (Clock why.Land reading ∷ Took peer b ∷ own))
+      companion = subst (λ (b : List ℕ). companions.StandsFor companion (Clock why.Land reading ∷ Took peer b ∷ own))
           (sym same) stands;
-      cii = subst (λ (s : Session). SessionStands (peer_of who kind.Cii) events own s) (sym same_cii) was.cii;
-      ts = subst (λ (s : Session). SessionStands (peer_of who kind.Ts) events own s) (sym same_ts) was.ts;
+      cii = was.cii;
+      ts = was.ts;
     } in (
       ap (is_for who) mine ∙ eq-eqb who who refl,
       record {
-        lanes = one_lane old.header lines number t w who l (Land datagram reading) old.lanes lane refl first within
-            ends.lanes stand;
+        lanes = one_lane old.header lines number t w who l (Land datagram reading) old.lanes
+            (record lane { companion = companion }) refl first within ends.lanes stand;
         stage = ends.stage;
         server = ends.server;
         in_range = ends.in_range;
@@ -312,3 +272,26 @@ landed old lines number t w who l datagram reading bytes before lane ends first 
         made_for = ends.made_for;
       },
     )
+
+-- Where no datagram of that number is stored, or it is for another companion, none lands.
+pub not_landing : (old : World) (lines : List Numbered) (who datagram : ℕ) → EndsStand old lines
+    → ((stored old.datagrams datagram ≡ None) ⊎ (stored old.made_for datagram ≡ None))
+    → is_for who (numbered datagram (made_for old.header lines)) ≡ false
+not_landing old lines who datagram ends none =
+    let nobody : stored old.made_for datagram ≡ None = by none in
+    ap (is_for who) (mapped_none (owner datagram) (numbered datagram (made_for old.header lines))
+    (sym (ends.made_for.each datagram) ∙ nobody))
+  where
+    by : (stored old.datagrams datagram ≡ None) ⊎ (stored old.made_for datagram ≡ None)
+        → stored old.made_for datagram ≡ None
+    by (inl missing) = stored_none old.datagrams old.made_for datagram
+        (ends.datagrams.count ∙ sym (made_count old.header lines) ∙ sym ends.made_for.count) missing
+    by (inr nobody) = nobody
+
+pub not_for : (old : World) (lines : List Numbered) (who other datagram : ℕ) → EndsStand old lines
+    → stored old.made_for datagram ≡ Some other → other ≢ who
+    → is_for who (numbered datagram (made_for old.header lines)) ≡ false
+not_for old lines who other datagram ends whose differs =
+    let theirs = owner_stored (numbered datagram (made_for old.header lines)) datagram other
+    (sym (ends.made_for.each datagram) ∙ whose) in
+    ap (is_for who) theirs ∙ ne_eqb other who differs

@@ -1,10 +1,10 @@
 -- What happens at a session is carried out: both ends stand for the line too.
-use Rattle.std.proofs.Common.{◌≡◌, ◌≤◌, ◌-◌, ℕ, true, List, ◌∷◌, length}
+use Rattle.std.proofs.Common.{◌≡◌, ◌≤◌, ◌-◌, ◌==◌, ℕ, true, false, List, ◌∷◌, length}
 use Rattle.std.proofs.Common.{◌++◌, refl, ap, sym, subst, ◌∙◌, inl}
 use Rattle.std.specs.Prelude.{slice_set, Option, Some, None, Ok}
 use Rattle.std.specs.Option.{option_map, option_to_list}
 use Rattle.css_model.specs.declared.Kind.TheVariants as session
-use Rattle.css_model.specs.History.{Dialled, Heard, Wrote, Closed}
+use Rattle.css_model.specs.History.{History, Dialled, Heard, Wrote, Closed}
 use Rattle.css_num.specs.declared.protocol.Kind.{Kind}
 use Rattle.css_num.specs.declared.protocol.Kind.TheVariants as kind
 use Rattle.css_sessions.specs.Kept.{Kept, talk_of}
@@ -21,20 +21,21 @@ use Rattle.css_tv.specs.declared.event.TvEvent.TheVariants as event
 use Rattle.css_companion.specs.Standing as companions
 use Rattle.css_companion.specs.Standing.{Companion}
 use Rattle.css_companion.specs.Contents.{next_number, told}
-use Rattle.css_companion.specs.Meanings.{texts_of}
-use Rattle.css_companion.specs.Steps.{window, owed, none_owed}
+use Rattle.css_companion.specs.Meanings.{kind_of, texts_of}
+use Rattle.css_companion.specs.Steps.{window, owed, none_owed, IsEvent, IsEntryOf}
 use Rattle.css_companion.specs.declared.event.CompanionEvent.TheVariants as happening
 use Rattle.css_schedule.specs.declared.line.Verb.TheVariants.{Opening, Bring, Up, Present, Close}
 use Rattle.css_world.specs.declared.lane.Lane.{Lane}
 use Rattle.css_world.specs.declared.session.Phase.TheVariants as phases
 use Rattle.css_world.specs.Sessions.{addresses, peer_of, setup_of, is_open, was_opened, heard_from}
 use Rattle.css_world.specs.Sessions.{written_to, received_from, told_to, next_down}
-use Rattle.css_world.specs.Happened.{Numbered, hearing, events_of, history_of}
+use Rattle.css_world.specs.Happened.{Numbered, dialled, hearing, events_of, history_of}
 use Rattle.css_world.specs.Numbering.{stored}
 use Rattle.css_world.specs.Verdicts.{IsDeclared, played}
 use Rattle.css_world.specs.Flights.{Session, opened, closed, first_in, rest_in}
-use Rattle.css_world.specs.Flights.{with_written, SessionCarries, SessionStands}
-use Rattle.css_world.specs.Lanes.{LaneStands, KeepsAllButTexts}
+use Rattle.css_world.specs.Flights.{with_written, SessionCarries, SessionStands, HasNews}
+use Rattle.css_world.specs.Lanes.{LaneStands, KeepsAllButTexts, IsPlayed, KeepsAllBut, session_at, other}
+use Rattle.css_world.specs.Lanes.{next_at, taken_at, heard_as, closed_as, Greets}
 use Rattle.css_world.specs.Standing.{World, EndsStand, AreAccepted}
 use Rattle.css_world.proofs.Carrying.{own_line, one_lane}
 use Rattle.css_world.proofs.Peers.{cii_of, ts_of, cii-ts, ts-cii, others-peer}
@@ -45,12 +46,86 @@ use Rattle.css_world.proofs.Flights.{is-live}
 use Rattle.css_world.proofs.Flights.{heard-one, raised-one, written-one}
 use Rattle.css_world.proofs.Staged.{never_opened, no_talk}
 use Rattle.css_world.proofs.InOrder.{text_is_taken}
-use Rattle.css_world.proofs.Dialled.{open_kind}
+use Rattle.css_world.proofs.Dialled.{dialled_as, open_kind}
 use Rattle.css_world.proofs.Verbs.{quiet, session-played, aside, dialled-aside, wrote-aside, WhenPlayed, WhenAttended}
+use Rattle.css_world.proofs.Verbs.{WhenGreeted}
 use Rattle.css_world.proofs.Verbs.{never-open, opens, can-close, closes, can-bring, can-raise, session_as}
 use Rattle.css_world.proofs.AtTelevision.{event_lanes, attended_lanes}
 
+-- ---- one session of a lane
+-- the peers of a companion's two sessions differ
+two_peers : (who : ℕ) (k : Kind) → 1 ≤ who → (peer_of who k == peer_of who (other k)) ≡ false
+two_peers who kind.Cii first = cii-ts who first
+two_peers who kind.Ts first = ts-cii who first
+
+-- a lane's session of a kind, of both
+pub at_kind : (k : Kind) (who : ℕ) (events : List TvEvent) (own : History) (lane : Lane) → LaneStands who events own lane
+    → SessionStands (peer_of who k) events own (session_at k lane)
+at_kind kind.Cii who events own lane stands = stands.cii
+at_kind kind.Ts who events own lane stands = stands.ts
+
+played_at : (k : Kind) (who : ℕ) (events : List TvEvent) (e : TvEvent) (old new : Lane) → IsPlayed who events e old new
+    → HasNews (peer_of who k) events e (session_at k old) (session_at k new)
+played_at kind.Cii who events e old new played = played.cii
+played_at kind.Ts who events e old new played = played.ts
+
+same_at : (k : Kind) (old new : Lane) → new.cii ≡ old.cii → new.ts ≡ old.ts → session_at k new ≡ session_at k old
+same_at kind.Cii old new cii ts = cii
+same_at kind.Ts old new cii ts = ts
+
+-- The lane stands where its companion and both sessions do.
+both_at : (k : Kind) (who : ℕ) (events : List TvEvent) (own : History) (lane : Lane)
+    → companions.StandsFor lane.companion own → SessionStands (peer_of who k) events own (session_at k lane)
+    → SessionStands (peer_of who (other k)) events own (session_at (other k) lane) → LaneStands who events own lane
+both_at kind.Cii who events own lane companion here there = record { companion = companion; cii = here; ts = there }
+both_at kind.Ts who events own lane companion here there = record { companion = companion; cii = there; ts = here }
+
+-- the entries of what a companion tells of its sessions
+heard_entry : (k : Kind) (peer : ℕ) (text : List ℕ) (own : History) → kind_of peer own ≡ Some (dialled_as k)
+    → IsEntryOf (heard_as k text) (Heard peer text) own
+heard_entry kind.Cii peer text own is = (peer, refl, is)
+heard_entry kind.Ts peer text own is = (peer, refl, is)
+
+closed_entry : (k : Kind) (peer : ℕ) (own : History) → kind_of peer own ≡ Some (dialled_as k)
+    → IsEntryOf (closed_as k) (Closed peer) own
+closed_entry kind.Cii peer own is = (peer, inl refl, is)
+closed_entry kind.Ts peer own is = (peer, inl refl, is)
+
+-- none of both has bounds
+pub heard_event : (k : Kind) (text : List ℕ) → IsEvent (heard_as k text)
+heard_event kind.Cii text = tt
+heard_event kind.Ts text = tt
+
+pub closed_event : (k : Kind) → IsEvent (closed_as k)
+closed_event kind.Cii = tt
+closed_event kind.Ts = tt
+
+-- nothing is owed after a session closes
+pub owes-nothing : (k : Kind) (companion : Companion) → owed companion (closed_as k) ≡ Ok None
+owes-nothing kind.Cii companion = refl
+owes-nothing kind.Ts companion = refl
+
 module _ (old : World) (lines : List Numbered) (number t w who l : ℕ) where
+  -- ---- what was not touched
+  -- the companion, from the own session's change on
+  stood_on : (k : Kind) (lane between mid : Lane)
+      → LaneStands who (events_of old.header lines) (history_of who old.header lines) lane → KeepsAllBut k lane between
+      → mid.companion ≡ between.companion → companions.StandsFor mid.companion (history_of who old.header lines)
+  stood_on k lane between mid before rest same =
+      subst (λ (c : Companion). companions.StandsFor c (history_of who old.header lines))
+      (sym (same ∙ rest.companion)) before.companion
+
+  -- and the other session
+  other_stood : (k : Kind) (lane between : Lane)
+      → LaneStands who (events_of old.header lines) (history_of who old.header lines) lane → KeepsAllBut k lane between
+      → SessionStands (peer_of who (other k)) (events_of old.header lines) (history_of who old.header lines)
+      (session_at (other k) between)
+  other_stood k lane between before rest =
+      let events = events_of old.header lines in
+      let own = history_of who old.header lines in
+      subst (λ (s : Session). SessionStands (peer_of who (other k)) events own s) (sym rest.other)
+      (at_kind (other k) who events own lane before)
+
   -- ---- openings
   -- the television has no session of a peer that opens one
   pub no-session : (k : Kind) (before after : Session) (peer : ℕ) → 1 ≤ who → AreAccepted old.header lines
@@ -66,183 +141,147 @@ module _ (old : World) (lines : List Numbered) (number t w who l : ℕ) where
       ∙ ap (λ a. talk_of (peer_of who k) (sessions_of (calls_of a events).sessions).list) same
       ∙ no_talk old.header lines who k first accepted (never-open old.header lines who k before after stands ok)
 
-  -- a CII session opens
-  pub opens_cii : (lane : Lane) (cii : Session) (tv : Tv) (lanes : List Lane) → AreAccepted old.header lines
-      → EndsStand old lines → 1 ≤ who → who ≤ length old.lanes → stored old.lanes who ≡ Some lane
-      → opened lane.cii ≡ Ok cii
-      → WhenPlayed (event.Opened (cii_of who) kind.Cii) old.tv.tv tv
-      (slice_set old.lanes (who - 1) (record lane { cii = cii })) lanes
-      → tv.server ≡ old.tv.tv.server
-      → KeepsAllButTexts (slice_set old.lanes (who - 1) (record lane { cii = cii })) lanes
-      → EndsStand (record old { tv = record old.tv { tv = tv }; lanes = lanes })
-      (own_line number t w who l (Opening kind.Cii) ∷ lines)
-  opens_cii lane cii tv lanes accepted ends first within found ok plays same kept =
+  -- A session is dialled, and the companion writes its setup where that is a TS session.
+  greeted : (k : Kind) (mid final : Lane) → 1 ≤ who
+      → companions.StandsFor mid.companion (history_of who old.header lines)
+      → SessionCarries (session_at k mid) true true
+      (told_to (peer_of who k) (event.Opened (peer_of who k) k ∷ events_of old.header lines))
+      (heard_from (peer_of who k) (history_of who old.header lines))
+      (written_to (peer_of who k) (history_of who old.header lines))
+      (received_from (peer_of who k) (events_of old.header lines))
+      → SessionStands (peer_of who (other k)) (event.Opened (peer_of who k) k ∷ events_of old.header lines)
+      (history_of who old.header lines) (session_at (other k) mid)
+      → mid.companion.setup ≡ setup_of who old.header → WhenGreeted k mid.companion final.companion
+      → final.cii ≡ mid.cii → Greets k mid final
+      → LaneStands who (event.Opened (peer_of who k) k ∷ events_of old.header lines)
+      (dialled old.header who k (history_of who old.header lines)) final
+  greeted kind.Cii mid final first stood here there asks greets same_cii after =
       let peer = cii_of who in
-      let other = cii-ts who first in
-      let e = event.Opened peer kind.Cii in
-      let events = events_of old.header lines in
+      let events = event.Opened peer kind.Cii ∷ events_of old.header lines in
       let own = history_of who old.header lines in
-      let before = ends.lanes who lane found in
-      let never = never-open old.header lines who kind.Cii lane.cii cii before.cii ok in
-      let done = plays events ends.stage (never_opened old.header lines who kind.Cii first accepted never) in
-      quiet old lines number t w who l (Opening kind.Cii) tv lanes tt ends same done.stage
-      (event_lanes old lines number t w who l (Opening kind.Cii) e tv (record lane { cii = cii }) lanes ends first
-      within refl
-      (λ n k above differs. others-peer n who kind.Cii k above first (λ is. differs (sym is))) done kept
-      (λ after played companion. record {
-        companion = subst (λ (c : Companion). companions.StandsFor c (Dialled session.Cii peer ∷ own)) (sym companion)
-            (aside lane.companion (Dialled session.Cii peer) own (dialled-aside session.Cii peer own) before.companion);
-        cii = session_as after.cii peer (e ∷ events) (Dialled session.Cii peer ∷ own) _ _ _ _ _
-            (dialled-open peer session.Cii own) (dialled-was peer session.Cii own) refl refl refl
-            (session-played played.cii (opens old.header lines who kind.Cii lane.cii cii first accepted before.cii ok));
-        ts = session_as after.ts (ts_of who) (e ∷ events) (Dialled session.Cii peer ∷ own) _ _ _ _ _
-            (dialled-open_apart (ts_of who) peer other session.Cii own)
-            (dialled-was_apart (ts_of who) peer other session.Cii own) refl refl refl
-            (session-played played.ts before.ts);
-      }))
+      let history = Dialled session.Cii peer ∷ own in
+      let apart = cii-ts who first in
+      record {
+        companion = aside final.companion (Dialled session.Cii peer) own (dialled-aside session.Cii peer own)
+            (greets own own stood refl);
+        cii = subst (λ (s : Session). SessionStands peer events history s) (sym same_cii)
+            (session_as mid.cii peer events history _ _ _ _ _ (dialled-open peer session.Cii own)
+            (dialled-was peer session.Cii own) refl refl refl here);
+        ts = subst (λ (s : Session). SessionStands (ts_of who) events history s) (sym after)
+            (session_as mid.ts (ts_of who) events history _ _ _ _ _
+            (dialled-open_apart (ts_of who) peer apart session.Cii own)
+            (dialled-was_apart (ts_of who) peer apart session.Cii own) refl refl refl there);
+      }
+  greeted kind.Ts mid final first stood here there asks greets same_cii after =
+      let peer = ts_of who in
+      let events = event.Opened peer kind.Ts ∷ events_of old.header lines in
+      let own = history_of who old.header lines in
+      let setup = setup_text (setup_of who old.header) in
+      let begun = Dialled session.Ts peer ∷ own in
+      let history = Wrote peer setup ∷ begun in
+      let apart = ts-cii who first in
+      let written : final.ts ≡ with_written (Some setup) mid.ts =
+      after ∙ ap (λ (u : Setup). with_written (Some (setup_text u)) mid.ts) asks in
+      record {
+        companion = aside final.companion (Wrote peer setup) begun (wrote-aside peer setup begun)
+            (greets own begun stood (peer, refl));
+        cii = subst (λ (s : Session). SessionStands (cii_of who) events history s) (sym same_cii)
+            (session_as mid.cii (cii_of who) events history _ _ _ _ _
+            (dialled-open_apart (cii_of who) peer apart session.Ts own)
+            (dialled-was_apart (cii_of who) peer apart session.Ts own) refl
+            (wrote-apart (cii_of who) peer apart setup begun) refl there);
+        ts = session_as final.ts peer events history true true (heard_from peer own)
+            (setup ∷ written_to peer own) (received_from peer (events_of old.header lines))
+            (dialled-open peer session.Ts own) (dialled-was peer session.Ts own) refl
+            (wrote-one peer setup begun) refl
+            (subst (λ (s : Session). SessionCarries s true true (told_to peer events) (heard_from peer own)
+            (setup ∷ written_to peer own) (received_from peer (events_of old.header lines))) (sym written)
+            (written-one setup here));
+      }
 
-  -- a TS session opens, and the companion writes its setup
-  pub opens_ts : (lane : Lane) (ts : Session) (tv : Tv) (mid final : Lane) (played : List Lane)
+  -- a session opens
+  pub opens_at : (k : Kind) (lane between mid final : Lane) (tv : Tv) (played : List Lane)
       → AreAccepted old.header lines → EndsStand old lines
       → 1 ≤ who → who ≤ length old.lanes → stored old.lanes who ≡ Some lane
-      → opened lane.ts ≡ Ok ts
-      → WhenPlayed (event.Opened (ts_of who) kind.Ts) old.tv.tv tv
-      (slice_set old.lanes (who - 1) (record lane { ts = ts })) played
-      → tv.server ≡ old.tv.tv.server
-      → KeepsAllButTexts (slice_set old.lanes (who - 1) (record lane { ts = ts })) played
-      → stored played who ≡ Some mid
-      → lane.companion.setup ≡ setup_of who old.header
-      → WhenAttended happening.TsOpened mid.companion final.companion
-      → final.cii ≡ mid.cii → final.ts ≡ with_written (Some (setup_text mid.companion.setup)) mid.ts
+      → opened (session_at k lane) ≡ Ok (session_at k between) → KeepsAllBut k lane between
+      → WhenPlayed (event.Opened (peer_of who k) k) old.tv.tv tv (slice_set old.lanes (who - 1) between) played
+      → tv.server ≡ old.tv.tv.server → KeepsAllButTexts (slice_set old.lanes (who - 1) between) played
+      → stored played who ≡ Some mid → lane.companion.setup ≡ setup_of who old.header
+      → WhenGreeted k mid.companion final.companion → final.cii ≡ mid.cii → Greets k mid final
       → EndsStand (record old { tv = record old.tv { tv = tv }; lanes = slice_set played (who - 1) final })
-      (own_line number t w who l (Opening kind.Ts) ∷ lines)
-  opens_ts lane ts tv mid final played accepted ends first within found ok plays same kept there asked attends same_cii
-      after =
-      let peer = ts_of who in
-      let other = ts-cii who first in
-      let e = event.Opened peer kind.Ts in
-      let events = events_of old.header lines in
-      let own = history_of who old.header lines in
-      let setup = setup_of who old.header in
-      let dialled = Dialled session.Ts peer ∷ own in
-      let history = Wrote peer (setup_text setup) ∷ dialled in
+      (own_line number t w who l (Opening k) ∷ lines)
+  opens_at k lane between mid final tv played accepted ends first within found ok rest plays same kept there asked
+      greets same_cii after =
+      let e = event.Opened (peer_of who k) k in
       let before = ends.lanes who lane found in
-      let never = never-open old.header lines who kind.Ts lane.ts ts before.ts ok in
-      let done = plays events ends.stage (never_opened old.header lines who kind.Ts first accepted never) in
-      quiet old lines number t w who l (Opening kind.Ts) tv (slice_set played (who - 1) final) tt ends same done.stage
-      (attended_lanes old lines number t w who l (Opening kind.Ts) e tv (record lane { ts = ts }) mid final played ends
-      first within refl
-      (λ n k above differs. others-peer n who kind.Ts k above first (λ is. differs (sym is))) done kept there
+      let mine = at_kind k who (events_of old.header lines) (history_of who old.header lines) lane before in
+      let never = never-open old.header lines who k (session_at k lane) (session_at k between) mine ok in
+      let done = plays (events_of old.header lines) ends.stage (never_opened old.header lines who k first accepted never)
+      in
+      quiet old lines number t w who l (Opening k) tv (slice_set played (who - 1) final) tt ends same done.stage
+      (attended_lanes old lines number t w who l (Opening k) e tv between mid final played ends first within refl
+      (λ n j above differs. others-peer n who k j above first (λ is. differs (sym is))) done kept there
       (λ now companion.
-      let stood : companions.StandsFor mid.companion own =
-      subst (λ (c : Companion). companions.StandsFor c own) (sym companion) before.companion in
-      let asks : mid.companion.setup ≡ setup = ap (λ (c : Companion). c.setup) companion ∙ asked in
-      let written : final.ts ≡ with_written (Some (setup_text setup)) mid.ts =
-      after ∙ ap (λ (u : Setup). with_written (Some (setup_text u)) mid.ts) asks in
-      let told = session-played now.ts (opens old.header lines who kind.Ts lane.ts ts first accepted before.ts ok) in
-      record {
-        companion = aside final.companion (Wrote peer (setup_text setup)) dialled
-            (wrote-aside peer (setup_text setup) dialled)
-            (attends own (Dialled session.Ts peer) stood (peer, refl));
-        cii = subst (λ (s : Session). SessionStands (cii_of who) (e ∷ events) history s) (sym same_cii)
-            (session_as mid.cii (cii_of who) (e ∷ events) history _ _ _ _ _
-            (dialled-open_apart (cii_of who) peer other session.Ts own)
-            (dialled-was_apart (cii_of who) peer other session.Ts own) refl
-            (wrote-apart (cii_of who) peer other (setup_text setup) dialled) refl
-            (session-played now.cii before.cii));
-        ts = session_as final.ts peer (e ∷ events) history true true (heard_from peer own)
-            (setup_text setup ∷ written_to peer own) (received_from peer events)
-            (dialled-open peer session.Ts own) (dialled-was peer session.Ts own) refl
-            (wrote-one peer (setup_text setup) dialled) refl
-            (subst (λ (s : Session). SessionCarries s true true (told_to peer (e ∷ events)) (heard_from peer own)
-            (setup_text setup ∷ written_to peer own) (received_from peer events)) (sym written)
-            (written-one (setup_text setup) told));
-      }))
+      greeted k mid final first (stood_on k lane between mid before rest companion)
+      (session-played (played_at k who (events_of old.header lines) e between mid now)
+      (opens old.header lines who k (session_at k lane) (session_at k between) first accepted mine ok))
+      (session-played (played_at (other k) who (events_of old.header lines) e between mid now)
+      (other_stood k lane between before rest))
+      (ap (λ (c : Companion). c.setup) (companion ∙ rest.companion) ∙ asked) greets same_cii after))
 
   -- ---- texts
-  -- a text of the television comes on the CII session
-  pub brings_cii : (text : List ℕ) (lane final : Lane) → AreAccepted old.header lines → EndsStand old lines
-      → 1 ≤ who → who ≤ length old.lanes → stored old.lanes who ≡ Some lane
-      → first_in lane.cii.phase lane.cii.down ≡ Some text
-      → final.cii ≡ record lane.cii { down = rest_in lane.cii.phase lane.cii.down } → final.ts ≡ lane.ts
-      → WhenAttended (happening.CiiText text) lane.companion final.companion
+  -- a text of the television comes
+  pub brings : (k : Kind) (text : List ℕ) (lane between final : Lane) → AreAccepted old.header lines
+      → EndsStand old lines → 1 ≤ who → who ≤ length old.lanes → stored old.lanes who ≡ Some lane
+      → next_at k lane ≡ Some text → session_at k between ≡ taken_at k lane → KeepsAllBut k lane between
+      → final.cii ≡ between.cii → final.ts ≡ between.ts
+      → WhenAttended (heard_as k text) between.companion final.companion
       → EndsStand (record old { lanes = slice_set old.lanes (who - 1) final })
-      (own_line number t w who l (Bring kind.Cii) ∷ lines)
-  brings_cii text lane final accepted ends first within found first_text after same_ts attends =
-      let peer = cii_of who in
+      (own_line number t w who l (Bring k) ∷ lines)
+  brings k text lane between final accepted ends first within found first_text after rest same_cii same_ts attends =
+      let peer = peer_of who k in
+      let apart = peer_of who (other k) in
       let events = events_of old.header lines in
       let own = history_of who old.header lines in
+      let history = Heard peer text ∷ own in
       let before = ends.lanes who lane found in
-      let next = can-bring old.header lines who kind.Cii lane.cii text before.cii first_text in
-      let live : SessionCarries lane.cii true (was_opened peer own) (told_to peer events) (heard_from peer own)
-      (written_to peer own) (received_from peer events) =
-      subst (λ b. SessionCarries lane.cii b (was_opened peer own) (told_to peer events) (heard_from peer own)
-      (written_to peer own) (received_from peer events)) next.0 before.cii in
-      let heard = heard-one text live first_text in
-      let stands : LaneStands who events (Heard peer text ∷ own) final = record {
-        companion = attends own (Heard peer text) before.companion
-            (peer, refl, open_kind old.header lines who kind.Cii first accepted next.0);
-        cii = session_as final.cii peer events (Heard peer text ∷ own) true (was_opened peer own)
-            (text ∷ heard_from peer own) (written_to peer own) (received_from peer events)
-            next.0 refl (heard-now peer text own) refl refl
-            (subst (λ (s : Session). SessionCarries s true (was_opened peer own) (told_to peer events)
-            (text ∷ heard_from peer own) (written_to peer own) (received_from peer events)) (sym after) heard);
-        ts = subst (λ (s : Session). SessionStands (ts_of who) events (Heard peer text ∷ own) s) (sym same_ts)
-            (session_as lane.ts (ts_of who) events (Heard peer text ∷ own) _ _ _ _ _ refl refl
-            (heard-apart (ts_of who) peer (cii-ts who first) text own) refl refl before.ts);
-      } in
-      quiet old lines number t w who l (Bring kind.Cii) old.tv.tv (slice_set old.lanes (who - 1) final) tt ends refl
-      ends.stage
-      (one_lane old.header lines number t w who l (Bring kind.Cii) old.lanes final refl first within ends.lanes
+      let mine = at_kind k who events own lane before in
+      let next = can-bring old.header lines who k (session_at k lane) text mine first_text in
+      let live : SessionCarries (session_at k lane) true (was_opened peer own) (told_to peer events)
+      (heard_from peer own) (written_to peer own) (received_from peer events) =
+      subst (λ b. SessionCarries (session_at k lane) b (was_opened peer own) (told_to peer events) (heard_from peer own)
+      (written_to peer own) (received_from peer events)) next.0 mine in
+      let stands : LaneStands who events history final =
+      both_at k who events history final
+      (attends own (Heard peer text) (subst (λ (c : Companion). companions.StandsFor c own) (sym rest.companion)
+      before.companion) (heard_entry k peer text own (open_kind old.header lines who k first accepted next.0)))
+      (session_as (session_at k final) peer events history true (was_opened peer own) (text ∷ heard_from peer own)
+      (written_to peer own) (received_from peer events) next.0 refl (heard-now peer text own) refl refl
+      (subst (λ (s : Session). SessionCarries s true (was_opened peer own) (told_to peer events)
+      (text ∷ heard_from peer own) (written_to peer own) (received_from peer events))
+      (sym (same_at k between final same_cii same_ts ∙ after)) (heard-one text live first_text)))
+      (session_as (session_at (other k) final) apart events history _ _ _ _ _ refl refl
+      (heard-apart apart peer (two_peers who k first) text own) refl refl
+      (subst (λ (s : Session). SessionStands apart events own s)
+      (sym (same_at (other k) between final same_cii same_ts)) (other_stood k lane between before rest))) in
+      quiet old lines number t w who l (Bring k) old.tv.tv (slice_set old.lanes (who - 1) final) tt ends refl ends.stage
+      (one_lane old.header lines number t w who l (Bring k) old.lanes final refl first within ends.lanes
       (subst (λ (o : Option (List ℕ)). LaneStands who events (hearing peer o own) final) (sym next.1) stands))
 
   -- a text of the television is never refused, and nothing is owed after it
-  pub owes-none : (lane : Lane) (text : List ℕ) → 1 ≤ who → IsDeclared old.header → AreAccepted old.header lines
-      → EndsStand old lines → stored old.lanes who ≡ Some lane
-      → next_down who kind.Cii (events_of old.header lines) (history_of who old.header lines) ≡ Some text
-      → owed lane.companion (happening.CiiText text) ≡ Ok None
-  owes-none lane text first declared accepted ends found next =
+  pub owes-none : (k : Kind) (lane between : Lane) (text : List ℕ) → 1 ≤ who → IsDeclared old.header
+      → AreAccepted old.header lines → EndsStand old lines → stored old.lanes who ≡ Some lane
+      → between.companion ≡ lane.companion
+      → next_down who k (events_of old.header lines) (history_of who old.header lines) ≡ Some text
+      → owed between.companion (heard_as k text) ≡ Ok None
+  owes-none kind.Cii lane between text first declared accepted ends found same next =
       let own = history_of who old.header lines in
       let before = ends.lanes who lane found in
-      ap (λ k. none_owed (told (next_number k) lane.companion.state text)) before.companion.texts
+      ap (λ (c : Companion). owed c (happening.CiiText text)) same
+      ∙ ap (λ k. none_owed (told (next_number k) lane.companion.state text)) before.companion.texts
       ∙ ap (λ s. none_owed (told (next_number (texts_of own)) s text)) before.companion.state
       ∙ ap none_owed (text_is_taken old.header lines who text first declared accepted next).1
-
-  -- one comes on the TS session
-  pub brings_ts : (text : List ℕ) (lane final : Lane) → AreAccepted old.header lines → EndsStand old lines
-      → 1 ≤ who → who ≤ length old.lanes → stored old.lanes who ≡ Some lane
-      → first_in lane.ts.phase lane.ts.down ≡ Some text
-      → final.ts ≡ record lane.ts { down = rest_in lane.ts.phase lane.ts.down } → final.cii ≡ lane.cii
-      → WhenAttended (happening.TsText text) lane.companion final.companion
-      → EndsStand (record old { lanes = slice_set old.lanes (who - 1) final })
-      (own_line number t w who l (Bring kind.Ts) ∷ lines)
-  brings_ts text lane final accepted ends first within found first_text after same_cii attends =
-      let peer = ts_of who in
-      let events = events_of old.header lines in
-      let own = history_of who old.header lines in
-      let before = ends.lanes who lane found in
-      let next = can-bring old.header lines who kind.Ts lane.ts text before.ts first_text in
-      let live : SessionCarries lane.ts true (was_opened peer own) (told_to peer events) (heard_from peer own)
-      (written_to peer own) (received_from peer events) =
-      subst (λ b. SessionCarries lane.ts b (was_opened peer own) (told_to peer events) (heard_from peer own)
-      (written_to peer own) (received_from peer events)) next.0 before.ts in
-      let heard = heard-one text live first_text in
-      let stands : LaneStands who events (Heard peer text ∷ own) final = record {
-        companion = attends own (Heard peer text) before.companion
-            (peer, refl, open_kind old.header lines who kind.Ts first accepted next.0);
-        cii = subst (λ (s : Session). SessionStands (cii_of who) events (Heard peer text ∷ own) s) (sym same_cii)
-            (session_as lane.cii (cii_of who) events (Heard peer text ∷ own) _ _ _ _ _ refl refl
-            (heard-apart (cii_of who) peer (ts-cii who first) text own) refl refl before.cii);
-        ts = session_as final.ts peer events (Heard peer text ∷ own) true (was_opened peer own)
-            (text ∷ heard_from peer own) (written_to peer own) (received_from peer events)
-            next.0 refl (heard-now peer text own) refl refl
-            (subst (λ (s : Session). SessionCarries s true (was_opened peer own) (told_to peer events)
-            (text ∷ heard_from peer own) (written_to peer own) (received_from peer events)) (sym after) heard);
-      } in
-      quiet old lines number t w who l (Bring kind.Ts) old.tv.tv (slice_set old.lanes (who - 1) final) tt ends refl
-      ends.stage
-      (one_lane old.header lines number t w who l (Bring kind.Ts) old.lanes final refl first within ends.lanes
-      (subst (λ (o : Option (List ℕ)). LaneStands who events (hearing peer o own) final) (sym next.1) stands))
+  owes-none kind.Ts lane between text first declared accepted ends found same next = refl
 
   -- a text of the companion comes to the television
   pub raises : (text : List ℕ) (lane : Lane) (ts : Session) (tv : Tv) (lanes : List Lane) → EndsStand old lines
@@ -324,87 +363,42 @@ module _ (old : World) (lines : List Numbered) (number t w who l : ℕ) where
       stands)
 
   -- ---- ends of sessions
-  -- the CII session closes
-  pub closes_cii : (lane : Lane) (cii : Session) (tv : Tv) (mid final : Lane) (played : List Lane)
+  -- a session closes
+  pub closes_at : (k : Kind) (lane between mid final : Lane) (tv : Tv) (played : List Lane)
       → AreAccepted old.header lines → EndsStand old lines
       → 1 ≤ who → who ≤ length old.lanes → stored old.lanes who ≡ Some lane
-      → closed lane.cii ≡ Ok cii
-      → WhenPlayed (event.Closed (cii_of who)) old.tv.tv tv
-      (slice_set old.lanes (who - 1) (record lane { cii = cii })) played
-      → tv.server ≡ old.tv.tv.server
-      → KeepsAllButTexts (slice_set old.lanes (who - 1) (record lane { cii = cii })) played
-      → stored played who ≡ Some mid
-      → WhenAttended happening.CiiClosed mid.companion final.companion
+      → closed (session_at k lane) ≡ Ok (session_at k between) → KeepsAllBut k lane between
+      → WhenPlayed (event.Closed (peer_of who k)) old.tv.tv tv (slice_set old.lanes (who - 1) between) played
+      → tv.server ≡ old.tv.tv.server → KeepsAllButTexts (slice_set old.lanes (who - 1) between) played
+      → stored played who ≡ Some mid → WhenAttended (closed_as k) mid.companion final.companion
       → final.cii ≡ mid.cii → final.ts ≡ mid.ts
       → EndsStand (record old { tv = record old.tv { tv = tv }; lanes = slice_set played (who - 1) final })
-      (own_line number t w who l (Close kind.Cii) ∷ lines)
-  closes_cii lane cii tv mid final played accepted ends first within found ok plays same kept there attends same_cii
-      same_ts =
-      let peer = cii_of who in
+      (own_line number t w who l (Close k) ∷ lines)
+  closes_at k lane between mid final tv played accepted ends first within found ok rest plays same kept there attends
+      same_cii same_ts =
+      let peer = peer_of who k in
+      let apart = peer_of who (other k) in
       let e = event.Closed peer in
       let events = events_of old.header lines in
       let own = history_of who old.header lines in
       let history = Closed peer ∷ own in
       let before = ends.lanes who lane found in
+      let mine = at_kind k who events own lane before in
       let done = plays events ends.stage tt in
-      let live = can-close old.header lines who kind.Cii lane.cii cii before.cii ok in
-      quiet old lines number t w who l (Close kind.Cii) tv (slice_set played (who - 1) final) tt ends same done.stage
-      (attended_lanes old lines number t w who l (Close kind.Cii) e tv (record lane { cii = cii }) mid final played ends
-      first within refl
-      (λ n k above differs. others-peer n who kind.Cii k above first (λ is. differs (sym is))) done kept there
+      let live = can-close old.header lines who k (session_at k lane) (session_at k between) mine ok in
+      quiet old lines number t w who l (Close k) tv (slice_set played (who - 1) final) tt ends same done.stage
+      (attended_lanes old lines number t w who l (Close k) e tv between mid final played ends first within refl
+      (λ n j above differs. others-peer n who k j above first (λ is. differs (sym is))) done kept there
       (λ now companion.
-      let stood : companions.StandsFor mid.companion own =
-      subst (λ (c : Companion). companions.StandsFor c own) (sym companion) before.companion in
-      record {
-        companion = attends own (Closed peer) stood
-            (peer, inl refl, open_kind old.header lines who kind.Cii first accepted live);
-        cii = subst (λ (s : Session). SessionStands peer (e ∷ events) history s) (sym same_cii)
-            (session_as mid.cii peer (e ∷ events) history _ _ _ _ _ (closed-open peer own) refl refl refl refl
-            (session-played now.cii (closes old.header lines who kind.Cii lane.cii cii before.cii ok)));
-        ts = subst (λ (s : Session). SessionStands (ts_of who) (e ∷ events) history s) (sym same_ts)
-            (session_as mid.ts (ts_of who) (e ∷ events) history _ _ _ _ _
-            (closed-open_apart (ts_of who) peer (cii-ts who first) own) refl refl refl refl
-            (session-played now.ts before.ts));
-      }))
-
-  -- the TS session closes
-  pub closes_ts : (lane : Lane) (ts : Session) (tv : Tv) (mid final : Lane) (played : List Lane)
-      → AreAccepted old.header lines → EndsStand old lines
-      → 1 ≤ who → who ≤ length old.lanes → stored old.lanes who ≡ Some lane
-      → closed lane.ts ≡ Ok ts
-      → WhenPlayed (event.Closed (ts_of who)) old.tv.tv tv
-      (slice_set old.lanes (who - 1) (record lane { ts = ts })) played
-      → tv.server ≡ old.tv.tv.server
-      → KeepsAllButTexts (slice_set old.lanes (who - 1) (record lane { ts = ts })) played
-      → stored played who ≡ Some mid
-      → WhenAttended happening.TsClosed mid.companion final.companion → final.cii ≡ mid.cii → final.ts ≡ mid.ts
-      → EndsStand (record old { tv = record old.tv { tv = tv }; lanes = slice_set played (who - 1) final })
-      (own_line number t w who l (Close kind.Ts) ∷ lines)
-  closes_ts lane ts tv mid final played accepted ends first within found ok plays same kept there attends same_cii
-      same_ts =
-      let peer = ts_of who in
-      let e = event.Closed peer in
-      let events = events_of old.header lines in
-      let own = history_of who old.header lines in
-      let history = Closed peer ∷ own in
-      let before = ends.lanes who lane found in
-      let done = plays events ends.stage tt in
-      let live = can-close old.header lines who kind.Ts lane.ts ts before.ts ok in
-      quiet old lines number t w who l (Close kind.Ts) tv (slice_set played (who - 1) final) tt ends same done.stage
-      (attended_lanes old lines number t w who l (Close kind.Ts) e tv (record lane { ts = ts }) mid final played ends
-      first within refl
-      (λ n k above differs. others-peer n who kind.Ts k above first (λ is. differs (sym is))) done kept there
-      (λ now companion.
-      let stood : companions.StandsFor mid.companion own =
-      subst (λ (c : Companion). companions.StandsFor c own) (sym companion) before.companion in
-      record {
-        companion = attends own (Closed peer) stood
-            (peer, inl refl, open_kind old.header lines who kind.Ts first accepted live);
-        cii = subst (λ (s : Session). SessionStands (cii_of who) (e ∷ events) history s) (sym same_cii)
-            (session_as mid.cii (cii_of who) (e ∷ events) history _ _ _ _ _
-            (closed-open_apart (cii_of who) peer (ts-cii who first) own) refl refl refl refl
-            (session-played now.cii before.cii));
-        ts = subst (λ (s : Session). SessionStands peer (e ∷ events) history s) (sym same_ts)
-            (session_as mid.ts peer (e ∷ events) history _ _ _ _ _ (closed-open peer own) refl refl refl refl
-            (session-played now.ts (closes old.header lines who kind.Ts lane.ts ts before.ts ok)));
-      }))
+      both_at k who (e ∷ events) history final
+      (attends own (Closed peer) (stood_on k lane between mid before rest companion)
+      (closed_entry k peer own (open_kind old.header lines who k first accepted live)))
+      (subst (λ (s : Session). SessionStands peer (e ∷ events) history s) (sym (same_at k mid final same_cii same_ts))
+      (session_as (session_at k mid) peer (e ∷ events) history _ _ _ _ _ (closed-open peer own) refl refl refl refl
+      (session-played (played_at k who events e between mid now)
+      (closes old.header lines who k (session_at k lane) (session_at k between) mine ok))))
+      (subst (λ (s : Session). SessionStands apart (e ∷ events) history s)
+      (sym (same_at (other k) mid final same_cii same_ts))
+      (session_as (session_at (other k) mid) apart (e ∷ events) history _ _ _ _ _
+      (closed-open_apart apart peer (two_peers who k first) own) refl refl refl refl
+      (session-played (played_at (other k) who events e between mid now) (other_stood k lane between before rest))))))

@@ -4,6 +4,7 @@ use Rattle.std.proofs.Common.{refl, ap, sym, subst, ◌∙◌, ◌⊎◌, inl, i
 use Rattle.std.specs.Prelude.{◌&&◌, Option, Some, None, is_some, Result, Ok, Err}
 use Rattle.std.specs.Option.{option_map, ok_or}
 use Rattle.std.specs.Result.{IsErrAnd}
+use Rattle.std.proofs.lemmas.Result.{err_from_is_err_and}
 use Rattle.css_model.specs.declared.Why.TheVariants as why
 use Rattle.css_model.specs.History.{Entry, History, Clock, Dialled, Wrote}
 use Rattle.css_server.specs.Exchanges as servers
@@ -36,8 +37,8 @@ use Rattle.css_world.specs.Happened.{Numbered, tickets, events_of, history_of}
 use Rattle.css_world.specs.Verdicts.{can_happen, event_at, played}
 use Rattle.css_world.specs.Flights.{Session, phase_of, opened, closed, first_in}
 use Rattle.css_world.specs.Flights.{SessionCarries, SessionStands, HasNews}
-use Rattle.css_world.specs.Lanes.{LanesStand, AllArePlayed}
-use Rattle.css_world.specs.Standing.{World, EndsStand, AreAccepted, IsAtTv, carried, Carries}
+use Rattle.css_world.specs.Lanes.{LanesStand, AllArePlayed, IsDialled}
+use Rattle.css_world.specs.Standing.{World, EndsStand, AreAccepted, IsReady, IsAtTv, carried, Carries}
 use Rattle.css_world.proofs.Carrying.{own_line, histories}
 use Rattle.css_world.proofs.Peers.{ts_of}
 use Rattle.css_world.proofs.Flights.{opened-ok, opened-err, closed-ok, closed-err, is-live, first-down, first-up}
@@ -67,6 +68,49 @@ pub refuses : (old new : World) (result : Result (Unit {0}) WorldFault) (lines :
 refuses old new result lines now who verb fault is why =
     subst (λ (r : Result (Unit {0}) WorldFault). Carries old new r lines now who verb) (sym is)
     (record { answer = why; ends = tt })
+
+-- so does one that tells that it can't happen
+pub refuses-absent : (now old new : World) (lines : List Numbered) (line : Numbered) (who : ℕ) (verb : Verb)
+    → old ≡ now → IsReady now lines → (IsReady old lines → can_happen old.header lines who verb ≡ false)
+    → Carries now new (Err Absent) lines line who verb
+refuses-absent now old new lines line who verb view ready cannot =
+    subst (λ (w : World). Carries w new (Err Absent) lines line who verb) view
+    (refuses old new (Err Absent) lines line who verb Absent refl
+    (inl (carried-not old.header lines who verb
+    (cannot (subst (λ (w : World). IsReady w lines) (sym view) ready)))))
+
+-- or that passes on why
+pub refuses-as : (now old new : World) (result : Result (Unit {0}) WorldFault) (lines : List Numbered) (line : Numbered)
+    (who : ℕ) (verb : Verb) (fault : WorldFault) → IsErrAnd result (λ f. f ≡ fault) → old ≡ now → IsReady now lines
+    → (IsReady old lines → (can_happen old.header lines who verb ≡ false) × (fault ≡ Absent))
+    → Carries now new result lines line who verb
+refuses-as now old new result lines line who verb fault is view ready cannot =
+    let exit = err_from_is_err_and result is in
+    let why = cannot (subst (λ (w : World). IsReady w lines) (sym view) ready) in
+    subst (λ (r : Result (Unit {0}) WorldFault). Carries now new r lines line who verb)
+    (sym (exit.1 ∙ ap Err (exit.2 ∙ why.1)))
+    (refuses-absent now old new lines line who verb view ready (λ stood. why.0))
+
+-- or that passes on why the television refuses what happens there
+pub refuses-played : (now old new : World) (result : Result (Unit {0}) WorldFault) (lines : List Numbered)
+    (line : Numbered) (who : ℕ) (verb : Verb) (e : TvEvent) (fault : WorldFault) → IsErrAnd result (λ f. f ≡ fault)
+    → old ≡ now → IsReady now lines
+    → (IsReady old lines → (can_happen old.header lines who verb ≡ true)
+    × (event_at old.header lines who verb ≡ Some e)
+    × ((played (events_of old.header lines) (Some e) ≡ Err fault) ⊎ (fault ≡ Memory)))
+    → Carries now new result lines line who verb
+refuses-played now old new result lines line who verb e fault is view ready why =
+    let exit = err_from_is_err_and result is in
+    let told = why (subst (λ (w : World). IsReady w lines) (sym view) ready) in
+    subst (λ (w : World). Carries w new result lines line who verb) view
+    (refuses old new result lines line who verb fault (exit.1 ∙ ap Err exit.2) (by told.0 told.1 told.2))
+  where
+    by : can_happen old.header lines who verb ≡ true → event_at old.header lines who verb ≡ Some e
+        → (played (events_of old.header lines) (Some e) ≡ Err fault) ⊎ (fault ≡ Memory)
+        → (carried old.header lines who verb ≡ Err fault) ⊎ (fault ≡ Memory)
+    by can at (inl refused) =
+        inl (carried-when old.header lines who verb can ∙ ap (played (events_of old.header lines)) at ∙ refused)
+    by can at (inr memory) = inr memory
 
 -- so may any call that tells of want of memory
 pub wants : (old new : World) (result : Result (Unit {0}) WorldFault) (lines : List Numbered) (now : Numbered)
@@ -169,6 +213,11 @@ abbrev pub WhenAttended : CompanionEvent → Companion → Companion → Type 0
 WhenAttended e old new =
     (history : History) (entry : Entry) → companions.StandsFor old history → IsEntryOf e entry history
     → companions.StandsFor new (entry ∷ history)
+
+-- what opening its session did to the companion
+abbrev pub WhenGreeted : Kind → Companion → Companion → Type 0
+WhenGreeted k old new =
+    (older own : History) → companions.StandsFor old older → IsDialled k older own → companions.StandsFor new own
 
 -- what an open session gives
 given-text : (live : Bool) (next : Option (List ℕ)) (text : List ℕ) → cond live next None ≡ Some text

@@ -1,12 +1,14 @@
 -- One lane of a world is written over: what is always true stays so, and no clock is touched.
-use Rattle.std.proofs.Common.{◌≡◌, ◌≤◌, ◌-◌, ◌+◌, ℕ, arith, List, length, refl, ap, sym, subst, ◌∙◌, true, false}
+use Rattle.std.proofs.Common.{◌≡◌, ◌≤◌, ◌<◌, ◌-◌, ◌+◌, ℕ, arith, List, length, refl, ap, sym, subst, ◌∙◌, true, false}
 use Rattle.std.proofs.Common.{length-set}
 use Rattle.std.specs.Prelude.{Some, Result, Ok, Err, IfErr, slice_set, map, max}
+use Rattle.std.specs.Result.{IsErrAnd}
 use Rattle.css_model.specs.Numbers.{precision_ns}
 use Rattle.css_client.specs.Clients.{local_of}
 use Rattle.css_companion.specs.Standing as companions
 use Rattle.css_companion.specs.Standing.{Companion}
 use Rattle.css_schedule.specs.Owners.{is_own}
+use Rattle.css_tv.specs.Stages.{Television as Tv}
 use Rattle.css_schedule.specs.Ranges.{IsSecond}
 use Rattle.css_schedule.specs.declared.header.Header.{Header}
 use Rattle.css_schedule.specs.declared.line.Line.{Line}
@@ -189,6 +191,13 @@ pub refused_kept : (now new : World) (result : Result (Unit {0}) WorldFault) →
 refused_kept now new (Ok x) both = tt
 refused_kept now new (Err fault) both = refused_by now new fault both
 
+-- want of memory keeps nothing
+pub refused_memory : (now new : World) (result : Result (Unit {0}) WorldFault)
+    → IsErrAnd result (λ fault. fault ≡ faults.Memory) → IfErr result (λ fault. KeepsRefused now new fault)
+refused_memory now new (Ok x) memory = tt
+refused_memory now new (Err fault) memory =
+    subst (λ f. KeepsRefused now new f) (sym memory) (let none : KeepsRefused now new faults.Memory = tt in none)
+
 -- ---- numbers of companions
 -- a line of a companion's own verb has the number of one
 pub is_number : (world : World) (line : Line) (verb : Verb) → IsWorld world
@@ -197,6 +206,10 @@ is_number world line verb was of same own = record {
   first = of.own (ap is_own same ∙ own);
   within = subst (λ n. line.who ≤ n) (sym was.count) of.who;
 }
+
+-- the lane of that number is there
+pub within_lanes : (now old : World) (who : ℕ) → old ≡ now → IsNumber now who → who ≤ length old.lanes
+within_lanes now old who view number = subst (λ (w : World). who ≤ length w.lanes) (sym view) number.within
 
 -- ---- what the television tells
 -- the lanes are few
@@ -227,6 +240,38 @@ still_played old new was header clock server addresses kept = record {
       (ap (λ (companion : Companion). companion.setup) (sym before.3)) (sym before.2));
 }
 
+-- and so are the numbers of companions
+pub few_numbers : (now old : World) (who : ℕ) → IsWorld old → old ≡ now → IsNumber now who → who < 2147483648
+few_numbers now old who was view number =
+    let within = within_lanes now old who view number in
+    let most = few old was in
+    omega (arith, within, most)
+
+-- the lane of that number is there after one was written over and the television took in an event
+pub within_played : (now old : World) (who : ℕ) (lane : Lane) (played : List Lane) → old ≡ now → IsNumber now who
+    → KeepsAllButTexts (slice_set old.lanes (who - 1) lane) played → who ≤ length played
+within_played now old who lane played view number kept =
+    subst (λ n. who ≤ n)
+    (sym (as_many (slice_set old.lanes (who - 1) lane) played kept ∙ length-set old.lanes (who - 1) lane))
+    (within_lanes now old who view number)
+
+-- so are they after one was written over
+pub few_set : (world : World) (who : ℕ) (lane : Lane) → IsWorld world
+    → length (slice_set world.lanes (who - 1) lane) ≤ max_companions
+few_set world who lane was = subst (λ n. n ≤ max_companions) (sym (length-set world.lanes (who - 1) lane)) (few world was)
+
+-- what is always true stays so, where one lane's texts were touched and then the television took in an event
+pub played_kept : (now old new : World) (who : ℕ) (before after : Lane) → IsWorld old → old ≡ now → IsNumber now who
+    → stored old.lanes who ≡ Some before → after.companion ≡ before.companion → after.clock ≡ before.clock
+    → new.header ≡ old.header → new.tv.clock ≡ old.tv.clock
+    → (new.tv.tv.server ≡ old.tv.tv.server) × (new.tv.tv.stage.addresses ≡ old.tv.tv.stage.addresses)
+    → KeepsAllButTexts (slice_set old.lanes (who - 1) after) new.lanes → IsWorld new
+played_kept now old new who before after was view number found companion clock header tv server kept =
+    let between : World = record old { lanes = slice_set old.lanes (who - 1) after } in
+    still_played between new
+    (still_kept now old between who before after was view number found (ap (λ (c : Companion). c.client) companion)
+    (ap (λ (c : Companion). c.setup) companion) clock refl refl refl) header tv server.0 server.1 kept
+
 -- no clock is touched then, where none was before
 pub clocks_played : (now old new : World) (between : List Lane) → old ≡ now
     → map (λ (lane : Lane). lane.clock) between ≡ map (λ (lane : Lane). lane.clock) old.lanes
@@ -247,6 +292,22 @@ still_attended played new who before after was found client setup clock header t
     let within = stored_within played.lanes who before found in
     still_kept played played new who before after was refl (record { first = within.0; within = within.1 }) found client
     setup clock header tv lanes
+
+-- so does it where one lane's texts were touched before all that
+pub attended_kept : (now old new : World) (who : ℕ) (before after mid final : Lane) (tv : Tv) (played : List Lane)
+    → IsWorld old → old ≡ now → IsNumber now who → stored old.lanes who ≡ Some before
+    → after.companion ≡ before.companion → after.clock ≡ before.clock
+    → (tv.server ≡ old.tv.tv.server) × (tv.stage.addresses ≡ old.tv.tv.stage.addresses)
+    → KeepsAllButTexts (slice_set old.lanes (who - 1) after) played → stored played who ≡ Some mid
+    → final.companion.client ≡ mid.companion.client → final.companion.setup ≡ mid.companion.setup
+    → final.clock ≡ mid.clock → new.header ≡ old.header → new.tv ≡ record old.tv { tv = tv }
+    → new.lanes ≡ slice_set played (who - 1) final → IsWorld new
+attended_kept now old new who before after mid final tv played was view number found companion clock server kept there
+    client setup same header new_tv lanes =
+    let told : World = record old { tv = record old.tv { tv = tv }; lanes = played } in
+    still_attended told new who mid final
+    (played_kept now old told who before after was view number found companion clock refl refl server kept) there client
+    setup same header new_tv lanes
 
 -- no clock is touched then, where none was before
 pub clocks_attended : (now old new : World) (between played : List Lane) (who : ℕ) (before after : Lane) → old ≡ now

@@ -2,9 +2,11 @@
 use Rattle.std.specs.Prelude.{◌≡◌, ◌≢◌, ◌≤◌, true, false, ℕ, List, [], ◌∷◌, map, length, Option, Some, None}
 use Rattle.std.specs.Prelude.{Result, Ok, Err, OnOk}
 use Rattle.css_num.specs.Gives.{GivesBy}
-use Rattle.css_model.specs.History.{Entry, History}
+use Rattle.css_model.specs.History.{Entry, Dialled, History}
 use Rattle.css_model.specs.WallClock.{IsLocal}
+use Rattle.css_num.specs.declared.protocol.Kind.{Kind}
 use Rattle.css_num.specs.declared.protocol.Kind.TheVariants as kind
+use Rattle.css_model.specs.declared.Kind.TheVariants as session
 use Rattle.css_tv.specs.Stages.{Television as Tv}
 use Rattle.css_tv.specs.Standing as tvs
 use Rattle.css_tv.specs.declared.event.TvEvent.{TvEvent}
@@ -13,10 +15,12 @@ use Rattle.css_companion.specs.Standing as companions
 use Rattle.css_companion.specs.Standing.{Companion}
 use Rattle.css_companion.specs.Steps.{owed, stepped, IsEntryOf}
 use Rattle.css_companion.specs.declared.event.CompanionEvent.{CompanionEvent}
+use Rattle.css_companion.specs.declared.event.CompanionEvent.TheVariants as happening
 use Rattle.css_companion.specs.declared.fault.CompanionFault.{CompanionFault}
 use Rattle.css_world.specs.declared.fault.WorldFault.{WorldFault}
 use Rattle.css_world.specs.declared.fault.WorldFault.TheVariants as faults
 use Rattle.css_schedule.specs.declared.header.CompanionLine.{CompanionLine}
+use Rattle.css_tsmsg.specs.Setups.{setup_text}
 use Rattle.css_tsmsg.specs.declared.setup.Setup.{Setup}
 use Rattle.css_schedule.specs.declared.header.Header.{Header}
 use Rattle.css_world.specs.declared.lane.Lane.{Lane}
@@ -25,6 +29,7 @@ use Rattle.css_world.specs.Numbering.{stored}
 use Rattle.css_world.specs.Sessions.{peer_of, setup_of}
 use Rattle.css_moments.specs.Standing as drifts
 use Rattle.css_world.specs.Flights.{Session, unopened, SessionStands, HasNews, with_news, with_written, news_of}
+use Rattle.css_world.specs.Flights.{first_in, rest_in}
 use Rattle.css_world.specs.Verdicts.{local_of, played}
 
 -- The companion with this number stands for its history, and its sessions for that and for what happened at the
@@ -77,11 +82,6 @@ pub record AreFresh (companions : List CompanionLine) (lanes : List Lane) : Type
       → stored lanes who ≡ Some lane → IsFresh declared lane
 
 -- ---- one lane of all
--- No lane but the one of that number was touched.
-pub record KeepsOthers (who : ℕ) (old new : List Lane) : Type 0 where
-  pub count : length new ≡ length old
-  pub others : (other : ℕ) → other ≢ who → stored new other ≡ stored old other
-
 -- each lane keeps its clock and its companion
 pub record KeepsAllButTexts (old new : List Lane) : Type 0 where
   pub clocks : map (λ (lane : Lane). lane.clock) new ≡ map (λ (lane : Lane). lane.clock) old
@@ -93,7 +93,44 @@ pub record WasRead (lane : Lane) (reading : ℕ) : Type 0 where
   pub last : lane.clock.last ≡ Some (record { line = line; value = reading })
   pub awake : lane.clock.woken ≡ false
 
+-- ---- one session of a lane
+-- the session of that kind
+abbrev pub session_at : Kind → Lane → Session
+session_at kind.Cii lane = lane.cii
+session_at kind.Ts lane = lane.ts
+
+abbrev pub other : Kind → Kind
+other kind.Cii = kind.Ts
+other kind.Ts = kind.Cii
+
+-- the television's next text on it, and the session without that text
+abbrev pub next_at : Kind → Lane → Option (List ℕ)
+next_at k lane = first_in (session_at k lane).phase (session_at k lane).down
+
+abbrev pub taken_at : Kind → Lane → Session
+taken_at k lane = record {
+  phase = (session_at k lane).phase;
+  down = rest_in (session_at k lane).phase (session_at k lane).down;
+  up = (session_at k lane).up;
+}
+
+-- Nothing but the session of that kind was touched.
+pub record KeepsAllBut (k : Kind) (old new : Lane) : Type 0 where
+  pub clock : new.clock ≡ old.clock
+  pub companion : new.companion ≡ old.companion
+  pub other : session_at (other k) new ≡ session_at (other k) old
+
 -- ---- what a companion does
+-- a text comes on its session of that kind
+abbrev pub heard_as : Kind → List ℕ → CompanionEvent
+heard_as kind.Cii text = happening.CiiText text
+heard_as kind.Ts text = happening.TsText text
+
+-- this session closes
+abbrev pub closed_as : Kind → CompanionEvent
+closed_as kind.Cii = happening.CiiClosed
+closed_as kind.Ts = happening.TsClosed
+
 -- a companion doesn't refuse an event
 abbrev pub IsTaken : Companion → CompanionEvent → Type 0
 IsTaken companion event = (text : Option (List ℕ)) × (owed companion event ≡ Ok text)
@@ -112,6 +149,25 @@ pub record Attends (old new : Lane) (event : CompanionEvent) : Type 0 where
 abbrev pub StandsOn : {T E : Type 0} → Result T E → Companion → Companion → CompanionEvent → Type 0
 StandsOn result old new event = (history : History) (entry : Entry) → companions.StandsFor old history
     → IsEntryOf event entry history → OnOk result (companions.StandsFor new (entry ∷ history))
+
+-- what it writes to a session of that kind that opens
+abbrev pub greeting : Kind → Setup → Option (List ℕ)
+greeting kind.Cii setup = None
+greeting kind.Ts setup = Some (setup_text setup)
+
+-- That is in flight.
+abbrev pub Greets : Kind → Lane → Lane → Type 0
+Greets k old new = new.ts ≡ with_written (greeting k old.companion.setup) old.ts
+
+-- the history of a companion whose session of that kind was dialled, if that tells it something
+abbrev pub IsDialled : Kind → History → History → Type 0
+IsDialled kind.Cii older own = own ≡ older
+IsDialled kind.Ts older own = (peer : ℕ) × (own ≡ Dialled session.Ts peer ∷ older)
+
+-- the companion stands for it, if there was no want of memory
+abbrev pub StandsGreeted : {T E : Type 0} → Result T E → Kind → Companion → Companion → Type 0
+StandsGreeted result k old new = (older own : History) → companions.StandsFor old older
+    → IsDialled k older own → OnOk result (companions.StandsFor new own)
 
 -- ---- what a television does
 -- what the television told the sessions of the companion with this number is in flight on them

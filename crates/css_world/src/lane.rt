@@ -1,19 +1,17 @@
-ghost use Rattle.std.specs.Prelude.{◌≡◌, ◌<◌, ◌≤◌, [], ◌∷◌, Ok, IfOk, OnOk, ℕ};
-ghost use Rattle.css_model.specs.declared.Why.TheVariants as why;
-ghost use Rattle.css_model.specs.History.{Entry, History, Clock, Took};
-ghost use Rattle.css_companion.specs.Standing as companions;
+ghost use Rattle.std.specs.Prelude.{◌≡◌, ◌<◌, ◌≤◌, [], ◌∷◌, Ok, IfOk, OnOk};
 ghost use Rattle.css_companion.specs.Steps as steps;
 ghost use Rattle.css_schedule.specs.Ranges.{IsCompanion};
 ghost use Rattle.css_num.specs.declared.protocol.Kind.TheVariants as kinds;
 ghost use Rattle.css_tv.specs.declared.event.TvOut.TheVariants as outs;
+ghost use Rattle.css_num.specs.Gives.{Leaves};
 ghost use Rattle.css_world.specs.Flights as flights;
 ghost use Rattle.css_world.specs.Lanes as lanes;
 ghost use Rattle.css_world.specs.Sessions as sessions;
 
+use crate::fault::WorldFault;
 use crate::session::{Session, peer_of};
 use crate::watch::Watch;
 use css_companion::{Companion, CompanionConfig, CompanionEvent, CompanionFault};
-use css_model::LIMIT;
 use css_num::{Memory, Text};
 use css_schedule::CompanionLine;
 use css_sessions::Kind;
@@ -48,22 +46,54 @@ impl Lane {
         })
     }
 
-    /// Takes in a datagram, whatever becomes of it.
-    pub(crate) fn land(&mut self, datagram: &[u8; 32], reading: u64) -> Result<(), Memory>
-        requires range { reading < LIMIT }
-        requires floor { self.old.companion.client.floor ≤ reading }
-        ensures stands { (history : History) (peer : ℕ) → companions.StandsFor self.old.companion history
-            → OnOk result (companions.StandsFor self.new.companion
-            (Clock why.Land reading ∷ Took peer datagram.now ∷ history)) }
-        ensures local { companions.own_of self.new.companion ≡ companions.own_of self.old.companion }
-        ensures setup { self.new.companion.setup ≡ self.old.companion.setup }
-        ensures floor { self.new.companion.client.floor ≤ reading }
-        ensures after_sleep { self.new.companion.client.after_sleep ≡ self.old.companion.client.after_sleep }
-        ensures clock { self.new.clock ≡ self.old.clock }
-        ensures sessions { (self.new.cii ≡ self.old.cii) × (self.new.ts ≡ self.old.ts) }
+    /// Opens the session of that kind, unless it is open or was open before.
+    pub(crate) fn open(&mut self, kind: Kind) -> Result<(), WorldFault>
+        ensures session { Leaves result (lanes.session_at kind self.old) (lanes.session_at kind self.new)
+            (flights.opened (lanes.session_at kind self.old)) }
+        ensures rest { lanes.KeepsAllBut kind self.old self.new }
     {
-        self.companion.land(datagram, reading)?;
-        Ok(())
+        match kind {
+            Kind::Cii => self.cii.open(),
+            Kind::Ts => self.ts.open(),
+        }
+    }
+
+    /// Closes the session of that kind, if it is open. The texts in flight on it are lost.
+    pub(crate) fn close(&mut self, kind: Kind) -> Result<(), WorldFault>
+        ensures session { Leaves result (lanes.session_at kind self.old) (lanes.session_at kind self.new)
+            (flights.closed (lanes.session_at kind self.old)) }
+        ensures rest { lanes.KeepsAllBut kind self.old self.new }
+    {
+        match kind {
+            Kind::Cii => self.cii.close(),
+            Kind::Ts => self.ts.close(),
+        }
+    }
+
+    /// Takes out the television's next text on the session of that kind, if that is open and a text is in flight.
+    pub(crate) fn next_down(&mut self, kind: Kind) -> Option<Text>
+        ensures text { result ≡ lanes.next_at kind self.old }
+        ensures after { lanes.session_at kind self.new ≡ lanes.taken_at kind self.old }
+        ensures rest { lanes.KeepsAllBut kind self.old self.new }
+    {
+        match kind {
+            Kind::Cii => self.cii.next_down(),
+            Kind::Ts => self.ts.next_down(),
+        }
+    }
+
+    /// Puts the companion's setup into flight, where a TS session was opened.
+    pub(crate) fn greet(&mut self, kind: Kind) -> Result<(), Memory>
+        ensures ok { OnOk result (lanes.Greets kind self.old self.new) }
+        ensures stands { lanes.StandsGreeted result kind self.old.companion self.new.companion }
+        ensures rest { (self.new.clock ≡ self.old.clock) × (self.new.cii ≡ self.old.cii) }
+        ensures client { self.new.companion.client ≡ self.old.companion.client }
+        ensures setup { self.new.companion.setup ≡ self.old.companion.setup }
+    {
+        match kind {
+            Kind::Cii => Ok(()),
+            Kind::Ts => self.attend(CompanionEvent::TsOpened),
+        }
     }
 
     /// Puts a text of the television into flight, if it is for this companion, the one with this number.
@@ -99,6 +129,26 @@ impl Lane {
             self.ts.write(text)?;
         }
         Ok(())
+    }
+}
+
+/// What happens at a companion to which a text comes on its session of that kind.
+pub(crate) fn heard(kind: Kind, text: Text) -> CompanionEvent
+    ensures { result ≡ lanes.heard_as kind text }
+{
+    match kind {
+        Kind::Cii => CompanionEvent::CiiText(text),
+        Kind::Ts => CompanionEvent::TsText(text),
+    }
+}
+
+/// What happens at a companion whose session of that kind closes.
+pub(crate) fn closed(kind: Kind) -> CompanionEvent
+    ensures { result ≡ lanes.closed_as kind }
+{
+    match kind {
+        Kind::Cii => CompanionEvent::CiiClosed,
+        Kind::Ts => CompanionEvent::TsClosed,
     }
 }
 

@@ -1,12 +1,12 @@
 ghost use Rattle.std.specs.Prelude.{List, IfErr};
 ghost use Rattle.css_schedule.specs.declared.line.Verb.TheVariants as events;
 ghost use Rattle.css_companion.specs.Steps.{window};
-ghost use Rattle.css_num.specs.declared.protocol.Kind.TheVariants as kinds;
 ghost use Rattle.css_tsmsg.specs.Presentations.{IsPresentation};
 ghost use Rattle.css_world.specs.Happened.{Numbered};
 ghost use Rattle.css_world.specs.Standing.{IsReady, IsNumber, CarriesOut, KeepsClocks, KeepsRefused};
 
 use crate::fault::WorldFault;
+use crate::lane::{closed, heard};
 use crate::session::peer_of;
 use crate::television::play;
 use crate::world::World;
@@ -18,6 +18,7 @@ use css_tv::TvEvent;
 /// What happens at the sessions of the companions with the television.
 impl World {
     /// Opens a session at both ends. The companion owes its setup to a TS session at once.
+    #[tactic(none)]
     pub(crate) fn open(&mut self, who: u32, kind: Kind) -> Result<(), WorldFault>
         requires who { IsNumber self.old who }
         requires ready { (lines : List Numbered) × IsReady self.old lines }
@@ -25,49 +26,20 @@ impl World {
         ensures carries { CarriesOut self.old self.new result who (events.Opening kind) }
         ensures refused { IfErr result (λ fault. KeepsRefused self.old self.new fault) }
     {
-        match kind {
-            Kind::Cii => self.open_cii(who),
-            Kind::Ts => self.open_ts(who),
-        }
-    }
-
-    fn open_cii(&mut self, who: u32) -> Result<(), WorldFault>
-        requires who { IsNumber self.old who }
-        requires ready { (lines : List Numbered) × IsReady self.old lines }
-        ensures clocks { KeepsClocks self.old self.new }
-        ensures carries { CarriesOut self.old self.new result who (events.Opening kinds.Cii) }
-        ensures refused { IfErr result (λ fault. KeepsRefused self.old self.new fault) }
-    {
         let lane = self.lanes.lane(who);
-        lane.cii.open()?;
+        lane.open(kind)?;
         let event = TvEvent::Opened {
-            peer: peer_of(who, Kind::Cii),
-            kind: Kind::Cii,
-        };
-        play(self.alloc, &mut self.tv.tv, &mut self.lanes, event)?;
-        Ok(())
-    }
-
-    fn open_ts(&mut self, who: u32) -> Result<(), WorldFault>
-        requires who { IsNumber self.old who }
-        requires ready { (lines : List Numbered) × IsReady self.old lines }
-        ensures clocks { KeepsClocks self.old self.new }
-        ensures carries { CarriesOut self.old self.new result who (events.Opening kinds.Ts) }
-        ensures refused { IfErr result (λ fault. KeepsRefused self.old self.new fault) }
-    {
-        let lane = self.lanes.lane(who);
-        lane.ts.open()?;
-        let event = TvEvent::Opened {
-            peer: peer_of(who, Kind::Ts),
-            kind: Kind::Ts,
+            peer: peer_of(who, kind),
+            kind,
         };
         play(self.alloc, &mut self.tv.tv, &mut self.lanes, event)?;
         let lane = self.lanes.lane(who);
-        lane.attend(CompanionEvent::TsOpened)?;
+        lane.greet(kind)?;
         Ok(())
     }
 
     /// Brings the next text in flight to the companion.
+    #[tactic(none)]
     pub(crate) fn bring(&mut self, who: u32, kind: Kind) -> Result<(), WorldFault>
         requires who { IsNumber self.old who }
         requires ready { (lines : List Numbered) × IsReady self.old lines }
@@ -75,39 +47,16 @@ impl World {
         ensures carries { CarriesOut self.old self.new result who (events.Bring kind) }
         ensures refused { IfErr result (λ fault. KeepsRefused self.old self.new fault) }
     {
-        match kind {
-            Kind::Cii => self.bring_cii(who),
-            Kind::Ts => self.bring_ts(who),
-        }
-    }
-
-    fn bring_cii(&mut self, who: u32) -> Result<(), WorldFault>
-        requires who { IsNumber self.old who }
-        requires ready { (lines : List Numbered) × IsReady self.old lines }
-        ensures clocks { KeepsClocks self.old self.new }
-        ensures carries { CarriesOut self.old self.new result who (events.Bring kinds.Cii) }
-        ensures refused { IfErr result (λ fault. KeepsRefused self.old self.new fault) }
-    {
         let lane = self.lanes.lane(who);
-        let text = lane.cii.next_down().ok_or(WorldFault::Absent)?;
-        lane.attend(CompanionEvent::CiiText(text))?;
-        Ok(())
-    }
-
-    fn bring_ts(&mut self, who: u32) -> Result<(), WorldFault>
-        requires who { IsNumber self.old who }
-        requires ready { (lines : List Numbered) × IsReady self.old lines }
-        ensures clocks { KeepsClocks self.old self.new }
-        ensures carries { CarriesOut self.old self.new result who (events.Bring kinds.Ts) }
-        ensures refused { IfErr result (λ fault. KeepsRefused self.old self.new fault) }
-    {
-        let lane = self.lanes.lane(who);
-        let text = lane.ts.next_down().ok_or(WorldFault::Absent)?;
-        lane.attend(CompanionEvent::TsText(text))?;
+        let Some(text) = lane.next_down(kind) else {
+            return Err(WorldFault::Absent);
+        };
+        lane.attend(heard(kind, text))?;
         Ok(())
     }
 
     /// Brings the companion's next text in flight to the television.
+    #[tactic(none)]
     pub(crate) fn up(&mut self, who: u32) -> Result<(), WorldFault>
         requires who { IsNumber self.old who }
         ensures clocks { KeepsClocks self.old self.new }
@@ -115,7 +64,9 @@ impl World {
         ensures refused { IfErr result (λ fault. KeepsRefused self.old self.new fault) }
     {
         let lane = self.lanes.lane(who);
-        let text = lane.ts.next_up().ok_or(WorldFault::Absent)?;
+        let Some(text) = lane.ts.next_up() else {
+            return Err(WorldFault::Absent);
+        };
         let event = TvEvent::Heard {
             peer: peer_of(who, Kind::Ts),
             text,
@@ -125,6 +76,7 @@ impl World {
     }
 
     /// The companion sends a presentation.
+    #[tactic(none)]
     pub(crate) fn present(
         &mut self,
         who: u32,
@@ -146,6 +98,7 @@ impl World {
     }
 
     /// Closes a session at both ends.
+    #[tactic(none)]
     pub(crate) fn close(&mut self, who: u32, kind: Kind) -> Result<(), WorldFault>
         requires who { IsNumber self.old who }
         requires ready { (lines : List Numbered) × IsReady self.old lines }
@@ -153,45 +106,14 @@ impl World {
         ensures carries { CarriesOut self.old self.new result who (events.Close kind) }
         ensures refused { IfErr result (λ fault. KeepsRefused self.old self.new fault) }
     {
-        match kind {
-            Kind::Cii => self.close_cii(who),
-            Kind::Ts => self.close_ts(who),
-        }
-    }
-
-    fn close_cii(&mut self, who: u32) -> Result<(), WorldFault>
-        requires who { IsNumber self.old who }
-        requires ready { (lines : List Numbered) × IsReady self.old lines }
-        ensures clocks { KeepsClocks self.old self.new }
-        ensures carries { CarriesOut self.old self.new result who (events.Close kinds.Cii) }
-        ensures refused { IfErr result (λ fault. KeepsRefused self.old self.new fault) }
-    {
         let lane = self.lanes.lane(who);
-        lane.cii.close()?;
+        lane.close(kind)?;
         let event = TvEvent::Closed {
-            peer: peer_of(who, Kind::Cii),
+            peer: peer_of(who, kind),
         };
         play(self.alloc, &mut self.tv.tv, &mut self.lanes, event)?;
         let lane = self.lanes.lane(who);
-        lane.attend(CompanionEvent::CiiClosed)?;
-        Ok(())
-    }
-
-    fn close_ts(&mut self, who: u32) -> Result<(), WorldFault>
-        requires who { IsNumber self.old who }
-        requires ready { (lines : List Numbered) × IsReady self.old lines }
-        ensures clocks { KeepsClocks self.old self.new }
-        ensures carries { CarriesOut self.old self.new result who (events.Close kinds.Ts) }
-        ensures refused { IfErr result (λ fault. KeepsRefused self.old self.new fault) }
-    {
-        let lane = self.lanes.lane(who);
-        lane.ts.close()?;
-        let event = TvEvent::Closed {
-            peer: peer_of(who, Kind::Ts),
-        };
-        play(self.alloc, &mut self.tv.tv, &mut self.lanes, event)?;
-        let lane = self.lanes.lane(who);
-        lane.attend(CompanionEvent::TsClosed)?;
+        lane.attend(closed(kind))?;
         Ok(())
     }
 }

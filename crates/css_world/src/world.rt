@@ -18,7 +18,7 @@ ghost use Rattle.css_world.specs.Standing.{KeepsClocks, KeepsEnds, KeepsReadings
 
 use crate::fault::WorldFault;
 use crate::lanes::Lanes;
-use crate::place::{item, owner, store};
+use crate::place::{item, owner, store_answer};
 use crate::printed::{print_report, print_wall};
 use crate::television::{Television, play};
 use css_companion::Companion;
@@ -33,7 +33,6 @@ use std::marker::Model;
 ///
 /// What a later line may still name is kept: each request, each take and each datagram, at most 36 bytes for each, and
 /// the texts in flight.
-#[derive(Drop)]
 pub struct World {
     pub(crate) alloc: Global,
     header: Header,
@@ -47,6 +46,23 @@ pub struct World {
     datagrams: Vec<[u8; 32]>,
     /// The companion that each datagram answers.
     made_for: Vec<u32>,
+}
+
+// By hand: a derived drop is opened at each exit of each caller's proof.
+impl Drop for World {
+    fn drop(self) {
+        let World {
+            alloc: _,
+            header: _,
+            tv: _,
+            lanes: _,
+            requests: _,
+            askers: _,
+            taken_for: _,
+            datagrams: _,
+            made_for: _,
+        } = self;
+    }
 }
 
 impl Model for World {
@@ -227,6 +243,7 @@ impl World {
         }
     }
 
+    #[tactic(none)]
     fn ask(&mut self, who: u32, reading: u64) -> Result<(), WorldFault>
         requires who { IsNumber self.old who }
         requires range { reading < LIMIT }
@@ -250,9 +267,10 @@ impl World {
         ensures carries { (who : ℕ) → CarriesOut self.old self.new result who (events.Take request reading) }
         ensures refused { IfErr result (λ fault. KeepsRefused self.old self.new fault) }
     {
-        let asker = owner(&self.askers, request).ok_or(WorldFault::Absent)?;
-        let request = item(&self.requests, request).ok_or(WorldFault::Absent)?;
-        self.tv.take(&request, reading)?;
+        let Some((request, asker)) = item(&self.requests, &self.askers, request) else {
+            return Err(WorldFault::Absent);
+        };
+        self.tv.take(request, reading)?;
         self.taken_for.push(asker)?;
         Ok(())
     }
@@ -264,17 +282,13 @@ impl World {
         ensures carries { (who : ℕ) → CarriesOut self.old self.new result who (events.Give take reading) }
         ensures refused { IfErr result (λ fault. KeepsRefused self.old self.new fault) }
     {
-        let asker = owner(&self.taken_for, take).ok_or(WorldFault::Absent)?;
-        let answered = self.tv.give(take, reading).ok_or(WorldFault::Absent)?;
-        store(
-            &mut self.datagrams,
-            &mut self.made_for,
-            answered.response,
-            asker,
-        )?;
-        if let Some(follow_up) = answered.follow_up {
-            store(&mut self.datagrams, &mut self.made_for, follow_up, asker)?;
-        }
+        let Some(asker) = owner(&self.taken_for, take) else {
+            return Err(WorldFault::Absent);
+        };
+        let Some(answered) = self.tv.give(take, reading) else {
+            return Err(WorldFault::Absent);
+        };
+        store_answer(&mut self.datagrams, &mut self.made_for, &answered, asker)?;
         Ok(())
     }
 
@@ -286,13 +300,15 @@ impl World {
         ensures carries { CarriesOut self.old self.new result who (events.Land datagram reading) }
         ensures refused { IfErr result (λ fault. KeepsRefused self.old self.new fault) }
     {
-        let asker = owner(&self.made_for, datagram).ok_or(WorldFault::Absent)?;
-        if asker != who {
+        let Some((datagram, owner)) = item(&self.datagrams, &self.made_for, datagram) else {
+            return Err(WorldFault::Absent);
+        };
+        if owner != who {
             return Err(WorldFault::Absent);
         }
-        let datagram = item(&self.datagrams, datagram).ok_or(WorldFault::Absent)?;
+        // The line takes in a datagram, whatever becomes of it.
         let lane = self.lanes.lane(who);
-        lane.land(&datagram, reading)?;
+        lane.companion.land(datagram, reading)?;
         Ok(())
     }
 

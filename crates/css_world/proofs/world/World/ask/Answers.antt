@@ -8,6 +8,8 @@ use Rattle.css_world.specs.Happened.{peer, history_of}
 use Rattle.css_world.specs.Standing.{World, IsReady, IsNumber}
 use Rattle.css_world.proofs.Carrying.{at_line, asked}
 use Rattle.css_world.proofs.Inside.{inside_of}
+use Rattle.css_world.proofs.Verbs.{wants}
+use Rattle.css_world.proofs.Written.{within_lanes, refused_memory}
 use Rattle.css_world.proofs.Written.{still_world, clocks_kept, was_read, may_ask, asked_lane}
 use Rattle.css_world.proofs.world.World.ask.Goals as goal
 
@@ -100,3 +102,32 @@ returns-clause-clocks c =
     let lane = c.lane-lane.result.now in
     clocks_kept c.args.self.now old _ c.args.who lane (record lane { companion = c.ask-request.new.self })
     c.self.view_is c.lane-lane.ensures.value refl refl refl refl
+
+pub lane-lane-requires-clause-first : goal.lane-lane-requires-clause-first
+lane-lane-requires-clause-first c =
+    c.requires.who.first
+
+pub lane-lane-requires-clause-within : goal.lane-lane-requires-clause-within
+lane-lane-requires-clause-within c =
+    subst (λ n. c.args.who ≤ n) (sym c.self.inside.lanes.list.ok.0)
+    (within_lanes c.args.self.now (inside_of c.self.inside) c.args.who c.self.view_is c.requires.who)
+
+pub ask-request-requires-clause-range : goal.ask-request-requires-clause-range
+ask-request-requires-clause-range c =
+    c.requires.range
+
+pub returns-in_err-push-clause-carries : goal.returns-in_err-push-clause-carries
+returns-in_err-push-clause-carries c = λ lines now own is ready.
+    wants c.args.self.now _ c.from_residual.result lines now c.args.who (Ask c.args.reading) c.from_residual.ensures.1
+
+pub returns-in_err-push-clause-refused : goal.returns-in_err-push-clause-refused
+returns-in_err-push-clause-refused c =
+    refused_memory c.args.self.now _ c.from_residual.result c.from_residual.ensures.1
+
+pub returns-in_err-push-2-clause-carries : goal.returns-in_err-push-2-clause-carries
+returns-in_err-push-2-clause-carries c = λ lines now own is ready.
+    wants c.args.self.now _ c.from_residual-in_err-push-2.result lines now c.args.who (Ask c.args.reading) c.from_residual-in_err-push-2.ensures.1
+
+pub returns-in_err-push-2-clause-refused : goal.returns-in_err-push-2-clause-refused
+returns-in_err-push-2-clause-refused c =
+    refused_memory c.args.self.now _ c.from_residual-in_err-push-2.result c.from_residual-in_err-push-2.ensures.1

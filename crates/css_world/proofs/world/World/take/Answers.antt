@@ -1,7 +1,6 @@
 -- The request that is stored is read back, and its ticket is stored.
-use Rattle.std.proofs.Common.{◌≡◌, sym, ap, subst, ◌∙◌, true, false, cond, inl, List, ℕ, [], ◌∷◌, ◌++◌}
+use Rattle.std.proofs.Common.{◌≡◌, ◌⊎◌, inl, inr, sym, ap, subst, ◌∙◌, true, false, cond, List, ℕ, [], ◌∷◌, ◌++◌}
 use Rattle.std.specs.Prelude.{◌&&◌, Some, None, is_some, Result, Ok, Err}
-use Rattle.std.proofs.lemmas.Result.{err_from_is_err_and}
 use Rattle.css_model.specs.Wire.{stamp_of}
 use Rattle.css_server.specs.Tickets.{Ticket, ticket_for}
 use Rattle.css_server.specs.Exchanges as servers
@@ -10,14 +9,14 @@ use Rattle.css_world.specs.declared.fault.WorldFault.{WorldFault}
 use Rattle.css_world.specs.declared.fault.WorldFault.TheVariants.{Absent}
 use Rattle.css_world.specs.Happened.{Numbered, requests, askers, tickets, ticket_at}
 use Rattle.css_world.specs.Numbering.{numbered, stored}
-use Rattle.css_world.specs.Standing.{World, IsReady, EndsStand, request_bytes, carried}
+use Rattle.css_world.specs.Standing.{World, IsReady, EndsStand, request_bytes}
 use Rattle.css_world.specs.Verdicts.{can_happen}
 use Rattle.css_world.proofs.Carrying.{at_line, stored_request, taken, ticket_same}
 use Rattle.css_world.proofs.Answering.{owner_stored}
 use Rattle.css_world.proofs.Inside.{inside_of}
 use Rattle.css_world.proofs.Numbers.{stored_none, mapped_none}
 use Rattle.css_world.proofs.Tickets.{askers_count}
-use Rattle.css_world.proofs.Verbs.{absent, carried-not, refuses, wants}
+use Rattle.css_world.proofs.Verbs.{refuses-absent, wants}
 use Rattle.css_world.proofs.world.World.take.Goals as goal
 
 -- where no request of this number is stored, none can be taken
@@ -28,56 +27,42 @@ none-sent world lines who request reading ends missing =
     (mapped_none (request_bytes request) (numbered request (requests lines))
     (sym (ends.requests.each request) ∙ missing))
 
+-- one that isn't stored has no companion, and the other way round
+not_stored : (world : World) (lines : List Numbered) (request : ℕ) → EndsStand world lines
+    → (stored world.requests request ≡ None) ⊎ (stored world.askers request ≡ None)
+    → stored world.requests request ≡ None
+not_stored world lines request ends (inl missing) = missing
+not_stored world lines request ends (inr nobody) =
+    stored_none world.askers world.requests request
+    (ends.askers.count ∙ askers_count lines ∙ sym ends.requests.count) nobody
+
 pub take-requires-clause-request : goal.take-requires-clause-request
 take-requires-clause-request c =
     let old : World = inside_of c.self.inside in
     let lines = c.requires.ready.0 in
     let stood : IsReady old lines = subst (λ (w : World). IsReady w lines) (sym c.self.view_is) c.requires.ready.1 in
-    let found : stored old.requests c.args.request ≡ Some c.in_ok-request.request =
-    ap (λ (items : List (List ℕ)). stored items c.args.request) (sym c.deref-2.ensures.value) ∙ sym c.item.ensures
-    ∙ c.in_ok-request.ensures.ok_part in
-    let sent = stored_request old lines c.args.request c.in_ok-request.request stood.ends found in
+    let found : stored old.requests c.args.request ≡ Some c.in-Some.request.now =
+    ap (λ (items : List (List ℕ)). stored items c.args.request) (sym c.deref.ensures.value)
+    ∙ c.in-Some.ensures.some.0 in
+    let sent = stored_request old lines c.args.request c.in-Some.request.now stood.ends found in
     (sent.0, sent.2)
 
-pub returns-in_err-asker-clause-carries : goal.returns-in_err-asker-clause-carries
-returns-in_err-asker-clause-carries c = λ who lines now own is ready.
+pub returns-in_default-clause-carries : goal.returns-in_default-clause-carries
+returns-in_default-clause-carries c = λ who lines now own is ready.
     let old : World = inside_of c.self.inside in
-    let stood : IsReady old lines = subst (λ (w : World). IsReady w lines) (sym c.self.view_is) ready in
-    let exit = err_from_is_err_and c.from_residual.result c.from_residual.ensures.1 in
-    let none = absent c.owner.result c.in_err-asker.field-0.0 c.in_err-asker.ensures.value in
-    let nobody : stored old.askers c.args.request ≡ None =
-    ap (λ (items : List ℕ). stored items c.args.request) (sym c.deref.ensures.value) ∙ sym c.owner.ensures ∙ none.0 in
-    let missing : stored old.requests c.args.request ≡ None =
-    stored_none old.askers old.requests c.args.request
-    (stood.ends.askers.count ∙ askers_count lines ∙ sym stood.ends.requests.count) nobody in
-    let told : carried old.header lines who (Take c.args.request c.args.reading) ≡ Err exit.0 =
-    carried-not old.header lines who (Take c.args.request c.args.reading)
-    (none-sent old lines who c.args.request c.args.reading stood.ends missing) ∙ ap Err (sym (exit.2 ∙ none.1)) in
-    refuses c.args.self.now _ c.from_residual.result lines now who (Take c.args.request c.args.reading) exit.0 exit.1
-    (inl (subst (λ (w : World). carried w.header lines who (Take c.args.request c.args.reading) ≡ Err exit.0)
-    c.self.view_is told))
-
-pub returns-in_err-request-clause-carries : goal.returns-in_err-request-clause-carries
-returns-in_err-request-clause-carries c = λ who lines now own is ready.
-    let old : World = inside_of c.self.inside in
-    let stood : IsReady old lines = subst (λ (w : World). IsReady w lines) (sym c.self.view_is) ready in
-    let exit = err_from_is_err_and c.from_residual-in_err-request.result c.from_residual-in_err-request.ensures.1 in
-    let none = absent c.item.result c.in_err-request.field-0.0 c.in_err-request.ensures.value in
-    let missing : stored old.requests c.args.request ≡ None =
-    ap (λ (items : List (List ℕ)). stored items c.args.request) (sym c.deref-2.ensures.value) ∙ sym c.item.ensures
-    ∙ none.0 in
-    let told : carried old.header lines who (Take c.args.request c.args.reading) ≡ Err exit.0 =
-    carried-not old.header lines who (Take c.args.request c.args.reading)
-    (none-sent old lines who c.args.request c.args.reading stood.ends missing) ∙ ap Err (sym (exit.2 ∙ none.1)) in
-    refuses c.args.self.now _ c.from_residual-in_err-request.result lines now who (Take c.args.request c.args.reading)
-    exit.0 exit.1
-    (inl (subst (λ (w : World). carried w.header lines who (Take c.args.request c.args.reading) ≡ Err exit.0)
-    c.self.view_is told))
+    refuses-absent c.args.self.now old _ lines now who (Take c.args.request c.args.reading) c.self.view_is ready
+    (λ (stood : IsReady old lines).
+    none-sent old lines who c.args.request c.args.reading stood.ends
+    (not_stored old lines c.args.request stood.ends
+    (subst (λ (xs : List ℕ). (stored old.requests c.args.request ≡ None) ⊎ (stored xs c.args.request ≡ None))
+    c.deref-2.ensures.value
+    (subst (λ (xs : List (List ℕ)). (stored xs c.args.request ≡ None)
+    ⊎ (stored c.deref-2.result.now c.args.request ≡ None)) c.deref.ensures.value c.in_default.ensures.none))))
 
 pub returns-in_err-take-clause-carries : goal.returns-in_err-take-clause-carries
 returns-in_err-take-clause-carries c = λ who lines now own is ready.
-    wants c.args.self.now _ c.from_residual-in_err-take.result lines now who (Take c.args.request c.args.reading)
-    c.from_residual-in_err-take.ensures.1
+    wants c.args.self.now _ c.from_residual.result lines now who (Take c.args.request c.args.reading)
+    c.from_residual.ensures.1
 
 pub returns-in_err-push-clause-carries : goal.returns-in_err-push-clause-carries
 returns-in_err-push-clause-carries c = λ who lines now own is ready.
@@ -88,15 +73,15 @@ pub returns-clause-carries : goal.returns-clause-carries
 returns-clause-carries c = λ who lines now own is ready.
     let old : World = inside_of c.self.inside in
     let stood : IsReady old lines = subst (λ (w : World). IsReady w lines) (sym c.self.view_is) ready in
-    let found : stored old.requests c.args.request ≡ Some c.in_ok-request.request =
-    ap (λ (items : List (List ℕ)). stored items c.args.request) (sym c.deref-2.ensures.value) ∙ sym c.item.ensures
-    ∙ c.in_ok-request.ensures.ok_part in
-    let whose : stored old.askers c.args.request ≡ Some c.in_ok-asker.asker =
-    ap (λ (items : List ℕ). stored items c.args.request) (sym c.deref.ensures.value) ∙ sym c.owner.ensures
-    ∙ c.in_ok-asker.ensures.ok_part in
-    let asker = owner_stored (numbered c.args.request (askers lines)) c.args.request c.in_ok-asker.asker
+    let found : stored old.requests c.args.request ≡ Some c.in-Some.request.now =
+    ap (λ (items : List (List ℕ)). stored items c.args.request) (sym c.deref.ensures.value)
+    ∙ c.in-Some.ensures.some.0 in
+    let whose : stored old.askers c.args.request ≡ Some c.in-Some.asker =
+    ap (λ (items : List ℕ). stored items c.args.request) (sym c.deref-2.ensures.value)
+    ∙ c.in-Some.ensures.some.1 in
+    let asker = owner_stored (numbered c.args.request (askers lines)) c.args.request c.in-Some.asker
     (sym (stood.ends.askers.each c.args.request) ∙ whose) in
-    let sent = stored_request old lines c.args.request c.in_ok-request.request stood.ends found in
+    let sent = stored_request old lines c.args.request c.in-Some.request.now stood.ends found in
     let before : List Ticket = tickets old.header lines in
     let same : ticket_for old.tv.tv.server c.args.reading (stamp_of sent.0)
     ≡ ticket_at old.header before c.args.reading sent.0 =
@@ -107,7 +92,7 @@ returns-clause-carries c = λ who lines now own is ready.
       answer = ap (λ o. cond (is_some o && true) ok (Err Absent)) sent.1;
       ends = at_line _ lines now who (Take c.args.request c.args.reading) own is
           (taken old lines now.number now.line.t now.line.w who now.line.l c.args.request c.args.reading sent.0
-          c.in_ok-asker.asker c.take.new.self c.push.new.self.items stood.ends sent.1 asker c.take.ensures.stage
+          c.in-Some.asker c.take.new.self c.push.new.self.items stood.ends sent.1 asker c.take.ensures.stage
           (subst (λ (ticket : Ticket). servers.StandsFor c.take.new.self.tv.server (ticket ∷ before)) same
           (c.in_ok-take.ensures.stands sent.0 before sent.2 stood.ends.server))
           (c.in_ok-take.ensures.takes sent.0 sent.2
