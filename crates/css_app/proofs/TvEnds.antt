@@ -1,15 +1,17 @@
 -- A television's run dials nobody, and so it never ends as one that reached nobody.
 use Rattle.std.proofs.Common.{◌≡◌, ℕ, true, false, cond, List, [], ◌∷◌, subst}
-use Rattle.std.specs.Prelude.{nat_lt, Option, Some, None, ⊤}
+use Rattle.std.specs.Prelude.{Option, Some, None, ⊤}
 use Rattle.css_model.specs.declared.Why.TheVariants as why
 use Rattle.css_model.specs.History.{History}
 use Rattle.css_tv.specs.declared.event.TvOut.{TvOut}
 use Rattle.css_tv.specs.declared.event.TvOut.TheVariants as out
 use Rattle.css_tv.specs.declared.fault.TvFault.{TvFault}
 use Rattle.css_tv.specs.declared.fault.TvFault.TheVariants as fault
-use Rattle.css_drive.specs.Proper.{Due, Now, Ends}
+use Rattle.css_drive.specs.Proper.{Due, Now, TakeDatagram, Ends}
 use Rattle.css_drive.specs.TvDue.{TvRun, due, due_at, from_answers, from_end, from_hang_ups, from_texts, unless_owed}
-use Rattle.css_drive.specs.TvDue.{unless_refused}
+use Rattle.css_drive.specs.TvDue.{from_turn, unless_refused}
+use Rattle.css_drive.specs.TvTurns.{goes_on, is_over}
+use Rattle.css_drive.specs.declared.turns.Turns.{Turns}
 use Rattle.css_drive.specs.TvPeers.{above}
 use Rattle.css_drive.specs.TvProgress.{Place, Begins, Listens, Turned, Taken, Received, Answers, Served, Asked, Over}
 use Rattle.css_drive.specs.TvProgress.{addresses_in, open_after, progress_of}
@@ -24,29 +26,34 @@ hangs : (peers : List ℕ) → IsReached (from_hang_ups peers)
 hangs [] = tt
 hangs (peer ∷ peers) = tt
 
-ends : (turns made : ℕ) (live : List ℕ) → IsReached (from_end turns made live)
-ends turns made live =
-    elim (nat_lt made turns) as (λ b. IsReached (cond b (Now why.Turn) (from_hang_ups live)))
+ends : (turns : Turns) (live : List ℕ) → IsReached (from_end turns live)
+ends turns live =
+    elim (goes_on turns) as (λ b. IsReached (cond b (Now why.Turn) (from_hang_ups live)))
     [ true ↦ tt | false ↦ hangs live ]
 
-texts : (turns made : ℕ) (live peers : List ℕ) → IsReached (from_texts turns made live peers)
-texts turns made live [] = ends turns made live
-texts turns made live (peer ∷ peers) = tt
+begins : (turns : Turns) (live : List ℕ) → IsReached (from_turn turns live)
+begins turns live =
+    elim (is_over turns) as (λ b. IsReached (cond b (from_hang_ups live) TakeDatagram))
+    [ true ↦ hangs live | false ↦ tt ]
+
+texts : (turns : Turns) (live peers : List ℕ) → IsReached (from_texts turns live peers)
+texts turns live [] = ends turns live
+texts turns live (peer ∷ peers) = tt
 
 answers : (peer : ℕ) (datagrams : List (List ℕ)) → IsReached (from_answers peer datagrams)
 answers peer [] = tt
 answers peer (datagram ∷ datagrams) = tt
 
-at_place : (run : TvRun) (live : List ℕ) (made : ℕ) (place : Place) → IsReached (due_at run live made place)
-at_place run live made Begins = tt
-at_place run live made Listens = ends run.turns made live
-at_place run live made (Turned reading) = tt
-at_place run live made (Taken peer bytes) = tt
-at_place run live made (Received peer ticket) = tt
-at_place run live made (Answers peer datagrams) = answers peer datagrams
-at_place run live made Served = tt
-at_place run live made (Asked last) = texts run.turns made live (above last live)
-at_place run live made (Over last) = hangs (above (Some last) live)
+at_place : (run : TvRun) (live : List ℕ) (turns : Turns) (place : Place) → IsReached (due_at run live turns place)
+at_place run live turns Begins = tt
+at_place run live turns Listens = ends turns live
+at_place run live turns (Turned reading) = begins turns live
+at_place run live turns (Taken peer bytes) = tt
+at_place run live turns (Received peer ticket) = tt
+at_place run live turns (Answers peer datagrams) = answers peer datagrams
+at_place run live turns Served = tt
+at_place run live turns (Asked last) = texts turns live (above last live)
+at_place run live turns (Over last) = hangs (above (Some last) live)
 
 owing : (owed : List TvOut) (rest : Due) → IsReached rest → IsReached (unless_owed owed rest)
 owing [] rest so = so
@@ -61,7 +68,7 @@ refusing before (Some fault.Memory) rest so = tt
 
 pub never_unreachable : (run : TvRun) (h : History) (turns : ℕ) → due run h ≡ Ends (driven.Unreachable turns) → ⊥
 never_unreachable run h turns is =
-    let p = progress_of run.config run.script h in
+    let p = progress_of run h in
     let place = due_at run (open_after (addresses_in run.config) p.events) p.turns p.place in
     subst IsReached is (refusing p.carried p.refused (unless_owed p.owed place)
     (owing p.owed place (at_place run (open_after (addresses_in run.config) p.events) p.turns p.place)))

@@ -11,6 +11,7 @@ use Rattle.css_model.specs.History.{Each, wall_answer}
 use Rattle.css_model.specs.Explains.{RisesAt, AsksAt, IsJustAsked, IsLawful, IsTruthful, TruthfulAt, ReadsAt}
 use Rattle.css_model.specs.Explains.{HappensIn, Explains}
 use Rattle.css_outside.specs.declared.calls.Heard.TheVariants as heard
+use Rattle.css_outside.specs.declared.limit.Limit.TheVariants as limit
 use Rattle.css_drive.specs.Proper.{IsProper}
 use Rattle.css_drive_relay.specs.Due.{due, IsProperRelay}
 use Rattle.css_drive_relay.specs.SecondHop.{FromRunAt}
@@ -29,10 +30,9 @@ run = record {
   cii = television;
   host = codes "r";
   port = 6690;
-  turns = 3;
+  limit = limit.Turns 3;
   ask_every = 1000000000000;
-  some_turns = omega arith;
-  few_turns = omega arith;
+  limit_range = (omega arith, omega arith);
   requests_apart = omega arith;
   requests_come = omega arith;
 }

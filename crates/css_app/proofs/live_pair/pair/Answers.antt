@@ -62,7 +62,7 @@ returns-in-Ok-prepare-clause-ran g c =
       text = c.in-Ok.script.items;
       gives = c.in-Ok.ensures.value;
       beside =
-          subst (λ p. Beside c.args.config p (child_words c.args.child.now c.args.config.turns) c.in-Ok.script.items
+          subst (λ p. Beside c.args.config p (child_words c.args.child.now c.args.config.limit) c.in-Ok.script.items
           (at heard) now old new c.run_beside.result) c.in-Ok-prepare.ensures.plans
           (subst (λ w. Beside c.args.config plans w c.in-Ok.script.items (at heard) now old
           new c.run_beside.result) words
