@@ -151,7 +151,7 @@ tv --seconds 0 --port 1 => --port: 1 isn't from 1024 to 65534
 tv --seconds 31536001 => --seconds: 31536001 isn't from 1 to 31536000
 tv --precision=-129 => --precision: -129 isn't from -128 to 30
 tv --precision=-01 => --precision: -01 has zeros before its digits
-tv --precision=x => --precision: x is no number
+tv --precision=x => --precision: x isn't from -128 to 30
 tv --precision -20 => no such option: -2
 tv --follow=true => --follow takes no value
 tv --follow --follow => --follow is given twice

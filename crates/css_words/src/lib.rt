@@ -14,7 +14,6 @@ mod recorded;
 mod relay;
 mod tv;
 mod words;
-mod wrong;
 
 pub use command::{Command, command_of};
 pub use complaints::complaint;

@@ -32,8 +32,8 @@ pub const PORT: NumberOption = NumberOption {
     most: 65_534,
 };
 
-// The port of the relay.
-fn port(matches: &ArgMatches<'_>) -> Result<u16, WordsFault>
+/// The port of the relay.
+pub fn port(matches: &ArgMatches<'_>) -> Result<u16, WordsFault>
     ensures value { result ≡ relay.port (rows_of (found_of matches.now)) }
     ensures least { IfOk result (λ port. 1024 ≤ port) }
     ensures most { IfOk result (λ port. port ≤ 65534) }

@@ -80,8 +80,8 @@ pub fn precision(matches: &ArgMatches<'_>) -> Result<i8, WordsFault>
     }
 }
 
-// The port.
-fn port(matches: &ArgMatches<'_>) -> Result<u16, WordsFault>
+/// The port.
+pub fn port(matches: &ArgMatches<'_>) -> Result<u16, WordsFault>
     ensures value { result ≡ tv.port (rows_of (found_of matches.now)) }
     ensures least { IfOk result (λ port. 1024 ≤ port) }
     ensures most { IfOk result (λ port. port ≤ 65534) }
