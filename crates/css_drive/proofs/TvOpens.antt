@@ -110,11 +110,11 @@ airs_at s place' e = record {
 pub served : {run : TvRun} {start told told' : Option History} {peers : ℕ} {air : OnAir}
     → (x : Reaches run start told peers air IsTurned)
     → (peers' : ℕ) → peers ≤ peers' → (tv : Television) → (y : Comes run start told' peers' tv x.p Served [])
-    → Airs run start told' peers' (record { tv = tv; peers = air.peers; lines = air.lines; turns = air.turns }) Served y.p
-    y.p y.h
+    → Airs run start told' peers' (record { tv = tv; peers = air.peers; lines = air.lines; turns = air.turns }) Served
+    y.p y.p y.h
 served {run} {air = air} x peers' le tv y =
-    airs_on x.airs.keeps peers' le (record { tv = tv; peers = air.peers; lines = air.lines; turns = air.turns }) refl refl
-    refl y
+    airs_on x.airs.keeps peers' le (record { tv = tv; peers = air.peers; lines = air.lines; turns = air.turns }) refl
+    refl refl y
     (settled_at_place (addresses_in run.config) y.p Served y.at refl)
 
 -- sessions are asked from the first one on

@@ -15,7 +15,6 @@ use Rattle.css_drive.specs.TvProgress.{Place, Listens, Progress, addresses_in, b
 use Rattle.css_drive.specs.TvDue.{TvRun}
 use Rattle.css_drive.specs.TvTurns.{no_turns, IsRanged}
 use Rattle.css_drive.specs.declared.turns.Turns.{Turns}
-use Rattle.css_model.specs.declared.TheConstants.{LIMIT}
 use Rattle.css_outside.specs.Limits.{IsLimit}
 use Rattle.css_outside.specs.declared.limit.Limit.{Limit}
 use Rattle.css_drive.specs.TvPeers.{AreRising, Covers}
@@ -82,7 +81,8 @@ begun run start told peers grew air addresses stands server none lines turns =
       fits = refl;
     }
 
-pub none_ranged : (t : Turns) (limit : Limit) (relative : Bool) → t ≡ no_turns limit relative → IsLimit limit → IsRanged t
+pub none_ranged : (t : Turns) (limit : Limit) (relative : Bool) → t ≡ no_turns limit relative → IsLimit limit
+    → IsRanged t
 none_ranged t limit relative e k =
     subst IsRanged (sym e) (record { limit = k; first = omega arith; last = omega arith })
 

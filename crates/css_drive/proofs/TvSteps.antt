@@ -2,7 +2,7 @@
 use Rattle.std.proofs.Common.{◌≡◌, ℕ, ◌+◌, ◌≤◌, ◌<◌, Bool, true, false, cond, eqb, List, [], ◌∷◌, ◌++◌, Option, Some}
 use Rattle.std.proofs.Common.{None}
 use Rattle.std.proofs.Common.{refl, sym, ap, ap₂, subst, ◌∙◌, arith, append_assoc, append-nil, Result, Ok, Err}
-use Rattle.std.specs.Prelude.{MatchResult, ◌≢◌, nat_lt, ◌&&◌}
+use Rattle.std.specs.Prelude.{MatchResult, ◌≢◌, ◌&&◌}
 use Rattle.std.proofs.lemmas.Bool.Decides.{nat_tests}
 use Rattle.css_model.specs.declared.Kind.{Kind}
 use Rattle.css_model.specs.declared.Why.{Why}
@@ -35,7 +35,8 @@ use Rattle.css_drive.specs.TvProgress.{outs_after, outs_in}
 use Rattle.css_drive.specs.TvDue.{TvRun, due, due_for, due_at, unless_owed, unless_refused}
 use Rattle.css_drive.specs.TvPeers.{Narrows, Covers}
 use Rattle.css_drive.specs.TvRan.{AreBelow, AreNumbered, MadeTurns}
-use Rattle.css_drive.specs.TvStanding.{HasCause, KeepsCounts, IsFault, Told, Stays, Stands, Stops, Comes, Continues, Goes, Closes, IsAccepted}
+use Rattle.css_drive.specs.TvStanding.{HasCause, KeepsCounts, IsFault, Told, Stays, Stands, Stops, Comes, Continues}
+use Rattle.css_drive.specs.TvStanding.{Goes, Closes, IsAccepted}
 use Rattle.css_drive.specs.declared.driven.Driven.{Driven}
 use Rattle.css_drive.specs.declared.driven.Driven.TheVariants as driven
 use Rattle.css_drive.proofs.TvCalls.{IsOther, IsNoOpening, event_narrows, event_unused}

@@ -1,8 +1,8 @@
-use Rattle.std.proofs.Common.{◌≡◌, ◌∙◌, ◌∷◌, [], ap, sym, refl, List, ℕ, Option}
+use Rattle.std.proofs.Common.{◌∙◌, ◌∷◌, [], ap, sym, refl, List, ℕ, Option}
 use Rattle.std.specs.Option.{option_map, option_to_list}
 use Rattle.css_model.specs.Wire.{encoded}
 use Rattle.css_server.specs.Tickets.{follow_up_for}
-use Rattle.css_drive.specs.TvProgress.{Place, Answers}
+use Rattle.css_drive.specs.TvProgress.{Answers}
 use Rattle.css_drive.proofs.TvSteps.{stops_by_fault}
 use Rattle.css_drive.proofs.TvDatagrams.{answer_read, datagram_sent, answer_sent}
 use Rattle.css_drive.proofs.TvAnswers.{last_sent}

@@ -1,9 +1,9 @@
-use Rattle.std.proofs.Common.{◌≡◌, ◌≤◌, ◌+◌, ◌∙◌, ◌∷◌, ℕ, List, sym, subst, arith, drop, get_or}
+use Rattle.std.proofs.Common.{◌≡◌, ◌+◌, ◌∙◌, ◌∷◌, ℕ, List, sym, subst, arith, drop, get_or}
 use Rattle.css_drive.proofs.TvSteps.{cause_later, cause_plain}
 use Rattle.css_drive.proofs.TvHears.{is_live}
 use Rattle.css_drive.proofs.TvSteps.{stops_by_fault, peers_kept}
-use Rattle.css_drive.proofs.TvLines.{peer_at, peers_all}
-use Rattle.css_drive.proofs.TvLoops.{hangs_up, hang_due, hung_next, hung_past, all_hung}
+use Rattle.css_drive.proofs.TvLines.{peers_all}
+use Rattle.css_drive.proofs.TvLoops.{hung_next, hung_past, all_hung}
 use Rattle.css_drive.proofs.TvOpens.{not_open, peer_from, counts_kept}
 use Rattle.css_drive.specs.TvStanding.{HangsUp, KeepsCounts}
 use Rattle.css_drive.proofs.tv_calls.hang_up_all.Goals.{then-is_open+in-Ok, else-is_open}

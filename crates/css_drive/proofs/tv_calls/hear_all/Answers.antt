@@ -1,9 +1,8 @@
-use Rattle.std.proofs.Common.{◌≡◌, ◌≤◌, ◌+◌, ◌∙◌, ◌∷◌, ◌<◌, ℕ, List, arith, refl, drop, length}
-use Rattle.css_drive.specs.TvProgress.{Asked}
+use Rattle.std.proofs.Common.{◌≡◌, ◌+◌, ◌∙◌, ◌∷◌, ◌<◌, ℕ, List, arith, refl, drop, length}
 use Rattle.css_drive.proofs.TvHears.{is_live}
 use Rattle.css_drive.proofs.TvLines.{peer_at, peers_all}
 use Rattle.css_drive.proofs.TvLoops.{text_due, text_heard, peer_removed, all_heard}
-use Rattle.css_drive.proofs.TvOpens.{not_open, hears_all}
+use Rattle.css_drive.proofs.TvOpens.{not_open}
 use Rattle.css_drive.proofs.tv_calls.hear_all.Goals as goal
 
 pub returns-in-Err-clause-goes : goal.returns-in-Err-clause-goes

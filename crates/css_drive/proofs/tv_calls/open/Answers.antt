@@ -1,4 +1,4 @@
-use Rattle.std.proofs.Common.{◌≡◌, ◌∙◌, ◌+◌, ◌≤◌, ◌<◌, sym, arith, refl, List, [], ℕ, None}
+use Rattle.std.proofs.Common.{◌≤◌, sym, arith, refl, ℕ, None}
 use Rattle.css_num.specs.declared.protocol.Kind.{Kind}
 use Rattle.css_tv.specs.declared.event.TvEvent.TheVariants as event
 use Rattle.css_drive.specs.TvProgress.{Asked, addresses_in, happened}

@@ -1,4 +1,4 @@
-use Rattle.std.proofs.Common.{◌≡◌, ◌∙◌, ap, sym, refl, [], ℕ, List}
+use Rattle.std.proofs.Common.{◌∙◌, ap, sym, refl, [], ℕ, List}
 use Rattle.css_server.specs.Tickets.{received, after_ticket}
 use Rattle.css_drive.specs.TvProgress.{Progress, Received, Served, addresses_in}
 use Rattle.css_drive.proofs.TvSteps.{goes_on, continues}

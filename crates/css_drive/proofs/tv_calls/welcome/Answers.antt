@@ -1,4 +1,4 @@
-use Rattle.std.proofs.Common.{◌≡◌, ◌∙◌, ◌+◌, ◌≤◌, ◌<◌, ap, sym, arith, refl, List, [], ◌∷◌, ℕ, None}
+use Rattle.std.proofs.Common.{◌≡◌, ◌<◌, ap, arith, refl, ◌∷◌, ℕ, None}
 use Rattle.css_model.specs.declared.Kind.TheVariants as peer_kind
 use Rattle.css_model.specs.History.{Accepted}
 use Rattle.css_num.specs.declared.protocol.Kind.TheVariants as kind

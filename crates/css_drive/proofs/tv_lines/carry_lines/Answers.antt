@@ -1,4 +1,4 @@
-use Rattle.std.proofs.Common.{◌≡◌, ◌∙◌, ◌+◌, ◌≤◌, ◌<◌, ◌∷◌, arith, ap, sym, refl, List, [], ℕ, drop, length}
+use Rattle.std.proofs.Common.{◌∙◌, ◌+◌, ◌∷◌, arith, ap, sym, List, [], ℕ, drop}
 use Rattle.css_schedule.specs.declared.line.ScriptLine.{ScriptLine}
 use Rattle.css_drive.specs.TvProgress.{addresses_in}
 use Rattle.css_drive.proofs.TvSteps.{told_as}

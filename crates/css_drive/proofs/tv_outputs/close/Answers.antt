@@ -1,8 +1,4 @@
 use Rattle.std.proofs.Common.{ap}
-use Rattle.css_drive.proofs.TvPuts.{wrote_one}
-use Rattle.css_drive.proofs.TvDatagrams.{answer_sent}
-use Rattle.css_drive.proofs.TvHears.{is_live}
-use Rattle.css_drive.proofs.TvLines.{airs_on}
 use Rattle.css_drive.proofs.tv_outputs.close.Goals as goal
 
 pub returns-in-Ok-clause-closes : goal.returns-in-Ok-clause-closes

@@ -1,4 +1,4 @@
-use Rattle.std.proofs.Common.{◌∙◌, ◌++◌, ap, subst, arith, List, [], ℕ, ◌≤◌}
+use Rattle.std.proofs.Common.{◌∙◌, ◌++◌, ap, subst, arith, List}
 use Rattle.css_tv.specs.Outcomes.{outcome_at}
 use Rattle.css_tv.specs.Standing.{IsAfterBy}
 use Rattle.css_tv.specs.declared.event.TvOut.{TvOut}

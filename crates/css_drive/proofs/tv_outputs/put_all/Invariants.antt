@@ -1,4 +1,4 @@
-use Rattle.std.proofs.Common.{◌≡◌, Option, List}
+use Rattle.std.proofs.Common.{◌≡◌, Option}
 use Rattle.std.specs.Prelude.{reverse}
 use Rattle.css_model.specs.History.{History}
 use Rattle.css_drive.specs.TvDue.{TvRun}

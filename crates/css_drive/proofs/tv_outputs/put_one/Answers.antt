@@ -1,4 +1,4 @@
-use Rattle.std.proofs.Common.{◌≡◌, ◌∷◌, [], ◌∙◌, ap, sym, ℕ}
+use Rattle.std.proofs.Common.{◌∷◌, ◌∙◌, ap, sym, ℕ}
 use Rattle.css_tv.specs.declared.event.TvOut.TheVariants as out
 use Rattle.css_drive.proofs.TvSteps.{cause_plain}
 use Rattle.css_drive.proofs.TvSteps.{peers_kept}
@@ -36,5 +36,6 @@ returns-in-Err-clause-cause g c =
 pub returns-in-Err-hang_up-clause-cause : goal.returns-in-Err-hang_up-clause-cause
 returns-in-Err-hang_up-clause-cause g c =
     cause_plain (g.O.Outside.counts c.args.outside.now) (g.O.Outside.counts c.hang_up.new.self)
-    c.fault_of-in-Err-hang_up.result c.in-Err-hang_up.ensures.counted (c.fault_of-in-Err-hang_up.ensures.counted _ _ c.in-Err-hang_up.ensures.counted.faults)
+    c.fault_of-in-Err-hang_up.result c.in-Err-hang_up.ensures.counted
+    (c.fault_of-in-Err-hang_up.ensures.counted _ _ c.in-Err-hang_up.ensures.counted.faults)
     c.fault_of-in-Err-hang_up.ensures.no_writes

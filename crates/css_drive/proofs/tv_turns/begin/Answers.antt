@@ -1,4 +1,4 @@
-use Rattle.std.proofs.Common.{◌≡◌, ◌∙◌, ℕ}
+use Rattle.std.proofs.Common.{◌∙◌, ℕ}
 use Rattle.css_drive.specs.TvProgress.{Progress, Turned}
 use Rattle.css_drive.specs.TvTurns.{begun}
 use Rattle.css_drive.proofs.TvCarries.{turn_begins, ranged_on, on_ok}

@@ -1,6 +1,6 @@
-use Rattle.std.proofs.Common.{◌≡◌, refl}
+use Rattle.std.proofs.Common.{refl}
 use Rattle.css_drive.specs.TvDue.{TvRun, run_of}
-use Rattle.css_drive.proofs.TvRuns.{ran_by, counts_stopped}
+use Rattle.css_drive.proofs.TvRuns.{ran_by}
 use Rattle.css_drive.proofs.tv_turns.drive_tv.Goals as goal
 
 pub returns-in-Err-clause-ran : goal.returns-in-Err-clause-ran

@@ -1,4 +1,4 @@
-use Rattle.std.proofs.Common.{◌≡◌, ◌∙◌, sym}
+use Rattle.std.proofs.Common.{◌∙◌, sym}
 use Rattle.css_drive.proofs.tv_turns.make_turns.Goals as goal
 
 pub turn-requires-clause-ready : goal.turn-requires-clause-ready

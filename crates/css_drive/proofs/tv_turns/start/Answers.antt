@@ -1,4 +1,4 @@
-use Rattle.std.proofs.Common.{◌≡◌, ◌+◌, ◌∙◌, ℕ, refl}
+use Rattle.std.proofs.Common.{refl}
 use Rattle.css_drive.specs.declared.driven.Driven.TheVariants as driven
 use Rattle.css_drive.proofs.TvSteps.{cause_plain}
 use Rattle.css_drive.proofs.TvSteps.{stops_by_fault}
@@ -8,7 +8,8 @@ use Rattle.css_drive.proofs.tv_turns.start.Goals as goal
 
 pub returns-in-Err-clause-goes : goal.returns-in-Err-clause-goes
 returns-in-Err-clause-goes g c script =
-    stops_by_fault (at_first (run_of c.args.run script) (g.O.Outside.told c.args.outside.now) 0) (g.O.Outside.told c.listen.new.self)
+    stops_by_fault (at_first (run_of c.args.run script) (g.O.Outside.told c.args.outside.now) 0)
+    (g.O.Outside.told c.listen.new.self)
     c.in-Err.ensures.told
     c.fault_of.result c.fault_of.ensures.fault
 

@@ -1,5 +1,4 @@
-use Rattle.std.proofs.Common.{◌≡◌, ◌∙◌, ap, sym, ℕ}
-use Rattle.css_drive.specs.TvProgress.{Served, Asked}
+use Rattle.std.proofs.Common.{◌∙◌, ap, sym}
 use Rattle.css_drive.specs.TvTurns.{is_over}
 use Rattle.css_drive.proofs.TvCarries.{over_at_end, ranged_on, on_ok}
 use Rattle.css_drive.proofs.TvOpens.{served, airs_at, unused_of}
