@@ -31,7 +31,7 @@ live_server.OFFSET = 0
 
 TOP = Path(__file__).resolve().parent.parent
 TESTS, EXAMPLES = TOP / "tests" / "library", TOP / "examples"
-RANDOM_CALLS = "100000"
+RANDOM_CALLS = "1000000"
 REPORTS = "30"
 WRAPPED = "-Wl,--wrap=malloc,--wrap=realloc,--wrap=free"
 WARNINGS = ["-Wall", "-Wextra", "-Werror"]

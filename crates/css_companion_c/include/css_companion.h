@@ -21,7 +21,7 @@
  *
  * There is no global state, no thread, no thread-local and no callback. Memory is taken by new, cii, cii_state, setup,
  * control, presentation and report, and by land for the first response of a declared error and for one that promises
- * a follow-up. All others take none, and can't answer CSS_MEMORY, but for ts_closed, which takes none either.
+ * a follow-up. All others take none; of these ts_closed alone may answer CSS_MEMORY, by its contract.
  *
  * It was tried on x86-64 Linux with glibc, from C11, C++17 and Rust.
  */
