@@ -157,8 +157,8 @@ uint32_t css_companion_position(css_companion *c, uint64_t reading, css_position
 uint32_t css_companion_lead(css_companion *c, uint64_t reading, int64_t tick, css_span *lead);
 /* When the television shows `tick`: at a reading from readings->from to readings->to, of all that may still be handed.
  * It goes by the last control timestamp and the rate, so ask again after each text that was taken in, and nearer to the
- * time, when the interval is narrower. CSS_NEVER: at no reading, as on a pause or where the tick is past. CSS_TOO_WIDE while
- * responses that are kept declare different errors. It takes some microseconds. */
+ * time, when the interval is narrower. CSS_NEVER: at no reading, as on a pause or where the tick is past. CSS_TOO_WIDE
+ * while responses that are kept declare different errors. It takes some microseconds. */
 uint32_t css_companion_when(css_companion *c, int64_t tick, css_readings *readings);
 /* The line of a report, as `css companion` prints it. */
 uint32_t css_companion_report(css_companion *c, uint64_t number, uint64_t reading,
