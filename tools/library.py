@@ -64,8 +64,9 @@ def main(words):
     (folder / "include").mkdir(parents=True, exist_ok=True)
     shutil.copy(CRATE / "include" / "css_companion.h", folder / "include")
     package(folder)
+    package_of_rust = Path("rust") / "css-companion"
     skipped = shutil.ignore_patterns("target")
-    shutil.copytree(TOP / "rust" / "css-companion", folder / "rust" / "css-companion", ignore=skipped, dirs_exist_ok=True)
+    shutil.copytree(TOP / package_of_rust, folder / package_of_rust, ignore=skipped, dirs_exist_ok=True)
     print(f"the library is in {folder}")
     return 0
 
