@@ -111,10 +111,10 @@ class Suite:
             print(done.stdout[-3000:])
         print("ok  " if done.returncode == 0 else "FAIL", what, flush=True)
 
-    def built(self, sources, *flags, compiler="gcc"):
-        """A program of these sources, linked as pkg-config says where there is one."""
+    def built(self, sources, *flags):
+        """A program of these sources, linked with the library."""
         program = self.room / sources[0].stem
-        command = [compiler, "-O1", "-g", *WARNINGS, *flags, f"-I{self.library}/include", "-o", program, *sources]
+        command = ["gcc", "-O1", "-g", *WARNINGS, *flags, f"-I{self.library}/include", "-o", program, *sources]
         subprocess.run([*command, f"-L{self.library}/lib", "-lcss_companion"], check=True)
         return program
 

@@ -102,8 +102,11 @@ static void timeline(css_companion *c) {
     IS(used == 22 && !memcmp(out, "7 ticks 900000 900000\n", 22), 1);
     IS(css_companion_control(c, TEXT("oh")), CSS_DONE);
     IS(css_companion_position(c, 1600, &p), CSS_UNREADABLE);
+    uint64_t age = css_companion_age(c);
     IS(css_companion_ts_closed(c), CSS_DONE);
+    IS(css_companion_age(c), age + 1);
     IS(css_companion_position(c, 1600, &p), CSS_SESSION_CLOSED);
+    IS(css_companion_age(c), age + 1);
     IS(css_companion_lead(c, 1600, 900000, &lead), CSS_SESSION_CLOSED);
 }
 

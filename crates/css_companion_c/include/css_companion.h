@@ -43,12 +43,13 @@ extern "C" {
 /* The version of this page. css_companion_version() tells that of the library: compare them at the start. */
 #define CSS_VERSION 1
 
-/* A companion, or none. 16 bytes in your memory; what it points to is the library's. */
+/* A companion, or none. 24 bytes in your memory; what it points to is the library's. */
 typedef struct css_companion {
     bool live;
+    uint64_t age;
     void *at;
 } css_companion;
-#define CSS_NONE { false, NULL }
+#define CSS_NONE { false, 0, NULL }
 
 enum css_code {
     CSS_DONE = 0,
@@ -104,7 +105,7 @@ typedef struct css_bound {
     bool infinite;
 } css_bound;
 
-CSS_ASSERT(sizeof(css_companion) == 2 * sizeof(void *), "css_companion");
+CSS_ASSERT(sizeof(css_companion) == 16 + sizeof(void *) && offsetof(css_companion, at) == 16, "css_companion");
 CSS_ASSERT(sizeof(css_span) == 16 && sizeof(css_readings) == 16, "two numbers of 64 bits");
 CSS_ASSERT(sizeof(css_position) == 48 && offsetof(css_position, speed) == 40, "css_position");
 CSS_ASSERT(sizeof(css_bound) == 24 && offsetof(css_bound, infinite) == 16, "css_bound");
@@ -150,7 +151,11 @@ uint32_t css_companion_ts_closed(css_companion *c);
 uint32_t css_companion_presentation(const css_bound *earliest, const css_bound *latest,
                                     uint8_t *out, size_t room, size_t *used);
 
-/* ---- what it is for */
+/* ---- what it is for
+ * A number that rises with each call that may change what wall, position, lead and when answer for the same reading:
+ * new, slept, land, cii, control and ts_closed, where they take in what they are handed or refuse it. While it is the
+ * same, an answer that you have is still the answer; only the readings that may be handed rise. */
+uint64_t css_companion_age(const css_companion *c);
 uint32_t css_companion_position(css_companion *c, uint64_t reading, css_position *position);
 /* By how many ns of the timeline somebody at the beginning of `tick` is ahead of the television; below 0 it is behind.
  * At speed 1 such a ns is one of the wall clock. The television's own place isn't rounded to a tick here. */

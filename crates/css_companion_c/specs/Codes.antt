@@ -1,5 +1,6 @@
 -- Which code a call answers.
-use Rattle.std.specs.Prelude.{ℕ, ℤ, pos, negsuc, ◌^◌, ◌≡◌, ◌≢◌, ◌≤◌, ◌<◌, ◌⊎◌, ◌||◌, ◌&&◌, ◌==◌, neg_ℤ, nat_le, nat_lt}
+use Rattle.std.specs.Prelude.{◌+◌, min, ℕ, ℤ, pos, negsuc, ◌^◌, ◌≡◌, ◌≢◌, ◌≤◌, ◌<◌, ◌⊎◌, ◌||◌, ◌&&◌, ◌==◌, neg_ℤ}
+use Rattle.std.specs.Prelude.{nat_le, nat_lt}
 use Rattle.std.specs.Prelude.{int_lt}
 use Rattle.std.specs.Prelude.{Bool, true, false, not, List, length, Option, Some, None, Result, Ok, Err, if◌then◌else◌}
 use Rattle.css_model.specs.declared.TheConstants.{LIMIT}
@@ -33,6 +34,14 @@ ChangesNothing code = (0 < code) × (code < 16)
 -- what came was taken in or refused, and the history goes on
 abbrev pub GoesOn : ℕ → Type 0
 GoesOn code = (code ≡ 0) ⊎ ((16 ≤ code) × (code < 48))
+
+-- it is such a code
+abbrev pub goes_on : ℕ → Bool
+goes_on code = (code == 0) || (nat_le 16 code && nat_lt code 48)
+
+-- the age of a handle after a call that came to this code, up to the greatest number of 64 bits
+abbrev pub aged : ℕ → ℕ → ℕ
+aged age code = if goes_on code then min (age + 1) 18446744073709551615 else age
 
 -- ---- tests before a call
 -- the code where there is a companion

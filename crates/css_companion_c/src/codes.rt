@@ -1,4 +1,6 @@
 //! What the functions answer, in four groups.
+ghost use Rattle.std.specs.Prelude.{◌≡◌};
+ghost use Rattle.css_companion_c.specs.Codes.{aged};
 
 /// The version of this interface. It rises whenever a call, a code or a struct of C changes its meaning.
 pub const VERSION: u32 = 1;
@@ -82,6 +84,17 @@ pub const IS_NULL: u32 = 54;
 
 /// The tick isn't shown, as far as is known.
 pub const NEVER: u32 = 55;
+
+/// The age of a handle after a call that came to this code: it rises with each call that may change what is answered.
+pub(crate) fn aged(age: u64, code: u32) -> u64
+    ensures { result ≡ aged age code }
+{
+    if code == DONE || (16..48).contains(&code) {
+        age.saturating_add(1)
+    } else {
+        age
+    }
+}
 
 /// The greatest length of a text that is taken in, in bytes.
 pub const LONGEST_TEXT: usize = 262_144;

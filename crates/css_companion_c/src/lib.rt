@@ -12,7 +12,6 @@ ghost use Rattle.css_client.specs.Landings.{landing_of};
 ghost use Rattle.css_cii.specs.States.{full_change};
 ghost use Rattle.css_cii.specs.Texts.{change_text};
 ghost use Rattle.css_tsmsg.specs.Controls.{control_of};
-ghost use Rattle.css_tsmsg.specs.Presentations.{presentation_text};
 ghost use Rattle.css_tsmsg.specs.Setups.{setup_text};
 ghost use Rattle.css_companion.specs.Meanings.{report_after, timing_after, kind_of};
 ghost use Rattle.css_companion.specs.Standing.{StandsFor, own_of, asleep};
@@ -20,13 +19,12 @@ ghost use Rattle.css_companion.specs.Printed.{line_of};
 ghost use Rattle.css_companion.specs.Steps as steps;
 ghost use Rattle.css_companion.specs.declared.event.CompanionEvent.TheVariants as event;
 ghost use Rattle.css_companion_c.specs.Codes as answers;
-ghost use Rattle.css_companion_c.specs.Codes.{VERSION, DONE, CLOSED, NO_ROOM, ChangesNothing, GoesOn, Answers};
-ghost use Rattle.css_companion_c.specs.Handles.{behind, Of, Between};
+ghost use Rattle.css_companion_c.specs.Codes.{DONE, CLOSED, NO_ROOM, ChangesNothing, GoesOn, Answers, aged};
+ghost use Rattle.css_companion_c.specs.Handles.{behind, Of, Between, AnswerAlike};
 ghost use Rattle.css_companion_c.specs.Leads.{lead_code, HoldsTheLead};
 ghost use Rattle.css_companion_c.specs.Promises.{Adds, IsFresh, HoldsTheWall, HoldsThePosition, GoesWith};
-ghost use Rattle.css_companion_c.specs.Texts.{Holds, property_of, earliest_of, latest_of};
+ghost use Rattle.css_companion_c.specs.Texts.{Holds, property_of};
 ghost use Rattle.css_companion_c.specs.When.{IsShownWithin, IsNeverShown};
-ghost use Rattle.css_companion_c.specs.Words.{word_of};
 
 mod codes;
 mod content;
@@ -36,6 +34,7 @@ mod held;
 mod lead;
 mod making;
 mod parts;
+pub mod plain;
 mod presentations;
 mod reading;
 mod sessions;
@@ -44,18 +43,9 @@ mod when;
 mod words;
 
 use handle::Handle;
-use presentations::PresentationBound;
 use reading::{Ends, Position};
 use std::alloc::Global;
 use when::Readings;
-
-/// The version of this interface.
-#[unsafe(no_mangle)]
-pub extern "C" fn css_companion_version() -> u32
-    ensures { result ≡ VERSION }
-{
-    codes::VERSION
-}
 
 /// Makes a companion that wants the timeline with this selector of content whose id begins with this stem. Its own
 /// clock has this greatest error, in 1/256 ppm, and this precision, in nanoseconds. One that was there is freed, once
@@ -70,14 +60,15 @@ pub extern "C" fn css_companion_new(
     precision: u64,
 ) -> u32
     ensures refused { result ≢ DONE → answers.Refuses selector.now stem.now error precision result }
-    ensures same { result ≢ DONE → behind handle.new ≡ behind handle.old }
+    ensures same { result ≢ DONE → handle.new ≡ handle.old }
+    ensures age { result ≡ DONE → handle.new.age ≡ aged handle.old.age result }
     ensures fresh { result ≡ DONE → Of (behind handle.new) (IsFresh selector.now stem.now error precision) }
 {
     match making::made(alloc, selector, stem, error, precision) {
         Ok(companion) => match Box::new(alloc, companion) {
             Ok(boxed) => {
                 drop(handle.take(alloc));
-                *handle = Handle::of(boxed);
+                handle.put(boxed, codes::DONE);
                 codes::DONE
             }
             Err(_) => codes::MEMORY,
@@ -89,9 +80,18 @@ pub extern "C" fn css_companion_new(
 /// Frees the companion, if there is one, and leaves none.
 #[unsafe(no_mangle)]
 pub extern "C" fn css_companion_free(alloc: Global, handle: &mut Handle)
-    ensures { behind handle.new ≡ None }
+    ensures none { behind handle.new ≡ None }
+    ensures age { handle.new.age ≡ handle.old.age }
 {
     drop(handle.take(alloc));
+}
+
+/// How often what `wall`, `position`, `lead` and `when` answer may have changed.
+#[unsafe(no_mangle)]
+pub extern "C" fn css_companion_age(handle: &Handle) -> u64
+    ensures { result ≡ handle.now.age }
+{
+    handle.age()
 }
 
 /// The machine slept.
@@ -99,6 +99,7 @@ pub extern "C" fn css_companion_free(alloc: Global, handle: &mut Handle)
 pub extern "C" fn css_companion_slept(alloc: Global, handle: &mut Handle) -> u32
     ensures code { result ≡ answers.if_open (behind handle.old) (λ _. DONE) }
     ensures same { result ≢ DONE → behind handle.new ≡ behind handle.old }
+    ensures age { handle.new.age ≡ aged handle.old.age result }
     ensures stands { result ≡ DONE → Between (behind handle.old) (behind handle.new)
         (Adds (λ _. Unit {0}) (λ history. Slept ∷ history)) }
 {
@@ -106,7 +107,7 @@ pub extern "C" fn css_companion_slept(alloc: Global, handle: &mut Handle) -> u32
         Some(boxed) => {
             let mut companion = boxed;
             companion.slept();
-            *handle = Handle::of(companion);
+            handle.put(companion, codes::DONE);
             codes::DONE
         }
         None => codes::CLOSED,
@@ -124,6 +125,8 @@ pub extern "C" fn css_companion_ask(
     ensures kept { result ≢ DONE → request.new ≡ request.old }
     ensures code { result ≡ answers.tested (behind handle.old) reading DONE }
     ensures same { result ≢ DONE → behind handle.new ≡ behind handle.old }
+    ensures age { handle.new.age ≡ handle.old.age }
+    ensures alike { result ≡ DONE → Between (behind handle.old) (behind handle.new) AnswerAlike }
     ensures request { result ≡ DONE → request.new ≡ encoded (request_at reading) }
     ensures stands { result ≡ DONE → Between (behind handle.old) (behind handle.new) (λ old new. (peer : ℕ)
         → Adds (λ _. Unit {0}) (λ history. Sent peer request.new ∷ Clock why.Ask reading ∷ history) old new) }
@@ -132,7 +135,7 @@ pub extern "C" fn css_companion_ask(
         Some(boxed) => {
             let mut companion = boxed;
             let code = exchange::ask(&mut companion, reading, request);
-            *handle = Handle::of(companion);
+            handle.put_back(companion);
             code
         }
         None => codes::CLOSED,
@@ -152,6 +155,7 @@ pub extern "C" fn css_companion_land(
         → StandsFor old history → Answers (answers.at_reading old reading DONE)
         (answers.landing_code (landing_of (own_of old) history reading bytes.now)) result) }
     ensures same { ChangesNothing result → behind handle.new ≡ behind handle.old }
+    ensures age { handle.new.age ≡ aged handle.old.age result }
     ensures stands { GoesOn result → Between (behind handle.old) (behind handle.new) (λ old new. (peer : ℕ)
         → Adds (λ _. Unit {0}) (λ history. Clock why.Land reading ∷ Took peer bytes.now ∷ history) old new) }
 {
@@ -159,7 +163,7 @@ pub extern "C" fn css_companion_land(
         Some(boxed) => {
             let mut companion = boxed;
             let code = exchange::land(&mut companion, bytes, reading);
-            *handle = Handle::of(companion);
+            handle.put(companion, code);
             code
         }
         None => codes::CLOSED,
@@ -181,12 +185,13 @@ pub extern "C" fn css_companion_wall(
         (history : History) → StandsFor companion history → result ≡ answers.span_code
         (wall_span (own_of companion) reading (accepted_answers (own_of companion) history))) }
     ensures same { behind handle.new ≡ behind handle.old }
+    ensures age { handle.new.age ≡ handle.old.age }
     ensures truth { result ≡ DONE → Of (behind handle.old) (HoldsTheWall reading span.new) }
 {
     match handle.take(alloc) {
         Some(boxed) => {
             let code = reading::wall(&boxed, reading, span);
-            *handle = Handle::of(boxed);
+            handle.put_back(boxed);
             code
         }
         None => codes::CLOSED,
@@ -208,13 +213,14 @@ pub extern "C" fn css_companion_position(
         (history : History) → StandsFor companion history → result ≡ answers.report_code
         (report_after (own_of companion) companion.setup.selector history reading)) }
     ensures same { behind handle.new ≡ behind handle.old }
+    ensures age { handle.new.age ≡ handle.old.age }
     ensures truth { result ≡ DONE → Of (behind handle.old) (HoldsThePosition reading position.new) }
     ensures timing { result ≡ DONE → Of (behind handle.old) (GoesWith position.new) }
 {
     match handle.take(alloc) {
         Some(boxed) => {
             let code = reading::ticks(&boxed, reading, position);
-            *handle = Handle::of(boxed);
+            handle.put_back(boxed);
             code
         }
         None => codes::CLOSED,
@@ -239,12 +245,13 @@ pub extern "C" fn css_companion_lead(
         (wall_span (own_of companion) reading (accepted_answers (own_of companion) history))
         (timing_after companion.setup.selector history) tick) }
     ensures same { behind handle.new ≡ behind handle.old }
+    ensures age { handle.new.age ≡ handle.old.age }
     ensures truth { result ≡ DONE → Of (behind handle.old) (HoldsTheLead reading tick lead.new) }
 {
     match handle.take(alloc) {
         Some(boxed) => {
             let code = lead::lead(&boxed, reading, tick, lead);
-            *handle = Handle::of(boxed);
+            handle.put_back(boxed);
             code
         }
         None => codes::CLOSED,
@@ -257,6 +264,7 @@ pub extern "C" fn css_companion_cii(alloc: Global, handle: &mut Handle, text: &[
     ensures code { Answers (answers.heard (behind handle.old) text.now DONE)
         (answers.if_open (behind handle.old) (λ old. answers.owed_code (steps.cii_answer old text.now))) result }
     ensures same { ChangesNothing result → behind handle.new ≡ behind handle.old }
+    ensures age { handle.new.age ≡ aged handle.old.age result }
     ensures told { GoesOn result → Between (behind handle.old) (behind handle.new) (λ old new.
         new ≡ steps.with_text old text.now) }
     ensures stands { GoesOn result → Between (behind handle.old) (behind handle.new) (λ old new. (peer : ℕ)
@@ -266,7 +274,7 @@ pub extern "C" fn css_companion_cii(alloc: Global, handle: &mut Handle, text: &[
         Some(boxed) => {
             let mut companion = boxed;
             let code = sessions::cii(&mut companion, alloc, text);
-            *handle = Handle::of(companion);
+            handle.put(companion, code);
             code
         }
         None => codes::CLOSED,
@@ -287,6 +295,7 @@ pub extern "C" fn css_companion_cii_field(
     ensures code { result ≡ answers.if_open (behind handle.old) (λ companion.
         answers.field_code property (property_of property companion.state) (length out.old)) }
     ensures same { behind handle.new ≡ behind handle.old }
+    ensures age { handle.new.age ≡ handle.old.age }
     ensures text { result ≡ DONE → Of (behind handle.old) (λ companion.
         property_of property companion.state ≡ Some (take used.new out.new)) }
     ensures needs { result ≡ NO_ROOM → Of (behind handle.old) (λ companion.
@@ -295,7 +304,7 @@ pub extern "C" fn css_companion_cii_field(
     match handle.take(alloc) {
         Some(boxed) => {
             let code = content::field(&boxed, property, out, used);
-            *handle = Handle::of(boxed);
+            handle.put_back(boxed);
             code
         }
         None => codes::CLOSED,
@@ -314,6 +323,7 @@ pub extern "C" fn css_companion_cii_state(
     ensures code { Answers (answers.if_open (behind handle.old) (λ _. DONE)) (answers.if_open (behind handle.old)
         (λ companion. answers.room_code (change_text (full_change companion.state)) (length out.old))) result }
     ensures same { behind handle.new ≡ behind handle.old }
+    ensures age { handle.new.age ≡ handle.old.age }
     ensures text { result ≡ DONE → Of (behind handle.old) (λ companion.
         Holds (change_text (full_change companion.state)) used.new out.new) }
     ensures needs { result ≡ NO_ROOM → Of (behind handle.old) (λ companion.
@@ -322,7 +332,7 @@ pub extern "C" fn css_companion_cii_state(
     match handle.take(alloc) {
         Some(boxed) => {
             let code = content::state(alloc, &boxed, out, used);
-            *handle = Handle::of(boxed);
+            handle.put_back(boxed);
             code
         }
         None => codes::CLOSED,
@@ -341,6 +351,7 @@ pub extern "C" fn css_companion_setup(
     ensures code { Answers (answers.if_open (behind handle.old) (λ _. DONE)) (answers.if_open (behind handle.old)
         (λ companion. answers.room_code (setup_text companion.setup) (length out.old))) result }
     ensures same { behind handle.new ≡ behind handle.old }
+    ensures age { handle.new.age ≡ handle.old.age }
     ensures text { result ≡ DONE → Of (behind handle.old) (λ companion.
         Holds (setup_text companion.setup) used.new out.new) }
     ensures needs { result ≡ NO_ROOM → Of (behind handle.old) (λ companion.
@@ -352,7 +363,7 @@ pub extern "C" fn css_companion_setup(
         Some(boxed) => {
             let mut companion = boxed;
             let code = sessions::setup(&mut companion, out, used);
-            *handle = Handle::of(companion);
+            handle.put_back(companion);
             code
         }
         None => codes::CLOSED,
@@ -364,6 +375,7 @@ pub extern "C" fn css_companion_setup(
 pub extern "C" fn css_companion_control(alloc: Global, handle: &mut Handle, text: &[u8]) -> u32
     ensures code { Answers (answers.heard (behind handle.old) text.now DONE) DONE result }
     ensures same { ChangesNothing result → behind handle.new ≡ behind handle.old }
+    ensures age { handle.new.age ≡ aged handle.old.age result }
     ensures told { result ≡ DONE → Between (behind handle.old) (behind handle.new) (λ old new.
         new ≡ record old { control = Some (control_of text.now) }) }
     ensures stands { result ≡ DONE → Between (behind handle.old) (behind handle.new) (λ old new. (peer : ℕ)
@@ -373,7 +385,7 @@ pub extern "C" fn css_companion_control(alloc: Global, handle: &mut Handle, text
         Some(boxed) => {
             let mut companion = boxed;
             let code = sessions::control(&mut companion, alloc, text);
-            *handle = Handle::of(companion);
+            handle.put(companion, code);
             code
         }
         None => codes::CLOSED,
@@ -385,6 +397,7 @@ pub extern "C" fn css_companion_control(alloc: Global, handle: &mut Handle, text
 pub extern "C" fn css_companion_ts_closed(alloc: Global, handle: &mut Handle) -> u32
     ensures code { Answers (answers.if_open (behind handle.old) (λ _. DONE)) DONE result }
     ensures same { ChangesNothing result → behind handle.new ≡ behind handle.old }
+    ensures age { handle.new.age ≡ aged handle.old.age result }
     ensures stands { result ≡ DONE → Between (behind handle.old) (behind handle.new) (λ old new. (entry : Entry)
         → Adds (steps.IsEntryOf event.TsClosed entry) (λ history. entry ∷ history) old new) }
 {
@@ -392,7 +405,7 @@ pub extern "C" fn css_companion_ts_closed(alloc: Global, handle: &mut Handle) ->
         Some(boxed) => {
             let mut companion = boxed;
             let code = sessions::ts_closed(&mut companion);
-            *handle = Handle::of(companion);
+            handle.put(companion, code);
             code
         }
         None => codes::CLOSED,
@@ -410,13 +423,14 @@ pub extern "C" fn css_companion_when(
     ensures kept { result ≢ DONE → readings.new ≡ readings.old }
     ensures code { answers.Searches (answers.if_open (behind handle.old) answers.searched) result }
     ensures same { behind handle.new ≡ behind handle.old }
+    ensures age { handle.new.age ≡ handle.old.age }
     ensures truth { result ≡ DONE → Of (behind handle.old) (IsShownWithin tick readings.new.from readings.new.to) }
     ensures never { result ≡ answers.NEVER → Of (behind handle.old) (IsNeverShown tick) }
 {
     match handle.take(alloc) {
         Some(boxed) => {
             let code = when::when(&boxed, tick, readings);
-            *handle = Handle::of(boxed);
+            handle.put_back(boxed);
             code
         }
         None => codes::CLOSED,
@@ -440,6 +454,7 @@ pub extern "C" fn css_companion_report(
         (history : History) → StandsFor companion history → Answers DONE (answers.room_code (line_of number
         (report_after (own_of companion) companion.setup.selector history reading) None) (length out.old)) result) }
     ensures same { behind handle.new ≡ behind handle.old }
+    ensures age { handle.new.age ≡ handle.old.age }
     ensures text { result ≡ DONE → Of (behind handle.old) (λ companion. (history : History)
         → StandsFor companion history → Holds (line_of number
         (report_after (own_of companion) companion.setup.selector history reading) None) used.new out.new) }
@@ -450,40 +465,9 @@ pub extern "C" fn css_companion_report(
     match handle.take(alloc) {
         Some(boxed) => {
             let code = reading::report(alloc, &boxed, number, reading, out, used);
-            *handle = Handle::of(boxed);
+            handle.put_back(boxed);
             code
         }
         None => codes::CLOSED,
     }
-}
-
-/// Puts the text that tells a television when the companion can present into a buffer.
-#[unsafe(no_mangle)]
-pub extern "C" fn css_companion_presentation(
-    alloc: Global,
-    earliest: &PresentationBound,
-    latest: &PresentationBound,
-    out: &mut [u8],
-    used: &mut usize,
-) -> u32
-    ensures kept { result ≢ DONE → out.new ≡ out.old }
-    ensures code { Answers (answers.window_code earliest.now latest.now) (answers.room_code
-        (presentation_text (steps.window (earliest_of earliest.now) (latest_of latest.now))) (length out.old)) result }
-    ensures text { result ≡ DONE → Holds
-        (presentation_text (steps.window (earliest_of earliest.now) (latest_of latest.now))) used.new out.new }
-    ensures needs { result ≡ NO_ROOM → used.new ≡ length
-        (presentation_text (steps.window (earliest_of earliest.now) (latest_of latest.now))) }
-{
-    presentations::put_presentation(alloc, earliest, latest, out, used)
-}
-
-/// Puts a word for a code into a buffer.
-#[unsafe(no_mangle)]
-pub extern "C" fn css_companion_words(code: u32, out: &mut [u8], used: &mut usize) -> u32
-    ensures kept { result ≢ DONE → out.new ≡ out.old }
-    ensures code { result ≡ answers.room_code (word_of code) (length out.old) }
-    ensures text { result ≡ DONE → Holds (word_of code) used.new out.new }
-    ensures needs { result ≡ NO_ROOM → used.new ≡ length (word_of code) }
-{
-    texts::put(words::word(code).as_bytes(), out, used)
 }

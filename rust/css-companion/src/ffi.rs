@@ -4,6 +4,7 @@ use std::ffi::c_void;
 #[repr(C)]
 pub(crate) struct Handle {
     pub(crate) live: bool,
+    pub(crate) age: u64,
     pub(crate) at: *mut c_void,
 }
 
@@ -39,6 +40,7 @@ extern "C" {
         error: u32,
         precision: u64,
     ) -> u32;
+    pub(crate) fn css_companion_age(c: *const Handle) -> u64;
     pub(crate) fn css_companion_free(c: *mut Handle);
     pub(crate) fn css_companion_slept(c: *mut Handle) -> u32;
     pub(crate) fn css_companion_ask(c: *mut Handle, reading: u64, request: *mut [u8; 32]) -> u32;

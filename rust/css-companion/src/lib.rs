@@ -86,7 +86,7 @@ impl Companion {
     /// A companion that wants the timeline with this selector, of content whose id begins with this stem. `error` is
     /// that of the own oscillator in 1/256 ppm, at most 2,560,000; `precision` is in nanoseconds, at most 10^9.
     pub fn new(selector: &str, stem: &str, error: u32, precision: u64) -> Result<Companion, Error> {
-        let mut handle = Handle { live: false, at: std::ptr::null_mut() };
+        let mut handle = Handle { live: false, age: 0, at: std::ptr::null_mut() };
         // SAFETY: the handle is none; each pointer and length are those of one `str`.
         told(unsafe {
             ffi::css_companion_new(
@@ -163,6 +163,13 @@ impl Companion {
     /// The TS session closed. Make a new companion to follow on.
     pub fn ts_closed(&mut self) -> Result<(), Error> {
         told(unsafe { ffi::css_companion_ts_closed(&mut self.handle) })
+    }
+
+    /// A number that rises with each call that may change what is answered for the same reading. While it is the same,
+    /// an answer that you have is still the answer.
+    pub fn age(&self) -> u64 {
+        // SAFETY: the handle is what the last call left, and it is only read.
+        unsafe { ffi::css_companion_age(&self.handle) }
     }
 
     /// The ticks that the television may be presenting at this reading.

@@ -69,6 +69,19 @@ fn lead() {
 }
 
 #[test]
+fn age() {
+    let mut c = asked();
+    let before = c.age();
+    c.ask(1600).unwrap();
+    c.wall(1600).unwrap();
+    c.setup().unwrap();
+    assert_eq!(c.cii(&" ".repeat(262_145)), Err(Error::Refusal(Refusal::Range)));
+    assert_eq!(c.age(), before);
+    c.control(CONTROL).unwrap();
+    assert_eq!(c.age(), before + 1);
+}
+
+#[test]
 fn another_thread() {
     let mut c = asked();
     assert_eq!(std::thread::spawn(move || c.wall(1600)).join().unwrap(), Ok(5197..=5603));
