@@ -18,7 +18,7 @@ def bodies(lines):
     """The name of each function of a file, the number of its first line, and how many lines its body has."""
     named = None
     for number, line in enumerate(lines, 1):
-        head = re.match(r"( *)(?:pub(?:\(crate\))? )?(?:const )?fn (\w+)", line)
+        head = re.match(r"( *)(?:pub(?:\(crate\))? )?(?:const )?(?:extern \"C\" )?fn (\w+)", line)
         if head and not line.rstrip().endswith(";"):
             named = (head[1], head[2], number)
             start = None

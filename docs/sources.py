@@ -14,7 +14,7 @@ CRATES = TOP / "crates"
 IMPORT = re.compile(r"^\s*(?:pub |ghost )*use Rattle\.([\w.]+?)(?:\.\{([^}]*)\}|(?: as (\w+))?);?$", re.M)
 NAME = re.compile(r"[^\W\d]\w*(?:-\w+)*(?:\.[^\W\d]\w*)*")
 HEAD = re.compile(r"(?:abbrev |unfoldable )?(?:mutual\s+)?(?:pub )?(?:(?:record|data) )?([^\W\d]\w*|◌\S+◌)")
-FUNCTION = re.compile(r"^\s*(pub )?fn (\w+)")
+FUNCTION = re.compile(r"^\s*(pub )?(?:extern \"C\" )?fn (\w+)")
 OWNER = re.compile(r"^(?:impl(?:<.*?>)? (?:(.*?) for )?(\w+).*|pub trait (\w+).*)\{$")
 CLAUSE = re.compile(r"^\s*(requires|ensures)\s+(?:(\w+)\s+)?\{|^\s*(ghost) (\w+)(?: =|:) \{")
 
@@ -23,7 +23,7 @@ CLAUSE = re.compile(r"^\s*(requires|ensures)\s+(?:(\w+)\s+)?\{|^\s*(ghost) (\w+)
 def libraries():
     """The libraries of crates.txt, lowest first, without those that only hold tests."""
     rows = (TOP / "crates.txt").read_text().splitlines()
-    names = [row.split(":")[0] for row in rows if row[:1].isalpha()]
+    names = [row.split(":")[0].split()[0] for row in rows if row[:1].isalpha()]
     return [name for name in names if not name.endswith("_tests")]
 
 

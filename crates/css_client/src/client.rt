@@ -178,6 +178,13 @@ impl Client {
         self.estimate.at(reading)
     }
 
+    /// The least reading that may be handed next.
+    pub fn floor(&self) -> u64
+        ensures { result ≡ self.now.floor }
+    {
+        self.floor
+    }
+
     /// How many answers are kept: one of each declared error among those that were accepted since the last sleep.
     pub fn kept(&self) -> usize
         ensures count { result ≡ length self.now.estimate.kept }

@@ -1,0 +1,6 @@
+pub mod Pairs
+pub mod Heap
+pub mod Behind
+pub mod Rising
+pub mod Shown
+pub mod Leading

@@ -1,0 +1,9 @@
+use Rattle.std.proofs.Common.{Some, subst}
+use Rattle.css_num.specs.Spans.{Interval}
+use Rattle.css_client.specs.Standing.{ContainsTheWall}
+use Rattle.css_companion_c.proofs.reading.wall.Goals as goal
+
+pub returns-in-Some-ends_of-clause-truth : goal.returns-in-Some-ends_of-clause-truth
+returns-in-Some-ends_of-clause-truth c = λ _.
+    subst (λ (s : Interval). ContainsTheWall c.args.companion.now.client c.args.reading (Some s))
+    c.in-Some-ends_of.ensures.value c.in-Some.ensures.holds

@@ -1,0 +1,473 @@
+//! A companion of ETSI TS 103 286-2 for applications in C. No function has a `requires`: each tests what it is handed,
+//! and answers a code.
+#![tactic(auto)]
+
+ghost use Rattle.std.specs.Prelude.{◌≡◌, ◌≢◌, ℕ, Some, None, IsSome, IfSome, [], ◌∷◌, length, take};
+ghost use Rattle.css_model.specs.declared.Kind.TheVariants as kind;
+ghost use Rattle.css_model.specs.declared.Why.TheVariants as why;
+ghost use Rattle.css_model.specs.History.{History, Entry, Clock, Sent, Took, Slept, Heard, Dialled, accepted_answers};
+ghost use Rattle.css_model.specs.Wire.{encoded, request_at};
+ghost use Rattle.css_span.specs.WallSpans.{wall_span};
+ghost use Rattle.css_client.specs.Landings.{landing_of};
+ghost use Rattle.css_cii.specs.States.{full_change};
+ghost use Rattle.css_cii.specs.Texts.{change_text};
+ghost use Rattle.css_tsmsg.specs.Controls.{control_of};
+ghost use Rattle.css_tsmsg.specs.Setups.{setup_text};
+ghost use Rattle.css_companion.specs.Meanings.{report_after, timing_after, kind_of};
+ghost use Rattle.css_companion.specs.Standing.{StandsFor, own_of, asleep};
+ghost use Rattle.css_companion.specs.Printed.{line_of};
+ghost use Rattle.css_companion.specs.Steps as steps;
+ghost use Rattle.css_companion.specs.declared.event.CompanionEvent.TheVariants as event;
+ghost use Rattle.css_companion_c.specs.Codes as answers;
+ghost use Rattle.css_companion_c.specs.Codes.{DONE, CLOSED, NO_ROOM, ChangesNothing, GoesOn, Answers, aged};
+ghost use Rattle.css_companion_c.specs.Handles.{behind, Of, Between, AnswerAlike};
+ghost use Rattle.css_companion_c.specs.Leads.{lead_code, HoldsTheLead};
+ghost use Rattle.css_companion_c.specs.Promises.{Adds, IsFresh, HoldsTheWall, HoldsThePosition, GoesWith};
+ghost use Rattle.css_companion_c.specs.Texts.{Holds, property_of};
+ghost use Rattle.css_companion_c.specs.When.{IsShownWithin, IsNeverShown};
+
+mod codes;
+mod content;
+mod exchange;
+mod handle;
+mod held;
+mod lead;
+mod making;
+mod parts;
+pub mod plain;
+mod presentations;
+mod reading;
+mod sessions;
+mod texts;
+mod when;
+mod words;
+
+use handle::Handle;
+use reading::{Ends, Position};
+use std::alloc::Global;
+use when::Readings;
+
+/// Makes a companion that wants the timeline with this selector of content whose id begins with this stem. Its own
+/// clock has this greatest error, in 1/256 ppm, and this precision, in nanoseconds. One that was there is freed, once
+/// the new one is made.
+#[unsafe(no_mangle)]
+pub extern "C" fn css_companion_new(
+    alloc: Global,
+    handle: &mut Handle,
+    selector: &[u8],
+    stem: &[u8],
+    error: u32,
+    precision: u64,
+) -> u32
+    ensures refused { result ≢ DONE → answers.Refuses selector.now stem.now error precision result }
+    ensures same { result ≢ DONE → handle.new ≡ handle.old }
+    ensures age { result ≡ DONE → handle.new.age ≡ aged handle.old.age result }
+    ensures fresh { result ≡ DONE → Of (behind handle.new) (IsFresh selector.now stem.now error precision) }
+{
+    match making::made(alloc, selector, stem, error, precision) {
+        Ok(companion) => match Box::new(alloc, companion) {
+            Ok(boxed) => {
+                drop(handle.take(alloc));
+                handle.put(boxed, codes::DONE);
+                codes::DONE
+            }
+            Err(_) => codes::MEMORY,
+        },
+        Err(code) => code,
+    }
+}
+
+/// Frees the companion, if there is one, and leaves none.
+#[unsafe(no_mangle)]
+pub extern "C" fn css_companion_free(alloc: Global, handle: &mut Handle)
+    ensures none { behind handle.new ≡ None }
+    ensures age { handle.new.age ≡ handle.old.age }
+{
+    drop(handle.take(alloc));
+}
+
+/// How often what `wall`, `position`, `lead` and `when` answer may have changed.
+#[unsafe(no_mangle)]
+pub extern "C" fn css_companion_age(handle: &Handle) -> u64
+    ensures { result ≡ handle.now.age }
+{
+    handle.age()
+}
+
+/// The machine slept.
+#[unsafe(no_mangle)]
+pub extern "C" fn css_companion_slept(alloc: Global, handle: &mut Handle) -> u32
+    ensures code { result ≡ answers.if_open (behind handle.old) (λ _. DONE) }
+    ensures same { result ≢ DONE → behind handle.new ≡ behind handle.old }
+    ensures age { handle.new.age ≡ aged handle.old.age result }
+    ensures stands { result ≡ DONE → Between (behind handle.old) (behind handle.new)
+        (Adds (λ _. Unit {0}) (λ history. Slept ∷ history)) }
+{
+    match handle.take(alloc) {
+        Some(boxed) => {
+            let mut companion = boxed;
+            companion.slept();
+            handle.put(companion, codes::DONE);
+            codes::DONE
+        }
+        None => codes::CLOSED,
+    }
+}
+
+/// The request to send to the television's wall clock, at this reading of the own clock.
+#[unsafe(no_mangle)]
+pub extern "C" fn css_companion_ask(
+    alloc: Global,
+    handle: &mut Handle,
+    reading: u64,
+    request: &mut [u8; 32],
+) -> u32
+    ensures kept { result ≢ DONE → request.new ≡ request.old }
+    ensures code { result ≡ answers.tested (behind handle.old) reading DONE }
+    ensures same { result ≢ DONE → behind handle.new ≡ behind handle.old }
+    ensures age { handle.new.age ≡ handle.old.age }
+    ensures alike { result ≡ DONE → Between (behind handle.old) (behind handle.new) AnswerAlike }
+    ensures request { result ≡ DONE → request.new ≡ encoded (request_at reading) }
+    ensures stands { result ≡ DONE → Between (behind handle.old) (behind handle.new) (λ old new. (peer : ℕ)
+        → Adds (λ _. Unit {0}) (λ history. Sent peer request.new ∷ Clock why.Ask reading ∷ history) old new) }
+{
+    match handle.take(alloc) {
+        Some(boxed) => {
+            let mut companion = boxed;
+            let code = exchange::ask(&mut companion, reading, request);
+            handle.put_back(companion);
+            code
+        }
+        None => codes::CLOSED,
+    }
+}
+
+/// Takes in a datagram that landed at this reading of the own clock.
+#[unsafe(no_mangle)]
+pub extern "C" fn css_companion_land(
+    alloc: Global,
+    handle: &mut Handle,
+    bytes: &[u8],
+    reading: u64,
+) -> u32
+    ensures closed { behind handle.old ≡ None → result ≡ CLOSED }
+    ensures code { IsSome (behind handle.old) → Of (behind handle.old) (λ old. (history : History)
+        → StandsFor old history → Answers (answers.at_reading old reading DONE)
+        (answers.landing_code (landing_of (own_of old) history reading bytes.now)) result) }
+    ensures same { ChangesNothing result → behind handle.new ≡ behind handle.old }
+    ensures age { handle.new.age ≡ aged handle.old.age result }
+    ensures stands { GoesOn result → Between (behind handle.old) (behind handle.new) (λ old new. (peer : ℕ)
+        → Adds (λ _. Unit {0}) (λ history. Clock why.Land reading ∷ Took peer bytes.now ∷ history) old new) }
+{
+    match handle.take(alloc) {
+        Some(boxed) => {
+            let mut companion = boxed;
+            let code = exchange::land(&mut companion, bytes, reading);
+            handle.put(companion, code);
+            code
+        }
+        None => codes::CLOSED,
+    }
+}
+
+/// The span of the television's wall clock at this reading of the own clock.
+#[unsafe(no_mangle)]
+pub extern "C" fn css_companion_wall(
+    alloc: Global,
+    handle: &mut Handle,
+    reading: u64,
+    span: &mut Ends,
+) -> u32
+    ensures kept { result ≢ DONE → span.new ≡ span.old }
+    ensures before { answers.tested (behind handle.old) reading DONE ≢ DONE
+        → result ≡ answers.tested (behind handle.old) reading DONE }
+    ensures code { answers.tested (behind handle.old) reading DONE ≡ DONE → Of (behind handle.old) (λ companion.
+        (history : History) → StandsFor companion history → result ≡ answers.span_code
+        (wall_span (own_of companion) reading (accepted_answers (own_of companion) history))) }
+    ensures same { behind handle.new ≡ behind handle.old }
+    ensures age { handle.new.age ≡ handle.old.age }
+    ensures truth { result ≡ DONE → Of (behind handle.old) (HoldsTheWall reading span.new) }
+{
+    match handle.take(alloc) {
+        Some(boxed) => {
+            let code = reading::wall(&boxed, reading, span);
+            handle.put_back(boxed);
+            code
+        }
+        None => codes::CLOSED,
+    }
+}
+
+/// The ticks that the television may be presenting at this reading of the own clock, and what they go by.
+#[unsafe(no_mangle)]
+pub extern "C" fn css_companion_position(
+    alloc: Global,
+    handle: &mut Handle,
+    reading: u64,
+    position: &mut Position,
+) -> u32
+    ensures kept { result ≢ DONE → position.new ≡ position.old }
+    ensures before { answers.tested (behind handle.old) reading DONE ≢ DONE
+        → result ≡ answers.tested (behind handle.old) reading DONE }
+    ensures code { answers.tested (behind handle.old) reading DONE ≡ DONE → Of (behind handle.old) (λ companion.
+        (history : History) → StandsFor companion history → result ≡ answers.report_code
+        (report_after (own_of companion) companion.setup.selector history reading)) }
+    ensures same { behind handle.new ≡ behind handle.old }
+    ensures age { handle.new.age ≡ handle.old.age }
+    ensures truth { result ≡ DONE → Of (behind handle.old) (HoldsThePosition reading position.new) }
+    ensures timing { result ≡ DONE → Of (behind handle.old) (GoesWith position.new) }
+{
+    match handle.take(alloc) {
+        Some(boxed) => {
+            let code = reading::ticks(&boxed, reading, position);
+            handle.put_back(boxed);
+            code
+        }
+        None => codes::CLOSED,
+    }
+}
+
+/// By how many nanoseconds of the timeline somebody at the beginning of this tick is ahead of the television, at this
+/// reading of the own clock. Below 0 it is behind.
+#[unsafe(no_mangle)]
+pub extern "C" fn css_companion_lead(
+    alloc: Global,
+    handle: &mut Handle,
+    reading: u64,
+    tick: i64,
+    lead: &mut Ends,
+) -> u32
+    ensures kept { result ≢ DONE → lead.new ≡ lead.old }
+    ensures before { answers.tested (behind handle.old) reading DONE ≢ DONE
+        → result ≡ answers.tested (behind handle.old) reading DONE }
+    ensures code { answers.tested (behind handle.old) reading DONE ≡ DONE → Of (behind handle.old) (λ companion.
+        (history : History) → StandsFor companion history → result ≡ lead_code
+        (wall_span (own_of companion) reading (accepted_answers (own_of companion) history))
+        (timing_after companion.setup.selector history) tick) }
+    ensures same { behind handle.new ≡ behind handle.old }
+    ensures age { handle.new.age ≡ handle.old.age }
+    ensures truth { result ≡ DONE → Of (behind handle.old) (HoldsTheLead reading tick lead.new) }
+{
+    match handle.take(alloc) {
+        Some(boxed) => {
+            let code = lead::lead(&boxed, reading, tick, lead);
+            handle.put_back(boxed);
+            code
+        }
+        None => codes::CLOSED,
+    }
+}
+
+/// Takes in a text of the CII session.
+#[unsafe(no_mangle)]
+pub extern "C" fn css_companion_cii(alloc: Global, handle: &mut Handle, text: &[u8]) -> u32
+    ensures code { Answers (answers.heard (behind handle.old) text.now DONE)
+        (answers.if_open (behind handle.old) (λ old. answers.owed_code (steps.cii_answer old text.now))) result }
+    ensures same { ChangesNothing result → behind handle.new ≡ behind handle.old }
+    ensures age { handle.new.age ≡ aged handle.old.age result }
+    ensures told { GoesOn result → Between (behind handle.old) (behind handle.new) (λ old new.
+        new ≡ steps.with_text old text.now) }
+    ensures stands { GoesOn result → Between (behind handle.old) (behind handle.new) (λ old new. (peer : ℕ)
+        → Adds (λ history. kind_of peer history ≡ Some kind.Cii) (λ history. Heard peer text.now ∷ history) old new) }
+{
+    match handle.take(alloc) {
+        Some(boxed) => {
+            let mut companion = boxed;
+            let code = sessions::cii(&mut companion, alloc, text);
+            handle.put(companion, code);
+            code
+        }
+        None => codes::CLOSED,
+    }
+}
+
+/// Puts a property of the content's state into a buffer, by its number: 0 protocolVersion, 1 mrsUrl, 2 contentId,
+/// 3 contentIdStatus, 4 presentationStatus, 5 wcUrl, 6 tsUrl, 7 teUrl.
+#[unsafe(no_mangle)]
+pub extern "C" fn css_companion_cii_field(
+    alloc: Global,
+    handle: &mut Handle,
+    property: u32,
+    out: &mut [u8],
+    used: &mut usize,
+) -> u32
+    ensures kept { result ≢ DONE → out.new ≡ out.old }
+    ensures code { result ≡ answers.if_open (behind handle.old) (λ companion.
+        answers.field_code property (property_of property companion.state) (length out.old)) }
+    ensures same { behind handle.new ≡ behind handle.old }
+    ensures age { handle.new.age ≡ handle.old.age }
+    ensures text { result ≡ DONE → Of (behind handle.old) (λ companion.
+        property_of property companion.state ≡ Some (take used.new out.new)) }
+    ensures needs { result ≡ NO_ROOM → Of (behind handle.old) (λ companion.
+        IfSome (property_of property companion.state) (λ text. used.new ≡ length text)) }
+{
+    match handle.take(alloc) {
+        Some(boxed) => {
+            let code = content::field(&boxed, property, out, used);
+            handle.put_back(boxed);
+            code
+        }
+        None => codes::CLOSED,
+    }
+}
+
+/// Puts the whole state of the content into a buffer, as the text that tells it.
+#[unsafe(no_mangle)]
+pub extern "C" fn css_companion_cii_state(
+    alloc: Global,
+    handle: &mut Handle,
+    out: &mut [u8],
+    used: &mut usize,
+) -> u32
+    ensures kept { result ≢ DONE → out.new ≡ out.old }
+    ensures code { Answers (answers.if_open (behind handle.old) (λ _. DONE)) (answers.if_open (behind handle.old)
+        (λ companion. answers.room_code (change_text (full_change companion.state)) (length out.old))) result }
+    ensures same { behind handle.new ≡ behind handle.old }
+    ensures age { handle.new.age ≡ handle.old.age }
+    ensures text { result ≡ DONE → Of (behind handle.old) (λ companion.
+        Holds (change_text (full_change companion.state)) used.new out.new) }
+    ensures needs { result ≡ NO_ROOM → Of (behind handle.old) (λ companion.
+        used.new ≡ length (change_text (full_change companion.state))) }
+{
+    match handle.take(alloc) {
+        Some(boxed) => {
+            let code = content::state(alloc, &boxed, out, used);
+            handle.put_back(boxed);
+            code
+        }
+        None => codes::CLOSED,
+    }
+}
+
+/// Puts the text to send on a TS session that was opened into a buffer.
+#[unsafe(no_mangle)]
+pub extern "C" fn css_companion_setup(
+    alloc: Global,
+    handle: &mut Handle,
+    out: &mut [u8],
+    used: &mut usize,
+) -> u32
+    ensures kept { result ≢ DONE → out.new ≡ out.old }
+    ensures code { Answers (answers.if_open (behind handle.old) (λ _. DONE)) (answers.if_open (behind handle.old)
+        (λ companion. answers.room_code (setup_text companion.setup) (length out.old))) result }
+    ensures same { behind handle.new ≡ behind handle.old }
+    ensures age { handle.new.age ≡ handle.old.age }
+    ensures text { result ≡ DONE → Of (behind handle.old) (λ companion.
+        Holds (setup_text companion.setup) used.new out.new) }
+    ensures needs { result ≡ NO_ROOM → Of (behind handle.old) (λ companion.
+        used.new ≡ length (setup_text companion.setup)) }
+    ensures stands { result ≡ DONE → Between (behind handle.old) (behind handle.new) (λ old new. (peer : ℕ)
+        → Adds (λ _. Unit {0}) (λ history. Dialled kind.Ts peer ∷ history) old new) }
+{
+    match handle.take(alloc) {
+        Some(boxed) => {
+            let mut companion = boxed;
+            let code = sessions::setup(&mut companion, out, used);
+            handle.put_back(companion);
+            code
+        }
+        None => codes::CLOSED,
+    }
+}
+
+/// Takes in a text of the TS session. One that can't be read takes the place of the last control timestamp too.
+#[unsafe(no_mangle)]
+pub extern "C" fn css_companion_control(alloc: Global, handle: &mut Handle, text: &[u8]) -> u32
+    ensures code { Answers (answers.heard (behind handle.old) text.now DONE) DONE result }
+    ensures same { ChangesNothing result → behind handle.new ≡ behind handle.old }
+    ensures age { handle.new.age ≡ aged handle.old.age result }
+    ensures told { result ≡ DONE → Between (behind handle.old) (behind handle.new) (λ old new.
+        new ≡ record old { control = Some (control_of text.now) }) }
+    ensures stands { result ≡ DONE → Between (behind handle.old) (behind handle.new) (λ old new. (peer : ℕ)
+        → Adds (λ history. kind_of peer history ≡ Some kind.Ts) (λ history. Heard peer text.now ∷ history) old new) }
+{
+    match handle.take(alloc) {
+        Some(boxed) => {
+            let mut companion = boxed;
+            let code = sessions::control(&mut companion, alloc, text);
+            handle.put(companion, code);
+            code
+        }
+        None => codes::CLOSED,
+    }
+}
+
+/// The TS session closed.
+#[unsafe(no_mangle)]
+pub extern "C" fn css_companion_ts_closed(alloc: Global, handle: &mut Handle) -> u32
+    ensures code { Answers (answers.if_open (behind handle.old) (λ _. DONE)) DONE result }
+    ensures same { ChangesNothing result → behind handle.new ≡ behind handle.old }
+    ensures age { handle.new.age ≡ aged handle.old.age result }
+    ensures stands { result ≡ DONE → Between (behind handle.old) (behind handle.new) (λ old new. (entry : Entry)
+        → Adds (steps.IsEntryOf event.TsClosed entry) (λ history. entry ∷ history) old new) }
+{
+    match handle.take(alloc) {
+        Some(boxed) => {
+            let mut companion = boxed;
+            let code = sessions::ts_closed(&mut companion);
+            handle.put(companion, code);
+            code
+        }
+        None => codes::CLOSED,
+    }
+}
+
+/// Between which two readings of the own clock the television shows a tick, of those that may still be handed.
+#[unsafe(no_mangle)]
+pub extern "C" fn css_companion_when(
+    alloc: Global,
+    handle: &mut Handle,
+    tick: i64,
+    readings: &mut Readings,
+) -> u32
+    ensures kept { result ≢ DONE → readings.new ≡ readings.old }
+    ensures code { answers.Searches (answers.if_open (behind handle.old) answers.searched) result }
+    ensures same { behind handle.new ≡ behind handle.old }
+    ensures age { handle.new.age ≡ handle.old.age }
+    ensures truth { result ≡ DONE → Of (behind handle.old) (IsShownWithin tick readings.new.from readings.new.to) }
+    ensures never { result ≡ answers.NEVER → Of (behind handle.old) (IsNeverShown tick) }
+{
+    match handle.take(alloc) {
+        Some(boxed) => {
+            let code = when::when(&boxed, tick, readings);
+            handle.put_back(boxed);
+            code
+        }
+        None => codes::CLOSED,
+    }
+}
+
+/// Puts the line of a report with this number into a buffer.
+#[unsafe(no_mangle)]
+pub extern "C" fn css_companion_report(
+    alloc: Global,
+    handle: &mut Handle,
+    number: u64,
+    reading: u64,
+    out: &mut [u8],
+    used: &mut usize,
+) -> u32
+    ensures kept { result ≢ DONE → out.new ≡ out.old }
+    ensures before { answers.tested (behind handle.old) reading DONE ≢ DONE
+        → result ≡ answers.tested (behind handle.old) reading DONE }
+    ensures code { answers.tested (behind handle.old) reading DONE ≡ DONE → Of (behind handle.old) (λ companion.
+        (history : History) → StandsFor companion history → Answers DONE (answers.room_code (line_of number
+        (report_after (own_of companion) companion.setup.selector history reading) None) (length out.old)) result) }
+    ensures same { behind handle.new ≡ behind handle.old }
+    ensures age { handle.new.age ≡ handle.old.age }
+    ensures text { result ≡ DONE → Of (behind handle.old) (λ companion. (history : History)
+        → StandsFor companion history → Holds (line_of number
+        (report_after (own_of companion) companion.setup.selector history reading) None) used.new out.new) }
+    ensures needs { result ≡ NO_ROOM → Of (behind handle.old) (λ companion. (history : History)
+        → StandsFor companion history → used.new ≡ length (line_of number
+        (report_after (own_of companion) companion.setup.selector history reading) None)) }
+{
+    match handle.take(alloc) {
+        Some(boxed) => {
+            let code = reading::report(alloc, &boxed, number, reading, out, used);
+            handle.put_back(boxed);
+            code
+        }
+        None => codes::CLOSED,
+    }
+}

@@ -1,0 +1,116 @@
+//! What comes on both sessions, and what is sent.
+ghost use Rattle.std.specs.Prelude.{◌≡◌, ◌≢◌, ℕ, ◌∷◌, Some, true, length};
+ghost use Rattle.css_model.specs.History.{History, Entry, Heard, Dialled};
+ghost use Rattle.css_model.specs.declared.Kind.TheVariants as kind;
+ghost use Rattle.css_tsmsg.specs.Controls.{control_of};
+ghost use Rattle.css_tsmsg.specs.Setups.{setup_text};
+ghost use Rattle.css_companion.specs.Meanings.{kind_of};
+ghost use Rattle.css_companion.specs.Standing.{StandsFor};
+ghost use Rattle.css_companion.specs.Steps as steps;
+ghost use Rattle.css_companion.specs.Contents.{CarriesNoMemory};
+ghost use Rattle.css_companion.specs.declared.event.CompanionEvent.TheVariants as event;
+ghost use Rattle.css_companion_c.specs.Codes.{if_short, owed_code, fault_code, room_code, Answers, ChangesNothing};
+ghost use Rattle.css_companion_c.specs.Codes.{GoesOn, DONE, NO_ROOM};
+ghost use Rattle.css_companion_c.specs.Texts.{Holds};
+
+use crate::codes;
+use crate::texts::put;
+use css_cii::CiiFault;
+use css_companion::{Companion, CompanionEvent, CompanionFault};
+use css_num::Text;
+use std::alloc::Global;
+
+/// The code of a fault.
+fn fault_code(fault: &CompanionFault) -> u32
+    ensures { result ≡ fault_code fault.now }
+{
+    match fault {
+        CompanionFault::BadCii { fault, .. } => match fault {
+            CiiFault::NotJson => codes::NOT_JSON,
+            CiiFault::NotObject => codes::NOT_OBJECT,
+            CiiFault::Field(_) => codes::FIELD,
+            CiiFault::Memory => codes::MEMORY,
+        },
+        CompanionFault::Moved { .. } => codes::MOVED,
+        CompanionFault::Memory => codes::MEMORY,
+    }
+}
+
+/// The code of what an event came to.
+fn owed_code(owed: &Result<Option<Text>, CompanionFault>) -> u32
+    ensures { result ≡ owed_code owed.now }
+{
+    match owed {
+        Ok(_) => codes::DONE,
+        Err(fault) => fault_code(fault),
+    }
+}
+
+/// Takes in a text of the CII session.
+pub(crate) fn cii(companion: &mut Companion, alloc: Global, text: &[u8]) -> u32
+    ensures code { Answers (if_short text.now DONE) (owed_code (steps.cii_answer companion.old text.now)) result }
+    ensures told { GoesOn result → companion.new ≡ steps.with_text companion.old text.now }
+    ensures stands { GoesOn result → (history : History) (peer : ℕ) → kind_of peer history ≡ Some kind.Cii
+        → StandsFor companion.old history → StandsFor companion.new (Heard peer text.now ∷ history) }
+    ensures same { ChangesNothing result → companion.new ≡ companion.old }
+{
+    if text.len() > codes::LONGEST_TEXT {
+        return codes::RANGE;
+    }
+    match Text::of(alloc, text) {
+        Ok(copy) => owed_code(&companion.step(CompanionEvent::CiiText(copy))),
+        Err(_) => codes::MEMORY,
+    }
+}
+
+/// Takes in a text of the TS session.
+pub(crate) fn control(companion: &mut Companion, alloc: Global, text: &[u8]) -> u32
+    ensures code { Answers (if_short text.now DONE) DONE result }
+    ensures told { result ≡ DONE → companion.new ≡ record companion.old { control = Some (control_of text.now) } }
+    ensures stands { result ≡ DONE → (history : History) (peer : ℕ) → kind_of peer history ≡ Some kind.Ts
+        → StandsFor companion.old history → StandsFor companion.new (Heard peer text.now ∷ history) }
+    ensures same { ChangesNothing result → companion.new ≡ companion.old }
+{
+    if text.len() > codes::LONGEST_TEXT {
+        return codes::RANGE;
+    }
+    match Text::of(alloc, text) {
+        Ok(copy) => match companion.step(CompanionEvent::TsText(copy)) {
+            Ok(_) => codes::DONE,
+            Err(_) => codes::MEMORY,
+        },
+        Err(_) => codes::MEMORY,
+    }
+}
+
+/// The TS session closed. The contract of `step` allows want of memory here too.
+pub(crate) fn ts_closed(companion: &mut Companion) -> u32
+    ensures code { Answers DONE DONE result }
+    ensures told { result ≡ DONE → companion.new ≡ record companion.old { closed = true } }
+    ensures stands { result ≡ DONE → (history : History) (entry : Entry)
+        → steps.IsEntryOf event.TsClosed entry history
+        → StandsFor companion.old history → StandsFor companion.new (entry ∷ history) }
+    ensures same { ChangesNothing result → companion.new ≡ companion.old }
+{
+    match companion.step(CompanionEvent::TsClosed) {
+        Ok(_) => codes::DONE,
+        Err(_) => codes::MEMORY,
+    }
+}
+
+/// The text of the setup, once the TS session is opened.
+pub(crate) fn setup(companion: &mut Companion, out: &mut [u8], used: &mut usize) -> u32
+    ensures kept { result ≢ DONE → out.new ≡ out.old }
+    ensures code { Answers DONE (room_code (setup_text companion.old.setup) (length out.old)) result }
+    ensures text { result ≡ DONE → Holds (setup_text companion.old.setup) used.new out.new }
+    ensures needs { result ≡ NO_ROOM → used.new ≡ length (setup_text companion.old.setup) }
+    ensures stands { (history : History) (peer : ℕ) → StandsFor companion.old history
+        → result ≡ DONE → StandsFor companion.new (Dialled kind.Ts peer ∷ history) }
+    ensures same { companion.new ≡ companion.old }
+{
+    match companion.step(CompanionEvent::TsOpened) {
+        Ok(Some(text)) => put(text.bytes(), out, used),
+        Ok(None) => codes::MEMORY,
+        Err(_) => codes::MEMORY,
+    }
+}

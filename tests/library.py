@@ -1,0 +1,177 @@
+#!/usr/bin/env python3
+"""Builds programs over the library for companion applications with the machine's gcc and cargo, and runs them.
+
+    tests/library.py [--into DIR] [CSS..]
+
+The library is built first, by tools/library.py, into DIR or a folder that is thrown away. What runs, under valgrind
+where there is one:
+
+- each call and each misuse from C, with the exchange of `css replay`'s first example;
+- each allocation refused in turn;
+- random calls, under the address sanitizer instead;
+- the tests of the Rust package;
+- examples/follow and examples/player. They follow a television on loopback that is paused and sought: one by hand, or
+  that of css where CSS is a command that runs it.
+
+The status is 0 where all is well.
+"""
+import os
+import shutil
+import socket
+import subprocess
+import sys
+import tempfile
+import time
+from pathlib import Path
+
+sys.dont_write_bytecode = True
+import live_server
+
+live_server.OFFSET = 0
+
+TOP = Path(__file__).resolve().parent.parent
+TESTS, EXAMPLES = TOP / "tests" / "library", TOP / "examples"
+RANDOM_CALLS = "1000000"
+REPORTS = "30"
+WRAPPED = "-Wl,--wrap=malloc,--wrap=realloc,--wrap=free"
+WARNINGS = ["-Wall", "-Wextra", "-Werror"]
+# What the television shows: nanoseconds from its start, and what happens then.
+SCRIPT = [
+    (0, "programme dvb://233a.1004.1044"),
+    (0, "timeline 1 urn:dvb:css:timeline:pts 1 90000 900000"),
+    (0, "change 1"),
+    (8_000_000_000, "speed 0"),
+    (12_000_000_000, "speed 1"),
+    (16_000_000_000, "seek 30000000000"),
+]
+
+
+def script():
+    """The script's text. Its times are those of the machine's clock, so it is made where the television starts."""
+    begun = time.monotonic_ns()
+    return "".join(f"{begun + after if after else 0} {what}\n" for after, what in SCRIPT).encode()
+
+
+class Program:
+    """The television of css, with the script."""
+
+    def __init__(self, css, port):
+        self.child = subprocess.Popen([*css, "tv", "--port", str(port)], stdin=subprocess.PIPE)
+        self.child.stdin.write(script())
+        self.child.stdin.close()
+        for _ in range(200):
+            try:
+                socket.create_connection(("127.0.0.1", port)).close()
+                return
+            except OSError:
+                time.sleep(0.1)
+
+    def end(self):
+        self.child.kill()
+        self.child.wait()
+
+
+class Television(live_server.Server):
+    """One by hand, which does as the script says. Its wall clock is the machine's."""
+
+    def cii(self, peer):
+        peer.say(live_server.state_of(self.port))
+
+    def ts(self, peer):
+        peer.hear()
+        content, speed, at = live_server.START, 1, self.began
+        for after, what in SCRIPT:
+            verb, *words = what.split()
+            now = self.began + after
+            time.sleep(max(0, now - time.monotonic_ns()) / 1e9)
+            content, at = content + speed * (now - at) * 90000 // 10**9, now
+            if verb == "speed":
+                speed = int(words[0])
+            if verb == "seek":
+                content = live_server.START + int(words[0]) * 90000 // 10**9
+            control = {"contentTime": str(content), "wallClockTime": str(now), "timelineSpeedMultiplier": speed}
+            peer.say(control)
+
+
+class Suite:
+    def __init__(self, library, room):
+        self.library, self.room, self.failed = library, room, 0
+        self.port = 20000 + os.getpid() % 20000
+        # the runner of cargo's tests leaves blocks of its own, to which something still points
+        memcheck = ["valgrind", "-q", "--leak-check=full", "--error-exitcode=9", "--errors-for-leak-kinds=definite"]
+        self.valgrind = memcheck if shutil.which("valgrind") else []
+
+    def run(self, what, command, **more):
+        """Runs a program, and tells whether it ended well."""
+        done = subprocess.run(
+            command, stdout=subprocess.PIPE, stderr=subprocess.STDOUT, text=True, timeout=600, check=False, **more
+        )
+        if done.returncode:
+            self.failed += 1
+            print(done.stdout[-3000:])
+        print("ok  " if done.returncode == 0 else "FAIL", what, flush=True)
+
+    def built(self, sources, *flags):
+        """A program of these sources, linked with the library."""
+        program = self.room / sources[0].stem
+        command = ["gcc", "-O1", "-g", *WARNINGS, *flags, f"-I{self.library}/include", "-o", program, *sources]
+        subprocess.run([*command, f"-L{self.library}/lib", "-lcss_companion"], check=True)
+        return program
+
+    def in_c(self):
+        exchange = self.built([TESTS / "exchange.c"])
+        self.run("each call and each misuse", [*self.valgrind, exchange])
+        self.run("each allocation refused", [*self.valgrind, self.built([TESTS / "refused.c"], WRAPPED)])
+        checked = self.built([TESTS / "random.c"], "-fsanitize=address,undefined")
+        self.run(f"{RANDOM_CALLS} random calls", [checked, "1", RANDOM_CALLS])
+        header = self.library / "include" / "css_companion.h"
+        self.run("the header in C++", ["g++", "-std=c++17", *WARNINGS, "-fsyntax-only", "-x", "c++", header])
+
+    def cargo(self, words, folder):
+        """A command of cargo, and the folder and environment that it runs in."""
+        more = {"CSS_COMPANION_DIR": self.library, "CARGO_TARGET_DIR": self.room / "target"}
+        return {"args": ["cargo", *words, "--offline", "-q"], "cwd": folder, "env": {**os.environ, **more}}
+
+    def in_rust(self):
+        package = TOP / "rust" / "css-companion"
+        for what, words in [("the Rust package's tests", ["test"]), ("its example", ["run", "--example", "quiz"])]:
+            ran = self.cargo(words, package)
+            self.run(what, ran["args"], cwd=ran["cwd"], env=ran["env"])
+        tests = max((self.room / "target" / "debug" / "deps").glob("calls-*[0-9a-f]"), key=os.path.getmtime)
+        self.run("its tests under valgrind", [*self.valgrind, tests, "--test-threads", "1"])
+
+    def with_television(self, css, what, command):
+        """Runs a program that follows a television on loopback. Its words are of a function of the television's URL."""
+        self.port += 2
+        television = Program(css, self.port) if css else Television(self.port)
+        self.run(what, command(f"ws://127.0.0.1:{self.port}/cii"))
+        television.end()
+
+    def applications(self, css):
+        follow = self.built([EXAMPLES / "follow" / "follow.c", EXAMPLES / "follow" / "session.c"])
+        self.with_television(css, f"{REPORTS} reports, in C", lambda url: [*self.valgrind, follow, url, REPORTS])
+        if not shutil.which("cargo"):
+            return
+        ran = self.cargo(["build", "--release"], EXAMPLES / "player")
+        subprocess.run(ran["args"], cwd=ran["cwd"], env=ran["env"], check=True)
+        player = self.room / "target" / "release" / "player"
+        sound = self.room / "tones.wav"
+        self.with_television(css, f"{REPORTS} seconds of tones, in Rust", lambda url: [player, url, sound, REPORTS])
+
+
+def main(words):
+    with tempfile.TemporaryDirectory() as room:
+        library = Path(room) / "library"
+        if words[:1] == ["--into"]:
+            library, words = Path(words[1]).resolve(), words[2:]
+        subprocess.run([TOP / "tools" / "library.py", library], check=True)
+        suite = Suite(library, Path(room))
+        suite.in_c()
+        if shutil.which("cargo"):
+            suite.in_rust()
+        suite.applications(words)
+        return 1 if suite.failed else 0
+
+
+if __name__ == "__main__":
+    sys.exit(main(sys.argv[1:]))

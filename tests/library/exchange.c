@@ -1,0 +1,194 @@
+/* One exchange of the wall clock, both sessions and misuse. The status is 0 where all is as it should be. */
+#include "css_companion.h"
+#include <inttypes.h>
+#include <stdio.h>
+#include <stdlib.h>
+#include <string.h>
+
+static int wrong;
+
+#define IS(call, code)                                                                                                 \
+    do {                                                                                                               \
+        uint64_t got = (call);                                                                                         \
+        if (got != (uint64_t)(code)) {                                                                                 \
+            wrong = 1;                                                                                                 \
+            printf("line %d: %s is %" PRIu64 ", not %" PRIu64 "\n", __LINE__, #call, got, (uint64_t)(code));           \
+        }                                                                                                              \
+    } while (0)
+#define TEXT(s) (const uint8_t *)(s), strlen(s)
+
+static const uint8_t answer[32] = {0x00, 0x01, 0xe2, 0, 0, 0, 0,    0,    0, 0, 0, 0, 0, 0, 0x03, 0xe8,
+                                   0,    0,    0,    0, 0, 0, 0x13, 0x88, 0, 0, 0, 0, 0, 0, 0x14, 0x50};
+static const char *cii =
+    "{\"protocolVersion\":\"1.1\",\"contentId\":\"dvb://233a.1004.1044\",\"contentIdStatus\":\"final\","
+    "\"presentationStatus\":\"okay\",\"wcUrl\":\"udp://192.168.1.5:5800\",\"tsUrl\":\"ws://192.168.1.8:5815\","
+    "\"timelines\":[{\"timelineSelector\":\"urn:dvb:css:timeline:pts\","
+    "\"timelineProperties\":{\"unitsPerTick\":1,\"unitsPerSecond\":90000}}]}";
+static const char *control = "{\"contentTime\":\"900000\",\"timelineSpeedMultiplier\":1,\"wallClockTime\":\"0\"}";
+
+/* the first example of `css replay`: the span is 5197 to 5603 */
+static void wall_clock(css_companion *c) {
+    uint8_t request[32];
+    css_span wall = {0, 0};
+    css_position position;
+    IS(css_companion_version(), CSS_VERSION);
+    IS(css_companion_new(c, TEXT("urn:dvb:css:timeline:pts"), TEXT("dvb://"), 0, 0), CSS_DONE);
+    IS(css_companion_wall(c, 900, &wall), CSS_NO_ANSWER);
+    IS(css_companion_position(c, 900, &position), CSS_NO_ANSWER);
+    IS(css_companion_lead(c, 900, 5, &wall), CSS_NO_ANSWER);
+    IS(css_companion_ask(c, 1000, request), CSS_DONE);
+    IS(memcmp(request + 8, answer + 8, 8) != 0, 0);
+    IS(css_companion_land(c, answer, 31, 1600), CSS_UNDECODABLE);
+    IS(css_companion_land(c, NULL, 0, 1600), CSS_UNDECODABLE);
+    IS(css_companion_land(c, request, 32, 1600), CSS_NOT_AN_ANSWER);
+    IS(css_companion_land(c, answer, 32, 1600), CSS_DONE);
+    IS(css_companion_wall(c, 1600, &wall), CSS_DONE);
+    IS(wall.lo == 5197 && wall.hi == 5603, 1);
+    IS(css_companion_ask(c, 5, request), CSS_EARLY);
+    IS(css_companion_ask(c, UINT64_MAX, request), CSS_RANGE);
+    IS(css_companion_ask(c, 4294967296000000000u, request), CSS_RANGE);
+    IS(css_companion_position(c, 1600, &position), CSS_NO_TIMESTAMP);
+}
+
+static void content(css_companion *c) {
+    uint8_t out[2048];
+    size_t used;
+    IS(css_companion_cii_field(c, CSS_WC_URL, out, sizeof out, &used), CSS_NULL);
+    IS(css_companion_cii(c, TEXT("{")), CSS_NOT_JSON);
+    IS(css_companion_cii(c, NULL, 0), CSS_NOT_JSON);
+    IS(css_companion_cii(c, TEXT("[]")), CSS_NOT_OBJECT);
+    IS(css_companion_cii(c, TEXT("{\"wcUrl\":5}")), CSS_FIELD);
+    IS(css_companion_cii(c, TEXT(cii)), CSS_DONE);
+    IS(css_companion_cii(c, TEXT("{\"wcUrl\":\"udp://10.0.0.1:1\"}")), CSS_MOVED);
+    IS(css_companion_cii_field(c, CSS_WC_URL, out, sizeof out, &used), CSS_DONE);
+    IS(used == 22 && !memcmp(out, "udp://192.168.1.5:5800", 22), 1);
+    IS(css_companion_cii_field(c, 8, out, sizeof out, &used), CSS_RANGE);
+    used = 0;
+    IS(css_companion_cii_field(c, CSS_WC_URL, out, 21, &used), CSS_NO_ROOM);
+    IS(used, 22);
+    IS(css_companion_cii_state(c, out, sizeof out, &used), CSS_DONE);
+    used = 0;
+    IS(css_companion_setup(c, NULL, 0, &used), CSS_NO_ROOM);
+    size_t needed = used;
+    IS(css_companion_setup(c, out, needed, &used), CSS_DONE);
+    IS(used, needed);
+}
+
+static void timeline(css_companion *c) {
+    css_position p;
+    css_span lead;
+    css_readings when;
+    uint8_t out[256];
+    size_t used;
+    IS(css_companion_control(c, TEXT(control)), CSS_DONE);
+    IS(css_companion_position(c, 1600, &p), CSS_DONE);
+    IS(p.lo == 900000 && p.hi == 900000 && p.speed == 1 && p.units_per_second == 90000 && p.units_per_tick == 1, 1);
+    IS(css_companion_lead(c, 1600, 900000, &lead), CSS_DONE);
+    IS(lead.lo == -5603 && lead.hi == -5197, 1);
+    IS(css_companion_lead(c, 1600, 900009, &lead), CSS_DONE);
+    IS(lead.lo == 94397 && lead.hi == 94803, 1);
+    IS(css_companion_lead(c, 1600, INT64_MAX, &lead), CSS_TOO_WIDE);
+    IS(css_companion_lead(c, 5, 900000, &lead), CSS_EARLY);
+    IS(css_companion_when(c, 1000000, &when), CSS_DONE);
+    for (int side = 0; side < 2; side++) { /* inside it is shown, outside it isn't */
+        IS(css_companion_position(c, side ? when.to : when.from, &p), CSS_DONE);
+        IS(p.lo <= 1000000 && 1000000 <= p.hi, 1);
+        IS(css_companion_position(c, side ? when.to + 1 : when.from - 1, &p), CSS_DONE);
+        IS(p.lo <= 1000000 && 1000000 <= p.hi, 0);
+    }
+    IS(css_companion_when(c, 899999, &when), CSS_NEVER);
+    IS(css_companion_when(c, INT64_MAX, &when), CSS_NEVER);
+    IS(css_companion_report(c, 7, 1600, out, sizeof out, &used), CSS_DONE);
+    IS(used == 22 && !memcmp(out, "7 ticks 900000 900000\n", 22), 1);
+    IS(css_companion_control(c, TEXT("oh")), CSS_DONE);
+    IS(css_companion_position(c, 1600, &p), CSS_UNREADABLE);
+    uint64_t age = css_companion_age(c);
+    IS(css_companion_ts_closed(c), CSS_DONE);
+    IS(css_companion_age(c), age + 1);
+    IS(css_companion_position(c, 1600, &p), CSS_SESSION_CLOSED);
+    IS(css_companion_age(c), age + 1);
+    IS(css_companion_lead(c, 1600, 900000, &lead), CSS_SESSION_CLOSED);
+}
+
+static void windows(void) {
+    uint8_t out[512];
+    size_t used;
+    css_bound early = {900000, 5, false}, late = {900000, 0, true};
+    IS(css_companion_presentation(&early, &late, out, sizeof out, &used), CSS_DONE);
+    early.wall = (uint64_t)1 << 63;
+    IS(css_companion_presentation(&early, &late, out, sizeof out, &used), CSS_RANGE);
+    early = (css_bound){1000000000000000000, 5, false};
+    IS(css_companion_presentation(&early, &late, out, sizeof out, &used), CSS_RANGE);
+}
+
+/* each number one past its range, and texts of the greatest length and one more */
+static void limits(css_companion *c) {
+    uint8_t request[32];
+    css_position position;
+    IS(css_companion_slept(c), CSS_DONE);
+    IS(css_companion_position(c, 1700, &position), CSS_NO_ANSWER);
+    IS(css_companion_land(c, answer, 32, 1700), CSS_UNASKED);
+    IS(css_companion_ask(c, 1000, request), CSS_EARLY);
+    IS(css_companion_ask(c, 1700, request), CSS_DONE);
+    uint8_t *big = malloc(262145);
+    memset(big, ' ', 262145);
+    memcpy(big, "{}", 2);
+    IS(css_companion_cii(c, big, 262144), CSS_DONE);
+    IS(css_companion_cii(c, big, 262145), CSS_RANGE);
+    IS(css_companion_control(c, big, 262145), CSS_RANGE);
+    IS(css_companion_new(c, big, 262145, NULL, 0, 0, 0), CSS_RANGE);
+    free(big);
+    IS(css_companion_new(c, TEXT("\xff"), NULL, 0, 0, 0), CSS_NOT_UTF8);
+    IS(css_companion_new(c, NULL, 0, NULL, 0, 2560001, 0), CSS_RANGE);
+    IS(css_companion_new(c, NULL, 0, NULL, 0, 0, 1000000001), CSS_RANGE);
+    IS(css_companion_ask(c, 1800, request), CSS_DONE); /* the old one is still there */
+    IS(css_companion_new(c, NULL, 0, NULL, 0, 2560000, 1000000000), CSS_DONE);
+}
+
+static void closed(css_companion *c) {
+    uint8_t out[256];
+    size_t used;
+    css_span span;
+    css_position position;
+    css_readings when;
+    css_companion_free(c);
+    css_companion_free(c);
+    IS(css_companion_ask(c, 1800, out), CSS_CLOSED);
+    IS(css_companion_land(c, answer, 32, 1800), CSS_CLOSED);
+    IS(css_companion_wall(c, 1800, &span), CSS_CLOSED);
+    IS(css_companion_position(c, 1800, &position), CSS_CLOSED);
+    IS(css_companion_lead(c, 1800, 1, &span), CSS_CLOSED);
+    IS(css_companion_slept(c), CSS_CLOSED);
+    IS(css_companion_when(c, 1, &when), CSS_CLOSED);
+    IS(css_companion_cii(c, TEXT(cii)), CSS_CLOSED);
+    IS(css_companion_cii_state(c, out, sizeof out, &used), CSS_CLOSED);
+    IS(css_companion_cii_field(c, CSS_WC_URL, out, sizeof out, &used), CSS_CLOSED);
+    IS(css_companion_setup(c, out, sizeof out, &used), CSS_CLOSED);
+    IS(css_companion_control(c, TEXT(control)), CSS_CLOSED);
+    IS(css_companion_ts_closed(c), CSS_CLOSED);
+    IS(css_companion_report(c, 1, 1800, out, sizeof out, &used), CSS_CLOSED);
+}
+
+/* 24 codes have words of their own */
+static void words(void) {
+    uint8_t out[64];
+    size_t used;
+    int known = 0;
+    for (uint32_t code = 0; code < 100; code++) {
+        IS(css_companion_words(code, out, sizeof out, &used), CSS_DONE);
+        known += used != 7 || memcmp(out, "no code", 7);
+    }
+    IS(known, 24);
+}
+
+int main(void) {
+    css_companion c = CSS_NONE;
+    wall_clock(&c);
+    content(&c);
+    timeline(&c);
+    windows();
+    limits(&c);
+    closed(&c);
+    words();
+    return wrong;
+}

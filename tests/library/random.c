@@ -1,0 +1,170 @@
+/* Random calls with random bytes: none may read or write outside, and what is told is in order.  random SEED CALLS */
+#include "css_companion.h"
+#include <stdio.h>
+#include <stdlib.h>
+#include <string.h>
+
+static uint64_t state;
+
+static uint32_t draw(void) {
+    state ^= state << 13;
+    state ^= state >> 7;
+    state ^= state << 17;
+    return state >> 16;
+}
+
+static uint64_t draw_long(void) { return (uint64_t)draw() << 32 | draw(); }
+
+static const char *parts[] = {
+    "{",
+    "}",
+    "\"wcUrl\":",
+    "\"tsUrl\":\"ws://a:1\"",
+    "null",
+    ",",
+    "\"udp://1.2.3.4:5\"",
+    "\"timelines\":[",
+    "]",
+    "{\"timelineSelector\":\"urn:dvb:css:timeline:pts\",\"timelineProperties\":{\"unitsPerTick\":1,"
+    "\"unitsPerSecond\":90000}}",
+    "\"contentTime\":\"900000\"",
+    "\"timelineSpeedMultiplier\":",
+    "-64",
+    "1",
+    "0.5",
+    "\"wallClockTime\":\"",
+    "12345\"",
+    "9223372036854775807\"",
+    "[[[[",
+    "\"\\ud800\"",
+    "\xff",
+    "1e400"};
+
+/* a text of parts, or a control timestamp, in a block of exactly its length */
+static uint8_t *drawn_text(size_t *len) {
+    char text[4096];
+    *len = 0;
+    for (int k = draw() % 12; k > 0; k--) {
+        const char *part = parts[draw() % (sizeof parts / sizeof *parts)];
+        memcpy(text + *len, part, strlen(part));
+        *len += strlen(part);
+    }
+    if (draw() % 4 == 0) {
+        *len = snprintf(text, sizeof text,
+                        "{\"contentTime\":\"%d\",\"timelineSpeedMultiplier\":%d,\"wallClockTime\":\"%u\"}", (int)draw(),
+                        (int)(draw() % 5) - 2, draw());
+    }
+    uint8_t *exact = malloc(*len);
+    memcpy(exact, text, *len);
+    return exact;
+}
+
+static uint32_t land(css_companion *c, const uint8_t *request, uint64_t reading) {
+    uint8_t in[32];
+    memcpy(in, request, 32);
+    in[1] = 1 + draw() % 3;
+    in[2] = 0xe0 + draw() % 8;
+    for (int k = 16; k < 32; k++) in[k] = k < 20 || k % 4 < 2 ? 0 : draw();
+    in[19] = in[27] = draw() % 3;
+    if (draw() % 3 == 0) in[draw() % 32] = draw();
+    return css_companion_land(c, in, draw() % 9 ? 32 : draw() % 32, reading);
+}
+
+static uint32_t put(css_companion *c, uint64_t reading, int *bad) {
+    size_t room = draw() % 200, used = 0;
+    uint8_t *out = malloc(room);
+    css_bound a = {(int64_t)draw_long() >> (draw() % 64), draw(), draw() & 1}, b = a;
+    uint32_t code;
+    switch (draw() % 5) {
+    case 0: code = css_companion_cii_field(c, draw() % 9, out, room, &used); break;
+    case 1: code = css_companion_cii_state(c, out, room, &used); break;
+    case 2: code = css_companion_setup(c, out, room, &used); break;
+    case 3: code = css_companion_presentation(&a, &b, out, room, &used); break;
+    default: code = css_companion_report(c, draw(), reading, out, room, &used);
+    }
+    *bad |= (code == CSS_DONE && used > room) || (code == CSS_NO_ROOM && used <= room);
+    free(out);
+    return code;
+}
+
+/* the tick is shown at both ends, and not behind them */
+static uint32_t when(css_companion *c, int *bad) {
+    int64_t tick = (int32_t)draw();
+    css_readings readings;
+    css_position p;
+    uint32_t code = css_companion_when(c, tick, &readings);
+    if (code) return code;
+    *bad |= readings.from > readings.to;
+    if (!css_companion_position(c, readings.from, &p)) *bad |= p.lo > tick || tick > p.hi;
+    if (!css_companion_position(c, readings.to, &p)) *bad |= p.lo > tick || tick > p.hi;
+    if (!css_companion_position(c, readings.to + 1, &p)) *bad |= p.lo <= tick && tick <= p.hi;
+    return code;
+}
+
+/* the lead of both ends of the ticks goes with them, to a tick */
+static uint32_t lead(css_companion *c, uint64_t reading, int *bad) {
+    css_position p;
+    css_span span;
+    uint32_t code = css_companion_position(c, reading, &p);
+    if (code) return css_companion_lead(c, reading, draw(), &span);
+    *bad |= p.lo > p.hi || !p.units_per_tick;
+    code = css_companion_lead(c, reading, p.hi + 1, &span);
+    if (!code) *bad |= span.lo > span.hi || span.lo < -1;
+    code = css_companion_lead(c, reading, p.lo, &span);
+    if (!code) *bad |= span.hi > 1;
+    return code;
+}
+
+static uint32_t call(css_companion *c, uint64_t reading, uint8_t *request, int *bad) {
+    size_t len;
+    uint8_t *text = drawn_text(&len);
+    css_span wall;
+    uint32_t code = 0;
+    switch (draw() % 17) {
+    case 0:
+        if (draw() % 50 == 0) css_companion_free(c);
+        break;
+    case 1:
+        if (draw() % 8) break;
+        code = css_companion_new(c, (const uint8_t *)"urn:dvb:css:timeline:pts", 24, text, len, draw() % 2700000,
+                                 draw() % 1100000000);
+        break;
+    case 2:
+        if (draw() % 30 == 0) code = css_companion_slept(c);
+        break;
+    case 3:
+    case 4: code = css_companion_ask(c, reading, request); break;
+    case 5:
+    case 6:
+    case 7: code = land(c, request, reading); break;
+    case 8:
+        code = css_companion_wall(c, reading, &wall);
+        *bad |= !code && wall.lo > wall.hi;
+        break;
+    case 9:
+    case 10: code = lead(c, reading, bad); break;
+    case 11: code = css_companion_cii(c, text, len); break;
+    case 12:
+    case 13: code = css_companion_control(c, text, len); break;
+    case 14: code = put(c, reading, bad); break;
+    default: code = when(c, bad);
+    }
+    free(text);
+    return code;
+}
+
+int main(int argc, char **argv) {
+    if (argc != 3) return 2;
+    state = strtoull(argv[1], NULL, 10) * 2654435761u + 1;
+    css_companion c = CSS_NONE;
+    uint8_t request[32] = {0};
+    uint64_t now = 0;
+    for (long i = 0, calls = atol(argv[2]); i < calls; i++) {
+        int bad = 0;
+        now += draw() % 1000000;
+        uint32_t code = call(&c, draw() % 20 ? now : draw_long(), request, &bad);
+        if (bad || code >= 64) return printf("call %ld: %u\n", i, code), 1;
+    }
+    css_companion_free(&c);
+    return 0;
+}
