@@ -5,7 +5,7 @@ use Rattle.std.specs.Prelude.{Some}
 use Rattle.std.proofs.lemmas.Bool.Decides.{eqb_tells}
 use Rattle.css_model.specs.World.{Moment, OwnClock, KeepsErrors}
 use Rattle.css_moments.specs.Drifts as drifts
-use Rattle.css_moments.specs.Drifts.{Shown, Told, Showed, Slept, EachPair}
+use Rattle.css_moments.specs.Drifts.{Told}
 use Rattle.css_moments.proofs.Pairs.{accepted_keeps}
 use Rattle.css_schedule.specs.Owners.{is_sleep}
 use Rattle.css_schedule.specs.declared.header.Header.{Header}

@@ -14,7 +14,6 @@ use Rattle.css_tv.specs.Stages.{Television as Tv}
 use Rattle.css_tv.specs.Standing as tvs
 use Rattle.css_server.specs.Tickets.{Server, Ticket, response_to, follow_up_for}
 use Rattle.css_server.specs.Exchanges as servers
-use Rattle.css_server.specs.Exchanges.{greatest_reading}
 use Rattle.css_server.specs.declared.server.Answered.{Answered}
 use Rattle.css_schedule.specs.declared.header.Header.{Header}
 use Rattle.css_schedule.specs.declared.line.Verb.TheVariants.{Give, Land}
@@ -202,7 +201,8 @@ given old lines number t w who l take reading asker ticket answered tv made owne
     let within : take ≤ length before = numbered_within take before ticket was_taken in
     let ahead : (n : ℕ) → length before < n → is_given n (now ∷ lines) ≡ false = λ n above.
     let differs : take ≢ n = omega arith in rw (ne_eqb take n differs) (ends.none_ahead n above) in
-    let are : AreDatagrams made (answers_to (server_of old.header) reading (Some ticket) ++ datagrams old.header lines) =
+    let are : AreDatagrams made
+    (answers_to (server_of old.header) reading (Some ticket) ++ datagrams old.header lines) =
     subst (λ (kept : List (List ℕ)). AreDatagrams kept (answers_to (server_of old.header) reading (Some ticket)
     ++ datagrams old.header lines)) (sym stored_so)
     (answer_made (server_of old.header) ticket reading answered old.datagrams (datagrams old.header lines) is

@@ -59,8 +59,8 @@ two_peers who kind.Cii first = cii-ts who first
 two_peers who kind.Ts first = ts-cii who first
 
 -- a lane's session of a kind, of both
-pub at_kind : (k : Kind) (who : ℕ) (events : List TvEvent) (own : History) (lane : Lane) → LaneStands who events own lane
-    → SessionStands (peer_of who k) events own (session_at k lane)
+pub at_kind : (k : Kind) (who : ℕ) (events : List TvEvent) (own : History) (lane : Lane)
+    → LaneStands who events own lane → SessionStands (peer_of who k) events own (session_at k lane)
 at_kind kind.Cii who events own lane stands = stands.cii
 at_kind kind.Ts who events own lane stands = stands.ts
 
@@ -216,8 +216,8 @@ module _ (old : World) (lines : List Numbered) (number t w who l : ℕ) where
       let before = ends.lanes who lane found in
       let mine = at_kind k who (events_of old.header lines) (history_of who old.header lines) lane before in
       let never = never-open old.header lines who k (session_at k lane) (session_at k between) mine ok in
-      let done = plays (events_of old.header lines) ends.stage (never_opened old.header lines who k first accepted never)
-      in
+      let done = plays (events_of old.header lines) ends.stage
+      (never_opened old.header lines who k first accepted never) in
       quiet old lines number t w who l (Opening k) tv (slice_set played (who - 1) final) tt ends same done.stage
       (attended_lanes old lines number t w who l (Opening k) e tv between mid final played ends first within refl
       (λ n j above differs. others-peer n who k j above first (λ is. differs (sym is))) done kept there

@@ -1,9 +1,9 @@
 -- A line that was carried out is one more that the world stands for.
 use Rattle.std.proofs.Common.{◌≡◌, ◌<◌, ℕ, Bool, true, false, cond, List, [], ◌∷◌, ◌++◌}
 use Rattle.std.proofs.Common.{append-nil, refl, ap, sym, subst, ◌∙◌, inl, inr}
-use Rattle.std.specs.Prelude.{Option, Some, None, IfSome, length, Result, Ok, Err, OnOk, OnErr}
+use Rattle.std.specs.Prelude.{Option, Some, None, IfSome, length, Result, Ok, Err, OnOk, OnErr, IfErr}
 use Rattle.std.specs.Option.{option_map, ForSome}
-use Rattle.std.specs.Result.{result_and}
+use Rattle.std.specs.Result.{result_and, IsErrAnd}
 use Rattle.css_server.specs.Tickets.{Ticket}
 use Rattle.css_server.specs.Exchanges as servers
 use Rattle.css_model.specs.Wire.{encoded}
@@ -23,7 +23,7 @@ use Rattle.css_num.specs.declared.protocol.Kind.TheVariants as kind
 use Rattle.css_world.specs.declared.fault.WorldFault.{WorldFault}
 use Rattle.css_world.specs.declared.fault.WorldFault.TheVariants.{Absent, Memory}
 use Rattle.css_world.specs.declared.watch.Watch.{Watch}
-use Rattle.css_world.specs.Clocks.{told_by}
+use Rattle.css_world.specs.Clocks.{told_by, shown_at}
 use Rattle.css_world.specs.declared.lane.Lane.{Lane}
 use Rattle.css_world.specs.Numbering.{stored}
 use Rattle.css_world.specs.Sessions.{peer_of}
@@ -31,7 +31,7 @@ use Rattle.css_world.specs.Happened.{Numbered, requests, askers, tickets, taken_
 use Rattle.css_world.specs.Happened.{history_of}
 use Rattle.css_world.proofs.Numbers.{stored_same, part_kept, parts_kept}
 use Rattle.css_world.proofs.Accepting.{next_own}
-use Rattle.css_world.specs.Verdicts.{IsDeclared, seen_of_tv, seen_of, shown_tested, reading_tested}
+use Rattle.css_world.specs.Verdicts.{IsDeclared, tv_seen, seen_of_tv, seen_of, shown_tested, reading_tested}
 use Rattle.css_world.specs.Verdicts.{can_happen, event_at, played, printed_for, carried_out, line_meant}
 use Rattle.css_world.specs.Flights.{Session, SessionStands}
 use Rattle.css_world.specs.Truth.{TellsTruth}
@@ -40,6 +40,7 @@ use Rattle.css_world.specs.Standing.{World, AreStored, request_bytes, owner, ope
 use Rattle.css_world.specs.Standing.{DriftsStand}
 use Rattle.css_world.specs.Standing.{ReadingsStand, AreAccepted, StandsFor, carried, Carries, CarriesOut}
 use Rattle.css_world.specs.Standing.{PrintsFor, Prints, KeepsEnds, KeepsClocks, KeepsReadings, KeepsDrifts}
+use Rattle.css_world.specs.Standing.{KeepsBoth, KeepsRefused}
 use Rattle.css_world.specs.Standing.{ShowsBy, ShownTo, ReadsBy, ReadTo, IsNext, AreNext, Means, GoesOn, appended}
 
 -- ---- what isn't touched
@@ -202,6 +203,45 @@ lines_next world lines number stands next who lane found =
     next-of number (last_shown (told_by (seen_of who lines))) lane.clock.drift.last
     (stands.drifts.own who lane found).last
     (next_own world.header who number lines stands.accepted next)
+
+-- and after the last one that the television's was
+pub lines_next_tv : (world : World) (lines : List Numbered) (number : ℕ) → StandsFor world lines → IsNext number lines
+    → ForSome world.tv.clock.drift.last (λ x. x.line < number)
+lines_next_tv world [] number stands next =
+    next-of number None world.tv.clock.drift.last stands.drifts.tv.last tt
+lines_next_tv world (last ∷ older) number stands next =
+    next-of number (Some (shown_at (tv_seen last))) world.tv.clock.drift.last stands.drifts.tv.last next
+
+-- what a refusal keeps, where the clocks alone were touched before
+pub ends_both : (old new : World) → KeepsEnds old new → KeepsBoth old new
+ends_both old new kept = record { tv = kept.tv; companions = kept.companions }
+
+pub refused_on : (old shown read new : World) (result : Result (Unit {0}) WorldFault) → KeepsEnds old shown
+    → KeepsEnds shown read → IfErr result (λ fault. KeepsRefused read new fault)
+    → IfErr result (λ fault. KeepsRefused old new fault)
+refused_on old shown read new (Ok x) first second refused = tt
+refused_on old shown read new (Err Memory) first second refused = tt
+refused_on old shown read new (Err _) first second both = record {
+  tv = both.tv ∙ second.tv ∙ first.tv;
+  companions = both.companions ∙ second.companions ∙ first.companions;
+}
+
+-- nothing is promised after a fault
+pub not_ok : (result : Result (Unit {0}) WorldFault) (P : Type 0) (Q : WorldFault → Type 0) → IsErrAnd result Q
+    → OnOk result P
+not_ok (Ok x) P Q never = absurd never
+not_ok (Err fault) P Q is = tt
+
+-- a line that isn't shown means why
+pub show_refused : (old : World) (before : List ℕ) (result : Result (Unit {0}) WorldFault) (fault : WorldFault)
+    (now : Numbered) → result ≡ Err fault → ShowsBy old (Err fault) now → Means old before before result now
+show_refused old before result fault now is shows = λ lines stands.
+    let carried : Result (List ℕ) WorldFault = carried_out old.header lines now in
+    let told : line_meant old.header lines now ≡ Err fault =
+    ap (λ (r : Result (Unit {0}) WorldFault). result_and
+    (result_and r (reading_tested old.header lines now)) carried) (sym (shows lines stands.drifts)) in
+    subst (λ (r : Result (Unit {0}) WorldFault). LeavesBy Memory r before before
+    (appended before (line_meant old.header lines now))) (sym is) (refl, inl (ap (appended before) told))
 
 -- a line whose reading is refused means that
 pub read_refused : (old shown : World) (before : List ℕ) (result : Result (Unit {0}) WorldFault) (fault : WorldFault)

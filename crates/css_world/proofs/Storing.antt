@@ -57,13 +57,6 @@ slice_get-set_other (x ∷ items) item (suc place) zero h = refl
 slice_get-set_other (x ∷ items) item (suc place) (suc other) h =
     slice_get-set_other items item place other (λ e. h (ap suc e))
 
--- to write past the end changes nothing
-pub slice_set-past : {A : Type 0} (items : List A) (item : A) (place : ℕ) → slice_get items place ≡ None
-    → slice_set items place item ≡ items
-slice_set-past [] item place e = refl
-slice_set-past (x ∷ items) item zero e = absurd (cc)
-slice_set-past (x ∷ items) item (suc place) e = ap (λ rest. x ∷ rest) (slice_set-past items item place e)
-
 -- ---- numbers
 -- an item's number isn't above the count
 pub numbered_within : {A : Type 0} (number : ℕ) (items : List A) (item : A)

@@ -8,7 +8,7 @@ use Rattle.std.proofs.lemmas.Bool.{lt-ltb, le-ltb, ltb-true, ltb-false, eqb-true
 use Rattle.std.proofs.lemmas.Bool.Decides.{eqb_tells}
 use Rattle.css_model.specs.World.{Moment, OwnClock, RunsWithin}
 use Rattle.css_moments.specs.Drifts as drifts
-use Rattle.css_moments.specs.Drifts.{Shown, Told, Showed, Slept, EachPair}
+use Rattle.css_moments.specs.Drifts.{Shown, Told, EachPair}
 use Rattle.css_schedule.specs.Owners.{is_sleep}
 use Rattle.css_schedule.specs.declared.header.Header.{Header}
 use Rattle.css_world.specs.Happened.{Numbered}

@@ -21,6 +21,7 @@ use Rattle.css_schedule.specs.Headers.{max_companions}
 use Rattle.css_world.specs.Lanes.{IsLaneOf, WasRead, KeepsAllButTexts, KeepsTv}
 use Rattle.css_world.specs.Numbering.{stored}
 use Rattle.css_world.specs.Standing.{World, IsWorld, IsNumber, HasRead, KeepsClocks, KeepsBoth, KeepsRefused}
+use Rattle.css_world.specs.Standing.{DeclaresTheSame}
 use Rattle.css_world.specs.Verdicts.{IsDeclared}
 use Rattle.css_world.proofs.Delivered.{as_many, kept_in_each}
 use Rattle.css_world.proofs.Numbers.{each_set, set_part, stored_within}
@@ -182,6 +183,14 @@ both_kept now old new who before after view found same tv lanes = record {
       ∙ ap (λ (w : World). map (λ (lane : Lane). lane.companion) w.lanes) view;
 }
 
+-- so they are where no lane was touched
+pub both_same : (now old new : World) → old ≡ now → new.tv.tv ≡ old.tv.tv → new.lanes ≡ old.lanes → KeepsBoth now new
+both_same now old new view tv lanes = record {
+  tv = tv ∙ ap (λ (w : World). w.tv.tv) view;
+  companions = ap (map (λ (lane : Lane). lane.companion)) lanes
+      ∙ ap (λ (w : World). map (λ (lane : Lane). lane.companion) w.lanes) view;
+}
+
 refused_by : (now new : World) (fault : WorldFault) → KeepsBoth now new → KeepsRefused now new fault
 refused_by now new faults.Memory both = tt
 refused_by now new _ both = both
@@ -216,20 +225,19 @@ within_lanes now old who view number = subst (λ (w : World). who ≤ length w.l
 pub few : (world : World) → IsWorld world → length world.lanes ≤ max_companions
 few world was = subst (λ n. n ≤ max_companions) (sym was.count) was.declared.companions.high
 
--- what is always true stays so, where the television took in an event
-pub still_played : (old new : World) → IsWorld old → new.header ≡ old.header → new.tv.clock ≡ old.tv.clock
-    → new.tv.tv.server ≡ old.tv.tv.server → new.tv.tv.stage.addresses ≡ old.tv.tv.stage.addresses
-    → KeepsAllButTexts old.lanes new.lanes → IsWorld new
-still_played old new was header clock server addresses kept = record {
+-- what is always true stays so, where the television was told something and no lane but for its texts
+pub still_told : (old new : World) → IsWorld old → new.header ≡ old.header → new.tv.clock ≡ old.tv.clock
+    → DeclaresTheSame old.tv.tv.server new.tv.tv.server
+    → new.tv.tv.stage.addresses ≡ old.tv.tv.stage.addresses → KeepsAllButTexts old.lanes new.lanes → IsWorld new
+still_told old new was header clock server addresses kept = record {
   declared = subst IsDeclared (sym header) was.declared;
   tv_error = ap (λ c. c.drift.error) clock ∙ was.tv_error ∙ ap (λ (h : Header). h.tv_error) (sym header);
   tv_precision = ap (λ c. c.precision) clock ∙ was.tv_precision
       ∙ ap (λ (h : Header). precision_ns h.tv_precision) (sym header);
   tv_awake = ap (λ c. c.woken) clock ∙ was.tv_awake;
-  server_precision = ap (λ s. s.precision) server ∙ was.server_precision
-      ∙ ap (λ (h : Header). h.tv_precision) (sym header);
-  server_error = ap (λ s. s.error) server ∙ was.server_error ∙ ap (λ (h : Header). h.tv_error) (sym header);
-  server_follow = ap (λ s. s.follow) server ∙ was.server_follow ∙ ap (λ (h : Header). h.follow) (sym header);
+  server_precision = server.precision ∙ was.server_precision ∙ ap (λ (h : Header). h.tv_precision) (sym header);
+  server_error = server.error ∙ was.server_error ∙ ap (λ (h : Header). h.tv_error) (sym header);
+  server_follow = server.follow ∙ was.server_follow ∙ ap (λ (h : Header). h.follow) (sym header);
   addresses = addresses ∙ was.addresses;
   count = as_many old.lanes new.lanes kept ∙ was.count ∙ ap (λ (h : Header). length h.companions) (sym header);
   lanes = λ other x at.
@@ -239,6 +247,20 @@ still_played old new was header clock server addresses kept = record {
       (ap (λ (companion : Companion). companion.client) (sym before.3))
       (ap (λ (companion : Companion). companion.setup) (sym before.3)) (sym before.2));
 }
+
+-- so it does where the television took in an event
+pub still_played : (old new : World) → IsWorld old → new.header ≡ old.header → new.tv.clock ≡ old.tv.clock
+    → new.tv.tv.server ≡ old.tv.tv.server → new.tv.tv.stage.addresses ≡ old.tv.tv.stage.addresses
+    → KeepsAllButTexts old.lanes new.lanes → IsWorld new
+still_played old new was header clock server addresses kept = still_told old new was header clock (record {
+  precision = ap (λ s. s.precision) server;
+  error = ap (λ s. s.error) server;
+  follow = ap (λ s. s.follow) server;
+}) addresses kept
+
+-- where no lane was touched, none but for its texts was
+pub same_lanes : (lanes : List Lane) → KeepsAllButTexts lanes lanes
+same_lanes lanes = record { clocks = refl; companions = refl }
 
 -- and so are the numbers of companions
 pub few_numbers : (now old : World) (who : ℕ) → IsWorld old → old ≡ now → IsNumber now who → who < 2147483648
@@ -258,7 +280,8 @@ within_played now old who lane played view number kept =
 -- so are they after one was written over
 pub few_set : (world : World) (who : ℕ) (lane : Lane) → IsWorld world
     → length (slice_set world.lanes (who - 1) lane) ≤ max_companions
-few_set world who lane was = subst (λ n. n ≤ max_companions) (sym (length-set world.lanes (who - 1) lane)) (few world was)
+few_set world who lane was =
+    subst (λ n. n ≤ max_companions) (sym (length-set world.lanes (who - 1) lane)) (few world was)
 
 -- what is always true stays so, where one lane's texts were touched and then the television took in an event
 pub played_kept : (now old new : World) (who : ℕ) (before after : Lane) → IsWorld old → old ≡ now → IsNumber now who

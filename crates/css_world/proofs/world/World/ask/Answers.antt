@@ -126,7 +126,8 @@ returns-in_err-push-clause-refused c =
 
 pub returns-in_err-push-2-clause-carries : goal.returns-in_err-push-2-clause-carries
 returns-in_err-push-2-clause-carries c = λ lines now own is ready.
-    wants c.args.self.now _ c.from_residual-in_err-push-2.result lines now c.args.who (Ask c.args.reading) c.from_residual-in_err-push-2.ensures.1
+    wants c.args.self.now _ c.from_residual-in_err-push-2.result lines now c.args.who (Ask c.args.reading)
+    c.from_residual-in_err-push-2.ensures.1
 
 pub returns-in_err-push-2-clause-refused : goal.returns-in_err-push-2-clause-refused
 returns-in_err-push-2-clause-refused c =

@@ -1,12 +1,12 @@
 -- A text of the television comes.
 use Rattle.std.proofs.Common.{◌≤◌, ◌≡◌, refl, sym, ap, subst, ◌∙◌}
-use Rattle.std.specs.Prelude.{Some, None, Result, Ok}
+use Rattle.std.specs.Prelude.{None, Result, Ok}
 use Rattle.css_companion.specs.Standing.{Companion}
 use Rattle.css_companion.specs.Steps.{owed, IsEvent}
 use Rattle.css_schedule.specs.declared.line.Verb.TheVariants.{Bring}
 use Rattle.css_world.specs.declared.fault.WorldFault.{WorldFault}
 use Rattle.css_world.specs.Happened.{events_of, history_of}
-use Rattle.css_world.specs.Lanes.{session_at, heard_as, with_owed}
+use Rattle.css_world.specs.Lanes.{session_at, with_owed}
 use Rattle.css_world.specs.Standing.{World, IsReady, IsNumber, carried}
 use Rattle.css_world.proofs.Carrying.{at_line}
 use Rattle.css_world.proofs.Inside.{inside_of}

@@ -14,7 +14,8 @@ use Rattle.css_world.specs.Verdicts.{played}
 use Rattle.css_world.specs.Standing.{World, IsReady, IsNumber, carried}
 use Rattle.css_world.proofs.Carrying.{at_line}
 use Rattle.css_world.proofs.Inside.{inside_of}
-use Rattle.css_world.proofs.Verbs.{WhenPlayed, WhenAttended, wants, refuses-as, refuses-played, carried-when, can-close, cannot-close}
+use Rattle.css_world.proofs.Verbs.{WhenPlayed, WhenAttended, wants, refuses-as, refuses-played}
+use Rattle.css_world.proofs.Verbs.{carried-when, can-close, cannot-close}
 use Rattle.css_world.proofs.AtSessions.{at_kind, owes-nothing, closed_event, closes_at}
 use Rattle.css_world.proofs.Written.{within_lanes, within_played, few_numbers, refused_memory}
 use Rattle.css_world.proofs.Written.{still_kept, clocks_kept, clocks_set, few_set, played_kept, clocks_played}
@@ -77,9 +78,11 @@ invariant_of-self-in_err-play c =
     c.close.ensures.rest.clock refl refl c.play.ensures.tv c.play.ensures.lanes
 
 pub attend-requires-clause-taken : goal.attend-requires-clause-taken
-attend-requires-clause-taken c =
-    (None, ap (owed c.lane-lane-2.result.now.companion) c.closed.ensures
-    ∙ owes-nothing c.args.kind c.lane-lane-2.result.now.companion)
+attend-requires-clause-taken c = (
+  None,
+  ap (owed c.lane-lane-2.result.now.companion) c.closed.ensures
+      ∙ owes-nothing c.args.kind c.lane-lane-2.result.now.companion,
+)
 
 pub invariant_of-self-in_err-attend : goal.invariant_of-self-in_err-attend
 invariant_of-self-in_err-attend c =
@@ -173,7 +176,8 @@ returns-in_err-play-clause-carries c = λ lines now own is ready.
     let old : World = inside_of c.self.inside in
     let lane = c.lane-lane.result.now in
     let who = c.args.who in
-    refuses-played c.args.self.now old _ c.from_residual-in_err-play.result lines now who (Close c.args.kind) (event.Closed c.peer_of.result) c.in_err-play.field-0.0
+    refuses-played c.args.self.now old _ c.from_residual-in_err-play.result lines now who (Close c.args.kind)
+    (event.Closed c.peer_of.result) c.in_err-play.field-0.0
     c.from_residual-in_err-play.ensures.1 c.self.view_is ready
     (λ (stood : IsReady old lines). (
       can-close old.header lines who c.args.kind (session_at c.args.kind lane) (session_at c.args.kind c.close.new.self)
@@ -199,7 +203,8 @@ attend-requires-clause-event c =
 
 pub returns-in_err-attend-clause-carries : goal.returns-in_err-attend-clause-carries
 returns-in_err-attend-clause-carries c = λ lines now own is ready.
-    wants c.args.self.now _ c.from_residual-in_err-attend.result lines now c.args.who (Close c.args.kind) c.from_residual-in_err-attend.ensures.1
+    wants c.args.self.now _ c.from_residual-in_err-attend.result lines now c.args.who (Close c.args.kind)
+    c.from_residual-in_err-attend.ensures.1
 
 pub returns-in_err-attend-clause-refused : goal.returns-in_err-attend-clause-refused
 returns-in_err-attend-clause-refused c =

@@ -11,8 +11,8 @@ use Rattle.css_world.specs.Standing.{World, IsReady, IsNumber, carried}
 use Rattle.css_world.proofs.Carrying.{at_line}
 use Rattle.css_world.proofs.Answering.{landed, not_landing, not_for}
 use Rattle.css_world.proofs.Inside.{inside_of}
-use Rattle.css_world.proofs.Verbs.{refuses-absent}
-use Rattle.css_world.proofs.Written.{still_world, clocks_kept, was_read, may_ask, landed_lane}
+use Rattle.css_world.proofs.Verbs.{refuses-absent, wants}
+use Rattle.css_world.proofs.Written.{still_world, clocks_kept, was_read, may_ask, landed_lane, refused_memory}
 use Rattle.css_world.proofs.world.World.land.Goals as goal
 
 pub returns-clause-clocks : goal.returns-clause-clocks
@@ -108,3 +108,12 @@ returns-in_err-land-clause-clocks c =
     let lane = c.lane-lane.result.now in
     clocks_kept c.args.self.now old _ c.args.who lane (record lane { companion = c.land.new.self }) c.self.view_is
     c.lane-lane.ensures.value refl refl refl refl
+
+pub returns-in_err-land-clause-carries : goal.returns-in_err-land-clause-carries
+returns-in_err-land-clause-carries c = λ lines now own is ready.
+    wants c.args.self.now _ c.from_residual.result lines now c.args.who (Land c.args.datagram c.args.reading)
+    c.from_residual.ensures.1
+
+pub returns-in_err-land-clause-refused : goal.returns-in_err-land-clause-refused
+returns-in_err-land-clause-refused c =
+    refused_memory c.args.self.now _ c.from_residual.result c.from_residual.ensures.1

@@ -176,7 +176,8 @@ returns-in_err-play-clause-carries c = λ lines now own is ready.
     let old : World = inside_of c.self.inside in
     let lane = c.lane-lane.result.now in
     let who = c.args.who in
-    refuses-played c.args.self.now old _ c.from_residual-in_err-play.result lines now who (Opening c.args.kind) (event.Opened c.peer_of.result c.args.kind) c.in_err-play.field-0.0
+    refuses-played c.args.self.now old _ c.from_residual-in_err-play.result lines now who (Opening c.args.kind)
+    (event.Opened c.peer_of.result c.args.kind) c.in_err-play.field-0.0
     c.from_residual-in_err-play.ensures.1 c.self.view_is ready
     (λ (stood : IsReady old lines). (
       can-open old.header lines who c.args.kind (session_at c.args.kind lane) (session_at c.args.kind c.open.new.self)
@@ -198,7 +199,8 @@ lane-lane-requires-2-clause-within c =
 
 pub returns-in_err-greet-clause-carries : goal.returns-in_err-greet-clause-carries
 returns-in_err-greet-clause-carries c = λ lines now own is ready.
-    wants c.args.self.now _ c.from_residual-in_err-greet.result lines now c.args.who (Opening c.args.kind) c.from_residual-in_err-greet.ensures.1
+    wants c.args.self.now _ c.from_residual-in_err-greet.result lines now c.args.who (Opening c.args.kind)
+    c.from_residual-in_err-greet.ensures.1
 
 pub returns-in_err-greet-clause-refused : goal.returns-in_err-greet-clause-refused
 returns-in_err-greet-clause-refused c =

@@ -124,7 +124,8 @@ attend-requires-clause-event c =
 
 pub returns-in_err-attend-clause-carries : goal.returns-in_err-attend-clause-carries
 returns-in_err-attend-clause-carries c = λ lines now own is ready.
-    wants c.args.self.now _ c.from_residual.result lines now c.args.who (Present c.args.earliest c.args.latest) c.from_residual.ensures.1
+    wants c.args.self.now _ c.from_residual.result lines now c.args.who (Present c.args.earliest c.args.latest)
+    c.from_residual.ensures.1
 
 pub returns-in_err-attend-clause-refused : goal.returns-in_err-attend-clause-refused
 returns-in_err-attend-clause-refused c =

@@ -9,7 +9,7 @@ use Rattle.css_world.specs.Verdicts.{tv_reading, own_reading}
 use Rattle.css_world.proofs.Delivered.{ok_then}
 use Rattle.css_world.proofs.Inside.{inside_of}
 use Rattle.css_world.proofs.Showing.{still_clocked, ends_kept, drifts_kept}
-use Rattle.css_world.proofs.Reading.{own_read, read_lane, woken_lane, knows_read, knows_slept}
+use Rattle.css_world.proofs.Reading.{tv_read, own_read, read_lane, woken_lane, knows_read, knows_slept}
 use Rattle.css_world.proofs.Reading.{readings_tv, readings_none, readings_own, on_both, has_read, has_woken_now}
 use Rattle.css_world.proofs.Reading.{reads_own}
 use Rattle.css_world.proofs.world.World.read.Goals as goal
@@ -86,6 +86,15 @@ returns-in-Ask-clause-drifts c =
     let lane = c.lane-lane-in-Ask.result.now in
     drifts_kept c.args.self.now old _ c.args.line.now.who lane (record lane { clock = c.read.new.self })
     c.self.view_is c.lane-lane-in-Ask.ensures.value c.read.ensures.rest.0 refl refl
+
+pub returns-in-Take-clause-verdict : goal.returns-in-Take-clause-verdict
+returns-in-Take-clause-verdict c =
+    let old : World = inside_of c.self.inside in
+    let now : Numbered = record { number = c.args.number; line = c.args.line.now } in
+    subst (λ (w : World). ReadsBy w c.read-in-Take.result now) c.self.view_is
+    (λ lines stand.
+    tv_read old lines now _ c.read-in-Take.result c.self.invariant stand (search rules) (search rules)
+    c.read-in-Take.ensures.verdict)
 
 pub returns-in-Take-clause-stands : goal.returns-in-Take-clause-stands
 returns-in-Take-clause-stands c =

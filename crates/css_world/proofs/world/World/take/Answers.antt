@@ -1,5 +1,5 @@
 -- The request that is stored is read back, and its ticket is stored.
-use Rattle.std.proofs.Common.{◌≡◌, ◌⊎◌, inl, inr, sym, ap, subst, ◌∙◌, true, false, cond, List, ℕ, [], ◌∷◌, ◌++◌}
+use Rattle.std.proofs.Common.{◌≡◌, ◌⊎◌, inl, inr, refl, sym, ap, subst, ◌∙◌, true, false, cond, List, ℕ, [], ◌∷◌, ◌++◌}
 use Rattle.std.specs.Prelude.{◌&&◌, Some, None, is_some, Result, Ok, Err}
 use Rattle.css_model.specs.Wire.{stamp_of}
 use Rattle.css_server.specs.Tickets.{Ticket, ticket_for}
@@ -17,6 +17,7 @@ use Rattle.css_world.proofs.Inside.{inside_of}
 use Rattle.css_world.proofs.Numbers.{stored_none, mapped_none}
 use Rattle.css_world.proofs.Tickets.{askers_count}
 use Rattle.css_world.proofs.Verbs.{refuses-absent, wants}
+use Rattle.css_world.proofs.Written.{still_told, clocks_played, same_lanes, refused_memory}
 use Rattle.css_world.proofs.world.World.take.Goals as goal
 
 -- where no request of this number is stored, none can be taken
@@ -98,3 +99,44 @@ returns-clause-carries c = λ who lines now own is ready.
           (c.in_ok-take.ensures.takes sent.0 sent.2
           ∙ ap (λ (ticket : Ticket). old.tv.takes.items ++ Some ticket ∷ []) same) c.in_ok-push.ensures.items);
     }
+
+pub invariant_of-self : goal.invariant_of-self
+invariant_of-self c =
+    let old : World = inside_of c.self.inside in
+    still_told old _ c.self.invariant refl c.take.ensures.clock c.take.ensures.declared
+    (ap (λ stage. stage.addresses) c.take.ensures.stage) (same_lanes old.lanes)
+
+pub invariant_of-self-in_err-push : goal.invariant_of-self-in_err-push
+invariant_of-self-in_err-push c =
+    let old : World = inside_of c.self.inside in
+    still_told old _ c.self.invariant refl c.take.ensures.clock c.take.ensures.declared
+    (ap (λ stage. stage.addresses) c.take.ensures.stage) (same_lanes old.lanes)
+
+pub invariant_of-self-2 : goal.invariant_of-self-2
+invariant_of-self-2 c =
+    let old : World = inside_of c.self.inside in
+    still_told old _ c.self.invariant refl c.take.ensures.clock c.take.ensures.declared
+    (ap (λ stage. stage.addresses) c.take.ensures.stage) (same_lanes old.lanes)
+
+pub returns-in_err-take-clause-clocks : goal.returns-in_err-take-clause-clocks
+returns-in_err-take-clause-clocks c =
+    let old : World = inside_of c.self.inside in
+    clocks_played c.args.self.now old _ old.lanes c.self.view_is refl (same_lanes old.lanes) refl c.take.ensures.clock
+
+pub returns-in_err-push-clause-clocks : goal.returns-in_err-push-clause-clocks
+returns-in_err-push-clause-clocks c =
+    let old : World = inside_of c.self.inside in
+    clocks_played c.args.self.now old _ old.lanes c.self.view_is refl (same_lanes old.lanes) refl c.take.ensures.clock
+
+pub returns-clause-clocks : goal.returns-clause-clocks
+returns-clause-clocks c =
+    let old : World = inside_of c.self.inside in
+    clocks_played c.args.self.now old _ old.lanes c.self.view_is refl (same_lanes old.lanes) refl c.take.ensures.clock
+
+pub returns-in_err-take-clause-refused : goal.returns-in_err-take-clause-refused
+returns-in_err-take-clause-refused c =
+    refused_memory c.args.self.now _ c.from_residual.result c.from_residual.ensures.1
+
+pub returns-in_err-push-clause-refused : goal.returns-in_err-push-clause-refused
+returns-in_err-push-clause-refused c =
+    refused_memory c.args.self.now _ c.from_residual-in_err-push.result c.from_residual-in_err-push.ensures.1

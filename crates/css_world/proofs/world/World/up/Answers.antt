@@ -121,7 +121,8 @@ returns-in_default-clause-refused c =
     let lane = c.lane-lane.result.now in
     let who = c.args.who in
     let found = c.lane-lane.ensures.value in
-    both_kept c.args.self.now old _ who lane (record lane { ts = c.next_up.new.self }) c.self.view_is found refl refl refl
+    both_kept c.args.self.now old _ who lane (record lane { ts = c.next_up.new.self }) c.self.view_is found refl refl
+    refl
 
 pub returns-in_err-play-clause-refused : goal.returns-in_err-play-clause-refused
 returns-in_err-play-clause-refused c =
@@ -161,7 +162,8 @@ returns-in_err-play-clause-carries c = λ lines now own is ready.
     let old : World = inside_of c.self.inside in
     let lane = c.lane-lane.result.now in
     let who = c.args.who in
-    refuses-played c.args.self.now old _ c.from_residual.result lines now who Up (event.Heard c.peer_of.result c.in-Some.text) c.in_err-play.field-0.0
+    refuses-played c.args.self.now old _ c.from_residual.result lines now who Up
+    (event.Heard c.peer_of.result c.in-Some.text) c.in_err-play.field-0.0
     c.from_residual.ensures.1 c.self.view_is ready
     (λ (stood : IsReady old lines).
     let can = can-raise old.header lines who lane.ts c.in-Some.text
