@@ -1,36 +1,32 @@
 -- What the header of a record names is UTF-8, and the readings of its lines are in range.
 use Rattle.std.proofs.Common.{◌<◌, List}
-use Rattle.std.specs.Prelude.{ℕ, Option, Some, None, Result, IfOk, codes, bytes_eq}
+use Rattle.std.specs.Prelude.{ℕ, ◌+◌, Option, Some, None, Result, IfOk, codes, bytes_eq}
 use Rattle.std.specs.List.{list_all}
 use Rattle.css_num.specs.Gives.{GivesBy}
 use Rattle.css_model.specs.declared.TheConstants.{LIMIT}
+use Rattle.css_model.specs.Numbers.{max_local_error, max_local_precision}
 use Rattle.css_companion.specs.declared.config.CompanionConfig.{CompanionConfig}
 use Rattle.css_schedule.proofs.Graphic.{stem-utf8}
 use Rattle.css_schedule.proofs.Steps.{pass, after, after_whole, either, number-range, text-range, answer-range}
-use Rattle.css_schedule.specs.Headers.{local_at}
 use Rattle.css_schedule.specs.Ranges.{IsText}
-use Rattle.css_schedule.specs.Words.{word_at, after_word, all_read, words_of}
+use Rattle.css_schedule.specs.Words.{word_at, after_word, number_at, all_read, words_of}
 use Rattle.css_schedule.specs.declared.fault.LineFault.{LineFault}
 use Rattle.css_schedule.specs.declared.fault.LineFault.TheVariants.{Memory}
-use Rattle.css_audit.specs.Inputs.{IsUtf8Config, config_of_words, header_of_words, header_of, IsInRange}
-use Rattle.css_audit.specs.Inputs.{is_printable, last_reading}
+use Rattle.css_audit.specs.Inputs.{IsUtf8Config, header_of_words, header_of, IsInRange, is_printable, last_reading}
 use Rattle.css_audit.specs.Inputs.{last_bytes, slept_of, turn_of, ask_of, land_of, cii_of, ts_of, closed_of, named}
 use Rattle.css_audit.specs.Inputs.{line_of_words, after_report, report_or, line_of}
 use Rattle.css_audit.specs.declared.input.RecordLine.{RecordLine}
-
-config-utf8 : (words : List (List ℕ)) → IfOk (config_of_words words) IsUtf8Config
-unfolding config_of_words
-config-utf8 words =
-    pass IsUtf8Config (local_at words) _ (λ local.
-    after IsText IsUtf8Config _ _ (text-range local.1) (λ selector rest wanted.
-    after IsText IsUtf8Config _ _ (text-range rest) (λ stem end begun.
-    pass IsUtf8Config (all_read end) _ (λ done. (wanted.utf8, stem-utf8 stem begun.utf8)))))
 
 words-utf8 : (words : List (List ℕ)) → IfOk (header_of_words words) IsUtf8Config
 unfolding header_of_words
 words-utf8 words =
     pass IsUtf8Config (after_word (codes "css-record") words) _ (λ name.
-    pass IsUtf8Config (after_word (codes "1") name) _ config-utf8)
+    pass IsUtf8Config (after_word (codes "1") name) _ (λ version.
+    pass IsUtf8Config (number_at (max_local_error + 1) version) _ (λ error.
+    pass IsUtf8Config (number_at (max_local_precision + 1) error.1) _ (λ precision.
+    after IsText IsUtf8Config _ _ (text-range precision.1) (λ selector rest wanted.
+    after IsText IsUtf8Config _ _ (text-range rest) (λ stem end begun.
+    pass IsUtf8Config (all_read end) _ (λ done. (wanted.utf8, stem-utf8 stem begun.utf8))))))))
 
 pub header_utf8 : (bytes : List ℕ) (answer : Result CompanionConfig LineFault)
     → GivesBy (λ config. config) Memory answer (header_of bytes) → IfOk answer IsUtf8Config
@@ -74,6 +70,7 @@ named-range name words =
     (either IsInRange (bytes_eq name (codes "cii")) _ _ (pass IsInRange (last_bytes words) _ (λ bytes. tt))
     (either IsInRange (bytes_eq name (codes "ts")) _ _ (pass IsInRange (last_bytes words) _ (λ bytes. tt))
     (either IsInRange (bytes_eq name (codes "closed")) _ _ (closed-range words) tt))))))
+
 words-range : (words : List (List ℕ)) → IfOk (line_of_words words) IsInRange
 unfolding line_of_words
 words-range words = pass IsInRange (word_at words) _ (λ name. named-range name.0 name.1)

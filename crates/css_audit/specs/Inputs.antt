@@ -1,12 +1,13 @@
 -- The lines of a record, as words.
-use Rattle.std.specs.Prelude.{ℕ, ◌<◌, ◌&&◌, ⊤, nat_le, Bool, if◌then◌else◌, List, take, drop}
+use Rattle.std.specs.Prelude.{ℕ, ◌+◌, ◌<◌, ◌&&◌, ⊤, nat_le, Bool, if◌then◌else◌, List, take, drop}
 use Rattle.std.specs.Prelude.{Option, Some, None, Result, Ok, Err, codes, bytes_eq}
 use Rattle.std.specs.List.{list_all}
 use Rattle.std.specs.Str.{IsUtf8}
 use Rattle.css_model.specs.declared.TheConstants.{LIMIT}
+use Rattle.css_model.specs.Numbers.{max_local_error, max_local_precision}
 use Rattle.css_model.specs.WallClock.{Local}
 use Rattle.css_companion.specs.declared.config.CompanionConfig.{CompanionConfig}
-use Rattle.css_schedule.specs.Headers.{local_at, local_of, stem_of}
+use Rattle.css_schedule.specs.Headers.{stem_of}
 use Rattle.css_schedule.specs.declared.fault.LineFault.{LineFault}
 use Rattle.css_schedule.specs.declared.fault.LineFault.TheVariants.{Form}
 use Rattle.css_schedule.specs.Words.{At, ◌>>=◌, word_at, number_at, text_at, after_word, all_read, words_of}
@@ -140,25 +141,25 @@ IsInRange (lines.Land reading bytes) = reading < LIMIT
 IsInRange _ = ⊤
 
 -- ---- the header
+-- a clock of this error and precision
+abbrev pub local_with : ℕ → ℕ → Local
+local_with error precision = record { error = error; precision = precision }
+
 -- the configuration of a companion with this clock, which wants this of the television
 abbrev pub config_with : Local → List ℕ → List ℕ → CompanionConfig
 config_with local selector word = record { selector = selector; stem = stem_of word; local = local }
-
--- `EL PL SELECTOR STEM`, and no word after it
-unfoldable pub config_of_words : List (List ℕ) → Result CompanionConfig LineFault
-config_of_words words = do
-  local ← local_at words
-  selector ← text_at local.1
-  stem ← text_at selector.1
-  end ← all_read stem.1
-  Ok (config_with (local_of local.0) selector.0 stem.0)
 
 -- `css-record 1 EL PL SELECTOR STEM`
 unfoldable pub header_of_words : List (List ℕ) → Result CompanionConfig LineFault
 header_of_words words = do
   name ← after_word (codes "css-record") words
   version ← after_word (codes "1") name
-  config_of_words version
+  error ← number_at (max_local_error + 1) version
+  precision ← number_at (max_local_precision + 1) error.1
+  selector ← text_at precision.1
+  stem ← text_at selector.1
+  end ← all_read stem.1
+  Ok (config_with (local_with error.0 precision.0) selector.0 stem.0)
 
 -- the header that bytes are, or that they are none
 abbrev pub header_of : List ℕ → Result CompanionConfig LineFault

@@ -18,21 +18,11 @@ use std::marker::Model;
 
 /// The audit of a record, line by line. Its companion is told what the lines tell, and each report is compared with
 /// that companion's.
+#[derive(Drop)]
 pub struct Audit {
     companion: Companion,
     place: Place,
     alloc: Global,
-}
-
-// By hand: a derived drop is opened at each exit of each caller's proof.
-impl Drop for Audit {
-    fn drop(self) {
-        let Audit {
-            companion: _,
-            place: _,
-            alloc: _,
-        } = self;
-    }
 }
 
 impl Model for Audit {

@@ -1,6 +1,4 @@
-ghost use Rattle.std.specs.Prelude.{◌≡◌, Some};
-ghost use Rattle.std.specs.Fmt.{DisplaysOnOk};
-ghost use Rattle.css_audit.specs.FaultWords.{fault_words};
+ghost use Rattle.std.specs.Prelude.{◌≡◌};
 ghost use Rattle.css_audit.specs.Faults.{read_fault, told_fault};
 ghost use Rattle.css_audit.specs.declared.fault.AuditFault.TheVariants as faults;
 
@@ -43,20 +41,6 @@ pub enum AuditFault {
     Memory,
 }
 
-// The words of `Broken`. One format a function: the proof of several in one is dear.
-fn write_broken<W: fmt::Write>(f: &mut fmt::Formatter<W>, earlier: u64, excess: i128) -> fmt::Result
-    ensures { DisplaysOnOk W.write_str_gives f.old result (Some (fault_words (faults.Broken earlier excess))) f.new }
-{
-    write!(f, "broken with line {earlier} by {excess}")
-}
-
-// The words of `BadCii`.
-fn write_cii<W: fmt::Write>(f: &mut fmt::Formatter<W>, text: u64, fault: &CiiFault) -> fmt::Result
-    ensures { DisplaysOnOk W.write_str_gives f.old result (Some (fault_words (faults.BadCii text fault.now))) f.new }
-{
-    write!(f, "cii text {text}: {fault}")
-}
-
 impl fmt::Display for AuditFault {
     ghost use Rattle.std.specs.Prelude.{Some};
     ghost use Rattle.css_audit.specs.FaultWords.{fault_words};
@@ -66,9 +50,11 @@ impl fmt::Display for AuditFault {
     fn fmt<W: fmt::Write>(&self, f: &mut fmt::Formatter<W>) -> fmt::Result {
         match self {
             AuditFault::Form => f.write_str("form"),
-            AuditFault::Broken { earlier, excess } => write_broken(f, *earlier, *excess),
+            AuditFault::Broken { earlier, excess } => {
+                write!(f, "broken with line {earlier} by {excess}")
+            }
             AuditFault::Absent => f.write_str("absent"),
-            AuditFault::BadCii { text, fault } => write_cii(f, *text, fault),
+            AuditFault::BadCii { text, fault } => write!(f, "cii text {text}: {fault}"),
             AuditFault::Moved { property, .. } => write!(f, "moved {property}"),
             AuditFault::WrongReport { .. } => f.write_str("wrong report"),
             AuditFault::Memory => f.write_str("out of memory"),

@@ -1,9 +1,8 @@
-ghost use Rattle.std.specs.Prelude.{◌≡◌, ◌≤◌, Ok, IfOk};
+ghost use Rattle.std.specs.Prelude.{◌≡◌, IfOk};
 ghost use Rattle.std.specs.List.{list_all};
 ghost use Rattle.std.specs.Option.{option_copied};
 ghost use Rattle.css_num.specs.Gives.{GivesBy};
-ghost use Rattle.css_model.specs.Numbers.{max_local_error, max_local_precision};
-ghost use Rattle.css_schedule.specs.Headers.{local_at, stem_of};
+ghost use Rattle.css_schedule.specs.Headers.{stem_of};
 ghost use Rattle.css_schedule.specs.Words.{words_left, Reads};
 ghost use Rattle.css_schedule.specs.declared.fault.LineFault.TheVariants as faults;
 ghost use Rattle.css_audit.specs.HexWords as hex_words;
@@ -281,13 +280,13 @@ fn stem(alloc: Global, word: &[u8]) -> Result<Text, Memory>
     }
 }
 
-fn config_with(
+fn config(
     alloc: Global,
     local: Local,
     selector: &[u8],
     word: &[u8],
-) -> Result<CompanionConfig, LineFault>
-    ensures { GivesBy (λ x. x) faults.Memory result (Ok (inputs.config_with local selector.now word.now)) }
+) -> Result<CompanionConfig, Memory>
+    ensures { IfOk result (λ config. config ≡ inputs.config_with local selector.now word.now) }
 {
     Ok(CompanionConfig {
         selector: Text::of(alloc, selector)?,
@@ -296,36 +295,22 @@ fn config_with(
     })
 }
 
-// The error and the precision of the companion's clock.
-#[tactic(auto, unfolding(css_schedule::specs::Headers::local_at))]
-fn own_clock<'a>(words: Words<'a>) -> Result<((u32, u64), Words<'a>), LineFault>
-    ensures value { Reads result (local_at (words_left words.entry)) }
-    ensures error { IfOk result (λ x. x.0.0 ≤ max_local_error) }
-    ensures precision { IfOk result (λ x. x.0.1 ≤ max_local_precision) }
-{
-    let (error, rest) = number(words, MAX_LOCAL_ERROR + 1)?;
-    let (precision, rest) = number(rest, MAX_LOCAL_PRECISION + 1)?;
-    Ok(((error as u32, precision), rest))
-}
-
-#[tactic(auto, unfolding(crate::specs::Inputs::config_of_words))]
-fn config(alloc: Global, words: Words<'_>) -> Result<CompanionConfig, LineFault>
-    ensures { GivesBy (λ x. x) faults.Memory result (inputs.config_of_words (words_left words.entry)) }
-{
-    let ((error, precision), rest) = own_clock(words)?;
-    let (selector, rest) = text(rest)?;
-    let (stem, rest) = text(rest)?;
-    finish(rest)?;
-    config_with(alloc, Local { error, precision }, selector, stem)
-}
-
 #[tactic(auto, unfolding(crate::specs::Inputs::header_of_words))]
 fn header(alloc: Global, words: Words<'_>) -> Result<CompanionConfig, LineFault>
     ensures { GivesBy (λ x. x) faults.Memory result (inputs.header_of_words (words_left words.entry)) }
 {
     let rest = skip(words, b"css-record")?;
     let rest = skip(rest, b"1")?;
-    config(alloc, rest)
+    let (error, rest) = number(rest, MAX_LOCAL_ERROR + 1)?;
+    let (precision, rest) = number(rest, MAX_LOCAL_PRECISION + 1)?;
+    let (selector, rest) = text(rest)?;
+    let (stem, rest) = text(rest)?;
+    finish(rest)?;
+    let local = Local {
+        error: error as u32,
+        precision,
+    };
+    Ok(config(alloc, local, selector, stem)?)
 }
 
 /// Reads the header of a record, `css-record 1 EL PL SELECTOR STEM`, without its line feed.
