@@ -7,6 +7,7 @@ use Rattle.std.proofs.lemmas.List.Elements.{All-cons, All-head, All-tail, All-ni
 use Rattle.css_model.specs.WallClock.{Answer, Local, lower, upper}
 use Rattle.css_agree.specs.declared.best.Best.{Best}
 use Rattle.css_agree.specs.Bests.{higher_low, lesser_high, better_of, better_than, best_of}
+use Rattle.css_agree.specs.Keeping.{OfBoth}
 
 -- where the test says less, it is
 less_if : (a b : ℤ) → int_lt a b ≡ true → a ≤ℤ b
@@ -56,6 +57,14 @@ lesser-second own r a b = by (int_lt (upper own b r) (upper own a r)) refl
     by : (t : Bool) → int_lt (upper own b r) (upper own a r) ≡ t → upper own (if t then b else a) r ≤ℤ upper own b r
     by true e = omega (arith, ints)
     by false e = no_less_if (upper own b r) (upper own a r) e
+
+-- what holds of both answers of each holds of both of the better
+pub better-of_both : (own : Local) (r : ℕ) (P : Answer → Type 0) (a b : Best) → OfBoth P a → OfBoth P b
+    → OfBoth P (better_of own r a b)
+better-of_both own r P a b h k = record {
+  low = higher-of_both own r P a.low b.low h.low k.low;
+  high = lesser-of_both own r P a.high b.high h.high k.high;
+}
 
 -- ---- the best of all
 -- no lower end is above this one's, and no upper end is below it
@@ -108,39 +117,21 @@ best_of-beats own r (x ∷ xs) best e = by (best_of own r xs) refl e (best_of-be
         subst (λ (b : Best). All (IsBeaten own r b) (x ∷ xs)) same
         (All-cons (IsBeaten own r (better_of own r older x)) x xs (beaten-second own r older x) through)
 
--- what holds of each answer at the lower end holds of the best one there
-pub best_of-low : (own : Local) (r : ℕ) (P : Answer → Type 0) (xs : List Best) (best : Best) → All (λ b. P b.low) xs
-    → best_of own r xs ≡ Some best → P best.low
-best_of-low own r P [] best h e = cc
-best_of-low own r P (x ∷ xs) best h e =
-    by (best_of own r xs) (λ b. best_of-low own r P xs b (All-tail (λ (c : Best). P c.low) x xs h)) e
+-- what holds of the better of two of which it holds, and of each, holds of the best
+pub best_of-keeps : (own : Local) (r : ℕ) (P : Best → Type 0)
+    → ((a b : Best) → P a → P b → P (better_of own r a b))
+    → (xs : List Best) (best : Best) → All P xs → best_of own r xs ≡ Some best → P best
+best_of-keeps own r P closed [] best h e = cc
+best_of-keeps own r P closed (x ∷ xs) best h e =
+    by (best_of own r xs) (λ b. best_of-keeps own r P closed xs b (All-tail P x xs h)) e
   where
-    by : (o : Option Best) → ((b : Best) → o ≡ Some b → P b.low) → better_than own r x o ≡ Some best → P best.low
+    by : (o : Option Best) → ((b : Best) → o ≡ Some b → P b) → better_than own r x o ≡ Some best → P best
     by None rest chosen =
         let same : x ≡ best = cc chosen in
-        subst (λ (b : Best). P b.low) same (All-head (λ (b : Best). P b.low) x xs h)
+        subst P same (All-head P x xs h)
     by (Some older) rest chosen =
         let same : better_of own r older x ≡ best = cc chosen in
-        subst (λ (b : Best). P b.low) same
-        (higher-of_both own r P older.low x.low (rest older refl)
-        (All-head (λ (b : Best). P b.low) x xs h))
-
--- what holds of each answer at the upper end holds of the best one there
-pub best_of-high : (own : Local) (r : ℕ) (P : Answer → Type 0) (xs : List Best) (best : Best) → All (λ b. P b.high) xs
-    → best_of own r xs ≡ Some best → P best.high
-best_of-high own r P [] best h e = cc
-best_of-high own r P (x ∷ xs) best h e =
-    by (best_of own r xs) (λ b. best_of-high own r P xs b (All-tail (λ (c : Best). P c.high) x xs h)) e
-  where
-    by : (o : Option Best) → ((b : Best) → o ≡ Some b → P b.high) → better_than own r x o ≡ Some best → P best.high
-    by None rest chosen =
-        let same : x ≡ best = cc chosen in
-        subst (λ (b : Best). P b.high) same (All-head (λ (b : Best). P b.high) x xs h)
-    by (Some older) rest chosen =
-        let same : better_of own r older x ≡ best = cc chosen in
-        subst (λ (b : Best). P b.high) same
-        (lesser-of_both own r P older.high x.high (rest older refl)
-        (All-head (λ (b : Best). P b.high) x xs h))
+        subst P same (closed older x (rest older refl) (All-head P x xs h))
 
 -- ---- in the other order
 pub All-reversed : {A : Type 0} (P : A → Type 0) (xs : List A) → All P xs → All P (reverse xs)

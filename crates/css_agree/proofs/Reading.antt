@@ -1,8 +1,8 @@
 -- The reader of answers stands for one text more.
-use Rattle.std.proofs.Common.{◌≡◌, ◌⊎◌, inl, inr, ℕ, suc, ◌+◌, ◌-◌, ◌≤◌, arith, ap, sym, subst, ◌∙◌, refl, Bool}
+use Rattle.std.proofs.Common.{◌≡◌, ◌⊎◌, inl, inr, ℕ, suc, ◌+◌, ◌-◌, arith, ap, sym, subst, ◌∙◌, refl, Bool}
 use Rattle.std.proofs.Common.{true, false, List, [], ◌∷◌, ◌++◌, length}
 use Rattle.std.specs.Prelude.{ℤ, pos, int_lt, nat_lt, if◌then◌else◌, Some, None, Result, Ok, Err}
-use Rattle.std.proofs.lemmas.Bool.{ltb-true, ltb-false}
+use Rattle.std.proofs.lemmas.Bool.{ltb-true}
 use Rattle.css_model.specs.WallClock.{Answer, Local, scaled_width}
 use Rattle.css_span.specs.Frontiers.{Answers as Added}
 use Rattle.css_lines.specs.Answers.{Answers, MayFault}
@@ -45,60 +45,45 @@ push-length [] text = omega arith
 push-length (t ∷ texts) text = omega (arith, push-length texts text)
 
 -- ---- what a line that was read is meant to print
--- the fault of a fall, and its cause
-fall : ℕ → ℕ → ℕ → Cause
-fall earlier last reading = Broken earlier (pos (last - reading))
-
--- the test of the order, and what is meant, by whether the reading is below the last one
-test_by : Bool → Cause → Result (Unit {0}) (engine.LineFault Cause)
-test_by b cause = if b then Err (engines.Refused cause) else Ok tt
-
-meant_by : Bool → Cause → List ℕ → Result (List ℕ) Cause
-meant_by b cause printed = if b then Err cause else Ok printed
-
-by-ok : (b : Bool) (cause : Cause) (printed : List ℕ) → test_by b cause ≡ Ok tt → meant_by b cause printed ≡ Ok printed
-unfolding test_by meant_by
-by-ok true cause printed e = absurd (cc)
-by-ok false cause printed e = refl
-
-told : (cause : Cause) (fault : engine.LineFault Cause)
-    → test_by true cause ≡ Err fault → engines.Refused cause ≡ fault
-unfolding test_by
-told cause fault h = cc
-
-by-err : (b : Bool) (cause : Cause) (printed : List ℕ) (fault : engine.LineFault Cause) → test_by b cause ≡ Err fault
-    → MayFault (meant_by b cause printed) fault
-unfolding test_by meant_by
-by-err true cause printed fault e =
-    subst (λ (f : engine.LineFault Cause). MayFault {Cause = Cause} (Err cause) f) (told cause fault e) refl
-by-err false cause printed fault e = absurd (cc)
-
-by-low : (b : Bool) (cause : Cause) → test_by b cause ≡ Ok tt → b ≡ false
-unfolding test_by
-by-low true cause e = absurd (cc)
-by-low false cause e = refl
-
-by-high : (b : Bool) (cause : Cause) (fault : engine.LineFault Cause) → test_by b cause ≡ Err fault → b ≡ true
-unfolding test_by
-by-high true cause fault e = refl
-by-high false cause fault e = absurd (cc)
-
 in_order-ok : (earlier last reading : ℕ) (printed : List ℕ) → order_of earlier last reading ≡ Ok tt
     → in_order earlier last reading printed ≡ Ok printed
-unfolding fall test_by meant_by
-in_order-ok earlier last reading printed e = by-ok (nat_lt reading last) (fall earlier last reading) printed e
+in_order-ok earlier last reading printed = by (nat_lt reading last)
+  where
+    cause : Cause
+    cause = Broken earlier (pos (last - reading))
+
+    by : (b : Bool) → (if b then Err (engines.Refused cause) else Ok (tt {0})) ≡ Ok (tt {0})
+        → (if b then Err cause else Ok printed) ≡ Ok printed
+    by true e = absurd (cc)
+    by false e = refl
+
+-- a refusal is one fault
+same_fault : (one other : engine.LineFault Cause) (result : Result (Unit {0}) (engine.LineFault Cause))
+    → result ≡ Err one → result ≡ Err other → one ≡ other
+same_fault one other result is e = cc
 
 in_order-err : (earlier last reading : ℕ) (printed : List ℕ) (fault : engine.LineFault Cause)
     → order_of earlier last reading ≡ Err fault → MayFault (in_order earlier last reading printed) fault
-unfolding fall test_by meant_by
-in_order-err earlier last reading printed fault e =
-    by-err (nat_lt reading last) (fall earlier last reading) printed fault e
+in_order-err earlier last reading printed fault = by (nat_lt reading last)
+  where
+    cause : Cause
+    cause = Broken earlier (pos (last - reading))
+
+    by : (b : Bool) → (if b then Err (engines.Refused cause) else Ok (tt {0})) ≡ Err fault
+        → MayFault (if b then Err cause else Ok printed) fault
+    by true e =
+        subst (λ (f : engine.LineFault Cause). MayFault {Cause = Cause} (Err cause) f)
+        (same_fault (engines.Refused cause) fault (Err (engines.Refused cause)) refl e) refl
+    by false e = absurd (cc)
 
 -- without a line before, no reading is refused
 never_refused : (earlier reading : ℕ) (fault : engine.LineFault Cause) → order_of earlier 0 reading ≡ Err fault → ⊥
-unfolding fall test_by
-never_refused earlier reading fault e =
-    omega (arith, ltb-true reading 0 (by-high (nat_lt reading 0) (fall earlier 0 reading) fault e))
+never_refused earlier reading fault = by (nat_lt reading 0) refl
+  where
+    by : (b : Bool) → nat_lt reading 0 ≡ b
+        → (if b then Err (engines.Refused (Broken earlier (pos (0 - reading)))) else Ok (tt {0})) ≡ Err fault → ⊥
+    by true is e = omega (arith, ltb-true reading 0 is)
+    by false is e = absurd (cc)
 
 -- what is meant of a line whose reading is in order
 meant-ok : (own : Local) (older : List Numbered) (earlier last number : ℕ) (line : AnswerLine)
@@ -133,40 +118,24 @@ meant-err own (now ∷ older) earlier last number line fault is e =
     (subst (λ (n : ℕ). order_of n (reading_of now.line) (reading_of line) ≡ Err fault) (sym is.0)
     (subst (λ (r : ℕ). order_of earlier r (reading_of line) ≡ Err fault) (sym is.1) e))
 
--- a reading that is in order isn't below the last one
-pub ordered : (earlier last reading : ℕ) → order_of earlier last reading ≡ Ok tt → last ≤ reading
-unfolding fall test_by
-ordered earlier last reading e =
-    omega (arith, ltb-false reading last (by-low (nat_lt reading last) (fall earlier last reading) e))
-
 -- ---- an answer
--- an answer that was added, or that is impossible
-verdict_by : Bool → ℤ → Result (Unit {0}) AgreeFault
-verdict_by b width = if b then Err (Impossible width) else Ok tt
-
-verdict-ok : (b : Bool) (width : ℤ) → verdict_by b width ≡ Ok tt → b ≡ false
-unfolding verdict_by
-verdict-ok true width e = absurd (cc)
-verdict-ok false width e = refl
-
-verdict-err : (b : Bool) (width : ℤ) (fault : AgreeFault) → verdict_by b width ≡ Err fault → b ≡ true
-unfolding verdict_by
-verdict-err true width fault e = refl
-verdict-err false width fault e = absurd (cc)
-
 pub answer-added : (own : Local) (answer : Answer) (others : Added) → verdict own answer.t4 answer ≡ Ok tt
     → with_answer own answer others ≡ answer ∷ others
-unfolding verdict_by
-answer-added own answer others e =
-    ap (λ (b : Bool). if b then others else answer ∷ others)
-    (verdict-ok (int_lt (scaled_width own answer answer.t4) (pos 0)) (scaled_width own answer answer.t4) e)
+answer-added own answer others = by (int_lt (scaled_width own answer answer.t4) (pos 0))
+  where
+    by : (b : Bool) → (if b then Err (Impossible (scaled_width own answer answer.t4)) else Ok (tt {0})) ≡ Ok (tt {0})
+        → (if b then others else answer ∷ others) ≡ answer ∷ others
+    by true e = absurd (cc)
+    by false e = refl
 
-pub answer-left : (own : Local) (answer : Answer) (others : Added) (fault : AgreeFault)
+answer-left : (own : Local) (answer : Answer) (others : Added) (fault : AgreeFault)
     → verdict own answer.t4 answer ≡ Err fault → with_answer own answer others ≡ others
-unfolding verdict_by
-answer-left own answer others fault e =
-    ap (λ (b : Bool). if b then others else answer ∷ others)
-    (verdict-err (int_lt (scaled_width own answer answer.t4) (pos 0)) (scaled_width own answer answer.t4) fault e)
+answer-left own answer others fault = by (int_lt (scaled_width own answer answer.t4) (pos 0))
+  where
+    by : (b : Bool) → (if b then Err (Impossible (scaled_width own answer answer.t4)) else Ok (tt {0})) ≡ Err fault
+        → (if b then others else answer ∷ others) ≡ others
+    by true e = refl
+    by false e = absurd (cc)
 
 -- a call that answers that it is impossible
 pub impossible-left : (own : Local) (answer : Answer) (others : Added) (fault : AgreeFault) (width : ℤ)
@@ -247,14 +216,3 @@ next-number reader number before other stands is stood =
     last : (r : Agreeing) (texts : List (List ℕ)) → Stands r texts → r.last ≡ length texts
     last r [] s = s.0
     last r (first ∷ texts) s = s.0
-
--- there are lines that the reader's agreement keeps
-pub some_lines : (reader : Agreeing) (agree : Kept) (before : List (List ℕ)) → reader.agree ≡ Some agree
-    → Stands reader before → (older : List Numbered) × Keeps agree older reader.last reader.reading
-some_lines reader agree [] there stands = let none : None ≡ Some agree = sym stands.1 ∙ there in absurd (cc)
-some_lines reader agree (first ∷ texts) there stands =
-    let known = stands.1 in (
-      lines_in texts,
-      subst (λ (k : Kept). Keeps k (lines_in texts) reader.last reader.reading)
-          (same_Some known.0 agree (sym known.1 ∙ there)) known.3,
-    )

@@ -14,7 +14,7 @@ use Rattle.css_agree.specs.declared.best.Best.{Best}
 use Rattle.css_agree.specs.Bests.{best_of}
 use Rattle.css_agree.specs.Agreements.{HasGreatestLow, HasLeastHigh}
 use Rattle.css_agree.specs.Keeping.{Kept, IsKept, OfBoth, IsMatched, StandsFor}
-use Rattle.css_agree.proofs.Choices.{IsBeaten, best_of-beats, best_of-low, best_of-high, best_of-none}
+use Rattle.css_agree.proofs.Choices.{IsBeaten, best_of-beats, best_of-keeps, best_of-none, better-of_both}
 use Rattle.css_agree.proofs.Choices.{All-reversed, All-unreversed}
 use Rattle.css_agree.proofs.Standing.{both-later}
 
@@ -48,18 +48,12 @@ high-matched own r best (x ∷ xs) a beaten (inr rest) =
 
 -- ---- the best of what is kept
 -- what holds of both answers of each that is kept holds of both of the best
-pub best-of_both : (own : Local) (r : ℕ) (P : Answer → Type 0) (xs : List Best) (best : Best) → All (OfBoth P) xs
+best-of_both : (own : Local) (r : ℕ) (P : Answer → Type 0) (xs : List Best) (best : Best) → All (OfBoth P) xs
     → best_of own r (reverse xs) ≡ Some best → OfBoth P best
 best-of_both own r P xs best h e =
-    let turned : All (OfBoth P) (reverse xs) = All-reversed (OfBoth P) xs h in
-    record {
-      low = best_of-low own r P (reverse xs) best
-          (All-weaker (OfBoth P) (λ b. P b.low) (λ b k. k.low) (reverse xs) turned) e;
-      high = best_of-high own r P (reverse xs) best
-          (All-weaker (OfBoth P) (λ b. P b.high) (λ b k. k.high) (reverse xs) turned) e;
-    }
+    best_of-keeps own r (OfBoth P) (better-of_both own r P) (reverse xs) best (All-reversed (OfBoth P) xs h) e
 
-pub best-possible : (own : Local) (r s : ℕ) (xs : List Best) (best : Best) → IsLocal own → r ≤ s
+best-possible : (own : Local) (r s : ℕ) (xs : List Best) (best : Best) → IsLocal own → r ≤ s
     → All (OfBoth (IsPossible own r)) xs → best_of own s (reverse xs) ≡ Some best → OfBoth (IsPossible own s) best
 best-possible own r s xs best local later h e =
     best-of_both own s (IsPossible own s) xs best (both-later own r s xs local later h) e

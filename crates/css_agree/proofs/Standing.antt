@@ -13,7 +13,7 @@ use Rattle.css_agree.specs.declared.best.Best.{Best}
 use Rattle.css_agree.specs.Bests.{better_of, alone, kept_with}
 use Rattle.css_agree.specs.Keeping.{OfBoth, DeclareOne, IsNoWorse, IsMatched, keeps, StandsFor}
 use Rattle.css_agree.proofs.Alike.{ends_move_alike}
-use Rattle.css_agree.proofs.Choices.{higher-of_both, higher-first, higher-second}
+use Rattle.css_agree.proofs.Choices.{better-of_both, higher-of_both, higher-first, higher-second}
 use Rattle.css_agree.proofs.Choices.{lesser-of_both, lesser-first, lesser-second}
 
 -- ---- what holds of each answer that is kept, and of the new one, goes on holding of each that is kept
@@ -29,10 +29,7 @@ of_both-with own r P a (x ∷ xs) here h =
     by true ih =
         let first : OfBoth P x = All-head (OfBoth P) x xs h in
         All-cons (OfBoth P) (better_of own r x (alone a)) xs
-        (record {
-          low = higher-of_both own r P x.low a first.low here;
-          high = lesser-of_both own r P x.high a first.high here;
-        })
+        (better-of_both own r P x (alone a) first (record { low = here; high = here }))
         (All-tail (OfBoth P) x xs h)
     by false ih = All-cons (OfBoth P) x (kept_with own r a xs) (All-head (OfBoth P) x xs h) ih
 

@@ -1,30 +1,23 @@
-ghost use Rattle.std.specs.Prelude.{◌≡◌, ◌<◌, ◌++◌, OnOk, OnErr};
+ghost use Rattle.std.specs.Prelude.{◌≡◌, ◌<◌, ◌++◌, decimal, OnOk, OnErr};
 ghost use Rattle.css_agree.specs.Agreements.{ArePossible};
-ghost use Rattle.css_agree.specs.Printed.{agreed_text, ends_line, impossible_line, no_answer_line};
+ghost use Rattle.css_agree.specs.Printed.{agreed_text, ends_line};
 
 use crate::agreed::Agreed;
 use css_model::LIMIT;
 use css_span::{Local, Span, span};
 use std::alloc::{AllocError, Global};
 
-/// Adds `N impossible`.
-pub(crate) fn print_impossible(
+/// Adds a number and words.
+pub(crate) fn print_words(
     alloc: Global,
     number: u64,
+    words: &str,
     out: &mut Vec<u8>,
 ) -> Result<(), AllocError>
-    ensures ok { OnOk result (out.new.items ≡ out.old.items ++ impossible_line number) }
+    ensures ok { OnOk result (out.new.items ≡ out.old.items ++ decimal number ++ words.now) }
     ensures err { OnErr result (out.new.items ≡ out.old.items) }
 {
-    let line = format!(in alloc; "{number} impossible\n")?;
-    out.extend_from_slice(line.as_bytes())
-}
-
-fn print_none(alloc: Global, number: u64, out: &mut Vec<u8>) -> Result<(), AllocError>
-    ensures ok { OnOk result (out.new.items ≡ out.old.items ++ no_answer_line number) }
-    ensures err { OnErr result (out.new.items ≡ out.old.items) }
-{
-    let line = format!(in alloc; "{number} none NoAnswer\n")?;
+    let line = format!(in alloc; "{number}{words}")?;
     out.extend_from_slice(line.as_bytes())
 }
 
@@ -59,7 +52,7 @@ pub(crate) fn print_agreed(
     ensures err { OnErr result (out.new.items ≡ out.old.items) }
 {
     match agreed {
-        Agreed::Nothing => print_none(alloc, number, out),
+        Agreed::Nothing => print_words(alloc, number, " none NoAnswer\n", out),
         Agreed::Within(Span { lo, hi }) => print_ends(alloc, number, " agree ", *lo, *hi, out),
         Agreed::Disagree { low, high } => {
             let low = span(low, local, reading).lo;

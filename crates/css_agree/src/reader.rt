@@ -10,7 +10,7 @@ ghost use Rattle.css_agree.specs.declared.input.AnswerLine.TheVariants as lines;
 use crate::agree::Agree;
 use crate::fault::AgreeFault;
 use crate::input::{AnswerLine, read_header, read_line};
-use crate::printing::{print_agreed, print_impossible};
+use crate::printing::{print_agreed, print_words};
 use css_lines::{LineFault, Lines};
 use css_model::LIMIT;
 use css_span::Answer;
@@ -94,10 +94,12 @@ fn add(
     let reading = answer.t4;
     match agree.add(answer, reading) {
         Ok(()) => Ok(()),
-        Err(AgreeFault::Impossible(_)) => match print_impossible(alloc, number, out) {
-            Ok(()) => Ok(()),
-            Err(_) => Err(LineFault::Memory),
-        },
+        Err(AgreeFault::Impossible(_)) => {
+            match print_words(alloc, number, " impossible\n", out) {
+                Ok(()) => Ok(()),
+                Err(_) => Err(LineFault::Memory),
+            }
+        }
         Err(AgreeFault::Memory) => Err(LineFault::Memory),
     }
 }

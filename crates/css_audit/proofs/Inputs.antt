@@ -44,31 +44,11 @@ last-range words =
     pass IsTime (all_read rest) _ (λ done. small))
 
 -- each line by its name
-slept-range : (words : List (List ℕ)) → IfOk (slept_of words) IsInRange
-unfolding slept_of
-slept-range words = pass IsInRange (all_read words) _ (λ done. tt)
-
-turn-range : (words : List (List ℕ)) → IfOk (turn_of words) IsInRange
-unfolding turn_of
-turn-range words = after_whole IsTime IsInRange (last_reading words) _ (last-range words) (λ reading small. small)
-
-ask-range : (words : List (List ℕ)) → IfOk (ask_of words) IsInRange
-unfolding ask_of
-ask-range words = after_whole IsTime IsInRange (last_reading words) _ (last-range words) (λ reading small. small)
-
 land-range : (words : List (List ℕ)) → IfOk (land_of words) IsInRange
 unfolding land_of
 land-range words =
     after IsTime IsInRange _ _ (number-range LIMIT words) (λ reading rest small.
     pass IsInRange (last_bytes rest) _ (λ bytes. small))
-
-cii-range : (words : List (List ℕ)) → IfOk (cii_of words) IsInRange
-unfolding cii_of
-cii-range words = pass IsInRange (last_bytes words) _ (λ bytes. tt)
-
-ts-range : (words : List (List ℕ)) → IfOk (ts_of words) IsInRange
-unfolding ts_of
-ts-range words = pass IsInRange (last_bytes words) _ (λ bytes. tt)
 
 closed-range : (words : List (List ℕ)) → IfOk (closed_of words) IsInRange
 unfolding closed_of
@@ -79,14 +59,16 @@ closed-range words =
     (either IsInRange (bytes_eq name.0 (codes "ts")) _ _ tt tt)))
 
 named-range : (name : List ℕ) (words : List (List ℕ)) → IfOk (named name words) IsInRange
-unfolding named
+unfolding named slept_of turn_of ask_of cii_of ts_of
 named-range name words =
-    either IsInRange (bytes_eq name (codes "slept")) _ _ (slept-range words)
-    (either IsInRange (bytes_eq name (codes "turn")) _ _ (turn-range words)
-    (either IsInRange (bytes_eq name (codes "ask")) _ _ (ask-range words)
+    either IsInRange (bytes_eq name (codes "slept")) _ _ (pass IsInRange (all_read words) _ (λ done. tt))
+    (either IsInRange (bytes_eq name (codes "turn")) _ _
+    (after_whole IsTime IsInRange (last_reading words) _ (last-range words) (λ reading small. small))
+    (either IsInRange (bytes_eq name (codes "ask")) _ _
+    (after_whole IsTime IsInRange (last_reading words) _ (last-range words) (λ reading small. small))
     (either IsInRange (bytes_eq name (codes "land")) _ _ (land-range words)
-    (either IsInRange (bytes_eq name (codes "cii")) _ _ (cii-range words)
-    (either IsInRange (bytes_eq name (codes "ts")) _ _ (ts-range words)
+    (either IsInRange (bytes_eq name (codes "cii")) _ _ (pass IsInRange (last_bytes words) _ (λ bytes. tt))
+    (either IsInRange (bytes_eq name (codes "ts")) _ _ (pass IsInRange (last_bytes words) _ (λ bytes. tt))
     (either IsInRange (bytes_eq name (codes "closed")) _ _ (closed-range words) tt))))))
 
 words-range : (words : List (List ℕ)) → IfOk (line_of_words words) IsInRange

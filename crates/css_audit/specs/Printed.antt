@@ -15,6 +15,18 @@ header_words config =
 abbrev pub header_text : CompanionConfig → List ℕ
 header_text config = with_words (codes "css-record") (header_words config)
 
+-- the first word of a line
+abbrev pub name_of : RecordLine → List ℕ
+name_of lines.Slept = codes "slept"
+name_of (lines.Turn reading) = codes "turn"
+name_of (lines.Ask reading) = codes "ask"
+name_of (lines.Land reading bytes) = codes "land"
+name_of (lines.Cii bytes) = codes "cii"
+name_of (lines.Ts bytes) = codes "ts"
+name_of lines.ClosedCii = codes "closed"
+name_of lines.ClosedTs = codes "closed"
+name_of (lines.Report words) = codes "report"
+
 -- a line
 abbrev pub line_text : RecordLine → List ℕ
 line_text lines.Slept = codes "slept"

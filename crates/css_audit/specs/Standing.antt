@@ -83,39 +83,20 @@ pub record IsSound (companion : companions.Companion) (place : Place) : Type 0 w
 -- ---- for private clauses
 -- the place after a line without a reading
 abbrev pub counted : Place → Place
-counted place = record {
-  lines = next_number place.lines;
-  reports = place.reports;
-  last = place.last;
-  slept = place.slept;
-  turn = None;
-}
+counted place = record place { lines = next_number place.lines; turn = None }
 
 -- after a sleep
 abbrev pub slept : Place → Place
-slept place = record {
-  lines = next_number place.lines;
-  reports = place.reports;
-  last = place.last;
-  slept = true;
-  turn = None;
-}
+slept place = record (counted place) { slept = true }
 
 -- after a report
 abbrev pub reported : Place → Place
-reported place = record {
-  lines = next_number place.lines;
-  reports = next_number place.reports;
-  last = place.last;
-  slept = place.slept;
-  turn = None;
-}
+reported place = record (counted place) { reports = next_number place.reports }
 
 -- after a line with a reading, which may be that of a turn
 abbrev pub passed : Place → ℕ → Option ℕ → Place
-passed place reading turn = record {
+passed place reading turn = record place {
   lines = next_number place.lines;
-  reports = place.reports;
   last = Some (record { line = next_number place.lines; reading = reading });
   slept = false;
   turn = turn;
@@ -128,15 +109,6 @@ passed_by (Err wrong) place reading turn = Err wrong
 
 abbrev pub pass_of : Place → ℕ → Option ℕ → Result Place AuditFault
 pass_of place reading turn = passed_by (order_of place.last place.slept reading) place reading turn
-
--- after a line
-abbrev pub place_after : Place → RecordLine → Place
-place_after place lines.Slept = slept place
-place_after place (lines.Turn reading) = passed place reading (Some reading)
-place_after place (lines.Ask reading) = passed place reading None
-place_after place (lines.Land reading bytes) = passed place reading None
-place_after place (lines.Report words) = reported place
-place_after place _ = counted place
 
 -- an event that a record has a line for
 abbrev pub IsRecorded : CompanionEvent → Type 0

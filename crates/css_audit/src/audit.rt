@@ -74,8 +74,7 @@ impl Audit {
         ensures keeps { config_of self.new.companion ≡ config_of self.old.companion }
     {
         let line = read_line(self.alloc, bytes)?;
-        let place = take(self.alloc, &mut self.companion, &self.place, line)?;
-        self.place = place;
+        self.place = take(self.alloc, &mut self.companion, &self.place, line)?;
         Ok(())
     }
 }

@@ -97,10 +97,8 @@ impl Place {
     {
         Place {
             lines: self.next_line(),
-            reports: self.reports,
-            last: self.last,
-            slept: self.slept,
             turn: None,
+            ..*self
         }
     }
 
@@ -110,10 +108,9 @@ impl Place {
     {
         Place {
             lines: self.next_line(),
-            reports: self.reports,
-            last: self.last,
             slept: true,
             turn: None,
+            ..*self
         }
     }
 
@@ -124,9 +121,8 @@ impl Place {
         Place {
             lines: self.next_line(),
             reports: self.next_report(),
-            last: self.last,
-            slept: self.slept,
             turn: None,
+            ..*self
         }
     }
 
@@ -145,10 +141,10 @@ impl Place {
         let line = self.next_line();
         Ok(Place {
             lines: line,
-            reports: self.reports,
             last: Some(LastReading { line, reading }),
             slept: false,
             turn,
+            ..*self
         })
     }
 }

@@ -25,70 +25,64 @@ fn add_number(text: &mut Text, number: u64) -> Result<(), Memory>
 }
 
 // The digits of bytes, or `-` for none.
-fn hex_text(alloc: Global, bytes: &[u8]) -> Result<Text, Memory>
-    ensures { IfOk result (λ text. text ≡ hex_of bytes.now) }
-{
-    if bytes.is_empty() {
-        return Text::of(alloc, b"-");
-    }
-    let digits = hex::encode(alloc, bytes)?;
-    Text::of(alloc, digits.as_bytes())
-}
-
-fn add_bytes(alloc: Global, text: &mut Text, bytes: &Text) -> Result<(), Memory>
+fn add_bytes(alloc: Global, text: &mut Text, bytes: &[u8]) -> Result<(), Memory>
     ensures { OnOk result (text.new ≡ with_words text.old (hex_of bytes.now ∷ [])) }
 {
-    let digits = hex_text(alloc, bytes.bytes())?;
-    add_word(text, digits.bytes())
+    if bytes.is_empty() {
+        return add_word(text, b"-");
+    }
+    let digits = hex::encode(alloc, bytes)?;
+    add_word(text, digits.as_bytes())
 }
 
-fn named(alloc: Global, name: &[u8], word: &[u8]) -> Result<Text, Memory>
-    ensures { IfOk result (λ text. text ≡ with_words name.now (word.now ∷ [])) }
+fn add_landing(alloc: Global, text: &mut Text, reading: u64, bytes: &[u8]) -> Result<(), Memory>
+    ensures { OnOk result (text.new ≡ with_words text.old (decimal reading ∷ hex_of bytes.now ∷ [])) }
 {
-    let mut text = Text::of(alloc, name)?;
-    add_word(&mut text, word)?;
-    Ok(text)
+    add_number(text, reading)?;
+    add_bytes(alloc, text, bytes)
 }
 
-fn with_reading(alloc: Global, name: &[u8], reading: u64) -> Result<Text, Memory>
-    ensures { IfOk result (λ text. text ≡ with_words name.now (decimal reading ∷ [])) }
+// The first word of a line.
+fn name(line: &RecordLine) -> &'static [u8]
+    ensures { result.now ≡ printed.name_of line.now }
 {
-    let mut text = Text::of(alloc, name)?;
-    add_number(&mut text, reading)?;
-    Ok(text)
+    match line {
+        RecordLine::Slept => b"slept",
+        RecordLine::Turn { .. } => b"turn",
+        RecordLine::Ask { .. } => b"ask",
+        RecordLine::Land { .. } => b"land",
+        RecordLine::Cii(_) => b"cii",
+        RecordLine::Ts(_) => b"ts",
+        RecordLine::ClosedCii | RecordLine::ClosedTs => b"closed",
+        RecordLine::Report(_) => b"report",
+    }
 }
 
-fn with_bytes(alloc: Global, name: &[u8], bytes: &Text) -> Result<Text, Memory>
-    ensures { IfOk result (λ text. text ≡ with_words name.now (hex_of bytes.now ∷ [])) }
+// The other words of a line, after its name.
+fn add_words(alloc: Global, text: &mut Text, line: &RecordLine) -> Result<(), Memory>
+    requires { text.old ≡ printed.name_of line.now }
+    ensures { OnOk result (text.new ≡ printed.line_text line.now) }
 {
-    let mut text = Text::of(alloc, name)?;
-    add_bytes(alloc, &mut text, bytes)?;
-    Ok(text)
-}
-
-fn landing(alloc: Global, reading: u64, bytes: &Text) -> Result<Text, Memory>
-    ensures { IfOk result (λ text. text ≡ with_words (codes "land") (decimal reading ∷ hex_of bytes.now ∷ [])) }
-{
-    let mut text = with_reading(alloc, b"land", reading)?;
-    add_bytes(alloc, &mut text, bytes)?;
-    Ok(text)
+    match line {
+        RecordLine::Slept => Ok(()),
+        RecordLine::Turn { reading } => add_number(text, *reading),
+        RecordLine::Ask { reading } => add_number(text, *reading),
+        RecordLine::Land { reading, bytes } => add_landing(alloc, text, *reading, bytes.bytes()),
+        RecordLine::Cii(bytes) => add_bytes(alloc, text, bytes.bytes()),
+        RecordLine::Ts(bytes) => add_bytes(alloc, text, bytes.bytes()),
+        RecordLine::ClosedCii => add_word(text, b"cii"),
+        RecordLine::ClosedTs => add_word(text, b"ts"),
+        RecordLine::Report(words) => add_word(text, words.bytes()),
+    }
 }
 
 /// The line of a record, without its line feed.
 pub fn print_line(alloc: Global, line: &RecordLine) -> Result<Text, Memory>
     ensures { IfOk result (λ text. text ≡ printed.line_text line.now) }
 {
-    match line {
-        RecordLine::Slept => Text::of(alloc, b"slept"),
-        RecordLine::Turn { reading } => with_reading(alloc, b"turn", *reading),
-        RecordLine::Ask { reading } => with_reading(alloc, b"ask", *reading),
-        RecordLine::Land { reading, bytes } => landing(alloc, *reading, bytes),
-        RecordLine::Cii(bytes) => with_bytes(alloc, b"cii", bytes),
-        RecordLine::Ts(bytes) => with_bytes(alloc, b"ts", bytes),
-        RecordLine::ClosedCii => named(alloc, b"closed", b"cii"),
-        RecordLine::ClosedTs => named(alloc, b"closed", b"ts"),
-        RecordLine::Report(words) => named(alloc, b"report", words.bytes()),
-    }
+    let mut text = Text::of(alloc, name(line))?;
+    add_words(alloc, &mut text, line)?;
+    Ok(text)
 }
 
 fn add_stem(text: &mut Text, stem: &[u8]) -> Result<(), Memory>
@@ -101,15 +95,22 @@ fn add_stem(text: &mut Text, stem: &[u8]) -> Result<(), Memory>
     }
 }
 
+// The words of a header after its name.
+fn add_config(text: &mut Text, config: &CompanionConfig) -> Result<(), Memory>
+    ensures { OnOk result (text.new ≡ with_words text.old (printed.header_words config.now)) }
+{
+    add_number(text, 1)?;
+    add_number(text, u64::from(config.local.error))?;
+    add_number(text, config.local.precision)?;
+    add_word(text, config.selector.bytes())?;
+    add_stem(text, config.stem.bytes())
+}
+
 /// The header of a companion's record, without its line feed.
 pub fn print_header(alloc: Global, config: &CompanionConfig) -> Result<Text, Memory>
     ensures { IfOk result (λ text. text ≡ printed.header_text config.now) }
 {
     let mut text = Text::of(alloc, b"css-record")?;
-    add_number(&mut text, 1)?;
-    add_number(&mut text, u64::from(config.local.error))?;
-    add_number(&mut text, config.local.precision)?;
-    add_word(&mut text, config.selector.bytes())?;
-    add_stem(&mut text, config.stem.bytes())?;
+    add_config(&mut text, config)?;
     Ok(text)
 }

@@ -107,10 +107,7 @@ impl Lines for Auditing {
                 self.audit = Some(open(self.alloc, text)?);
                 Ok(())
             }
-            Some(audit) => {
-                take_line(audit, text)?;
-                Ok(())
-            }
+            Some(audit) => take_line(audit, text),
         }
     }
 

@@ -15,8 +15,8 @@ returns-in-Ok-clause-stands c = λ added stands.
     c.in-Ok.ensures.verdict)))
     (c.in-Ok.ensures.ok.stands added stands)
 
-pub returns-in-Ok-print_impossible-clause-stands : goal.returns-in-Ok-print_impossible-clause-stands
-returns-in-Ok-print_impossible-clause-stands c = λ added stands.
+pub returns-in-Ok-print_words-clause-stands : goal.returns-in-Ok-print_words-clause-stands
+returns-in-Ok-print_words-clause-stands c = λ added stands.
     subst (StandsFor c.add.new.self)
     (sym (impossible-left c.args.agree.now.local c.args.answer added c.in-Err-Impossible.field-0
     c.in-Err-Impossible.field-0-0 c.in-Err-Impossible.field-0-is
