@@ -2,7 +2,7 @@
 use Rattle.std.proofs.Common.{◌≡◌, ◌≤◌, ℕ, Bool, true, false, cond, not, List, ◌∷◌}
 use Rattle.std.proofs.Common.{refl, ap, sym, subst, ◌∙◌, ◌⊎◌, inl, inr}
 use Rattle.std.specs.Prelude.{◌&&◌, Option, Some, None, is_some, Result, Ok, Err}
-use Rattle.std.specs.Option.{option_map, ok_or}
+use Rattle.std.specs.Option.{option_map}
 use Rattle.std.specs.Result.{IsErrAnd}
 use Rattle.std.proofs.lemmas.Result.{err_from_is_err_and}
 use Rattle.css_model.specs.declared.Why.TheVariants as why
@@ -117,12 +117,6 @@ pub wants : (old new : World) (result : Result (Unit {0}) WorldFault) (lines : L
     (who : ℕ) (verb : Verb) → IsErrAnd result (λ fault. fault ≡ Memory) → Carries old new result lines now who verb
 wants old new (Ok done) lines now who verb none = absurd none
 wants old new (Err fault) lines now who verb memory = record { answer = inr memory; ends = tt }
-
--- what is missing is Absent
-pub absent : {A : Type 0} (o : Option A) (fault : WorldFault) → Err fault ≡ ok_or o Absent
-    → (o ≡ None) × (fault ≡ Absent)
-absent None fault is = (refl, let same : fault ≡ Absent = cc in same)
-absent (Some x) fault is = absurd (cc)
 
 -- ---- both ends
 -- a verb that isn't one of requests and datagrams
