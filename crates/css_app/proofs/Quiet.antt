@@ -1,6 +1,6 @@
 -- Which faults a command's status never tells.
 use Rattle.std.proofs.Common.{◌≡◌, ℕ, List, refl, sym, subst, arith, inl, inr}
-use Rattle.std.specs.Prelude.{Option, Some, None}
+use Rattle.std.specs.Prelude.{Option, Some, None, Ok, Err}
 use Rattle.css_model.specs.History.{History}
 use Rattle.css_lines.specs.declared.ending.Stop.{Stop}
 use Rattle.css_lines.specs.declared.ending.Stop.TheVariants as stops
