@@ -7,6 +7,7 @@ use Rattle.std.specs.Ordering.{int_eq}
 use Rattle.css_model.specs.History.{History}
 use Rattle.css_outside.specs.Faults.{CountsCall}
 use Rattle.css_outside.specs.Spawners.{Spawned, Started, Finished, TellsSpawned}
+use Rattle.css_outside.specs.declared.failure.Failure.{Failure}
 use Rattle.css_outside.specs.declared.fault.OutFault.{OutFault}
 use Rattle.css_outside.specs.declared.fault.OutFault.TheVariants as fault
 use Rattle.css_follow.specs.Following.{Plan}

@@ -51,13 +51,13 @@ fn add_flag(alloc: Global, words: &mut Vec<Text>, name: &[u8], set: bool) -> Res
     Ok(())
 }
 
-// Adds the option that says how long a run goes on.
-fn add_limit(alloc: Global, words: &mut Vec<Text>, limit: Limit) -> Result<(), Memory>
-    ensures { OnOk result (words.new.items ≡ words.old.items ++ pairs.limit_word limit ∷ []) }
+// The option that says how long a run goes on, and its number.
+fn limit_option(limit: Limit) -> (&'static [u8], u64)
+    ensures { pairs.option_word result.0.now (pos result.1) ≡ pairs.limit_word limit }
 {
     match limit {
-        Limit::Turns(turns) => add_option(alloc, words, b"--turns=", i128::from(turns)),
-        Limit::Seconds(seconds) => add_option(alloc, words, b"--seconds=", i128::from(seconds)),
+        Limit::Turns(turns) => (b"--turns=", turns),
+        Limit::Seconds(seconds) => (b"--seconds=", seconds),
     }
 }
 
@@ -68,7 +68,8 @@ pub(crate) fn child_words(alloc: Global, child: &Child, limit: Limit) -> Result<
     let mut words = Vec::new(alloc);
     words.push(Text::of(alloc, b"tv")?)?;
     add_option(alloc, &mut words, b"--port=", i128::from(child.port))?;
-    add_limit(alloc, &mut words, limit)?;
+    let (name, count) = limit_option(limit);
+    add_option(alloc, &mut words, name, i128::from(count))?;
     add_option(
         alloc,
         &mut words,

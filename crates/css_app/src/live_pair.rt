@@ -34,9 +34,7 @@ fn child_status(finished: Result<i32, OutFault>) -> Status
             if ended == 0 {
                 Status::Done
             } else {
-                Status::ChildFault {
-                    status: Ok(ended),
-                }
+                Status::ChildFault { status: Ok(ended) }
             }
         }
         Err(OutFault::Failed(failure)) => Status::ChildFault {

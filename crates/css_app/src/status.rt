@@ -161,9 +161,7 @@ impl fmt::Display for Status {
             Status::Spent { turns } => write!(f, "spent after {turns} turns"),
             Status::Unreachable { turns } => write!(f, "unreachable after {turns} turns"),
             Status::ChildFault { status: Err(_) } => f.write_str("child fault"),
-            Status::ChildFault {
-                status: Ok(status),
-            } => write!(f, "child status {status}"),
+            Status::ChildFault { status: Ok(status) } => write!(f, "child status {status}"),
             Status::BadSheet { line } => write!(f, "sheet line {line}"),
             Status::BadUrl { property } => write!(f, "bad url {property}"),
             Status::WrongReport { line, .. } => write!(f, "line {line}: wrong report"),

@@ -1,6 +1,8 @@
 //! The live commands over devices in memory.
 
-use crate::live_tables::{CHANGED, COMPANIONS, EARLY, FAILING, PAIR, PAIRS, RECORDS, TELEVISIONS, TIMED};
+use crate::live_tables::{
+    CHANGED, COMPANIONS, EARLY, FAILING, PAIR, PAIRS, RECORDS, TELEVISIONS, TIMED,
+};
 use crate::running::{Case, NO_MEMORY, check_rows, check_run};
 use std::alloc::Global;
 use std::process::Abort;

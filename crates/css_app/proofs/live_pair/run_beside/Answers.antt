@@ -1,7 +1,5 @@
 use Rattle.std.proofs.Common.{subst, sym, ap, refl, inl, inr, ◌∙◌, arith}
-use Rattle.std.specs.Prelude.{Err}
 use Rattle.css_outside.specs.Faults.{CountsOutFault}
-use Rattle.css_app.specs.declared.status.Status.TheVariants as status
 use Rattle.css_app.specs.Ended.{CountsReads, CountsWrites}
 use Rattle.css_app.specs.Live.{CountsCalls, CountsDials, CountsSpawns}
 use Rattle.css_app.specs.Pairs.{PairsAsDue, children}
@@ -24,8 +22,7 @@ pub returns-in-Err-Failed-clause-complete : goal.returns-in-Err-Failed-clause-co
 returns-in-Err-Failed-clause-complete g c wrote called spawned =
     let risen = subst (CountsOutFault (g.P.Spawner.faults c.args.spawner.now) (g.P.Spawner.faults c.start.new.self))
     c.in-Err-Failed.field-0-is c.in-Err-Failed.ensures.counted in
-    absurd {A = PairsAsDue c.args.config (g.O.Outside.told c.args.outside.now) (g.O.Outside.told c.args.outside.now)
-    (status.ChildFault (Err c.in-Err-Failed.failure))} (omega (arith, risen.risen spawned.below, spawned.same))
+    absurd (omega (arith, risen.risen spawned.below, spawned.same))
 
 pub returns-in-Err-Memory-clause-ran : goal.returns-in-Err-Memory-clause-ran
 returns-in-Err-Memory-clause-ran g c =
