@@ -32,8 +32,8 @@ pub enum Status {
     ReadFault,
     /// A write failed. A part of the output of the lines that were read, or of the reports that were due, was written.
     WriteFault,
-    /// A call of the network or of the clock failed, and the system said this of it. Of a dial that failed nothing is told
-    /// here: it is made again.
+    /// A call of the network or of the clock failed, and the system said this of it. Of a dial that failed nothing is
+    /// told here: it is made again.
     NetFault(Failure),
     /// The text of the CSS-CII session with this number, counted from 1, has this fault, which is never `Memory`.
     BadCii {
