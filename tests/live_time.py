@@ -27,7 +27,7 @@ def flooded(check, program, port):
         udp.connect(("127.0.0.1", port))
         sent = 0
         while time.monotonic() < begun + 6 and child.poll() is None:
-            for _ in range(25):
+            for _ in range(45):
                 try:
                     udp.send(b"x" * 32)
                     sent += 1
