@@ -122,7 +122,7 @@ class Browser:
     def until(self, script, seconds=20):
         """Whether a script comes to be true in time."""
         end = time.monotonic() + seconds
-        while not self.tell(script):
+        while not self.tell(f"!!({script})"):
             if time.monotonic() > end:
                 return False
             time.sleep(0.1)
@@ -136,9 +136,10 @@ class Browser:
         self.call("Emulation.setEmulatedMedia", features=[scheme])
 
     def open(self, url):
-        """Whether a page is there, with its first lines."""
+        """Whether a page is there, connected and drawn."""
         self.call("Page.navigate", url=url)
-        return self.until(f"location.href === {json.dumps(url)} && !!document.getElementById('link') && link.open")
+        return self.until(f"location.href === {json.dumps(url)}"
+                          " && /, [0-9,]+ lines/.test(document.getElementById('link')?.textContent)")
 
     def key(self, name):
         for kind in ("rawKeyDown", "keyUp"):

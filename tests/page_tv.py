@@ -45,12 +45,17 @@ class Television:
     """What is shown, and the texts that are told of it."""
 
     def __init__(self):
-        self.wall_begin, self.on, self.told = 1_764_403_200 * SECOND, True, True
+        self.begins = [(0, 1_764_403_200 * SECOND)]  # From when on the clock counts from where.
+        self.on, self.told = True, True
         self.channel, self.control = 1, None
         self.show(0, 900_000, 1)
 
     def wall(self, time):
-        return self.wall_begin + time + time * 37 // 10**6
+        begin = max(begin for begin in self.begins if begin[0] <= time)[1]
+        return begin + time + time * 37 // 10**6
+
+    def set_clock(self, time, by):
+        self.begins.append((time, self.begins[-1][1] + by))
 
     def show(self, time, tick, speed):
         self.control = {"contentTime": str(tick), "timelineSpeedMultiplier": speed,
@@ -145,7 +150,7 @@ class Evening:
             landed, asked, received, sent = self.flying.pop(0)
             answer = (BEGIN + asked, received, sent, BEGIN + landed)
             low, high = span(answer, answer[3])
-            self.answers.append(answer)
+            self.answers = [*self.answers[-100:], answer]  # One that is older is never the narrowest.
             self.waiting = 0
             self.say("answer", error=ERROR, landed=self.reading(landed), originate=self.reading(asked),
                      precision=PRECISION, receive=str(received), transmit=str(sent), type=1, width=str(high - low))
@@ -221,7 +226,7 @@ class Evening:
 
     def do_on(self):
         self.tv.on, self.tv.told = True, False
-        self.tv.wall_begin -= 3600 * SECOND
+        self.tv.set_clock(self.time, -3600 * SECOND)
         self.tv.show(self.time, 324_900_000, 1)
 
     def do_tell(self):
@@ -247,7 +252,7 @@ class Evening:
         self.say("slept", reading=self.reading())
 
     def do_set_clock(self):
-        self.tv.wall_begin += 2 * SECOND
+        self.tv.set_clock(self.time, 2 * SECOND)
         self.tv.show(self.time, 327_000_000, 1)
         self.texts.append("TS")
 

@@ -26,15 +26,17 @@ KEPT_LINES, KEPT_BYTES, LONGEST = 20_000, 1 << 25, 1 << 20
 CONNECTIONS, PATIENCE, BATCH = 64, 5, 500
 SECOND = 10**9
 GREATEST = 2**32 * SECOND
+LASTING = ("visit", "dial", "state", "control")  # Events that hold until there is another one.
 RUN = os.urandom(6).hex()  # Parts the ids of this run from those of the one before.
 
 
 class Log:
-    """The last lines that were read, counted from 1. Whoever adds one never waits for a page."""
+    """The last lines that were read, counted from 1, and of older ones what still holds. Whoever adds a line never
+    waits for a page."""
 
     def __init__(self):
         self.changed = threading.Condition()
-        self.kept, self.size, self.count = collections.deque(), 0, 0
+        self.kept, self.size, self.count, self.older = collections.deque(), 0, 0, {}
         self.long, self.ended, self.last = 0, False, time.monotonic()
 
     def add(self, line):
@@ -44,8 +46,22 @@ class Log:
             self.count += 1
             self.last = time.monotonic()
             while len(self.kept) > KEPT_LINES or self.size > KEPT_BYTES:
-                self.size -= len(self.kept.popleft())
+                self.drop()
             self.changed.notify_all()
+
+    def drop(self):
+        """Takes the oldest line out. It stays beside the others where a page needs it to understand them."""
+        line = self.kept.popleft()
+        self.size -= len(line)
+        said = read(line)
+        if said.get("event") == "visit":
+            self.older.clear()
+        if said.get("event") in LASTING:
+            self.older[said["event"], str(said.get("service"))] = self.first(), line
+
+    def first(self):
+        """How many lines aren't kept any more."""
+        return self.count - len(self.kept)
 
     def end(self):
         with self.changed:
@@ -53,15 +69,16 @@ class Log:
             self.changed.notify_all()
 
     def begin(self, number):
-        """The number to go on from: this one, if the lines after it are still kept."""
+        """What of older lines a page needs that has all up to this number, and the number that it goes on from."""
         with self.changed:
-            return min(max(number, self.count - len(self.kept)), self.count)
+            older = sorted(one for one in self.older.values() if one[0] > number)
+            return older, min(max(number, self.first()), self.count)
 
     def after(self, number, ended, seconds):
         """Some of the lines after this number, once there is something new; None where they aren't kept any more."""
         with self.changed:
             self.changed.wait_for(lambda: self.count > number or self.ended != ended, seconds)
-            at = number - (self.count - len(self.kept))
+            at = number - self.first()
             return None if at < 0 else [self.kept[n] for n in range(at, min(at + BATCH, len(self.kept)))]
 
     def state(self, number):
@@ -69,6 +86,15 @@ class Log:
         with self.changed:
             age = round(1000 * (time.monotonic() - self.last))
             return {"age": age, "ended": self.ended, "long": self.long} if self.count == number else None
+
+
+def read(line):
+    """What a line says; nothing where it is no object."""
+    try:
+        said = json.loads(line)
+    except (ValueError, RecursionError):
+        return {}
+    return said if isinstance(said, dict) else {}
 
 
 def document(local_error, local_precision):
@@ -80,6 +106,10 @@ def document(local_error, local_precision):
         inner = re.search(f"<{name}>(.*?)</{name}>", page, re.S)[1]
         policy += f"; {name}-src 'sha256-{base64.b64encode(hashlib.sha256(inner.encode()).digest()).decode()}'"
     return page.encode(), policy
+
+
+def event(number, line):
+    return b"id: %s-%d\ndata: %s\n\n" % (RUN.encode(), number, line)
 
 
 class Handler(http.server.BaseHTTPRequestHandler):
@@ -127,14 +157,12 @@ class Handler(http.server.BaseHTTPRequestHandler):
     def lines(self, log):
         """Hands the lines on, until the page is gone or too slow."""
         run, _, number = self.headers.get("Last-Event-ID", "").partition("-")
-        number = log.begin(int(number) if run == RUN and re.fullmatch(r"[0-9]{1,18}", number) else 0)
+        older, number = log.begin(int(number) if run == RUN and re.fullmatch(r"[0-9]{1,18}", number) else 0)
         ended, told = False, -1.0
-        self.wfile.write(b"retry: 500\n\n")
+        self.wfile.write(b"retry: 500\n\n" + b"".join(event(*one) for one in older))
         while (batch := log.after(number, ended, 1)) is not None:
-            events = []
-            for line in batch:
-                number += 1
-                events.append(b"id: %s-%d\ndata: %s\n\n" % (RUN.encode(), number, line))
+            events = [event(at, line) for at, line in enumerate(batch, number + 1)]
+            number += len(batch)
             state = log.state(number)
             if state and (state["ended"] != ended or time.monotonic() - told >= 1):
                 ended, told = state["ended"], time.monotonic()
@@ -182,13 +210,13 @@ def whole_lines(file, log):
 
 def reading_of(line):
     """The reading that a line tells, and whether the line begins a watch."""
+    said = read(line)
+    begins = (said.get("event"), said.get("number")) == ("visit", 1)
     try:
-        said = json.loads(line)
         reading = int(said.get("reading", said.get("landed")))
-        begins = (said.get("event"), said.get("number")) == ("visit", 1)
-        return (reading, begins) if 0 <= reading < GREATEST else (None, begins)
-    except (ValueError, TypeError, AttributeError, RecursionError):
-        return None, False
+    except (ValueError, TypeError):
+        return None, begins
+    return (reading, begins) if 0 <= reading < GREATEST else (None, begins)
 
 
 def paced(lines):
