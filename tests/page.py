@@ -16,25 +16,16 @@ import sys
 import threading
 import time
 
-from page_browser import CONTRAST, Browser
+from page_browser import CONTRAST, DESK, PHONE, Browser
 from page_due import due, matter, refused, right_position
 from page_server import Page, end_all, serving
 from page_source import Program, Simulated
-from page_tv import SECOND, Evening
+from page_streams import streams
+from page_tv import SECOND
 
 PORT = 20000 + os.getpid() % 200 * 100  # The hundred ports from here on are this run's.
 SAVED = pathlib.Path(__file__).resolve().parent.parent / "examples" / "evening.lines"
-DESK, PHONE = (1280, 900), (360, 740)
 failed = []
-
-# What is shown at one moment: all of it is drawn in one step of the page.
-SEEN = """(() => {
-  const by = (id) => document.getElementById(id), { now } = by("position").dataset, { reading } = by("said").dataset;
-  const lines = Number(/([\\d,]+) lines/.exec(by("link").textContent)[1].replaceAll(",", ""));
-  return { now, reading, lines, level: by("said").className, words: by("words").textContent,
-    rest: by("rest").textContent, facts: by("facts").textContent };
-})()"""
-
 
 def check(name, holds, told=""):
     print(("ok      " if holds else "FAILED  ") + name + (f": {told}" if told != "" else ""), flush=True)
@@ -91,7 +82,7 @@ def live(browser, source, port):
     feeder, seen = Feeder(source, page), []
     inside = []
     while feeder.is_alive():
-        moment = browser.tell(SEEN)
+        moment = browser.seen()
         seen.append(moment)
         _, control = due(feeder.lines[:moment["lines"]])
         if moment["now"] and control:
@@ -144,9 +135,9 @@ def saved(browser, port):
     browser.open(page.url)
     check("all saved lines are shown", browser.until(f"kept.lines === {len(lines)} && link.ended"))
     time.sleep(1)
-    seen = browser.tell(SEEN)
+    seen = browser.seen()
     check("the position is that of the last line", right_position(seen, lines) and bool(seen["now"]), seen["now"])
-    check("and it stands still", browser.tell(SEEN)["now"] == seen["now"])
+    check("and it stands still", browser.seen()["now"] == seen["now"])
     right_rows(browser, lines)
     for size in (DESK, PHONE):
         for dark in (False, True):
@@ -195,70 +186,6 @@ def keys(browser):
     check("and move it", browser.until("document.getElementById('answers').scrollTop > 0", 5))
 
 
-# ---- many lines, and cut ones
-
-def many(browser, port):
-    made = [line for _, line in Evening([], 5300, seed=3).lines()]
-    lines = [json.loads(line) for line in made]
-    page = Page(port)
-    browser.look(*DESK)
-    browser.open(page.url)
-    begun = time.monotonic()
-    page.feed(*made)
-    page.close()
-    shown = browser.until(f"kept.lines === {len(lines)} && link.ended", 60)
-    check(f"{len(lines):,} lines are shown", shown and len(lines) > 10000, f"{time.monotonic() - begun:.1f} s")
-    time.sleep(1.3)
-    check("with the position of the last one", right_position(browser.tell(SEEN), lines))
-    size = browser.tell("document.querySelectorAll('*').length")
-    check("and the page stays small", size < 2500, f"{size} elements")
-    page.end()
-
-
-def long_ago(browser, port):
-    """A page that is opened when the control timestamp and the state are long gone from what is kept."""
-    made = [line for _, line in Evening([], 6).lines()]
-    report = [line for line in made if '"ticks"' in line][-1]
-    page = Page(port)
-    page.feed(*made, *[report] * 21000)
-    browser.open(page.url)
-    browser.until("watch.report")
-    time.sleep(1)
-    seen, lines = browser.tell(SEEN), [json.loads(line) for line in made]
-    check("a page that is opened later has a position", right_position({**seen, "lines": len(lines)}, lines)
-          and bool(seen["now"]), f"{seen['lines']} lines")
-    check("and the state", lines[2]["state"]["contentId"] in browser.text("state"), browser.text("services"))
-    page.end()
-
-
-def cut(browser, port):
-    """A stream that is cut and begun again: by the program that serves it, and by the watch."""
-    made = [line for _, line in Evening([], 6).lines()]
-    page = Page(port)
-    browser.open(page.url)
-    page.feed(*made)
-    check("the lines are shown", browser.until(f"kept.lines === {len(made)}"))
-    page.end()
-    gone = browser.until("document.getElementById('words').textContent === 'no connection to tools/page.py'")
-    check("it says that the program is gone", gone, browser.text("matter"))
-    page = Page(port)
-    page.feed(*made[:9])
-    check("the page connects again, and begins anew", browser.until(f"link.open && kept.lines === {len(made[:9])}"))
-    page.feed(made[9][:40], *made)
-    browser.until(f"kept.lines === {len(made) + 10}")
-    time.sleep(1)
-    lines = [json.loads(line) for line in made]
-    seen = browser.tell(SEEN)
-    check("a watch that begins anew has a position", right_position({**seen, "lines": len(lines)}, lines)
-          and bool(seen["now"]), seen["now"])
-    rows = browser.rows("refused")
-    check("half a line is told", len(rows) == 1 and rows[0][1] == "line of the watch", rows)
-    check("and that the watch began anew", any(row[3] == "the watch began anew" for row in browser.rows("visits")))
-    silent = browser.until("document.getElementById('words').textContent === 'no line of the watch'")
-    check("a watch that says nothing is told", silent, browser.text("matter"))
-    page.end()
-
-
 def main(words):
     parser = argparse.ArgumentParser(description=__doc__, formatter_class=argparse.RawDescriptionHelpFormatter)
     parser.add_argument("--picture", metavar="FILE", help="takes a picture of the page")
@@ -271,11 +198,9 @@ def main(words):
         browser = Browser()
         live(browser, source, PORT + 1)
         saved(browser, PORT + 2)
-        many(browser, PORT + 3)
-        long_ago(browser, PORT + 6)
-        cut(browser, PORT + 4)
+        streams(check, browser, PORT + 3)
         if options.picture:
-            take_picture(browser, PORT + 5, options.picture)
+            take_picture(browser, PORT + 7, options.picture)
         elsewhere = [url for url in browser.asked if not re.match(rf"http://127\.0\.0\.1:{PORT // 100}\d\d/", url)]
         check("nothing is asked for elsewhere", not elsewhere, elsewhere or f"{len(browser.asked)} requests")
         check("no script failed", not browser.faults, browser.faults or "")

@@ -15,6 +15,16 @@ FLAGS = ["--headless=new", "--no-sandbox", "--disable-gpu", "--disable-dev-shm-u
          "--disable-background-networking", "--disable-component-update", "--disable-sync", "--disable-extensions",
          "--hide-scrollbars", "--remote-debugging-port=0"]
 
+DESK, PHONE = (1280, 900), (360, 740)
+
+# What is shown at one moment: all of it is drawn in one step of the page.
+SEEN = """(() => {
+  const by = (id) => document.getElementById(id), { now } = by("position").dataset, { reading } = by("said").dataset;
+  const lines = Number(/([\\d,]+) lines/.exec(by("link").textContent)[1].replaceAll(",", ""));
+  return { now, reading, lines, level: by("said").className, words: by("words").textContent,
+    rest: by("rest").textContent, facts: by("facts").textContent };
+})()"""
+
 # Each text that is seen, with the contrast of its colour to what is behind it; the worst one of all.
 CONTRAST = r"""
 (() => {
@@ -109,6 +119,10 @@ class Browser:
         if "exceptionDetails" in result:
             raise RuntimeError(result["exceptionDetails"]["exception"].get("description"))
         return result["result"].get("value")
+
+    def seen(self):
+        """What is shown at this moment."""
+        return self.tell(SEEN)
 
     def text(self, name):
         """The text of the element of this id."""
