@@ -23,9 +23,10 @@ from page_source import Program, Simulated
 from page_streams import streams
 from page_tv import SECOND
 
-PORT = 20000 + os.getpid() % 200 * 100  # The hundred ports from here on are this run's.
+PORT = 10000 + os.getpid() % 200 * 100  # The hundred ports from here on are this run's.
 SAVED = pathlib.Path(__file__).resolve().parent.parent / "examples" / "evening.lines"
 failed = []
+
 
 def check(name, holds, told=""):
     print(("ok      " if holds else "FAILED  ") + name + (f": {told}" if told != "" else ""), flush=True)

@@ -6,6 +6,7 @@ import re
 import socket
 import subprocess
 import sys
+import tempfile
 import time
 
 TOOL = pathlib.Path(__file__).resolve().parent.parent / "tools" / "page.py"
@@ -148,6 +149,34 @@ def handed_on(check, port):
     page.end()
 
 
+def replayed(check, port):
+    """Saved lines come at the pace of their readings; a watch that begins anew isn't waited for."""
+    lines = [f'{{"event":"visit","number":1,"reading":"{2**60}"}}', f'{{"event":"slept","reading":"{2**60 + 10**9}"}}',
+             '{"event":"visit","number":1,"reading":"5"}', '{"event":"slept","reading":"500000005"}']
+    with tempfile.NamedTemporaryFile("w", suffix=".lines") as file:
+        file.write("\n".join(lines))
+        file.flush()
+        page = Page(port, ["--replay", file.name, "--local-error", "5", "--local-precision", "0"])
+        conn, times = asked(port, "GET /lines HTTP/1.1"), []
+        told = events(conn, 20, lambda found: times.append((time.monotonic(), len(found))) or (
+            found and '"ended": true' in found[-1][2]))
+    came = [min(at for at, count in times if count > each) for each in range(len(told) - 1)]
+    lasted = came[-1] - came[0] if came else 0
+    check("saved lines come at their pace", [data for _, name, data in told if not name] == lines and lasted > 1.2,
+          f"{lasted:.1f} s")
+    words = all_of(asked(port, "GET / HTTP/1.1"))
+    check("the page knows the local error and precision", b'data-local-error="5" data-local-precision="0"' in words)
+    page.end()
+
+
+def too_long(check, port):
+    page = Page(port)
+    page.feed("x" * 3_000_000, "{}")
+    told = events(asked(port, "GET /lines HTTP/1.1"), 20, lambda found: len(found) > 1)
+    check("a line that is too long is counted alone", told[0][2] == "{}" and json.loads(told[1][2])["long"] == 1)
+    page.end()
+
+
 def unread(check, port):
     """Pages that don't read hold nothing up. They are dropped; others go on."""
     page = Page(port)
@@ -192,4 +221,6 @@ def serving(check, port):
     heads(check, port)
     page.end()
     handed_on(check, port)
+    replayed(check, port)
+    too_long(check, port)
     unread(check, port)

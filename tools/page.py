@@ -78,8 +78,12 @@ class Log:
         """Some of the lines after this number, once there is something new; None where they aren't kept any more."""
         with self.changed:
             self.changed.wait_for(lambda: self.count > number or self.ended != ended, seconds)
-            at = number - self.first()
-            return None if at < 0 else [self.kept[n] for n in range(at, min(at + BATCH, len(self.kept)))]
+            at, batch, size = number - self.first(), [], 0
+            while 0 <= at < len(self.kept) and len(batch) < BATCH and size < LONGEST:
+                batch.append(self.kept[at])
+                size += len(self.kept[at])
+                at += 1
+            return None if at < 0 else batch
 
     def state(self, number):
         """What an event `page` says, to a page that has all lines up to this number; None where there are more."""
