@@ -82,23 +82,30 @@ def odd(check, browser, port):
             line["control"].update(contentTime="-9007199254740993", timelineSpeedMultiplier=-2)
     page = Page(port)
     browser.open(page.url)
-    page.feed(*map(json.dumps, lines))
-    browser.until(f"kept.lines === {len(lines)}")
+    page.feed("no JSON", *map(json.dumps, lines))
+    browser.until(f"kept.lines === {len(lines) + 1}")
     time.sleep(1)
     seen = browser.seen()
-    check("a position below zero runs backwards", right_position(seen, lines) and "−" in browser.text("position"),
+    right = right_position({**seen, "lines": len(lines)}, lines)
+    check("a position below zero runs backwards", right and "−" in browser.text("position"),
           browser.text("position"))
     check("markup is a text", markup in browser.text("state") and not browser.tell("document.images.length"))
+    page.feed('{"event":"end","number":1,"why":"closed TS"}')
+    ended = browser.until("document.getElementById('words').textContent === 'visit 1 ended: closed TS'")
+    check("the end of a visit ends its position", ended and browser.text("position") == "not known")
     after = [{"event": "control", "fault": "Unreadable Fractional"}, {"event": "later", "reading": "1"}, 5, None,
              {"event": "constructor"}, {"event": "answer", "landed": "x"},
+             {"event": "state", "state": {"timelines": [5]}},
+             {"event": "report", "reading": "1", "ticks": ["1", "2"], "wall": ["1", "2"], "error": 0, "speed": 1,
+              "rate": {"unitsPerSecond": 1, "unitsPerTick": 0}},
              {"event": "end", "number": 1, "why": "CII text 2: field timelines"},
              {"event": "visit", "number": 2, "reading": str(BEGIN + 5 * SECOND)},
              {"event": "end", "number": 2, "why": "bad tsUrl"}]
     page.feed(*map(json.dumps, after))
-    browser.until(f"kept.lines === {len(lines) + len(after)}")
+    browser.until(f"kept.lines === {len(lines) + 2 + len(after)}")
     time.sleep(1)
     told = [row[1:] for row in browser.rows("refused")]
-    wanted = ["tsUrl", "CII text 2", "line of the watch", "line of the watch", "CSS-TS text"]
+    wanted = ["tsUrl", "CII text 2", *["line of the watch"] * 4, "CSS-TS text", "line of the watch"]
     check("all that is odd is told", [row[0] for row in told] == wanted, told)
     check("and why each visit ended", [row[3][:21] for row in browser.rows("visits")] ==
           ["bad tsUrl: it is no w", "CII text 2: field tim"], browser.text("matter"))

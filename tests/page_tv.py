@@ -11,7 +11,7 @@ import random
 SECOND, TURN, F = 10**9, 10**7, 256_000_000
 LOCAL_ERROR, LOCAL_PRECISION = 128_000, 1000
 ERROR, PRECISION, PRECISION_NS = 128_000, -20, 954
-BEGIN = 9_876_543_210_987_654  # The first reading: beyond 2^53, so that no page may read it as a number.
+BEGIN = 98_765_432_109_876_543  # The first reading: beyond 2^53, so that no page may read it as a number.
 RATE = {"unitsPerSecond": 90000, "unitsPerTick": 1}
 SELECTOR = "urn:dvb:css:timeline:pts"
 TV = "192.168.1.20"

@@ -26,7 +26,7 @@ KEPT_LINES, KEPT_BYTES, LONGEST = 20_000, 1 << 25, 1 << 20
 CONNECTIONS, PATIENCE, BATCH = 64, 5, 500
 SECOND = 10**9
 GREATEST = 2**32 * SECOND
-LASTING = ("visit", "dial", "state", "control")  # Events that hold until there is another one.
+LASTING = (("visit", None), ("state", None), ("control", None), ("dial", "CII"), ("dial", "WC"), ("dial", "TS"))
 RUN = os.urandom(6).hex()  # Parts the ids of this run from those of the one before.
 
 
@@ -40,24 +40,17 @@ class Log:
         self.long, self.ended, self.last = 0, False, time.monotonic()
 
     def add(self, line):
+        kind = kind_of(line)
         with self.changed:
-            self.kept.append(line)
+            self.kept.append((line, kind))
             self.size += len(line)
             self.count += 1
             self.last = time.monotonic()
             while len(self.kept) > KEPT_LINES or self.size > KEPT_BYTES:
-                self.drop()
+                line, kind = self.kept.popleft()
+                self.size -= len(line)
+                hold(self.older, kind, self.first(), line)
             self.changed.notify_all()
-
-    def drop(self):
-        """Takes the oldest line out. It stays beside the others where a page needs it to understand them."""
-        line = self.kept.popleft()
-        self.size -= len(line)
-        said = read(line)
-        if said.get("event") == "visit":
-            self.older.clear()
-        if said.get("event") in LASTING:
-            self.older[said["event"], str(said.get("service"))] = self.first(), line
 
     def first(self):
         """How many lines aren't kept any more."""
@@ -69,10 +62,17 @@ class Log:
             self.changed.notify_all()
 
     def begin(self, number):
-        """What of older lines a page needs that has all up to this number, and the number that it goes on from."""
+        """The number that a page goes on from that has all lines up to this one, and what it needs of those between.
+        Where lines are missing it leaves out some more, so that it isn't behind again at once."""
         with self.changed:
-            older = sorted(one for one in self.older.values() if one[0] > number)
-            return older, min(max(number, self.first()), self.count)
+            first, older = self.first(), dict(self.older)
+            if number >= first:
+                return min(number, self.count), []
+            begin = first + len(self.kept) // 4
+            for at in range(first, begin):
+                line, kind = self.kept[at - first]
+                hold(older, kind, at + 1, line)
+            return begin, sorted(one for one in older.values() if one[0] > number)
 
     def after(self, number, ended, seconds):
         """Some of the lines after this number, once there is something new; None where they aren't kept any more."""
@@ -80,8 +80,8 @@ class Log:
             self.changed.wait_for(lambda: self.count > number or self.ended != ended, seconds)
             at, batch, size = number - self.first(), [], 0
             while 0 <= at < len(self.kept) and len(batch) < BATCH and size < LONGEST:
-                batch.append(self.kept[at])
-                size += len(self.kept[at])
+                batch.append(self.kept[at][0])
+                size += len(batch[-1])
                 at += 1
             return None if at < 0 else batch
 
@@ -99,6 +99,21 @@ def read(line):
     except (ValueError, RecursionError):
         return {}
     return said if isinstance(said, dict) else {}
+
+
+def kind_of(line):
+    """The event of a line that holds until there is another one of its kind; None of any other line."""
+    said = read(line)
+    kind = said.get("event"), said.get("service")
+    return kind if kind in LASTING else None
+
+
+def hold(older, kind, number, line):
+    """Puts a line to what holds. With a visit all begins anew."""
+    if kind == ("visit", None):
+        older.clear()
+    if kind:
+        older[kind] = number, line
 
 
 def document(local_error, local_precision):
@@ -161,7 +176,7 @@ class Handler(http.server.BaseHTTPRequestHandler):
     def lines(self, log):
         """Hands the lines on, until the page is gone or too slow."""
         run, _, number = self.headers.get("Last-Event-ID", "").partition("-")
-        older, number = log.begin(int(number) if run == RUN and re.fullmatch(r"[0-9]{1,18}", number) else 0)
+        number, older = log.begin(int(number) if run == RUN and re.fullmatch(r"[0-9]{1,18}", number) else 0)
         ended, told = False, -1.0
         self.wfile.write(b"retry: 500\n\n" + b"".join(event(*one) for one in older))
         while (batch := log.after(number, ended, 1)) is not None:
