@@ -1,0 +1,217 @@
+#!/usr/bin/env python3
+"""Tries tools/page.py in a real browser: what the page shows, against the lines that it was fed.
+
+    tests/page.py [--picture FILE] [PROGRAM ..]
+
+The lines are those of a simulation, or, where the words of a program are given, of its commands `tv` and `watch`. Each
+check prints a line, and the last line is how many failed. The status is 1 where one failed. It needs Chromium, as the
+system's package. The picture is a PNG of the page at a desk's width, with the saved evening.
+"""
+import argparse
+import json
+import os
+import pathlib
+import re
+import sys
+import threading
+import time
+
+from page_browser import CONTRAST, DESK, PHONE, Browser
+from page_due import due, matter, refused, right_position
+from page_server import Page, end_all, serving
+from page_source import Program, Simulated
+from page_streams import streams
+from page_tv import SECOND
+
+PORT = 10000 + os.getpid() % 200 * 100  # The hundred ports from here on are this run's.
+SAVED = pathlib.Path(__file__).resolve().parent.parent / "examples" / "evening.lines"
+failed = []
+
+
+def check(name, holds, told=""):
+    print(("ok      " if holds else "FAILED  ") + name + (f": {told}" if told != "" else ""), flush=True)
+    if not holds:
+        failed.append(name)
+
+
+# ---- what is shown, against the lines
+
+def right_rows(browser, lines):
+    """The tables, against the lines."""
+    ends = {line["number"]: line["why"] for line in lines if line["event"] == "end"}
+    visits = {int(row[0]): row[3] for row in browser.rows("visits")}
+    told = all(visits.get(number, "").startswith(why) for number, why in ends.items())
+    check("each visit that ended says why", told and ends, ends)
+    rows = browser.rows("refused")
+    wanted = refused(lines)
+    told = len(rows) == len(wanted) and all(row[1] == what and row[2].startswith(fault)
+                                            for row, (what, fault) in zip(rows, wanted))
+    check("what was refused is there, with its reason", told, rows if not told else len(rows))
+    if rows:
+        colour = browser.tell("getComputedStyle(document.querySelector('#refused td')).color")
+        red, green, blue = map(int, re.findall(r"\d+", colour)[:3])
+        check("in red", red > green + 40 and red > blue + 40, colour)
+    answers = [line for line in lines if line["event"] == "answer"][-1:]
+    for line in answers:
+        trip = int(line["landed"]) - int(line["originate"]) - int(line["transmit"]) + int(line["receive"])
+        wanted = [f"{trip / 1e6:.3f}", f"{int(line['width']) / 1e6:.3f}"]
+        check("the last answer has its round trip and its width", browser.rows("answers")[0][1:3] == wanted, wanted)
+    states = [line for line in lines if line["event"] == "state"]
+    check("the state is the last one", states[-1]["state"]["contentId"] in browser.text("state"))
+
+
+# ---- a television, live
+
+class Feeder(threading.Thread):
+    """Feeds the lines of a source to a page, and keeps them."""
+
+    def __init__(self, source, page):
+        super().__init__(daemon=True)
+        self.source, self.page, self.lines = source, page, []
+        self.start()
+
+    def run(self):
+        for line in self.source.lines():
+            self.lines.append(json.loads(line))
+            self.page.feed(line)
+
+
+def live(browser, source, port):
+    page = Page(port)
+    browser.look(*DESK)
+    check("the page opens", browser.open(page.url))
+    feeder, seen = Feeder(source, page), []
+    inside = []
+    while feeder.is_alive():
+        moment = browser.seen()
+        seen.append(moment)
+        _, control = due(feeder.lines[:moment["lines"]])
+        if moment["now"] and control:
+            reading, _, _, low, high = map(int, moment["now"].split())
+            truth = source.truth(reading, control)
+            inside.append(truth is None or low <= truth <= high)
+        time.sleep(0.1)
+    moments(seen, feeder.lines)
+    check("the true position is in each interval", all(inside) and inside, f"{len(inside)} moments")
+    browser.until(f"kept.lines === {len(feeder.lines)}")
+    time.sleep(1)
+    right_rows(browser, feeder.lines)
+    bands = browser.tell("document.querySelectorAll('#widths .band').length")
+    check("the plot has where there was no position", bands > 0, bands)
+    page.end()
+
+
+def moments(seen, lines):
+    """Each moment that was seen, against the lines up to it."""
+    wrong = [moment for moment in seen if not right_position(moment, lines)]
+    check("each position is that of the formula", not wrong, wrong[:2] or f"{len(seen)} moments")
+    ran = {}
+    for moment in seen:
+        report, _ = due(lines[:moment["lines"]])
+        if report and moment["now"]:
+            ran.setdefault(report["number"], set()).add(moment["now"].split()[0])
+    check("it runs on between reports", sum(len(readings) > 1 for readings in ran.values()) > 5)
+    paused = [moment for moment in seen if "0, paused" in moment["facts"]]
+    ticks = {tuple(moment["now"].split()[3:]) for moment in paused}
+    check("a pause is told, and its position stands still", paused and len(ticks) == 1, f"{len(paused)} moments")
+    words = []
+    for moment in seen:
+        wanted = matter(lines[:moment["lines"]])
+        if wanted:
+            lasts = (int(moment["reading"]) - wanted[1]) // SECOND
+            right = (moment["words"], moment["rest"]) == (wanted[0], f"since {lasts} s")
+            words.append((right and moment["level"] == "bad", f"{moment['words']} {moment['rest']}"))
+    told = sorted({told for _, told in words})
+    check("the line says what is the matter, and since when", len(told) > 2 and all(right for right, _ in words), told)
+    well = [moment for moment in seen if moment["level"] == "well"]
+    check("it says that all is well where it is", len(well) > 10, well and f"{well[-1]['words']} {well[-1]['rest']}")
+
+
+# ---- saved lines, and how they look
+
+def saved(browser, port):
+    page = Page(port, ["--replay", str(SAVED), "--fast"])
+    lines = [json.loads(line) for line in SAVED.read_text(encoding="ascii").splitlines()]
+    browser.look(*DESK)
+    browser.open(page.url)
+    check("all saved lines are shown", browser.until(f"kept.lines === {len(lines)} && link.ended"))
+    time.sleep(1)
+    seen = browser.seen()
+    check("the position is that of the last line", right_position(seen, lines) and bool(seen["now"]), seen["now"])
+    check("and it stands still", browser.seen()["now"] == seen["now"])
+    right_rows(browser, lines)
+    for size in (DESK, PHONE):
+        for dark in (False, True):
+            looks(browser, size, dark)
+    keys(browser)
+    page.end()
+
+
+def take_picture(browser, port, path):
+    """The saved evening at its end, while the page still waits for more."""
+    page = Page(port)
+    browser.look(*DESK)
+    browser.open(page.url)
+    page.feed(*SAVED.read_text(encoding="ascii").splitlines())
+    browser.until("watch.report")
+    time.sleep(0.6)
+    browser.picture(path)
+    page.end()
+
+
+def looks(browser, size, dark):
+    browser.look(*size, dark)
+    time.sleep(1.3)
+    where = f"at {size[0]} pixels, {'dark' if dark else 'light'}"
+    told = browser.tell(CONTRAST)
+    check(f"each text can be read {where}", told["contrast"] >= 4.5 and told["count"] > 150,
+          f"{told['count']} texts, at least {told['contrast']:.2f} ({told['words'][:30]})")
+    wide = browser.tell("Math.max(...[...document.querySelectorAll('body, body *')].filter((one) => "
+                        "!one.closest('.rows > *')).map((one) => one.getBoundingClientRect().right))")
+    check(f"nothing is wider than the window {where}", wide <= size[0], wide)
+    light = browser.tell("getComputedStyle(document.body).backgroundColor")
+    check(f"the page is so {where}", (int(re.findall(r"\d+", light)[0]) < 100) == dark, light)
+
+
+def keys(browser):
+    """All that scrolls is reached by the keys, and moves by them."""
+    browser.look(*PHONE)
+    browser.tell("document.activeElement.blur()")
+    reached = []
+    for _ in range(6):
+        browser.key("Tab")
+        reached.append(browser.tell("document.activeElement.id"))
+    check("the keys reach each list", {"answers", "visits", "refused"} <= set(reached), reached)
+    browser.tell("document.getElementById('answers').focus()")
+    browser.key("End")
+    check("and move it", browser.until("document.getElementById('answers').scrollTop > 0", 5))
+
+
+def main(words):
+    parser = argparse.ArgumentParser(description=__doc__, formatter_class=argparse.RawDescriptionHelpFormatter)
+    parser.add_argument("--picture", metavar="FILE", help="takes a picture of the page")
+    parser.add_argument("program", nargs="*", help="the words of the program before its commands")
+    options = parser.parse_args(words)
+    source = Program(options.program, PORT + 10) if options.program else Simulated()
+    browser = None
+    try:
+        serving(check, PORT)
+        browser = Browser()
+        live(browser, source, PORT + 1)
+        saved(browser, PORT + 2)
+        streams(check, browser, PORT + 3)
+        if options.picture:
+            take_picture(browser, PORT + 7, options.picture)
+        elsewhere = [url for url in browser.asked if not re.match(rf"http://127\.0\.0\.1:{PORT // 100}\d\d/", url)]
+        check("nothing is asked for elsewhere", not elsewhere, elsewhere or f"{len(browser.asked)} requests")
+        check("no script failed", not browser.faults, browser.faults or "")
+    finally:
+        if browser:
+            browser.end()
+        end_all()
+    print(f"{len(failed)} failed")
+    return 1 if failed else 0
+
+
+if __name__ == "__main__":
+    sys.exit(main(sys.argv[1:]))
