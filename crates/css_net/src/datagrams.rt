@@ -2,7 +2,7 @@ ghost use Rattle.std.specs.Prelude.{◌≤◌, IfOk, IfSome};
 ghost use Rattle.css_outside.specs.Outsides.{FitsRoom};
 
 use crate::names::any_port;
-use crate::pace::Pace;
+use crate::pace::{LookUps, Pace};
 use crate::watch::Watch;
 use css_devices::FIRST_SENDER;
 use css_devices::faults::{fault_of, no_room};
@@ -232,17 +232,19 @@ impl Datagrams {
     /// Opens a socket for the datagrams of one peer: at the address where its sessions were reached, if its host has
     /// that one, and else at the first that can be used. Sockets of datagrams can be opened to addresses where nobody
     /// is. False where no dial may begin now.
-    pub(crate) fn dial<R: Net>(
+    pub(crate) fn dial<R: Net + Clock>(
         &mut self,
         rt: &R,
+        look_ups: &mut LookUps,
         to: &Address,
         reached: Option<IpAddr>,
         peer: u32,
         now: u64,
     ) -> Result<bool, OutFault> {
-        let Some(mut addresses) = self.pace.begin(self.alloc, rt, &to.host, to.port, now)? else {
+        if !self.pace.begins(now) {
             return Ok(false);
-        };
+        }
+        let mut addresses = look_ups.look_up(rt, &to.host, to.port, now)?;
         if let Some(place) = addresses
             .iter()
             .position(|address| Some(address.ip()) == reached)

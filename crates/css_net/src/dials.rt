@@ -4,7 +4,7 @@ use crate::heads::{Head, MOST_FIELDS, Progress, has_token, value_of};
 use crate::masks::Masks;
 use crate::metered::Metered;
 use crate::names::{authority_of, words_of};
-use crate::pace::Pace;
+use crate::pace::{LookUps, Pace, time};
 use crate::session::Line;
 use crate::upgrades::{LONGEST_HANDSHAKE, READS};
 use crate::watch::Watch;
@@ -17,6 +17,7 @@ use std::alloc::Global;
 use std::io::Write;
 use std::net::{IpAddr, Net, SocketAddr};
 use std::random::RandomSource;
+use std::time::Clock;
 use websocket::handshake::client::{ClientRequest, generate_key, write_request};
 use websocket::handshake::derive_accept_key;
 
@@ -338,14 +339,21 @@ impl Caller {
 
     /// Has a dial to this address stand, where one may begin now. One to another place, or with nothing left to be
     /// tried, is dropped.
-    fn have<R: Net>(&mut self, rt: &R, to: &Address, now: u64) -> Result<(), OutFault> {
+    fn have<R: Net + Clock>(
+        &mut self,
+        rt: &R,
+        look_ups: &mut LookUps,
+        to: &Address,
+        now: u64,
+    ) -> Result<(), OutFault> {
         if self.goes_on(to) {
             return Ok(());
         }
         self.dial = None;
-        let Some(addresses) = self.pace.begin(self.alloc, rt, &to.host, to.port, now)? else {
+        if !self.pace.begins(now) {
             return Ok(());
-        };
+        }
+        let addresses = look_ups.look_up(rt, &to.host, to.port, now)?;
         let dial = Dial::new(to, addresses)?;
         self.dial = Some(Box::new(self.alloc, dial).map_err(no_room)?);
         Ok(())
@@ -371,15 +379,17 @@ impl Caller {
     }
 
     /// Dials, or goes on dialling, and gives the session once it stands. It is Err once for each address that failed.
-    pub(crate) fn go_on<R: Net + RandomSource>(
+    pub(crate) fn go_on<R: Net + Clock + RandomSource>(
         &mut self,
         rt: &R,
         watch: &mut Watch,
+        look_ups: &mut LookUps,
         to: &Address,
         now: u64,
     ) -> Result<Option<Line>, OutFault> {
-        self.have(rt, to, now)?;
-        let line = self.turn(rt, watch, to, now)?;
+        self.have(rt, look_ups, to, now)?;
+        // A look-up takes none of a handshake's time.
+        let line = self.turn(rt, watch, to, time(rt))?;
         if line.is_some() {
             self.dial = None;
         }
@@ -390,6 +400,7 @@ impl Caller {
 /// How the last dial of each kind failed. Before one has, no answer came in time.
 #[derive(Clone, Copy)]
 pub(crate) struct Failures {
+    last: Option<Failure>,
     wc: Failure,
     cii: Failure,
     ts: Failure,
@@ -399,19 +410,39 @@ impl Failures {
     /// None has failed.
     pub(crate) fn new() -> Failures {
         Failures {
+            last: None,
             wc: Failure::TimedOut,
             cii: Failure::TimedOut,
             ts: Failure::TimedOut,
         }
     }
 
-    /// How the last dial of a kind failed.
-    pub(crate) fn of(&mut self, kind: Kind) -> &mut Failure {
+    fn of(&mut self, kind: Kind) -> &mut Failure {
         match kind {
             Kind::Wc => &mut self.wc,
             Kind::Cii => &mut self.cii,
             Kind::Ts => &mut self.ts,
         }
+    }
+
+    /// How the last dial of all failed. One that isn't done counts where none has failed.
+    pub(crate) fn last(&self) -> Option<Failure> {
+        self.last
+    }
+
+    /// Notes that a dial of a kind failed.
+    pub(crate) fn fail(&mut self, kind: Kind, failure: Failure) {
+        self.last = Some(failure);
+        *self.of(kind) = failure;
+    }
+
+    /// How a dial of a kind is told that isn't done, or may not begin yet: as the last of its kind that failed.
+    pub(crate) fn wait(&mut self, kind: Kind) -> Failure {
+        let failure = *self.of(kind);
+        if self.last.is_none() {
+            self.last = Some(failure);
+        }
+        failure
     }
 }
 

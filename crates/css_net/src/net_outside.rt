@@ -15,7 +15,6 @@ pub struct NetOutside<R: NetRuntime> {
     rt: R,
     tally: Tally,
     sockets: Sockets,
-    dial_failure: Option<Failure>,
 }
 
 impl<R: NetRuntime> NetOutside<R> {
@@ -26,14 +25,13 @@ impl<R: NetRuntime> NetOutside<R> {
             rt,
             tally: Tally::new(),
             sockets: Sockets::new(alloc, Log::of(&rt)),
-            dial_failure: None,
         }
     }
 
-    /// How the last dial that failed did, where one has. Of one that isn't done it is how the one before it failed,
-    /// and `TimedOut` where there was none.
+    /// How the last dial that failed did, where one was tried. One that isn't done, or may not begin yet, changes
+    /// nothing; it is `TimedOut` where none has failed.
     pub fn last_dial_failure(&self) -> Option<Failure> {
-        self.dial_failure
+        self.sockets.last_dial_failure()
     }
 
     /// Closes the sessions that are open, and waits until the peers have what they were told, for a second at most.
@@ -70,9 +68,6 @@ impl<R: NetRuntime> Outside for NetOutside<R> {
             return self.tally.not_dialled(OutFault::Failed(Failure::Other));
         };
         let dialled = self.sockets.dial(&self.rt, kind, to, peer);
-        if let Err(OutFault::Failed(failure)) = &dialled {
-            self.dial_failure = Some(*failure);
-        }
         self.tally.dialled(peer, dialled)
     }
 

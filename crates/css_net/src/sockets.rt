@@ -6,13 +6,13 @@ use crate::datagrams::Datagrams;
 use crate::dials::{Dials, Failures};
 use crate::log::{Event, Log};
 use crate::names::addresses_of;
+use crate::pace::{LookUps, time};
 use crate::partings::{LONGEST_PARTING, Partings};
 use crate::session::Line;
 use crate::sessions::Sessions;
 use crate::upgrades::{FIRST_UPGRADE, Service, Upgraded, Upgrades};
 use crate::watch::{NOBODY, Watch};
 use css_devices::faults::fault_of;
-use css_devices::monotone;
 use css_num::Text;
 use css_outside::{Address, Failure, Heard, Kind, OutFault, Wrote};
 use std::alloc::Global;
@@ -48,14 +48,11 @@ pub(crate) struct Sockets {
     datagrams: Datagrams,
     upgrades: Upgrades,
     dials: Dials,
+    look_ups: LookUps,
     failures: Failures,
     sessions: Sessions,
     partings: Partings,
     log: Log,
-}
-
-fn time<C: Clock>(rt: &C) -> u64 {
-    monotone(rt).unwrap_or(0)
 }
 
 /// What is left of a pause that began then.
@@ -80,6 +77,7 @@ impl Drop for Sockets {
             datagrams: _,
             upgrades: _,
             dials: _,
+            look_ups: _,
             failures: _,
             sessions: _,
             partings: _,
@@ -99,6 +97,7 @@ impl Sockets {
             datagrams: Datagrams::new(alloc),
             upgrades: Upgrades::new(alloc),
             dials: Dials::new(alloc),
+            look_ups: LookUps::new(alloc),
             failures: Failures::new(),
             sessions: Sessions::new(alloc),
             partings: Partings::new(alloc),
@@ -297,7 +296,7 @@ impl Sockets {
     // ---- a companion's sockets
 
     /// Dials a session, or goes on dialling it. False where it isn't done, or where no dial may begin now.
-    fn call<R: Net + RandomSource>(
+    fn call<R: Net + Clock + RandomSource>(
         &mut self,
         rt: &R,
         kind: Kind,
@@ -306,7 +305,8 @@ impl Sockets {
         now: u64,
     ) -> Result<bool, OutFault> {
         let caller = self.dials.of(kind);
-        let Some(line) = caller.go_on(rt, &mut self.watch, to, now)? else {
+        let line = caller.go_on(rt, &mut self.watch, &mut self.look_ups, to, now)?;
+        let Some(line) = line else {
             return Ok(false);
         };
         let line = self.renamed(line, peer).map_err(fault_of)?;
@@ -326,7 +326,8 @@ impl Sockets {
         match kind {
             Kind::Wc => {
                 let reached = self.dials.cii.reached();
-                self.datagrams.dial(rt, to, reached, peer, now)
+                self.datagrams
+                    .dial(rt, &mut self.look_ups, to, reached, peer, now)
             }
             Kind::Cii | Kind::Ts => self.call(rt, kind, to, peer, now),
         }
@@ -346,15 +347,20 @@ impl Sockets {
                 self.log.write(rt, Event::Dialled(kind, to, peer));
                 Ok(())
             }
-            Ok(false) => Err(OutFault::Failed(*self.failures.of(kind))),
+            Ok(false) => Err(OutFault::Failed(self.failures.wait(kind))),
             Err(fault) => {
                 self.log.write(rt, Event::DialledNot(kind, to, fault));
                 if let OutFault::Failed(failure) = fault {
-                    *self.failures.of(kind) = failure;
+                    self.failures.fail(kind, failure);
                 }
                 Err(fault)
             }
         }
+    }
+
+    /// How the last dial failed that was tried, where one was.
+    pub(crate) fn last_dial_failure(&self) -> Option<Failure> {
+        self.failures.last()
     }
 
     // ---- datagrams
