@@ -2,16 +2,19 @@
 their own, which only root can put in the place of the machine's, for the program alone."""
 import json, os, socket, struct, subprocess, tempfile, threading, time
 
-from live_edge import Beside, stop
+from live_edge import Beside, Listener, state, stop, teller
 from live_peer import TEXT, start
 from live_server import Server, state_of
 
-NAME, UNKNOWN, RESOLVER = "two-homes", "nobody.example", "127.0.0.77"
+NAME, RESOLVER = "two-homes", "127.0.0.77"
+UNKNOWN, SHARED, SILENT = "nobody.example", "neither.example", "silent.example"
+LONG = ("--turns", "1000000", "--reports", "1000000")
+LOOKS_UP = 6  # How long a look-up waits for an answer, in seconds.
 MOUNT = 'mount --bind "$0/hosts" /etc/hosts && mount --bind "$0/resolv.conf" /etc/resolv.conf && exec "$@"'
 
 
 class Names:
-    """A server of names that knows none, and notes which were asked for their IPv4 addresses."""
+    """A server of names that knows none, and notes when each was asked for its IPv4 addresses. One isn't answered."""
 
     def __init__(self):
         self.socket = socket.socket(socket.AF_INET, socket.SOCK_DGRAM)
@@ -29,10 +32,17 @@ class Names:
             while query[at]:
                 labels.append(query[at + 1:at + 1 + query[at]].decode())
                 at += 1 + query[at]
+            name = ".".join(labels)
             if struct.unpack(">H", query[at + 1:at + 3])[0] == 1:
-                self.asked.append(".".join(labels))
+                self.asked.append((time.monotonic(), name))
+            if name == SILENT:
+                continue
             # The query with the marks of an answer, and of a name that isn't there.
             self.socket.sendto(query[:2] + b"\x81\x83" + query[4:at + 5], sender)
+
+    def times(self, name):
+        """When a name was asked for."""
+        return [at for at, asked in self.asked if asked == name]
 
 
 def words_with(folder):
@@ -40,7 +50,7 @@ def words_with(folder):
     with open(os.path.join(folder, "hosts"), "w", encoding="ascii") as file:
         file.write(f"127.0.0.1 localhost\n::1 {NAME}\n127.0.0.1 {NAME}\n")
     with open(os.path.join(folder, "resolv.conf"), "w", encoding="ascii") as file:
-        file.write(f"nameserver {RESOLVER}\n")
+        file.write(f"nameserver {RESOLVER}\noptions attempts:1 timeout:{LOOKS_UP}\n")
     return ["unshare", "-m", "sh", "-c", MOUNT, folder]
 
 
@@ -75,12 +85,33 @@ def two_homes(check, program, port, words):
 
 def unknown(check, program, names, words):
     """A name that nobody knows is looked up once in five seconds."""
-    child = start([*words, *program],
-                  ["companion", "--cii", f"ws://{UNKNOWN}:6677/cii", "--turns", "1000000", "--reports", "1000000"])
+    child = start([*words, *program], ["companion", "--cii", f"ws://{UNKNOWN}:6677/cii", *LONG])
     time.sleep(6.5)
-    count = names.asked.count(UNKNOWN)
+    count = len(names.times(UNKNOWN))
     stop(child)
     check("a name that isn't found is looked up at most once in 5 seconds", 1 <= count <= 2, f"{count} times in 6.5 s")
+
+
+def shared(check, program, names, words):
+    """A television's wall clock and timestamps are at a name that nobody knows."""
+    homeless = {**state(), "wcUrl": f"udp://{SHARED}:6677", "tsUrl": f"ws://{SHARED}:6678/ts"}
+    server = Listener(teller(homeless))
+    child = start([*words, *program], ["companion", "--cii", f"ws://127.0.0.1:{server.port}/cii", *LONG])
+    time.sleep(6.5)
+    count = len(names.times(SHARED))
+    stop(child)
+    check("so is one of two sessions", 1 <= count <= 2, f"{count} times in 6.5 s")
+    server.end()
+
+
+def unanswered(check, program, names, words):
+    """A look-up that nobody answers holds everything else up, so there is time between two of them."""
+    child = start([*words, *program], ["companion", "--cii", f"ws://{SILENT}:6677/cii", *LONG])
+    time.sleep(LOOKS_UP + 7)
+    times = [at - names.times(SILENT)[0] for at in names.times(SILENT)]
+    stop(child)
+    check("a name is looked up again 5 s after the end of a look-up that nobody answered",
+          len(times) == 2 and LOOKS_UP + 4.5 < times[1], times)
 
 
 def named_hosts(port, program, check):
@@ -94,4 +125,5 @@ def named_hosts(port, program, check):
         if addresses(words) != ["::1", "127.0.0.1"]:
             print("skipped names of hosts: no file can be put in the place of the machine's", flush=True)
             return
-        Beside([(two_homes, program, port, words), (unknown, program, names, words)]).tell(check)
+        Beside([(two_homes, program, port, words),
+                *[(call, program, names, words) for call in (unknown, shared, unanswered)]]).tell(check)

@@ -1,7 +1,7 @@
 """Runs that last as long as they are asked to: under a flood of datagrams too, and with script times from the start."""
 import socket, time
 
-from live_edge import Beside, closed_port, companion, dial_soon, stop
+from live_edge import Beside, Listener, closed_port, companion, dial_soon, stop
 from live_peer import start, television
 
 SCRIPT = "0 programme dvb://1\n0 programme dvb://2\n0 timeline 1 urn:dvb:css:timeline:pts 1 90000 0\n0 change 1\n"
@@ -47,6 +47,17 @@ def alone(check, program):
     check("and says that it reached nobody", told and told[0].startswith("css: unreachable after "), told)
 
 
+def hung_up(check, program):
+    """A television that hangs up at once is called twice a second, and not at each turn."""
+    server = Listener(lambda peer: peer.conn.close())
+    begun = time.monotonic()
+    child = companion(program, server.port, "--seconds", "3", "--reports", "1000")
+    lasted(check, "a companion of a television that hangs up", child, 3, 10, begun)
+    count = len(server.times)
+    check("and called it twice a second at most", 4 <= count <= 7, f"{count} times in 3 s")
+    server.end()
+
+
 def relayed(check, program, port):
     """A relay of a television, and a companion of the relay: each ends when its time is over."""
     set_on = television(program, port, SCRIPT)
@@ -90,6 +101,7 @@ def lasting(port, program, check):
     Beside([
         (flooded, program, port),
         (alone, program),
+        (hung_up, program),
         (relayed, program, port + 2),
         (paired, program, port + 6),
         (scripted, program, port + 8),

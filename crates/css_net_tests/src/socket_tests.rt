@@ -4,10 +4,17 @@ use css_net::{NetOutside, NetRuntime};
 use css_num::Text;
 use css_outside::{Address, Failure, Heard, Kind, OutFault, Outside};
 use std::alloc::Global;
+use std::net::{Ipv4Addr, OpenListener, TcpListener};
 use std::process::{self, Abort};
+use std::thread;
+use std::time::{Clock, Duration};
 
 /// How many turns are made until something must have come.
 const TURNS: usize = 100;
+/// How long after a dial the next one of its kind may begin, in milliseconds.
+const BETWEEN_DIALS: u64 = 500;
+/// How long a connection on this machine takes at most, in milliseconds.
+const CONNECTS: u64 = 20;
 
 fn text(rt: &impl Abort, alloc: Global, words: &[u8]) -> Text {
     Text::of(alloc, words).expect(rt, "memory")
@@ -209,6 +216,34 @@ fn dial_in_vain<R: NetRuntime>(rt: &impl Abort, alloc: Global, net: R, port: u16
     check_refused(rt, &mut tv, companion, &to, Failure::Refused);
 }
 
+/// Somebody listens on a port of this machine, and answers nothing.
+fn silent_at<R: NetRuntime>(rt: &impl Abort, net: &R, port: u16) -> R::Listener {
+    let listener = TcpListener::bind(net, (Ipv4Addr::LOCALHOST, port)).expect(rt, "a port");
+    listener.set_nonblocking(true).expect(rt, "a listener");
+    listener
+}
+
+/// Whether somebody has dialled a listener.
+fn is_dialled(net: &impl Clock, listener: &impl OpenListener) -> bool {
+    thread::sleep(net, Duration::from_millis(CONNECTS));
+    listener.accept().is_ok()
+}
+
+/// A dial within 500 ms of one that was refused begins none, and fails as that one did. A later one begins.
+fn check_pace<R: NetRuntime>(rt: &impl Abort, net: R, mut companion: NetOutside<R>, to: &Address) {
+    let refused = Err(OutFault::Failed(Failure::Refused));
+    // What the system says of the first dial may come at the next.
+    let _ = companion.dial(Kind::Cii, to);
+    assert!(rt; companion.dial(Kind::Cii, to) == refused);
+    let listener = silent_at(rt, &net, to.port);
+    assert!(rt; companion.dial(Kind::Cii, to) == refused);
+    assert!(rt; !is_dialled(&net, &listener));
+    thread::sleep(&net, Duration::from_millis(BETWEEN_DIALS));
+    let _ = companion.dial(Kind::Cii, to);
+    assert!(rt; is_dialled(&net, &listener));
+    assert!(rt; companion.last_dial_failure() == Some(Failure::Refused));
+}
+
 #[test]
 fn texts_and_datagrams_go_there_and_back(rt: HostRuntime) {
     let port = 10000 + (process::id(rt.process()) % 5000 * 4) as u16;
@@ -231,4 +266,11 @@ fn a_host_that_cannot_be_listened_on_is_told(rt: HostRuntime) {
 fn a_dial_tells_how_it_failed(rt: HostRuntime) {
     let port = 52000 + (process::id(rt.process()) % 1000 * 4) as u16;
     dial_in_vain(&rt, rt.alloc(), &rt, port);
+}
+
+#[test]
+fn a_closed_port_is_dialled_at_a_pace(rt: HostRuntime) {
+    let port = 56000 + (process::id(rt.process()) % 1000) as u16;
+    let to = television_at(&rt, rt.alloc(), port);
+    check_pace(&rt, &rt, NetOutside::new(rt.alloc(), &rt), &to);
 }
