@@ -5,6 +5,7 @@ pub mod Standing
 pub mod Shared
 pub mod Truth
 pub mod Shown
+pub mod Disagreements
 pub mod Inputs
 pub mod Reading
 pub mod Promise

@@ -1,14 +1,12 @@
 -- The best of what is kept is the best of all answers added.
 use Rattle.std.proofs.Common.{◌≡◌, ℕ, ◌+◌, ◌-◌, ◌≤◌, arith, refl, ap, sym, subst, ◌∙◌, inl, inr, List, [], ◌∷◌}
-use Rattle.std.specs.Prelude.{◌≤ℤ◌, Option, Some, None, All, Contains, reverse}
+use Rattle.std.specs.Prelude.{ℤ, ◌≤ℤ◌, Option, Some, None, All, Contains, reverse}
 use Rattle.std.proofs.lemmas.Int.{ints}
 use Rattle.std.proofs.lemmas.List.{reverse-reverse}
 use Rattle.std.proofs.lemmas.List.Elements.{All-head, All-tail, All-weaker}
 use Rattle.css_model.specs.declared.TheConstants.{F}
 use Rattle.css_model.specs.WallClock.{Answer, Local, IsLocal, lower, upper, lo, hi}
 use Rattle.css_num.proofs.Rounding.{floor_div-mono, ceil_div-mono}
-use Rattle.css_num.specs.Spans.{Interval}
-use Rattle.css_span.specs.WallSpans.{span_of}
 use Rattle.css_span.specs.Frontiers.{Answers, IsPossible}
 use Rattle.css_agree.specs.declared.best.Best.{Best}
 use Rattle.css_agree.specs.Bests.{best_of}
@@ -115,13 +113,11 @@ found-possible r inside now best same held later found =
     (subst (λ (k : Kept). k.floor ≤ r) (sym same) later) held.possible
     (subst (λ (k : Kept). best_of k.local r (reverse k.bests) ≡ Some best) (sym same) found)
 
--- the lower end and the upper end of a span that was computed
-pub low-is : (r : ℕ) (inside now : Kept) (a : Answer) (held computed : Interval) → inside ≡ now → held ≡ computed
-    → computed ≡ span_of inside.local r a → held.lo ≡ lo now.local a r
-low-is r inside now a held computed same h e =
-    ap (λ (s : Interval). s.lo) (h ∙ e) ∙ ap (λ (k : Kept). lo k.local a r) same
+-- the lower end and the upper end that were computed
+pub low-is : (r : ℕ) (inside now : Kept) (a : Answer) (end : ℤ) → inside ≡ now → end ≡ lo inside.local a r
+    → end ≡ lo now.local a r
+low-is r inside now a end same e = e ∙ ap (λ (k : Kept). lo k.local a r) same
 
-pub high-is : (r : ℕ) (inside now : Kept) (a : Answer) (held computed : Interval) → inside ≡ now → held ≡ computed
-    → computed ≡ span_of inside.local r a → held.hi ≡ hi now.local a r
-high-is r inside now a held computed same h e =
-    ap (λ (s : Interval). s.hi) (h ∙ e) ∙ ap (λ (k : Kept). hi k.local a r) same
+pub high-is : (r : ℕ) (inside now : Kept) (a : Answer) (end : ℤ) → inside ≡ now → end ≡ hi inside.local a r
+    → end ≡ hi now.local a r
+high-is r inside now a end same e = e ∙ ap (λ (k : Kept). hi k.local a r) same

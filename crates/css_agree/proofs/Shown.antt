@@ -126,14 +126,14 @@ highest own reading first (next ∷ others) =
     (highest own reading next others)
 
 -- ---- two such answers have one end
-same_low : (own : Local) (reading : ℕ) (added : Answers) (a b : Answer) → HasGreatestLow own reading added a
+pub same_low : (own : Local) (reading : ℕ) (added : Answers) (a b : Answer) → HasGreatestLow own reading added a
     → HasGreatestLow own reading added b → lo own a reading ≡ lo own b reading
 same_low own reading added a b x y =
     let ab = All-contains (λ other. lo own other reading ≤ℤ lo own b reading) added a y.greatest x.is_among in
     let ba = All-contains (λ other. lo own other reading ≤ℤ lo own a reading) added b x.greatest y.is_among in
     omega (arith, ints, ab, ba)
 
-same_high : (own : Local) (reading : ℕ) (added : Answers) (a b : Answer) → HasLeastHigh own reading added a
+pub same_high : (own : Local) (reading : ℕ) (added : Answers) (a b : Answer) → HasLeastHigh own reading added a
     → HasLeastHigh own reading added b → hi own a reading ≡ hi own b reading
 same_high own reading added a b x y =
     let ab = All-contains (λ other. hi own a reading ≤ℤ hi own other reading) added b x.least y.is_among in

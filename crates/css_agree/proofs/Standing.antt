@@ -174,11 +174,12 @@ contains-here a xs = (0, omega arith, refl)
 contains-there : (a b : Answer) (xs : Answers) → Contains xs b → Contains (a ∷ xs) b
 contains-there a b xs h = (suc h.0, omega (arith, h.1), h.2)
 
-pub stands-with : (own : Local) (r s : ℕ) (a : Answer) (xs : List Best) (added : Answers) → IsLocal own → r ≤ s
-    → IsPossible own s a
+-- the answer is compared at reading s, and the floor goes from r to t
+pub stands-with : (own : Local) (r s t : ℕ) (a : Answer) (xs : List Best) (added : Answers) → IsLocal own → r ≤ t
+    → IsPossible own t a
     → StandsFor (record { local = own; bests = xs; floor = r }) added
-    → StandsFor (record { local = own; bests = kept_with own s a xs; floor = s }) (a ∷ added)
-stands-with own r s a xs added local later possible stands =
+    → StandsFor (record { local = own; bests = kept_with own s a xs; floor = t }) (a ∷ added)
+stands-with own r s t a xs added local later possible stands =
     let before : All (OfBoth (Contains (a ∷ added))) xs =
     All-weaker (OfBoth (Contains added)) (OfBoth (Contains (a ∷ added)))
     (λ b h. record { low = contains-there a b.low added h.low; high = contains-there a b.high added h.high })
@@ -194,12 +195,12 @@ stands-with own r s a xs added local later possible stands =
       count = length-with own s a xs
           ∙ ap (λ t. if t then length xs else suc (length xs)) (stands.errors a.error)
           ∙ ap (λ n. if declares a.error added then n else suc n) stands.count;
-      possible = All-cons (IsPossible own s) a added possible
-          (possible-later own r s added local later stands.possible);
+      possible = All-cons (IsPossible own t) a added possible
+          (possible-later own r t added local later stands.possible);
     }
 
 -- what is kept stays possible
-one-later : (own : Local) (r s : ℕ) (a : Answer) → IsLocal own → r ≤ s → IsPossible own r a → IsPossible own s a
+pub one-later : (own : Local) (r s : ℕ) (a : Answer) → IsLocal own → r ≤ s → IsPossible own r a → IsPossible own s a
 one-later own r s a local later h =
     record { ranges = h.ranges; wide = scaled_width-later own a r s local h.ranges.error later h.wide }
 
@@ -213,8 +214,8 @@ both-later own r s xs local later =
     })
     xs
 
-pub possible-with : (own : Local) (r s : ℕ) (a : Answer) (xs : List Best) → IsLocal own → r ≤ s → IsPossible own s a
+pub possible-with : (own : Local) (r s t : ℕ) (a : Answer) (xs : List Best) → IsLocal own → r ≤ t → IsPossible own t a
     → All (OfBoth (IsPossible own r)) xs
-    → All (OfBoth (IsPossible own s)) (kept_with own s a xs)
-possible-with own r s a xs local later possible h =
-    of_both-with own s (IsPossible own s) a xs possible (both-later own r s xs local later h)
+    → All (OfBoth (IsPossible own t)) (kept_with own s a xs)
+possible-with own r s t a xs local later possible h =
+    of_both-with own s (IsPossible own t) a xs possible (both-later own r t xs local later h)

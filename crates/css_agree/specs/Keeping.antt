@@ -1,12 +1,13 @@
 -- What is kept of the answers that were added. In each list of answers the newest stands first.
-use Rattle.std.specs.Prelude.{ℕ, ◌≡◌, ◌<◌, ◌*◌, ◌^◌, ◌⊎◌, ◌≤ℤ◌, Bool, false, ◌==◌, ◌||◌}
+use Rattle.std.specs.Prelude.{ℕ, ◌≡◌, ◌<◌, ◌*◌, ◌^◌, ◌⊎◌, ◌≤ℤ◌, max, Bool, false, ◌==◌, ◌||◌}
 use Rattle.std.specs.Prelude.{List, [], ◌∷◌, length, All, Contains}
 use Rattle.css_model.specs.Wire.{second}
 use Rattle.css_model.specs.WallClock.{Answer, Local, IsLocal, lower, upper}
 use Rattle.css_span.specs.Frontiers.{Answers, IsPossible, declares, error_count}
 use Rattle.css_agree.specs.declared.best.Best.{Best}
 
--- the companion's own clock, what is kept, and the least reading that may be handed next
+-- The companion's own clock, what is kept, and the greatest reading at which an answer was added, 0 where none was.
+-- Each answer is possible at this reading and later.
 pub record Kept : Type 0 where
   pub local : Local
   pub bests : List Best
@@ -58,5 +59,5 @@ pub record StandsFor (kept : Kept) (added : Answers) : Type 0 where
 -- the answer is added at the reading: what stood for a list stands for the list with the answer
 pub record Adds (old new : Kept) (answer : Answer) (reading : ℕ) : Type 0 where
   pub local : new.local ≡ old.local
-  pub floor : new.floor ≡ reading
+  pub floor : new.floor ≡ max old.floor reading
   pub stands : (added : Answers) → StandsFor old added → StandsFor new (answer ∷ added)

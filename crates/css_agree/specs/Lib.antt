@@ -5,6 +5,7 @@ pub mod Verdicts
 pub mod FaultWords
 pub mod Inputs
 pub mod Printed
+pub mod Disagreements
 pub mod Agreeing
 pub mod Reading
 pub mod Promise

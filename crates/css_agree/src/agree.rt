@@ -1,22 +1,25 @@
-ghost use Rattle.std.specs.Prelude.{◌≡◌, ◌≤◌, ◌<◌, ◌*◌, [], length, OnOk, OnErr};
+ghost use Rattle.std.specs.Prelude.{◌≡◌, ◌≤◌, ◌<◌, ◌*◌, max, [], length, OnOk, OnErr};
 ghost use Rattle.css_num.specs.Gives.{GivesBy};
 ghost use Rattle.css_span.specs.Frontiers.{Answers, error_count};
 ghost use Rattle.css_agree.specs.Agreements.{AgreesAt, ArePossible, TellsTruth};
+ghost use Rattle.css_agree.specs.Disagreements.{disagree};
 ghost use Rattle.css_agree.specs.Keeping.{StandsFor, Adds};
 ghost use Rattle.css_agree.specs.Verdicts.{verdict};
 
 use crate::agreed::Agreed;
 use crate::best::{Best, best_of_all, keep};
+use crate::ends::{highest, lowest};
 use crate::fault::AgreeFault;
 use css_model::LIMIT;
-use css_span::{Answer, Local, Span, scaled_width, span};
+use css_span::{Answer, Local, Span, scaled_width};
 use std::alloc::Global;
 use std::marker::Model;
 
 /// What all answers that were added say together of the television's wall clock.
 ///
-/// Of each declared error it keeps two answers at most, the best at each end of the span. Contracts see the companion's
-/// own clock, what is kept, and the least reading that may be handed next.
+/// Answers may be added, and asked about, at readings in any order. Of each declared error it keeps two answers at
+/// most, the best at each end of the span. Contracts see the companion's own clock, what is kept, and a floor: the
+/// greatest reading at which an answer was added. Each answer is possible at every reading from there on.
 #[derive(Drop)]
 pub struct Agree {
     local: Local,
@@ -47,44 +50,44 @@ impl Agree {
         }
     }
 
-    /// Adds an answer at a reading that isn't below that of the last answer added.
+    /// Adds an answer at a reading, that of its landing for instance. Earlier calls may have had greater readings.
     ///
     /// It is `Impossible`, with its scaled width at the reading, exactly where this is below zero. After a refusal the
     /// agreement is as it was. The work grows with the number of declared errors alone.
     pub fn add(&mut self, answer: Answer, reading: u64) -> Result<(), AgreeFault>
         requires range { reading < LIMIT }
-        requires floor { self.old.floor ≤ reading }
         ensures verdict { GivesBy (λ done. done) AgreeFault.Memory result (verdict self.old.local reading answer) }
         ensures ok { OnOk result (Adds self.old self.new answer reading) }
         ensures err { OnErr result (self.new ≡ self.old) }
 
-        // Whatever the answer, this reading may be handed next.
-        ensures next { self.new.floor ≤ reading }
+        // Whatever the answer, the floor rises no further than to the reading.
+        ensures next { self.new.floor ≤ max self.old.floor reading }
     {
         let width = scaled_width(&answer, &self.local, reading);
         if width < 0 {
             return Err(AgreeFault::Impossible(width));
         }
         keep(&mut self.kept, &self.local, answer, reading)?;
-        self.floor = reading;
+        self.floor = self.floor.max(reading);
         Ok(())
     }
 
-    /// What the answers say at a reading that isn't below that of the last answer added: the span from the greatest
-    /// lower end of their spans at the reading to the least upper end. Where these are out of order, it names an answer
-    /// that has the one and an answer that has the other.
+    /// What the answers say at a reading: the span from the greatest lower end of their spans at the reading to the
+    /// least upper end. Where these are out of order, it names an answer that has the one and an answer that has the
+    /// other. They may be the same answer at a reading before its landing.
+    ///
+    /// What is said is true of moments at which all answers have landed.
     pub fn at(&self, reading: u64) -> Agreed
         requires range { reading < LIMIT }
-        requires floor { self.now.floor ≤ reading }
         ensures agrees { (added : Answers) → StandsFor self.now added → AgreesAt self.now.local reading added result }
         ensures truth { (added : Answers) → StandsFor self.now added → TellsTruth self.now.local reading added result }
-        ensures possible { ArePossible self.now.local reading result }
+        ensures possible { self.now.floor ≤ reading → ArePossible self.now.local reading result }
     {
         let Some(best) = best_of_all(&self.kept, &self.local, reading) else {
             return Agreed::Nothing;
         };
-        let lo = span(&best.low, &self.local, reading).lo;
-        let hi = span(&best.high, &self.local, reading).hi;
+        let lo = lowest(&best.low, &self.local, reading);
+        let hi = highest(&best.high, &self.local, reading);
         if lo <= hi {
             Agreed::Within(Span { lo, hi })
         } else {
@@ -92,6 +95,19 @@ impl Agree {
                 low: best.low,
                 high: best.high,
             }
+        }
+    }
+
+    /// Whether the answers contradict each other at a reading: `at` then tells which two disagree.
+    pub fn contradicts(&self, reading: u64) -> bool
+        requires range { reading < LIMIT }
+        ensures value { (added : Answers) → StandsFor self.now added
+            → result ≡ disagree self.now.local reading added }
+    {
+        match self.at(reading) {
+            Agreed::Disagree { .. } => true,
+            Agreed::Nothing => false,
+            Agreed::Within(_) => false,
         }
     }
 

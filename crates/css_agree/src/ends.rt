@@ -2,17 +2,44 @@ ghost use Rattle.std.specs.Prelude.{◌≡◌, ◌<◌, ◌^◌, ◌*ℤ◌, ◌
 ghost use Rattle.css_model.specs.WallClock as wall_clock;
 
 use css_model::LIMIT;
+use css_num::{ceil_div, floor_div};
 use css_span::{Answer, Local};
 
 /// One whole, in the unit of the errors, 1/256 ppm.
 const WHOLE: u32 = 256_000_000;
+
+/// The lower end of an answer's span at a reading, in nanoseconds of the television's wall clock. Unlike a `Span` the
+/// two ends may be out of order: at readings where the answer isn't possible.
+#[tactic(auto, unfolding(css_model::specs::WallClock::lo))]
+pub(crate) fn lowest(answer: &Answer, local: &Local, reading: u64) -> i128
+    requires { reading < LIMIT }
+    ensures { result ≡ wall_clock.lo local.now answer.now reading }
+{
+    floor_div(
+        lower_end(answer, local, reading),
+        i128::from(WHOLE + local.error),
+    )
+}
+
+/// The upper end likewise.
+#[tactic(auto, unfolding(css_model::specs::WallClock::hi))]
+pub(crate) fn highest(answer: &Answer, local: &Local, reading: u64) -> i128
+    requires { reading < LIMIT }
+    ensures { result ≡ wall_clock.hi local.now answer.now reading }
+{
+    ceil_div(
+        upper_end(answer, local, reading),
+        i128::from(WHOLE - local.error),
+    )
+}
 
 /// The lower end of an answer's span before it is rounded, times `F + e`, where `e` is the companion's error and `F` is
 /// one whole in the unit of the errors.
 #[tactic(auto, unfolding(css_model::specs::WallClock::lower))]
 pub(crate) fn lower_end(answer: &Answer, local: &Local, reading: u64) -> i128
     requires { reading < LIMIT }
-    ensures { result ≡ wall_clock.lower local.now answer.now reading }
+    ensures value { result ≡ wall_clock.lower local.now answer.now reading }
+    ensures bound { unsigned_abs result < 2 ^ 95 }
 {
     let sent = times_difference(WHOLE + local.error, answer.t3, answer.precision + 1);
     let since = times_difference(
@@ -27,7 +54,8 @@ pub(crate) fn lower_end(answer: &Answer, local: &Local, reading: u64) -> i128
 #[tactic(auto, unfolding(css_model::specs::WallClock::upper))]
 pub(crate) fn upper_end(answer: &Answer, local: &Local, reading: u64) -> i128
     requires { reading < LIMIT }
-    ensures { result ≡ wall_clock.upper local.now answer.now reading }
+    ensures value { result ≡ wall_clock.upper local.now answer.now reading }
+    ensures bound { unsigned_abs result < 2 ^ 95 }
 {
     let received = times_difference(WHOLE - local.error, answer.t2 + answer.precision + 1, 0);
     let since = times_difference(

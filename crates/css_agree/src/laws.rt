@@ -3,6 +3,7 @@
 
 ghost use Rattle.css_agree.specs.Agreements.{AgreementIsTrue, ContradictionIsFalse};
 ghost use Rattle.css_agree.specs.Bests.{EndsMoveAlike};
+ghost use Rattle.css_agree.specs.Disagreements.{DisagreementIsContradiction, DisagreementIsFalse};
 ghost use Rattle.css_agree.specs.Promise.{PrintedIsTrue};
 
 /// The ends of two answers of one declared error, before they are rounded, move alike: which answer has the greater
@@ -26,4 +27,14 @@ pub fn contradiction_is_false()
 /// truthful.
 pub fn printed_agreement_is_true()
     ensures { PrintedIsTrue }
+{}
+
+/// Answers disagree at a reading exactly where two of them contradict each other there.
+pub fn disagreement_is_contradiction()
+    ensures { DisagreementIsContradiction }
+{}
+
+/// No world that keeps the oscillators' errors makes answers that disagree all truthful.
+pub fn disagreement_is_false()
+    ensures { DisagreementIsFalse }
 {}

@@ -1,10 +1,10 @@
 ghost use Rattle.std.specs.Prelude.{◌≡◌, ◌<◌, ◌++◌, decimal, OnOk, OnErr};
-ghost use Rattle.css_agree.specs.Agreements.{ArePossible};
 ghost use Rattle.css_agree.specs.Printed.{agreed_text, ends_line};
 
 use crate::agreed::Agreed;
+use crate::ends::{highest, lowest};
 use css_model::LIMIT;
-use css_span::{Local, Span, span};
+use css_span::{Local, Span};
 use std::alloc::{AllocError, Global};
 
 /// Adds a number and words.
@@ -46,8 +46,7 @@ pub(crate) fn print_agreed(
     reading: u64,
     out: &mut Vec<u8>,
 ) -> Result<(), AllocError>
-    requires range { reading < LIMIT }
-    requires possible { ArePossible local.now reading agreed.now }
+    requires { reading < LIMIT }
     ensures ok { OnOk result (out.new.items ≡ out.old.items ++ agreed_text local.now number reading agreed.now) }
     ensures err { OnErr result (out.new.items ≡ out.old.items) }
 {
@@ -55,8 +54,8 @@ pub(crate) fn print_agreed(
         Agreed::Nothing => print_words(alloc, number, " none NoAnswer\n", out),
         Agreed::Within(Span { lo, hi }) => print_ends(alloc, number, " agree ", *lo, *hi, out),
         Agreed::Disagree { low, high } => {
-            let low = span(low, local, reading).lo;
-            let high = span(high, local, reading).hi;
+            let low = lowest(low, local, reading);
+            let high = highest(high, local, reading);
             print_ends(alloc, number, " disagree ", low, high, out)
         }
     }

@@ -112,8 +112,7 @@ fn tell(
     reading: u64,
     out: &mut Vec<u8>,
 ) -> Result<(), LineFault<Cause>>
-    requires range { reading < LIMIT }
-    requires floor { agree.now.floor ≤ reading }
+    requires { reading < LIMIT }
     ensures { (added : Added) → StandsFor agree.now added
         → Answers (Ok (line_text agree.now.local number (lines.At reading) added)) out.old.items out.new.items result }
 {

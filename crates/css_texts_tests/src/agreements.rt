@@ -1,6 +1,5 @@
 //! What all answers of a wall clock say together.
-ghost use Rattle.std.specs.Prelude.{◌<◌, ◌≤◌, ◌+◌, ◌*◌};
-ghost use Rattle.css_agree.specs.Agreements.{ArePossible};
+ghost use Rattle.std.specs.Prelude.{◌<◌};
 
 use crate::common::{check_that, next_word};
 use css_agree::{Agree, AgreeFault, Agreed, Answer, Local, Span};
@@ -58,24 +57,37 @@ const WIDEST: Answer = Answer { t1: 0, t3: 0, ..LAST };
 /// The scaled width of those that are impossible, by 394 ns.
 const TOO_NARROW: AgreeFault = AgreeFault::Impossible(-394 * 65_536_000_000_000_000);
 
-/// An answer, the reading at its landing, what comes of it, and what all answers say then.
+/// It was answered 500 ns after it was received, in a round trip of 600 ns, by a clock that may be off by 100,000 ppm.
+#[rattlefmt::skip]
+const LOOSE: Answer = Answer { t3: 5500, error: 25_600_000, ..FIRST };
+
+/// Its scaled width 900 ns before it landed, which is below zero by 14 ns.
+const TOO_EARLY: AgreeFault = AgreeFault::Impossible(-14 * 65_536_000_000_000_000);
+
+/// An answer, the reading at which it is added, what comes of it, and what all answers say then.
 type Step = (Answer, u64, Result<(), AgreeFault>, Agreed);
 
 #[rattlefmt::skip]
 const ONE: Agreed = Agreed::Within(Span { lo: 5197, hi: 5603 });
 
+/// What the answers say at a reading is this, and so is whether they contradict each other.
+fn check_told(rt: &impl Abort, agree: &Agree, reading: u64, told: &Agreed)
+    requires { reading < LIMIT }
+{
+    check_that(rt, agree.at(reading) == *told, "what is told");
+    let apart = matches!(told, Agreed::Disagree { .. });
+    check_that(rt, agree.contradicts(reading) == apart, "a contradiction");
+}
+
 /// What comes of each step is what it says.
 fn check_steps(rt: &impl Abort, alloc: Global, local: Local, steps: &[Step]) {
     let mut agree = Agree::new(alloc, local);
-    check_that(rt, agree.at(0) == Agreed::Nothing, "no answer");
-    let mut last = 0;
+    check_told(rt, &agree, 0, &Agreed::Nothing);
     for (answer, reading, done, told) in steps {
-        assert!(rt; last <= *reading && *reading < LIMIT);
+        assert!(rt; *reading < LIMIT);
         let added = agree.add(*answer, *reading);
         check_that(rt, added == *done, "an answer is taken or refused");
-        let agreed = agree.at(*reading);
-        check_that(rt, agreed == *told, "what is told");
-        last = *reading;
+        check_told(rt, &agree, *reading, told);
     }
     check_that(rt, agree.kept() == 2, "two are kept");
 }
@@ -84,6 +96,31 @@ fn check_steps(rt: &impl Abort, alloc: Global, local: Local, steps: &[Step]) {
 fn two_answers_share_less_than_each_has(rt: HostRuntime) {
     let both = Agreed::Within(Span { lo: 5997, hi: 6103 });
     let steps = [(FIRST, 1600, Ok(()), ONE), (SECOND, 2400, Ok(()), both)];
+    check_steps(&rt, rt.alloc(), EXACT, &steps);
+}
+
+#[test]
+fn answers_come_in_any_order(rt: HostRuntime) {
+    let second = Agreed::Within(Span { lo: 5897, hi: 6103 });
+    let earlier = Agreed::Within(Span { lo: 5197, hi: 5303 });
+    let later = Agreed::Within(Span { lo: 5997, hi: 6103 });
+    let steps = [
+        (SECOND, 2400, Ok(()), second),
+        (FIRST, 1600, Ok(()), earlier),
+        (IMPOSSIBLE, 2400, Err(TOO_NARROW), later),
+    ];
+    check_steps(&rt, rt.alloc(), EXACT, &steps);
+}
+
+#[test]
+fn an_answer_contradicts_itself_before_it_can_have_landed(rt: HostRuntime) {
+    let landed = Agreed::Within(Span { lo: 5497, hi: 5664 });
+    let (low, high) = (LOOSE, LOOSE);
+    let steps = [
+        (LOOSE, 700, Err(TOO_EARLY), Agreed::Nothing),
+        (LOOSE, 1600, Ok(()), landed),
+        (LOOSE, 700, Err(TOO_EARLY), Agreed::Disagree { low, high }),
+    ];
     check_steps(&rt, rt.alloc(), EXACT, &steps);
 }
 
@@ -146,14 +183,16 @@ fn plain_ends(answers: &[Answer], local: &Local, reading: u64) -> Option<(i128, 
 
 /// Whether what is told of the answers is what the plain scan over all of them finds.
 fn is_plain(told: &Agreed, answers: &[Answer], local: &Local, reading: u64) -> bool
-    requires range { reading < 5000000000 }
-    requires possible { ArePossible local.now reading told.now }
+    requires { reading < 5000000000 }
 {
     let ends = plain_ends(answers, local, reading);
     match told {
         Agreed::Nothing => answers.is_empty(),
         Agreed::Within(span) => ends == Some((span.lo, span.hi)),
         Agreed::Disagree { low, high } => {
+            if scaled_width(low, local, reading) < 0 || scaled_width(high, local, reading) < 0 {
+                return false;
+            }
             let (lo, hi) = (span(low, local, reading).lo, span(high, local, reading).hi);
             hi < lo && ends == Some((lo, hi)) && answers.contains(low) && answers.contains(high)
         }
@@ -169,8 +208,7 @@ struct Seen {
 
 /// What both tell at a reading is the same.
 fn compare_at(rt: &impl Abort, agree: &Agree, plain: &[Answer], reading: u64, seen: &mut Seen)
-    requires range { reading < 5000000000 }
-    requires floor { agree.now.floor ≤ reading }
+    requires { reading < 5000000000 }
 {
     let told = agree.at(reading);
     check_that(
@@ -182,7 +220,7 @@ fn compare_at(rt: &impl Abort, agree: &Agree, plain: &[Answer], reading: u64, se
     seen.disagree |= matches!(told, Agreed::Disagree { .. });
 }
 
-/// Adds a drawn answer to both, and compares them then and later.
+/// Adds a drawn answer to both, and compares them when all have landed, and later.
 fn compare(
     rt: &impl Abort,
     agree: &mut Agree,
@@ -191,9 +229,7 @@ fn compare(
     landed: u64,
     seen: &mut Seen,
 )
-    requires range { landed < 1000000 }
-    requires floor { agree.old.floor ≤ landed }
-    ensures next { agree.new.floor ≤ landed }
+    requires { landed < 1000000 }
 {
     let is_possible = scaled_width(&answer, agree.local(), landed) >= 0;
     let added = agree.add(answer, landed);
@@ -201,8 +237,8 @@ fn compare(
     if is_possible {
         plain.push(answer).expect(rt, "memory");
     }
-    for later in [0, 700, 300_000, 4_000_000_000] {
-        compare_at(rt, agree, plain, landed + later, seen);
+    for reading in [12_000, 12_700, 312_000, 4_000_012_000] {
+        compare_at(rt, agree, plain, reading, seen);
     }
 }
 
@@ -224,7 +260,8 @@ fn drawn(word: u64, asked: u64) -> Answer
     }
 }
 
-/// Adds a dozen answers drawn from the word to a new agreement, and returns the last word.
+/// Adds a dozen answers drawn from the word to a new agreement, in another order than they landed, and returns the last
+/// word.
 fn compare_dozen(
     rt: &impl Abort,
     alloc: Global,
@@ -237,8 +274,9 @@ fn compare_dozen(
     let mut word = first;
     for i in 0..12 {
         word = next_word(word);
-        let answer = drawn(word >> 33, i * 1000);
-        compare(rt, &mut agree, &mut plain, answer, i * 1000 + 500, seen);
+        let asked = i * 5 % 12 * 1000;
+        let answer = drawn(word >> 33, asked);
+        compare(rt, &mut agree, &mut plain, answer, asked + 500, seen);
     }
     check_that(rt, agree.kept() <= 8, "two are kept of each error");
     word

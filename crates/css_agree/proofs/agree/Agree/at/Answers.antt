@@ -18,23 +18,9 @@ returns-in_default-clause-agrees c = λ added stands.
     nothing-added c.args.self.now c.args.reading added stands
     (found-is c.args.reading _ c.args.self.now _ _ c.self.view_is c.deref.ensures.value c.in_default.ensures)
 
-pub span-requires-clause-possible : goal.span-requires-clause-possible
-span-requires-clause-possible c =
-    let now = c.args.self.now in
-    let r = c.args.reading in
-    let found = found-is r _ now _ (Some c.in-Some.best) c.self.view_is c.deref.ensures.value c.in-Some.ensures in
-    (found-possible r _ now c.in-Some.best c.self.view_is c.self.invariant c.requires.floor found).low.wide
-
-pub span-requires-2-clause-possible : goal.span-requires-2-clause-possible
-span-requires-2-clause-possible c =
-    let now = c.args.self.now in
-    let r = c.args.reading in
-    let found = found-is r _ now _ (Some c.in-Some.best) c.self.view_is c.deref.ensures.value c.in-Some.ensures in
-    (found-possible r _ now c.in-Some.best c.self.view_is c.self.invariant c.requires.floor found).high.wide
-
 -- the ends are in order
 told : goal.Then-lo-hi → Interval
-told c = record { lo = to_z w128 (of_z w128 c.lo.inside.lo); hi = to_z w128 (of_z w128 c.hi.inside.hi) }
+told c = record { lo = to_z w128 (of_z w128 c.lowest-lo.result); hi = to_z w128 (of_z w128 c.highest-hi.result) }
 
 shared : (c : goal.Then-lo-hi) (added : Answers) → StandsFor c.args.self.now added
     → IsShared c.args.self.now.local c.args.reading added (told c)
@@ -45,10 +31,10 @@ shared c added stands =
     let best = c.in-Some.best in
     let found = found-is r _ now _ (Some best) c.self.view_is c.deref.ensures.value c.in-Some.ensures in
     let local : IsLocal now.local = subst (λ (k : Kept). IsLocal k.local) c.self.view_is c.self.invariant.local in
-    let low : c.lo.inside.lo ≡ lo now.local best.low r =
-    low-is r _ now best.low _ _ c.self.view_is c.lo.view_is c.span.ensures.value in
-    let high : c.hi.inside.hi ≡ hi now.local best.high r =
-    high-is r _ now best.high _ _ c.self.view_is c.hi.view_is c.span-2.ensures.value in
+    let low : c.lowest-lo.result ≡ lo now.local best.low r =
+    low-is r _ now best.low _ c.self.view_is c.lowest-lo.ensures in
+    let high : c.highest-hi.result ≡ hi now.local best.high r =
+    high-is r _ now best.high _ c.self.view_is c.highest-hi.ensures in
     let greatest_low : HasGreatestLow now.local r added best.low = best-low now r added best stands found in
     let least_high : HasLeastHigh now.local r added best.high = best-high now r added best local stands found in
     record {
@@ -84,10 +70,10 @@ contradict c added stands =
     let best = c.in-Some.best in
     let found = found-is r _ now _ (Some best) c.self.view_is c.deref.ensures.value c.in-Some.ensures in
     let local : IsLocal now.local = subst (λ (k : Kept). IsLocal k.local) c.self.view_is c.self.invariant.local in
-    let low : c.lo.inside.lo ≡ lo now.local best.low r =
-    low-is r _ now best.low _ _ c.self.view_is c.lo.view_is c.span.ensures.value in
-    let high : c.hi.inside.hi ≡ hi now.local best.high r =
-    high-is r _ now best.high _ _ c.self.view_is c.hi.view_is c.span-2.ensures.value in
+    let low : c.lowest-lo.result ≡ lo now.local best.low r =
+    low-is r _ now best.low _ c.self.view_is c.lowest-lo.ensures in
+    let high : c.highest-hi.result ≡ hi now.local best.high r =
+    high-is r _ now best.high _ c.self.view_is c.highest-hi.ensures in
     record {
       greatest_low = best-low now r added best stands found;
       least_high = best-high now r added best local stands found;
@@ -104,12 +90,12 @@ returns-else-lo-hi-clause-truth c = λ added stands.
 
 -- the two that are named are possible
 pub returns-else-lo-hi-clause-possible : goal.returns-else-lo-hi-clause-possible
-returns-else-lo-hi-clause-possible c =
+returns-else-lo-hi-clause-possible c = λ later.
     let now = c.args.self.now in
     let r = c.args.reading in
     let best = c.in-Some.best in
     let found = found-is r _ now _ (Some best) c.self.view_is c.deref.ensures.value c.in-Some.ensures in
-    let possible = found-possible r _ now best c.self.view_is c.self.invariant c.requires.floor found in (
+    let possible = found-possible r _ now best c.self.view_is c.self.invariant later found in (
       subst (λ (k : Kept). pos 0 ≤ℤ scaled_width k.local best.low r) c.self.view_is possible.low.wide,
       subst (λ (k : Kept). pos 0 ≤ℤ scaled_width k.local best.high r) c.self.view_is possible.high.wide,
     )
