@@ -8,22 +8,22 @@ use Rattle.css_model.proofs.Division.{differences}
 use Rattle.css_agree.specs.Bests.{EndsMoveAlike}
 
 -- the lower end as a difference of two naturals, where e is the answer's error
-abbrev LowerIs : Local → Answer → ℕ → ℕ → Type 0
+abbrev pub LowerIs : Local → Answer → ℕ → ℕ → Type 0
 LowerIs own a e r =
     up (lower own a r) + ((a.precision + 1) * (F + own.error) + (F - e) * (a.t4 + 2 * own.precision + 1))
     ≡ down (lower own a r) + (a.t3 * (F + own.error) + (F - e) * r)
 
-lower_is : (own : Local) (a : Answer) (r : ℕ) → LowerIs own a a.error r
+pub lower_is : (own : Local) (a : Answer) (r : ℕ) → LowerIs own a a.error r
 unfolding lower
 lower_is own a r = omega (arith, ints, differences)
 
 -- the upper end likewise
-abbrev UpperIs : Local → Answer → ℕ → ℕ → Type 0
+abbrev pub UpperIs : Local → Answer → ℕ → ℕ → Type 0
 UpperIs own a e r =
     up (upper own a r) + (F + e) * a.t1
     ≡ down (upper own a r) + ((a.t2 + a.precision + 1) * (F - own.error) + (F + e) * (r + 2 * own.precision + 1))
 
-upper_is : (own : Local) (a : Answer) (r : ℕ) → UpperIs own a a.error r
+pub upper_is : (own : Local) (a : Answer) (r : ℕ) → UpperIs own a a.error r
 unfolding upper
 upper_is own a r = omega (arith, ints, differences)
 

@@ -6,6 +6,7 @@ pub mod Shared
 pub mod Truth
 pub mod Shown
 pub mod Disagreements
+pub mod Carrying
 pub mod Inputs
 pub mod Reading
 pub mod Promise

@@ -12,7 +12,7 @@ use Rattle.css_agree.specs.Agreements.{IsTruthful, DeclareInRange, AgreementIsTr
 use Rattle.css_agree.specs.Keeping.{Kept, StandsFor}
 
 -- the span of a truthful answer contains the wall clock
-contains : (errors : Errors) (world : World) (who : ℕ) (own : Local) (sleeps i reading : ℕ) (answer : Answer)
+pub contains : (errors : Errors) (world : World) (who : ℕ) (own : Local) (sleeps i reading : ℕ) (answer : Answer)
     → IsWorldFor errors world who own → Reads world who i own.precision reading sleeps → answer.error ≤ max_error
     → IsTruthful errors world who own sleeps i answer → truth.Contains own answer reading (world i).wall
 contains errors world who own sleeps i reading answer for reads most told =

@@ -6,6 +6,7 @@ pub mod FaultWords
 pub mod Inputs
 pub mod Printed
 pub mod Disagreements
+pub mod Carrying
 pub mod Agreeing
 pub mod Reading
 pub mod Promise

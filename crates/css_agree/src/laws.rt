@@ -3,6 +3,7 @@
 
 ghost use Rattle.css_agree.specs.Agreements.{AgreementIsTrue, ContradictionIsFalse};
 ghost use Rattle.css_agree.specs.Bests.{EndsMoveAlike};
+ghost use Rattle.css_agree.specs.Carrying.{CarryingIsTrue, CarriedSpansAreTrue, CarriedForASecond};
 ghost use Rattle.css_agree.specs.Disagreements.{DisagreementIsContradiction, DisagreementIsFalse};
 ghost use Rattle.css_agree.specs.Promise.{PrintedIsTrue};
 
@@ -37,4 +38,22 @@ pub fn disagreement_is_contradiction()
 /// No world that keeps the oscillators' errors makes answers that disagree all truthful.
 pub fn disagreement_is_false()
     ensures { DisagreementIsFalse }
+{}
+
+/// Let an answer's span at one reading of the companion's clock be carried on to another, by both oscillators' errors
+/// and the companion's precision. It contains the television's wall clock there, in each world that makes the answer
+/// truthful.
+pub fn carrying_is_true()
+    ensures { CarryingIsTrue }
+{}
+
+/// Whatever told a span that contains the wall clock at one moment: carried on, it contains the wall clock at each
+/// later moment before the companion's next sleep.
+pub fn carried_spans_are_true()
+    ensures { CarriedSpansAreTrue }
+{}
+
+/// A span of 7,413 ns is carried on for a second, by oscillators of 250 ppm and 500 ppm.
+pub fn carried_for_a_second()
+    ensures { CarriedForASecond }
 {}
