@@ -148,6 +148,11 @@ fn check_same(rt: &impl Abort, estimate: &Estimate, plain: &[Answer], local: &Lo
 {
     let expected = plain_at(plain, local, reading);
     assert!(rt; estimate.at(reading) == expected, "at {reading}");
+    let narrowest = plain_narrowest(plain, local, reading).copied();
+    assert!(rt;
+        estimate.answer(reading) == narrowest,
+        "the answer at {reading}"
+    );
 }
 
 /// Accepts a drawn answer in both, and compares them then and later.

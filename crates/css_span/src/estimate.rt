@@ -1,8 +1,9 @@
 ghost use Rattle.std.specs.Prelude.{◌≡◌, ◌≤◌, ◌<◌, ◌↔◌, [], length, OnOk, OnErr, IsNone, IfSome};
 ghost use Rattle.css_num.specs.Gives.{GivesBy};
-ghost use Rattle.css_span.specs.Frontiers.{Answers, StandsFor, Accepts, error_count};
+ghost use Rattle.css_span.specs.Frontiers.{Answers, StandsFor, Accepts, IsPossible, error_count};
 ghost use Rattle.css_span.specs.Frontiers as frontiers;
 ghost use Rattle.css_model.specs.Numbers.{max_error};
+ghost use Rattle.css_model.specs.WallClock as wall_clock;
 ghost use Rattle.css_span.specs.WallSpans.{wall_span, IsNear};
 ghost use Rattle.css_span.specs.Verdicts.{verdict};
 
@@ -73,8 +74,19 @@ impl Estimate {
         Ok(())
     }
 
-    /// The span of the wall clock at a reading: that of the accepted answer with the least scaled width there, of
-    /// equals the one accepted first. None where none was accepted. The reading isn't below that of the last answer
+    /// The accepted answer with the least scaled width at a reading, of equals the one accepted first. None where none
+    /// was accepted. The reading isn't below that of the last answer accepted.
+    pub fn answer(&self, reading: u64) -> Option<Answer>
+        requires range { reading < LIMIT }
+        requires floor { self.now.floor ≤ reading }
+        ensures narrowest { (accepted : Answers) → StandsFor self.now accepted
+            → result ≡ wall_clock.narrowest self.now.local reading accepted }
+        ensures possible { IfSome result (IsPossible self.now.local reading) }
+    {
+        narrowest(&self.kept, &self.local, reading)
+    }
+
+    /// The span of the wall clock at a reading, in nanoseconds: that of [`Estimate::answer`]. None where no answer was
     /// accepted.
     pub fn at(&self, reading: u64) -> Option<Span>
         requires range { reading < LIMIT }
@@ -84,7 +96,7 @@ impl Estimate {
         ensures none { (accepted : Answers) → StandsFor self.now accepted → IsNone result ↔ (accepted ≡ []) }
         ensures near { IfSome result IsNear }
     {
-        let answer = narrowest(&self.kept, &self.local, reading)?;
+        let answer = self.answer(reading)?;
         Some(span(&answer, &self.local, reading))
     }
 
