@@ -40,20 +40,6 @@ asked_by_client client history o stands =
     ∙ list_any-map (λ asked. is_same_stamp asked o) stamp_of client.asked
 
 -- ---- refused
--- what isn't asked lands as nothing
-pub unasked-none : (peer reading : ℕ) (bytes : List ℕ) (history : History) (message : Message)
-    → decoded bytes ≡ Ok message
-    → (message.message_type == 0) ≡ false → is_asked message.originate history ≡ false
-    → landed_answer (Clock why.Land reading) (Took peer bytes ∷ history) ≡ None
-unasked-none peer reading bytes history message e f g = rw (e, f, g) refl
-
--- and is told so
-pub unasked-landing : (own : Local) (reading : ℕ) (bytes : List ℕ) (history : History) (message : Message)
-    → decoded bytes ≡ Ok message
-    → (message.message_type == 0) ≡ false → is_asked message.originate history ≡ false
-    → landing_of own history reading bytes ≡ landings.Unasked
-unasked-landing own reading bytes history message e f g = rw (e, f, g) refl
-
 -- the datagram itself changes nothing yet
 pub stands_taken : (client : Client) (history : History) (peer : ℕ) (bytes : List ℕ) → StandsFor client history
     → StandsFor client (Took peer bytes ∷ history)

@@ -4,4 +4,5 @@ pub mod Forgetting
 pub mod Aside
 pub mod Asking
 pub mod Answering
+pub mod Judging
 pub mod Telling

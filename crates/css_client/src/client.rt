@@ -2,22 +2,22 @@ ghost use Rattle.std.specs.Prelude.{◌≡◌, ◌≤◌, ◌<◌, ◌+◌, ℕ,
 ghost use Rattle.css_model.specs.declared.Why.TheVariants as why;
 ghost use Rattle.css_model.specs.Numbers.{max_error};
 ghost use Rattle.css_model.specs.Wire.{encoded, request_at};
-ghost use Rattle.css_model.specs.History.{History, Clock, Sent, Took, Slept, accepted_answers};
+ghost use Rattle.css_model.specs.History.{History, Clock, Sent, Took, Slept, accepted_answers, wall_answer};
 ghost use Rattle.css_span.specs.Frontiers.{error_count, greatest_error};
 ghost use Rattle.css_span.specs.WallSpans.{wall_span, IsNear};
 ghost use Rattle.css_wc.specs.Datagrams.{HasNoFault};
 ghost use Rattle.css_client.specs.Clients.{local_of};
-ghost use Rattle.css_client.specs.Landings.{landing_of, IsRefusal};
+ghost use Rattle.css_client.specs.Landings.{landing_of, judged_of, IsRefusal};
 ghost use Rattle.css_client.specs.Standing.{StandsFor, ContainsTheWall, AcceptsTheTruth};
 
 use crate::asked::Asked;
 use crate::landing::Landing;
 use crate::promises::Promises;
-use crate::receiving::{note_request, take_in};
+use crate::receiving::{awaited, judged, note_request, take_in};
 use css_model::{LIMIT, Message, Stamp};
 use css_num::{Memory, Span};
-use css_span::{Estimate, Local};
-use css_wc::{decode, encode, stamp_of};
+use css_span::{Answer, Estimate, Local};
+use css_wc::{encode, stamp_of};
 use std::alloc::Global;
 use std::marker::Model;
 
@@ -147,19 +147,37 @@ impl Client {
         ensures floors { (self.new.floor ≤ reading) × (self.new.after_sleep ≡ self.old.after_sleep) }
         ensures err { OnErr result (self.new ≡ self.old) }
     {
-        let message = match decode(bytes) {
+        let message = match awaited(&self.asked, bytes) {
             Ok(message) => message,
-            Err(fault) => return Ok(Landing::Undecodable(fault)),
+            Err(refusal) => return Ok(refusal),
         };
-        if message.message_type == 0 {
-            return Ok(Landing::NotAnAnswer);
-        }
-        if !self.asked.has_originate(message.originate) {
-            return Ok(Landing::Unasked);
-        }
         let landing = take_in(&mut self.promises, &mut self.estimate, &message, reading)?;
         self.floor = reading;
         Ok(landing)
+    }
+
+    /// What a datagram tells that lands at this reading of the clock, or why it is refused: what [`Client::land`] would
+    /// take in, by the same tests in the same order. Nothing changes, and no memory is taken.
+    pub fn judge(&self, bytes: &[u8], reading: u64) -> Result<Answer, Landing>
+        requires range { reading < LIMIT }
+        ensures { (history : History) → StandsFor self.now history
+            → result ≡ judged_of (local_of self.now) history reading bytes.now }
+    {
+        match awaited(&self.asked, bytes) {
+            Ok(message) => judged(&self.promises, &self.local, &message, reading),
+            Err(refusal) => Err(refusal),
+        }
+    }
+
+    /// The answer behind [`Client::wall`] at this reading: of those accepted since the last sleep the one with the
+    /// least scaled width there, of equals the one accepted first. None where there is none.
+    pub fn answer(&self, reading: u64) -> Option<Answer>
+        requires range { reading < LIMIT }
+        requires floor { self.now.floor ≤ reading }
+        ensures { (history : History) → StandsFor self.now history
+            → result ≡ wall_answer (local_of self.now) history reading }
+    {
+        self.estimate.answer(reading)
     }
 
     /// The span of the television's wall clock at this reading of the companion's own: that of the narrowest answer

@@ -12,5 +12,5 @@ mod receiving;
 pub use client::Client;
 pub use css_model::WcFault;
 pub use css_num::{Memory, Span};
-pub use css_span::Local;
+pub use css_span::{Answer, Local};
 pub use landing::Landing;

@@ -1,10 +1,10 @@
 ghost use Rattle.std.specs.Prelude.{◌≡◌, ◌≢◌, ◌≤◌, ◌<◌, ◌∷◌, ◌==◌, if◌then◌else◌, take, unwrap_or, IfOk, OnOk, OnErr};
-ghost use Rattle.css_model.specs.Wire.{second};
+ghost use Rattle.css_model.specs.Wire.{second, decoded};
 ghost use Rattle.css_wc.specs.Datagrams.{HasNoFault};
 ghost use Rattle.css_span.specs.Frontiers.{Accepts};
 ghost use Rattle.css_client.specs.Clients.{NeverFall, RemembersAll, RemembersOnly, Remembers};
-ghost use Rattle.css_client.specs.Clients.{first_landed, without_promise, answer_of};
-ghost use Rattle.css_client.specs.Landings.{verdict};
+ghost use Rattle.css_client.specs.Clients.{first_landed, without_promise, answer_of, is_among};
+ghost use Rattle.css_client.specs.Landings.{verdict, awaited_if, judged_answer};
 ghost use Rattle.css_client.specs.declared.landing.Landing.TheVariants as landings;
 
 use crate::asked::Asked;
@@ -12,8 +12,8 @@ use crate::landing::Landing;
 use crate::promises::{Promise, Promises};
 use css_model::{LIMIT, Message};
 use css_num::Memory;
-use css_span::{AcceptFault, Answer, Estimate};
-use css_wc::{precision_ns, reading as reading_of};
+use css_span::{AcceptFault, Answer, Estimate, Local, scaled_width};
+use css_wc::{decode, precision_ns, reading as reading_of};
 
 /// Adds a request, and forgets the responses to those that are forgotten for it. Readings never fall, so these are the
 /// ones from before the oldest that is still asked.
@@ -27,6 +27,47 @@ pub(crate) fn note_request(asked: &mut Asked, promises: &mut Promises, request: 
     if let Some(oldest) = asked.oldest() {
         promises.forget_before(oldest);
     }
+}
+
+/// The answer to one of the requests that bytes are, or why they are refused.
+pub(crate) fn awaited(asked: &Asked, bytes: &[u8]) -> Result<Message, Landing>
+    ensures value { result ≡ awaited_if (λ originate. is_among originate asked.now) (decoded bytes.now) }
+    ensures valid { IfOk result HasNoFault }
+    ensures is_answer { IfOk result (λ message. message.message_type ≢ 0) }
+    ensures originate { IfOk result (λ message. message.originate.nanoseconds < second) }
+{
+    let message = match decode(bytes) {
+        Ok(message) => message,
+        Err(fault) => return Err(Landing::Undecodable(fault)),
+    };
+    if message.message_type == 0 {
+        return Err(Landing::NotAnAnswer);
+    }
+    if !asked.has_originate(message.originate) {
+        return Err(Landing::Unasked);
+    }
+    Ok(message)
+}
+
+/// What an answer to a request tells, unless it is impossible at its landing.
+pub(crate) fn judged(
+    promises: &Promises,
+    local: &Local,
+    message: &Message,
+    reading: u64,
+) -> Result<Answer, Landing>
+    requires valid { HasNoFault message.now }
+    requires is_answer { message.now.message_type ≢ 0 }
+    requires originate { message.now.originate.nanoseconds < second }
+    requires range { reading < LIMIT }
+    ensures { result ≡ judged_answer local.now reading (answer_of promises.now reading message.now) }
+{
+    let answer = answer_to(promises, message, reading);
+    let width = scaled_width(&answer, local, reading);
+    if width < 0 {
+        return Err(Landing::Impossible(width));
+    }
+    Ok(answer)
 }
 
 /// Takes in an answer to a request, and tells whether the estimate accepts it.
