@@ -5,6 +5,7 @@ ghost use Rattle.css_companion.specs.Steps.{IsEvent};
 
 use crate::common::{EXACT, check, check_order, datagram, shown, text, words};
 use crate::companion_rows::{self as rows, Happened, Row, STAMPS};
+use css_cii::{full, write_message};
 use css_client::Local;
 use css_companion::{
     Cause, Companion, CompanionConfig, CompanionEvent, CompanionFault, Report, line,
@@ -134,6 +135,31 @@ pub fn report(companion: &Companion, reading: u64) -> Report
     companion.report(reading)
 }
 
+/// The text of the state that a CII text would leave, or why it would be refused.
+fn state_after(rt: &impl Abort, alloc: Global, companion: &Companion, told: &str) -> String {
+    match companion.state_after(told.as_bytes()) {
+        Ok(state) => {
+            let change = full(&state).expect(rt, "memory");
+            let all = write_message(alloc, &change).expect(rt, "memory");
+            words(&all).to_string(alloc).expect(rt, "memory")
+        }
+        Err(fault) => refusal(rt, alloc, &fault),
+    }
+}
+
+/// What a datagram would tell.
+fn judge(
+    rt: &impl Abort,
+    alloc: Global,
+    companion: &Companion,
+    bytes: &[u8],
+    reading: u64,
+) -> String
+    requires { reading < LIMIT }
+{
+    shown(rt, alloc, &companion.judge(bytes, reading))
+}
+
 /// The answer to a question at a reading.
 fn answer_of(
     rt: &impl Abort,
@@ -149,6 +175,13 @@ fn answer_of(
         Happened::Rate => shown(rt, alloc, &companion.rate()),
         Happened::Assigned(wall) => shown(rt, alloc, &companion.assigned(wall)),
         Happened::Wall(_) => shown(rt, alloc, &companion.wall(reading)),
+        Happened::Narrowest(_) => shown(rt, alloc, &companion.answer(reading)),
+        Happened::Judges(message_type, times, error, _) => {
+            let bytes = datagram(message_type, -30, error, times);
+            judge(rt, alloc, companion, &bytes, reading)
+        }
+        Happened::JudgesBytes(bytes, _) => judge(rt, alloc, companion, bytes, reading),
+        Happened::StateAfter(told) => state_after(rt, alloc, companion, told),
         _ => shown(rt, alloc, &companion.kept()),
     }
 }
@@ -160,7 +193,10 @@ fn reading_of(happened: Happened, floor: u64) -> u64 {
         | Happened::AsksEach(reading)
         | Happened::Lands(_, _, _, reading)
         | Happened::Bytes(_, reading)
-        | Happened::Wall(reading) => reading,
+        | Happened::Wall(reading)
+        | Happened::Narrowest(reading)
+        | Happened::Judges(_, _, _, reading)
+        | Happened::JudgesBytes(_, reading) => reading,
         Happened::Sleeps => floor.saturating_add(1),
         _ => floor,
     }
@@ -198,9 +234,14 @@ fn carry_out(
             sleep(companion);
             String::new(alloc)
         }
-        Happened::Wall(_) | Happened::Rate | Happened::Assigned(_) | Happened::Kept => {
-            answer_of(rt, alloc, companion, happened, reading)
-        }
+        Happened::Wall(_)
+        | Happened::Rate
+        | Happened::Assigned(_)
+        | Happened::Kept
+        | Happened::Narrowest(_)
+        | Happened::Judges(_, _, _, _)
+        | Happened::JudgesBytes(_, _)
+        | Happened::StateAfter(_) => answer_of(rt, alloc, companion, happened, reading),
         _ => happen(rt, alloc, companion, happened),
     }
 }
@@ -264,6 +305,12 @@ fn a_companion_knows_the_wall_clock(rt: HostRuntime) {
     check_run(&rt, rt.alloc(), "", EXACT, rows::OF_ITS_OWN_RESPONSE);
     check_run(&rt, rt.alloc(), "", EXACT, rows::LAST_COPY);
     check_run(&rt, rt.alloc(), "", EXACT, rows::ASLEEP);
+    check_run(&rt, rt.alloc(), "", EXACT, rows::JUDGED);
+}
+
+#[test]
+fn a_companion_says_what_a_text_would_leave(rt: HostRuntime) {
+    check_run(&rt, rt.alloc(), STAMPS, EXACT, rows::STATES_AFTER);
 }
 
 /// Lines of reports with the positions that they tell beside them.

@@ -31,6 +31,14 @@ pub enum Happened {
     Wall(u64),
     /// Asks how many answers are kept.
     Kept,
+    /// Asks for the answer behind the span at a reading.
+    Narrowest(u64),
+    /// Asks what a datagram would tell, as in `Lands`.
+    Judges(u8, [u64; 3], u32, u64),
+    /// Asks what other bytes would tell.
+    JudgesBytes(&'static [u8], u64),
+    /// Asks for the state that a CII text would leave.
+    StateAfter(&'static str),
 }
 
 /// What happens; what becomes of an answer, the text that is then owed to the TS session, why the event is refused, or
@@ -104,6 +112,46 @@ pub const ASLEEP: &[Row] = &[
     (Lands(3, [1601, 5000, 5000], 0, 2300), "Unasked", ""),
 ];
 
+/// What a datagram would tell changes nothing: a follow-up counts from its response once that landed. Of answers of
+/// equal width the first is the narrowest.
+#[rattlefmt::skip]
+pub const JUDGED: &[Row] = &[
+    (Asks(1000), "", ""),
+    (Judges(2, [1000, 5000, 6000], 0, 1600), "Err(Impossible(-25821184000000000000))", ""),
+    (
+        Judges(2, [1000, 5000, 5200], 256, 1600),
+        "Ok(Answer { t1: 1000, t2: 5000, t3: 5200, t4: 1600, precision: 1, error: 256 })", "",
+    ),
+    (
+        Judges(3, [1000, 5000, 5200], 0, 1650),
+        "Ok(Answer { t1: 1000, t2: 5000, t3: 5200, t4: 1650, precision: 1, error: 0 })", "",
+    ),
+    (Narrowest(1650), "None", ""),
+    (Lands(2, [1000, 5000, 5200], 0, 1660), "Accepted", ""),
+    (
+        Judges(3, [1000, 5000, 5250], 0, 1700),
+        "Ok(Answer { t1: 1000, t2: 5000, t3: 5250, t4: 1660, precision: 1, error: 0 })", "",
+    ),
+    (Judges(3, [1000, 5000, 6000], 0, 1700), "Err(Impossible(-21889024000000000000))", ""),
+    (
+        Narrowest(1700),
+        "Some(Answer { t1: 1000, t2: 5000, t3: 5200, t4: 1660, precision: 1, error: 0 })", "",
+    ),
+    (Lands(3, [1000, 5000, 5250], 0, 1700), "Accepted", ""),
+    (Lands(3, [1000, 5050, 5340], 0, 1700), "Accepted", ""),
+    (
+        Narrowest(1700),
+        "Some(Answer { t1: 1000, t2: 5000, t3: 5250, t4: 1660, precision: 1, error: 0 })", "",
+    ),
+    (Judges(0, [1700, 0, 0], 0, 1700), "Err(NotAnAnswer)", ""),
+    (JudgesBytes(b"a datagram has 32 bytes", 1700), "Err(Undecodable(Length))", ""),
+    (Judges(1, [1001, 5000, 5000], 0, 1700), "Err(Unasked)", ""),
+    (Kept, "1", ""),
+    (Sleeps, "", ""),
+    (Judges(3, [1000, 5000, 5250], 0, 1701), "Err(Unasked)", ""),
+    (Narrowest(1701), "None", ""),
+];
+
 const ASKS: Row = (Asks(1000), "", "none NoAnswer");
 
 /// The wall clock is from 10,500,000,000 to 10,500,022,222 ns when it lands.
@@ -123,6 +171,13 @@ const FULL: &str = concat!(
     r#"{"contentId":"dvb://1.2.3","contentIdStatus":"final","mrsUrl":null,"presentationStatus":"okay","#,
     r#""protocolVersion":"1.1","teUrl":null,"timelines":[{"timelineProperties":{"unitsPerSecond":90000,"#,
     r#""unitsPerTick":1},"timelineSelector":"urn:dvb:css:timeline:pts"}],"#,
+    r#""tsUrl":"ws://127.0.0.1:6678/ts","wcUrl":"udp://127.0.0.1:6677"}"#
+);
+
+/// [`FULL`] with another programme, and no timeline.
+const FULL_OF_ANOTHER: &str = concat!(
+    r#"{"contentId":"b","contentIdStatus":"final","mrsUrl":null,"presentationStatus":"okay","#,
+    r#""protocolVersion":"1.1","teUrl":null,"timelines":null,"#,
     r#""tsUrl":"ws://127.0.0.1:6678/ts","wcUrl":"udp://127.0.0.1:6677"}"#
 );
 
@@ -272,6 +327,27 @@ pub const REFUSALS: &[Row] = &[
     (Cii(r#"{"wcUrl":null}"#), "", "none NoAnswer"),
     (Cii(r#"{"tsUrl":null}"#), "", "none NoAnswer"),
     (Cii(r#"{"wcUrl":"udp://b:1","tsUrl":"ws://b/ts"}"#), "", "none NoAnswer"),
+];
+
+/// What a text would leave, or why it would be refused. It isn't counted, and changes nothing.
+#[rattlefmt::skip]
+pub const STATES_AFTER: &[Row] = &[
+    (StateAfter(FULL), FULL, ""),
+    (StateAfter(""), "cii text 1: not json", ""),
+    (Cii(FULL), "", ""),
+    (StateAfter(r#"{"contentId":"b","timelines":null}"#), FULL_OF_ANOTHER, ""),
+    (StateAfter(r#"{"contentId":"b","timelines":[5]}"#), "cii text 2: field timelines", ""),
+    (
+        StateAfter(r#"{"contentId":"b","tsUrl":"ws://b/ts","wcUrl":"udp://b:1"}"#),
+        "moved wcUrl from udp://127.0.0.1:6677 to udp://b:1", "",
+    ),
+    (
+        StateAfter(r#"{"contentId":"b","tsUrl":"ws://b/ts","wcUrl":null}"#),
+        "moved tsUrl from ws://127.0.0.1:6678/ts to ws://b/ts", "",
+    ),
+    (StateAfter("{}"), FULL, ""),
+    (Cii("{"), "cii text 2: not json", ""),
+    (StateAfter("{"), "cii text 3: not json", ""),
 ];
 
 const SLOWEST: &str = concat!(
