@@ -98,7 +98,7 @@ abbrev from1 : List CiiName
 from1 = name.ContentIdStatus ∷ from2
 
 -- the members of a change are in order
-change_ordered : (c : Change) → IsOrdered (object (change_members c))
+pub change_ordered : (c : Change) → IsOrdered (object (change_members c))
 change_ordered c =
     then string name.ContentId c.content_id _ from1 no_members words_ordered
     (refl, (refl, (refl, (refl, (refl, (refl, (refl, (refl, tt))))))))
@@ -155,7 +155,7 @@ words_utf8 : (words : List ℕ) → IsUtf8 words → HasUtf8 (string words)
 words_utf8 words h = h
 
 -- the members of a change are UTF-8 where its texts are
-change_utf8 : (c : Change) → IsUtf8Change c → HasUtf8 (object (change_members c))
+pub change_utf8 : (c : Change) → IsUtf8Change c → HasUtf8 (object (change_members c))
 change_utf8 c h =
     said_utf8 IsUtf8 string name.ContentId c.content_id _ words_utf8 h.content_id
     (said_utf8 IsUtf8 string name.ContentIdStatus c.content_id_status _ words_utf8 h.content_id_status

@@ -469,10 +469,9 @@ shallow_list Unsaid rest h = h
 shallow_list (Said None) rest h = omega arith
 shallow_list (Said (Some ts)) rest h = let k = shallow_items ts in omega arith
 
--- and nests four levels deep at most
-pub shallow_change : (c : Change) → depth (object (change_members c)) ≤ max_depth
-shallow_change c =
-    let h : members_depth (change_members c) ≤ 3 =
+-- what is said nests three levels deep at most
+pub low_change : (c : Change) → members_depth (change_members c) ≤ 3
+low_change c =
     shallow_words c.content_id name.ContentId (from1 c)
     (shallow_words c.content_id_status name.ContentIdStatus (from2 c)
     (shallow_words c.mrs_url name.MrsUrl (from3 c)
@@ -481,4 +480,8 @@ shallow_change c =
     (shallow_words c.te_url name.TeUrl (from6 c)
     (shallow_list c.timelines (from7 c)
     (shallow_words c.ts_url name.TsUrl (from8 c)
-    (shallow_words c.wc_url name.WcUrl (from9 c) (omega arith))))))))) in omega arith
+    (shallow_words c.wc_url name.WcUrl (from9 c) (omega arith)))))))))
+
+-- so the object nests four levels deep at most
+pub shallow_change : (c : Change) → depth (object (change_members c)) ≤ max_depth
+shallow_change c = let h = low_change c in omega arith

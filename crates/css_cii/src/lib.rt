@@ -25,7 +25,7 @@ pub use merging::{apply, apply_to, diff, full, merge};
 pub use name::CiiName;
 pub use reading::read_message;
 pub use state::State;
-pub use writing::write_message;
+pub use writing::{rate_value, state_value, write_message};
 
 /// A message that is written is read back as the same change.
 pub fn messages_are_read_back()

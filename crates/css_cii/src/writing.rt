@@ -4,11 +4,14 @@ ghost use Rattle.serde_json.specs.Data.{string, object};
 ghost use Rattle.serde_json.specs.View.{view, members_view};
 ghost use Rattle.css_cii.specs.Messages.{message_of};
 ghost use Rattle.css_num.specs.Rates.{IsTickRate};
+ghost use Rattle.css_cii.specs.States.{full_change};
 ghost use Rattle.css_cii.specs.Texts as texts;
 ghost use Rattle.css_cii.specs.declared.name.CiiName.TheVariants as names;
 
 use crate::change::{Change, Told};
+use crate::merging::full;
 use crate::name::CiiName;
+use crate::state::State;
 use css_num::{Memory, Rate, Text, Timeline, Timelines};
 use css_text::{Map, write_value};
 use serde_json::{Value, json};
@@ -25,8 +28,8 @@ fn words_value(alloc: Global, words: &Text) -> Result<Value, Memory>
     }
 }
 
-/// The value of the properties of a timeline.
-fn rate_value(alloc: Global, rate: Rate) -> Result<Value, AllocError>
+/// The JSON object of a tick rate, as the properties of a timeline: `unitsPerSecond` and `unitsPerTick`.
+pub fn rate_value(alloc: Global, rate: Rate) -> Result<Value, AllocError>
     ensures value { IfOk result (λ value. view value ≡ texts.rate_data rate) }
     ensures in_range { IsTickRate rate }
 {
@@ -152,6 +155,19 @@ fn change_map(alloc: Global, change: &Change) -> Result<Map, Memory>
     )?;
     tell_words(alloc, &mut members, CiiName::ContentId, &change.content_id)?;
     Ok(members)
+}
+
+/// The JSON object of a state: all nine properties, null where they are, with their names in alphabetical order. Each
+/// text is UTF-8.
+#[tactic(auto, unfolding(crate::specs::States::full_change))]
+pub fn state_value(alloc: Global, state: &State) -> Result<Value, Memory>
+    requires { texts.IsUtf8State state.now }
+    ensures value { IfOk result (λ value. view value ≡ object (texts.change_members (full_change state.now))) }
+    ensures in_range { OnOk result (texts.EachIn texts.RatesAreInRange state.now.timelines) }
+{
+    let change = full(state)?;
+    let map = change_map(alloc, &change)?;
+    Ok(Value::Object(map))
 }
 
 /// Writes a message of CSS-CII (ETSI TS 103 286-2): the properties that are
