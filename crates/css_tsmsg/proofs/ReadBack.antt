@@ -45,7 +45,7 @@ speed_ordered (pos n) = tt
 speed_ordered (negsuc n) = tt
 
 -- all texts in the object of a control timestamp are UTF-8
-control_utf8 : (c : Control) → IsInRange c → HasUtf8 (control_data c)
+pub control_utf8 : (c : Control) → IsInRange c → HasUtf8 (control_data c)
 control_utf8 (Available content wall speed) h =
     let shown : IsUtf8 (decimal wall) = wall_utf8 wall (omega (arith, h.wall_time)) in (
       IsUtf8-are_ascii _ refl,
@@ -59,7 +59,7 @@ control_utf8 Unavailable h = (
 )
 
 -- and its names are in alphabetical order
-control_ordered : (c : Control) → IsOrdered (control_data c)
+pub control_ordered : (c : Control) → IsOrdered (control_data c)
 control_ordered (Available content wall speed) =
     (tt, tt, ((refl, tt), speed_ordered speed, ((refl, (refl, tt)), tt, tt)))
 control_ordered Unavailable = (tt, tt, ((refl, tt), tt, ((refl, (refl, tt)), tt, tt)))

@@ -19,4 +19,4 @@ pub use fault::TsFault;
 pub use name::TsName;
 pub use presentation::read_presentation;
 pub use setup::{Setup, read_setup};
-pub use writing::{write_control, write_presentation, write_setup};
+pub use writing::{control_value, write_control, write_presentation, write_setup};

@@ -100,8 +100,8 @@ fn unavailable_value(alloc: Global) -> Result<Value, AllocError>
     Ok(Value::Object(members))
 }
 
-/// The value of a control timestamp.
-fn control_value(alloc: Global, control: &Control) -> Result<Value, AllocError>
+/// The JSON object of a control timestamp, with its names in alphabetical order.
+pub fn control_value(alloc: Global, control: &Control) -> Result<Value, AllocError>
     ensures { IfOk result (λ value. view value ≡ controls.control_data control.now) }
 {
     match control {
