@@ -1,0 +1,4 @@
+pub mod Writable
+pub mod Spelling
+pub mod ReadBack
+pub mod Steps

@@ -1,0 +1,307 @@
+-- Each line is read back as the object that it tells.
+use Rattle.std.proofs.Common.{ℤ, pos, negsuc, Ok, Err, refl, arith}
+use Rattle.json.proofs.Printed.Utf8.{IsUtf8-are_ascii}
+use Rattle.serde_json.specs.Data.{object, no_members}
+use Rattle.css_num.specs.Spans.{Interval}
+use Rattle.css_text.specs.Ordered.{HasUtf8, MembersHaveUtf8, IsOrdered, AreOrderedAfter}
+use Rattle.css_text.proofs.Laws.{object_compact}
+use Rattle.css_cii.specs.States.{full_change}
+use Rattle.css_cii.specs.Texts.{change_members, IsUtf8State}
+use Rattle.css_cii.specs.declared.state.State.{State}
+use Rattle.css_cii.proofs.Laws.{change_ordered, change_utf8}
+use Rattle.css_cii.proofs.Utf8.{full-utf8}
+use Rattle.css_tsmsg.proofs.ReadBack.{control_ordered, control_utf8}
+use Rattle.css_watch_lines.specs.Lines.{Line, Visit, Dial, StateTold, ControlTold, Answered, Refused, SleptAt, Known}
+use Rattle.css_watch_lines.specs.Lines.{Unknown, Ended, line_members, line_data, span_data}
+use Rattle.css_watch_lines.specs.Lines.{signed, IsReadBack}
+use Rattle.css_watch_lines.specs.Ranges.{IsTellable, EndsFit}
+use Rattle.css_watch_lines.specs.Writable.{AreWritable}
+use Rattle.css_watch_lines.proofs.Spelling.{signed_utf8, reading_utf8, service_utf8, outcome_utf8, landing_utf8}
+use Rattle.css_watch_lines.proofs.Spelling.{fault_utf8, cause_utf8}
+use Rattle.css_watch_lines.proofs.Writable.{signed_writable, state_writable, control_writable}
+
+-- ---- the members of a line can stand in it
+line_writable : (line : Line) → IsTellable line → AreWritable (line_members line)
+line_writable (Visit count reading) h = record { plain = (tt, (h.few, (tt, tt))); shallow = omega arith }
+line_writable (Dial kind is_open) h = record { plain = (tt, (tt, (tt, tt))); shallow = omega arith }
+line_writable (StateTold state) h =
+    let told = state_writable state h.1 in
+    record { plain = (tt, (told.plain, tt)); shallow = omega (arith, told.shallow) }
+line_writable (ControlTold (Ok control)) h =
+    let told = control_writable control h in
+    record { plain = (told.plain, (tt, tt)); shallow = omega (arith, told.shallow) }
+line_writable (ControlTold (Err fault)) h = record { plain = (tt, (tt, tt)); shallow = omega arith }
+line_writable (Answered answer kind landed width) h = record {
+  plain = (
+    omega (arith, h.0.error),
+    (tt, (tt, (tt, (tt, (tt, (tt, (omega (arith, h.1), (tt, tt)))))))),
+  );
+  shallow = omega arith;
+}
+line_writable (Refused landing landed) h = record { plain = (tt, (tt, (tt, tt))); shallow = omega arith }
+line_writable (SleptAt reading) h = record { plain = (tt, (tt, tt)); shallow = omega arith }
+line_writable (Known count reading told) h =
+    let speed = signed_writable told.speed h.1.speed in
+    let rate = h.1.rate in
+    record {
+      plain = (
+        omega (arith, h.1.error),
+        (
+          tt,
+          (
+            h.0.few,
+            (
+              (omega (arith, rate.second_small), (omega (arith, rate.tick_small), tt)),
+              (tt, (speed.plain, ((tt, (tt, tt)), ((tt, (tt, tt)), tt)))),
+            ),
+          ),
+        ),
+      );
+      shallow = omega arith;
+    }
+line_writable (Unknown count reading cause detail) h = record {
+  plain = (tt, (tt, (tt, (h.0.few, (tt, tt)))));
+  shallow = omega arith;
+}
+line_writable (Ended count why) h = record { plain = (tt, (h.0, (tt, tt))); shallow = omega arith }
+
+-- ---- the texts in a line are UTF-8
+-- the ends of a span
+span_utf8 : (span : Interval) → EndsFit span → HasUtf8 (span_data span)
+span_utf8 span h = (signed_utf8 span.lo h.lo, (signed_utf8 span.hi h.hi, tt))
+
+-- a state, all of which is said
+state_utf8 : (state : State) → IsUtf8State state → HasUtf8 (object (change_members (full_change state)))
+state_utf8 state h = change_utf8 (full_change state) (full-utf8 state h)
+
+-- all of them
+line_utf8 : (line : Line) → IsTellable line → MembersHaveUtf8 (line_members line)
+line_utf8 (Visit count reading) h = (
+  IsUtf8-are_ascii _ refl,
+  IsUtf8-are_ascii _ refl,
+  (
+    IsUtf8-are_ascii _ refl,
+    tt,
+    (IsUtf8-are_ascii _ refl, reading_utf8 reading h.early, tt),
+  ),
+)
+line_utf8 (Dial kind is_open) h = (
+  IsUtf8-are_ascii _ refl,
+  IsUtf8-are_ascii _ refl,
+  (
+    IsUtf8-are_ascii _ refl,
+    outcome_utf8 is_open,
+    (IsUtf8-are_ascii _ refl, service_utf8 kind, tt),
+  ),
+)
+line_utf8 (StateTold state) h = (
+  IsUtf8-are_ascii _ refl,
+  IsUtf8-are_ascii _ refl,
+  (IsUtf8-are_ascii _ refl, state_utf8 state h.0, tt),
+)
+line_utf8 (ControlTold (Ok control)) h = (
+  IsUtf8-are_ascii _ refl,
+  control_utf8 control h,
+  (IsUtf8-are_ascii _ refl, IsUtf8-are_ascii _ refl, tt),
+)
+line_utf8 (ControlTold (Err fault)) h = (
+  IsUtf8-are_ascii _ refl,
+  IsUtf8-are_ascii _ refl,
+  (IsUtf8-are_ascii _ refl, fault_utf8 fault, tt),
+)
+line_utf8 (Answered answer kind landed width) h =
+    let ranges = h.0 in (
+      IsUtf8-are_ascii _ refl,
+      tt,
+      (
+        IsUtf8-are_ascii _ refl,
+        IsUtf8-are_ascii _ refl,
+        (
+          IsUtf8-are_ascii _ refl,
+          reading_utf8 landed h.2,
+          (
+            IsUtf8-are_ascii _ refl,
+            reading_utf8 answer.t1 (omega (arith, ranges.t1)),
+            (
+              IsUtf8-are_ascii _ refl,
+              reading_utf8 answer.precision (omega (arith, ranges.precision)),
+              (
+                IsUtf8-are_ascii _ refl,
+                reading_utf8 answer.t2 (omega (arith, ranges.t2)),
+                (
+                  IsUtf8-are_ascii _ refl,
+                  reading_utf8 answer.t3 (omega (arith, ranges.t3)),
+                  (IsUtf8-are_ascii _ refl, tt, (IsUtf8-are_ascii _ refl, signed_utf8 width h.3, tt)),
+                ),
+              ),
+            ),
+          ),
+        ),
+      ),
+    )
+line_utf8 (Refused landing landed) h = (
+  IsUtf8-are_ascii _ refl,
+  IsUtf8-are_ascii _ refl,
+  (
+    IsUtf8-are_ascii _ refl,
+    landing_utf8 landing,
+    (IsUtf8-are_ascii _ refl, reading_utf8 landed h, tt),
+  ),
+)
+line_utf8 (SleptAt reading) h = (
+  IsUtf8-are_ascii _ refl,
+  IsUtf8-are_ascii _ refl,
+  (IsUtf8-are_ascii _ refl, reading_utf8 reading h, tt),
+)
+line_utf8 (Known count reading told) h = (
+  IsUtf8-are_ascii _ refl,
+  tt,
+  (
+    IsUtf8-are_ascii _ refl,
+    IsUtf8-are_ascii _ refl,
+    (
+      IsUtf8-are_ascii _ refl,
+      tt,
+      (
+        IsUtf8-are_ascii _ refl,
+        (IsUtf8-are_ascii _ refl, tt, (IsUtf8-are_ascii _ refl, tt, tt)),
+        (
+          IsUtf8-are_ascii _ refl,
+          reading_utf8 reading h.0.early,
+          (
+            IsUtf8-are_ascii _ refl,
+            tt,
+            (
+              IsUtf8-are_ascii _ refl,
+              span_utf8 told.ticks h.1.ticks,
+              (IsUtf8-are_ascii _ refl, span_utf8 told.wall h.1.wall, tt),
+            ),
+          ),
+        ),
+      ),
+    ),
+  ),
+)
+line_utf8 (Unknown count reading cause detail) h = (
+  IsUtf8-are_ascii _ refl,
+  cause_utf8 cause,
+  (
+    IsUtf8-are_ascii _ refl,
+    h.1,
+    (
+      IsUtf8-are_ascii _ refl,
+      IsUtf8-are_ascii _ refl,
+      (
+        IsUtf8-are_ascii _ refl,
+        tt,
+        (IsUtf8-are_ascii _ refl, reading_utf8 reading h.0.early, tt),
+      ),
+    ),
+  ),
+)
+line_utf8 (Ended count why) h = (
+  IsUtf8-are_ascii _ refl,
+  IsUtf8-are_ascii _ refl,
+  (IsUtf8-are_ascii _ refl, tt, (IsUtf8-are_ascii _ refl, h.1, tt)),
+)
+
+-- ---- the names in a line are in alphabetical order
+-- a number has none, and is unsigned exactly where it isn't below zero
+signed_ordered : (z : ℤ) → IsOrdered (signed z)
+signed_ordered (pos n) = tt
+signed_ordered (negsuc n) = tt
+
+-- all of them
+line_ordered : (line : Line) → AreOrderedAfter no_members (line_members line)
+line_ordered (Visit count reading) = (tt, tt, ((refl, tt), tt, ((refl, (refl, tt)), tt, tt)))
+line_ordered (Dial kind is_open) = (tt, tt, ((refl, tt), tt, ((refl, (refl, tt)), tt, tt)))
+line_ordered (StateTold state) = (tt, tt, ((refl, tt), change_ordered (full_change state), tt))
+line_ordered (ControlTold (Ok control)) = (tt, control_ordered control, ((refl, tt), tt, tt))
+line_ordered (ControlTold (Err fault)) = (tt, tt, ((refl, tt), tt, tt))
+line_ordered (Answered answer kind landed width) = (
+  tt,
+  tt,
+  (
+    (refl, tt),
+    tt,
+    (
+      (refl, (refl, tt)),
+      tt,
+      (
+        (refl, (refl, (refl, tt))),
+        tt,
+        (
+          (refl, (refl, (refl, (refl, tt)))),
+          tt,
+          (
+            (refl, (refl, (refl, (refl, (refl, tt))))),
+            tt,
+            (
+              (refl, (refl, (refl, (refl, (refl, (refl, tt)))))),
+              tt,
+              (
+                (refl, (refl, (refl, (refl, (refl, (refl, (refl, tt))))))),
+                tt,
+                ((refl, (refl, (refl, (refl, (refl, (refl, (refl, (refl, tt)))))))), tt, tt),
+              ),
+            ),
+          ),
+        ),
+      ),
+    ),
+  ),
+)
+line_ordered (Refused landing landed) = (tt, tt, ((refl, tt), tt, ((refl, (refl, tt)), tt, tt)))
+line_ordered (SleptAt reading) = (tt, tt, ((refl, tt), tt, tt))
+line_ordered (Known count reading told) = (
+  tt,
+  tt,
+  (
+    (refl, tt),
+    tt,
+    (
+      (refl, (refl, tt)),
+      tt,
+      (
+        (refl, (refl, (refl, tt))),
+        (tt, tt, ((refl, tt), tt, tt)),
+        (
+          (refl, (refl, (refl, (refl, tt)))),
+          tt,
+          (
+            (refl, (refl, (refl, (refl, (refl, tt))))),
+            signed_ordered told.speed,
+            (
+              (refl, (refl, (refl, (refl, (refl, (refl, tt)))))),
+              (tt, (tt, tt)),
+              ((refl, (refl, (refl, (refl, (refl, (refl, (refl, tt))))))), (tt, (tt, tt)), tt),
+            ),
+          ),
+        ),
+      ),
+    ),
+  ),
+)
+line_ordered (Unknown count reading cause detail) = (
+  tt,
+  tt,
+  (
+    (refl, tt),
+    tt,
+    (
+      (refl, (refl, tt)),
+      tt,
+      ((refl, (refl, (refl, tt))), tt, ((refl, (refl, (refl, (refl, tt)))), tt, tt)),
+    ),
+  ),
+)
+line_ordered (Ended count why) = (tt, tt, ((refl, tt), tt, ((refl, (refl, tt)), tt, tt)))
+
+-- ---- so a line's text is read back
+pub line_reads : (line : Line) → IsTellable line → IsReadBack (line_data line)
+line_reads line h =
+    let w = line_writable line h in
+    record {
+      reads = object_compact (line_data line) w.plain (omega (arith, w.shallow)) (line_utf8 line h)
+          (line_ordered line);
+    }

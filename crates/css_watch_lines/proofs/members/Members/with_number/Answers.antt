@@ -1,0 +1,8 @@
+use Rattle.std.proofs.Common.{sym, subst}
+use Rattle.css_watch_lines.specs.Writable.{IsWritable}
+use Rattle.css_watch_lines.proofs.Writable.{whole_writable}
+use Rattle.css_watch_lines.proofs.members.Members.with_number.Goals as goal
+
+pub with_value-requires-clause-value : goal.with_value-requires-clause-value
+with_value-requires-clause-value c =
+    subst IsWritable (sym c.from-value.ensures) (whole_writable c.args.number c.requires.value)

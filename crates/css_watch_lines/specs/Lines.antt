@@ -1,0 +1,157 @@
+-- What the lines of a watch tell, and the JSON object of each.
+use Rattle.std.specs.Prelude.{◌≡◌, ℕ, ℤ, pos, List, [], ◌∷◌, ◌++◌, Bool, Result, Ok, Err, codes}
+use Rattle.std.specs.Fmt.{signed_decimal}
+use Rattle.serde_json.specs.Data.{Data, number, unsigned, string, array, object, no_items, item}
+use Rattle.serde_json.specs.Data.{Members, no_members, member}
+use Rattle.serde_json.specs.Find.{of_integer}
+use Rattle.serde_json.specs.Written.{compact_text}
+use Rattle.css_num.specs.Spans.{Interval}
+use Rattle.css_num.specs.declared.control.Control.{Control}
+use Rattle.css_model.specs.WallClock.{Answer}
+use Rattle.css_model.specs.declared.Kind.{Kind}
+use Rattle.css_text.specs.Readings.{object_of, members_or_fault}
+use Rattle.css_cii.specs.States.{full_change}
+use Rattle.css_cii.specs.Texts.{change_members, rate_data}
+use Rattle.css_cii.specs.declared.state.State.{State}
+use Rattle.css_tsmsg.specs.Controls.{control_data}
+use Rattle.css_tsmsg.specs.declared.fault.TsFault.{TsFault}
+use Rattle.css_client.specs.declared.landing.Landing.{Landing}
+use Rattle.css_companion.specs.Printed.{cause_words, fault_words}
+use Rattle.css_companion.specs.declared.report.Cause.{Cause}
+use Rattle.css_watch_lines.specs.Words.{service_words, outcome_words, landing_words}
+use Rattle.css_watch_lines.specs.declared.known.Known.{Known as Ticking}
+
+-- what a line tells; `number` counts visits, or reports, from 1
+pub data Line : Type 0 where
+  -- a visit began: its number, and the reading
+  Visit : ℕ → ℕ → Line
+  -- the outcome of a dial: the service, and whether its session or socket is open
+  Dial : Kind → Bool → Line
+  -- the state after a CII text
+  StateTold : State → Line
+  -- what a TS text was read as
+  ControlTold : Result Control TsFault → Line
+  -- an answer was accepted: its message type, the reading at which it landed, and the width of its span there
+  Answered : Answer → ℕ → ℕ → ℤ → Line
+  -- a datagram was refused: what became of it, and the reading at which it landed
+  Refused : Landing → ℕ → Line
+  -- a sleep was noticed, at this reading
+  SleptAt : ℕ → Line
+  -- a report with ticks: its number, and the reading
+  Known : ℕ → ℕ → Ticking → Line
+  -- a report without ticks: its number, the reading, the cause, and how far the visit came
+  Unknown : ℕ → ℕ → Cause → List ℕ → Line
+  -- a visit ended: its number, and why
+  Ended : ℕ → List ℕ → Line
+
+-- ---- values
+-- a number of any size, as the text of its digits
+abbrev pub digits : ℤ → Data
+digits z = string (signed_decimal z)
+
+-- a time in nanoseconds
+abbrev pub time : ℕ → Data
+time ns = digits (pos ns)
+
+-- a number of at most 18 digits
+abbrev pub whole : ℕ → Data
+whole n = number (unsigned n)
+
+-- the same of one that may be below zero
+abbrev pub signed : ℤ → Data
+signed z = number (of_integer z)
+
+-- the two ends of a span
+abbrev pub span_data : Interval → Data
+span_data span = array (item (digits span.lo) (item (digits span.hi) no_items))
+
+-- ---- objects
+-- the members of each report
+abbrev pub report_members : ℕ → ℕ → Members
+report_members count reading =
+    member (codes "event") (string (codes "report"))
+    (member (codes "number") (whole count)
+    (member (codes "reading") (time reading) no_members))
+
+-- the members of an answer, but for those of its datagram
+abbrev pub answer_members : Answer → Members
+answer_members answer =
+    member (codes "error") (whole answer.error)
+    (member (codes "event") (string (codes "answer"))
+    (member (codes "originate") (time answer.t1)
+    (member (codes "precision") (time answer.precision)
+    (member (codes "receive") (time answer.t2)
+    (member (codes "transmit") (time answer.t3) no_members)))))
+
+-- the members of a line's object, their names in alphabetical order
+abbrev pub line_members : Line → Members
+line_members (Visit count reading) =
+    member (codes "event") (string (codes "visit"))
+    (member (codes "number") (whole count)
+    (member (codes "reading") (time reading) no_members))
+line_members (Dial kind is_open) =
+    member (codes "event") (string (codes "dial"))
+    (member (codes "outcome") (string (outcome_words is_open))
+    (member (codes "service") (string (service_words kind)) no_members))
+line_members (StateTold state) =
+    member (codes "event") (string (codes "state"))
+    (member (codes "state") (object (change_members (full_change state))) no_members)
+line_members (ControlTold (Ok control)) =
+    member (codes "control") (control_data control)
+    (member (codes "event") (string (codes "control")) no_members)
+line_members (ControlTold (Err fault)) =
+    member (codes "event") (string (codes "control"))
+    (member (codes "fault") (string (fault_words fault)) no_members)
+line_members (Answered answer kind landed width) =
+    member (codes "error") (whole answer.error)
+    (member (codes "event") (string (codes "answer"))
+    (member (codes "landed") (time landed)
+    (member (codes "originate") (time answer.t1)
+    (member (codes "precision") (time answer.precision)
+    (member (codes "receive") (time answer.t2)
+    (member (codes "transmit") (time answer.t3)
+    (member (codes "type") (whole kind)
+    (member (codes "width") (digits width) no_members))))))))
+line_members (Refused landing landed) =
+    member (codes "event") (string (codes "refused"))
+    (member (codes "fault") (string (landing_words landing))
+    (member (codes "landed") (time landed) no_members))
+line_members (SleptAt reading) =
+    member (codes "event") (string (codes "slept"))
+    (member (codes "reading") (time reading) no_members)
+line_members (Known count reading told) =
+    member (codes "error") (whole told.error)
+    (member (codes "event") (string (codes "report"))
+    (member (codes "number") (whole count)
+    (member (codes "rate") (rate_data told.rate)
+    (member (codes "reading") (time reading)
+    (member (codes "speed") (signed told.speed)
+    (member (codes "ticks") (span_data told.ticks)
+    (member (codes "wall") (span_data told.wall) no_members)))))))
+line_members (Unknown count reading cause detail) =
+    member (codes "cause") (string (cause_words cause))
+    (member (codes "detail") (string detail)
+    (member (codes "event") (string (codes "report"))
+    (member (codes "number") (whole count)
+    (member (codes "reading") (time reading) no_members))))
+line_members (Ended count why) =
+    member (codes "event") (string (codes "end"))
+    (member (codes "number") (whole count)
+    (member (codes "why") (string why) no_members))
+
+-- the value of a line
+abbrev pub line_data : Line → Data
+line_data line = object (line_members line)
+
+-- ---- texts
+-- the compact text of a value, and a line feed
+unfoldable pub text_of : Data → List ℕ
+text_of value = compact_text value ++ 10 ∷ []
+
+-- the text of a line
+abbrev pub line_text : Line → List ℕ
+line_text line = text_of (line_data line)
+
+-- the value's compact text, which is the line without its line feed, is read back as the value
+pub record IsReadBack (value : Data) : Type 0 where
+  pub reads : object_of (compact_text value) ≡ members_or_fault (Ok value)

@@ -1,0 +1,43 @@
+-- The ranges of what a line tells.
+use Rattle.std.specs.Prelude.{ℕ, ◌<◌, ◌^◌, ⊤, unsigned_abs, IfOk}
+use Rattle.std.specs.Str.{IsUtf8}
+use Rattle.css_num.specs.Rates.{IsTickRate}
+use Rattle.css_num.specs.Spans.{Interval}
+use Rattle.css_model.specs.WallClock.{IsAnswer}
+use Rattle.css_cii.specs.Texts.{EachIn, IsUtf8State, RatesAreInRange}
+use Rattle.css_tsmsg.specs.Controls.{IsInRange}
+use Rattle.css_watch_lines.specs.Lines.{Line, Visit, Dial, StateTold, ControlTold, Answered, Refused, SleptAt, Known}
+use Rattle.css_watch_lines.specs.Lines.{Unknown, Ended}
+use Rattle.css_watch_lines.specs.declared.known.Known.{Known as Ticking}
+
+-- the ends of a span fit in 128 bits
+pub record EndsFit (span : Interval) : Type 0 where
+  pub lo : unsigned_abs span.lo < 2 ^ 128
+  pub hi : unsigned_abs span.hi < 2 ^ 128
+
+-- the number and the reading of a report or a visit
+pub record AreCounted (count reading : ℕ) : Type 0 where
+  pub few : count < 10 ^ 18
+  pub early : reading < 2 ^ 64
+
+-- what a report with ticks tells
+pub record IsTicking (told : Ticking) : Type 0 where
+  pub ticks : EndsFit told.ticks
+  pub wall : EndsFit told.wall
+  pub error : told.error < 2 ^ 32
+  pub rate : IsTickRate told.rate
+  pub speed : unsigned_abs told.speed < 2 ^ 32
+
+-- texts are UTF-8, and each number is in its range
+abbrev pub IsTellable : Line → Type 0
+IsTellable (Visit count reading) = AreCounted count reading
+IsTellable (Dial kind is_open) = ⊤
+IsTellable (StateTold state) = IsUtf8State state × EachIn RatesAreInRange state.timelines
+IsTellable (ControlTold told) = IfOk told IsInRange
+IsTellable (Answered answer kind landed width) =
+    IsAnswer answer × (kind < 2 ^ 8) × (landed < 2 ^ 64) × (unsigned_abs width < 2 ^ 128)
+IsTellable (Refused landing landed) = landed < 2 ^ 64
+IsTellable (SleptAt reading) = reading < 2 ^ 64
+IsTellable (Known count reading told) = AreCounted count reading × IsTicking told
+IsTellable (Unknown count reading cause detail) = AreCounted count reading × IsUtf8 detail
+IsTellable (Ended count why) = (count < 10 ^ 18) × IsUtf8 why

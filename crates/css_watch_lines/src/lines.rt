@@ -1,0 +1,207 @@
+ghost use Rattle.std.specs.Prelude.{◌≡◌, ◌<◌, ◌^◌, IfOk, OnOk, Ok, Err};
+ghost use Rattle.std.specs.Str.{IsUtf8};
+ghost use Rattle.css_cii.specs.Texts.{IsUtf8State};
+ghost use Rattle.css_tsmsg.specs.Controls.{IsInRange};
+ghost use Rattle.css_watch_lines.specs.Lines as lines;
+ghost use Rattle.css_watch_lines.specs.Writable.{AreWritable, told_in};
+
+use crate::known::Known;
+use crate::members::Members;
+use crate::words::{landing_words, outcome_words, service_words};
+use css_cii::{State, state_value};
+use css_client::Landing;
+use css_companion::{Cause, cause_text, fault_text};
+use css_model::Kind;
+use css_num::{Control, Memory, Text};
+use css_span::Answer;
+use css_tsmsg::{TsFault, control_value};
+use std::alloc::Global;
+
+/// The line where a visit begins: `event` is `visit`. Visits are counted from 1.
+pub fn visit_line(alloc: Global, number: u64, reading: u64) -> Result<Text, Memory>
+    requires { number < 10 ^ 18 }
+    ensures text { IfOk result (λ text. text ≡ lines.line_text (lines.Visit number reading)) }
+    ensures read_back { OnOk result (lines.IsReadBack (lines.line_data (lines.Visit number reading))) }
+{
+    Members::of_event(alloc, "visit")?
+        .with_number("number", number)?
+        .with_time("reading", reading)?
+        .line()
+}
+
+/// The line of a dial's outcome: `event` is `dial`.
+pub fn dial_line(alloc: Global, kind: Kind, is_open: bool) -> Result<Text, Memory>
+    ensures text { IfOk result (λ text. text ≡ lines.line_text (lines.Dial kind is_open)) }
+    ensures read_back { OnOk result (lines.IsReadBack (lines.line_data (lines.Dial kind is_open))) }
+{
+    Members::of_event(alloc, "dial")?
+        .with_words("outcome", outcome_words(is_open))?
+        .with_words("service", service_words(kind))?
+        .line()
+}
+
+/// The line of the state after a CII text: `event` is `state`. It has all nine properties, null where they are. Each
+/// text of the state is UTF-8.
+pub fn state_line(alloc: Global, state: &State) -> Result<Text, Memory>
+    requires { IsUtf8State state.now }
+    ensures text { IfOk result (λ text. text ≡ lines.line_text (lines.StateTold state.now)) }
+    ensures read_back { OnOk result (lines.IsReadBack (lines.line_data (lines.StateTold state.now))) }
+{
+    let state = state_value(alloc, state)?;
+    Members::of_event(alloc, "state")?
+        .with_value("state", state)?
+        .line()
+}
+
+/// The line of a control timestamp.
+fn taken_line(alloc: Global, control: &Control) -> Result<Text, Memory>
+    requires { IsInRange control.now }
+    ensures text { IfOk result (λ text. text ≡ lines.line_text (lines.ControlTold (Ok control.now))) }
+    ensures read_back { OnOk result (lines.IsReadBack (lines.line_data (lines.ControlTold (Ok control.now)))) }
+{
+    let control = control_value(alloc, control)?;
+    Members::of_event(alloc, "control")?
+        .with_value("control", control)?
+        .line()
+}
+
+/// The line of a TS text that isn't readable.
+fn unread_line(alloc: Global, fault: TsFault) -> Result<Text, Memory>
+    ensures text { IfOk result (λ text. text ≡ lines.line_text (lines.ControlTold (Err fault))) }
+    ensures read_back { OnOk result (lines.IsReadBack (lines.line_data (lines.ControlTold (Err fault)))) }
+{
+    let fault = fault_text(alloc, fault)?;
+    Members::of_event(alloc, "control")?
+        .with_text("fault", &fault)?
+        .line()
+}
+
+/// The line of a TS text: `event` is `control`. It has the control timestamp, as its own text says it, or the fault.
+///
+/// The content time has at most 18 digits, the wall time is below 2^63, and the speed is -64 to 64.
+pub fn control_line(alloc: Global, told: &Result<Control, TsFault>) -> Result<Text, Memory>
+    requires { IfOk told.now IsInRange }
+    ensures text { IfOk result (λ text. text ≡ lines.line_text (lines.ControlTold told.now)) }
+    ensures read_back { OnOk result (lines.IsReadBack (lines.line_data (lines.ControlTold told.now))) }
+{
+    match told {
+        Ok(control) => taken_line(alloc, control),
+        Err(fault) => unread_line(alloc, *fault),
+    }
+}
+
+/// The members of an answer, but for those of its datagram.
+fn answer_members(alloc: Global, answer: &Answer) -> Result<Members, Memory>
+    ensures value { IfOk result (λ members. told_in members ≡ lines.answer_members answer.now) }
+    ensures writable { IfOk result (λ members. AreWritable (told_in members)) }
+{
+    Members::of_event(alloc, "answer")?
+        .with_small("error", answer.error)?
+        .with_time("originate", answer.t1)?
+        .with_time("precision", answer.precision)?
+        .with_time("receive", answer.t2)?
+        .with_time("transmit", answer.t3)
+}
+
+/// The line of an answer that is accepted: `event` is `answer`.
+///
+/// `kind` is the message type of its datagram, `landed` the reading at which that landed, and `width` that of its span
+/// there. Times are in nanoseconds, the error is in 1/256 ppm.
+pub fn answer_line(
+    alloc: Global,
+    answer: &Answer,
+    kind: u8,
+    landed: u64,
+    width: i128,
+) -> Result<Text, Memory>
+    ensures text { IfOk result (λ text. text ≡ lines.line_text (lines.Answered answer.now kind landed width)) }
+    ensures read_back { OnOk result
+        (lines.IsReadBack (lines.line_data (lines.Answered answer.now kind landed width))) }
+{
+    answer_members(alloc, answer)?
+        .with_time("landed", landed)?
+        .with_small("type", u32::from(kind))?
+        .with_digits("width", width)?
+        .line()
+}
+
+/// The line of a datagram that is refused: `event` is `refused`. `landed` is the reading at which it landed.
+pub fn refused_line(alloc: Global, landing: &Landing, landed: u64) -> Result<Text, Memory>
+    ensures text { IfOk result (λ text. text ≡ lines.line_text (lines.Refused landing.now landed)) }
+    ensures read_back { OnOk result (lines.IsReadBack (lines.line_data (lines.Refused landing.now landed))) }
+{
+    Members::of_event(alloc, "refused")?
+        .with_words("fault", landing_words(landing))?
+        .with_time("landed", landed)?
+        .line()
+}
+
+/// The line where a sleep was noticed: `event` is `slept`.
+pub fn slept_line(alloc: Global, reading: u64) -> Result<Text, Memory>
+    ensures text { IfOk result (λ text. text ≡ lines.line_text (lines.SleptAt reading)) }
+    ensures read_back { OnOk result (lines.IsReadBack (lines.line_data (lines.SleptAt reading))) }
+{
+    Members::of_event(alloc, "slept")?
+        .with_time("reading", reading)?
+        .line()
+}
+
+/// The members that each report has.
+fn report_members(alloc: Global, number: u64, reading: u64) -> Result<Members, Memory>
+    requires { number < 10 ^ 18 }
+    ensures value { IfOk result (λ members. told_in members ≡ lines.report_members number reading) }
+    ensures writable { IfOk result (λ members. AreWritable (told_in members)) }
+{
+    Members::of_event(alloc, "report")?
+        .with_number("number", number)?
+        .with_time("reading", reading)
+}
+
+/// The line of a report with ticks: `event` is `report`. Reports are counted from 1.
+pub fn known_line(alloc: Global, number: u64, reading: u64, known: &Known) -> Result<Text, Memory>
+    requires { number < 10 ^ 18 }
+    ensures text { IfOk result (λ text. text ≡ lines.line_text (lines.Known number reading known.now)) }
+    ensures read_back { OnOk result (lines.IsReadBack (lines.line_data (lines.Known number reading known.now))) }
+{
+    report_members(alloc, number, reading)?
+        .with_small("error", known.error)?
+        .with_rate("rate", known.rate)?
+        .with_speed("speed", known.speed)?
+        .with_span("ticks", known.ticks)?
+        .with_span("wall", known.wall)?
+        .line()
+}
+
+/// The line of a report without ticks: `event` is `report`. `detail` says how far the visit came. Reports are counted
+/// from 1.
+pub fn cause_line(
+    alloc: Global,
+    number: u64,
+    reading: u64,
+    cause: &Cause,
+    detail: &str,
+) -> Result<Text, Memory>
+    requires { number < 10 ^ 18 }
+    ensures text { IfOk result (λ text. text ≡ lines.line_text (lines.Unknown number reading cause.now detail.now)) }
+    ensures read_back { OnOk result
+        (lines.IsReadBack (lines.line_data (lines.Unknown number reading cause.now detail.now))) }
+{
+    let cause = cause_text(alloc, *cause)?;
+    report_members(alloc, number, reading)?
+        .with_text("cause", &cause)?
+        .with_words("detail", detail)?
+        .line()
+}
+
+/// The line where a visit ends: `event` is `end`. `why`, which is UTF-8, says what ended it.
+pub fn end_line(alloc: Global, number: u64, why: &Text) -> Result<Text, Memory>
+    requires small { number < 10 ^ 18 }
+    requires words { IsUtf8 why.now }
+    ensures text { IfOk result (λ text. text ≡ lines.line_text (lines.Ended number why.now)) }
+    ensures read_back { OnOk result (lines.IsReadBack (lines.line_data (lines.Ended number why.now))) }
+{
+    Members::of_event(alloc, "end")?
+        .with_number("number", number)?
+        .with_text("why", why)?
+        .line()
+}
