@@ -1,5 +1,5 @@
-//! Tests of the texts of sessions, of command lines, of the player and of agreements: the public calls of `css_cii`,
-//! `css_tsmsg`, `css_words`, `css_player` and `css_agree`.
+//! Tests of the texts of sessions, of command lines, of the player, of agreements and of the lines of a watch: the public
+//! calls of `css_cii`, `css_tsmsg`, `css_words`, `css_player`, `css_agree` and `css_watch_lines`.
 #![tactic(auto)]
 
 #[cfg(test)]
@@ -14,3 +14,5 @@ mod players;
 mod states;
 #[cfg(test)]
 mod texts;
+#[cfg(test)]
+mod watch_lines;

@@ -1,0 +1,193 @@
+//! The lines of a watch: one of each kind, in its words.
+ghost use Rattle.std.specs.Str.{IsUtf8};
+
+use crate::common::{check, words};
+use css_cii::{State, apply_to, read_message};
+use css_client::Landing;
+use css_companion::Cause;
+use css_model::{Kind, WcFault};
+use css_num::{Memory, Rate, Span, Text};
+use css_span::Answer;
+use css_tsmsg::{TsFault, TsName, read_control};
+use css_watch_lines::{
+    Known, answer_line, cause_line, control_line, dial_line, end_line, known_line, refused_line,
+    slept_line, state_line, visit_line,
+};
+use std::alloc::Global;
+use std::process::Abort;
+
+/// The greatest reading.
+const LAST: u64 = 4_294_967_295_999_999_999;
+
+/// A line is this text and a line feed.
+fn check_line(rt: &impl Abort, alloc: Global, line: Result<Text, Memory>, text: &str) {
+    let line = line.expect(rt, "memory");
+    let expected = format!(in alloc; "{text}\n").expect(rt, "memory");
+    check(rt, words(&line), &expected);
+}
+
+#[test]
+fn visits_and_sleeps_have_their_readings(rt: HostRuntime) {
+    let alloc = rt.alloc();
+    let first = r#"{"event":"visit","number":1,"reading":"0"}"#;
+    check_line(&rt, alloc, visit_line(alloc, 1, 0), first);
+    let last = r#"{"event":"visit","number":999999999999999999,"reading":"4294967295999999999"}"#;
+    let line = visit_line(alloc, 999_999_999_999_999_999, LAST);
+    check_line(&rt, alloc, line, last);
+    let slept = r#"{"event":"slept","reading":"9007199254740993"}"#;
+    check_line(&rt, alloc, slept_line(alloc, 9_007_199_254_740_993), slept);
+}
+
+#[test]
+fn dials_have_their_outcomes(rt: HostRuntime) {
+    let alloc = rt.alloc();
+    let failed = r#"{"event":"dial","outcome":"failed","service":"CII"}"#;
+    check_line(&rt, alloc, dial_line(alloc, Kind::Cii, false), failed);
+    let open = r#"{"event":"dial","outcome":"open","service":"WC"}"#;
+    check_line(&rt, alloc, dial_line(alloc, Kind::Wc, true), open);
+    let open = r#"{"event":"dial","outcome":"open","service":"TS"}"#;
+    check_line(&rt, alloc, dial_line(alloc, Kind::Ts, true), open);
+}
+
+/// A text of CII.
+const TOLD: &str = concat!(
+    r#"{"timelines":[{"timelineSelector":"urn:x:1","timelineProperties":{"unitsPerTick":1,"#,
+    r#""unitsPerSecond":50}}],"contentId":"dvb://\"é\"","mrsUrl":null}"#
+);
+
+/// The line of the state that it tells.
+const STATE: &str = concat!(
+    r#"{"event":"state","state":{"contentId":"dvb://\"é\"","contentIdStatus":null,"mrsUrl":null,"#,
+    r#""presentationStatus":null,"protocolVersion":null,"teUrl":null,"timelines":["#,
+    r#"{"timelineProperties":{"unitsPerSecond":50,"unitsPerTick":1},"timelineSelector":"urn:x:1"}],"#,
+    r#""tsUrl":null,"wcUrl":null}}"#
+);
+
+#[test]
+fn a_state_has_all_nine_properties(rt: HostRuntime) {
+    let alloc = rt.alloc();
+    let mut state = State::empty();
+    let change = read_message(alloc, TOLD.as_bytes()).expect(&rt, "a message");
+    apply_to(&mut state, change);
+    check_line(&rt, alloc, state_line(alloc, &state), STATE);
+}
+
+/// Texts of TS, and their lines.
+#[rattlefmt::skip]
+const CONTROLS: [(&str, &str); 5] = [
+    (r#"{"wallClockTime":"010","timelineSpeedMultiplier":-64.0,"contentTime":"-9000"}"#,
+        r#"{"control":{"contentTime":"-9000","timelineSpeedMultiplier":-64,"wallClockTime":"10"},"event":"control"}"#),
+    (r#"{"contentTime":null}"#,
+        r#"{"control":{"contentTime":null,"timelineSpeedMultiplier":null,"wallClockTime":"0"},"event":"control"}"#),
+    ("{", r#"{"event":"control","fault":"NotJson"}"#),
+    ("{}", r#"{"event":"control","fault":"Field contentTime"}"#),
+    (r#"{"contentTime":"1","timelineSpeedMultiplier":65,"wallClockTime":"1"}"#,
+        r#"{"event":"control","fault":"Range timelineSpeedMultiplier"}"#),
+];
+
+#[test]
+fn control_timestamps_are_told_or_refused(rt: HostRuntime) {
+    let alloc = rt.alloc();
+    for (text, line) in &CONTROLS {
+        let told = read_control(alloc, text.as_bytes());
+        check_line(&rt, alloc, control_line(alloc, &told), line);
+    }
+}
+
+const ANSWER: Answer = Answer {
+    t1: 1000,
+    t2: 5000,
+    t3: 5200,
+    t4: 1600,
+    precision: 1_073_741_824_000_000_000,
+    error: 25_600_000,
+};
+
+#[test]
+fn an_answer_has_its_times_and_its_width(rt: HostRuntime) {
+    let alloc = rt.alloc();
+    let line = concat!(
+        r#"{"error":25600000,"event":"answer","landed":"1601","originate":"1000","#,
+        r#""precision":"1073741824000000000","receive":"5000","transmit":"5200","type":3,"#,
+        r#""width":"170141183460469231731687303715884105727"}"#
+    );
+    let told = answer_line(alloc, &ANSWER, 3, 1601, i128::MAX);
+    check_line(&rt, alloc, told, line);
+}
+
+/// Refusals, and their words.
+#[rattlefmt::skip]
+const REFUSALS: [(Landing, &str); 9] = [
+    (Landing::Undecodable(WcFault::Length), "Undecodable Length"),
+    (Landing::Undecodable(WcFault::Version), "Undecodable Version"),
+    (Landing::Undecodable(WcFault::MessageType), "Undecodable MessageType"),
+    (Landing::Undecodable(WcFault::Precision), "Undecodable Precision"),
+    (Landing::Undecodable(WcFault::Error), "Undecodable Error"),
+    (Landing::Undecodable(WcFault::Nanoseconds), "Undecodable Nanoseconds"),
+    (Landing::NotAnAnswer, "NotAnAnswer"),
+    (Landing::Unasked, "Unasked"),
+    (Landing::Impossible(-1), "Impossible"),
+];
+
+#[test]
+fn refusals_are_told_by_their_names(rt: HostRuntime) {
+    let alloc = rt.alloc();
+    for (landing, fault) in &REFUSALS {
+        let line = r#"{"event":"refused","fault":"@","landed":"7"}"#;
+        let line = line.replace(alloc, "@", fault).expect(&rt, "memory");
+        check_line(&rt, alloc, refused_line(alloc, landing, 7), &line);
+    }
+}
+
+#[test]
+fn a_report_has_all_that_carries_it_on(rt: HostRuntime) {
+    let alloc = rt.alloc();
+    let known = Known {
+        ticks: Span {
+            lo: -3,
+            hi: 900_000,
+        },
+        wall: Span {
+            lo: 9_999_999_990,
+            hi: 10_000_000_010,
+        },
+        error: 128_000,
+        rate: Rate::of(1, 90_000).expect(&rt, "a rate"),
+        speed: -1,
+    };
+    let line = concat!(
+        r#"{"error":128000,"event":"report","number":2,"rate":{"unitsPerSecond":90000,"unitsPerTick":1},"#,
+        r#""reading":"5","speed":-1,"ticks":["-3","900000"],"wall":["9999999990","10000000010"]}"#
+    );
+    check_line(&rt, alloc, known_line(alloc, 2, 5, &known), line);
+}
+
+#[test]
+fn a_report_has_its_cause_else(rt: HostRuntime) {
+    let alloc = rt.alloc();
+    let line =
+        r#"{"cause":"NoAnswer","detail":"no wcUrl","event":"report","number":1,"reading":"5"}"#;
+    let told = cause_line(alloc, 1, 5, &Cause::NoAnswer, "no wcUrl");
+    check_line(&rt, alloc, told, line);
+    let line = concat!(
+        r#"{"cause":"Unreadable Range wallClockTime","detail":"","event":"report","number":1,"#,
+        r#""reading":"5"}"#
+    );
+    let cause = Cause::Unreadable(TsFault::Range(TsName::WallClockTime));
+    check_line(&rt, alloc, cause_line(alloc, 1, 5, &cause, ""), line);
+}
+
+/// Why a visit ended.
+fn reason(rt: &impl Abort, alloc: Global, words: &str) -> Text
+    ensures { IsUtf8 result }
+{
+    Text::of(alloc, words.as_bytes()).expect(rt, "memory")
+}
+
+#[test]
+fn an_end_says_why(rt: HostRuntime) {
+    let alloc = rt.alloc();
+    let why = reason(&rt, alloc, "closed TS");
+    let line = r#"{"event":"end","number":12,"why":"closed TS"}"#;
+    check_line(&rt, alloc, end_line(alloc, 12, &why), line);
+}
