@@ -46,7 +46,7 @@ use Rattle.css_drive.specs.CompanionTurns.{dialled, opened, is_peer, unless, is_
 use Rattle.css_drive.specs.Ends.{MayEnd}
 use Rattle.css_drive.specs.Notes as notes
 use Rattle.css_drive.specs.Notes.{Note, noted, session_at, session_with, with_event, slept_notes, landing_notes}
-use Rattle.css_drive.specs.Notes.{heard_notes, wrote_notes}
+use Rattle.css_drive.specs.Notes.{heard_notes, wrote_notes, standpoint}
 use Rattle.css_drive.specs.declared.session.Session.{Session}
 use Rattle.css_drive.specs.declared.session.Session.TheVariants as session
 use Rattle.css_drive.specs.Proper.{Due, MayAdd, Now, Dial, TakeDatagram, TakeText, SendText, SendDatagram, Ends}
@@ -240,39 +240,43 @@ fault_now over ended e f = let P : Option OutFault → Type 0 = λ x. IsEndBy x 
 
 -- ---- notes
 pub asked_notes : (config : DriveConfig) (clocked : Clocked) (history : History)
-    → noted config (clock_entries why.Ask clocked ++ history) ≡ slept_notes clocked.slept ++ noted config history
+    → noted config (clock_entries why.Ask clocked ++ history)
+    ≡ slept_notes (standpoint config history) clocked.slept ++ noted config history
 asked_notes config clocked history = by clocked.slept
   where
     by : (b : Bool) → noted config (clock_entries why.Ask (record clocked { slept = b }) ++ history)
-        ≡ slept_notes b ++ noted config history
+        ≡ slept_notes (standpoint config history) b ++ noted config history
     by true = refl
     by false = refl
 
 pub landed_notes : (config : DriveConfig) (clocked : Clocked) (p : ℕ) (bytes : List ℕ) (history : History)
     → noted config (clock_entries why.Land clocked ++ (Took p bytes ∷ history))
-    ≡ landing_notes clocked bytes ++ noted config history
+    ≡ landing_notes (standpoint config (Took p bytes ∷ history)) clocked bytes ++ noted config history
 landed_notes config clocked p bytes history = by clocked.slept
   where
     by : (b : Bool) → noted config (clock_entries why.Land (record clocked { slept = b }) ++ (Took p bytes ∷ history))
-        ≡ landing_notes (record clocked { slept = b }) bytes ++ noted config history
+        ≡ landing_notes (standpoint config (Took p bytes ∷ history)) (record clocked { slept = b }) bytes
+        ++ noted config history
     by true = refl
     by false = refl
 
 pub heard_noted : (config : DriveConfig) (p : ℕ) (answer : Answer) (which : Session) (history : History)
     → session_at p history ≡ Some which
-    → noted config (heard_entries p answer ++ history) ≡ heard_notes which answer ++ noted config history
+    → noted config (heard_entries p answer ++ history)
+    ≡ heard_notes which (standpoint config history) answer ++ noted config history
 heard_noted config p answer.Quiet which history e = refl
 heard_noted config p (answer.Text text) which history e =
-    ap (λ o. with_event (option_map (λ x. notes.Heard x text) o) (noted config history)) e
+    ap (λ o. with_event (standpoint config history) (option_map (λ x. notes.Heard x text) o) (noted config history)) e
 heard_noted config p answer.Closed which history e =
-    ap (λ o. with_event (option_map notes.Closed o) (noted config history)) e
+    ap (λ o. with_event (standpoint config history) (option_map notes.Closed o) (noted config history)) e
 
 pub wrote_noted : (config : DriveConfig) (p : ℕ) (text : List ℕ) (wrote : Outcome) (history : History)
     → session_at p history ≡ Some session.Ts
-    → noted config (wrote_entries p text wrote ++ history) ≡ wrote_notes wrote ++ noted config history
+    → noted config (wrote_entries p text wrote ++ history)
+    ≡ wrote_notes (standpoint config history) wrote ++ noted config history
 wrote_noted config p text outcome.Sent history e = refl
 wrote_noted config p text outcome.Gone history e =
-    ap (λ o. with_event (option_map notes.Closed o) (noted config history)) e
+    ap (λ o. with_event (standpoint config history) (option_map notes.Closed o) (noted config history)) e
 
 -- the clock that is read tells a companion nothing but the sleep, unless an answer lands
 pub knows_read : (config : DriveConfig) (companion : Companion) (clocked : Clocked) (history : History)

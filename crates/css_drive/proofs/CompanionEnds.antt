@@ -29,8 +29,7 @@ use Rattle.css_drive.specs.CompanionStanding.{IsOver, IsHangingUp, IsSo, hung, e
 use Rattle.css_drive.specs.CompanionTurns.{turn_at, first_turn, this_turn, turns, first_of, counted, is_late, goes_on}
 use Rattle.css_drive.specs.CompanionTurns.{dialled, opened, any_dialled, is_peer, unless}
 use Rattle.css_drive.specs.Ends.{MayEnd, IsNetFault}
-use Rattle.css_drive.specs.Notes as events
-use Rattle.css_drive.specs.Notes.{Note, Happened, Reported, Turn, noted, turn_notes}
+use Rattle.css_drive.specs.Notes.{Note, Reported, noted, turn_notes, standpoint, slept_from}
 use Rattle.css_drive.specs.Proper.{Due, Now, HangUp, Ends, MayAdd, More}
 use Rattle.css_drive.specs.declared.companion_live.Live.{Live}
 use Rattle.css_drive.specs.declared.config.DriveConfig.{DriveConfig}
@@ -76,53 +75,47 @@ begun_facts config live history clocked now f e = by clocked.slept now is
         ∙ ap {A = Facts} (begun clocked.reading false false) f
 
 -- the notes of a turn at which no report is due, and of one at which one is
+module _ (config : DriveConfig) (clocked : Clocked) (history : History) (first : Option ℕ) (count : ℕ) (now : Bool)
+    (e1 : first_turn history ≡ first) (e2 : length (due_reports config history) ≡ count)
+    (e : is_due config.report_every clocked.reading first count ≡ now) where
+  abbrev turned : Bool → List Note
+  turned b = turn_notes (standpoint config history) (record clocked { slept = b }) ++ noted config history
+
+  abbrev told : Bool → ℕ → Report → List Note
+  told b n report = Reported (standpoint config (sleep_entries b ++ history)) (n + 1) report ∷ turned b
+
+  is : is_due config.report_every clocked.reading (first_turn history) (length (due_reports config history)) ≡ now
+  is = ap (λ x. is_due config.report_every clocked.reading x (length (due_reports config history))) e1
+      ∙ ap (λ x. is_due config.report_every clocked.reading first x) e2 ∙ e
+
+  begun_notes : (b : Bool) → noted config (clock_entries why.Turn (record clocked { slept = b }) ++ history)
+      ≡ cond now (told b count (report_at config (sleep_entries b ++ history) clocked.reading)) (turned b)
+  begun_notes true = ap (λ d. cond d (told true (length (due_reports config history)) (report_at config (Slept ∷
+      history) clocked.reading)) (turned true)) is
+      ∙ ap (λ n. cond now (told true n (report_at config (Slept ∷ history) clocked.reading)) (turned true)) e2
+  begun_notes false = ap (λ d. cond d (told false (length (due_reports config history)) (report_at config history
+      clocked.reading)) (turned false)) is
+      ∙ ap (λ n. cond now (told false n (report_at config history clocked.reading)) (turned false)) e2
+
 pub turned_notes : (config : DriveConfig) (clocked : Clocked) (history : History) (first : Option ℕ) (count : ℕ)
     → first_turn history ≡ first → length (due_reports config history) ≡ count
     → is_due config.report_every clocked.reading first count ≡ false
-    → noted config (clock_entries why.Turn clocked ++ history) ≡ turn_notes clocked ++ noted config history
-turned_notes config clocked history first count e1 e2 e = by clocked.slept
-  where
-    is : is_due config.report_every clocked.reading (first_turn history) (length (due_reports config history)) ≡ false
-    is = ap (λ x. is_due config.report_every clocked.reading x (length (due_reports config history))) e1
-        ∙ ap (λ x. is_due config.report_every clocked.reading first x) e2 ∙ e
-
-    by : (b : Bool) → noted config (clock_entries why.Turn (record clocked { slept = b }) ++ history)
-        ≡ turn_notes (record clocked { slept = b }) ++ noted config history
-    by true = ap (λ d. cond d (Reported (length (due_reports config history) + 1) (report_at config (Slept ∷ history)
-        clocked.reading) ∷ Happened (Turn clocked.reading) ∷ Happened events.Slept ∷ noted config history)
-        (Happened (Turn clocked.reading) ∷ Happened events.Slept ∷ noted config history)) is
-    by false = ap (λ d. cond d (Reported (length (due_reports config history) + 1) (report_at config history
-        clocked.reading) ∷ Happened (Turn clocked.reading) ∷ noted config history)
-        (Happened (Turn clocked.reading) ∷ noted config history)) is
+    → noted config (clock_entries why.Turn clocked ++ history)
+    ≡ turn_notes (standpoint config history) clocked ++ noted config history
+turned_notes config clocked history first count e1 e2 e =
+    begun_notes config clocked history first count false e1 e2 e clocked.slept
 
 pub reported_notes : (config : DriveConfig) (clocked : Clocked) (history : History) (first : Option ℕ) (count : ℕ)
     (report : Report) → first_turn history ≡ first → length (due_reports config history) ≡ count
     → is_due config.report_every clocked.reading first count ≡ true
     → report ≡ report_at config (sleep_entries clocked.slept ++ history) clocked.reading
     → noted config (clock_entries why.Turn clocked ++ history)
-    ≡ Reported (count + 1) report ∷ (turn_notes clocked ++ noted config history)
-reported_notes config clocked history first count report e1 e2 e so = by clocked.slept so
-  where
-    is : is_due config.report_every clocked.reading (first_turn history) (length (due_reports config history)) ≡ true
-    is = ap (λ x. is_due config.report_every clocked.reading x (length (due_reports config history))) e1
-        ∙ ap (λ x. is_due config.report_every clocked.reading first x) e2 ∙ e
-
-    by : (b : Bool) → report ≡ report_at config (sleep_entries b ++ history) clocked.reading
-        → noted config (clock_entries why.Turn (record clocked { slept = b }) ++ history)
-        ≡ Reported (count + 1) report ∷ (turn_notes (record clocked { slept = b }) ++ noted config history)
-    by true so = ap (λ d. cond d (Reported (length (due_reports config history) + 1) (report_at config (Slept ∷
-        history) clocked.reading) ∷ Happened (Turn clocked.reading) ∷ Happened events.Slept ∷ noted config history)
-        (Happened (Turn clocked.reading) ∷ Happened events.Slept ∷ noted config history)) is
-        ∙ ap (λ n. Reported (n + 1) (report_at config (Slept ∷ history) clocked.reading) ∷ Happened (Turn
-        clocked.reading) ∷ Happened events.Slept ∷ noted config history) e2
-        ∙ ap (λ x. Reported (count + 1) x ∷ Happened (Turn clocked.reading) ∷ Happened events.Slept ∷ noted config
-        history) (sym so)
-    by false so = ap (λ d. cond d (Reported (length (due_reports config history) + 1) (report_at config history
-        clocked.reading) ∷ Happened (Turn clocked.reading) ∷ noted config history)
-        (Happened (Turn clocked.reading) ∷ noted config history)) is
-        ∙ ap (λ n. Reported (n + 1) (report_at config history clocked.reading) ∷ Happened (Turn
-        clocked.reading) ∷ noted config history) e2
-        ∙ ap (λ x. Reported (count + 1) x ∷ Happened (Turn clocked.reading) ∷ noted config history) (sym so)
+    ≡ Reported (slept_from (standpoint config history) clocked.slept) (count + 1) report
+    ∷ (turn_notes (standpoint config history) clocked ++ noted config history)
+reported_notes config clocked history first count report e1 e2 e so =
+    begun_notes config clocked history first count true e1 e2 e clocked.slept
+    ∙ ap (λ x. Reported (slept_from (standpoint config history) clocked.slept) (count + 1) x
+    ∷ (turn_notes (standpoint config history) clocked ++ noted config history)) (sym so)
 
 pub begun_next : (config : DriveConfig) (clocked : Clocked) (history : History)
     → due config (clock_entries why.Turn clocked ++ history) ≡ from_turn config (clock_entries why.Turn clocked ++

@@ -22,7 +22,7 @@ use Rattle.css_drive.specs.CompanionTurns.{turn_at, first_turn}
 use Rattle.css_drive.specs.Ends.{CountsWriteFault}
 use Rattle.css_drive.specs.Listening.{Listener, HearEach, SayFirst, TellsEach, hearing, words_of}
 use Rattle.css_drive.specs.Notes.{Note, Event, Happened, Reported, noted, with_event, with_report, event_of, slept_notes}
-use Rattle.css_drive.specs.Notes.{turn_notes}
+use Rattle.css_drive.specs.Notes.{turn_notes, Standpoint, standpoint}
 use Rattle.css_outside.specs.declared.calls.Clocked.{Clocked}
 use Rattle.css_drive.specs.Telling.{HasSaid, HasSaidFirst, Audience, IsWritten, IsPartlyWritten, WritesReport}
 use Rattle.css_drive.specs.Telling.{reports_in, AreNumbered, HasTold, HasToldPart, Tells}
@@ -110,16 +110,13 @@ wrote_none held before number report was is s = (
 
 -- ---- all reports
 -- a sleep is no report
-pub reports_slept : (slept : Bool) (notes : List Note) → reports_in (slept_notes slept ++ notes) ≡ reports_in notes
-reports_slept true notes = refl
-reports_slept false notes = refl
-
-pub tells_slept : (over : Option OutFault) (started now : Audience) (was is : ℕ) (slept : Bool) (notes : List Note)
-    → Tells over started now was is notes → Tells over started now was is (slept_notes slept ++ notes)
-tells_slept None started now was is true notes t = t
-tells_slept None started now was is false notes t = t
-tells_slept (Some cause) started now was is true notes t = t
-tells_slept (Some cause) started now was is false notes t = t
+pub tells_slept : (over : Option OutFault) (started now : Audience) (was is : ℕ) (from : Standpoint) (slept : Bool)
+    (notes : List Note) → Tells over started now was is notes
+    → Tells over started now was is (slept_notes from slept ++ notes)
+tells_slept None started now was is from true notes t = t
+tells_slept None started now was is from false notes t = t
+tells_slept (Some cause) started now was is from true notes t = t
+tells_slept (Some cause) started now was is from false notes t = t
 
 -- the newest report is written
 told_newest : (started old new : Audience) (number : ℕ) (report : Report) (reports : List Report)
@@ -165,28 +162,29 @@ risen_after : (cause : OutFault) (a b c : ℕ) → b ≡ a → CountsOutFault b 
 risen_after cause a b c e f = let P : ℕ → Type 0 = λ x. CountsOutFault x c cause in subst P e f
 
 pub tells_newest : (over : Option OutFault) (started old new : Audience) (was before now : ℕ) (number : ℕ)
-    (report : Report) (notes : List Note) → Tells None started old was before notes
+    (report : Report) (from : Standpoint) (notes : List Note) → Tells None started old was before notes
     → WritesReport over old new before now number report
-    → Tells over started new was now (Reported number report ∷ notes)
-tells_newest None started old new was before now number report notes t w = (
+    → Tells over started new was now (Reported from number report ∷ notes)
+tells_newest None started old new was before now number report from notes t w = (
   λ numbered. let told = t.0 numbered.1 in (
     w.0.words ∷ told.0,
     told_newest started old new number report (reports_in notes) told.0 told.1 numbered.0 w.0,
   ),
   w.1 ∙ t.1,
 )
-tells_newest (Some cause) started old new was before now number report notes t w = (
+tells_newest (Some cause) started old new was before now number report from notes t w = (
   λ numbered. let told = t.0 numbered.1 in
       told_part started old new number report (reports_in notes) told.0 told.1 numbered.0 w.0,
   risen_after cause was before now t.1 w.1,
 )
 
 -- an observer that was not over was told of a turn
-pub tells_turn : (over : Option OutFault) (started now : Audience) (was is : ℕ) (clocked : Clocked) (notes : List Note)
-    → over ≡ None → Tells over started now was is notes → Tells None started now was is (turn_notes clocked ++ notes)
-tells_turn over started now was is clocked notes e t =
+pub tells_turn : (over : Option OutFault) (started now : Audience) (was is : ℕ) (from : Standpoint) (clocked : Clocked)
+    (notes : List Note) → over ≡ None → Tells over started now was is notes
+    → Tells None started now was is (turn_notes from clocked ++ notes)
+tells_turn over started now was is from clocked notes e t =
     let P : Option OutFault → Type 0 = λ x. Tells x started now was is notes in
-    tells_slept None started now was is clocked.slept notes (subst P e t)
+    tells_slept None started now was is from clocked.slept notes (subst P e t)
 
 -- nothing is told yet
 pub tells_nothing : (over : Option OutFault) (now : Audience) (is : ℕ) → over ≡ None → Tells over now now is is []
@@ -202,20 +200,22 @@ tells_nothing over now is e =
     subst P (sym e) nothing
 
 -- ---- the reports of a run
-event_reports : (o : Option Event) (notes : List Note) → reports_in (with_event o notes) ≡ reports_in notes
-event_reports None notes = refl
-event_reports (Some event) notes = refl
+event_reports : (from : Standpoint) (o : Option Event) (notes : List Note)
+    → reports_in (with_event from o notes) ≡ reports_in notes
+event_reports from None notes = refl
+event_reports from (Some event) notes = refl
 
-event_numbered : (o : Option Event) (notes : List Note) → AreNumbered notes → AreNumbered (with_event o notes)
-event_numbered None notes n = n
-event_numbered (Some event) notes n = n
+event_numbered : (from : Standpoint) (o : Option Event) (notes : List Note) → AreNumbered notes
+    → AreNumbered (with_event from o notes)
+event_numbered from None notes n = n
+event_numbered from (Some event) notes n = n
 
 pub reports_noted : (config : DriveConfig) (history : History)
     → reports_in (noted config history) ≡ due_reports config history
 reports_noted config [] = refl
 reports_noted config (entry ∷ older) =
-    by (turn_at entry) (with_event (event_of entry older) (noted config older))
-    (event_reports (event_of entry older) (noted config older) ∙ reports_noted config older)
+    by (turn_at entry) (with_event (standpoint config older) (event_of entry older) (noted config older))
+    (event_reports (standpoint config older) (event_of entry older) (noted config older) ∙ reports_noted config older)
   where
     by : (o : Option ℕ) (notes : List Note) → reports_in notes ≡ due_reports config older
         → reports_in (with_report config o older notes)
@@ -223,25 +223,26 @@ reports_noted config (entry ∷ older) =
     by None notes e = e
     by (Some r) notes e = at (is_due config.report_every r (first_turn older) (length (due_reports config older)))
       where
-        at : (b : Bool) → reports_in (cond b (Reported (length (due_reports config older) + 1) (report_at config older
-            r) ∷ notes) notes) ≡ cond b (report_at config older r ∷ due_reports config older) (due_reports config older)
+        at : (b : Bool) → reports_in (cond b (Reported (standpoint config older) (length (due_reports config older) + 1)
+            (report_at config older r) ∷ notes) notes)
+            ≡ cond b (report_at config older r ∷ due_reports config older) (due_reports config older)
         at true = ap (λ x. report_at config older r ∷ x) e
         at false = e
 
 pub are_numbered : (config : DriveConfig) (history : History) → AreNumbered (noted config history)
 are_numbered config [] = tt
 are_numbered config (entry ∷ older) =
-    by (turn_at entry) (with_event (event_of entry older) (noted config older))
-    (event_reports (event_of entry older) (noted config older) ∙ reports_noted config older)
-    (event_numbered (event_of entry older) (noted config older) (are_numbered config older))
+    by (turn_at entry) (with_event (standpoint config older) (event_of entry older) (noted config older))
+    (event_reports (standpoint config older) (event_of entry older) (noted config older) ∙ reports_noted config older)
+    (event_numbered (standpoint config older) (event_of entry older) (noted config older) (are_numbered config older))
   where
     by : (o : Option ℕ) (notes : List Note) → reports_in notes ≡ due_reports config older → AreNumbered notes
         → AreNumbered (with_report config o older notes)
     by None notes e n = n
     by (Some r) notes e n = at (is_due config.report_every r (first_turn older) (length (due_reports config older)))
       where
-        at : (b : Bool) → AreNumbered (cond b (Reported (length (due_reports config older) + 1) (report_at config older
-            r) ∷ notes) notes)
+        at : (b : Bool) → AreNumbered (cond b (Reported (standpoint config older) (length (due_reports config older) +
+            1) (report_at config older r) ∷ notes) notes)
         at true = (ap (λ x. length x + 1) (sym e), n)
         at false = n
 

@@ -4,9 +4,11 @@ use Rattle.std.specs.Prelude.{Option, Some, None}
 use Rattle.std.specs.Option.{option_map}
 use Rattle.css_model.specs.declared.Why.{Why}
 use Rattle.css_model.specs.declared.Why.TheVariants as why
+use Rattle.css_model.specs.declared.Kind.{Kind}
 use Rattle.css_model.specs.declared.Kind.TheVariants as kind
-use Rattle.css_model.specs.History.{Entry, Clock, Sent, Took, Gone, History}
+use Rattle.css_model.specs.History.{Entry, Clock, NotDialled, Sent, Took, Gone, History}
 use Rattle.css_model.specs.History as entries
+use Rattle.css_outside.specs.Outsides.{sleep_entries}
 use Rattle.css_outside.specs.declared.calls.Clocked.{Clocked}
 use Rattle.css_outside.specs.declared.calls.Heard.{Heard as Answer}
 use Rattle.css_outside.specs.declared.calls.Heard.TheVariants as answer
@@ -21,11 +23,13 @@ use Rattle.css_drive.specs.declared.session.Session.{Session}
 use Rattle.css_drive.specs.declared.session.Session.TheVariants as session
 
 -- ---- what is told
--- what the outside told that a report may depend on
+-- what the outside told that says something of a run
 pub data Event : Type 0 where
   Slept : Event
   -- a turn began at this reading
   Turn : (reading : ℕ) → Event
+  -- a dial of this kind was tried: its peer, or none where it failed
+  Dialled : (kind : Kind) → (peer : Option ℕ) → Event
   -- the request of this reading was sent
   Asked : (reading : ℕ) → Event
   -- a datagram of these bytes was taken, and the reading after it was this
@@ -35,10 +39,18 @@ pub data Event : Type 0 where
   -- this session is over
   Closed : (session : Session) → Event
 
+-- where a companion stands when something is noted: its configuration, and the history before
+pub record Standpoint : Type 0 where
+  pub config : DriveConfig
+  pub history : History
+
+abbrev pub standpoint : DriveConfig → History → Standpoint
+standpoint config history = record { config = config; history = history }
+
 -- an event, or a report with its number, from 1
 pub data Note : Type 0 where
-  Happened : (event : Event) → Note
-  Reported : (number : ℕ) → (report : Report) → Note
+  Happened : (from : Standpoint) → (event : Event) → Note
+  Reported : (from : Standpoint) → (number : ℕ) → (report : Report) → Note
 
 -- ---- the notes of a history
 -- the reading of a request that is to be sent next
@@ -69,49 +81,64 @@ clock_event _ reading older = None
 abbrev pub event_of : Entry → History → Option Event
 event_of entries.Slept older = Some Slept
 event_of (Clock why reading) older = clock_event why reading older
+event_of (entries.Dialled kind peer) older = Some (Dialled kind (Some peer))
+event_of (NotDialled kind) older = Some (Dialled kind None)
 event_of (Sent peer bytes) older = option_map Asked (asking older)
 event_of (entries.Heard peer bytes) older = option_map (λ which. Heard which bytes) (session_at peer older)
 event_of (entries.Closed peer) older = option_map Closed (session_at peer older)
 event_of (Gone peer) older = option_map Closed (session_at peer older)
 event_of _ older = None
 
-abbrev pub with_event : Option Event → List Note → List Note
-with_event None notes = notes
-with_event (Some event) notes = Happened event ∷ notes
+abbrev pub with_event : Standpoint → Option Event → List Note → List Note
+with_event from None notes = notes
+with_event from (Some event) notes = Happened from event ∷ notes
 
 -- the notes, with that of the report that is due with a turn, if one is
 abbrev pub with_report : DriveConfig → Option ℕ → History → List Note → List Note
 with_report config None older notes = notes
 with_report config (Some reading) older notes =
     if is_due config.report_every reading (first_turn older) (length (due_reports config older))
-    then Reported (length (due_reports config older) + 1) (report_at config older reading) ∷ notes
+    then Reported (standpoint config older) (length (due_reports config older) + 1) (report_at config older reading)
+    ∷ notes
     else notes
 
--- The notes of a history: that of each entry, and after the note of a turn that of its report.
+-- The notes of a history: that of each entry, and after the note of a turn that of its report. Each is from the history
+-- before its entry.
 abbrev pub noted : DriveConfig → History → List Note
 noted config [] = []
 noted config (entry ∷ older) =
-    with_report config (turn_at entry) older (with_event (event_of entry older) (noted config older))
+    with_report config (turn_at entry) older
+    (with_event (standpoint config older) (event_of entry older) (noted config older))
 
 -- ---- the notes of single calls
-abbrev pub slept_notes : Bool → List Note
-slept_notes true = Happened Slept ∷ []
-slept_notes false = []
+-- the same standpoint after the sleep that a reading told, if it told one
+abbrev pub slept_from : Standpoint → Bool → Standpoint
+slept_from from slept = standpoint from.config (sleep_entries slept ++ from.history)
 
-abbrev pub turn_notes : Clocked → List Note
-turn_notes clocked = Happened (Turn clocked.reading) ∷ slept_notes clocked.slept
+abbrev pub slept_notes : Standpoint → Bool → List Note
+slept_notes from true = Happened from Slept ∷ []
+slept_notes from false = []
 
-abbrev pub landing_notes : Clocked → List ℕ → List Note
-landing_notes clocked bytes = Happened (Landed clocked.reading bytes) ∷ slept_notes clocked.slept
+abbrev pub turn_notes : Standpoint → Clocked → List Note
+turn_notes from clocked =
+    Happened (slept_from from clocked.slept) (Turn clocked.reading) ∷ slept_notes from clocked.slept
 
-abbrev pub heard_notes : Session → Answer → List Note
-heard_notes which answer.Quiet = []
-heard_notes which (answer.Text text) = Happened (Heard which text) ∷ []
-heard_notes which answer.Closed = Happened (Closed which) ∷ []
+-- the standpoint is that after the datagram was taken
+abbrev pub landing_notes : Standpoint → Clocked → List ℕ → List Note
+landing_notes from clocked bytes =
+    Happened (slept_from from clocked.slept) (Landed clocked.reading bytes) ∷ slept_notes from clocked.slept
 
-abbrev pub wrote_notes : Outcome → List Note
-wrote_notes outcome.Sent = []
-wrote_notes outcome.Gone = Happened (Closed session.Ts) ∷ []
+abbrev pub dial_notes : Standpoint → Kind → Option ℕ → List Note
+dial_notes from kind peer = Happened from (Dialled kind peer) ∷ []
+
+abbrev pub heard_notes : Session → Standpoint → Answer → List Note
+heard_notes which from answer.Quiet = []
+heard_notes which from (answer.Text text) = Happened from (Heard which text) ∷ []
+heard_notes which from answer.Closed = Happened from (Closed which) ∷ []
+
+abbrev pub wrote_notes : Standpoint → Outcome → List Note
+wrote_notes from outcome.Sent = []
+wrote_notes from outcome.Gone = Happened from (Closed session.Ts) ∷ []
 
 -- ---- observers
 -- An observer that was not over was told these notes after the others, of which `saw` speaks.

@@ -53,14 +53,14 @@ WritesReport (Some fault) was is before now number report =
 -- the reports among notes
 abbrev pub reports_in : List Note → List Report
 reports_in [] = []
-reports_in (Happened event ∷ notes) = reports_in notes
-reports_in (Reported number report ∷ notes) = report ∷ reports_in notes
+reports_in (Happened from event ∷ notes) = reports_in notes
+reports_in (Reported from number report ∷ notes) = report ∷ reports_in notes
 
 -- each report has its number
 abbrev pub AreNumbered : List Note → Type 0
 AreNumbered [] = Unit {0}
-AreNumbered (Happened event ∷ notes) = AreNumbered notes
-AreNumbered (Reported number report ∷ notes) = (number ≡ length (reports_in notes) + 1) × AreNumbered notes
+AreNumbered (Happened from event ∷ notes) = AreNumbered notes
+AreNumbered (Reported from number report ∷ notes) = (number ≡ length (reports_in notes) + 1) × AreNumbered notes
 
 -- The sink holds these reports, and the followers heard them.
 pub record HasTold (started now : Audience) (reports : List Report) (said : List (List ℕ)) : Type 0 where

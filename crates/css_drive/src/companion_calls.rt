@@ -9,9 +9,10 @@ ghost use Rattle.css_companion.specs.Steps.{IsEntryOf};
 ghost use Rattle.css_companion.specs.declared.event.CompanionEvent.TheVariants as events;
 ghost use Rattle.css_drive.specs.CompanionDue.{end_by};
 ghost use Rattle.css_drive.specs.CompanionStanding.{shown, IsEarly, IsFault, IsEndBy, Fails, Adds, HasDialled, HasRead};
-ghost use Rattle.css_drive.specs.CompanionStanding.{HasLost, Keeps, SawMore, final_end};
+ghost use Rattle.css_drive.specs.CompanionStanding.{HasLost, Keeps, Knows, SawMore, final_end};
 ghost use Rattle.css_drive.specs.Ends.{CountsNetFault};
-ghost use Rattle.css_drive.specs.Notes.{Happened, Asked, Sees, heard_notes, slept_notes, wrote_notes};
+ghost use Rattle.css_drive.specs.Notes.{Standpoint, Happened, Asked, Sees, dial_notes, heard_notes, slept_notes};
+ghost use Rattle.css_drive.specs.Notes.{wrote_notes};
 
 use crate::companion_live::Live;
 use crate::driven::Driven;
@@ -80,10 +81,10 @@ pub fn ended_by<W: Observes>(observer: &W, ended: Driven) -> Driven
     }
 }
 
-/// Tries a dial. One that fails ends nothing.
+/// Tries a dial, and tells the observer what came of it. One that fails ends nothing.
 pub fn try_dial<O: Outside, W: Observes>(
     outside: &mut O,
-    observer: &W,
+    observer: &mut W,
     kind: Kind,
     to: &Address,
 ) -> Result<Option<u32>, Driven>
@@ -91,7 +92,8 @@ pub fn try_dial<O: Outside, W: Observes>(
         (HasDialled (shown (O.told outside.old) (O.counts outside.old))
         (shown (O.told outside.new) (O.counts outside.new)) kind to.now)
         (Fails (shown (O.told outside.old) (O.counts outside.old))
-        (shown (O.told outside.new) (O.counts outside.new)) (W.over observer.now)) }
+        (shown (O.told outside.new) (O.counts outside.new)) (W.over observer.new)) }
+    ensures saw { (from : Standpoint) → SawMore W.saw observer.old observer.new (dial_notes from kind) result }
     ensures last { (O.counts outside.new).last ≡ (O.counts outside.old).last }
     ensures dials { (O.counts outside.old).dial_faults ≤ (O.counts outside.new).dial_faults }
     ensures early { IfErr result IsEarly }
@@ -100,8 +102,14 @@ pub fn try_dial<O: Outside, W: Observes>(
 {
     check(observer)?;
     match outside.dial(kind, to) {
-        Ok(peer) => Ok(Some(peer)),
-        Err(OutFault::Failed(_)) => Ok(None),
+        Ok(peer) => {
+            observer.dialled(kind, Some(peer));
+            Ok(Some(peer))
+        }
+        Err(OutFault::Failed(_)) => {
+            observer.dialled(kind, None);
+            Ok(None)
+        }
         Err(OutFault::Memory) => Err(Driven::Memory),
     }
 }
@@ -139,7 +147,7 @@ pub fn read<O: Outside, W: Observes>(
 
 /// Tells the observer what came of a text that was to be sent on the TS session.
 fn note_sent<W: Observes>(observer: &mut W, sent: Wrote)
-    ensures { Sees W.saw W.over observer.old observer.new (wrote_notes sent) }
+    ensures { (from : Standpoint) → Sees W.saw W.over observer.old observer.new (wrote_notes from sent) }
 {
     match sent {
         Wrote::Sent => {}
@@ -159,7 +167,7 @@ pub fn send<O: Outside, W: Observes>(
         (shown (O.told outside.new) (O.counts outside.new)) (wrote_entries peer text.now sent))
         (Fails (shown (O.told outside.old) (O.counts outside.old))
         (shown (O.told outside.new) (O.counts outside.new)) (W.over observer.new)) }
-    ensures saw { SawMore W.saw observer.old observer.new wrote_notes result }
+    ensures saw { (from : Standpoint) → SawMore W.saw observer.old observer.new (wrote_notes from) result }
     ensures last { (O.counts outside.new).last ≡ (O.counts outside.old).last }
     ensures dials { (O.counts outside.new).dial_faults ≡ (O.counts outside.old).dial_faults }
     ensures early { IfErr result IsEarly }
@@ -175,20 +183,22 @@ pub fn send<O: Outside, W: Observes>(
 }
 
 /// Tells the observer what came of a session.
-fn note_heard<W: Observes>(observer: &mut W, session: Session, heard: &Heard)
-    ensures { Sees W.saw W.over observer.old observer.new (heard_notes session heard.now) }
+fn note_heard<W: Observes>(observer: &mut W, companion: &Companion, session: Session, heard: &Heard)
+    ensures { (from : Standpoint) → Knows from.config companion.now from.history
+        → Sees W.saw W.over observer.old observer.new (heard_notes session from heard.now) }
 {
     match heard {
         Heard::Quiet => {}
-        Heard::Text(text) => observer.heard(session, text),
+        Heard::Text(text) => observer.heard(session, text, companion),
         Heard::Closed => observer.closed(session),
     }
 }
 
-/// Asks a session for its next text.
+/// Asks a session for its next text, which the companion hasn't taken in yet.
 pub fn hear<O: Outside, W: Observes>(
     outside: &mut O,
     observer: &mut W,
+    companion: &Companion,
     session: Session,
     peer: u32,
 ) -> Result<Heard, Driven>
@@ -197,7 +207,8 @@ pub fn hear<O: Outside, W: Observes>(
         (shown (O.told outside.new) (O.counts outside.new)) (heard_entries peer heard))
         (Fails (shown (O.told outside.old) (O.counts outside.old))
         (shown (O.told outside.new) (O.counts outside.new)) (W.over observer.new)) }
-    ensures saw { SawMore W.saw observer.old observer.new (heard_notes session) result }
+    ensures saw { (from : Standpoint) → Knows from.config companion.now from.history
+        → SawMore W.saw observer.old observer.new (heard_notes session from) result }
     ensures last { (O.counts outside.new).last ≡ (O.counts outside.old).last }
     ensures dials { (O.counts outside.new).dial_faults ≡ (O.counts outside.old).dial_faults }
     ensures early { IfErr result IsEarly }
@@ -205,7 +216,7 @@ pub fn hear<O: Outside, W: Observes>(
     check(observer)?;
     match outside.take_text(peer) {
         Ok(heard) => {
-            note_heard(observer, session, &heard);
+            note_heard(observer, companion, session, &heard);
             Ok(heard)
         }
         Err(fault) => Err(end_of(fault)),
@@ -214,7 +225,8 @@ pub fn hear<O: Outside, W: Observes>(
 
 /// Tells the observer of a sleep, where a reading told one.
 pub fn note_sleep<W: Observes>(observer: &mut W, clocked: &Clocked)
-    ensures { Sees W.saw W.over observer.old observer.new (slept_notes clocked.now.slept) }
+    ensures { (from : Standpoint)
+        → Sees W.saw W.over observer.old observer.new (slept_notes from clocked.now.slept) }
 {
     if clocked.slept {
         observer.slept();
@@ -234,7 +246,8 @@ pub fn send_request<O: Outside, W: Observes>(
         (shown (O.told outside.new) (O.counts outside.new)) (Sent peer bytes.now ∷ []))
         (Fails (shown (O.told outside.old) (O.counts outside.old))
         (shown (O.told outside.new) (O.counts outside.new)) (W.over observer.new)) }
-    ensures saw { SawMore W.saw observer.old observer.new (λ _. Happened (Asked reading) ∷ []) result }
+    ensures saw { (from : Standpoint)
+        → SawMore W.saw observer.old observer.new (λ _. Happened from (Asked reading) ∷ []) result }
     ensures last { (O.counts outside.new).last ≡ (O.counts outside.old).last }
     ensures dials { (O.counts outside.new).dial_faults ≡ (O.counts outside.old).dial_faults }
     ensures early { IfErr result IsEarly }

@@ -31,11 +31,11 @@ pub fn dial_cii<O: Outside, W: Observes>(
     live: &mut Live,
     companion: &Companion,
     outside: &mut O,
-    observer: &W,
+    observer: &mut W,
 ) -> Result<(), Driven>
     ensures goes { Leads W.saw W.over config.now
-        (at (O.told outside.old) (O.counts outside.old) live.old companion.now observer.now)
-        (at (O.told outside.new) (O.counts outside.new) live.new companion.now observer.now) from_cii from_wc result }
+        (at (O.told outside.old) (O.counts outside.old) live.old companion.now observer.old)
+        (at (O.told outside.new) (O.counts outside.new) live.new companion.now observer.new) from_cii from_wc result }
     ensures last { (O.counts outside.new).last ≡ (O.counts outside.old).last }
     ensures keeps { Keeps (O.counts outside.old) (O.counts outside.new) live.old live.new }
     ensures early { IfErr result IsEarly }
@@ -80,11 +80,11 @@ pub fn dial_wc<O: Outside, W: Observes>(
     live: &mut Live,
     companion: &Companion,
     outside: &mut O,
-    observer: &W,
+    observer: &mut W,
 ) -> Result<(), Driven>
     ensures goes { Leads W.saw W.over config.now
-        (at (O.told outside.old) (O.counts outside.old) live.old companion.now observer.now)
-        (at (O.told outside.new) (O.counts outside.new) live.new companion.now observer.now) from_wc from_ts result }
+        (at (O.told outside.old) (O.counts outside.old) live.old companion.now observer.old)
+        (at (O.told outside.new) (O.counts outside.new) live.new companion.now observer.new) from_wc from_ts result }
     ensures last { (O.counts outside.new).last ≡ (O.counts outside.old).last }
     ensures keeps { Keeps (O.counts outside.old) (O.counts outside.new) live.old live.new }
     ensures early { IfErr result IsEarly }

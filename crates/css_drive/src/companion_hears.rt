@@ -110,7 +110,7 @@ fn land<O: Outside, W: Observes>(
     ensures early { IfErr result IsEarly }
 {
     let clocked = read(outside, observer, companion, live, Why::Land)?;
-    observer.landed(&clocked, bytes);
+    observer.landed(&clocked, bytes, companion);
     if clocked.slept {
         // No request from before the sleep is asked any more, so nothing lands.
         return Ok(());
@@ -186,7 +186,7 @@ pub fn hear_cii<O: Outside, W: Observes>(
     let Some(peer) = live.cii_open else {
         return Ok(());
     };
-    match hear(outside, observer, Session::Cii, peer) {
+    match hear(outside, observer, companion, Session::Cii, peer) {
         Err(ended) => Err(ended),
         Ok(Heard::Quiet) => Ok(()),
         Ok(Heard::Closed) => {
@@ -235,7 +235,7 @@ pub fn hear_ts<O: Outside, W: Observes>(
     let Some(peer) = live.ts_open else {
         return Ok(());
     };
-    match hear(outside, observer, Session::Ts, peer) {
+    match hear(outside, observer, companion, Session::Ts, peer) {
         Err(ended) => Err(ended),
         Ok(Heard::Quiet) => Ok(()),
         Ok(Heard::Closed) => match lose_ts(live, companion) {

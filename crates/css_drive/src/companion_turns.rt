@@ -84,10 +84,10 @@ pub fn start<O: Outside, W: Observes>(
     if due {
         live.reported += 1;
         let report = companion.report(reading);
-        observer.reported(&clocked, live.reported, &report);
+        observer.reported(&clocked, live.reported, &report, companion);
         return Ok(());
     }
-    observer.turned(&clocked);
+    observer.turned(&clocked, companion);
     Ok(())
 }
 

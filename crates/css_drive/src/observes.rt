@@ -1,18 +1,24 @@
 //! Who is told what happens in a companion's run.
-ghost use Rattle.std.specs.Prelude.{◌≡◌, [], ◌∷◌, List, Option, None, Some, MatchResult};
+ghost use Rattle.std.specs.Prelude.{◌≡◌, ◌≤◌, ◌<◌, [], ◌∷◌, ◌++◌, List, Option, None, Some, MatchResult};
+ghost use Rattle.css_outside.specs.Outsides.{sleep_entries};
 ghost use Rattle.css_outside.specs.declared.fault.OutFault.{OutFault as Fault};
+ghost use Rattle.css_drive.specs.CompanionStanding.{Knows};
 ghost use Rattle.css_drive.specs.Notes as notes;
-ghost use Rattle.css_drive.specs.Notes.{Note, Happened, Reported, Sees};
+ghost use Rattle.css_drive.specs.Notes.{Note, Happened, Reported, Sees, Standpoint, slept_from};
 
 use crate::session::Session;
-use css_companion::Report;
+use css_companion::{Companion, Report};
+use css_model::LIMIT;
 use css_num::Text;
-use css_outside::{Clocked, OutFault};
+use css_outside::{Clocked, Kind, OutFault};
 
 /// Who is told what happens in a companion's run, and its reports, each where it was made. A run is generic in it.
 ///
 /// It never answers: what fails it keeps, and is over then. The run asks it before the next call of the outside, and
 /// ends where it is over.
+///
+/// With what a report may depend on it is lent the companion, as it is after a sleep that a reading told, and before it
+/// takes in a datagram or a text.
 pub trait Observes {
     /// From the first to the second it was told these notes, the newest first. Where it is over now, it may have lost
     /// the newest of them.
@@ -27,29 +33,47 @@ pub trait Observes {
 
     /// The machine slept.
     fn slept(&mut self)
-        ensures { Sees saw over self.old self.new (Happened notes.Slept ∷ []) };
+        ensures { (from : Standpoint) → Sees saw over self.old self.new (Happened from notes.Slept ∷ []) };
 
     /// A turn began, and no report is due.
-    fn turned(&mut self, clocked: &Clocked)
-        ensures { Sees saw over self.old self.new (notes.turn_notes clocked.now) };
+    fn turned(&mut self, clocked: &Clocked, companion: &Companion)
+        requires floor { companion.now.client.floor ≤ clocked.now.reading }
+        requires below { clocked.now.reading < LIMIT }
+        ensures { (from : Standpoint)
+            → Knows from.config companion.now (sleep_entries clocked.now.slept ++ from.history)
+            → Sees saw over self.old self.new (notes.turn_notes from clocked.now) };
 
     /// A turn began, and this report was made at once. Reports are numbered from 1.
-    fn reported(&mut self, clocked: &Clocked, number: u64, report: &Report)
-        ensures { Sees saw over self.old self.new (Reported number report.now ∷ notes.turn_notes clocked.now) };
+    fn reported(&mut self, clocked: &Clocked, number: u64, report: &Report, companion: &Companion)
+        requires floor { companion.now.client.floor ≤ clocked.now.reading }
+        requires below { clocked.now.reading < LIMIT }
+        ensures { (from : Standpoint)
+            → Knows from.config companion.now (sleep_entries clocked.now.slept ++ from.history)
+            → Sees saw over self.old self.new (Reported (slept_from from clocked.now.slept) number report.now
+            ∷ notes.turn_notes from clocked.now) };
+
+    /// A dial was tried: its peer, or none where it failed.
+    fn dialled(&mut self, kind: Kind, peer: Option<u32>)
+        ensures { (from : Standpoint) → Sees saw over self.old self.new (notes.dial_notes from kind peer) };
 
     /// The request of this reading was sent.
     fn asked(&mut self, reading: u64)
-        ensures { Sees saw over self.old self.new (Happened (notes.Asked reading) ∷ []) };
+        ensures { (from : Standpoint) → Sees saw over self.old self.new (Happened from (notes.Asked reading) ∷ []) };
 
     /// A datagram of these bytes was taken, and the clock was read after it.
-    fn landed(&mut self, clocked: &Clocked, bytes: &[u8])
-        ensures { Sees saw over self.old self.new (notes.landing_notes clocked.now bytes.now) };
+    fn landed(&mut self, clocked: &Clocked, bytes: &[u8], companion: &Companion)
+        requires floor { companion.now.client.floor ≤ clocked.now.reading }
+        requires below { clocked.now.reading < LIMIT }
+        ensures { (from : Standpoint)
+            → Knows from.config companion.now (sleep_entries clocked.now.slept ++ from.history)
+            → Sees saw over self.old self.new (notes.landing_notes from clocked.now bytes.now) };
 
     /// A text came.
-    fn heard(&mut self, session: Session, text: &Text)
-        ensures { Sees saw over self.old self.new (Happened (notes.Heard session text.now) ∷ []) };
+    fn heard(&mut self, session: Session, text: &Text, companion: &Companion)
+        ensures { (from : Standpoint) → Knows from.config companion.now from.history
+            → Sees saw over self.old self.new (Happened from (notes.Heard session text.now) ∷ []) };
 
     /// A session is over.
     fn closed(&mut self, session: Session)
-        ensures { Sees saw over self.old self.new (Happened (notes.Closed session) ∷ []) };
+        ensures { (from : Standpoint) → Sees saw over self.old self.new (Happened from (notes.Closed session) ∷ []) };
 }

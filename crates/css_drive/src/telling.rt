@@ -5,9 +5,9 @@ ghost use Rattle.css_drive.specs.Telling.{HasSaid, HasSaidFirst, Tells, WritesRe
 use crate::listens::Listens;
 use crate::observes::Observes;
 use crate::session::Session;
-use css_companion::{Report, line};
+use css_companion::{Companion, Report, line};
 use css_num::{Memory, Text};
-use css_outside::{Clocked, OutFault, Sink, write_all};
+use css_outside::{Clocked, Kind, OutFault, Sink, write_all};
 use std::alloc::Global;
 
 /// Writes each report to a sink, with what the followers say of it, in one write.
@@ -77,17 +77,25 @@ impl<K: Sink, F: Listens> Observes for Telling<'_, K, F> {
 
     fn slept(&mut self) {}
 
-    fn turned(&mut self, _clocked: &Clocked) {}
+    fn turned(&mut self, _clocked: &Clocked, _companion: &Companion) {}
 
-    fn reported(&mut self, _clocked: &Clocked, number: u64, report: &Report) {
+    fn reported(
+        &mut self,
+        _clocked: &Clocked,
+        number: u64,
+        report: &Report,
+        _companion: &Companion,
+    ) {
         self.over = tell_report(self.alloc, number, report, self.sink, self.followers);
     }
 
+    fn dialled(&mut self, _kind: Kind, _peer: Option<u32>) {}
+
     fn asked(&mut self, _reading: u64) {}
 
-    fn landed(&mut self, _clocked: &Clocked, _bytes: &[u8]) {}
+    fn landed(&mut self, _clocked: &Clocked, _bytes: &[u8], _companion: &Companion) {}
 
-    fn heard(&mut self, _session: Session, _text: &Text) {}
+    fn heard(&mut self, _session: Session, _text: &Text, _companion: &Companion) {}
 
     fn closed(&mut self, _session: Session) {}
 }

@@ -1,8 +1,10 @@
 -- What a recorder has written.
-use Rattle.std.proofs.Common.{◌≡◌, ℕ, ap, sym, ◌∙◌, subst, refl, List, [], ◌∷◌, ◌++◌, append_assoc, append-nil, map}
-use Rattle.std.proofs.Common.{Option, Some, None}
+use Rattle.std.proofs.Common.{◌≡◌, ℕ, ap, sym, ◌∙◌, subst, refl, List, [], ◌∷◌, ◌++◌, append_assoc, append-nil}
+use Rattle.std.proofs.Common.{Option, Some, None, Bool, true, false}
 use Rattle.std.proofs.KnownBytes.{Appends-nil, Appends-trans}
+use Rattle.std.proofs.lemmas.List.Concat.{flat_map-append}
 use Rattle.std.specs.Io.KnownBytes.{Appends}
+use Rattle.std.specs.Option.{option_to_list}
 use Rattle.css_model.specs.History.{History}
 use Rattle.css_outside.specs.Bytes.{AppendsPrefix}
 use Rattle.css_outside.specs.Faults.{CountsOutFault}
@@ -10,33 +12,44 @@ use Rattle.css_outside.specs.Outsides.{with_entries}
 use Rattle.css_outside.specs.declared.fault.OutFault.{OutFault}
 use Rattle.css_outside.specs.declared.fault.OutFault.TheVariants as fault
 use Rattle.css_audit.specs.Printed.{line_text, record_text}
+use Rattle.css_audit.specs.declared.input.RecordLine.{RecordLine}
 use Rattle.css_drive.specs.CompanionStanding.{Made, IsEndOf}
 use Rattle.css_drive.specs.Ends.{CountsWriteFault}
-use Rattle.css_drive.specs.Notes.{Note, noted}
+use Rattle.css_drive.specs.Notes.{Note, Standpoint, noted, slept_notes}
 use Rattle.css_drive.specs.Proper.{Empty}
 use Rattle.css_drive.specs.declared.config.DriveConfig.{DriveConfig}
 use Rattle.css_drive.specs.declared.driven.Driven.{Driven}
 use Rattle.css_drive.specs.declared.driven.Driven.TheVariants as driven
 use Rattle.css_drive.proofs.Reports.{CountsOver}
-use Rattle.css_record.specs.Lines.{note_line, text_of, record_of}
+use Rattle.css_record.specs.Lines.{note_line, lines_of, lines_in, text_in, text_of, record_of, slept_lines}
 use Rattle.css_record.specs.Runs.{HoldsRecord, Recorded, Writes}
 
 -- ---- lines
 -- those of later notes stand after those of earlier ones
+texts_on : (later earlier : List RecordLine) → text_in (later ++ earlier) ≡ text_in earlier ++ text_in later
+texts_on [] earlier = sym (append-nil (text_in earlier))
+texts_on (line ∷ later) earlier =
+    ap (λ x. x ++ (line_text line ++ 10 ∷ [])) (texts_on later earlier)
+    ∙ append_assoc (text_in earlier) (text_in later) (line_text line ++ 10 ∷ [])
+
 text_on : (later earlier : List Note) → text_of (later ++ earlier) ≡ text_of earlier ++ text_of later
-text_on [] earlier = sym (append-nil (text_of earlier))
-text_on (note ∷ later) earlier =
-    ap (λ x. x ++ (line_text (note_line note) ++ 10 ∷ [])) (text_on later earlier)
-    ∙ append_assoc (text_of earlier) (text_of later) (line_text (note_line note) ++ 10 ∷ [])
+text_on later earlier =
+    ap text_in (flat_map-append (λ note. option_to_list (note_line note)) later earlier)
+    ∙ texts_on (lines_of later) (lines_of earlier)
 
 -- the header stands before them
-record_split : (config : DriveConfig) (notes : List Note)
-    → record_text config.companion (map note_line notes) ≡ record_text config.companion [] ++ text_of notes
+record_split : (config : DriveConfig) (lines : List RecordLine)
+    → record_text config.companion lines ≡ record_text config.companion [] ++ text_in lines
 record_split config [] = sym (append-nil (record_text config.companion []))
-record_split config (note ∷ older) =
-    append_assoc (record_text config.companion (map note_line older)) (line_text (note_line note)) (10 ∷ [])
-    ∙ ap (λ x. x ++ (line_text (note_line note) ++ 10 ∷ [])) (record_split config older)
-    ∙ append_assoc (record_text config.companion []) (text_of older) (line_text (note_line note) ++ 10 ∷ [])
+record_split config (line ∷ older) =
+    append_assoc (record_text config.companion older) (line_text line) (10 ∷ [])
+    ∙ ap (λ x. x ++ (line_text line ++ 10 ∷ [])) (record_split config older)
+    ∙ append_assoc (record_text config.companion []) (text_in older) (line_text line ++ 10 ∷ [])
+
+-- the lines of a reading
+pub lines_slept : (from : Standpoint) (slept : Bool) → lines_of (slept_notes from slept) ≡ slept_lines slept
+lines_slept from true = refl
+lines_slept from false = refl
 
 -- ---- parts
 whole_prefix : (held holds : Option (List ℕ)) (bytes : List ℕ) → Appends held holds bytes
@@ -60,12 +73,13 @@ writes_on (Some cause) a b c f m n bytes more p q =
 
 -- newer notes were written after others
 pub notes_on : (was over : Option OutFault) (a b c : Option (List ℕ)) (f m n : ℕ) (newest notes : List Note)
-    → was ≡ None → Writes was a b f m (text_of notes) → Writes over b c m n (text_of newest)
-    → Writes over a c f n (text_of (newest ++ notes))
-notes_on was over a b c f m n newest notes e p q =
+    (lines : List RecordLine) → lines_of newest ≡ lines → was ≡ None → Writes was a b f m (text_of notes)
+    → Writes over b c m n (text_in lines) → Writes over a c f n (text_of (newest ++ notes))
+notes_on was over a b c f m n newest notes lines are e p q =
     let P : Option OutFault → Type 0 = λ x. Writes x a b f m (text_of notes) in
     let Q : List ℕ → Type 0 = λ x. Writes over a c f n x in
-    subst Q (sym (text_on newest notes)) (writes_on over a b c f m n (text_of notes) (text_of newest) (subst P e p) q)
+    subst Q (ap (λ x. text_of notes ++ text_in x) (sym are) ∙ sym (text_on newest notes))
+    (writes_on over a b c f m n (text_of notes) (text_in lines) (subst P e p) q)
 
 -- nothing was written yet
 pub writes_nothing : (over : Option OutFault) (held : Option (List ℕ)) (count : ℕ) → over ≡ None
@@ -119,7 +133,7 @@ recorded_by config before now started begun holds f n saw over ended p m w =
       proper = m.proper;
       ends = m.ends;
       promised = m.promised;
-      wrote = subst P (sym (record_split config (noted config m.history)))
+      wrote = subst P (sym (record_split config (lines_in config m.history)))
           (holds_by over ended started begun holds f n (record_of config []) (text_of (noted config m.history)) m.so p
           w);
     }

@@ -1,19 +1,18 @@
 //! The observer that writes a run's record.
 ghost use Rattle.std.specs.Prelude.{◌≡◌, ◌++◌, ◌∷◌, [], ℕ, List, Option, Result, IfOk};
 ghost use Rattle.css_audit.specs.Printed.{line_text};
-ghost use Rattle.css_drive.specs.Notes as notes;
-ghost use Rattle.css_drive.specs.Notes.{Happened, Reported};
-ghost use Rattle.css_record.specs.Lines.{event_line, report_line, text_of};
+ghost use Rattle.css_record.specs.Lines as spec;
+ghost use Rattle.css_record.specs.Lines.{text_in, text_of};
 ghost use Rattle.css_record.specs.Runs.{Writes};
 
 use css_audit::{RecordLine, print_line};
-use css_companion::{Report, line};
+use css_companion::{Companion, Report, line};
 use css_drive::{Observes, Session};
 use css_num::{Memory, Text};
-use css_outside::{Clocked, OutFault, Sink, write_all};
+use css_outside::{Clocked, Kind, OutFault, Sink, write_all};
 use std::alloc::Global;
 
-/// Writes a line for each event of a run, and for each report.
+/// Writes a line for each event of a run that a report may depend on, and for each report.
 #[derive(Drop)]
 pub(crate) struct Recorder<'a, K: Sink> {
     pub(crate) alloc: Global,
@@ -47,7 +46,7 @@ fn line_of(alloc: Global, line: &RecordLine) -> Result<Text, Memory>
 
 /// The line of a sleep, where a reading told one.
 fn slept_lines(alloc: Global, clocked: &Clocked) -> Result<Text, Memory>
-    ensures { IfOk result (λ text. text ≡ text_of (notes.slept_notes clocked.now.slept)) }
+    ensures { IfOk result (λ text. text ≡ text_in (spec.slept_lines clocked.now.slept)) }
 {
     if clocked.slept {
         return line_of(alloc, &RecordLine::Slept);
@@ -57,7 +56,7 @@ fn slept_lines(alloc: Global, clocked: &Clocked) -> Result<Text, Memory>
 
 /// The lines of a turn.
 fn turn_lines(alloc: Global, clocked: &Clocked) -> Result<Text, Memory>
-    ensures { IfOk result (λ text. text ≡ text_of (notes.turn_notes clocked.now)) }
+    ensures { IfOk result (λ text. text ≡ text_in (spec.turn_lines clocked.now)) }
 {
     let mut text = slept_lines(alloc, clocked)?;
     let turn = line_of(
@@ -72,7 +71,7 @@ fn turn_lines(alloc: Global, clocked: &Clocked) -> Result<Text, Memory>
 
 /// The line of a report.
 fn report_text(alloc: Global, number: u64, report: &Report) -> Result<Text, Memory>
-    ensures { IfOk result (λ text. text ≡ line_text (report_line number report.now) ++ 10 ∷ []) }
+    ensures { IfOk result (λ text. text ≡ line_text (spec.report_line number report.now) ++ 10 ∷ []) }
 {
     let mut text = Text::of(alloc, b"report ")?;
     let words = line(alloc, number, report, None)?;
@@ -87,7 +86,7 @@ fn report_lines(
     number: u64,
     report: &Report,
 ) -> Result<Text, Memory>
-    ensures { IfOk result (λ text. text ≡ text_of (Reported number report.now ∷ notes.turn_notes clocked.now)) }
+    ensures { IfOk result (λ text. text ≡ text_in (spec.report_line number report.now ∷ spec.turn_lines clocked.now)) }
 {
     let mut text = turn_lines(alloc, clocked)?;
     let reported = report_text(alloc, number, report)?;
@@ -97,7 +96,7 @@ fn report_lines(
 
 /// The lines of a datagram that landed.
 fn landing_lines(alloc: Global, clocked: &Clocked, bytes: &[u8]) -> Result<Text, Memory>
-    ensures { IfOk result (λ text. text ≡ text_of (notes.landing_notes clocked.now bytes.now)) }
+    ensures { IfOk result (λ text. text ≡ text_in (spec.landing_lines clocked.now bytes.now)) }
 {
     let mut text = slept_lines(alloc, clocked)?;
     let bytes = Text::of(alloc, bytes)?;
@@ -114,7 +113,7 @@ fn landing_lines(alloc: Global, clocked: &Clocked, bytes: &[u8]) -> Result<Text,
 
 /// The line of a text that came.
 fn heard_line(alloc: Global, session: Session, text: &Text) -> Result<Text, Memory>
-    ensures { IfOk result (λ line. line ≡ line_text (event_line (notes.Heard session text.now)) ++ 10 ∷ []) }
+    ensures { IfOk result (λ line. line ≡ line_text (spec.heard_line session text.now) ++ 10 ∷ []) }
 {
     let bytes = text.clone()?;
     match session {
@@ -125,7 +124,7 @@ fn heard_line(alloc: Global, session: Session, text: &Text) -> Result<Text, Memo
 
 /// The line of a session that is over.
 fn closed_line(alloc: Global, session: Session) -> Result<Text, Memory>
-    ensures { IfOk result (λ line. line ≡ line_text (event_line (notes.Closed session)) ++ 10 ∷ []) }
+    ensures { IfOk result (λ line. line ≡ line_text (spec.closed_line session) ++ 10 ∷ []) }
 {
     match session {
         Session::Cii => line_of(alloc, &RecordLine::ClosedCii),
@@ -151,23 +150,31 @@ impl<K: Sink> Observes for Recorder<'_, K> {
         self.over = put(self.sink, line_of(self.alloc, &RecordLine::Slept));
     }
 
-    fn turned(&mut self, clocked: &Clocked) {
+    fn turned(&mut self, clocked: &Clocked, _companion: &Companion) {
         self.over = put(self.sink, turn_lines(self.alloc, clocked));
     }
 
-    fn reported(&mut self, clocked: &Clocked, number: u64, report: &Report) {
+    fn reported(
+        &mut self,
+        clocked: &Clocked,
+        number: u64,
+        report: &Report,
+        _companion: &Companion,
+    ) {
         self.over = put(self.sink, report_lines(self.alloc, clocked, number, report));
     }
+
+    fn dialled(&mut self, _kind: Kind, _peer: Option<u32>) {}
 
     fn asked(&mut self, reading: u64) {
         self.over = put(self.sink, line_of(self.alloc, &RecordLine::Ask { reading }));
     }
 
-    fn landed(&mut self, clocked: &Clocked, bytes: &[u8]) {
+    fn landed(&mut self, clocked: &Clocked, bytes: &[u8], _companion: &Companion) {
         self.over = put(self.sink, landing_lines(self.alloc, clocked, bytes));
     }
 
-    fn heard(&mut self, session: Session, text: &Text) {
+    fn heard(&mut self, session: Session, text: &Text, _companion: &Companion) {
         self.over = put(self.sink, heard_line(self.alloc, session, text));
     }
 

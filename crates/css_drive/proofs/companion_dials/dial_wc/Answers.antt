@@ -5,9 +5,10 @@ use Rattle.css_model.specs.History.{Dialling, Dialled, NotDialled, Wrote, Gone}
 use Rattle.css_outside.specs.declared.calls.Wrote.TheVariants as outcome
 use Rattle.css_drive.specs.CompanionDue.{due_at, text_sent, text_gone, sending, window_text, from_ask}
 use Rattle.css_drive.specs.CompanionStanding.{Facts}
+use Rattle.css_drive.specs.Notes.{standpoint}
 use Rattle.css_drive.specs.Proper.{Dial, SendText}
 use Rattle.std.specs.Option.{option_map}
-use Rattle.css_drive.proofs.CompanionSteps.{none_if, comes, stands_more, peers_as, peers_cii, peers_wc, peers_ts}
+use Rattle.css_drive.proofs.CompanionSteps.{none_if, comes, stands_saw, peers_as, peers_cii, peers_wc, peers_ts}
 use Rattle.css_drive.proofs.CompanionSteps.{knows_lawful, stops_by_fault, stops_here, ends_by, at_err}
 use Rattle.css_drive.proofs.CompanionCalls as calls
 use Rattle.css_drive.proofs.companion_dials.dial_wc.Goals as goal
@@ -21,8 +22,11 @@ returns-clause-goes g c before started h s k d =
     let t = calls.wc_due c.args.config.now before _ _ c.args.live.now h s d None none _ (ap (λ x.
     calls.wc_place x) (sym (c.state.ensures.meaning h k.stands)) ∙ gives) in
     let tried = rw c.in-Some-2.is at c.in_ok-peer.ensures.told in
-    comes (stands_more s (Dial kind.Wc to) t (Dialled kind.Wc p ∷ Dialling kind.Wc to ∷ []) (inl (p, refl)) _
-    tried.told tried.faults _ refl
+    let after = g.W.Observes.saw started c.try_dial.new.observer in
+    let from = standpoint c.args.config.now (Dialling kind.Wc to ∷ h) in
+    let saw = rw c.in-Some-2.is at c.in_ok-peer.ensures.saw from started _ s.saw_so in
+    comes (stands_saw s (Dial kind.Wc to) t (Dialled kind.Wc p ∷ Dialling kind.Wc to ∷ []) (inl (p, refl)) _
+    tried.told tried.faults after saw _
     (ap {A = Facts} (λ x. record x { wc = Some p }) s.facts)
     (peers_wc _ _ p to _ _ h s.peers tried.peer.0 tried.peer.1))
     (calls.knows_tried _ _ kind.Wc to (Some p) h k) _ refl
@@ -35,8 +39,11 @@ returns-in_default-2-clause-goes g c before started h s k d =
     let t = calls.wc_due c.args.config.now before _ _ c.args.live.now h s d None none _ (ap (λ x.
     calls.wc_place x) (sym (c.state.ensures.meaning h k.stands)) ∙ gives) in
     let tried = rw c.in_default-2.is at c.in_ok-peer.ensures.told in
-    comes (stands_more s (Dial kind.Wc to) t (NotDialled kind.Wc ∷ Dialling kind.Wc to ∷ []) (inr refl) _ tried.told
-    tried.faults _ refl s.facts
+    let after = g.W.Observes.saw started c.try_dial.new.observer in
+    let from = standpoint c.args.config.now (Dialling kind.Wc to ∷ h) in
+    let saw = rw c.in_default-2.is at c.in_ok-peer.ensures.saw from started _ s.saw_so in
+    comes (stands_saw s (Dial kind.Wc to) t (NotDialled kind.Wc ∷ Dialling kind.Wc to ∷ []) (inr refl) _ tried.told
+    tried.faults after saw _ s.facts
     (peers_as _ _ _ _ h _ s.peers tried.later (λ q. refl)))
     (calls.knows_tried _ _ kind.Wc to None h k) _ refl
 
@@ -44,7 +51,8 @@ pub returns-in_err-peer-clause-goes : goal.returns-in_err-peer-clause-goes
 returns-in_err-peer-clause-goes g c before started h s k d =
     at_err _ _ _ _ c.from_residual-in_err-peer.ensures.1
     (stops_by_fault s (knows_lawful _ _ h k) _ _ _ c.in_err-peer.ensures.told
-    (g.W.Observes.saw started c.args.observer.now) s.saw_so)
+    (g.W.Observes.saw started c.try_dial.new.observer)
+    (c.in_err-peer.ensures.saw (standpoint c.args.config.now h) started _ s.saw_so))
 
 pub returns-in_err-to-clause-goes : goal.returns-in_err-to-clause-goes
 returns-in_err-to-clause-goes g c before started h s k d =

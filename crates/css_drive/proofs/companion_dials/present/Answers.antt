@@ -5,7 +5,7 @@ use Rattle.css_model.specs.History.{Dialling, Dialled, NotDialled, Wrote, Gone}
 use Rattle.css_outside.specs.declared.calls.Wrote.TheVariants as outcome
 use Rattle.css_drive.specs.CompanionDue.{due_at, text_sent, text_gone, sending, window_text, from_ask}
 use Rattle.css_drive.specs.CompanionStanding.{Facts}
-use Rattle.css_drive.specs.Notes.{noted}
+use Rattle.css_drive.specs.Notes.{noted, standpoint}
 use Rattle.css_drive.specs.Proper.{Dial, SendText}
 use Rattle.std.specs.Option.{option_map}
 use Rattle.css_drive.proofs.CompanionSteps.{none_if, comes, stands_saw, peers_as, peers_cii, peers_wc, peers_ts}
@@ -25,7 +25,7 @@ returns-in-Ok-Sent-clause-goes g c ts at_ts before started h s k when =
     ∙ ap (λ b. SendText p b) (sym (c.bytes.ensures ∙ c.in_ok-text.ensures.text)) in
     let sent = rw c.in-Ok-Sent.field-0-is at c.in-Ok-Sent.ensures.told in
     let saw : after (noted c.args.config.now (Wrote p text ∷ h)) = rw c.in-Ok-Sent.field-0-is at
-    c.in-Ok-Sent.ensures.saw started _ s.saw_so in
+    c.in-Ok-Sent.ensures.saw (standpoint c.args.config.now h) started _ s.saw_so in
     comes (stands_saw s (SendText p text) d1 (Wrote p text ∷ []) (outcome.Sent, refl) _ sent.told
     (ap (λ x. x.faults) sent.same) after saw _ s.facts
     (peers_as _ _ _ _ h _ s.peers (calls.same_peers sent.same) (λ q. refl)))
@@ -44,7 +44,8 @@ returns-in-Ok-clause-goes g c ts at_ts before started h s k when =
     let d1 = d ∙ ap (λ o. sending p (option_map window_text o) (from_ask c.args.config.now h)) some
     ∙ ap (λ b. SendText p b) (sym (c.bytes.ensures ∙ c.in_ok-text.ensures.text)) in
     let gone = rw c.in-Ok-Gone.field-0-is at c.in-Ok-Gone.ensures.told in
-    let more = rw c.in-Ok-Gone.field-0-is at c.in-Ok-Gone.ensures.saw started _ s.saw_so in
+    let more = rw c.in-Ok-Gone.field-0-is at c.in-Ok-Gone.ensures.saw (standpoint c.args.config.now h) started _
+    s.saw_so in
     let saw : after (noted c.args.config.now (Gone p ∷ h)) = subst after (sym (calls.wrote_noted c.args.config.now p text
     outcome.Gone h (calls.ts_at c.args.config.now before _ _ c.args.live.now h s p at_ts))) more in
     calls.over_comes s (SendText p text) d1 (Gone p) (outcome.Gone, refl) _ gone.told gone.same after saw _ _ _
@@ -67,7 +68,8 @@ returns-clause-goes g c ts at_ts before started h s k when =
     let d1 = d ∙ ap (λ o. sending p (option_map window_text o) (from_ask c.args.config.now h)) some
     ∙ ap (λ b. SendText p b) (sym (c.bytes.ensures ∙ c.in_ok-text.ensures.text)) in
     let gone = rw c.in-Ok-Gone.field-0-is at c.in-Ok-Gone.ensures.told in
-    let more = rw c.in-Ok-Gone.field-0-is at c.in-Ok-Gone.ensures.saw started _ s.saw_so in
+    let more = rw c.in-Ok-Gone.field-0-is at c.in-Ok-Gone.ensures.saw (standpoint c.args.config.now h) started _
+    s.saw_so in
     let saw : after (noted c.args.config.now (Gone p ∷ h)) = subst after (sym (calls.wrote_noted c.args.config.now p text
     outcome.Gone h (calls.ts_at c.args.config.now before _ _ c.args.live.now h s p at_ts))) more in
     calls.over_stops s (SendText p text) d1 (Gone p) (outcome.Gone, refl) _ gone.told gone.same after saw (knows_lawful
@@ -76,7 +78,7 @@ returns-clause-goes g c ts at_ts before started h s k when =
 pub returns-in-Err-clause-goes : goal.returns-in-Err-clause-goes
 returns-in-Err-clause-goes g c ts at_ts before started h s k when =
     stops_by_fault s (knows_lawful _ _ h k) _ _ _ c.in-Err.ensures.told (g.W.Observes.saw started c.send.new.observer)
-    (c.in-Err.ensures.saw started _ s.saw_so)
+    (c.in-Err.ensures.saw (standpoint c.args.config.now h) started _ s.saw_so)
 
 pub returns-in-Ok-clause-keeps : goal.returns-in-Ok-clause-keeps
 returns-in-Ok-clause-keeps g c = calls.keeps_same (c.in-Ok-Gone.ensures.dials) (c.in-Ok.ensures.keeps

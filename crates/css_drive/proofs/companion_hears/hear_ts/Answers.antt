@@ -10,7 +10,7 @@ use Rattle.css_outside.specs.declared.calls.Heard.TheVariants as heard
 use Rattle.css_companion.specs.Meanings.{is_ts}
 use Rattle.css_drive.specs.CompanionDue.{send_to, due}
 use Rattle.css_drive.specs.CompanionStanding.{Facts, hung}
-use Rattle.css_drive.specs.Notes.{noted}
+use Rattle.css_drive.specs.Notes.{noted, standpoint}
 use Rattle.css_drive.specs.declared.session.Session.TheVariants as session
 use Rattle.css_drive.specs.Proper.{Now, TakeDatagram, TakeText, SendDatagram}
 use Rattle.css_drive.proofs.CompanionSteps.{comes, stands_saw, stops_after, stops_by_fault, peers_as, knows_as}
@@ -26,7 +26,8 @@ returns-in-Ok-Quiet-clause-goes g c before started h s k d =
     let is = calls.open_ts c.args.config.now before _ _ c.args.live.now h s p c.in-Some.is in
     let told = rw c.in-Ok-Quiet.field-0-is at c.in-Ok-Quiet.ensures.told in
     let after = g.W.Observes.saw started c.hear.new.observer in
-    let more = rw c.in-Ok-Quiet.field-0-is at c.in-Ok-Quiet.ensures.saw started _ s.saw_so in
+    let more = rw c.in-Ok-Quiet.field-0-is at c.in-Ok-Quiet.ensures.saw (standpoint c.args.config.now h) k started _
+    s.saw_so in
     let saw : after (noted c.args.config.now (Quiet p ∷ h)) = subst after (sym (calls.heard_noted c.args.config.now p (heard.Quiet)
     session.Ts h (calls.ts_at c.args.config.now before _ _ c.args.live.now h s p c.in-Some.is))) more in
     comes (stands_saw s (TakeText p) t (Quiet p ∷ []) (heard.Quiet, refl) _ told.told (ap (λ x. x.faults) told.same) after saw _ s.facts
@@ -41,7 +42,8 @@ returns-in-Ok-clause-goes g c before started h s k d =
     let is = calls.open_ts c.args.config.now before _ _ c.args.live.now h s p c.in-Some.is in
     let told = rw c.in-Ok-Closed.field-0-is at c.in-Ok-Closed.ensures.told in
     let after = g.W.Observes.saw started c.hear.new.observer in
-    let more = rw c.in-Ok-Closed.field-0-is at c.in-Ok-Closed.ensures.saw started _ s.saw_so in
+    let more = rw c.in-Ok-Closed.field-0-is at c.in-Ok-Closed.ensures.saw (standpoint c.args.config.now h) k started _
+    s.saw_so in
     let saw : after (noted c.args.config.now (Closed p ∷ h)) = subst after (sym (calls.heard_noted c.args.config.now p (heard.Closed)
     session.Ts h (calls.ts_at c.args.config.now before _ _ c.args.live.now h s p c.in-Some.is))) more in
     calls.over_comes s (TakeText p) t (Closed p) (heard.Closed, refl) _ told.told told.same after saw _ _ _
@@ -55,7 +57,8 @@ returns-in-Err-lose_ts-clause-goes g c before started h s k d =
     let t = calls.ts_text_due c.args.config.now before _ _ c.args.live.now h s d _ c.in-Some.is in
     let told = rw c.in-Ok-Closed.field-0-is at c.in-Ok-Closed.ensures.told in
     let after = g.W.Observes.saw started c.hear.new.observer in
-    let more = rw c.in-Ok-Closed.field-0-is at c.in-Ok-Closed.ensures.saw started _ s.saw_so in
+    let more = rw c.in-Ok-Closed.field-0-is at c.in-Ok-Closed.ensures.saw (standpoint c.args.config.now h) k started _
+    s.saw_so in
     let saw : after (noted c.args.config.now (Closed p ∷ h)) = subst after (sym (calls.heard_noted c.args.config.now p (heard.Closed)
     session.Ts h (calls.ts_at c.args.config.now before _ _ c.args.live.now h s p c.in-Some.is))) more in
     calls.over_stops s (TakeText p) t (Closed p) (heard.Closed, refl) _ told.told told.same after saw (knows_lawful _ _ h k)
@@ -69,7 +72,8 @@ returns-in-Ok-take_in_ts-clause-goes g c before started h s k d =
     let is = calls.open_ts c.args.config.now before _ _ c.args.live.now h s p c.in-Some.is in
     let told = rw c.in-Ok-Text.field-0-is at c.in-Ok-Text.ensures.told in
     let after = g.W.Observes.saw started c.hear.new.observer in
-    let more = rw c.in-Ok-Text.field-0-is at c.in-Ok-Text.ensures.saw started _ s.saw_so in
+    let more = rw c.in-Ok-Text.field-0-is at c.in-Ok-Text.ensures.saw (standpoint c.args.config.now h) k started _
+    s.saw_so in
     let saw : after (noted c.args.config.now (Heard p text ∷ h)) = subst after (sym (calls.heard_noted c.args.config.now p (heard.Text text)
     session.Ts h (calls.ts_at c.args.config.now before _ _ c.args.live.now h s p c.in-Some.is))) more in
     comes (stands_saw s (TakeText p) t (Heard p text ∷ []) (heard.Text text, refl) _ told.told (ap (λ x. x.faults) told.same) after saw _ s.facts
@@ -83,7 +87,8 @@ returns-in-Err-take_in_ts-clause-goes g c before started h s k d =
     let t = calls.ts_text_due c.args.config.now before _ _ c.args.live.now h s d _ c.in-Some.is in
     let told = rw c.in-Ok-Text.field-0-is at c.in-Ok-Text.ensures.told in
     let after = g.W.Observes.saw started c.hear.new.observer in
-    let more = rw c.in-Ok-Text.field-0-is at c.in-Ok-Text.ensures.saw started _ s.saw_so in
+    let more = rw c.in-Ok-Text.field-0-is at c.in-Ok-Text.ensures.saw (standpoint c.args.config.now h) k started _
+    s.saw_so in
     let saw : after (noted c.args.config.now (Heard p text ∷ h)) = subst after (sym (calls.heard_noted c.args.config.now p (heard.Text text)
     session.Ts h (calls.ts_at c.args.config.now before _ _ c.args.live.now h s p c.in-Some.is))) more in
     calls.over_stops s (TakeText p) t (Heard p text) (heard.Text text, refl) _ told.told told.same after saw
@@ -92,7 +97,7 @@ returns-in-Err-take_in_ts-clause-goes g c before started h s k d =
 pub returns-in-Err-clause-goes : goal.returns-in-Err-clause-goes
 returns-in-Err-clause-goes g c before started h s k d =
     stops_by_fault s (knows_lawful _ _ h k) _ _ _ c.in-Err.ensures.told (g.W.Observes.saw started c.hear.new.observer)
-    (c.in-Err.ensures.saw started _ s.saw_so)
+    (c.in-Err.ensures.saw (standpoint c.args.config.now h) k started _ s.saw_so)
 
 pub returns-in-Ok-clause-keeps : goal.returns-in-Ok-clause-keeps
 returns-in-Ok-clause-keeps g c = calls.keeps_same (c.in-Ok-Closed.ensures.dials)

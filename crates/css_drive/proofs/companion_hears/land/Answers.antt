@@ -10,7 +10,7 @@ use Rattle.css_outside.specs.declared.calls.Heard.TheVariants as heard
 use Rattle.css_companion.specs.Meanings.{is_ts}
 use Rattle.css_drive.specs.CompanionDue.{send_to, due}
 use Rattle.css_drive.specs.CompanionStanding.{Facts, hung}
-use Rattle.css_drive.specs.Notes.{noted}
+use Rattle.css_drive.specs.Notes.{noted, standpoint}
 use Rattle.css_drive.specs.Proper.{Now, TakeDatagram, TakeText, SendDatagram}
 use Rattle.css_drive.proofs.CompanionSteps.{comes, stops_after, stops_by_fault, peers_as, at_err}
 use Rattle.css_drive.proofs.CompanionSteps.{knows_lawful}
@@ -23,46 +23,52 @@ returns-then-clocked-clause-goes g c before started h p s k =
     let read = c.in_ok-clocked.ensures.told in
     let clocked : Clocked = c.in_ok-clocked.clocked in
     let bytes = c.args.bytes.now in
+    let cfg = c.args.config.now in
     let k0 = calls.knows_plain _ _ (Took p bytes) h k refl refl refl refl refl refl refl in
+    let k1 = read.known cfg (Took p bytes ∷ h) k0 in
     let after = g.W.Observes.saw started c.landed.new.self in
-    let saw : after (noted c.args.config.now (clock_entries why.Land clocked ++ (Took p bytes ∷ h))) = subst after (sym
-    (calls.landed_notes c.args.config.now clocked p bytes h)) (c.landed.ensures started _ c.in_ok-clocked.ensures.on
-    s.saw_so) in
+    let saw : after (noted cfg (clock_entries why.Land clocked ++ (Took p bytes ∷ h))) = subst after (sym
+    (calls.landed_notes cfg clocked p bytes h)) (c.landed.ensures (standpoint cfg (Took p bytes ∷ h)) k1 started _
+    c.in_ok-clocked.ensures.on s.saw_so) in
     comes (calls.stands_read s why.Land (inr refl) refl _ _ _ _ clocked read after saw)
-    (calls.slept_landing _ _ clocked (Took p bytes ∷ h) c.if-clocked.true (read.known c.args.config.now (Took p bytes
-    ∷ h) k0)) _
-    (calls.landed_next c.args.config.now clocked (Took p bytes ∷ h))
+    (calls.slept_landing _ _ clocked (Took p bytes ∷ h) c.if-clocked.true k1) _
+    (calls.landed_next cfg clocked (Took p bytes ∷ h))
 
 pub returns-in-Ok-clause-goes : goal.returns-in-Ok-clause-goes
 returns-in-Ok-clause-goes g c before started h p s k =
     let read = c.in_ok-clocked.ensures.told in
     let clocked : Clocked = c.in_ok-clocked.clocked in
     let bytes = c.args.bytes.now in
+    let cfg = c.args.config.now in
+    let k0 = calls.knows_plain _ _ (Took p bytes) h k refl refl refl refl refl refl refl in
+    let k1 = read.known cfg (Took p bytes ∷ h) k0 in
     let after = g.W.Observes.saw started c.landed.new.self in
-    let saw : after (noted c.args.config.now (clock_entries why.Land clocked ++ (Took p bytes ∷ h))) = subst after (sym
-    (calls.landed_notes c.args.config.now clocked p bytes h)) (c.landed.ensures started _ c.in_ok-clocked.ensures.on
-    s.saw_so) in
+    let saw : after (noted cfg (clock_entries why.Land clocked ++ (Took p bytes ∷ h))) = subst after (sym
+    (calls.landed_notes cfg clocked p bytes h)) (c.landed.ensures (standpoint cfg (Took p bytes ∷ h)) k1 started _
+    c.in_ok-clocked.ensures.on s.saw_so) in
     comes (calls.stands_read s why.Land (inr refl) refl _ _ _ _ clocked read after saw)
-    (calls.awake_landing _ _ _ clocked p bytes h c.if-clocked.false (read.known c.args.config.now h k)
-    (λ k1. record {
-      stands = c.in-Ok.ensures.stands h p k1.stands;
+    (calls.awake_landing _ _ _ clocked p bytes h c.if-clocked.false (read.known cfg h k)
+    (λ k2. record {
+      stands = c.in-Ok.ensures.stands h p k2.stands;
       setup = ap (λ x. x.setup) c.in-Ok.ensures.keeps
-          ∙ k1.setup;
-      own = c.in-Ok.ensures.own ∙ k1.own;
+          ∙ k2.setup;
+      own = c.in-Ok.ensures.own ∙ k2.own;
     })) _
-    (calls.landed_next c.args.config.now clocked (Took p bytes ∷ h))
+    (calls.landed_next cfg clocked (Took p bytes ∷ h))
 
 pub returns-in-Err-clause-goes : goal.returns-in-Err-clause-goes
 returns-in-Err-clause-goes g c before started h p s k =
     let read = c.in_ok-clocked.ensures.told in
     let clocked : Clocked = c.in_ok-clocked.clocked in
     let bytes = c.args.bytes.now in
+    let cfg = c.args.config.now in
     let k0 = calls.knows_plain _ _ (Took p bytes) h k refl refl refl refl refl refl refl in
-    let l = knows_lawful _ _ _ (read.known c.args.config.now (Took p bytes ∷ h) k0) in
+    let k1 = read.known cfg (Took p bytes ∷ h) k0 in
+    let l = knows_lawful _ _ _ k1 in
     let after = g.W.Observes.saw started c.landed.new.self in
-    let saw : after (noted c.args.config.now (clock_entries why.Land clocked ++ (Took p bytes ∷ h))) = subst after (sym
-    (calls.landed_notes c.args.config.now clocked p bytes h)) (c.landed.ensures started _ c.in_ok-clocked.ensures.on
-    s.saw_so) in
+    let saw : after (noted cfg (clock_entries why.Land clocked ++ (Took p bytes ∷ h))) = subst after (sym
+    (calls.landed_notes cfg clocked p bytes h)) (c.landed.ensures (standpoint cfg (Took p bytes ∷ h)) k1 started _
+    c.in_ok-clocked.ensures.on s.saw_so) in
     stops_after s (Now why.Land) refl (clock_entries why.Land clocked) (clocked, refl) _ read.told read.faults after saw
     (calls.lawful_plain (Clock why.Land clocked.reading) (sleep_entries clocked.slept ++ (Took p bytes ∷ h)) l refl
     refl) _ _ tt tt

@@ -10,7 +10,7 @@ use Rattle.css_outside.specs.declared.calls.Heard.TheVariants as heard
 use Rattle.css_model.specs.Wire.{encoded, request_at}
 use Rattle.css_drive.specs.CompanionDue.{send_to, due}
 use Rattle.css_drive.specs.CompanionStanding.{Facts, hung}
-use Rattle.css_drive.specs.Notes.{noted}
+use Rattle.css_drive.specs.Notes.{noted, standpoint}
 use Rattle.css_drive.specs.Proper.{Now, TakeDatagram, TakeText, SendDatagram}
 use Rattle.css_drive.proofs.CompanionSteps.{comes, stands_saw, stops_after, stops_by_fault, peers_as, at_err}
 use Rattle.css_drive.proofs.CompanionSteps.{knows_lawful}
@@ -26,7 +26,7 @@ returns-clause-goes g c some before started h s k d =
     let cfg = c.args.config.now in
     let slept = g.W.Observes.saw started c.note_sleep.new.observer in
     let saw : slept (noted cfg (clock_entries why.Ask clocked ++ h)) = subst slept (sym (calls.asked_notes cfg clocked h))
-    (c.note_sleep.ensures started _ c.in_ok-clocked.ensures.on s.saw_so) in
+    (c.note_sleep.ensures (standpoint cfg h) started _ c.in_ok-clocked.ensures.on s.saw_so) in
     let s1 = calls.stands_read s why.Ask (inl refl) d _ _ _ _ clocked read slept saw in
     let k1 = read.known cfg h k in
     let e1 = calls.asked_to cfg clocked h ∙ ap (λ o. send_to o (encoded (request_at clocked.reading)))
@@ -34,7 +34,7 @@ returns-clause-goes g c some before started h s k d =
     let sent = c.in_ok-send_request.ensures.told in
     comes (stands_saw s1 (SendDatagram p c.ask-bytes.result) e1 (Sent p c.ask-bytes.result ∷ []) refl _
     sent.told (ap (λ x. x.faults) sent.same) (g.W.Observes.saw started c.send_request.new.observer)
-    (c.in_ok-send_request.ensures.saw started _ s1.saw_so) _
+    (c.in_ok-send_request.ensures.saw (standpoint cfg (clock_entries why.Ask clocked ++ h)) started _ s1.saw_so) _
     (ap {A = Facts} (λ x. record x { asked = x.turn }) s1.facts)
     (peers_as _ _ _ _ _ _ s1.peers (calls.same_peers sent.same) (λ q. refl)))
     (record {
@@ -51,13 +51,14 @@ returns-in_err-send_request-clause-goes g c some before started h s k d =
     let cfg = c.args.config.now in
     let slept = g.W.Observes.saw started c.note_sleep.new.observer in
     let saw : slept (noted cfg (clock_entries why.Ask clocked ++ h)) = subst slept (sym (calls.asked_notes cfg clocked h))
-    (c.note_sleep.ensures started _ c.in_ok-clocked.ensures.on s.saw_so) in
+    (c.note_sleep.ensures (standpoint cfg h) started _ c.in_ok-clocked.ensures.on s.saw_so) in
     let s1 = calls.stands_read s why.Ask (inl refl) d _ _ _ _ clocked read slept saw in
     let k1 = read.known cfg h k in
     let l = (c.ask-bytes.ensures.stands _ c.args.peer k1.stands).client.lawful in
     at_err _ _ _ _ c.from_residual-in_err-send_request.ensures.1
     (stops_by_fault s1 (record { rises = l.rises.1; asks = l.asks.1 }) _ _ _ c.in_err-send_request.ensures.told
-    (g.W.Observes.saw started c.send_request.new.observer) (c.in_err-send_request.ensures.saw started _ s1.saw_so))
+    (g.W.Observes.saw started c.send_request.new.observer) (c.in_err-send_request.ensures.saw (standpoint cfg h)
+    started _ s1.saw_so))
 
 pub returns-in_err-clocked-clause-goes : goal.returns-in_err-clocked-clause-goes
 returns-in_err-clocked-clause-goes g c some before started h s k d =

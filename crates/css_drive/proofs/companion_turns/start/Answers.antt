@@ -6,7 +6,7 @@ use Rattle.css_outside.specs.declared.calls.Clocked.{Clocked}
 use Rattle.css_drive.specs.CompanionReports.{is_due, due_reports}
 use Rattle.css_drive.specs.CompanionStanding.{Facts, facts_in, asked_after}
 use Rattle.css_drive.specs.CompanionTurns.{first_turn}
-use Rattle.css_drive.specs.Notes.{Reported, noted, turn_notes}
+use Rattle.css_drive.specs.Notes.{Reported, noted, turn_notes, standpoint, slept_from}
 use Rattle.css_drive.specs.Proper.{Now}
 use Rattle.css_drive.proofs.CompanionSteps.{comes, stands_saw, stops_by_fault, knows_lawful, at_err}
 use Rattle.css_drive.proofs.CompanionCalls as calls
@@ -44,9 +44,11 @@ returns-then-due-clause-goes g c before started h s k d =
     let so = runs.reports_so cfg _ (sleep_entries clocked.slept ++ h) r report known
     (c.report-report.ensures.report _ known.stands) in
     let after = g.W.Observes.saw started c.reported.new.self in
-    let P : ℕ → Type 0 = λ n. after (Reported n report ∷ (turn_notes clocked ++ noted cfg h)) in
+    let from = standpoint cfg h in
+    let P : ℕ → Type 0 = λ n. after (Reported (slept_from from clocked.slept) n report ∷ (turn_notes from clocked ++
+    noted cfg h)) in
     let told : P (live.reported + 1) = subst P (ap {A = Facts} (λ x. x.reported + 1) read.only)
-    (c.reported.ensures started _ c.in_ok-clocked.ensures.on s.saw_so) in
+    (c.reported.ensures from known started _ c.in_ok-clocked.ensures.on s.saw_so) in
     let saw : after (noted cfg history) = subst after (sym (ends.reported_notes cfg clocked h live.first live.reported
     report first count is so)) told in
     comes (stands_saw s (Now why.Turn) d (clock_entries why.Turn clocked) (clocked, refl) _ read.told read.faults after
@@ -74,7 +76,7 @@ returns-clause-goes g c before started h s k d =
     ∙ ap {A = ℕ} {B = Facts} (λ u. record (F (facts_in c.read.new.live)) { first = Some u }) (sym c.unwrap_or.ensures) in
     let after = g.W.Observes.saw started c.turned.new.self in
     let saw : after (noted cfg history) = subst after (sym (ends.turned_notes cfg clocked h live.first live.reported
-    first count is)) (c.turned.ensures started _ c.in_ok-clocked.ensures.on s.saw_so) in
+    first count is)) (c.turned.ensures (standpoint cfg h) known started _ c.in_ok-clocked.ensures.on s.saw_so) in
     comes (stands_saw s (Now why.Turn) d (clock_entries why.Turn clocked) (clocked, refl) _ read.told read.faults after
     saw _ facts peers) (calls.knows_read cfg _ clocked h known) _ (ends.begun_next cfg clocked h)
 
