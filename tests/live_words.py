@@ -1,7 +1,7 @@
 """Each status that the program can end with: its status line, which stays as it is, and the hint that may follow."""
 import os, re, subprocess, time
 
-from live_edge import Listener, closed_port, greet, hold, state, teller
+from live_edge import Clock, Listener, closed_port, greet, hold, state, teller
 from live_peer import start
 
 HINT = "css: hint: "
@@ -21,9 +21,11 @@ def told_by(child):
 
 
 def check_end(check, name, child, status, line, hint):
-    """A run ends so: with this status, this line, and a hint that says this."""
+    """A run ends so: with this status, this line, or one that begins so, and a hint that says this."""
     got, lines, rest = told_by(child)
-    check(f"{name}: status {status}, {line}", (got, lines[:1], rest) == (status, [line], ""), (got, lines))
+    first = lines[0] if lines else ""
+    right = first.startswith(line) if line.endswith(" ") else first == line
+    check(f"{name}: status {status}, {line}", right and (got, rest) == (status, ""), (got, lines))
     hints = lines[1:]
     right = len(hints) < 2 and all(is_hint(it) for it in hints) and (hint is None or re.search(hint, " ".join(hints)))
     check(f"{name}: its hint", bool(right), hints)
@@ -34,7 +36,10 @@ def words(check, program):
     for text, hint in (
             ("", None), ("reply", "replay"), ("--nonsense", None), ("tv --prot 1", "--prot"), ("tv --port", "--port"),
             ("tv --port 80", "1024"), ("tv --port 1 --port 2", "--port"), ("tv --seconds 1 --turns 5", "--seconds"),
-            ("tv --seconds 0", "31536000"), ("tv --host ::1", "bracket"), ("companion", "--cii"),
+            ("tv --turns x", "--turns: x isn't a whole number from 1 to 1000000"),
+            ("tv --precision=-x", "-x isn't a whole number from -128 to 30"),
+            ("tv --turns 0", "--turns: 0 isn't from 1 to 1000000"), ("tv --seconds 0", "31536000"),
+            ("tv --host ::1", "bracket"), ("companion", "--cii"),
             ("companion --cii wss://h/cii", "encryption"), ("companion --cii http://h/cii", "ws:"),
             ("companion --cii ws://h/cii --reports 0", "1000000"),
             ("companion --cii ws://h/cii --earliest 1", "--latest"),
@@ -43,15 +48,86 @@ def words(check, program):
         check_end(check, f"css {text}", start(program, text.split()), 1, "css: usage", hint)
 
 
+# The line that is refused behind a schedule's header, why, and what the hint says of it.
+LINES = [
+    ("5 5 5 nothing", "form", "word 4 may be ask, .*, and is nothing"),
+    ("5 5 5 ask", "form", "word 5 is missing; it may be a number from 0 to 4294967295999999999"),
+    ("5 5 5  ask 5", "form", "word 4 is empty"),
+    ("5 5 05 ask 5", "form", "word 3 may be a number from 0 to .*, and is 05"),
+    ("5 5 5 ask 5 5", "form", "the line ends before word 6, which is 5"),
+    ("5 5 5 take 0 5", "form", "word 5 may be a number from 1 to 4294967295, and is 0"),
+    ("5 5 5 programme \x7f", "form", "word 5 may be a word of printable ASCII"),
+    ("5 5 5 timeline 1 a 0 1 0", "form", "word 7 may be a number from 1 to 1000000000, and is 0"),
+    ("5 5 5 speed 5 1000", "form", "word 6 may be a number from -999 to 999, and is 1000"),
+    ("5 5 5 open wc", "form", "word 5 may be cii or ts, and is wc"),
+    ("5 5 5 up cii", "form", "word 5 may be ts, and is cii"),
+    ("5 5 5 present 1 x 1 1", "form", "word 6 may be .* or minusinfinity, and is x"),
+    ("5 5 5 take 7 5", "absent", "request 7 wasn't sent"),
+    ("5 5 5 give 7 5", "absent", "take 7 wasn't made"),
+    ("5 5 5 land 7 5", "absent", "datagram 7 wasn't made"),
+    ("5 5 5 text ts", "absent", "session ts isn't open"),
+    ("5 5 5 up ts", "absent", "session ts isn't open"),
+    ("5 5 5 present 1 1 1 1", "absent", "session ts isn't open"),
+    ("5 5 5 close cii", "absent", "session cii isn't open"),
+    ("5 5 5 open ts\n5 5 5 open ts", "absent", "session ts is open, or was before"),
+    ("5 5 5 change 5 1", "no programme", "no programme of this number"),
+    ("5 5 5 programme a\n5 5 5 change 5 1\n5 5 5 speed 5 65", "speed", "from -64 to 64"),
+    ("5 5 5 programme a\n5 5 5 timeline 1 a 1 1 100000000000000001", "range", "10.17"),
+    ("\n".join(["5 5 5 programme a"] * 1001), "full", "1,000 programmes"),
+]
+
+# A command, its input, the line that is refused, and what the hint says of it.
+INPUTS = [
+    ("replay", "css-schedule 9 plain 0 -20 0 0 a -\n", 1, "word 2 may be 1 or 2, and is 9"),
+    ("replay", "css-schedule 1 plan 0 -20 0 0 a -\n", 1, "word 3 may be follow or plain, and is plan"),
+    ("replay", "css-schedule 2 plain 0 -20 17\n", 1, "word 6 may be a number from 1 to 16, and is 17"),
+    ("replay", "css-schedule 2 plain 0 -20 1\ncompanion 1 0 x a -\n", 2, "word 4 may be a number .*, and is x"),
+    ("replay", "css-schedule 2 plain 0 -20 1\ncompanion 1 0 0 a -\n5 5 1 5 ask x\n", 3, "word 6 may be .*, and is x"),
+    ("replay", SCHEDULE[:-1] + "\r\n", 1, "carriage return"),
+    ("replay", SCHEDULE[:-1] + "\r", 1, "carriage return"),
+    ("migrate", "css-schedule 2 plain 0 -20 1\n", 1, "word 2 may be 1, and is 2"),
+    ("migrate", SCHEDULE + "5 5 5 sleep\n", 2, "word 4 may be ask, .*, and is sleep"),
+    ("agree", "css-agree 1 0 x\n", 1, "word 4 may be a number from 0 to 1000000000, and is x"),
+    ("agree", "css-agree 1 0 0\nanswer 1 2 3 4 31 0\n", 2, "word 6 may be a number from -128 to 30, and is 31"),
+    ("audit", "css-record 1 0 0 a\n", 1, "word 6 is missing; it may be a word"),
+    ("audit", "css-record 1 0 0 a -\nland 5 abc\n", 2, "word 3 may be hex digits .*, and is abc"),
+    ("audit", "css-record 1 0 0 a -\nheard 5\n", 2, "word 1 may be slept, .* or report, and is heard"),
+    ("audit", "css-record 1 0 0 a -\nreport \x7f\n", 2, "a line is slept, .*, or a report"),
+    ("audit", "css-record 1 0 0 a -\nreport\n", 2, "word 2 is missing"),
+    ("tv", "0 programme\n", 1, "word 3 is missing; it may be a word"),
+    ("tv", "0 programme a\r\n", 1, "carriage return"),
+    ("tv", "0 open cii\n", 1, "word 2 may be programme, .* or seek, and is open"),
+]
+
+
+def refused_lines(check, program):
+    """Lines that are refused, and the first word of each that can't stand there."""
+    for text, why, hint in LINES:
+        number = 2 + text.count("\n")
+        check_end(check, f"a line: {text[-40:]!r}", start(program, ["replay"], SCHEDULE + text + "\n"), 2,
+                  f"css: line {number}: {why}", hint)
+    for command, given, number, hint in INPUTS:
+        check_end(check, f"{command}: {given[-40:]!r}", start(program, [command], given), 2,
+                  f"css: line {number}: form", hint)
+    for text, hint in (("cue 5 one\nnothing\n", "word 1 may be cue or meter, and is nothing"),
+                       ("cue 5 one\nmeter 0\n", "word 2 may be a number from 1 to 1000000, and is 0"),
+                       ("meter 5\nmeter 5\n", "at most one"), ("cue 5 one\r\ncue\n", "carriage return")):
+        number = 1 if "\r" in text else 2
+        check_end(check, f"a cue sheet: {text!r}", start(program, ["companion", "--cii", "ws://127.0.0.1:9/cii"], text),
+                  12, f"css: sheet line {number}", hint)
+    # A line far behind the first is still known, and one that went by long before isn't.
+    far = SCHEDULE + "5 5 5 ask 5\n" * 5000 + "5 5 5 ask x\n"
+    check_end(check, "a line far behind", start(program, ["replay"], far), 2, "css: line 5002: form", "and is x")
+    check_end(check, "a line long before", start(program, ["pair"], "0 programme\n" + "0 programme a\n" * 5000), 2,
+              "css: line 1: form", "a line is W VERB ..")
+    check_end(check, "a report behind no turn", start(program, ["audit"], "css-record 1 0 0 a -\nreport 1 ticks 1 2\n"),
+              2, "css: line 2: absent", "directly after a turn")
+
+
 def offline(check, program):
-    """Inputs that are refused, and streams that fail."""
-    first = SCHEDULE + "nothing\n"
-    for name, command, given, status, line, hint in (
-            ("a line outside the grammar", "replay", first, 2, "css: line 2: form", "."),
-            ("a schedule of another version", "replay", "css-schedule 9 0 0 a -\n", 2, "css: line 1: form", None),
-            ("a line that is too long", "replay", "x" * 70_000_000 + "\n", 2, "css: line 1: long", "67,108,864"),
-            ("a fault in a record", "audit", "nothing\n", 2, "css: line 1: form", None)):
-        check_end(check, name, start(program, [command], given), status, line, hint)
+    """Inputs that are too long, and streams that fail."""
+    check_end(check, "a line that is too long", start(program, ["replay"], "x" * 70_000_000 + "\n"), 2,
+              "css: line 1: long", "67,108,864")
     folder = os.open(".", os.O_RDONLY)
     child = subprocess.Popen([*program, "replay"], stdin=folder, stdout=subprocess.PIPE, stderr=subprocess.PIPE)
     os.close(folder)
@@ -60,9 +136,6 @@ def offline(check, program):
         child = subprocess.Popen([*program, "generate", "--seed", "1", "--lines", "100"], stdin=subprocess.DEVNULL,
                                  stdout=full, stderr=subprocess.PIPE)
     check_end(check, "a write that fails", child, 5, "css: write fault", None)
-    check_end(check, "a cue sheet that is refused",
-              start(program, ["companion", "--cii", "ws://127.0.0.1:9/cii"], "cue 5 one\nnothing\n"), 12,
-              "css: sheet line 2", ".")
 
 
 def sockets(check, program, port):
@@ -81,7 +154,7 @@ def sockets(check, program, port):
     first.wait(20)
 
 
-def companions(check, program):
+def companions(check, program, port):
     """What a companion's television can do."""
     def against(name, serve, status, line, hint, *options):
         server = Listener(serve)
@@ -90,9 +163,35 @@ def companions(check, program):
         server.end()
 
     moved = {**state(closed_port()), "wcUrl": "udp://127.0.0.1:9"}
-    against("a text that is no object", teller(b"[]"), 7, "css: cii text 1: not object", ".")
-    against("a moved address", teller(state(closed_port()), moved), 8, "css: moved wcUrl", "udp://127.0.0.1:9")
-    against("an address that is none", teller({**state(), "tsUrl": "nowhere"}), 13, "css: bad url tsUrl", "tsUrl")
+    old = f"udp://127.0.0.1:{closed_port()}"
+    against("a text that is no JSON", teller(b"<html>\xc3\xa4</html>"), 7, "css: cii text 1: not json",
+            re.escape("isn't JSON: <html>??</html>") + "$")
+    against("a text that is no object", teller(b"[]"), 7, "css: cii text 1: not object", re.escape(": []") + "$")
+    against("a long text", teller(b'{"wcUrl":5,' + b"x" * 500), 7, "css: cii text 1: not json", ': {"wcUrl":5,x{69}$')
+    against("a text with a wrong property", teller(b'{"wcUrl":5}'), 7, "css: cii text 1: field wcUrl",
+            'wcUrl .*: {"wcUrl":5}$')
+    against("a moved address", teller({**state(), "wcUrl": old}, moved), 8, "css: moved wcUrl",
+            f"was {old} and is udp://127.0.0.1:9")
+    against("an address that is none", teller({**state(), "tsUrl": "nowhere"}), 13, "css: bad url tsUrl",
+            "tsUrl is no address of the form ws:.*: nowhere$")
+    against("a wall clock's that is none", teller({**state(), "wcUrl": "http://h:1"}), 13, "css: bad url wcUrl",
+            "wcUrl is no address of the form udp:.*: http://h:1$")
+
+    def spent(name, serve, hint):
+        against(name, serve, 9, "css: spent after ", "before its last report: " + hint)
+
+    clock = Clock()
+    silent = Listener(lambda peer: (greet(peer), hold(peer)))
+    television = start(program, ["tv", "--port", str(port), "--seconds", "30"])
+    time.sleep(1)
+    spent("no text", lambda peer: (greet(peer), hold(peer)), "the television told no wcUrl")
+    spent("no wcUrl", teller(state()), "the television told no wcUrl")
+    spent("no response", teller(state(clock.port)), "no response came to [1-9][0-9]* requests")
+    spent("no tsUrl", teller(state(port)), "the television told no tsUrl")
+    spent("no control timestamp", teller(state(port, silent.port)), "no control timestamp came")
+    television.kill()
+    silent.end()
+    clock.end()
 
     def not_found(peer):
         peer.head()
@@ -109,12 +208,6 @@ def companions(check, program):
     got, lines, _ = told_by(child)
     check("nobody listens: unreachable, and why", got == 10 and len(lines) == 2 and is_hint(lines[1])
           and "nobody listens" in lines[1], (got, lines))
-    server = Listener(lambda peer: (greet(peer), peer.say(state()), hold(peer)))
-    child = start(program, ["companion", "--cii", f"ws://127.0.0.1:{server.port}/cii", "--seconds", "2"])
-    got, lines, _ = told_by(child)
-    check("a run that is over too soon: spent, and what to do", got == 9 and lines[0].startswith("css: spent after ")
-          and len(lines) == 2 and is_hint(lines[1]) and "--seconds" in lines[1], (got, lines))
-    server.end()
 
 
 def records(check, program):
@@ -139,8 +232,9 @@ def logged(check, program, port):
 
 def statuses(port, program, check):
     words(check, program)
+    refused_lines(check, program)
     offline(check, program)
     sockets(check, program, port)
-    companions(check, program)
+    companions(check, program, port + 8)
     records(check, program)
     logged(check, program, port + 4)

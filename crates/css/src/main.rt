@@ -4,14 +4,15 @@
 use css_app::{Status, run, tell};
 use css_drive::{Before, Nobody};
 use css_follow::{Cues, Meter};
-use css_hints::{Asked, hint};
-use css_net::{ChildSpawner, NetOutside, StdSink, StdSource};
+use css_hints::{Asked, Course, hint};
+use css_net::{ChildSpawner, NetOutside, Seen, StdSink, StdSource};
 use css_outside::{Sink, write_all};
 use css_told::{TellingOutside, TellingSink};
 use std::alloc::Global;
 use std::env::Env;
-use std::io::{Error, ErrorKind, IsTerminal};
+use std::io::{Error, ErrorKind, IsTerminal, Read};
 use std::process::ExitCode;
+use std::time::Clock;
 use std::{env, io};
 
 // What a companion at a terminal waits for.
@@ -52,6 +53,30 @@ fn tell_of_sheet(rt: &HostRuntime, words: &[String]) {
     }
 }
 
+// The line of the input that a status refuses, where it is still kept.
+fn refused_line<'a, R: Read, C: Clock>(
+    status: &Status,
+    source: &'a StdSource<'_, R, C>,
+) -> Option<&'a [u8]> {
+    match status {
+        Status::BadLine { line, .. } => source.line(*line),
+        Status::BadSheet { line } => source.line(*line),
+        _ => None,
+    }
+}
+
+// How far a run came, by what its outside has seen.
+fn course_of(seen: &Seen) -> Course<'_> {
+    Course {
+        state: &seen.state,
+        has_clock: seen.has_clock,
+        requests: seen.requests,
+        responses: seen.responses,
+        has_timestamps: seen.has_timestamps,
+        timestamps: seen.timestamps,
+    }
+}
+
 // Writes the line that helps after a status, where one does.
 fn print_hint<K: Sink>(alloc: Global, status: &Status, asked: &Asked<'_>, sink: &mut K) {
     if let Some(line) = hint(alloc, status, asked) {
@@ -72,6 +97,7 @@ fn cues_and_meter(alloc: Global) -> Before<Cues, Before<Meter, Nobody>> {
 
 fn main(rt: HostRuntime) -> ExitCode {
     let mut source = StdSource::new(rt.reader(), &rt);
+    source.keep_lines();
     let mut sink = TellingSink::new(StdSink::new(io::writer(&rt), &rt));
     let mut outside = TellingOutside::new(NetOutside::new(rt.alloc(), &rt));
     let mut spawner = ChildSpawner::new(rt.alloc(), &rt);
@@ -97,8 +123,14 @@ fn main(rt: HostRuntime) -> ExitCode {
     let mut errors = StdSink::new(rt.stderr().lock(), &rt);
     let number = tell(rt.alloc(), &status, &mut errors).number;
     if let Ok(words) = &words {
-        let dial = outside.last_dial_failure();
-        print_hint(rt.alloc(), &status, &Asked { words, dial }, &mut errors);
+        let asked = Asked {
+            words,
+            dial: outside.last_dial_failure(),
+            line: refused_line(&status, &source),
+            first_line_returned: source.first_line_returned(),
+            course: course_of(outside.seen()),
+        };
+        print_hint(rt.alloc(), &status, &asked, &mut errors);
     }
     ExitCode::from(number)
 }

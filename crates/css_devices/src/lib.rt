@@ -8,6 +8,7 @@ mod clock;
 pub mod faults;
 mod streams;
 mod tally;
+mod window;
 
 pub use child::ChildSpawner;
 pub use clock::monotone;

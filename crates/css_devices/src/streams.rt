@@ -1,10 +1,12 @@
 //! The standard streams as devices. They count each failure, and tell nothing of what they hold. A stream that doesn't
-//! block is waited for.
+//! block is waited for. A source keeps the last lines that went through it where that is asked, of which nothing is
+//! promised.
 
 ghost use Rattle.std.specs.Prelude.{◌≡◌, None};
 ghost use Rattle.std.specs.Io.{ReadsAtMost, WritesAtMost};
 
 use crate::faults::fault_of;
+use crate::window::Window;
 use css_outside::{Failed, Failure, OutFault, Sink, Source};
 use std::io::{ErrorKind, Read, Write};
 use std::time::{Clock, Duration};
@@ -19,6 +21,7 @@ pub struct StdSource<'a, R, C> {
     inner: R,
     clock: &'a C,
     faults: u64,
+    window: Option<Window>,
 }
 
 /// Whether a call is made again. Where it would have to wait there is a pause first.
@@ -46,8 +49,15 @@ fn read_through<R: Read, C: Clock>(inner: &mut R, clock: &C, into: &mut [u8]) ->
     Err(io::Error::from(ErrorKind::Interrupted))
 }
 
+/// Keeps the first `count` bytes that were read, where lines are kept.
+fn keep(window: &mut Option<Window>, read: &[u8], count: usize) {
+    if let Some(lines) = window {
+        lines.add(read.get(..count).unwrap_or(read));
+    }
+}
+
 impl<'a, R: Read, C: Clock> StdSource<'a, R, C> {
-    /// No read has failed yet.
+    /// No read has failed yet, and no lines are kept.
     pub fn new(inner: R, clock: &'a C) -> StdSource<'a, R, C>
         ensures faults { result.faults ≡ 0 }
     {
@@ -55,6 +65,30 @@ impl<'a, R: Read, C: Clock> StdSource<'a, R, C> {
             inner,
             clock,
             faults: 0,
+            window: None,
+        }
+    }
+
+    /// Keeps the last lines that come from now on, 16,384 bytes of them at least.
+    pub fn keep_lines(&mut self)
+        ensures faults { self.new.faults ≡ self.old.faults }
+    {
+        self.window = Some(Window::new());
+    }
+
+    /// The line with this number, counted from 1, without its line feed. None where not all of it is kept.
+    pub fn line(&self, number: u64) -> Option<&[u8]> {
+        match &self.window {
+            Some(lines) => lines.line(number),
+            None => None,
+        }
+    }
+
+    /// Whether lines are kept, and line 1 ended with a carriage return.
+    pub fn first_line_returned(&self) -> bool {
+        match &self.window {
+            Some(lines) => lines.has_returned(),
+            None => false,
         }
     }
 }
@@ -66,7 +100,10 @@ impl<'a, R: Read, C: Clock> Source for StdSource<'a, R, C> {
 
     fn read(&mut self, into: &mut [u8]) -> Result<usize, Failed> {
         match read_through(&mut self.inner, self.clock, into) {
-            Ok(count) => Ok(count),
+            Ok(count) => {
+                keep(&mut self.window, into, count);
+                Ok(count)
+            }
             Err(_) => {
                 self.faults = self.faults.saturating_add(1);
                 Err(Failed)

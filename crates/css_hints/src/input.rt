@@ -1,9 +1,14 @@
 //! What a line of the input has to be like.
 
+use crate::absence::absent;
+use crate::asked::Asked;
+use crate::grammar::Grammar;
 use crate::options::command_in;
+use crate::walk::first_misfit;
 use css_app::LineWhy;
 use css_schedule::PlayerFault;
 use std::alloc::Global;
+use std::str;
 
 /// How long the lines of a command's input may be.
 fn lengths(command: &str) -> &'static str {
@@ -45,15 +50,6 @@ fn line_of(command: &str) -> &'static str {
     }
 }
 
-/// What a line names that isn't there.
-fn absence(command: &str) -> &'static str {
-    match command {
-        "audit" => "a report stands directly after a turn",
-        _ =>
-            "it names a request, take or datagram that isn't there, or a session that isn't open or was before",
-    }
-}
-
 /// The limit of the player that was hit.
 fn limit(fault: PlayerFault) -> Option<&'static str> {
     match fault {
@@ -67,24 +63,78 @@ fn limit(fault: PlayerFault) -> Option<&'static str> {
     }
 }
 
+const RETURNED: &str = "line 1 ends with a carriage return: end lines with a line feed alone";
+
+const SHEET_LINE: &str =
+    "a line is: cue TICK NAME, at most 1,000 of them, or: meter COUNT, at most one; single spaces";
+
+/// What the input of a command that reads lines is.
+fn grammar_of(command: &str) -> Grammar {
+    match command {
+        "replay" => Grammar::Schedule,
+        "migrate" => Grammar::Migrated,
+        "agree" => Grammar::Answers,
+        "audit" => Grammar::Record,
+        _ => Grammar::Script,
+    }
+}
+
+/// Whether line 1 ends with a carriage return, also where it is the last and has no line feed.
+fn is_returned(asked: &Asked<'_>, line: u64) -> bool {
+    asked.first_line_returned
+        || match asked.line {
+            Some(bytes) => line == 1 && bytes.last() == Some(&b'\r'),
+            None => false,
+        }
+}
+
+/// The first word of the refused line that can't stand there, in words.
+fn told_misfit(alloc: Global, grammar: Grammar, number: u64, line: &[u8]) -> Option<String> {
+    let misfit = first_misfit(grammar, number, str::from_utf8(line).ok()?)?;
+    format!(in alloc; "{misfit}").ok()
+}
+
+/// What is wrong with a line outside its grammar, or else what any line is.
+fn bad_form(
+    alloc: Global,
+    asked: &Asked<'_>,
+    grammar: Grammar,
+    number: u64,
+    any_line: &str,
+) -> Option<String> {
+    if is_returned(asked, number) {
+        return String::from_str(alloc, RETURNED).ok();
+    }
+    if let Some(line) = asked.line {
+        if let Some(words) = told_misfit(alloc, grammar, number, line) {
+            return Some(words);
+        }
+    }
+    String::from_str(alloc, any_line).ok()
+}
+
 /// What a line of the input that was refused has to be like.
-pub(crate) fn bad_line(alloc: Global, words: &[String], line: u64, why: LineWhy) -> Option<String> {
-    let command = command_in(words);
+pub(crate) fn bad_line(
+    alloc: Global,
+    asked: &Asked<'_>,
+    line: u64,
+    why: LineWhy,
+) -> Option<String> {
+    let command = command_in(asked.words);
+    let grammar = grammar_of(command);
     let words = match why {
         LineWhy::Long => lengths(command),
-        LineWhy::Form if line == 1 => header_of(command),
-        LineWhy::Form => line_of(command),
-        LineWhy::Absent => absence(command),
+        LineWhy::Form if line == 1 => {
+            return bad_form(alloc, asked, grammar, line, header_of(command));
+        }
+        LineWhy::Form => return bad_form(alloc, asked, grammar, line, line_of(command)),
+        LineWhy::Absent => return absent(alloc, command, asked.line),
         LineWhy::Player(fault) => limit(fault)?,
     };
     String::from_str(alloc, words).ok()
 }
 
 /// What a line of a cue sheet has to be like.
-pub(crate) fn bad_sheet(alloc: Global) -> Option<String> {
-    String::from_str(
-        alloc,
-        "a line is: cue TICK NAME, at most 1,000 of them, or: meter COUNT, at most one; single spaces",
-    )
-    .ok()
+pub(crate) fn bad_sheet(alloc: Global, asked: &Asked<'_>, line: u64) -> Option<String> {
+    bad_form(alloc, asked, Grammar::Sheet, line, SHEET_LINE)
 }

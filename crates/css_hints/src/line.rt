@@ -18,6 +18,15 @@ fn printable(byte: u8) -> u8
     }
 }
 
+/// The front of these bytes, as words of a line.
+pub(crate) fn shown(alloc: Global, bytes: &[u8], most: usize) -> Option<String> {
+    let mut words = String::new(alloc);
+    for byte in bytes.get(..most).unwrap_or(bytes) {
+        words.push(char::from(printable(*byte))).ok()?;
+    }
+    Some(words)
+}
+
 /// As many bytes as a line has room for.
 fn front(bytes: &[u8]) -> &[u8]
     ensures { length result.now ≤ 199 }

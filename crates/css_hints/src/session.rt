@@ -1,13 +1,17 @@
 //! What the texts of a television's session have wrong, and the reports of a record.
 
+use crate::course::{Course, told};
+use crate::line::shown;
 use css_cii::{CiiFault, CiiName};
 use css_companion::{Report, line};
 use css_num::Text;
 use std::alloc::Global;
 use std::str;
 
-/// How much of a text stands in a line, in bytes.
+/// How much of an address stands in a line, in bytes.
 const MOST: usize = 60;
+/// How much of a message stands in a line, in bytes.
+const MOST_SHOWN: usize = 80;
 
 /// The front of a text.
 fn front(text: &Text) -> &str {
@@ -15,17 +19,25 @@ fn front(text: &Text) -> &str {
     str::from_utf8(bytes.get(..MOST).unwrap_or(bytes)).unwrap_or("?")
 }
 
-/// What a message's fault means.
-pub(crate) fn bad_cii(alloc: Global, text: u64, fault: CiiFault) -> Option<String> {
+/// What a message's fault means, and how the message begins.
+pub(crate) fn bad_cii(
+    alloc: Global,
+    text: u64,
+    fault: CiiFault,
+    course: &Course<'_>,
+) -> Option<String> {
+    let front = shown(alloc, course.state, MOST_SHOWN)?;
     match fault {
-        CiiFault::NotJson => format!(in alloc; "text {text} of the CSS-CII session isn't JSON"),
+        CiiFault::NotJson => format!(in alloc;
+            "text {text} of the CSS-CII session isn't JSON: {front}"
+        ),
         CiiFault::NotObject => format!(in alloc;
-            "text {text} of the CSS-CII session is JSON, but no object"
+            "text {text} of the CSS-CII session is JSON, but no object: {front}"
         ),
         CiiFault::Field(name) => {
             let name = name.as_str();
             format!(in alloc;
-                "text {text} of the CSS-CII session: its {name} isn't of the form that it has to have"
+                "text {text} of the CSS-CII session: its {name} isn't of the form that it has to have: {front}"
             )
         }
         CiiFault::Memory => return None,
@@ -33,14 +45,20 @@ pub(crate) fn bad_cii(alloc: Global, text: u64, fault: CiiFault) -> Option<Strin
     .ok()
 }
 
-/// What an address has to be.
-pub(crate) fn bad_url(alloc: Global, property: CiiName) -> Option<String> {
+/// What an address has to be, and the text that is none.
+pub(crate) fn bad_url(alloc: Global, property: CiiName, course: &Course<'_>) -> Option<String> {
     let form = match property {
         CiiName::WcUrl => "udp://HOST:PORT",
         _ => "ws://HOST:PORT/PATH",
     };
     let name = property.as_str();
-    format!(in alloc; "the television's {name} is no address of the form {form}").ok()
+    match told(alloc, course, name) {
+        Some(text) => format!(in alloc;
+            "the television's {name} is no address of the form {form}: {text}"
+        ),
+        None => format!(in alloc; "the television's {name} is no address of the form {form}"),
+    }
+    .ok()
 }
 
 /// From where to where an address moved.

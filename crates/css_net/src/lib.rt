@@ -14,6 +14,7 @@ mod names;
 mod net_outside;
 mod pace;
 mod partings;
+mod seen;
 mod session;
 mod sessions;
 mod sockets;
@@ -22,4 +23,5 @@ mod watch;
 
 pub use css_devices::{ChildSpawner, StdSink, StdSource};
 pub use net_outside::NetOutside;
+pub use seen::Seen;
 pub use sockets::NetRuntime;

@@ -1,6 +1,7 @@
 ghost use Rattle.std.specs.Prelude.{◌≡◌, None};
 
 use crate::log::Log;
+use crate::seen::Seen;
 use crate::sockets::{NetRuntime, Sockets};
 use css_devices::Tally;
 use css_num::Text;
@@ -15,6 +16,7 @@ pub struct NetOutside<R: NetRuntime> {
     rt: R,
     tally: Tally,
     sockets: Sockets,
+    seen: Seen,
 }
 
 impl<R: NetRuntime> NetOutside<R> {
@@ -25,7 +27,13 @@ impl<R: NetRuntime> NetOutside<R> {
             rt,
             tally: Tally::new(),
             sockets: Sockets::new(alloc, Log::of(&rt)),
+            seen: Seen::new(alloc),
         }
+    }
+
+    /// What the peers that were dialled have told.
+    pub fn seen(&self) -> &Seen {
+        &self.seen
     }
 
     /// How the last dial that failed did, where one was tried. One that isn't done, or may not begin yet, changes
@@ -68,6 +76,7 @@ impl<R: NetRuntime> Outside for NetOutside<R> {
             return self.tally.not_dialled(OutFault::Failed(Failure::Other));
         };
         let dialled = self.sockets.dial(&self.rt, kind, to, peer);
+        self.seen.dials(kind, peer, &dialled);
         self.tally.dialled(peer, dialled)
     }
 
@@ -80,17 +89,20 @@ impl<R: NetRuntime> Outside for NetOutside<R> {
     }
 
     fn send_datagram(&mut self, peer: u32, bytes: &[u8; 32]) -> Result<(), OutFault> {
+        self.seen.sends(peer);
         let sent = self.sockets.send_datagram(peer, bytes);
         self.tally.plain(sent)
     }
 
     fn take_datagram(&mut self, into: &mut [u8; 64]) -> Result<Option<(u32, usize)>, OutFault> {
         let taken = self.sockets.take_datagram(&self.rt, into);
+        self.seen.takes(&taken);
         self.tally.plain(taken)
     }
 
     fn take_text(&mut self, peer: u32) -> Result<Heard, OutFault> {
         let heard = self.sockets.take_text(&self.rt, peer);
+        self.seen.hears(peer, &heard);
         self.tally.plain(heard)
     }
 
