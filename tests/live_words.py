@@ -235,6 +235,6 @@ def statuses(port, program, check):
     refused_lines(check, program)
     offline(check, program)
     sockets(check, program, port)
-    companions(check, program, port + 8)
+    companions(check, program, port + 2)
     records(check, program)
     logged(check, program, port + 4)

@@ -9,6 +9,7 @@ const MOST_KEPT: usize = 32_768;
 const MOST_ADDED: usize = 4_096;
 
 const LINE_FEED: u8 = b'\n';
+
 const CARRIAGE_RETURN: u8 = b'\r';
 
 /// The last lines of an input.

@@ -1,5 +1,6 @@
 //! What a line names that isn't there.
 
+use crate::grammar::is_of_several;
 use std::alloc::Global;
 use std::str;
 
@@ -13,7 +14,10 @@ fn lack(verb: &str) -> Option<(&'static str, &'static str)> {
     Some(match verb {
         "take" => ("request", "wasn't sent"),
         "give" => ("take", "wasn't made, or has its answer"),
-        "land" => ("datagram", "wasn't made, or answers another companion's request"),
+        "land" => (
+            "datagram",
+            "wasn't made, or answers another companion's request",
+        ),
         "open" => ("session", "is open, or was before"),
         "text" | "up" => ("session", "isn't open, or has no text in flight"),
         "close" => ("session", "isn't open"),
@@ -21,18 +25,18 @@ fn lack(verb: &str) -> Option<(&'static str, &'static str)> {
     })
 }
 
-/// The verb of a schedule's line and the word behind it: the verb is the first word that is no number.
+/// The word behind so many others, empty where there is none.
+fn word_after(line: &str, count: usize) -> &str {
+    line.split(' ').nth(count).unwrap_or("")
+}
+
+/// The verb of a schedule's line, and the word behind it.
 fn verb_in(line: &str) -> (&str, &str) {
-    let mut verb = "";
-    for word in line.split(' ') {
-        if !verb.is_empty() {
-            return (verb, word);
-        }
-        if !word.bytes().all(|byte| byte.is_ascii_digit()) {
-            verb = word;
-        }
+    if is_of_several(line) {
+        (word_after(line, 4), word_after(line, 5))
+    } else {
+        (word_after(line, 3), word_after(line, 4))
     }
-    (verb, "")
 }
 
 /// What a schedule's line names that isn't there.

@@ -40,8 +40,7 @@ pub(crate) fn spent(alloc: Global, course: &Course<'_>) -> Option<String> {
         let requests = course.requests;
         return format!(in alloc;
             "the run ended before its last report: no response came to {requests} requests"
-        )
-        .ok();
+        ).ok();
     } else if !course.has_timestamps {
         NO_TIMESTAMPS
     } else if course.timestamps == 0 {

@@ -23,7 +23,7 @@ const SCHEDULE_VERBS: &str =
     "ask, take, give, land, wall, print, programme, timeline, change, speed, seek, open, text, up, present, close";
 
 /// Whether the fourth word is a number, as in a schedule of several companions: the verb stands there in one of one.
-fn is_of_several(line: &str) -> bool {
+pub(crate) fn is_of_several(line: &str) -> bool {
     match line.split(' ').nth(3) {
         Some(word) => !word.is_empty() && word.bytes().all(|byte| byte.is_ascii_digit()),
         None => false,

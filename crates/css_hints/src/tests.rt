@@ -65,7 +65,11 @@ fn check_all(rt: &impl Abort, alloc: Global, rows: &[Row]) {
 }
 
 /// A status; the words, the refused line and the last CSS-CII text; and what helps.
-type Row = (Status, (&'static str, &'static str, &'static str), &'static str);
+type Row = (
+    Status,
+    (&'static str, &'static str, &'static str),
+    &'static str,
+);
 
 /// Statuses of whose hints no run of the program tells, and of each other kind one.
 #[rattlefmt::skip]

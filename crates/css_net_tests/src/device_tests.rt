@@ -5,9 +5,11 @@ use css_devices::Tally;
 use css_net::{ChildSpawner, StdSink, StdSource};
 use css_num::Text;
 use css_outside::{Sink, Source, Spawner};
+use std::alloc::Global;
 use std::cell::Cell;
 use std::io;
 use std::io::ErrorKind;
+use std::process::Abort;
 use std::time::{Clock, Duration};
 
 #[test]
@@ -20,6 +22,38 @@ fn bytes_go_through_the_streams(rt: HostRuntime) {
     let mut sink = StdSink::new(&mut held, &rt);
     let written = sink.write(read).expect(&rt, "a piece");
     assert!(rt; written == 7 && held.as_slice() == b"a line\n".as_slice());
+}
+
+fn add_lines(rt: &impl Abort, lines: &mut Vec<u8>, line: &[u8], count: usize) {
+    for _ in 0..count {
+        lines.extend_from_slice(line).expect(rt, "memory");
+    }
+}
+
+/// Some 50,000 bytes. Line 9,002 is the marked one.
+fn many_lines(rt: &impl Abort, alloc: Global) -> Vec<u8> {
+    let mut lines = Vec::new(alloc);
+    add_lines(rt, &mut lines, b"first\r\n", 1);
+    add_lines(rt, &mut lines, b"line\n", 9_000);
+    add_lines(rt, &mut lines, b"marked\n", 1);
+    add_lines(rt, &mut lines, b"line\n", 900);
+    lines
+}
+
+#[test]
+fn a_source_keeps_its_last_lines(rt: HostRuntime) {
+    let input = many_lines(&rt, rt.alloc());
+    let mut source = StdSource::new(input.as_slice(), &rt);
+    source.keep_lines();
+    let mut piece = [0u8; 1_000];
+    for _ in 0..60 {
+        source.read(&mut piece).expect(&rt, "a piece");
+    }
+    assert!(rt; source.first_line_returned());
+    assert!(rt; source.line(1).is_none());
+    assert!(rt; source.line(9_001) == Some(b"line".as_slice()));
+    assert!(rt; source.line(9_002) == Some(b"marked".as_slice()));
+    assert!(rt; source.line(9_003) == Some(b"line".as_slice()));
 }
 
 #[test]
