@@ -12,4 +12,4 @@ pub use answer::{Answer, Local};
 pub use css_num::Span;
 pub use estimate::Estimate;
 pub use fault::AcceptFault;
-pub use width::{scaled_width, span};
+pub use width::{scaled_width, span, width_at};

@@ -40,6 +40,14 @@ pub fn span(answer: &Answer, local: &Local, reading: u64) -> Span
     }
 }
 
+/// The width of an answer's span at a reading, in nanoseconds: its upper end less its lower end.
+pub fn width_at(answer: &Answer, local: &Local, reading: u64) -> i128
+    requires { reading < LIMIT }
+    ensures { result ≡ wall_clock.hi local.now answer.now reading -ℤ wall_clock.lo local.now answer.now reading }
+{
+    highest(answer, local, reading) - lowest(answer, local, reading)
+}
+
 #[tactic(auto, unfolding(css_model::specs::WallClock::lo))]
 fn lowest(answer: &Answer, local: &Local, reading: u64) -> i128
     requires { reading < LIMIT }

@@ -1,5 +1,4 @@
 //! The lines of a watch: one of each kind, in its words.
-ghost use Rattle.std.specs.Str.{IsUtf8};
 
 use crate::common::{check, words};
 use css_cii::{State, apply_to, read_message};
@@ -10,8 +9,8 @@ use css_num::{Memory, Rate, Span, Text};
 use css_span::Answer;
 use css_tsmsg::{TsFault, TsName, read_control};
 use css_watch_lines::{
-    Known, answer_line, cause_line, control_line, dial_line, end_line, known_line, refused_line,
-    slept_line, state_line, visit_line,
+    Known, Ticks, answer_line, cause_line, control_line, dial_line, end_line, known_line,
+    refused_line, slept_line, state_line, visit_line,
 };
 use std::alloc::Global;
 use std::process::Abort;
@@ -143,7 +142,7 @@ fn refusals_are_told_by_their_names(rt: HostRuntime) {
 fn a_report_has_all_that_carries_it_on(rt: HostRuntime) {
     let alloc = rt.alloc();
     let known = Known {
-        ticks: Span {
+        ticks: Ticks {
             lo: -3,
             hi: 900_000,
         },
@@ -177,17 +176,9 @@ fn a_report_has_its_cause_else(rt: HostRuntime) {
     check_line(&rt, alloc, cause_line(alloc, 1, 5, &cause, ""), line);
 }
 
-/// Why a visit ended.
-fn reason(rt: &impl Abort, alloc: Global, words: &str) -> Text
-    ensures { IsUtf8 result }
-{
-    Text::of(alloc, words.as_bytes()).expect(rt, "memory")
-}
-
 #[test]
 fn an_end_says_why(rt: HostRuntime) {
     let alloc = rt.alloc();
-    let why = reason(&rt, alloc, "closed TS");
     let line = r#"{"event":"end","number":12,"why":"closed TS"}"#;
-    check_line(&rt, alloc, end_line(alloc, 12, &why), line);
+    check_line(&rt, alloc, end_line(alloc, 12, "closed TS"), line);
 }

@@ -12,9 +12,10 @@ use Rattle.css_cii.proofs.Laws.{change_ordered, change_utf8}
 use Rattle.css_cii.proofs.Utf8.{full-utf8}
 use Rattle.css_tsmsg.proofs.ReadBack.{control_ordered, control_utf8}
 use Rattle.css_watch_lines.specs.Lines.{Line, Visit, Dial, StateTold, ControlTold, Answered, Refused, SleptAt, Known}
-use Rattle.css_watch_lines.specs.Lines.{Unknown, Ended, line_members, line_data, span_data}
+use Rattle.css_watch_lines.specs.Lines.{Unknown, Ended, line_members, line_data, span_data, ticks_data}
+use Rattle.css_watch_lines.specs.declared.known.Ticks.{Ticks}
 use Rattle.css_watch_lines.specs.Lines.{signed, IsReadBack}
-use Rattle.css_watch_lines.specs.Ranges.{IsTellable, EndsFit}
+use Rattle.css_watch_lines.specs.Ranges.{IsTellable, EndsFit, TicksFit}
 use Rattle.css_watch_lines.specs.Writable.{AreWritable}
 use Rattle.css_watch_lines.proofs.Spelling.{signed_utf8, reading_utf8, service_utf8, outcome_utf8, landing_utf8}
 use Rattle.css_watch_lines.proofs.Spelling.{fault_utf8, cause_utf8}
@@ -69,6 +70,10 @@ line_writable (Ended count why) h = record { plain = (tt, (h.0, (tt, tt))); shal
 -- the ends of a span
 span_utf8 : (span : Interval) → EndsFit span → HasUtf8 (span_data span)
 span_utf8 span h = (signed_utf8 span.lo h.lo, (signed_utf8 span.hi h.hi, tt))
+
+-- the ticks of a report
+ticks_utf8 : (ticks : Ticks) → TicksFit ticks → HasUtf8 (ticks_data ticks)
+ticks_utf8 ticks h = (signed_utf8 ticks.lo h.lo, (signed_utf8 ticks.hi h.hi, tt))
 
 -- a state, all of which is said
 state_utf8 : (state : State) → IsUtf8State state → HasUtf8 (object (change_members (full_change state)))
@@ -173,7 +178,7 @@ line_utf8 (Known count reading told) h = (
             tt,
             (
               IsUtf8-are_ascii _ refl,
-              span_utf8 told.ticks h.1.ticks,
+              ticks_utf8 told.ticks h.1.ticks,
               (IsUtf8-are_ascii _ refl, span_utf8 told.wall h.1.wall, tt),
             ),
           ),

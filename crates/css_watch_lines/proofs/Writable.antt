@@ -17,7 +17,8 @@ use Rattle.css_cii.specs.declared.state.State.{State}
 use Rattle.css_cii.proofs.RoundTrips.{plain_change, low_change}
 use Rattle.css_tsmsg.specs.Controls.{control_data, IsInRange}
 use Rattle.css_tsmsg.proofs.RoundTrips.{control_plain}
-use Rattle.css_watch_lines.specs.Lines.{whole, signed, span_data}
+use Rattle.css_watch_lines.specs.Lines.{whole, signed, span_data, ticks_data}
+use Rattle.css_watch_lines.specs.declared.known.Ticks.{Ticks}
 use Rattle.css_watch_lines.specs.Writable.{IsWritable, AreWritable}
 
 -- ---- members
@@ -76,6 +77,10 @@ signed_writable z small = record { plain = signed_plain z small; shallow = omega
 -- a span
 pub span_writable : (span : Interval) → IsWritable (span_data span)
 span_writable span = record { plain = (tt, (tt, tt)); shallow = omega arith }
+
+-- the ticks of a report
+pub ticks_writable : (ticks : Ticks) → IsWritable (ticks_data ticks)
+ticks_writable ticks = record { plain = (tt, (tt, tt)); shallow = omega arith }
 
 -- a tick rate
 pub rate_writable : (rate : TickRate) → IsTickRate rate → IsWritable (rate_data rate)

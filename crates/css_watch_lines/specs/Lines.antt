@@ -20,6 +20,7 @@ use Rattle.css_companion.specs.Printed.{cause_words, fault_words}
 use Rattle.css_companion.specs.declared.report.Cause.{Cause}
 use Rattle.css_watch_lines.specs.Words.{service_words, outcome_words, landing_words}
 use Rattle.css_watch_lines.specs.declared.known.Known.{Known as Ticking}
+use Rattle.css_watch_lines.specs.declared.known.Ticks.{Ticks}
 
 -- what a line tells; `number` counts visits, or reports, from 1
 pub data Line : Type 0 where
@@ -60,6 +61,10 @@ whole n = number (unsigned n)
 -- the same of one that may be below zero
 abbrev pub signed : ℤ → Data
 signed z = number (of_integer z)
+
+-- the first and the last tick
+abbrev pub ticks_data : Ticks → Data
+ticks_data ticks = array (item (digits ticks.lo) (item (digits ticks.hi) no_items))
 
 -- the two ends of a span
 abbrev pub span_data : Interval → Data
@@ -126,7 +131,7 @@ line_members (Known count reading told) =
     (member (codes "rate") (rate_data told.rate)
     (member (codes "reading") (time reading)
     (member (codes "speed") (signed told.speed)
-    (member (codes "ticks") (span_data told.ticks)
+    (member (codes "ticks") (ticks_data told.ticks)
     (member (codes "wall") (span_data told.wall) no_members)))))))
 line_members (Unknown count reading cause detail) =
     member (codes "cause") (string (cause_words cause))

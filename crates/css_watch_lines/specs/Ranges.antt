@@ -9,11 +9,17 @@ use Rattle.css_tsmsg.specs.Controls.{IsInRange}
 use Rattle.css_watch_lines.specs.Lines.{Line, Visit, Dial, StateTold, ControlTold, Answered, Refused, SleptAt, Known}
 use Rattle.css_watch_lines.specs.Lines.{Unknown, Ended}
 use Rattle.css_watch_lines.specs.declared.known.Known.{Known as Ticking}
+use Rattle.css_watch_lines.specs.declared.known.Ticks.{Ticks}
 
 -- the ends of a span fit in 128 bits
 pub record EndsFit (span : Interval) : Type 0 where
   pub lo : unsigned_abs span.lo < 2 ^ 128
   pub hi : unsigned_abs span.hi < 2 ^ 128
+
+-- so do ticks
+pub record TicksFit (ticks : Ticks) : Type 0 where
+  pub lo : unsigned_abs ticks.lo < 2 ^ 128
+  pub hi : unsigned_abs ticks.hi < 2 ^ 128
 
 -- the number and the reading of a report or a visit
 pub record AreCounted (count reading : ℕ) : Type 0 where
@@ -22,7 +28,7 @@ pub record AreCounted (count reading : ℕ) : Type 0 where
 
 -- what a report with ticks tells
 pub record IsTicking (told : Ticking) : Type 0 where
-  pub ticks : EndsFit told.ticks
+  pub ticks : TicksFit told.ticks
   pub wall : EndsFit told.wall
   pub error : told.error < 2 ^ 32
   pub rate : IsTickRate told.rate

@@ -1,10 +1,17 @@
 use css_num::{Rate, Span};
 
+/// The ticks of a report: one from `lo` to `hi`, both included.
+#[derive(Clone, Copy, Debug, PartialEq, Eq)]
+pub struct Ticks {
+    pub lo: i128,
+    pub hi: i128,
+}
+
 /// What a report with ticks tells. Whoever reads it can carry it on without the companion.
 #[derive(Clone, Copy, Debug, PartialEq, Eq)]
 pub struct Known {
     /// The ticks of which the television may be presenting one.
-    pub ticks: Span,
+    pub ticks: Ticks,
     /// The span of the television's wall clock at the report's reading, in nanoseconds.
     pub wall: Span,
     /// The greatest error of the television's oscillator, in 1/256 ppm, as the answer behind the span declares it.

@@ -11,8 +11,9 @@ mod lines;
 mod members;
 mod words;
 
-pub use known::Known;
+pub use known::{Known, Ticks};
 pub use lines::{
     answer_line, cause_line, control_line, dial_line, end_line, known_line, refused_line,
     slept_line, state_line, visit_line,
 };
+pub use words::landing_words;

@@ -1,5 +1,4 @@
 ghost use Rattle.std.specs.Prelude.{◌≡◌, ◌<◌, ◌^◌, IfOk, OnOk, Ok, Err};
-ghost use Rattle.std.specs.Str.{IsUtf8};
 ghost use Rattle.css_cii.specs.Texts.{IsUtf8State};
 ghost use Rattle.css_tsmsg.specs.Controls.{IsInRange};
 ghost use Rattle.css_watch_lines.specs.Lines as lines;
@@ -167,7 +166,7 @@ pub fn known_line(alloc: Global, number: u64, reading: u64, known: &Known) -> Re
         .with_small("error", known.error)?
         .with_rate("rate", known.rate)?
         .with_speed("speed", known.speed)?
-        .with_span("ticks", known.ticks)?
+        .with_ticks("ticks", &known.ticks)?
         .with_span("wall", known.wall)?
         .line()
 }
@@ -193,15 +192,14 @@ pub fn cause_line(
         .line()
 }
 
-/// The line where a visit ends: `event` is `end`. `why`, which is UTF-8, says what ended it.
-pub fn end_line(alloc: Global, number: u64, why: &Text) -> Result<Text, Memory>
-    requires small { number < 10 ^ 18 }
-    requires words { IsUtf8 why.now }
+/// The line where a visit ends: `event` is `end`. `why` says what ended it.
+pub fn end_line(alloc: Global, number: u64, why: &str) -> Result<Text, Memory>
+    requires { number < 10 ^ 18 }
     ensures text { IfOk result (λ text. text ≡ lines.line_text (lines.Ended number why.now)) }
     ensures read_back { OnOk result (lines.IsReadBack (lines.line_data (lines.Ended number why.now))) }
 {
     Members::of_event(alloc, "end")?
         .with_number("number", number)?
-        .with_text("why", why)?
+        .with_words("why", why)?
         .line()
 }

@@ -6,6 +6,7 @@ ghost use Rattle.css_cii.specs.Texts.{rate_data};
 ghost use Rattle.css_watch_lines.specs.Lines as lines;
 ghost use Rattle.css_watch_lines.specs.Writable.{IsWritable, AreWritable, told_in};
 
+use crate::known::Ticks;
 use css_cii::rate_value;
 use css_num::{Memory, Rate, Span, Text};
 use css_text::{Map, write_value};
@@ -44,6 +45,15 @@ fn span_value(alloc: Global, span: Span) -> Result<Value, AllocError>
 {
     let lo = digits_value(alloc, span.lo)?;
     let hi = digits_value(alloc, span.hi)?;
+    json!(in alloc; [lo, hi])
+}
+
+/// The value of the ticks of a report: the first and the last.
+fn ticks_value(alloc: Global, ticks: &Ticks) -> Result<Value, AllocError>
+    ensures { IfOk result (λ value. view value ≡ lines.ticks_data ticks.now) }
+{
+    let lo = digits_value(alloc, ticks.lo)?;
+    let hi = digits_value(alloc, ticks.hi)?;
     json!(in alloc; [lo, hi])
 }
 
@@ -146,6 +156,17 @@ impl Members {
         ensures writable { IfOk result (λ members. AreWritable (told_in members)) }
     {
         let value = Value::from(speed);
+        self.with_value(name, value)
+    }
+
+    /// These members and the ticks of a report.
+    pub(crate) fn with_ticks(self, name: &str, ticks: &Ticks) -> Result<Members, Memory>
+        requires members { AreWritable (told_in self) }
+        ensures value { IfOk result (λ members.
+            told_in members ≡ put name.now (lines.ticks_data ticks.now) (told_in self)) }
+        ensures writable { IfOk result (λ members. AreWritable (told_in members)) }
+    {
+        let value = ticks_value(self.alloc, ticks)?;
         self.with_value(name, value)
     }
 

@@ -37,7 +37,7 @@ fn undecodable_words(fault: WcFault) -> &'static str
 }
 
 /// What became of a datagram.
-pub(crate) fn landing_words(landing: &Landing) -> &'static str
+pub fn landing_words(landing: &Landing) -> &'static str
     ensures { result.now ≡ words.landing_words landing.now }
 {
     match landing {

@@ -11,9 +11,9 @@ abbrev told : After-line → Line
 told c = Ended c.args.number c.args.why.now
 
 -- its members
-members : (c : After-line) → told_in c.in_ok-with_text.field-0 ≡ line_members (told c)
+members : (c : After-line) → told_in c.in_ok-with_words.field-0 ≡ line_members (told c)
 members c =
-    then _ _ c.in_ok-with_text.ensures.value
+    then _ _ c.in_ok-with_words.ensures.value
     (then _ _ c.in_ok-with_number.ensures.value c.in_ok-of_event.ensures.value)
 
 pub returns-clause-text : goal.returns-clause-text
