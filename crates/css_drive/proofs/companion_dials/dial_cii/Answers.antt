@@ -21,8 +21,7 @@ returns-clause-goes g c before started h s k d =
     let to = c.args.config.now.cii in
     let tried = rw c.in-Some.is at c.in_ok-peer.ensures.told in
     let after = g.W.Observes.saw started c.try_dial.new.observer in
-    let from = standpoint c.args.config.now (Dialling kind.Cii to ∷ h) in
-    let saw = rw c.in-Some.is at c.in_ok-peer.ensures.saw from started _ s.saw_so in
+    let saw = rw c.in-Some.is at c.in_ok-peer.ensures.saw (standpoint _ (_ ∷ h)) started _ s.saw_so in
     comes (stands_saw s (Dial kind.Cii to) t (Dialled kind.Cii p ∷ Dialling kind.Cii to ∷ []) (inl (p, refl)) _
     tried.told tried.faults after saw _
     (ap {A = Facts} (λ x. record x { cii = Some p; cii_open = Some p }) s.facts)
@@ -36,8 +35,7 @@ returns-in_default-clause-goes g c before started h s k d =
     let to = c.args.config.now.cii in
     let tried = rw c.in_default.is at c.in_ok-peer.ensures.told in
     let after = g.W.Observes.saw started c.try_dial.new.observer in
-    let from = standpoint c.args.config.now (Dialling kind.Cii to ∷ h) in
-    let saw = rw c.in_default.is at c.in_ok-peer.ensures.saw from started _ s.saw_so in
+    let saw = rw c.in_default.is at c.in_ok-peer.ensures.saw (standpoint _ (_ ∷ h)) started _ s.saw_so in
     comes (stands_saw s (Dial kind.Cii to) t (NotDialled kind.Cii ∷ Dialling kind.Cii to ∷ []) (inr refl) _
     tried.told tried.faults after saw _ s.facts
     (peers_as _ _ _ _ h _ s.peers tried.later (λ q. refl)))

@@ -23,8 +23,7 @@ returns-clause-goes g c before started h s k d =
     calls.ts_place x) (sym (c.state.ensures.meaning h k.stands)) ∙ gives) in
     let tried = rw c.in-Some-2.is at c.in_ok-peer.ensures.told in
     let after = g.W.Observes.saw started c.try_dial.new.observer in
-    let from = standpoint c.args.config.now (Dialling kind.Ts to ∷ h) in
-    let saw = rw c.in-Some-2.is at c.in_ok-peer.ensures.saw from started _ s.saw_so in
+    let saw = rw c.in-Some-2.is at c.in_ok-peer.ensures.saw (standpoint _ (_ ∷ h)) started _ s.saw_so in
     c.introduce.ensures.goes refl refl before started (Dialled kind.Ts p ∷ Dialling kind.Ts to ∷ h)
     (stands_saw s (Dial kind.Ts to) t (Dialled kind.Ts p ∷ Dialling kind.Ts to ∷ []) (inl (p, refl)) _ tried.told
     tried.faults after saw _
@@ -41,8 +40,7 @@ returns-in_default-2-clause-goes g c before started h s k d =
     calls.ts_place x) (sym (c.state.ensures.meaning h k.stands)) ∙ gives) in
     let tried = rw c.in_default-2.is at c.in_ok-peer.ensures.told in
     let after = g.W.Observes.saw started c.try_dial.new.observer in
-    let from = standpoint c.args.config.now (Dialling kind.Ts to ∷ h) in
-    let saw = rw c.in_default-2.is at c.in_ok-peer.ensures.saw from started _ s.saw_so in
+    let saw = rw c.in_default-2.is at c.in_ok-peer.ensures.saw (standpoint _ (_ ∷ h)) started _ s.saw_so in
     comes (stands_saw s (Dial kind.Ts to) t (NotDialled kind.Ts ∷ Dialling kind.Ts to ∷ []) (inr refl) _ tried.told
     tried.faults after saw _ s.facts
     (peers_as _ _ _ _ h _ s.peers tried.later (λ q. refl)))

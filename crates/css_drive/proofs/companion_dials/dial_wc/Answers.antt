@@ -23,8 +23,7 @@ returns-clause-goes g c before started h s k d =
     calls.wc_place x) (sym (c.state.ensures.meaning h k.stands)) ∙ gives) in
     let tried = rw c.in-Some-2.is at c.in_ok-peer.ensures.told in
     let after = g.W.Observes.saw started c.try_dial.new.observer in
-    let from = standpoint c.args.config.now (Dialling kind.Wc to ∷ h) in
-    let saw = rw c.in-Some-2.is at c.in_ok-peer.ensures.saw from started _ s.saw_so in
+    let saw = rw c.in-Some-2.is at c.in_ok-peer.ensures.saw (standpoint _ (_ ∷ h)) started _ s.saw_so in
     comes (stands_saw s (Dial kind.Wc to) t (Dialled kind.Wc p ∷ Dialling kind.Wc to ∷ []) (inl (p, refl)) _
     tried.told tried.faults after saw _
     (ap {A = Facts} (λ x. record x { wc = Some p }) s.facts)
@@ -40,8 +39,7 @@ returns-in_default-2-clause-goes g c before started h s k d =
     calls.wc_place x) (sym (c.state.ensures.meaning h k.stands)) ∙ gives) in
     let tried = rw c.in_default-2.is at c.in_ok-peer.ensures.told in
     let after = g.W.Observes.saw started c.try_dial.new.observer in
-    let from = standpoint c.args.config.now (Dialling kind.Wc to ∷ h) in
-    let saw = rw c.in_default-2.is at c.in_ok-peer.ensures.saw from started _ s.saw_so in
+    let saw = rw c.in_default-2.is at c.in_ok-peer.ensures.saw (standpoint _ (_ ∷ h)) started _ s.saw_so in
     comes (stands_saw s (Dial kind.Wc to) t (NotDialled kind.Wc ∷ Dialling kind.Wc to ∷ []) (inr refl) _ tried.told
     tried.faults after saw _ s.facts
     (peers_as _ _ _ _ h _ s.peers tried.later (λ q. refl)))

@@ -23,8 +23,7 @@ returns-in-Ok-clause-goes g c ts at_ts before started h s k when =
     let d1 = d ∙ ap (λ b. SendText p (setup_text b)) (sym k.setup) ∙ ap (λ b. SendText p b) (sym (c.bytes.ensures
     ∙ c.in_ok-text.ensures.text)) in
     let gone = rw c.in-Ok-Gone.field-0-is at c.in-Ok-Gone.ensures.told in
-    let more = rw c.in-Ok-Gone.field-0-is at c.in-Ok-Gone.ensures.saw (standpoint c.args.config.now h) started _
-    s.saw_so in
+    let more = rw c.in-Ok-Gone.field-0-is at c.in-Ok-Gone.ensures.saw (standpoint _ h) started _ s.saw_so in
     let saw : after (noted c.args.config.now (Gone p ∷ h)) = subst after (sym (calls.wrote_noted c.args.config.now p text
     outcome.Gone h (calls.ts_at c.args.config.now before _ _ c.args.live.now h s p at_ts))) more in
     calls.over_comes s (SendText p text) d1 (Gone p) (outcome.Gone, refl) _ gone.told gone.same after saw _ _ _
@@ -46,8 +45,7 @@ returns-in-Ok-Gone-clause-goes g c ts at_ts before started h s k when =
     let d1 = d ∙ ap (λ b. SendText p (setup_text b)) (sym k.setup) ∙ ap (λ b. SendText p b) (sym (c.bytes.ensures
     ∙ c.in_ok-text.ensures.text)) in
     let gone = rw c.in-Ok-Gone.field-0-is at c.in-Ok-Gone.ensures.told in
-    let more = rw c.in-Ok-Gone.field-0-is at c.in-Ok-Gone.ensures.saw (standpoint c.args.config.now h) started _
-    s.saw_so in
+    let more = rw c.in-Ok-Gone.field-0-is at c.in-Ok-Gone.ensures.saw (standpoint _ h) started _ s.saw_so in
     let saw : after (noted c.args.config.now (Gone p ∷ h)) = subst after (sym (calls.wrote_noted c.args.config.now p text
     outcome.Gone h (calls.ts_at c.args.config.now before _ _ c.args.live.now h s p at_ts))) more in
     calls.over_stops s (SendText p text) d1 (Gone p) (outcome.Gone, refl) _ gone.told gone.same after saw (knows_lawful

@@ -26,8 +26,7 @@ returns-in-Ok-Quiet-clause-goes g c before started h s k d =
     let is = calls.open_ts c.args.config.now before _ _ c.args.live.now h s p c.in-Some.is in
     let told = rw c.in-Ok-Quiet.field-0-is at c.in-Ok-Quiet.ensures.told in
     let after = g.W.Observes.saw started c.hear.new.observer in
-    let more = rw c.in-Ok-Quiet.field-0-is at c.in-Ok-Quiet.ensures.saw (standpoint c.args.config.now h) k started _
-    s.saw_so in
+    let more = rw c.in-Ok-Quiet.field-0-is at c.in-Ok-Quiet.ensures.saw (standpoint _ h) k started _ s.saw_so in
     let saw : after (noted c.args.config.now (Quiet p ∷ h)) = subst after (sym (calls.heard_noted c.args.config.now p (heard.Quiet)
     session.Ts h (calls.ts_at c.args.config.now before _ _ c.args.live.now h s p c.in-Some.is))) more in
     comes (stands_saw s (TakeText p) t (Quiet p ∷ []) (heard.Quiet, refl) _ told.told (ap (λ x. x.faults) told.same) after saw _ s.facts
@@ -42,8 +41,7 @@ returns-in-Ok-clause-goes g c before started h s k d =
     let is = calls.open_ts c.args.config.now before _ _ c.args.live.now h s p c.in-Some.is in
     let told = rw c.in-Ok-Closed.field-0-is at c.in-Ok-Closed.ensures.told in
     let after = g.W.Observes.saw started c.hear.new.observer in
-    let more = rw c.in-Ok-Closed.field-0-is at c.in-Ok-Closed.ensures.saw (standpoint c.args.config.now h) k started _
-    s.saw_so in
+    let more = rw c.in-Ok-Closed.field-0-is at c.in-Ok-Closed.ensures.saw (standpoint _ h) k started _ s.saw_so in
     let saw : after (noted c.args.config.now (Closed p ∷ h)) = subst after (sym (calls.heard_noted c.args.config.now p (heard.Closed)
     session.Ts h (calls.ts_at c.args.config.now before _ _ c.args.live.now h s p c.in-Some.is))) more in
     calls.over_comes s (TakeText p) t (Closed p) (heard.Closed, refl) _ told.told told.same after saw _ _ _
@@ -57,8 +55,7 @@ returns-in-Err-lose_ts-clause-goes g c before started h s k d =
     let t = calls.ts_text_due c.args.config.now before _ _ c.args.live.now h s d _ c.in-Some.is in
     let told = rw c.in-Ok-Closed.field-0-is at c.in-Ok-Closed.ensures.told in
     let after = g.W.Observes.saw started c.hear.new.observer in
-    let more = rw c.in-Ok-Closed.field-0-is at c.in-Ok-Closed.ensures.saw (standpoint c.args.config.now h) k started _
-    s.saw_so in
+    let more = rw c.in-Ok-Closed.field-0-is at c.in-Ok-Closed.ensures.saw (standpoint _ h) k started _ s.saw_so in
     let saw : after (noted c.args.config.now (Closed p ∷ h)) = subst after (sym (calls.heard_noted c.args.config.now p (heard.Closed)
     session.Ts h (calls.ts_at c.args.config.now before _ _ c.args.live.now h s p c.in-Some.is))) more in
     calls.over_stops s (TakeText p) t (Closed p) (heard.Closed, refl) _ told.told told.same after saw (knows_lawful _ _ h k)
@@ -72,8 +69,7 @@ returns-in-Ok-take_in_ts-clause-goes g c before started h s k d =
     let is = calls.open_ts c.args.config.now before _ _ c.args.live.now h s p c.in-Some.is in
     let told = rw c.in-Ok-Text.field-0-is at c.in-Ok-Text.ensures.told in
     let after = g.W.Observes.saw started c.hear.new.observer in
-    let more = rw c.in-Ok-Text.field-0-is at c.in-Ok-Text.ensures.saw (standpoint c.args.config.now h) k started _
-    s.saw_so in
+    let more = rw c.in-Ok-Text.field-0-is at c.in-Ok-Text.ensures.saw (standpoint _ h) k started _ s.saw_so in
     let saw : after (noted c.args.config.now (Heard p text ∷ h)) = subst after (sym (calls.heard_noted c.args.config.now p (heard.Text text)
     session.Ts h (calls.ts_at c.args.config.now before _ _ c.args.live.now h s p c.in-Some.is))) more in
     comes (stands_saw s (TakeText p) t (Heard p text ∷ []) (heard.Text text, refl) _ told.told (ap (λ x. x.faults) told.same) after saw _ s.facts
@@ -87,8 +83,7 @@ returns-in-Err-take_in_ts-clause-goes g c before started h s k d =
     let t = calls.ts_text_due c.args.config.now before _ _ c.args.live.now h s d _ c.in-Some.is in
     let told = rw c.in-Ok-Text.field-0-is at c.in-Ok-Text.ensures.told in
     let after = g.W.Observes.saw started c.hear.new.observer in
-    let more = rw c.in-Ok-Text.field-0-is at c.in-Ok-Text.ensures.saw (standpoint c.args.config.now h) k started _
-    s.saw_so in
+    let more = rw c.in-Ok-Text.field-0-is at c.in-Ok-Text.ensures.saw (standpoint _ h) k started _ s.saw_so in
     let saw : after (noted c.args.config.now (Heard p text ∷ h)) = subst after (sym (calls.heard_noted c.args.config.now p (heard.Text text)
     session.Ts h (calls.ts_at c.args.config.now before _ _ c.args.live.now h s p c.in-Some.is))) more in
     calls.over_stops s (TakeText p) t (Heard p text) (heard.Text text, refl) _ told.told told.same after saw
