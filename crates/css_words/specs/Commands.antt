@@ -8,6 +8,7 @@ use Rattle.css_words.specs.Options.{◌>>=◌}
 use Rattle.css_words.specs.Pair.{PairAsked, pair_in, pair_of}
 use Rattle.css_words.specs.Relay.{RelayAsked, relay_in, relay_of}
 use Rattle.css_words.specs.Tv.{TvAsked, tv_in, tv_of}
+use Rattle.css_words.specs.Watch.{WatchAsked, watch_in, watch_of}
 use Rattle.css_words.specs.declared.command.Command.{Command}
 use Rattle.css_words.specs.declared.command.Command.TheVariants as command
 use Rattle.css_words.specs.declared.fault.WordsFault.{WordsFault}
@@ -23,6 +24,7 @@ pub data Asked : Type 0 where
   Tv : TvAsked → Asked
   Pair : PairAsked → Asked
   Relay : RelayAsked → Asked
+  Watch : WatchAsked → Asked
   Generate : GeneratorAsked → Asked
   Survey : GeneratorAsked → Asked
 
@@ -35,6 +37,7 @@ asked_of (command.Companion words) = Companion (companion_of words)
 asked_of (command.Tv words) = Tv (tv_of words)
 asked_of (command.Pair words) = Pair (pair_of words)
 asked_of (command.Relay words) = Relay (relay_of words)
+asked_of (command.Watch words) = Watch (watch_of words)
 asked_of (command.Generate words) = Generate (generator_of words)
 asked_of (command.Survey words) = Survey (generator_of words)
 
@@ -58,6 +61,7 @@ named name rest words =
     else if bytes_eq name (codes "tv") then (tv_in words >>= λ asked. Ok (Tv asked))
     else if bytes_eq name (codes "pair") then (pair_in words >>= λ asked. Ok (Pair asked))
     else if bytes_eq name (codes "relay") then (relay_in words >>= λ asked. Ok (Relay asked))
+    else if bytes_eq name (codes "watch") then (watch_in words >>= λ asked. Ok (Watch asked))
     else if bytes_eq name (codes "generate") then (generator_in words >>= λ asked. Ok (Generate asked))
     else if bytes_eq name (codes "survey") then (generator_in words >>= λ asked. Ok (Survey asked))
     else Err Usage

@@ -10,6 +10,7 @@ use Rattle.css_words.specs.Generator.{generator_options}
 use Rattle.css_words.specs.Pair.{pair_options}
 use Rattle.css_words.specs.Relay.{relay_options}
 use Rattle.css_words.specs.Tv.{tv_flags, tv_options}
+use Rattle.css_words.specs.Watch.{watch_options}
 use Rattle.css_words.specs.declared.fault.WordsFault.TheVariants.{Usage}
 
 -- the names of the options and flags of a command
@@ -19,6 +20,7 @@ options_of_command name =
     else if bytes_eq name (codes "tv") then tv_options ++ tv_flags
     else if bytes_eq name (codes "pair") then pair_options ++ tv_flags
     else if bytes_eq name (codes "relay") then relay_options
+    else if bytes_eq name (codes "watch") then watch_options
     else if bytes_eq name (codes "generate") then generator_options
     else if bytes_eq name (codes "survey") then generator_options
     else []

@@ -6,6 +6,7 @@ pub mod Bounds
 pub mod Tv
 pub mod Recorded
 pub mod Companion
+pub mod Watch
 pub mod Written
 pub mod Pair
 pub mod Relay

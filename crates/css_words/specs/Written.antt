@@ -4,7 +4,7 @@ use Rattle.std.specs.Str.{IsUtf8}
 use Rattle.css_tsmsg.specs.Presentations.{IsPresentation}
 use Rattle.css_tsmsg.specs.declared.bound.Bound.{Bound}
 use Rattle.css_words.specs.declared.command.Command.{Command}
-use Rattle.css_words.specs.declared.command.Command.TheVariants.{Companion, Tv, Pair, Relay}
+use Rattle.css_words.specs.declared.command.Command.TheVariants.{Companion, Tv, Pair, Relay, Watch}
 use Rattle.css_words.specs.declared.words.CompanionOptions.{CompanionOptions}
 
 -- the times of a presentation are in range, and each is infinite on its own side alone
@@ -23,4 +23,5 @@ IsWritable (Companion words) = AreWritable words.options
 IsWritable (Tv words) = IsUtf8 words.host
 IsWritable (Pair words) = AreWritable words.companion × IsUtf8 words.tv.host
 IsWritable (Relay words) = IsUtf8 words.host
+IsWritable (Watch words) = IsUtf8 words.selector × IsUtf8 words.stem
 IsWritable _ = Unit {0}

@@ -11,7 +11,8 @@ use crate::generator::generator_words;
 use crate::pair::pair_words;
 use crate::relay::relay_words;
 use crate::tv::tv_words;
-use crate::words::{CompanionWords, GeneratorWords, PairWords, RelayWords, TvWords};
+use crate::watch::watch_words;
+use crate::words::{CompanionWords, GeneratorWords, PairWords, RelayWords, TvWords, WatchWords};
 use std::alloc::Global;
 
 /// A command of the program.
@@ -33,6 +34,8 @@ pub enum Command {
     Pair(PairWords),
     /// Is a companion that serves the television's wall clock on.
     Relay(RelayWords),
+    /// Is a companion that stays, and tells all that happens.
+    Watch(WatchWords),
     /// Writes a schedule.
     Generate(GeneratorWords),
     /// Replays a generated schedule, and writes one line on its intervals.
@@ -96,6 +99,7 @@ fn command_named(
         "tv" => Ok(Command::Tv(tv_words(alloc, words)?)),
         "pair" => Ok(Command::Pair(pair_words(alloc, words)?)),
         "relay" => Ok(Command::Relay(relay_words(alloc, words)?)),
+        "watch" => Ok(Command::Watch(watch_words(alloc, words)?)),
         "generate" => Ok(Command::Generate(generator_words(alloc, words)?)),
         "survey" => Ok(Command::Survey(generator_words(alloc, words)?)),
         _ => Err(WordsFault::Usage),
@@ -117,6 +121,8 @@ fn command_named(
 /// - `pair` takes what both take, without an address and a host.
 /// - `relay` needs `--cii`. It takes `--port`, a limit, `--ask-every`, `--local-error`, `--local-precision` and
 ///   `--host`.
+/// - `watch` needs `--cii`. It takes `--selector`, `--stem`, `--report-every`, `--ask-every`, `--local-error` and
+///   `--local-precision` as `companion` does, and `--seconds`, 1 to 31,536,000; without it a watch lasts a day.
 /// - A limit is `--turns`, 1 to 1,000,000, or `--seconds`, 1 to 31,536,000, and not both. With neither it is 10,000
 ///   turns.
 /// - `generate` and `survey` need `--seed`, 0 to 2^63 - 1, and `--lines`, 9 to 200,000. They take `--companions`, 2 to

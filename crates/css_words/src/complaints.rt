@@ -12,7 +12,7 @@ use crate::options::{
 };
 use crate::recorded::check_recorded;
 use crate::tv::{self, LOCAL_HOST, MOST_SECONDS, MOST_TURNS, check_host, limit, precision};
-use crate::{pair, relay};
+use crate::{pair, relay, watch};
 use clap::ArgMatches;
 use clap::error::ErrorKind;
 use css_num::Text;
@@ -249,7 +249,8 @@ fn check_generator(alloc: Global, matches: &ArgMatches<'_>) -> Result<(), Option
 // The first part that isn't as its command wants it.
 fn check(alloc: Global, name: &str, matches: &ArgMatches<'_>) -> Result<(), Option<Text>> {
     match name {
-        "companion" => {
+        // A watch has a part of a companion's options. It is wrong only in these.
+        "companion" | "watch" => {
             check_cii(alloc, matches)?;
             check_companion(alloc, matches)?;
             check_record(alloc, matches)
@@ -342,6 +343,7 @@ fn of_command(alloc: Global, name: &str, rest: &[String], words: &[String]) -> O
             of_options(alloc, name, pair::OPTIONS.as_slice(), flags, words)
         }
         "relay" => of_options(alloc, name, relay::OPTIONS.as_slice(), &[], words),
+        "watch" => of_options(alloc, name, watch::OPTIONS.as_slice(), &[], words),
         "generate" | "survey" => {
             of_options(alloc, name, generator::OPTIONS.as_slice(), &[], words)
         }

@@ -13,6 +13,7 @@ mod pair;
 mod recorded;
 mod relay;
 mod tv;
+mod watch;
 mod words;
 
 pub use command::{Command, command_of};
@@ -22,4 +23,6 @@ pub use css_num::{Memory, Text};
 pub use css_outside::Limit;
 pub use css_tsmsg::Bound;
 pub use fault::WordsFault;
-pub use words::{CompanionOptions, CompanionWords, GeneratorWords, PairWords, RelayWords, TvWords};
+pub use words::{
+    CompanionOptions, CompanionWords, GeneratorWords, PairWords, RelayWords, TvWords, WatchWords,
+};

@@ -93,6 +93,35 @@ pub struct CompanionWords {
     pub recorded: bool,
 }
 
+/// A companion that stays with the television at an address.
+#[derive(Drop)]
+pub struct WatchWords {
+    /// Where the television's sessions of CSS-CII are dialled, one after the other.
+    pub cii: Address,
+    /// The timeline that it wants, in UTF-8.
+    pub selector: Text,
+    /// The beginning of the content ids that it wants, in UTF-8; the empty one is that of all.
+    pub stem: Text,
+    /// How long it lasts in seconds: 1 to 31,536,000.
+    pub seconds: u64,
+    /// The time between two reports in nanoseconds: 1 to 10^12.
+    pub report_every: u64,
+    /// The time between two requests of the wall clock in nanoseconds: 1 to 10^12.
+    pub ask_every: u64,
+    /// The greatest frequency error of its own clock in 1/256 ppm, at most 2,560,000.
+    pub local_error: u32,
+    /// How far a reading of its own clock may be off, in nanoseconds: at most 10^9.
+    pub local_precision: u64,
+    pub ghost some_seconds: { 1 ≤ seconds },
+    pub ghost few_seconds: { seconds ≤ 31536000 },
+    pub ghost reports_apart: { 1 ≤ report_every },
+    pub ghost reports_come: { report_every ≤ 1000000000000 },
+    pub ghost requests_apart: { 1 ≤ ask_every },
+    pub ghost requests_come: { ask_every ≤ 1000000000000 },
+    pub ghost small_error: { local_error ≤ 2560000 },
+    pub ghost small_precision: { local_precision ≤ 1000000000 },
+}
+
 /// A television and a companion of it. The companion's limit is the television's too.
 #[derive(Drop)]
 pub struct PairWords {
