@@ -2,7 +2,7 @@
 use crate::common::{check, check_that, words as shown};
 use css_words::{
     Address, Bound, Command, CompanionOptions, GeneratorWords, Limit, RelayWords, TvWords,
-    command_of, complaint,
+    WatchWords, command_of, complaint,
 };
 use std::alloc::{AllocError, Global};
 use std::process::Abort;
@@ -44,6 +44,20 @@ relay tv 6677 /cii 1024 1 1 0 0 127.0.0.1
 relay --port=65534 --turns=1000000 --ask-every=1000000000000 --local-error=2560000 --local-precision=1000000000 \
 --host=[::1] --cii=ws://tv:6677/cii => relay tv 6677 /cii 65534 1000000 1000000000000 2560000 1000000000 [::1]
 relay --cii ws://tv:6677/cii --seconds 60 => relay tv 6677 /cii 6690 60s 1000000000 128000 1000 127.0.0.1
+watch --cii ws://tv.local => watch tv.local 80 / urn:dvb:css:timeline:pts '' 86400 1000000000 1000000000 128000 1000
+watch --cii=ws://h --selector urn:dvb:css:timeline:temi:1:1 => watch h 80 / \
+urn:dvb:css:timeline:temi:1:1 '' 86400 1000000000 1000000000 128000 1000
+watch --stem dvb: --cii=ws://h => watch h 80 / urn:dvb:css:timeline:pts 'dvb:' 86400 1000000000 1000000000 128000 1000
+watch --cii ws://h --seconds 60 => watch h 80 / urn:dvb:css:timeline:pts '' 60 1000000000 1000000000 128000 1000
+watch --cii ws://h --report-every 200 => watch h 80 / urn:dvb:css:timeline:pts '' 86400 200 1000000000 128000 1000
+watch --cii ws://h --ask-every 50 => watch h 80 / urn:dvb:css:timeline:pts '' 86400 1000000000 50 128000 1000
+watch --cii ws://h --local-error 7 => watch h 80 / urn:dvb:css:timeline:pts '' 86400 1000000000 1000000000 7 1000
+watch --cii ws://h --local-precision 9 => watch h 80 / urn:dvb:css:timeline:pts '' 86400 1000000000 1000000000 128000 9
+watch --local-precision 0 --local-error=0 --ask-every 1 --report-every=1 --seconds 1 --stem=- --selector= \
+--cii ws://[::1]:6677/cii?a=b => watch [::1] 6677 /cii?a=b  '-' 1 1 1 0 0
+watch --cii=ws://h --selector=-é --stem= --seconds=31536000 --report-every 1000000000000 --ask-every=1000000000000 \
+--local-error 2560000 --local-precision=1000000000 => watch h 80 / -é '' \
+31536000 1000000000000 1000000000000 2560000 1000000000
 pair => pair 6677 10000 -20 128000 false 127.0.0.1 urn:dvb:css:timeline:pts '' DEFAULTS always
 pair --reports 5 --report-every 200000000 --ask-every 50000000 --turns 2000 --follow --port=7000 --precision=-10 \
 --error 1 --stem=dvb: --earliest=0,0 --latest=1,plusinfinity => pair 7000 2000 -10 1 true 127.0.0.1 \
@@ -122,6 +136,34 @@ relay --cii ws://tv:6677/cii --port 65535
 relay --cii ws://tv:6677/cii --host
 relay --cii ws://tv:6677/cii --seconds 0
 relay --cii ws://tv:6677/cii --relative
+watch
+watch --seconds 60
+watch --cii=
+watch --cii tv.local
+watch --cii wss://h
+watch --cii ws://h --cii ws://h
+watch --cii ws://h --seconds 0
+watch --cii ws://h --seconds 31536001
+watch --cii ws://h --seconds 007
+watch --cii ws://h --seconds
+watch --cii ws://h --seconds=5 --seconds=5
+watch --cii ws://h --report-every 0
+watch --cii ws://h --report-every 1000000000001
+watch --cii ws://h --ask-every 0
+watch --cii ws://h --ask-every 1000000000001
+watch --cii ws://h --local-error=-1
+watch --cii ws://h --local-error 2560001
+watch --cii ws://h --local-precision=-1
+watch --cii ws://h --local-precision 1000000001
+watch --cii ws://h --turns 5
+watch --cii ws://h --reports 5
+watch --cii ws://h --record
+watch --cii ws://h --earliest 5,0
+watch --cii ws://h --latest 5,0
+watch --cii ws://h --second 5
+watch --cii ws://h --help
+watch --cii ws://h x
+watch --cii ws://h --
 pair --cii ws://127.0.0.1:6677/cii
 pair --seconds 2 --turns 2
 pair --earliest 0,0";
@@ -171,6 +213,17 @@ companion --record --cii ws://h --selector=é --stem=- => --selector: é can't s
 companion --record --cii ws://h --stem=- => --stem: - can't stand in a record
 relay --relative => no such option: --relative
 relay --cii ws://h --host=[ => --host: [ is no host
+watch --seconds 0 => --cii is missing
+watch --seconds 0 --cii wss://h => --cii: no encryption: ws:// alone
+watch --cii http://h => --cii: http://h is no ws: address
+watch --report-every 0 --seconds 31536001 --cii ws://h => --seconds: 31536001 isn't from 1 to 31536000
+watch --ask-every 0 --report-every 0 --cii ws://h => --report-every: 0 isn't from 1 to 1000000000000
+watch --local-error=-1 --ask-every=-5 --cii ws://h => --ask-every: -5 has a sign
+watch --local-precision=x --local-error 2560001 --cii ws://h => --local-error: 2560001 isn't from 0 to 2560000
+watch --cii ws://h --local-precision 1000000001 => --local-precision: 1000000001 isn't from 0 to 1000000000
+watch --cii ws://h --seconds= => --seconds is empty
+watch --cii ws://h --stem=a --stem=b => --stem is given twice
+watch --seconds 0 --turns 5 => no such option: --turns
 pair --cii ws://h => no such option: --cii
 pair --precision 31 --local-error 2560001 => --local-error: 2560001 isn't from 0 to 2560000";
 
@@ -228,6 +281,18 @@ fn show_relay(rt: &impl Abort, out: &mut String, relay: &RelayWords) {
     write!(out, " {every} {error} {precision} {host}").expect(rt, "memory");
 }
 
+fn show_watch(rt: &impl Abort, out: &mut String, watch: &WatchWords) {
+    let (selector, stem) = (shown(&watch.selector), shown(&watch.stem));
+    let (seconds, report_every, ask_every) = (watch.seconds, watch.report_every, watch.ask_every);
+    write!(
+        out,
+        " {selector} '{stem}' {seconds} {report_every} {ask_every}"
+    )
+    .expect(rt, "memory");
+    let (error, precision) = (watch.local_error, watch.local_precision);
+    write!(out, " {error} {precision}").expect(rt, "memory");
+}
+
 fn show_generator(out: &mut String, words: &GeneratorWords) -> Result<(), AllocError> {
     let (seed, lines) = (words.seed, words.lines);
     match words.companions {
@@ -248,6 +313,7 @@ fn name_of(command: &Command) -> &'static str {
         Command::Generate(_) => "generate",
         Command::Survey(_) => "survey",
         Command::Relay(_) => "relay",
+        Command::Watch(_) => "watch",
     }
 }
 
@@ -272,6 +338,10 @@ fn show(rt: &impl Abort, out: &mut String, command: &Command) {
         Command::Relay(words) => {
             show_address(rt, out, &words.cii);
             show_relay(rt, out, words);
+        }
+        Command::Watch(words) => {
+            show_address(rt, out, &words.cii);
+            show_watch(rt, out, words);
         }
     }
 }
