@@ -1,0 +1,14 @@
+use Rattle.std.proofs.Common.{◌≡◌, subst}
+use Rattle.std.specs.Prelude.{IfOk}
+use Rattle.css_watch_lines.specs.Lines.{Known, line_text}
+use Rattle.css_watch_lines.specs.declared.known.Known.{Known as Ticking}
+use Rattle.css_watch.proofs.Lines as telling
+use Rattle.css_watch.proofs.event_lines.ticks_line.Goals as goal
+
+pub returns : goal.returns
+returns c history s =
+    let P : Ticking → Type 0 = λ x. IfOk c.known_line.result (λ text. text ≡ line_text (Known c.args.number
+    c.args.reading x)) in
+    telling.ticks_as c.args.number c.args.reading c.args.ticks c.in-Some.wall c.in-Some-answer.answer c.in-Ok.timing _ _ _
+    c.known_line.result (c.in-Some.ensures.span history s) (c.in-Some-answer.ensures history s)
+    (c.in-Ok.ensures.meaning history s) (subst P c.known_by.ensures c.known_line.ensures.text)

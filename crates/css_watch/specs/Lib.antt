@@ -1,0 +1,6 @@
+pub mod Configs
+pub mod Progress
+pub mod Telling
+pub mod Watching
+pub mod Visits
+pub mod Following

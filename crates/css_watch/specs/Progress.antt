@@ -1,0 +1,147 @@
+-- How far a visit of a watch came, by what its observer was told.
+use Rattle.std.specs.Prelude.{ℕ, ◌+◌, ◌-◌, ◌^◌, min, List, Bool, true, false, ◌&&◌, ◌||◌, if◌then◌else◌, is_some}
+use Rattle.std.specs.Prelude.{Option, Some, None, unwrap_or, Result, Ok, Err}
+use Rattle.css_model.specs.declared.Kind.{Kind}
+use Rattle.css_model.specs.declared.Kind.TheVariants as kind
+use Rattle.css_model.specs.History.{History}
+use Rattle.css_model.specs.WallClock.{Answer}
+use Rattle.css_client.specs.Landings.{judged_of}
+use Rattle.css_client.specs.declared.landing.Landing.{Landing}
+use Rattle.css_companion.specs.declared.report.Report.{Report}
+use Rattle.css_companion.specs.declared.report.Report.TheVariants as report
+use Rattle.css_drive.specs.CompanionReports.{is_due, report_at}
+use Rattle.css_drive.specs.Notes.{Event, Slept, Turn, Dialled, Asked, Landed, Heard, Closed}
+use Rattle.css_drive.specs.declared.session.Session.{Session}
+use Rattle.css_drive.specs.declared.session.Session.TheVariants as session
+use Rattle.css_watch.specs.declared.plan.Plan.{Plan}
+use Rattle.css_watch.specs.declared.progress.Begun.{Begun}
+use Rattle.css_watch.specs.declared.progress.Progress.{Progress}
+use Rattle.css_watch.specs.declared.progress.Tried.{Tried}
+use Rattle.css_watch.specs.declared.progress.Tried.TheVariants.{Never, Failed, Open}
+
+-- one more, up to the greatest number that is told
+abbrev pub counted : ℕ → ℕ
+counted count = min (count + 1) (10 ^ 18 - 1)
+
+-- a number as a line tells it
+abbrev pub told_number : ℕ → ℕ
+told_number count = min count (10 ^ 18 - 1)
+
+-- ---- the visits of a watch
+-- nothing was begun
+abbrev pub nothing_begun : Begun
+nothing_begun = record { visits = 0; first = None; reports = 0; reached = false; found = false }
+
+-- one more visit
+abbrev pub with_visit : Begun → Begun
+with_visit begun = record begun { visits = counted begun.visits }
+
+-- how far a visit is that was just begun
+abbrev pub fresh : Begun → Progress
+fresh begun = record {
+  begun = begun;
+  entered = false;
+  slept = false;
+  cii = Never;
+  wc = Never;
+  ts = Never;
+  cii_open = None;
+  ts_open = None;
+  asked = false;
+  waiting = 0;
+  refused = None;
+}
+
+-- ---- turns and reports
+-- whether a report of the watch is due in a turn that begins at this reading
+abbrev pub reports_now : Plan → ℕ → Begun → Bool
+reports_now plan reading begun = is_due plan.report_every reading begun.first begun.reports
+
+abbrev pub has_ticks : Report → Bool
+has_ticks (report.Ticks lo hi) = true
+has_ticks (report.None cause) = false
+
+-- with a report
+abbrev pub with_report : Report → Begun → Begun
+with_report report begun = record begun {
+  reports = counted begun.reports;
+  found = begun.found || has_ticks report;
+}
+
+-- with the report that is due, if one is
+abbrev pub with_due : Option Report → Begun → Begun
+with_due None begun = begun
+with_due (Some report) begun = with_report report begun
+
+-- with a turn that begins at this reading
+abbrev pub with_turn : ℕ → Begun → Begun
+with_turn reading begun = record begun { first = Some (unwrap_or begun.first reading) }
+
+-- the report that is due in a turn after a history, if one is
+abbrev pub report_due : Plan → ℕ → History → Begun → Option Report
+report_due plan reading history begun =
+    if reports_now plan reading begun then Some (report_at plan.run history reading) else None
+
+-- with a dial of CSS-CII, which may have succeeded
+abbrev pub with_dial : Bool → Begun → Begun
+with_dial is_open begun = record begun { reached = begun.reached || is_open }
+
+-- ---- what an event makes of the progress
+abbrev pub after_sleep : Progress → Progress
+after_sleep progress = record progress { slept = true; asked = false; waiting = 0; refused = None }
+
+-- after a turn, and its report, if one is due
+abbrev pub after_turn : ℕ → Option Report → Progress → Progress
+after_turn reading due progress =
+    record progress { begun = with_due due (with_turn reading progress.begun); entered = true; slept = false }
+
+abbrev pub tried_by : Option ℕ → Tried
+tried_by None = Failed
+tried_by (Some peer) = Open
+
+-- the peer of a session that a dial opened, else the one that was open
+abbrev pub opened_by : Option ℕ → Option ℕ → Option ℕ
+opened_by None was = was
+opened_by (Some peer) was = Some peer
+
+abbrev pub after_dial : Kind → Option ℕ → Progress → Progress
+after_dial kind.Cii peer progress = record progress {
+  begun = with_dial (is_some peer) progress.begun;
+  cii = tried_by peer;
+  cii_open = opened_by peer progress.cii_open;
+}
+after_dial kind.Wc peer progress = record progress { wc = tried_by peer }
+after_dial kind.Ts peer progress = record progress {
+  ts = tried_by peer;
+  ts_open = opened_by peer progress.ts_open;
+}
+
+abbrev pub after_request : Progress → Progress
+after_request progress = record progress { slept = false; asked = true; waiting = counted progress.waiting }
+
+-- why a datagram is refused, if it is
+abbrev pub refusal_in : Result Answer Landing → Option Landing
+refusal_in (Ok answer) = None
+refusal_in (Err refusal) = Some refusal
+
+abbrev pub after_landing : Result Answer Landing → Progress → Progress
+after_landing judged progress = record progress { slept = false; waiting = 0; refused = refusal_in judged }
+
+abbrev pub after_end : Session → Progress → Progress
+after_end session.Cii progress = record progress { cii_open = None }
+after_end session.Ts progress = record progress { ts_open = None }
+
+-- what a datagram tells that lands at this reading after a history
+abbrev pub judged : Plan → History → ℕ → List ℕ → Result Answer Landing
+judged plan history reading bytes = judged_of plan.run.companion.local history reading bytes
+
+abbrev pub progress_after : Plan → Event → History → Progress → Progress
+progress_after plan Slept history progress = after_sleep progress
+progress_after plan (Turn reading) history progress =
+    after_turn reading (report_due plan reading history progress.begun) progress
+progress_after plan (Dialled kind peer) history progress = after_dial kind peer progress
+progress_after plan (Asked reading) history progress = after_request progress
+progress_after plan (Landed reading bytes) history progress =
+    after_landing (judged plan history reading bytes) progress
+progress_after plan (Heard which text) history progress = progress
+progress_after plan (Closed which) history progress = after_end which progress

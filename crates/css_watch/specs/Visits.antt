@@ -1,0 +1,201 @@
+-- The visits of a watch, and what it comes to.
+use Rattle.std.specs.Prelude.{◌≡◌, ◌≤◌, ◌⊎◌, ℕ, List, [], ◌∷◌, ◌++◌, length, Option, Some, None, Result, OnOk, codes, decimal}
+use Rattle.std.specs.Prelude.{if◌then◌else◌, ⊤}
+use Rattle.std.specs.Io.KnownBytes.{Appends}
+use Rattle.css_model.specs.History.{HungUp, History}
+use Rattle.css_outside.specs.Bytes.{AppendsPrefix}
+use Rattle.css_outside.specs.Faults.{HasRisen, CountsCall}
+use Rattle.css_outside.specs.Outsides.{with_entries}
+use Rattle.css_outside.specs.declared.fault.OutFault.{OutFault}
+use Rattle.css_outside.specs.declared.fault.OutFault.TheVariants as fault
+use Rattle.css_cii.specs.FaultWords as cii
+use Rattle.css_cii.specs.Names.{json_name}
+use Rattle.css_drive.specs.CompanionDue.{due, IsProperRun}
+use Rattle.css_drive.specs.CompanionReports.{KeepsPromises}
+use Rattle.css_drive.specs.CompanionStanding.{hung}
+use Rattle.css_drive.specs.Ends.{MayEnd}
+use Rattle.css_drive.specs.Notes.{noted}
+use Rattle.css_drive.specs.declared.driven.Driven.{Driven}
+use Rattle.css_drive.specs.declared.driven.Driven.TheVariants as driven
+use Rattle.css_drive.specs.declared.session.Session.TheVariants as session
+use Rattle.css_watch_lines.specs.Lines.{line_text, Ended}
+use Rattle.css_watch.specs.Progress.{fresh, nothing_begun, told_number, with_visit}
+use Rattle.css_watch.specs.Telling.{Told, told_of, text_of}
+use Rattle.css_watch.specs.declared.ending.Watched.{Watched}
+use Rattle.css_watch.specs.declared.ending.Watched.TheVariants as watched
+use Rattle.css_watch.specs.declared.parting.Parting.{Parting}
+use Rattle.css_watch.specs.declared.parting.Parting.TheVariants as parting
+use Rattle.css_watch.specs.declared.plan.Plan.{Plan}
+use Rattle.css_watch.specs.declared.progress.Begun.{Begun}
+use Rattle.css_watch.specs.declared.progress.Progress.{Progress}
+
+-- ---- why a visit ends
+-- in words, where its observer ends it and another visit follows
+abbrev pub parting_words : Option Parting → Option (List ℕ)
+parting_words (Some (parting.Closed session.Cii)) = Some (codes "closed CII")
+parting_words (Some (parting.Closed session.Ts)) = Some (codes "closed TS")
+parting_words (Some parting.Disagree) = Some (codes "disagree")
+parting_words _ = None
+
+-- in words, where another visit follows
+abbrev pub why : Driven → Option Parting → Option (List ℕ)
+why (driven.BadCii text reason) parting =
+    Some (codes "CII text " ++ decimal text ++ codes ": " ++ cii.fault_words reason)
+why (driven.Moved property old new) parting = Some (codes "moved " ++ json_name property)
+why (driven.BadUrl property) parting = Some (codes "bad " ++ json_name property)
+why driven.WriteFault parting = parting_words parting
+why _ parting = None
+
+-- ---- how a watch ends
+abbrev pub fault_of : OutFault → Watched
+fault_of (fault.Failed failure) = watched.NetFault failure
+fault_of fault.Memory = watched.Memory
+
+abbrev pub unwritten : OutFault → Watched
+unwritten (fault.Failed failure) = watched.WriteFault
+unwritten fault.Memory = watched.Memory
+
+abbrev pub by_reports : Begun → Watched
+by_reports begun = if begun.found then watched.Done else watched.NoInterval begun.reports
+
+-- after the last turn
+abbrev pub last_end : Driven → Begun → Watched
+last_end (driven.Unreachable turns) begun =
+    if begun.reached then by_reports begun else watched.Unreachable turns
+last_end _ begun = by_reports begun
+
+-- where the run of the last visit ended so, and its observer perhaps ended it
+abbrev pub end_of : Driven → Option Parting → Begun → Watched
+end_of (driven.NetFault failure) parting begun = watched.NetFault failure
+end_of driven.Memory parting begun = watched.Memory
+end_of driven.WriteFault None begun = watched.WriteFault
+end_of ended parting begun = last_end ended begun
+
+-- ---- hang-ups
+-- those of the sessions that are open, that of CSS-CII first
+abbrev pub hang_ups : Progress → History
+hang_ups progress = hung progress.ts_open ++ hung progress.cii_open
+
+-- Calls added these entries: all that were to be made, unless one failed.
+pub record Hangs (before now : Option History) (was is : ℕ) (wanted : History) (result : Result (Unit {0}) OutFault)
+    : Type 0 where
+  pub entries : History
+  pub told : now ≡ with_entries entries before
+  pub all : OnOk result (entries ≡ wanted)
+  pub faults : CountsCall was is result
+
+-- ---- visits
+-- the calls of a visit's run and the hang-ups after it, each with the newest first, and how the run ended
+pub record Visit : Type 0 where
+  pub history : History
+  pub hung : History
+  pub ended : Driven
+
+-- what a visit told that was begun after these
+abbrev pub told_in : Plan → Begun → Visit → Told
+told_in plan begun visit = told_of plan (fresh (with_visit begun)) (noted plan.run visit.history)
+
+abbrev pub end_text : Begun → Option (List ℕ) → List ℕ
+end_text begun None = []
+end_text begun (Some words) = line_text (Ended (told_number begun.visits) words)
+
+-- what a visit writes: its lines, and where another one follows why it ended
+abbrev pub visit_text : Plan → Begun → Visit → List ℕ
+visit_text plan begun visit =
+    let told = told_in plan begun visit in
+    text_of told.lines ++ end_text told.progress.begun (why visit.ended told.parting)
+
+-- Each call of the run was due, and the run ended where it may; its observer ends it at the first cause to. Each report
+-- that a turn may make keeps the promise.
+pub record IsVisit (plan : Plan) (begun : Begun) (visit : Visit) : Type 0 where
+  pub proper : IsProperRun plan.run visit.history
+  pub ends : MayEnd (due plan.run visit.history) visit.ended
+  pub promised : KeepsPromises plan.run visit.history
+
+-- another visit follows, and the open sessions were hung up
+pub record IsFollowed (plan : Plan) (begun : Begun) (visit : Visit) : Type 0 where
+  pub visited : IsVisit plan begun visit
+  pub words : List ℕ
+  pub has_cause : why visit.ended (told_in plan begun visit).parting ≡ Some words
+  pub hangs : visit.hung ≡ hang_ups (told_in plan begun visit).progress
+
+abbrev pub begun_after : Plan → List Visit → Begun
+begun_after plan [] = nothing_begun
+begun_after plan (visit ∷ older) = (told_in plan (begun_after plan older) visit).progress.begun
+
+-- each of the visits, the newest of which stands first, is followed by another one
+abbrev pub AreFollowed : Plan → List Visit → Type 0
+AreFollowed plan [] = Unit {0}
+AreFollowed plan (visit ∷ older) = IsFollowed plan (begun_after plan older) visit × AreFollowed plan older
+
+abbrev pub entries_of : List Visit → History
+entries_of [] = []
+entries_of (visit ∷ older) = visit.hung ++ visit.history ++ entries_of older
+
+abbrev pub written : Plan → List Visit → List ℕ
+written plan [] = []
+written plan (visit ∷ older) = written plan older ++ visit_text plan (begun_after plan older) visit
+
+-- ---- the watch
+-- a fault of a device, or want of memory
+abbrev pub IsFault : Watched → Type 0
+IsFault (watched.NetFault failure) = ⊤
+IsFault watched.WriteFault = ⊤
+IsFault watched.Memory = ⊤
+IsFault _ = ⊥
+
+-- The last visit: no other follows it, unless a device failed or memory ran out.
+pub record IsLast (plan : Plan) (begun : Begun) (visit : Visit) (result : Watched) : Type 0 where
+  pub visited : IsVisit plan begun visit
+  pub ends : IsFault result
+      ⊎ (why visit.ended (told_in plan begun visit).parting ≡ None)
+      × (result ≡ end_of visit.ended (told_in plan begun visit).parting (told_in plan begun visit).progress.begun)
+
+-- What a sink holds after a watch that ended so, which wrote this: all of it, but where a write failed or memory ran
+-- out.
+abbrev pub HoldsAll : Option (List ℕ) → Option (List ℕ) → List ℕ → Watched → Type 0
+HoldsAll held holds whole watched.WriteFault = AppendsPrefix held holds whole
+HoldsAll held holds whole watched.Memory = AppendsPrefix held holds whole
+HoldsAll held holds whole _ = Appends held holds whole
+
+-- the greatest number of visits, so that a watch ends over a clock that stands still too
+abbrev pub most_visits : ℕ
+most_visits = 1099511627776
+
+-- how a watch ends whose visits but for the last were followed by others: with the last, or after so many
+abbrev pub IsEnd : Plan → List Visit → Option Visit → Watched → Type 0
+IsEnd plan visits (Some last) result = IsLast plan (begun_after plan visits) last result
+IsEnd plan visits None result =
+    (length visits ≡ most_visits) × (result ≡ by_reports (begun_after plan visits))
+
+abbrev pub last_entries : Option Visit → History
+last_entries None = []
+last_entries (Some visit) = visit.hung ++ visit.history
+
+abbrev pub last_text : Plan → Begun → Option Visit → List ℕ
+last_text plan begun None = []
+last_text plan begun (Some visit) = visit_text plan begun visit
+
+-- A watch's calls since `before` are those of its visits, and the sink grew by what the visits write.
+pub record Watches (plan : Plan) (before now : Option History) (held holds : Option (List ℕ)) (result : Watched)
+    : Type 0 where
+  pub visits : List Visit
+  pub followed : AreFollowed plan visits
+  pub last : Option Visit
+  pub is_end : IsEnd plan visits last result
+  pub told : now ≡ with_entries (last_entries last ++ entries_of visits) before
+  pub wrote : HoldsAll held holds (written plan visits ++ last_text plan (begun_after plan visits) last) result
+
+-- ---- counts
+abbrev pub CountsNetFault : ℕ → ℕ → Watched → Type 0
+CountsNetFault before now (watched.NetFault failure) = HasRisen before now
+CountsNetFault before now _ = now ≡ before
+
+abbrev pub CountsWriteFault : ℕ → ℕ → Watched → Type 0
+CountsWriteFault before now watched.WriteFault = HasRisen before now
+CountsWriteFault before now _ = now ≡ before
+
+-- where no dial of CSS-CII succeeded, the count of failed dials has risen
+abbrev pub CountsDialFaults : ℕ → ℕ → Watched → Type 0
+CountsDialFaults before now (watched.Unreachable turns) = HasRisen before now
+CountsDialFaults before now _ = before ≤ now

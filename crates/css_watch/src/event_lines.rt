@@ -1,0 +1,311 @@
+//! The lines of what happens in a visit.
+ghost use Rattle.std.specs.Prelude.{◌≡◌, ◌≤◌, ◌<◌, ◌++◌, List, [], ◌∷◌, Option, IfOk, MatchResult};
+ghost use Rattle.std.specs.Prelude.{◌^◌, option_copied};
+ghost use Rattle.css_model.specs.declared.TheConstants.{LIMIT};
+ghost use Rattle.css_model.specs.History.{History};
+ghost use Rattle.css_model.specs.Wire.{decoded};
+ghost use Rattle.css_companion.specs.Standing.{StandsFor, own_of};
+ghost use Rattle.css_drive.specs.CompanionStanding.{Knows};
+ghost use Rattle.css_drive.specs.declared.session.Session.TheVariants as sessions;
+ghost use Rattle.css_tsmsg.specs.Controls.{control_of, IsInRange};
+ghost use Rattle.css_watch_lines.specs.Lines as lines;
+ghost use Rattle.css_watch.specs.Progress as spec;
+ghost use Rattle.css_watch.specs.Telling as telling;
+ghost use Rattle.css_watch.specs.Telling.{text_of};
+
+use crate::detail::detail;
+use crate::plan::Plan;
+use crate::progress::{Begun, Progress, Tried};
+use crate::progress_steps::{counted, reports_now, told_number, tried};
+use css_client::Landing;
+use css_companion::{Cause, Companion, CompanionFault, Report, Timing};
+use css_drive::Session;
+use css_num::{Control, Memory, Span, Text};
+use css_outside::Kind;
+use css_span::{Answer, Local, width_at};
+use css_tsmsg::{TsFault, read_control};
+use css_watch_lines::{
+    Known, Ticks, answer_line, cause_line, control_line, dial_line, known_line, refused_line, slept_line,
+    state_line, visit_line,
+};
+use css_wc::decode;
+use std::alloc::Global;
+
+/// The line of a report without ticks.
+fn unknown_line(
+    alloc: Global,
+    number: u64,
+    reading: u64,
+    cause: &Cause,
+    companion: &Companion,
+    progress: &Progress,
+) -> Result<Text, Memory>
+    requires { number < 10 ^ 18 }
+    ensures { IfOk result (λ text. text ≡ text_of (lines.Unknown number reading cause.now
+        (telling.detail_of cause.now companion.now.state progress.now) ∷ [])) }
+{
+    let detail = detail(alloc, cause, companion.state(), progress)?;
+    cause_line(alloc, number, reading, cause, detail.as_str())
+}
+
+/// What a report with ticks tells.
+fn known_by(ticks: &Ticks, wall: &Span, answer: &Answer, timing: &Timing) -> Known
+    ensures { result ≡ telling.known_by ticks.now wall.now answer.now timing.now }
+{
+    Known {
+        ticks: *ticks,
+        wall: *wall,
+        error: answer.error,
+        rate: timing.rate,
+        speed: timing.speed,
+    }
+}
+
+/// The line of a report with these ticks.
+fn ticks_line(
+    alloc: Global,
+    number: u64,
+    reading: u64,
+    companion: &Companion,
+    ticks: Ticks,
+) -> Result<Text, Memory>
+    requires few { number < 10 ^ 18 }
+    requires range { reading < LIMIT }
+    requires floor { companion.now.client.floor ≤ reading }
+    ensures { (history : History) → StandsFor companion.now history → IfOk result
+        (λ text. text ≡ text_of (telling.ticks_line (own_of companion.now) companion.now.setup.selector number reading
+        ticks history ∷ [])) }
+{
+    let Some(wall) = companion.wall(reading) else {
+        return cause_line(alloc, number, reading, &Cause::NoAnswer, "");
+    };
+    let Some(answer) = companion.answer(reading) else {
+        return cause_line(alloc, number, reading, &Cause::NoAnswer, "");
+    };
+    let Ok(timing) = companion.timing() else {
+        return cause_line(alloc, number, reading, &Cause::NoAnswer, "");
+    };
+    known_line(alloc, number, reading, &known_by(&ticks, &wall, &answer, &timing))
+}
+
+/// The line of a report.
+pub(crate) fn report_line(
+    alloc: Global,
+    plan: &Plan,
+    number: u64,
+    reading: u64,
+    companion: &Companion,
+    progress: &Progress,
+) -> Result<Text, Memory>
+    requires few { number < 10 ^ 18 }
+    requires range { reading < LIMIT }
+    requires floor { companion.now.client.floor ≤ reading }
+    ensures { (history : History) → Knows plan.now.run companion.now history → IfOk result
+        (λ text. text ≡ text_of (telling.report_line plan.now number reading history progress.now ∷ [])) }
+{
+    match companion.report(reading) {
+        Report::None(cause) => unknown_line(alloc, number, reading, &cause, companion, progress),
+        Report::Ticks { lo, hi } => ticks_line(alloc, number, reading, companion, Ticks { lo, hi }),
+    }
+}
+
+/// The line of a visit, in its first turn.
+fn visit_text(alloc: Global, reading: u64, progress: &Progress) -> Result<Text, Memory>
+    ensures { IfOk result (λ text. text ≡ text_of (telling.visit_lines reading progress.now)) }
+{
+    if progress.entered {
+        return Ok(Text::new(alloc));
+    }
+    visit_line(alloc, told_number(progress.begun.visits), reading)
+}
+
+/// The line of a sleep, if one was noticed.
+pub(crate) fn slept_text(alloc: Global, reading: u64, progress: &Progress) -> Result<Text, Memory>
+    ensures { IfOk result (λ text. text ≡ text_of (telling.slept_lines reading progress.now)) }
+{
+    if progress.slept {
+        return slept_line(alloc, reading);
+    }
+    Ok(Text::new(alloc))
+}
+
+/// The report that is due in a turn, if one is.
+pub(crate) fn report_due(
+    plan: &Plan,
+    reading: u64,
+    begun: &Begun,
+    companion: &Companion,
+) -> Option<Report>
+    requires range { reading < LIMIT }
+    requires floor { companion.now.client.floor ≤ reading }
+    ensures { (history : History) → Knows plan.now.run companion.now history
+        → result ≡ spec.report_due plan.now reading history begun.now }
+{
+    if reports_now(plan, reading, begun) {
+        return Some(companion.report(reading));
+    }
+    None
+}
+
+/// The line of the report that is due in a turn, if one is.
+fn report_text(
+    alloc: Global,
+    plan: &Plan,
+    reading: u64,
+    companion: &Companion,
+    progress: &Progress,
+) -> Result<Text, Memory>
+    requires range { reading < LIMIT }
+    requires floor { companion.now.client.floor ≤ reading }
+    ensures { (history : History) → Knows plan.now.run companion.now history
+        → IfOk result (λ text. text ≡ text_of (telling.report_lines plan.now reading history progress.now)) }
+{
+    if reports_now(plan, reading, &progress.begun) {
+        let number = counted(progress.begun.reports);
+        return report_line(alloc, plan, number, reading, companion, progress);
+    }
+    Ok(Text::new(alloc))
+}
+
+/// The lines of a turn.
+pub(crate) fn turn_text(
+    alloc: Global,
+    plan: &Plan,
+    reading: u64,
+    companion: &Companion,
+    progress: &Progress,
+) -> Result<Text, Memory>
+    requires range { reading < LIMIT }
+    requires floor { companion.now.client.floor ≤ reading }
+    ensures { (history : History) → Knows plan.now.run companion.now history
+        → IfOk result (λ text. text ≡ text_of (telling.turn_lines plan.now reading history progress.now)) }
+{
+    let mut text = visit_text(alloc, reading, progress)?;
+    let slept = slept_text(alloc, reading, progress)?;
+    text.push(slept.bytes())?;
+    let report = report_text(alloc, plan, reading, companion, progress)?;
+    text.push(report.bytes())?;
+    Ok(text)
+}
+
+/// The line of a dial, where its outcome is another one than that of the dial before.
+pub(crate) fn dial_text(
+    alloc: Global,
+    kind: Kind,
+    peer: Option<u32>,
+    progress: &Progress,
+) -> Result<Text, Memory>
+    ensures { IfOk result (λ text. text ≡ text_of (telling.dial_lines kind peer progress.now)) }
+{
+    let last = match kind {
+        Kind::Cii => progress.cii,
+        Kind::Wc => progress.wc,
+        Kind::Ts => progress.ts,
+    };
+    if tried(peer) == last {
+        return Ok(Text::new(alloc));
+    }
+    dial_line(alloc, kind, peer.is_some())
+}
+
+/// The message type of a datagram, or 0 where it is none.
+fn type_in(bytes: &[u8]) -> u8
+    ensures { result ≡ telling.type_in (decoded bytes.now) }
+{
+    match decode(bytes) {
+        Ok(message) => message.message_type,
+        Err(_) => 0,
+    }
+}
+
+/// The line of an answer, or of a datagram that is refused.
+fn landing_line(
+    alloc: Global,
+    local: &Local,
+    reading: u64,
+    bytes: &[u8],
+    judged: &Result<Answer, Landing>,
+) -> Result<Text, Memory>
+    requires { reading < LIMIT }
+    ensures { IfOk result (λ text. text
+        ≡ text_of (telling.landing_line local.now reading bytes.now judged.now ∷ [])) }
+{
+    match judged {
+        Ok(answer) => {
+            let width = width_at(answer, local, reading);
+            answer_line(alloc, answer, type_in(bytes), reading, width)
+        }
+        Err(refusal) => refused_line(alloc, refusal, reading),
+    }
+}
+
+/// The lines of a datagram that landed.
+pub(crate) fn landing_text(
+    alloc: Global,
+    local: &Local,
+    reading: u64,
+    bytes: &[u8],
+    judged: &Result<Answer, Landing>,
+    progress: &Progress,
+) -> Result<Text, Memory>
+    requires { reading < LIMIT }
+    ensures { IfOk result (λ text. text ≡ text_of (telling.landing_line local.now reading bytes.now judged.now
+        ∷ telling.slept_lines reading progress.now)) }
+{
+    let mut text = slept_text(alloc, reading, progress)?;
+    let line = landing_line(alloc, local, reading, bytes, judged)?;
+    text.push(line.bytes())?;
+    Ok(text)
+}
+
+/// The line of the state after a text of the session of CSS-CII, unless that is refused.
+fn state_text(alloc: Global, text: &Text, companion: &Companion) -> Result<Text, Memory>
+    ensures { (history : History) → StandsFor companion.now history
+        → IfOk result (λ line. line ≡ text_of (telling.text_lines sessions.Cii text.now history)) }
+{
+    match companion.state_after(text.bytes()) {
+        Ok(state) => state_line(alloc, &state),
+        Err(fault) => match fault {
+            CompanionFault::Memory => Err(Memory),
+            _ => Ok(Text::new(alloc)),
+        },
+    }
+}
+
+/// What a text of the session of CSS-TS is read as.
+fn control_in(alloc: Global, text: &Text) -> Result<Result<Control, TsFault>, Memory>
+    ensures value { IfOk result (λ told. told ≡ control_of text.now) }
+    ensures in_range { IfOk result (λ told. IfOk told IsInRange) }
+{
+    match read_control(alloc, text.bytes()) {
+        Ok(control) => Ok(Ok(control)),
+        Err(fault) => match fault {
+            TsFault::Memory => Err(Memory),
+            _ => Ok(Err(fault)),
+        },
+    }
+}
+
+/// The line of what a text of the session of CSS-TS is read as.
+fn control_text(alloc: Global, text: &Text) -> Result<Text, Memory>
+    ensures { IfOk result (λ line. line ≡ text_of (lines.ControlTold (control_of text.now) ∷ [])) }
+{
+    let told = control_in(alloc, text)?;
+    control_line(alloc, &told)
+}
+
+/// The line of a text that came, if it has one.
+pub(crate) fn heard_text(
+    alloc: Global,
+    session: Session,
+    text: &Text,
+    companion: &Companion,
+) -> Result<Text, Memory>
+    ensures { (history : History) → StandsFor companion.now history
+        → IfOk result (λ line. line ≡ text_of (telling.text_lines session text.now history)) }
+{
+    match session {
+        Session::Cii => state_text(alloc, text, companion),
+        Session::Ts => control_text(alloc, text),
+    }
+}

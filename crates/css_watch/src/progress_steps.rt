@@ -1,0 +1,269 @@
+//! What an event makes of the progress.
+ghost use Rattle.std.specs.Prelude.{◌≡◌, ◌<◌, ◌≤◌, ◌+◌, ◌*◌, ◌^◌};
+ghost use Rattle.css_model.specs.declared.Kind.TheVariants as kinds;
+ghost use Rattle.css_outside.specs.Limits as limits;
+ghost use Rattle.css_watch.specs.Progress as spec;
+
+use crate::plan::Plan;
+use crate::progress::{Begun, Progress, Tried};
+use css_client::Landing;
+use css_companion::Report;
+use css_drive::Session;
+use css_outside::{Kind, Limit};
+use css_span::Answer;
+
+/// The greatest number that a line tells.
+const GREATEST: u64 = 999_999_999_999_999_999;
+
+/// One more, up to the greatest number that a line tells.
+pub(crate) fn counted(count: u64) -> u64
+    ensures value { result ≡ spec.counted count }
+    ensures few { result < 10 ^ 18 }
+{
+    if count < GREATEST { count + 1 } else { GREATEST }
+}
+
+/// One more report than so many.
+fn next(count: u64) -> u128
+    ensures value { result ≡ count + 1 }
+    ensures bound { result ≤ 2 ^ 64 }
+{
+    u128::from(count) + 1
+}
+
+/// The earliest reading at which a report is due after so many.
+fn due_from(first: u64, count: u64, every: u64) -> u128
+    ensures { result ≡ first + (count + 1) * every }
+{
+    u128::from(first) + next(count) * u128::from(every)
+}
+
+/// A number as a line tells it.
+pub(crate) fn told_number(count: u64) -> u64
+    ensures value { result ≡ spec.told_number count }
+    ensures few { result < 10 ^ 18 }
+{
+    count.min(GREATEST)
+}
+
+/// Whether a turn that begins at this reading is the last by its time, where the first one began at `first`.
+pub(crate) fn is_over(limit: Limit, first: u64, reading: u64) -> bool
+    ensures { result ≡ limits.is_over limit first reading }
+{
+    match limit {
+        Limit::Turns(_) => false,
+        Limit::Seconds(seconds) => {
+            u128::from(first) + u128::from(seconds) * 1_000_000_000 <= u128::from(reading)
+        }
+    }
+}
+
+/// Whether a report of the watch is due in a turn that begins at this reading.
+pub(crate) fn reports_now(plan: &Plan, reading: u64, begun: &Begun) -> bool
+    ensures { result ≡ spec.reports_now plan.now reading begun.now }
+{
+    match begun.first {
+        None => false,
+        Some(first) => due_from(first, begun.reports, plan.report_every) <= u128::from(reading),
+    }
+}
+
+impl Begun {
+    /// Nothing was begun.
+    pub(crate) fn new() -> Begun
+        ensures { result ≡ spec.nothing_begun }
+    {
+        Begun {
+            visits: 0,
+            first: None,
+            reports: 0,
+            reached: false,
+            found: false,
+        }
+    }
+
+    /// With one more visit.
+    pub(crate) fn with_visit(self) -> Begun
+        ensures { result ≡ spec.with_visit self }
+    {
+        Begun {
+            visits: counted(self.visits),
+            first: self.first,
+            reports: self.reports,
+            reached: self.reached,
+            found: self.found,
+        }
+    }
+
+    /// With a turn that begins at this reading.
+    fn with_turn(self, reading: u64) -> Begun
+        ensures { result ≡ spec.with_turn reading self }
+    {
+        Begun {
+            visits: self.visits,
+            first: Some(self.first.unwrap_or(reading)),
+            reports: self.reports,
+            reached: self.reached,
+            found: self.found,
+        }
+    }
+
+    /// With a dial of CSS-CII, which may have succeeded.
+    fn with_dial(self, is_open: bool) -> Begun
+        ensures { result ≡ spec.with_dial is_open self }
+    {
+        Begun {
+            visits: self.visits,
+            first: self.first,
+            reports: self.reports,
+            reached: self.reached || is_open,
+            found: self.found,
+        }
+    }
+
+    /// With a report.
+    fn with_report(self, report: &Report) -> Begun
+        ensures { result ≡ spec.with_report report.now self }
+    {
+        Begun {
+            visits: self.visits,
+            first: self.first,
+            reports: counted(self.reports),
+            reached: self.reached,
+            found: self.found || matches!(report, Report::Ticks { .. }),
+        }
+    }
+}
+
+impl Progress {
+    /// A visit that was just begun.
+    pub(crate) fn fresh(begun: Begun) -> Progress
+        ensures { result ≡ spec.fresh begun }
+    {
+        Progress {
+            begun,
+            entered: false,
+            slept: false,
+            cii: Tried::Never,
+            wc: Tried::Never,
+            ts: Tried::Never,
+            cii_open: None,
+            ts_open: None,
+            asked: false,
+            waiting: 0,
+            refused: None,
+        }
+    }
+
+    /// After a sleep.
+    pub(crate) fn after_sleep(self) -> Progress
+        ensures { result ≡ spec.after_sleep self }
+    {
+        Progress {
+            slept: true,
+            asked: false,
+            waiting: 0,
+            refused: None,
+            ..self
+        }
+    }
+
+    /// After a turn with its report, if one is due.
+    pub(crate) fn after_turn(self, reading: u64, due: &Option<Report>) -> Progress
+        ensures { result ≡ spec.after_turn reading due.now self }
+    {
+        let begun = self.begun.with_turn(reading);
+        Progress {
+            begun: match due {
+                None => begun,
+                Some(report) => begun.with_report(report),
+            },
+            entered: true,
+            slept: false,
+            ..self
+        }
+    }
+
+    /// After a dial of CSS-CII.
+    fn after_cii(self, peer: Option<u32>) -> Progress
+        ensures { result ≡ spec.after_dial kinds.Cii peer self }
+    {
+        Progress {
+            begun: self.begun.with_dial(peer.is_some()),
+            cii: tried(peer),
+            cii_open: peer.or(self.cii_open),
+            ..self
+        }
+    }
+
+    /// After a dial.
+    pub(crate) fn after_dial(self, kind: Kind, peer: Option<u32>) -> Progress
+        ensures { result ≡ spec.after_dial kind peer self }
+    {
+        match kind {
+            Kind::Cii => self.after_cii(peer),
+            Kind::Wc => Progress {
+                wc: tried(peer),
+                ..self
+            },
+            Kind::Ts => Progress {
+                ts: tried(peer),
+                ts_open: peer.or(self.ts_open),
+                ..self
+            },
+        }
+    }
+
+    /// After a request.
+    pub(crate) fn after_request(self) -> Progress
+        ensures { result ≡ spec.after_request self }
+    {
+        Progress {
+            slept: false,
+            asked: true,
+            waiting: counted(self.waiting),
+            ..self
+        }
+    }
+
+    /// After a landing of what is told so.
+    pub(crate) fn after_landing(self, judged: &Result<Answer, Landing>) -> Progress
+        ensures { result ≡ spec.after_landing judged.now self }
+    {
+        Progress {
+            slept: false,
+            waiting: 0,
+            refused: match judged {
+                Ok(_) => None,
+                Err(refusal) => Some(*refusal),
+            },
+            ..self
+        }
+    }
+
+    /// After the end of a session.
+    pub(crate) fn after_end(self, session: Session) -> Progress
+        ensures { result ≡ spec.after_end session self }
+    {
+        match session {
+            Session::Cii => Progress {
+                cii_open: None,
+                ..self
+            },
+            Session::Ts => Progress {
+                ts_open: None,
+                ..self
+            },
+        }
+    }
+}
+
+/// What became of a dial.
+pub(crate) fn tried(peer: Option<u32>) -> Tried
+    ensures { result ≡ spec.tried_by peer }
+{
+    match peer {
+        None => Tried::Failed,
+        Some(_) => Tried::Open,
+    }
+}

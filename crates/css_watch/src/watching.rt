@@ -1,0 +1,262 @@
+//! The observer that tells what happens in a visit.
+ghost use Rattle.std.specs.Prelude.{◌≡◌, ◌≤◌, ◌<◌, ◌++◌, ℕ, List, [], ◌∷◌, Option, None, Some, IfOk, MatchOption};
+ghost use Rattle.css_model.specs.declared.TheConstants.{LIMIT};
+ghost use Rattle.css_drive.specs.Notes as notes;
+ghost use Rattle.css_watch.specs.Progress as progress;
+ghost use Rattle.css_watch.specs.Telling as telling;
+ghost use Rattle.css_watch.specs.Telling.{text_of};
+ghost use Rattle.css_watch.specs.Watching.{Writes, Says, IsFresh, IsFreshOf, IsOf, Steps, Wakes, over_by};
+ghost use Rattle.css_watch.specs.Watching.{parting_by, Accepts, IsPossibleAt};
+ghost use Rattle.css_model.specs.History.{History};
+ghost use Rattle.css_agree.specs.Keeping.{StandsFor};
+ghost use Rattle.css_drive.specs.CompanionStanding.{Knows};
+ghost use Rattle.css_span.specs.Frontiers.{Answers};
+
+use crate::event_lines::{
+    dial_text, heard_text, landing_text, report_due, slept_text, turn_text,
+};
+use crate::parting::Parting;
+use crate::plan::Plan;
+use crate::progress::{Begun, Progress};
+use crate::progress_steps::is_over;
+use css_agree::{Agree, AgreeFault};
+use css_client::Landing;
+use css_companion::{Companion, Report};
+use css_drive::{Observes, Session};
+use css_num::{Memory, Text};
+use css_outside::{Clocked, Failure, Kind, OutFault, Sink, write_all};
+use css_span::Answer;
+use std::alloc::Global;
+
+/// Writes the lines of a visit, and ends the visit where the television does.
+#[derive(Drop)]
+pub(crate) struct Watching<'a, K: Sink> {
+    pub(crate) alloc: Global,
+    pub(crate) plan: &'a Plan,
+    pub(crate) sink: &'a mut K,
+    pub(crate) progress: Progress,
+    /// The answers that were accepted since the last sleep.
+    pub(crate) agree: &'a mut Agree,
+    /// Why nothing is called any more, if nothing is: a write failed, memory ran out, or the visit ends.
+    pub(crate) over: Option<OutFault>,
+    /// Why the visit ends, if no write failed.
+    pub(crate) parting: Option<Parting>,
+}
+
+/// Writes a text, if there is one. Says why not, if it fails.
+pub(crate) fn put<K: Sink>(sink: &mut K, text: Result<Text, Memory>) -> Option<OutFault>
+    ensures { (bytes : List ℕ) → IfOk text (λ text. text ≡ bytes)
+        → Writes result (K.holds sink.old) (K.holds sink.new) (K.faults sink.old) (K.faults sink.new) bytes }
+{
+    match text {
+        Err(Memory) => Some(OutFault::Memory),
+        Ok(text) => match write_all(sink, text.bytes()) {
+            Ok(()) => None,
+            Err(fault) => Some(fault),
+        },
+    }
+}
+
+/// Why the observer is over: a fault, or else the visit's end.
+fn over_after(fault: Option<OutFault>, parting: Option<Parting>) -> Option<OutFault>
+    ensures { result ≡ over_by fault parting }
+{
+    match fault {
+        Some(fault) => Some(fault),
+        None => match parting {
+            None => None,
+            Some(_) => Some(OutFault::Failed(Failure::Other)),
+        },
+    }
+}
+
+/// The visit's end, where there was no fault.
+fn parting_after(fault: Option<OutFault>, parting: Option<Parting>) -> Option<Parting>
+    ensures { result ≡ parting_by fault parting }
+{
+    match fault {
+        Some(_) => None,
+        None => parting,
+    }
+}
+
+/// Whether the turn is the last of the watch. The first visit ends by its own run's limit.
+fn late(plan: &Plan, reading: u64, begun: &Begun) -> Option<Parting>
+    ensures { result ≡ telling.late plan.now reading begun.now }
+{
+    let first = begun.first.unwrap_or(reading);
+    if begun.visits > 1 && is_over(plan.run.limit, first, reading) {
+        return Some(Parting::Late);
+    }
+    None
+}
+
+/// Takes a sleep in, if one was told: the answers of before say nothing of the wall clock any more.
+fn wake(alloc: Global, plan: &Plan, slept: bool, progress: &mut Progress, agree: &mut Agree)
+    ensures { Wakes plan.now slept progress.old progress.new agree.old agree.new }
+{
+    if slept {
+        *progress = progress.after_sleep();
+        *agree = Agree::new(alloc, plan.run.companion.local);
+    }
+}
+
+/// Adds an answer to those that were accepted, and says whether it contradicts them.
+fn accept(
+    agree: &mut Agree,
+    judged: &Result<Answer, Landing>,
+    reading: u64,
+) -> Result<Option<Parting>, Memory>
+    requires { reading < LIMIT }
+    ensures { (answers : Answers) → StandsFor agree.old answers → IsPossibleAt agree.old.local reading judged.now
+        → IfOk result (Accepts agree.old.local reading judged.now answers agree.new) }
+{
+    let Ok(answer) = judged else {
+        return Ok(None);
+    };
+    match agree.add(*answer, reading) {
+        Ok(()) => {}
+        Err(AgreeFault::Memory) => return Err(Memory),
+        // What is judged possible is possible.
+        Err(AgreeFault::Impossible(_)) => return Ok(None),
+    }
+    if agree.contradicts(reading) {
+        return Ok(Some(Parting::Disagree));
+    }
+    Ok(None)
+}
+
+impl<'a, K: Sink> Watching<'a, K> {
+    /// Writes the lines of an event, after which the visit may end.
+    fn say(&mut self, text: Result<Text, Memory>, parting: Option<Parting>)
+        ensures sink_name { self.new.sink.ghost_name ≡ self.old.sink.ghost_name }
+        ensures plan { self.new.plan.now ≡ self.old.plan.now }
+        ensures progress { self.new.progress ≡ self.old.progress }
+        ensures agree { self.new.agree.now ≡ self.old.agree.now }
+        ensures said { (bytes : List ℕ) → IfOk text (λ text. text ≡ bytes) → Says self.new.over self.new.parting
+            parting (K.holds self.old.sink.now) (K.holds self.new.sink.now) (K.faults self.old.sink.now)
+            (K.faults self.new.sink.now) bytes }
+    {
+        let fault = put(self.sink, text);
+        self.over = over_after(fault, parting);
+        self.parting = parting_after(fault, parting);
+    }
+
+    /// Want of memory ends the run.
+    fn fail(&mut self)
+        ensures sink_name { self.new.sink.ghost_name ≡ self.old.sink.ghost_name }
+        ensures plan { self.new.plan.now ≡ self.old.plan.now }
+        ensures progress { self.new.progress ≡ self.old.progress }
+        ensures over { self.new.over ≡ Some OutFault.Memory }
+        ensures parting { self.new.parting ≡ None }
+        ensures holds { K.holds self.new.sink.now ≡ K.holds self.old.sink.now }
+        ensures faults { K.faults self.new.sink.now ≡ K.faults self.old.sink.now }
+    {
+        self.over = Some(OutFault::Memory);
+        self.parting = None;
+    }
+
+    /// A turn.
+    fn turn(&mut self, reading: u64, companion: &Companion)
+        requires range { reading < LIMIT }
+        requires floor { companion.now.client.floor ≤ reading }
+        ensures sink_name { self.new.sink.ghost_name ≡ self.old.sink.ghost_name }
+        ensures plan { self.new.plan.now ≡ self.old.plan.now }
+        ensures steps { (history : History) → Knows self.old.plan.now.run companion.now history
+            → Steps self.old.plan.now (notes.Turn reading) history self.old.progress self.new.progress
+            self.old.agree.now self.new.agree.now self.new.over self.new.parting (K.holds self.old.sink.now) (K.holds self.new.sink.now)
+            (K.faults self.old.sink.now) (K.faults self.new.sink.now) }
+    {
+        let text = turn_text(self.alloc, self.plan, reading, companion, &self.progress);
+        let parting = late(self.plan, reading, &self.progress.begun);
+        let due = report_due(self.plan, reading, &self.progress.begun, companion);
+        self.progress = self.progress.after_turn(reading, &due);
+        self.say(text, parting);
+    }
+
+    /// A landing.
+    fn land(&mut self, reading: u64, bytes: &[u8], companion: &Companion)
+        requires range { reading < LIMIT }
+        ensures sink_name { self.new.sink.ghost_name ≡ self.old.sink.ghost_name }
+        ensures plan { self.new.plan.now ≡ self.old.plan.now }
+        ensures steps { (history : History) → Knows self.old.plan.now.run companion.now history
+            → Steps self.old.plan.now (notes.Landed reading bytes.now) history self.old.progress self.new.progress
+            self.old.agree.now self.new.agree.now self.new.over self.new.parting (K.holds self.old.sink.now)
+            (K.holds self.new.sink.now) (K.faults self.old.sink.now) (K.faults self.new.sink.now) }
+    {
+        let judged = companion.judge(bytes, reading);
+        let local = &self.plan.run.companion.local;
+        let text = landing_text(self.alloc, local, reading, bytes, &judged, &self.progress);
+        self.progress = self.progress.after_landing(&judged);
+        match accept(self.agree, &judged, reading) {
+            Ok(parting) => self.say(text, parting),
+            Err(Memory) => self.fail(),
+        }
+    }
+}
+
+impl<K: Sink> Observes for Watching<'_, K> {
+    ghost use Rattle.css_watch.specs.Watching.{AreFrom, IsTelling};
+
+    ghost saw = { λ started now notes. (now.sink.ghost_name ≡ started.sink.ghost_name)
+        × (now.plan.now ≡ started.plan.now)
+        × (AreFrom started.plan.now.run notes → IsTelling started.plan.now started.progress now.over now.parting
+        now.progress now.agree.now (K.holds started.sink.now) (K.holds now.sink.now) (K.faults started.sink.now)
+        (K.faults now.sink.now) notes) };
+
+    ghost over = { λ watching. watching.over };
+
+    fn check(&self) -> Result<(), OutFault> {
+        match self.over {
+            None => Ok(()),
+            Some(fault) => Err(fault),
+        }
+    }
+
+    fn slept(&mut self) {
+        wake(self.alloc, self.plan, true, &mut self.progress, self.agree);
+    }
+
+    fn turned(&mut self, clocked: &Clocked, companion: &Companion) {
+        wake(self.alloc, self.plan, clocked.slept, &mut self.progress, self.agree);
+        self.turn(clocked.reading, companion);
+    }
+
+    fn reported(
+        &mut self,
+        clocked: &Clocked,
+        _number: u64,
+        _report: &Report,
+        companion: &Companion,
+    ) {
+        wake(self.alloc, self.plan, clocked.slept, &mut self.progress, self.agree);
+        self.turn(clocked.reading, companion);
+    }
+
+    fn dialled(&mut self, kind: Kind, peer: Option<u32>) {
+        let text = dial_text(self.alloc, kind, peer, &self.progress);
+        self.progress = self.progress.after_dial(kind, peer);
+        self.say(text, None);
+    }
+
+    fn asked(&mut self, reading: u64) {
+        let text = slept_text(self.alloc, reading, &self.progress);
+        self.progress = self.progress.after_request();
+        self.say(text, None);
+    }
+
+    fn landed(&mut self, clocked: &Clocked, bytes: &[u8], companion: &Companion) {
+        wake(self.alloc, self.plan, clocked.slept, &mut self.progress, self.agree);
+        self.land(clocked.reading, bytes, companion);
+    }
+
+    fn heard(&mut self, session: Session, text: &Text, companion: &Companion) {
+        let line = heard_text(self.alloc, session, text, companion);
+        self.say(line, None);
+    }
+
+    fn closed(&mut self, session: Session) {
+        self.progress = self.progress.after_end(session);
+        self.say(Ok(Text::new(self.alloc)), Some(Parting::Closed(session)));
+    }
+}
