@@ -169,6 +169,7 @@ sheet_lacks left (status.Unreachable turns) bytes sheet r r' none is ok counted 
 sheet_lacks left (status.ChildFault ended) bytes sheet r r' none is ok counted n = absurd none
 sheet_lacks left (status.BadUrl property) bytes sheet r r' none is ok counted n = absurd none
 sheet_lacks left (status.WrongReport line right) bytes sheet r r' none is ok counted n = absurd none
+sheet_lacks left (status.NoInterval reports) bytes sheet r r' none is ok counted n = absurd none
 
 -- so is a script
 pub script_lacks : (left : Option (List ℕ)) (result : Status) (bytes : List ℕ) (script : List ScriptLine) (r r' : ℕ)
@@ -192,3 +193,4 @@ script_lacks left (status.ChildFault ended) bytes script r r' none is ok counted
 script_lacks left (status.BadSheet line) bytes script r r' none is ok counted n = absurd none
 script_lacks left (status.BadUrl property) bytes script r r' none is ok counted n = absurd none
 script_lacks left (status.WrongReport line right) bytes script r r' none is ok counted n = absurd none
+script_lacks left (status.NoInterval reports) bytes script r r' none is ok counted n = absurd none

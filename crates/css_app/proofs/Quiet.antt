@@ -144,6 +144,7 @@ writes_no_usage text old new (status.ChildFault ended) none = absurd none
 writes_no_usage text old new (status.BadSheet line) none = absurd none
 writes_no_usage text old new (status.BadUrl property) none = absurd none
 writes_no_usage text old new (status.WrongReport line right) none = absurd none
+writes_no_usage text old new (status.NoInterval reports) none = absurd none
 
 pub writes_quiet : (text : List ℕ) (old new : Option (List ℕ)) (result : Status) → Writes text old new result
     → TellsNoLive result
@@ -166,6 +167,7 @@ writes_quiet text old new (status.ChildFault ended) none = absurd none
 writes_quiet text old new (status.BadSheet line) none = absurd none
 writes_quiet text old new (status.BadUrl property) none = absurd none
 writes_quiet text old new (status.WrongReport line right) none = absurd none
+writes_quiet text old new (status.NoInterval reports) none = absurd none
 
 pub writes_no_read : (text : List ℕ) (old new : Option (List ℕ)) (result : Status) → Writes text old new result
     → (n : ℕ) → CountsReads n n result
@@ -185,6 +187,7 @@ writes_no_read text old new (status.ChildFault ended) none n = absurd none
 writes_no_read text old new (status.BadSheet line) none n = absurd none
 writes_no_read text old new (status.BadUrl property) none n = absurd none
 writes_no_read text old new (status.WrongReport line right) none n = absurd none
+writes_no_read text old new (status.NoInterval reports) none n = absurd none
 
 -- ---- live commands
 -- Neither Usage nor a child's fault: what the statuses are of a run that was made, and of an input that wasn't read.
@@ -220,6 +223,7 @@ sheet_no_child left (status.Unreachable turns) none = absurd none
 sheet_no_child left (status.ChildFault ended) none = absurd none
 sheet_no_child left (status.BadUrl property) none = absurd none
 sheet_no_child left (status.WrongReport line right) none = absurd none
+sheet_no_child left (status.NoInterval reports) none = absurd none
 
 -- the same of a script, and no dial failed
 abbrev pub HasNoDial : Status → Type 0
@@ -242,6 +246,7 @@ script_no_dial left (status.ChildFault ended) none = absurd none
 script_no_dial left (status.BadSheet line) none = absurd none
 script_no_dial left (status.BadUrl property) none = absurd none
 script_no_dial left (status.WrongReport line right) none = absurd none
+script_no_dial left (status.NoInterval reports) none = absurd none
 
 pub companions_no_child : (config : DriveConfig) (takes : Sheet → List Plan) (left_old left_new : Option (List ℕ))
     (before now : Stage) (result : Status) → Companions config takes left_old left_new before now result
@@ -294,6 +299,7 @@ start_no_usage (status.Unreachable turns) none = absurd none
 start_no_usage (status.BadSheet line) none = absurd none
 start_no_usage (status.BadUrl property) none = absurd none
 start_no_usage (status.WrongReport line right) none = absurd none
+start_no_usage (status.NoInterval reports) none = absurd none
 
 beside_no_usage : (config : DriveConfig) (plans : List Plan) (words : List (List ℕ)) (script : List ℕ)
     (before now : Stage) (kids_old kids_new : Children) (result : Status)

@@ -107,6 +107,7 @@ no_text left now text (status.ChildFault ended) gives none = absurd none
 no_text left now text (status.BadSheet line) gives none = absurd none
 no_text left now text (status.BadUrl property) gives none = absurd none
 no_text left now text (status.WrongReport line right) gives none = absurd none
+no_text left now text (status.NoInterval reports) gives none = absurd none
 
 -- a count of faults that stays 0 tells no failed read, of whatever source
 pub no_read_fault : (result : Status) (before now : ℕ) → CountsReads 0 0 result → now ≡ before
@@ -127,3 +128,4 @@ no_read_fault (status.ChildFault ended) before now none same = same
 no_read_fault (status.BadSheet line) before now none same = same
 no_read_fault (status.BadUrl property) before now none same = same
 no_read_fault (status.WrongReport line right) before now none same = same
+no_read_fault (status.NoInterval reports) before now none same = same

@@ -27,7 +27,7 @@ use Rattle.css_schedule.specs.declared.fault.LineWhy.TheVariants.{Long, Form, Ab
 use Rattle.css_app.specs.declared.status.Status.{Status}
 use Rattle.css_app.specs.declared.status.Status.TheVariants.{Done, Usage, BadLine, Broken, ReadFault, WriteFault}
 use Rattle.css_app.specs.declared.status.Status.TheVariants.{NetFault, BadCii, Moved, Spent, Unreachable, ChildFault}
-use Rattle.css_app.specs.declared.status.Status.TheVariants.{BadSheet, BadUrl, WrongReport, Memory}
+use Rattle.css_app.specs.declared.status.Status.TheVariants.{BadSheet, BadUrl, WrongReport, NoInterval, Memory}
 use Rattle.css_app.specs.Replayed.{replayed}
 
 -- the exit status of the program
@@ -48,6 +48,7 @@ status_number (BadSheet line) = 12
 status_number (BadUrl property) = 13
 status_number Memory = 14
 status_number (WrongReport line right) = 15
+status_number (NoInterval reports) = 16
 
 -- the words of a status, which stand behind the program's name on standard error
 abbrev pub status_words : Status → List ℕ
@@ -69,6 +70,7 @@ status_words (ChildFault (Ok status)) = codes "child status " ++ signed_decimal 
 status_words (BadSheet line) = codes "sheet line " ++ decimal line
 status_words (BadUrl property) = codes "bad url " ++ json_name property
 status_words (WrongReport line right) = codes "line " ++ decimal line ++ codes ": wrong report"
+status_words (NoInterval reports) = codes "no interval in " ++ decimal reports ++ codes " reports"
 status_words Memory = codes "memory"
 
 -- the program's name, the words of a status, and a line feed

@@ -73,6 +73,10 @@ pub enum Status {
         line: u64,
         right: Report,
     },
+    /// A watch made its last turn, a dial of the CSS-CII session succeeded, and none of these reports had ticks.
+    NoInterval {
+        reports: u64,
+    },
     /// Memory ran out. A part of the output of the lines that were read, or of the reports that were due, was written.
     Memory,
 }
@@ -104,6 +108,7 @@ impl Drop for Status {
             Status::BadSheet { line: _ } => {}
             Status::BadUrl { property: _ } => {}
             Status::WrongReport { line: _, right: _ } => {}
+            Status::NoInterval { reports: _ } => {}
             Status::Memory => {}
         }
     }
@@ -134,6 +139,7 @@ impl Status {
             Status::BadUrl { .. } => 13,
             Status::Memory => 14,
             Status::WrongReport { .. } => 15,
+            Status::NoInterval { .. } => 16,
         }
     }
 }
@@ -166,6 +172,7 @@ impl fmt::Display for Status {
             Status::BadSheet { line } => write!(f, "sheet line {line}"),
             Status::BadUrl { property } => write!(f, "bad url {property}"),
             Status::WrongReport { line, .. } => write!(f, "line {line}: wrong report"),
+            Status::NoInterval { reports } => write!(f, "no interval in {reports} reports"),
             Status::Memory => f.write_str("memory"),
         }
     }

@@ -26,7 +26,7 @@ fn check_all(rt: &impl Abort, alloc: Global, statuses: &[(Status, u8, &str)]) {
 
 /// Each status with its numbers, its exit status, and how it is told.
 #[rattlefmt::skip]
-const STATUSES: [(Status, u8, &str); 23] = [
+const STATUSES: [(Status, u8, &str); 24] = [
     (Status::Done, 0, ""),
     (Status::Usage, 1, "css: usage\n"),
     (Status::BadLine { line: 1, why: LineWhy::Long }, 2, "css: line 1: long\n"),
@@ -50,6 +50,7 @@ const STATUSES: [(Status, u8, &str); 23] = [
     (Status::BadUrl { property: CiiName::TsUrl }, 13, "css: bad url tsUrl\n"),
     (Status::Memory, 14, "css: memory\n"),
     (Status::WrongReport { line: 7, right: Report::None(Cause::NoAnswer) }, 15, "css: line 7: wrong report\n"),
+    (Status::NoInterval { reports: 9 }, 16, "css: no interval in 9 reports\n"),
 ];
 
 #[test]

@@ -28,9 +28,13 @@ fn words_after(alloc: Global, status: &Status, asked: &Asked<'_>) -> Option<Stri
         Status::BadUrl { property } => bad_url(alloc, *property, &asked.course),
         Status::Moved { property, old, new } => moved(alloc, *property, old, new),
         Status::WrongReport { right, .. } => wrong_report(alloc, right),
+        Status::NoInterval { .. } => String::from_str(alloc, NO_INTERVAL).ok(),
         _ => None,
     }
 }
+
+const NO_INTERVAL: &str =
+    "no report had ticks: the cause and the detail of each report line say what was missing";
 
 /// The line that helps a person after a status: `css: hint: `, a sentence and a line feed, in at most 200 bytes of
 /// printable ASCII. None where nothing helps, as for `Done`, and where memory ran out.

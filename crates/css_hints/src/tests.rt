@@ -73,7 +73,7 @@ type Row = (
 
 /// Statuses of whose hints no run of the program tells, and of each other kind one.
 #[rattlefmt::skip]
-const ROWS: [Row; 22] = [
+const ROWS: [Row; 23] = [
     (Status::Done, ("tv", "", ""), ""),
     (Status::Usage, ("comapnion", "", ""), "no such command: comapnion; did you mean companion?"),
     (Status::Usage, ("television", "", ""), "no such command: television; css --help lists them"),
@@ -107,6 +107,8 @@ const ROWS: [Row; 22] = [
         "the television's tsUrl is no address of the form ws://HOST:PORT/PATH"),
     (Status::WrongReport { line: 7, right: Report::None(Cause::NoAnswer) }, ("audit", "", ""),
         "the report that was to be made here is: none NoAnswer"),
+    (Status::NoInterval { reports: 9 }, ("watch", "", ""),
+        "no report had ticks: the cause and the detail of each report line say what was missing"),
 ];
 
 #[test]
