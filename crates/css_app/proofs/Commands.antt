@@ -6,7 +6,7 @@ use Rattle.css_follow.specs.Following.{Plan}
 use Rattle.css_follow.specs.declared.sheet.Sheet.{Sheet}
 use Rattle.css_drive.specs.declared.config.DriveConfig.{DriveConfig}
 use Rattle.css_words.specs.Commands.{Asked, Replay, Agree, Audit, Migrate, Companion, Tv, Pair, Relay, Generate}
-use Rattle.css_words.specs.Commands.{Survey, command_in}
+use Rattle.css_words.specs.Commands.{Survey, Watch, command_in}
 use Rattle.css_words.specs.Companion.{CompanionAsked, OptionsAsked}
 use Rattle.css_words.specs.Pair.{PairAsked}
 use Rattle.css_words.specs.declared.fault.WordsFault.{WordsFault}
@@ -23,6 +23,7 @@ use Rattle.css_app.specs.Ended.{IsNoUsage}
 use Rattle.css_app.specs.Live.{Companions, EndsAsDue, Stage}
 use Rattle.css_app.specs.Pairs.{Children, Pairs, PairsAsDue, PairsByScript, address_at}
 use Rattle.css_app.proofs.Relays.{relays_no_usage}
+use Rattle.css_app.proofs.Watches.{watches_no_usage}
 use Rattle.css_app.proofs.Quiet.{companions_no_child, driven_no_child, pairs_no_usage, script_no_dial}
 use Rattle.css_app.proofs.Quiet.{serves_no_dial, sheet_no_child, writes_no_usage}
 
@@ -120,6 +121,8 @@ usage_only (Ok (Pair asked)) source sink outside spawner followers result did is
     (stage_after sink outside followers) spawner.children_old spawner.children_new result did.ran))
 usage_only (Ok (Relay asked)) source sink outside spawner followers result did is =
     absurd (subst IsNoUsage is (relays_no_usage asked outside.told_old outside.told_new result did.ran))
+usage_only (Ok (Watch asked)) source sink outside spawner followers result did is =
+    absurd (subst IsNoUsage is (watches_no_usage asked sink outside result did.ran))
 usage_only (Ok (Generate asked)) source sink outside spawner followers result did is =
     absurd (subst IsNoUsage is (writes_no_usage (schedule_text asked.seed (unwrap_or asked.companions 1) asked.lines)
     sink.holds_old sink.holds_new result did.writes))

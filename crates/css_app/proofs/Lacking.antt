@@ -14,7 +14,7 @@ use Rattle.css_agree.specs.Agreeing.{agreeing}
 use Rattle.css_audit.specs.Auditing.{auditing}
 use Rattle.css_migrate.specs.Migrated.{migrated}
 use Rattle.css_words.specs.Commands.{Asked, Replay, Agree, Audit, Migrate, Companion, Tv, Pair, Relay, Generate}
-use Rattle.css_words.specs.Commands.{Survey}
+use Rattle.css_words.specs.Commands.{Survey, Watch}
 use Rattle.css_words.specs.Companion.{CompanionAsked}
 use Rattle.css_words.specs.declared.fault.WordsFault.{WordsFault}
 use Rattle.css_words.specs.declared.fault.WordsFault.TheVariants as words
@@ -163,6 +163,10 @@ lacks (Ok (Pair asked)) left holds told kids takes heard r w c s = record {
 lacks (Ok (Relay asked)) left holds told kids takes heard r w c s = record {
   ran = inl (record { untouched = refl; lacks = refl });
   complete = λ called. inl refl;
+}
+lacks (Ok (Watch asked)) left holds told kids takes heard r w c s = record {
+  ran = inl (record { untouched = refl; unwritten = refl; lacks = refl });
+  complete = λ written called. tt;
 }
 lacks (Ok (Generate asked)) left holds told kids takes heard r w c s =
     writing_lacks (schedule_text asked.seed (unwrap_or asked.companions 1) asked.lines) holds w

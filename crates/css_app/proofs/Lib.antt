@@ -17,5 +17,6 @@ pub mod Quiet
 pub mod Lacking
 pub mod Relays
 pub mod Records
+pub mod Watches
 pub mod Migrations
 pub mod Commands

@@ -13,13 +13,15 @@ use Rattle.css_schedule.specs.declared.line.ScriptLine.{ScriptLine}
 use Rattle.css_survey.specs.Generated.{schedule_text}
 use Rattle.css_survey.specs.Surveyed.{survey_text}
 use Rattle.css_tv.specs.declared.config.TvConfig.{TvConfig}
+use Rattle.css_watch.specs.declared.config.WatchConfig.{WatchConfig}
 use Rattle.css_words.specs.Commands.{Asked, Replay, Agree, Audit, Migrate, Companion, Tv, Pair, Relay, Generate}
-use Rattle.css_words.specs.Commands.{Survey}
+use Rattle.css_words.specs.Commands.{Survey, Watch}
 use Rattle.css_words.specs.Companion.{CompanionAsked, OptionsAsked}
 use Rattle.css_words.specs.Generator.{GeneratorAsked}
 use Rattle.css_words.specs.Pair.{PairAsked}
 use Rattle.css_words.specs.Relay.{RelayAsked}
 use Rattle.css_words.specs.Tv.{TvAsked}
+use Rattle.css_words.specs.Watch.{WatchAsked}
 use Rattle.css_words.specs.declared.fault.WordsFault.{WordsFault}
 use Rattle.css_words.specs.declared.fault.WordsFault.TheVariants as words
 use Rattle.css_app.specs.declared.child.Child.{Child}
@@ -35,6 +37,7 @@ use Rattle.css_app.specs.Pairs.{ArePairedAsDue, Children, PairsByScript, PairsNo
 use Rattle.css_app.specs.Records.{MakesNoRecord, MakesRecord}
 use Rattle.css_app.specs.Relays.{RelaysBy, RelaysNone, RelaysAsDue}
 use Rattle.css_app.specs.Scripts.{script_in}
+use Rattle.css_app.specs.Watches.{IsAskedWatch, EndsAtLastUnlessMemory, MakesNoWatch, MakesWatch}
 
 -- ---- refused words
 -- the words are those of no command, or memory ran out before that was known
@@ -62,6 +65,7 @@ uses_sink (Ok Audit) = true
 uses_sink (Ok Migrate) = true
 uses_sink (Ok (Companion asked)) = true
 uses_sink (Ok (Pair asked)) = true
+uses_sink (Ok (Watch asked)) = true
 uses_sink (Ok (Generate asked)) = true
 uses_sink (Ok (Survey asked)) = true
 uses_sink _ = false
@@ -71,6 +75,7 @@ uses_outside (Ok (Companion asked)) = true
 uses_outside (Ok (Tv asked)) = true
 uses_outside (Ok (Pair asked)) = true
 uses_outside (Ok (Relay asked)) = true
+uses_outside (Ok (Watch asked)) = true
 uses_outside _ = false
 
 abbrev pub uses_spawner : Result Asked WordsFault → Bool
@@ -266,6 +271,21 @@ pub record ByRelay (asked : RelayAsked) (outside : OutsideUse) (result : Status)
   pub complete : HasNotFailed outside.faults_old outside.faults_new
       → RelaysAsDue asked outside.told_old outside.told_new result
 
+-- ---- `watch`
+-- what became of the watch that the options ask for
+abbrev pub WatchesBy : WatchAsked → SinkUse → OutsideUse → Status → Type 0
+WatchesBy asked sink outside result =
+    MakesNoWatch outside.told_old outside.told_new sink.holds_old sink.holds_new result
+    ⊎ ((config : WatchConfig) × IsAskedWatch asked config
+    × MakesWatch config outside.told_old outside.told_new sink.holds_old sink.holds_new result)
+
+-- The calls are those of visits, one after another, and the sink gained the lines of what happened in each of them.
+pub record ByWatch (asked : WatchAsked) (sink : SinkUse) (outside : OutsideUse) (result : Status) : Type 0 where
+  pub ran : WatchesBy asked sink outside result
+  -- over devices that don't fail, dials aside, a watch ends at its last turn alone, or after 2^40 visits
+  pub complete : HasNotFailed sink.faults_old sink.faults_new → HasNotFailed outside.faults_old outside.faults_new
+      → EndsAtLastUnlessMemory result
+
 -- ---- `generate` and `survey`
 -- The sink gained this text, or a front part of it where a write failed or memory ran out.
 pub record ByWriting (text : List ℕ) (sink : SinkUse) (result : Status) : Type 0 where
@@ -297,6 +317,7 @@ Does (Ok (Tv asked)) source sink outside spawner followers result = ByTv asked s
 Does (Ok (Pair asked)) source sink outside spawner followers result =
     ByPair asked source sink outside spawner followers result
 Does (Ok (Relay asked)) source sink outside spawner followers result = ByRelay asked outside result
+Does (Ok (Watch asked)) source sink outside spawner followers result = ByWatch asked sink outside result
 Does (Ok (Generate asked)) source sink outside spawner followers result = ByGenerate asked sink result
 Does (Ok (Survey asked)) source sink outside spawner followers result = BySurvey asked sink result
 Does (Err words.Usage) source sink outside spawner followers result = IsUsageUnlessMemory result

@@ -9,4 +9,5 @@ pub mod Devices
 pub mod Relays
 pub mod Records
 pub mod Migrations
+pub mod Watches
 pub mod Commands

@@ -6,10 +6,11 @@ ghost use Rattle.css_words.specs.Generator.{GeneratorAsked};
 ghost use Rattle.css_words.specs.Pair.{PairAsked};
 ghost use Rattle.css_words.specs.Relay.{RelayAsked};
 ghost use Rattle.css_words.specs.Tv.{TvAsked};
+ghost use Rattle.css_words.specs.Watch.{WatchAsked};
 ghost use Rattle.css_words.specs.Written.{IsWritable};
 ghost use Rattle.css_words.specs.declared.fault.WordsFault.TheVariants as words_fault;
 ghost use Rattle.css_app.specs.Commands.{ByAgree, ByAudit, ByCompanion, ByGenerate, ByMigrate, ByPair, ByRecord};
-ghost use Rattle.css_app.specs.Commands.{ByRelay, ByReplay, BySurvey, ByTv, Does};
+ghost use Rattle.css_app.specs.Commands.{ByRelay, ByReplay, BySurvey, ByTv, ByWatch, Does};
 ghost use Rattle.css_app.specs.Commands.{IsUsageUnlessMemory, uses_followers, uses_outside, uses_sink, uses_source};
 ghost use Rattle.css_app.specs.Commands.{uses_spawner};
 ghost use Rattle.css_app.specs.Devices.{followers_use, outside_use, sink_use, source_use, spawner_use};
@@ -23,6 +24,7 @@ use crate::agreement::agree;
 use crate::audited::audit;
 use crate::by_words::{companion_by, generate_by, pair_by, survey_by, tv_by};
 use crate::live_relay::relay_by;
+use crate::live_watch::watch_by;
 use crate::migration::migrate;
 use crate::replay::{Cause, Replay};
 use crate::status::Status;
@@ -123,6 +125,7 @@ fn run_command<S: Source, K: Sink, O: Outside, P: Spawner, F: Listens>(
         Command::Tv(words) => tv_by(alloc, words, source, outside),
         Command::Pair(words) => pair_by(alloc, words, source, sink, outside, spawner, followers),
         Command::Relay(words) => relay_by(alloc, words, outside),
+        Command::Watch(words) => watch_by(alloc, words, sink, outside),
         Command::Generate(words) => generate_by(alloc, words, sink),
         Command::Survey(words) => survey_by(alloc, words, sink),
     }
@@ -140,6 +143,8 @@ fn run_command<S: Source, K: Sink, O: Outside, P: Spawner, F: Listens>(
 /// - `tv` reads a script from the source, to its end, and then is a television.
 /// - `pair` reads a script, starts `tv` with it as a child, and is a companion of it.
 /// - `relay` is a companion that serves the television's wall clock on to further companions.
+/// - `watch` is a companion that stays: it goes on where a session closes or the television says what can't be read, and
+///   writes what happens to the sink as JSON lines.
 /// - `generate` writes the schedule of so many lines that is generated of a seed.
 /// - `survey` replays this schedule as it is generated, and writes one line, which counts the reports.
 ///
@@ -227,6 +232,11 @@ pub fn run<S: Source, K: Sink, O: Outside, P: Spawner, F: Listens>(
     // A relay: each call is the one that is due.
     ensures relay { (asked : RelayAsked) → command_in (map string_bytes words.now) ≡ Ok (commands.Relay asked)
         → ByRelay asked
+        (outside_use (O.told outside.old) (O.told outside.new) (O.counts outside.old) (O.counts outside.new)) result }
+
+    // A companion that stays: visits, one after another, and the lines of what happened in each of them.
+    ensures watch { (asked : WatchAsked) → command_in (map string_bytes words.now) ≡ Ok (commands.Watch asked)
+        → ByWatch asked (sink_use (K.holds sink.old) (K.holds sink.new) (K.faults sink.old) (K.faults sink.new))
         (outside_use (O.told outside.old) (O.told outside.new) (O.counts outside.old) (O.counts outside.new)) result }
 
     // The schedule of a seed, which a replay accepts.

@@ -2,7 +2,7 @@
 use Rattle.std.proofs.Common.{◌∙◌, ap, sym, map}
 use Rattle.std.specs.Prelude.{Ok, Err, string_bytes, true, false}
 use Rattle.css_words.specs.Commands.{Replay, Agree, Audit, Migrate, Tv, Pair, Relay, Generate, Survey}
-use Rattle.css_words.specs.Commands.{asked_of}
+use Rattle.css_words.specs.Commands.{Watch, asked_of}
 use Rattle.css_words.specs.declared.fault.WordsFault.TheVariants as words
 use Rattle.css_app.specs.Commands.{uses_followers, uses_outside, uses_sink, uses_source, uses_spawner}
 use Rattle.css_app.specs.Pairs.{children}
@@ -86,6 +86,11 @@ returns-in-Ok-clause-relay g c asked is =
     does_so (map string_bytes c.args.words.now) (asked_of c.in-Ok.command) (Ok (Relay asked)) _ _ _ _ _ _
     c.in-Ok.ensures.value c.run_command.ensures.does is
 
+pub returns-in-Ok-clause-watch : goal.returns-in-Ok-clause-watch
+returns-in-Ok-clause-watch g c asked is =
+    does_so (map string_bytes c.args.words.now) (asked_of c.in-Ok.command) (Ok (Watch asked)) _ _ _ _ _ _
+    c.in-Ok.ensures.value c.run_command.ensures.does is
+
 pub returns-in-Ok-clause-generate : goal.returns-in-Ok-clause-generate
 returns-in-Ok-clause-generate g c asked is =
     does_so (map string_bytes c.args.words.now) (asked_of c.in-Ok.command) (Ok (Generate asked)) _ _ _ _ _ _
@@ -143,6 +148,11 @@ returns-in-Err-Usage-clause-pair g c asked is =
 
 pub returns-in-Err-Usage-clause-relay : goal.returns-in-Err-Usage-clause-relay
 returns-in-Err-Usage-clause-relay g c asked is =
+    absurd (let none = usage_of (map string_bytes c.args.words.now) _ c.in-Err-Usage.field-0-is
+    c.in-Err-Usage.ensures.value in cc)
+
+pub returns-in-Err-Usage-clause-watch : goal.returns-in-Err-Usage-clause-watch
+returns-in-Err-Usage-clause-watch g c asked is =
     absurd (let none = usage_of (map string_bytes c.args.words.now) _ c.in-Err-Usage.field-0-is
     c.in-Err-Usage.ensures.value in cc)
 
@@ -229,6 +239,15 @@ returns-in-Err-Memory-clause-pair g c asked is =
 pub returns-in-Err-Memory-clause-relay : goal.returns-in-Err-Memory-clause-relay
 returns-in-Err-Memory-clause-relay g c asked is =
     lacks (Ok (Relay asked)) (g.S.Source.left c.args.source.now) (g.K.Sink.holds c.args.sink.now)
+    (g.O.Outside.told c.args.outside.now)
+    (children (g.P.Spawner.told c.args.spawner.now) (g.P.Spawner.running c.args.spawner.now))
+    (g.F.Listens.takes c.args.followers.now) (g.F.Listens.heard c.args.followers.now)
+    (g.S.Source.faults c.args.source.now) (g.K.Sink.faults c.args.sink.now)
+    (g.O.Outside.counts c.args.outside.now).faults (g.P.Spawner.faults c.args.spawner.now)
+
+pub returns-in-Err-Memory-clause-watch : goal.returns-in-Err-Memory-clause-watch
+returns-in-Err-Memory-clause-watch g c asked is =
+    lacks (Ok (Watch asked)) (g.S.Source.left c.args.source.now) (g.K.Sink.holds c.args.sink.now)
     (g.O.Outside.told c.args.outside.now)
     (children (g.P.Spawner.told c.args.spawner.now) (g.P.Spawner.running c.args.spawner.now))
     (g.F.Listens.takes c.args.followers.now) (g.F.Listens.heard c.args.followers.now)

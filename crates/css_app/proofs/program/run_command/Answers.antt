@@ -69,6 +69,16 @@ returns-in-Relay-clause-counted_writes g c = c.relay_by.ensures.writes (g.K.Sink
 pub returns-in-Relay-clause-counted_spawns : goal.returns-in-Relay-clause-counted_spawns
 returns-in-Relay-clause-counted_spawns g c = c.relay_by.ensures.spawns (g.P.Spawner.faults c.args.spawner.now)
 
+-- a watch reads nothing, and starts no child
+pub returns-in-Watch-clause-does : goal.returns-in-Watch-clause-does
+returns-in-Watch-clause-does g c = rw c.in-Watch.is c.watch_by.ensures.does
+
+pub returns-in-Watch-clause-counted_reads : goal.returns-in-Watch-clause-counted_reads
+returns-in-Watch-clause-counted_reads g c = c.watch_by.ensures.reads (g.S.Source.faults c.args.source.now)
+
+pub returns-in-Watch-clause-counted_spawns : goal.returns-in-Watch-clause-counted_spawns
+returns-in-Watch-clause-counted_spawns g c = c.watch_by.ensures.spawns (g.P.Spawner.faults c.args.spawner.now)
+
 -- what is generated or surveyed is written alone
 pub returns-in-Generate-clause-does : goal.returns-in-Generate-clause-does
 returns-in-Generate-clause-does g c = rw c.in-Generate.is c.generate_by.ensures.does
