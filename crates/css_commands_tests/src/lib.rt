@@ -29,3 +29,7 @@ mod replay_tests;
 mod running;
 #[cfg(test)]
 mod status_tests;
+#[cfg(test)]
+mod watch_tables;
+#[cfg(test)]
+mod watch_tests;

@@ -4,7 +4,7 @@ use crate::outside::{SILENT, Said, Times, World};
 use crate::running::{BLANK, Case, Row};
 
 /// A response with the originate value 6, the receive value 5000 and the transmit value 5001.
-const RESPONSE: &[u8] =
+pub const RESPONSE: &[u8] =
     b"\0\x01\xe2\0\0\0\0\0\0\0\0\0\0\0\0\x06\0\0\0\0\0\0\x13\x88\0\0\0\0\0\0\x13\x89";
 
 /// The response and one more byte.
@@ -30,10 +30,10 @@ const IMPOSSIBLE: &[u8] =
 const AFTER_SLEEP: &[u8] =
     b"\0\x01\xe2\0\0\0\0\0\0\0\0\0\0\0\0\x0c\0\0\0\0\0\0\x17\x70\0\0\0\0\0\0\x17\x71";
 
-const CII: &str =
+pub const CII: &str =
     "{\"timelines\":null,\"tsUrl\":\"ws://127.0.0.1:6678/ts\",\"wcUrl\":\"udp://127.0.0.1:6677\"}";
 
-const TS: &str =
+pub const TS: &str =
     "{\"contentTime\":\"900000\",\"timelineSpeedMultiplier\":1,\"wallClockTime\":\"0\"}";
 
 /// One answer and one control timestamp come.
@@ -241,7 +241,7 @@ pub const CHANGED: &[Row] = &[
     ("a sleep and a request", Case { world: ASKED_AGAIN, ..COMPANION }, "done", LATER),
 ];
 
-const LIST: &[(u32, Said)] = &[(1, Said::Text("[]"))];
+pub const LIST: &[(u32, Said)] = &[(1, Said::Text("[]"))];
 
 const NO_URL: &[(u32, Said)] = &[(1, Said::Text("{\"wcUrl\":\"http://h/\"}"))];
 

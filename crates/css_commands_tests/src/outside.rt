@@ -25,7 +25,22 @@ pub enum Times {
     Seconds,
     /// 5000 and 6000.
     Late,
+    /// 0, 1, 2, 3 and 4 seconds, and once more each between the first and the last.
+    Asking,
+    /// 0, 5, 6, 8, 10, 20, 25, 26, 28, 30 and a second.
+    TwoVisits,
+    /// 0, 5, 6, 10, 20, 21 and a second.
+    Moving,
+    /// 0, 1 and a second.
+    Twice,
+    /// 0 three times, 100, 1000 twice, 1100 and a second.
+    Disagreeing,
+    /// 0, 5, 6, 8, 10, a sleep, 20, 22 and a second.
+    SleptBetween,
 }
+
+/// A second.
+const SECOND: u64 = 1_000_000_000;
 
 /// What a session gives.
 #[derive(Clone, Copy)]
@@ -38,6 +53,7 @@ pub enum Said {
 #[derive(Clone, Copy)]
 pub struct World {
     pub times: Times,
+    /// By the calls that take them. An empty one is none.
     pub datagrams: &'static [&'static [u8]],
     /// By the number of the session.
     pub texts: &'static [(u32, Said)],
@@ -80,6 +96,24 @@ fn readings_of(rt: &impl Abort, alloc: Global, times: Times) -> Vec<Clocked>
         Times::Soon => [awake(0), awake(1), awake(2)].to_vec(alloc),
         Times::Seconds => [awake(0), awake(1_000_000_000), awake(2_000_000_000)].to_vec(alloc),
         Times::Late => [awake(5_000), awake(6_000)].to_vec(alloc),
+        Times::Asking => [
+            awake(0), awake(SECOND), awake(SECOND), awake(2 * SECOND), awake(2 * SECOND), awake(3 * SECOND),
+            awake(3 * SECOND), awake(4 * SECOND),
+        ].to_vec(alloc),
+        Times::TwoVisits => [
+            awake(0), awake(5), awake(6), awake(8), awake(10), awake(20), awake(25), awake(26), awake(28), awake(30),
+            awake(SECOND),
+        ].to_vec(alloc),
+        Times::Moving => [
+            awake(0), awake(5), awake(6), awake(10), awake(20), awake(21), awake(SECOND),
+        ].to_vec(alloc),
+        Times::Twice => [awake(0), awake(1), awake(SECOND)].to_vec(alloc),
+        Times::Disagreeing => [
+            awake(0), awake(0), awake(0), awake(100), awake(1_000), awake(1_000), awake(1_100), awake(SECOND),
+        ].to_vec(alloc),
+        Times::SleptBetween => [
+            awake(0), awake(5), awake(6), awake(8), awake(10), asleep(20), awake(22), awake(SECOND),
+        ].to_vec(alloc),
     }.expect(rt, "memory")
 }
 
@@ -101,13 +135,19 @@ fn texts_of(rt: &impl Abort, alloc: Global, rows: &[(u32, Said)]) -> Vec<Session
     texts
 }
 
+fn datagram_of(rt: &impl Abort, alloc: Global, bytes: &[u8]) -> Option<Datagram> {
+    if bytes.is_empty() {
+        return None;
+    }
+    let bytes = Text::of(alloc, bytes).expect(rt, "memory");
+    Some(Datagram { peer: 2, bytes })
+}
+
 fn datagrams_of(rt: &impl Abort, alloc: Global, rows: &[&[u8]]) -> Vec<Option<Datagram>> {
     let mut datagrams = Vec::new(alloc);
     for bytes in rows {
-        let bytes = Text::of(alloc, bytes).expect(rt, "memory");
-        datagrams
-            .push(Some(Datagram { peer: 2, bytes }))
-            .expect(rt, "memory");
+        let datagram = datagram_of(rt, alloc, bytes);
+        datagrams.push(datagram).expect(rt, "memory");
     }
     datagrams
 }

@@ -1,0 +1,65 @@
+//! The command `watch` over devices in memory.
+
+use crate::running::{Case, NO_MEMORY, check_run};
+use crate::watch_tables::{ASKED, ASKS, CLOSED, CLOSES, FAILING, WATCHES};
+use css_num::Text;
+use std::alloc::Global;
+use std::process::Abort;
+
+fn text_of(rt: &impl Abort, alloc: Global, lines: &[&str]) -> Text {
+    let mut text = Text::new(alloc);
+    for line in lines {
+        text.push(line.as_bytes()).expect(rt, NO_MEMORY);
+        text.push(b"\n").expect(rt, NO_MEMORY);
+    }
+    text
+}
+
+#[test]
+fn each_watch_tells_what_happens(rt: HostRuntime) {
+    for (name, case, ended, lines) in WATCHES {
+        let text = text_of(&rt, rt.alloc(), lines);
+        check_run(&rt, rt.alloc(), name, case, ended, text.bytes());
+    }
+}
+
+/// A watch that fails writes the first of these lines, so many.
+fn check_front(
+    rt: &impl Abort,
+    alloc: Global,
+    case: &Case<'_>,
+    ended: &str,
+    lines: &[&str],
+    count: usize,
+) {
+    let front = lines.get(..count).expect(rt, "lines");
+    let text = text_of(rt, alloc, front);
+    let name = format!(in alloc; "{ended} after {count} lines").expect(rt, NO_MEMORY);
+    check_run(rt, alloc, &name, case, ended, text.bytes());
+}
+
+#[test]
+fn each_call_of_a_watch_fails_once(rt: HostRuntime) {
+    for (calls, count) in FAILING {
+        for call in *calls {
+            let case = Case {
+                calls: &[*call],
+                ..CLOSES
+            };
+            check_front(&rt, rt.alloc(), &case, "net fault", CLOSED, *count);
+        }
+    }
+}
+
+// Each line is one write.
+#[test]
+fn each_write_of_a_watch_fails_once(rt: HostRuntime) {
+    for count in 0..ASKED.len() {
+        let write = (count as u64).saturating_add(1);
+        let case = Case {
+            writes: &[write],
+            ..ASKS
+        };
+        check_front(&rt, rt.alloc(), &case, "write fault", ASKED, count);
+    }
+}
