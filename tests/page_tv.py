@@ -10,7 +10,7 @@ import random
 
 SECOND, TURN, F = 10**9, 10**7, 256_000_000
 LOCAL_ERROR, LOCAL_PRECISION = 128_000, 1000
-ERROR, PRECISION, PRECISION_NS = 128_000, -20, 954
+ERROR, PRECISION_NS = 128_000, 954  # The precision is 2^-20 s.
 BEGIN = 98_765_432_109_876_543  # The first reading: beyond 2^53, so that no page may read it as a number.
 RATE = {"unitsPerSecond": 90000, "unitsPerTick": 1}
 SELECTOR = "urn:dvb:css:timeline:pts"
@@ -153,7 +153,8 @@ class Evening:
             self.answers = [*self.answers[-100:], answer]  # One that is older is never the narrowest.
             self.waiting = 0
             self.say("answer", error=ERROR, landed=self.reading(landed), originate=self.reading(asked),
-                     precision=PRECISION, receive=str(received), transmit=str(sent), type=1, width=str(high - low))
+                     precision=str(PRECISION_NS), receive=str(received), transmit=str(sent), type=1,
+                     width=str(high - low))
             spans = [span(one, answer[3]) for one in self.answers]
             if max(low for low, _ in spans) > min(high for _, high in spans):
                 self.why = "disagree"
