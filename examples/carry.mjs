@@ -1,0 +1,61 @@
+#!/usr/bin/env node
+// Where a television is, between the reports of a watch.
+//
+//     css watch --cii URL | examples/carry.mjs [AFTER]
+//
+// For each report with ticks it prints both ticks, and then those of AFTER nanoseconds later, or of this moment where
+// AFTER isn't given. What may pass 2^53 is a BigInt.
+import { createInterface } from "node:readline";
+
+const LOCAL_ERROR = 128_000n, LOCAL_PRECISION = 1000n; // Those of the watch: its --local-error and --local-precision.
+const F = 256_000_000n;
+
+// The quotient, rounded down. A division of BigInts rounds towards 0.
+const floorDiv = (value, by) => value / by - (value % by < 0n ? 1n : 0n);
+
+// What the lines have told, as long as it holds.
+class Television {
+  report = null;
+  control = null;
+
+  take(line) {
+    if (line.event === "visit") this.report = this.control = null;
+    if (line.event === "end" || line.event === "slept") this.report = null;
+    if (line.event === "control") this.control = line.control ?? null;
+    if (line.event === "report") this.report = line.ticks ? line : null;
+  }
+
+  // From where to where its wall clock is, in nanoseconds, at a reading not below that of the report.
+  wall(reading) {
+    const [low, high] = this.report.wall.map(BigInt), error = BigInt(this.report.error);
+    const past = reading - BigInt(this.report.reading), blur = 2n * LOCAL_PRECISION + 1n;
+    return [low - 1n + floorDiv((F - error) * (past - blur), F + LOCAL_ERROR),
+      high + 1n - floorDiv((F + error) * -(past + blur), F - LOCAL_ERROR)];
+  }
+
+  // The tick that the last control timestamp assigns to a time of its wall clock.
+  tick(wall) {
+    const { contentTime, timelineSpeedMultiplier, wallClockTime } = this.control;
+    const { unitsPerSecond, unitsPerTick } = this.report.rate;
+    const rise = (wall - BigInt(wallClockTime)) * BigInt(timelineSpeedMultiplier) * BigInt(unitsPerSecond);
+    return BigInt(contentTime) + floorDiv(rise, BigInt(unitsPerTick) * 1_000_000_000n);
+  }
+
+  // The least and the greatest tick at which it can be; null where that isn't known.
+  position(reading) {
+    if (!this.report || this.control?.contentTime == null) return null;
+    const [first, second] = this.wall(reading).map((end) => this.tick(end));
+    return first <= second ? [first, second] : [second, first];
+  }
+}
+
+const television = new Television(), after = process.argv[2];
+for await (const text of createInterface({ input: process.stdin })) {
+  const line = JSON.parse(text);
+  television.take(line);
+  if (line.event === "report" && line.ticks) {
+    const reading = after ? BigInt(line.reading) + BigInt(after) : process.hrtime.bigint();
+    const [low, high] = television.position(reading);
+    console.log(line.number, "ticks", ...line.ticks, "then", `${low} ${high}`);
+  }
+}
