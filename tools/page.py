@@ -4,7 +4,7 @@
     ./css watch --cii URL | tools/page.py    the page is http://127.0.0.1:8070/
     tools/page.py --replay FILE              saved lines, each when its reading is due; with --fast all at once
 
-The command `watch` is still to come; examples/evening.lines has the lines of an evening.
+examples/evening.lines has the lines of an evening.
 
 At /lines the lines come as server-sent events, each as it was read, with an id to go on from. An event of the name
 `page` comes between them: how old the last line is, in ms, and whether there will be more. Reading never waits for a
