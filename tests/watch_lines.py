@@ -1,0 +1,286 @@
+"""What the lines of `watch` have to be: their form and their order, and what they say, against a television whose truth
+is known. tests/live_watch.py is made of it."""
+import collections
+import json
+import re
+
+from page_tv import ERROR, F, LOCAL_ERROR, LOCAL_PRECISION, PRECISION_NS, RATE, carried, span, tick_at
+
+LAG = 500_000_000  # Within this time a control timestamp that was said has come.
+SERVICES = ("CII", "WC", "TS")
+STATE = ("contentId", "contentIdStatus", "mrsUrl", "presentationStatus", "protocolVersion", "teUrl", "timelines",
+         "tsUrl", "wcUrl")
+REFUSED = "Undecodable (Length|Version|MessageType|Precision|Error|Nanoseconds)|Unasked|NotAnAnswer|Impossible"
+UNREAD = "NotJson|NotObject|Fractional|(Field|Range) (contentTime|timelineSpeedMultiplier|wallClockTime)"
+CAUSE = f"NoAnswer|NoTimestamp|SessionClosed|Unreadable ({UNREAD})|Unavailable|NoRate"
+WHY = "closed (CII|TS)|CII text [1-9][0-9]*: (not json|not object|field [a-zA-Z]+)|(moved|bad) (wc|ts)Url|disagree"
+NO_ANSWER = f"nothing was asked|no response to [1-9][0-9]* requests|the last datagram was refused: ({REFUSED})"
+
+CHECKS = {
+    "form": "each line is compact JSON of its form, its members in order",
+    "visits": "visits are numbered in order, and each begins where the last one ended",
+    "reports": "reports are numbered in order, and made when they are due",
+    "dials": "a dial is told where its outcome differs from the last one",
+    "states": "each state is one that the television told, in order",
+    "controls": "each control timestamp is one that the television told",
+    "answers": "each answer is one that the television sent, with the width of its span",
+    "disagree": "a visit whose answers disagree ends, and no other ends so",
+    "ends": "each end has a reason, by the lines before it",
+    "causes": "each cause and detail is the first that holds",
+    "intervals": "each interval comes from the narrowest answer and the last control timestamp",
+    "truth": "each interval contains the truth",
+    "carried": "each interval contains the truth when it is carried on",
+}
+
+
+# ---- the form of a line
+
+def digits(value):
+    return isinstance(value, str) and re.fullmatch("0|[1-9][0-9]*", value) is not None
+
+
+def signed(value):
+    return isinstance(value, str) and re.fullmatch("0|-?[1-9][0-9]*", value) is not None
+
+
+def whole(low, high):
+    return lambda value: type(value) is int and low <= value <= high
+
+
+def words(pattern):
+    return lambda value: isinstance(value, str) and re.fullmatch(pattern, value) is not None
+
+
+def both(holds):
+    return lambda value: isinstance(value, list) and len(value) == 2 and all(map(holds, value)) \
+        and int(value[0]) <= int(value[1])
+
+
+def members(**forms):
+    return lambda value: isinstance(value, dict) and set(value) == set(forms) \
+        and all(holds(value[name]) for name, holds in forms.items())
+
+
+def text_or_null(value):
+    return value is None or isinstance(value, str)
+
+
+UNITS = members(unitsPerSecond=whole(1, 10**9), unitsPerTick=whole(1, 10**9))
+TIMELINES = members(timelineSelector=lambda value: isinstance(value, str), timelineProperties=UNITS)
+COUNT = whole(1, 2**53)
+TOLD = dict.fromkeys(STATE, text_or_null) | {
+    "timelines": lambda value: value is None or isinstance(value, list) and all(map(TIMELINES, value))}
+CONTROL = members(contentTime=signed, timelineSpeedMultiplier=whole(-64, 64), wallClockTime=digits)
+NO_CONTROL = members(contentTime=lambda value: value is None, timelineSpeedMultiplier=lambda value: value is None,
+                     wallClockTime=lambda value: value == "0")
+FORMS = {
+    "visit": [{"number": COUNT, "reading": digits}],
+    "dial": [{"outcome": words("open|failed"), "service": words("|".join(SERVICES))}],
+    "state": [{"state": members(**TOLD)}],
+    "control": [{"control": lambda value: CONTROL(value) or NO_CONTROL(value)}, {"fault": words(UNREAD)}],
+    "answer": [{"error": whole(0, 25_600_000), "landed": digits, "originate": digits, "precision": digits,
+                "receive": digits, "transmit": digits, "type": whole(1, 3), "width": digits}],
+    "refused": [{"fault": words(REFUSED), "landed": digits}],
+    "slept": [{"reading": digits}],
+    "report": [{"error": whole(0, 25_600_000), "number": COUNT, "rate": UNITS, "reading": digits,
+                "speed": whole(-64, 64), "ticks": both(signed), "wall": both(signed)},
+               {"cause": words(CAUSE), "detail": lambda value: isinstance(value, str), "number": COUNT,
+                "reading": digits}],
+    "end": [{"number": COUNT, "why": words(WHY)}],
+}
+
+
+def read(line):
+    """What a line says; None where it hasn't the form of its event."""
+    try:
+        said = json.loads(line)
+    except ValueError:
+        return None
+    if not isinstance(said, dict) or said.get("event") not in FORMS:
+        return None
+    compact = json.dumps(said, separators=(",", ":"), sort_keys=True, ensure_ascii=False)
+    rest = {name: value for name, value in said.items() if name != "event"}
+    fits = any(members(**form)(rest) for form in FORMS[said["event"]])
+    return said if fits and compact.encode() + b"\n" == line else None
+
+
+# ---- what the lines of a visit come to
+
+def scaled_width(answer, reading):
+    """The width of an answer's span, not rounded, times a constant. With equal errors all grow alike."""
+    t1, t2, t3, t4 = answer
+    low = (F + LOCAL_ERROR) * (t3 - PRECISION_NS - 1) + (F - ERROR) * (reading - t4 - 2 * LOCAL_PRECISION - 1)
+    high = (F - LOCAL_ERROR) * (t2 + PRECISION_NS + 1) + (F + ERROR) * (reading - t1 + 2 * LOCAL_PRECISION + 1)
+    return high * (F + LOCAL_ERROR) - low * (F - LOCAL_ERROR)
+
+
+def do_disagree(answers, reading):
+    spans = [span(answer, reading) for answer in answers]
+    return bool(spans) and max(low for low, _ in spans) > min(high for _, high in spans)
+
+
+class Visit:
+    """What the lines of a visit have told so far."""
+
+    def __init__(self, number):
+        self.number, self.ended, self.session = number, False, None
+        self.dials, self.states, self.control = {}, [], None
+        self.answers, self.promised, self.refused, self.disagrees = [], {}, None, False
+
+    def forget(self):
+        self.answers, self.promised, self.refused = [], {}, None
+
+    def is_open(self, service):
+        return self.dials.get(service) == "open"
+
+    def says(self, name):
+        return bool(self.states) and self.states[-1][name] is not None
+
+    def cause(self):
+        """The cause of a report that is due now, and the pattern of its detail; none where it has ticks."""
+        first = "" if self.is_open("CII") else "CII isn't open"
+        if not self.answers:
+            second = "" if self.says("wcUrl") else "no wcUrl"
+            return "NoAnswer", first or second or ("" if self.is_open("WC") else "WC isn't open") or NO_ANSWER
+        if self.control is None:
+            second = "" if self.says("tsUrl") else "no tsUrl"
+            return "NoTimestamp", first or second or ("no text came" if self.is_open("TS") else "TS isn't open")
+        if isinstance(self.control, str):
+            return f"Unreadable {self.control}", ""
+        return ("Unavailable", "") if self.control["contentTime"] is None else None
+
+
+class Story:
+    """Reads the lines of a run one by one, and notes what is wrong."""
+
+    def __init__(self, tv, every):
+        self.tv, self.every = tv, every
+        self.wrong, self.count = collections.defaultdict(list), collections.Counter()
+        self.visit, self.begun, self.last, self.number, self.sessions = None, None, "", 0, 0
+        self.visits, self.ends, self.reports, self.refused = [], [], [], []
+
+    def expect(self, what, holds, line):
+        self.count[what] += 1
+        if not holds:
+            self.wrong[what].append(line)
+
+    def take(self, line):
+        said = read(line)
+        self.expect("form", said is not None, line)
+        if said is None:
+            return
+        event, visit = said["event"], self.visit
+        in_order = (visit is None or visit.ended) == (event == "visit")
+        self.expect("visits", in_order, said)
+        if not in_order and visit is None:
+            return
+        if visit and visit.disagrees and not visit.ended and event != "end":
+            self.expect("disagree", False, said)
+        getattr(self, "on_" + event)(visit, said)
+        self.last = event
+
+    def tell(self, check):
+        for what, name in CHECKS.items():
+            wrong = self.wrong[what]
+            check(name, self.count[what] and not wrong, wrong[:2] if wrong else f"{self.count[what]} times")
+
+    # ---- by events
+
+    def on_visit(self, _, said):
+        self.visit = Visit(said["number"])
+        self.begun = int(said["reading"]) if self.begun is None else self.begun
+        self.visits.append(int(said["reading"]))
+        self.expect("visits", said["number"] == len(self.visits), said)
+
+    def on_dial(self, visit, said):
+        before = visit.dials.get(said["service"])
+        self.expect("dials", before not in (said["outcome"], "open"), said)
+        visit.dials[said["service"]] = said["outcome"]
+        if (said["service"], said["outcome"]) == ("CII", "open"):
+            visit.session, self.sessions = self.sessions, self.sessions + 1
+
+    def on_state(self, visit, said):
+        told = self.tv.sessions[visit.session] if visit.session is not None else []
+        visit.states.append(said["state"])
+        at = len(visit.states)
+        self.expect("states", at <= len(told) and told[at - 1] == said["state"], said)
+
+    def on_control(self, visit, said):
+        visit.control = said.get("control") or said["fault"]
+        self.expect("controls", visit.is_open("TS")
+                    and any(visit.control == (fault or text) for _, text, fault in self.tv.controls), said)
+
+    def on_answer(self, visit, said):
+        t1, t2, t3, landed = (int(said[name]) for name in ("originate", "receive", "transmit", "landed"))
+        kind, t4 = said["type"], landed
+        if kind == 2:
+            visit.promised.setdefault((t1, t2), landed)
+        if kind == 3:  # It counts from the landing of its response.
+            t4 = visit.promised.get((t1, t2), landed)
+        visit.answers.append((t1, t2, t3, t4))
+        low, high = span(visit.answers[-1], landed)
+        self.expect("answers", (kind, t1, t2, t3) in self.tv.sent and said["error"] == ERROR
+                    and said["precision"] == str(PRECISION_NS) and said["width"] == str(high - low), said)
+        visit.disagrees, visit.refused = do_disagree(visit.answers, landed), None
+
+    def on_refused(self, visit, said):
+        visit.refused = said["fault"]
+        self.refused.append(said["fault"])
+
+    def on_slept(self, visit, _):
+        visit.forget()
+
+    def on_end(self, visit, said):
+        why, visit.ended = said["why"], True
+        self.ends.append(why)
+        text = re.match("CII text ([0-9]+)", why)
+        after = {"closed CII": visit.is_open("CII"), "closed TS": visit.is_open("TS"), "bad wcUrl": visit.says("wcUrl"),
+                 "bad tsUrl": visit.says("tsUrl"), "disagree": self.last == "answer"}
+        holds = int(text[1]) == len(visit.states) + 1 if text else after.get(why, bool(visit.states))
+        self.expect("ends", holds and said["number"] == visit.number, said)
+        self.expect("disagree", visit.disagrees == (why == "disagree"), said)
+
+    def on_report(self, visit, said):
+        self.number += 1
+        reading = int(said["reading"])
+        in_order = said["number"] == self.number and (not self.reports or reading > self.reports[-1][0])
+        self.expect("reports", in_order and reading >= self.begun + self.number * self.every, said)
+        cause = visit.cause()
+        known = "ticks" in said
+        if known and cause is None:
+            self.known(visit, said, reading)
+        elif known or cause is None:
+            self.expect("causes", False, said)
+        else:
+            holds = said["cause"] == cause[0] and re.fullmatch(cause[1], said["detail"])
+            if holds and "refused" in said["detail"]:
+                holds = said["detail"].endswith(visit.refused or "no")
+            self.expect("causes", bool(holds), said)
+        self.reports.append((reading, visit.number, known and not self.is_exempt(visit, reading)))
+
+    # ---- reports with ticks
+
+    def is_exempt(self, visit, reading):
+        """Whether the television's clock was set since an answer of the visit: no companion can know before the next
+        one lands."""
+        return any(answer[0] < jump <= reading for jump, _ in self.tv.begins[1:] for answer in visit.answers)
+
+    def known(self, visit, said, reading):
+        control, wall = visit.control, [int(end) for end in said["wall"]]
+        ticks = [int(tick) for tick in said["ticks"]]
+        best = min(visit.answers, key=lambda answer: scaled_width(answer, reading))
+        self.expect("intervals", tuple(wall) == span(best, reading) and said["error"] == ERROR and said["rate"] == RATE
+                    and said["speed"] == control["timelineSpeedMultiplier"]
+                    and ticks == sorted(tick_at(end, control, RATE) for end in wall), said)
+        if self.is_exempt(visit, reading):
+            return
+        true = self.tv.wall(reading)
+        self.expect("truth", wall[0] <= true <= wall[1] and ticks[0] <= tick_at(true, control, RATE) <= ticks[1]
+                    and control in self.tv.said(reading - LAG, reading), said)
+        for part in (1, 2, 3, 9):
+            later = reading + self.every * part // 3
+            if self.is_exempt(visit, later):
+                continue
+            true, low, high = self.tv.wall(later), *carried(wall, said["error"], later - reading)
+            first, last = sorted(tick_at(end, control, RATE) for end in (low, high))
+            self.expect("carried", low <= true <= high and first <= tick_at(true, control, RATE) <= last, said)
