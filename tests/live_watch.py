@@ -277,6 +277,7 @@ def evening(program):
     check("a watch ends when its time is over, with 0", status == 0 and SECONDS <= took < SECONDS + 3,
           (status, f"{took:.2f} s", child.stderr.read().decode().strip()))
     lines.thread.join(10)
+    time.sleep(0.5)
     tv.end()
     story = Story(tv, REPORT)
     for _, line in lines.kept:
@@ -301,6 +302,8 @@ def rest(tv, story, lines):
     count = sum(fault in ("Undecodable Length", "NotAnAnswer", "Unasked") for fault in story.refused)
     check("so are those of a flood, as many as were taken", count > 500 and tv.flooded > 72_000,
           f"{count} of {tv.flooded}")
+    ends = [end for end in tv.ends if end[1:] != ([1000], "in order")]
+    check("each session that is hung up has a close with 1000", len(tv.ends) > 20 and not ends, ends or len(tv.ends))
     setup = {"contentIdStem": "", "timelineSelector": TIMELINE}
     check("each setup is the wanted one", tv.setups and all(each == setup for each in tv.setups), len(tv.setups))
 

@@ -7,7 +7,7 @@ import struct
 import threading
 import time
 
-from live_edge import FAULTS, Listener, greet, hold, state
+from live_edge import FAULTS, Listener, end_of, greet, state
 from live_peer import CLOSE, frame, nanos, stamp
 from page_tv import ERROR, SECOND, Television
 
@@ -81,7 +81,7 @@ class Set(Television):
         self.refused, self.flooded = [], 0  # What it sent that is refused.
         self.controls, self.sessions, self.setups, self.sent = [], [], [], set()
         self.peers, self.sender, self.request, self.senders = {"CII": [], "TS": []}, None, None, {}
-        self.listeners, self.open = [], {}
+        self.listeners, self.open, self.hung_up, self.ends = [], {}, set(), []
         self.show(time.monotonic_ns(), 900_000, 1)
         self.controls.append((0, self.control, None))
         self.clock = WallClock(self, port)
@@ -170,6 +170,7 @@ class Set(Television):
         with self.lock:
             self.sessions.append([])
             if self.greets == "closed":
+                self.hung_up.add(peer)
                 peer.say(struct.pack(">H", 1001), CLOSE)
             elif self.first is not None:
                 peer.say(self.first)
@@ -189,12 +190,14 @@ class Set(Television):
         self.hear("TS", peer)
 
     def hear(self, kind, peer):
-        """What comes is passed over, until the session is hung up."""
+        """What comes is passed over, until the session ends. It is noted how, where the other end ends it."""
         try:
-            hold(peer, LONG)
-        except FAULTS:
-            pass
+            codes, _, how = end_of(peer, LONG)
+        except FAULTS as fault:
+            codes, how = [], repr(fault)
         with self.lock:
+            if peer not in self.hung_up:
+                self.ends.append((kind, codes, how))
             if peer in self.peers[kind]:
                 self.peers[kind].remove(peer)
         peer.conn.close()
@@ -203,6 +206,7 @@ class Set(Television):
         """Ends the sessions of a kind: by a close, by the end of the connection, or by a reset."""
         with self.lock:
             peers, self.peers[kind] = self.peers[kind], []
+            self.hung_up.update(peers)
         for peer in peers:
             try:
                 if how == "closed":
