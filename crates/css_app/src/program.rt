@@ -143,8 +143,8 @@ fn run_command<S: Source, K: Sink, O: Outside, P: Spawner, F: Listens>(
 /// - `tv` reads a script from the source, to its end, and then is a television.
 /// - `pair` reads a script, starts `tv` with it as a child, and is a companion of it.
 /// - `relay` is a companion that serves the television's wall clock on to further companions.
-/// - `watch` is a companion that stays: it goes on where a session closes or the television says what can't be read, and
-///   writes what happens to the sink as JSON lines.
+/// - `watch` is a companion that stays: it goes on where a session closes or a text can't be read, and it writes what
+///   happens to the sink as JSON lines.
 /// - `generate` writes the schedule of so many lines that is generated of a seed.
 /// - `survey` replays this schedule as it is generated, and writes one line, which counts the reports.
 ///

@@ -1,12 +1,12 @@
 -- How single visits come to a watch.
-use Rattle.std.proofs.Common.{◌≡◌, ℕ, ap, sym, ◌∙◌, subst, refl, inl, inr, List, [], ◌∷◌, ◌++◌, append-nil}
-use Rattle.std.proofs.Common.{append_assoc, Option, Some, None, Bool, true, false, cond, Result, Ok, Err}
+use Rattle.std.proofs.Common.{◌≡◌, ℕ, ap, sym, ◌∙◌, subst, refl, inl, inr, List, [], ◌++◌, append-nil}
+use Rattle.std.proofs.Common.{Option, Some, None, Bool, true, false, cond, Result, Ok, Err}
 use Rattle.std.proofs.KnownBytes.{Appends-trans}
 use Rattle.std.specs.Prelude.{◌≢◌, ◌⊎◌, OnOk}
 use Rattle.std.specs.Io.KnownBytes.{Appends}
 use Rattle.css_model.specs.History.{History}
 use Rattle.css_outside.specs.Bytes.{AppendsPrefix}
-use Rattle.css_outside.specs.Faults.{CountsCall, CountsOutFault, HasRisen}
+use Rattle.css_outside.specs.Faults.{CountsCall, CountsOutFault}
 use Rattle.css_outside.specs.declared.fault.OutFault.{OutFault}
 use Rattle.css_outside.specs.declared.fault.OutFault.TheVariants as fault
 use Rattle.css_drive.specs.Proper.{Empty}
@@ -17,7 +17,7 @@ use Rattle.css_drive.specs.Notes.{noted}
 use Rattle.css_drive.specs.declared.driven.Driven.{Driven}
 use Rattle.css_drive.specs.declared.driven.Driven.TheVariants as driven
 use Rattle.css_watch_lines.specs.Lines.{line_text, Ended}
-use Rattle.css_watch.specs.Following.{BreaksOff, CountsWrites, Ends, Follows, GoesOn, IsRun, IsWhole, Leaves, Makes}
+use Rattle.css_watch.specs.Following.{BreaksOff, CountsWrites, GoesOn, IsRun, IsWhole, Leaves, Makes}
 use Rattle.css_watch.specs.Following.{IsQuiet, LeavesAll, Parts, Saw, Stage}
 use Rattle.css_watch.specs.Progress.{fresh, told_number, with_visit}
 use Rattle.css_watch.specs.Telling.{Told, told_of, text_of}

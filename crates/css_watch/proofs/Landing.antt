@@ -1,5 +1,5 @@
 -- What an observer of a visit makes of a landing.
-use Rattle.std.proofs.Common.{◌≡◌, ◌∙◌, ap, sym, subst, refl, ℕ, pos, List, [], ◌∷◌, ◌++◌, Option, Some, None, Result}
+use Rattle.std.proofs.Common.{◌≡◌, ◌∙◌, ap, sym, subst, refl, ℕ, pos, List, ◌∷◌, Option, Some, None, Result}
 use Rattle.std.proofs.Common.{Ok, Err, Bool, true, false, cond}
 use Rattle.std.specs.Prelude.{IfOk, int_lt}
 use Rattle.css_agree.specs.Keeping.{Kept, StandsFor}
@@ -76,8 +76,8 @@ step_of plan reading bytes history companion answers was is old new over parting
     let L : Local → Type 0 = λ x. IsPossibleAt x reading result in
     let A : Local → Type 0 = λ x. Accepts x reading result answers accepted wanted in
     let a : Accepts own reading result answers accepted wanted =
-        subst A of.local (accepts answers of.stands (subst L (sym of.local) (subst P (sym e) (judged_possible own history
-        reading bytes))))
+    subst A of.local (accepts answers of.stands (subst L (sym of.local) (subst P (sym e) (judged_possible own history
+    reading bytes))))
     in
     let N : Kept → Type 0 = λ x. IsOf plan x (with_judged (judged plan history reading bytes) answers) in
     let J : Result Answer Landing → Type 0 = λ x. IsOf plan accepted (with_judged x answers) in

@@ -1,5 +1,5 @@
 -- The line of a report with ticks.
-use Rattle.std.proofs.Common.{◌≡◌, subst, ℕ, List, Option, Some, None, Result, Ok}
+use Rattle.std.proofs.Common.{◌≡◌, subst, ℕ, List, Option, Some, Result, Ok}
 use Rattle.std.specs.Prelude.{IfOk}
 use Rattle.css_companion.specs.declared.knowledge.Timing.{Timing}
 use Rattle.css_companion.specs.declared.report.Cause.{Cause}

@@ -4,22 +4,21 @@ use Rattle.std.proofs.KnownBytes.{Appends-nil}
 use Rattle.std.specs.Prelude.{length, ◌+◌}
 use Rattle.css_agree.specs.Keeping.{Kept}
 use Rattle.css_model.specs.History.{History}
-use Rattle.css_outside.specs.declared.failure.Failure.TheVariants as failure
 use Rattle.css_outside.specs.declared.fault.OutFault.{OutFault}
 use Rattle.css_outside.specs.declared.fault.OutFault.TheVariants as fault
 use Rattle.css_drive.specs.CompanionReports.{is_due, report_at, due_reports}
 use Rattle.css_drive.specs.CompanionStanding.{IsEndOf, Made}
 use Rattle.css_drive.specs.CompanionTurns.{first_turn, turn_at}
 use Rattle.css_drive.specs.Ends as drive
-use Rattle.css_drive.specs.Notes.{Event, Note, Happened, Reported, Standpoint, event_of, noted, standpoint, with_event}
+use Rattle.css_drive.specs.Notes.{Event, Note, Reported, event_of, noted, standpoint, with_event}
 use Rattle.css_drive.specs.Notes.{with_report}
 use Rattle.css_drive.specs.declared.config.DriveConfig.{DriveConfig}
 use Rattle.css_drive.specs.declared.driven.Driven.{Driven}
 use Rattle.css_drive.specs.declared.driven.Driven.TheVariants as driven
 use Rattle.css_watch.specs.Following.{CountsWrites, IsRun, IsWhole, Saw, Stage}
 use Rattle.css_watch.specs.Progress.{fresh, with_visit}
-use Rattle.css_watch.specs.Telling.{Told, told_of, text_of}
-use Rattle.css_watch.specs.Watching.{AreFrom, GoesOn, IsFresh, IsTelling, IsToldBy, Parts, Writes}
+use Rattle.css_watch.specs.Telling.{Told, told_of}
+use Rattle.css_watch.specs.Watching.{AreFrom, GoesOn, IsFresh, IsTelling, IsToldBy}
 use Rattle.css_watch.specs.declared.parting.Parting.{Parting}
 use Rattle.css_watch.specs.declared.plan.Plan.{Plan}
 use Rattle.css_watch.specs.declared.progress.Begun.{Begun}
@@ -94,8 +93,7 @@ saw_of plan told (Some fault.Memory) None progress agree held holds before now e
     let P : Driven → Type 0 = λ x. Saw told None x progress held holds × CountsWrites None x before now in
     subst P (sym so) (t.0, t.1)
 saw_of plan told (Some cause) (Some why) progress agree held holds before now ended t so =
-    let P : OutFault → Type 0 = λ x. IsEndOf (Some x) ended in
-    (
+    let P : OutFault → Type 0 = λ x. IsEndOf (Some x) ended in (
       (subst P t.0 so, record { progress_so = t.1.progress_so; parting_so = t.1.parting_so; wrote = t.1.wrote.0 }),
       t.1.wrote.1,
     )

@@ -12,7 +12,6 @@ use Rattle.css_drive.specs.declared.config.DriveConfig.{DriveConfig}
 use Rattle.css_outside.specs.Bytes.{AppendsPrefix}
 use Rattle.css_outside.specs.Faults.{CountsOutFault}
 use Rattle.css_outside.specs.declared.fault.OutFault.{OutFault}
-use Rattle.css_outside.specs.declared.fault.OutFault.TheVariants as fault
 use Rattle.css_drive.specs.Notes.{Event, Slept, Note, Happened, Standpoint, slept_from, slept_notes}
 use Rattle.css_agree.specs.Disagreements.{disagree}
 use Rattle.css_client.specs.declared.landing.Landing.{Landing}
@@ -22,7 +21,7 @@ use Rattle.css_watch_lines.specs.Lines.{Line, line_text}
 use Rattle.css_watch.specs.Progress.{progress_after, after_sleep}
 use Rattle.css_watch.specs.Telling as telling
 use Rattle.css_watch.specs.Telling.{Told, told_of, text_of, lines_by, answers_after}
-use Rattle.css_watch.specs.Watching.{Accepts, AreFrom, GoesOn, IsFreshOf, IsOf, IsStep, IsTelling, IsToldBy, Parts, Steps}
+use Rattle.css_watch.specs.Watching.{Accepts, AreFrom, GoesOn, IsOf, IsStep, IsTelling, IsToldBy, Steps}
 use Rattle.css_watch.specs.Watching.{Wakes, Writes, over_by, parting_by}
 use Rattle.css_watch.specs.declared.parting.Parting.{Parting}
 use Rattle.css_watch.specs.declared.parting.Parting.TheVariants as parting
@@ -121,7 +120,7 @@ step_on plan start from event notes was is old new over parting held mid holds b
     let P : Progress → Type 0 = λ x. IsStep plan event from.history told.answers x is new over parting mid holds m now
     in
     let step : IsStep plan event from.history told.answers told.progress is new over parting mid holds m now =
-        subst P g.progress_so (steps told.answers g.agree_so)
+    subst P g.progress_so (steps told.answers g.agree_so)
     in
     by step.says.cause (telling.parting_by plan event from.history told.progress told.answers) refl step.says.over_so
     step.says.parting_so step.says.wrote step.progress_so step.agree_so
@@ -145,27 +144,30 @@ step_on plan start from event notes was is old new over parting held mid holds b
           parting_so = ap (λ x. option_or x (telling.parting_by plan event from.history (told_of plan start
               notes).progress (told_of plan start notes).answers)) g.parting_so ∙ sym w;
           wrote = lines_on None held mid holds before m now (lines_by plan event from.history (told_of plan
-          start notes).progress) (told_of plan start notes).lines g.wrote wrote;
+              start notes).progress) (told_of plan start notes).lines g.wrote wrote;
         }))
     by None (Some why) w o p wrote progress agree =
         let P : Option OutFault → Type 0 = λ x. IsToldBy plan (told_of plan start (Happened from event ∷ notes)) x
         parting is new held holds before now in
         let Q : Option Parting → Type 0 = λ x. IsToldBy plan (told_of plan start (Happened from event ∷ notes)) (over_by
         None (Some why)) x is new held holds before now in
-        subst P (sym o) (subst Q (sym p) (refl, record {
-          progress_so = progress;
-          parting_so = ap (λ x. option_or x (telling.parting_by plan event from.history (told_of plan start
-              notes).progress (told_of plan start notes).answers)) g.parting_so ∙ sym w;
-          wrote = lines_on None held mid holds before m now (lines_by plan event from.history (told_of plan
-          start notes).progress) (told_of plan start notes).lines g.wrote wrote;
-        }))
+        subst P (sym o) (subst Q (sym p) (
+          refl,
+          record {
+            progress_so = progress;
+            parting_so = ap (λ x. option_or x (telling.parting_by plan event from.history (told_of plan start
+                notes).progress (told_of plan start notes).answers)) g.parting_so ∙ sym w;
+            wrote = lines_on None held mid holds before m now (lines_by plan event from.history (told_of plan
+                start notes).progress) (told_of plan start notes).lines g.wrote wrote;
+          },
+        ))
     by (Some cause) wanted w o p wrote progress agree =
         let P : Option OutFault → Type 0 = λ x. IsToldBy plan (told_of plan start (Happened from event ∷ notes)) x
         parting is new held holds before now in
         let Q : Option Parting → Type 0 = λ x. IsToldBy plan (told_of plan start (Happened from event ∷ notes)) (Some
         cause) x is new held holds before now in
         subst P (sym o) (subst Q (sym p) (lines_on (Some cause) held mid holds before m now (lines_by plan event from.history (told_of plan
-          start notes).progress) (told_of plan start notes).lines g.wrote wrote))
+        start notes).progress) (told_of plan start notes).lines g.wrote wrote))
 
 -- ---- notes of one run
 pub from_older : (plan : Plan) (from : Standpoint) (slept : Bool) (notes : List Note)

@@ -1,10 +1,8 @@
 -- How visits come to a watch.
-use Rattle.std.proofs.Common.{◌≡◌, ◌≤◌, ℕ, ◌+◌, suc, arith, ap, sym, ◌∙◌, subst, refl, inl, inr, List, [], ◌∷◌, ◌++◌, length}
-use Rattle.std.proofs.Common.{append-nil, append_assoc, add-one, Option, Some, None, Bool, true, false, cond}
+use Rattle.std.proofs.Common.{◌≡◌, ◌≤◌, ℕ, ◌+◌, suc, arith, ap, sym, ◌∙◌, subst, refl, List, [], ◌∷◌, ◌++◌}
+use Rattle.std.proofs.Common.{append-nil, add-one, Some, None, Bool, true, false, cond}
 use Rattle.std.proofs.KnownBytes.{Appends-nil, Appends-trans}
 use Rattle.std.specs.Io.KnownBytes.{Appends}
-use Rattle.css_model.specs.History.{History}
-use Rattle.css_outside.specs.Outsides.{with_entries}
 use Rattle.css_drive.proofs.CompanionRuns.{risen_from}
 use Rattle.css_drive.proofs.CompanionSteps.{told_more}
 use Rattle.css_drive.specs.Ends as drive
@@ -12,8 +10,8 @@ use Rattle.css_drive.specs.declared.driven.Driven.{Driven}
 use Rattle.css_drive.specs.declared.driven.Driven.TheVariants as driven
 use Rattle.css_watch.specs.Following.{CountsDials, Ends, EndsBy, Follows, IsUnreachableBy, SoFar, Stage}
 use Rattle.css_watch.specs.Progress.{nothing_begun}
-use Rattle.css_watch.specs.Visits.{AreFollowed, CountsDialFaults, CountsNetFault, CountsWriteFault, HoldsAll, IsFollowed, IsLast, Visit}
-use Rattle.css_watch.specs.Visits.{Watches, begun_after, by_reports, entries_of, most_visits, told_in, visit_text, written}
+use Rattle.css_watch.specs.Visits.{CountsDialFaults, CountsNetFault, CountsWriteFault, HoldsAll, IsFollowed, IsLast}
+use Rattle.css_watch.specs.Visits.{Watches, by_reports, entries_of, most_visits, told_in, visit_text, written}
 use Rattle.css_watch.specs.declared.ending.Watched.{Watched}
 use Rattle.css_watch.specs.declared.ending.Watched.TheVariants as watched
 use Rattle.css_watch.specs.declared.visit.Visited.{Visited}

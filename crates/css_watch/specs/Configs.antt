@@ -1,5 +1,5 @@
 -- What the visits of a watch are to do.
-use Rattle.std.specs.Prelude.{◌≡◌, ℕ, None}
+use Rattle.std.specs.Prelude.{◌≡◌, None}
 use Rattle.std.specs.Str.{IsUtf8}
 use Rattle.css_outside.specs.declared.limit.Limit.TheVariants as limit
 use Rattle.css_watch.specs.declared.config.WatchConfig.{WatchConfig}

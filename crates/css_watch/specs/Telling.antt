@@ -1,5 +1,5 @@
 -- What a visit of a watch tells, line by line, and when its observer ends it.
-use Rattle.std.specs.Prelude.{ℕ, ◌≡◌, ◌+◌, nat_lt, pos, ◌-ℤ◌, List, [], ◌∷◌, ◌++◌, Bool, true, false, not, ◌&&◌, is_some}
+use Rattle.std.specs.Prelude.{ℕ, nat_lt, ◌-ℤ◌, List, [], ◌∷◌, ◌++◌, Bool, true, false, not, ◌&&◌, is_some}
 use Rattle.std.specs.Prelude.{if◌then◌else◌, Option, Some, None, unwrap_or, Result, Ok, Err, codes, decimal}
 use Rattle.std.specs.Option.{option_or}
 use Rattle.css_model.specs.declared.Kind.{Kind}
@@ -28,8 +28,6 @@ use Rattle.css_companion.specs.declared.report.Report.{Report}
 use Rattle.css_companion.specs.declared.report.Report.TheVariants as report
 use Rattle.css_drive.specs.CompanionReports.{report_at}
 use Rattle.css_drive.specs.Notes.{Event, Slept, Turn, Dialled, Asked, Landed, Heard, Closed, Note, Happened, Reported}
-use Rattle.css_drive.specs.Notes.{Standpoint}
-use Rattle.css_drive.specs.declared.config.DriveConfig.{DriveConfig}
 use Rattle.css_drive.specs.declared.session.Session.{Session}
 use Rattle.css_drive.specs.declared.session.Session.TheVariants as session
 use Rattle.css_watch_lines.specs.Lines.{Line, Visit, Dial, StateTold, ControlTold, Answered, Refused, SleptAt, Known}

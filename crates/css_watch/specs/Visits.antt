@@ -2,7 +2,7 @@
 use Rattle.std.specs.Prelude.{◌≡◌, ◌≤◌, ◌⊎◌, ℕ, List, [], ◌∷◌, ◌++◌, length, Option, Some, None, Result, OnOk, codes, decimal}
 use Rattle.std.specs.Prelude.{if◌then◌else◌, ⊤}
 use Rattle.std.specs.Io.KnownBytes.{Appends}
-use Rattle.css_model.specs.History.{HungUp, History}
+use Rattle.css_model.specs.History.{History}
 use Rattle.css_outside.specs.Bytes.{AppendsPrefix}
 use Rattle.css_outside.specs.Faults.{HasRisen, CountsCall}
 use Rattle.css_outside.specs.Outsides.{with_entries}

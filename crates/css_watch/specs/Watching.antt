@@ -1,5 +1,5 @@
 -- How the variables of a visit's observer stand for what it was told.
-use Rattle.std.specs.Prelude.{◌≡◌, ℕ, List, [], ◌∷◌, Bool, true, false, Option, Some, None, IfOk, Result, Ok, Err, ⊤, pos}
+use Rattle.std.specs.Prelude.{◌≡◌, ℕ, List, [], ◌∷◌, Bool, true, false, Option, Some, None, Result, Ok, Err, ⊤, pos}
 use Rattle.std.specs.Prelude.{int_lt}
 use Rattle.std.specs.Io.KnownBytes.{Appends}
 use Rattle.css_model.specs.WallClock.{Answer, Local, scaled_width}

@@ -25,8 +25,8 @@ use css_outside::Kind;
 use css_span::{Answer, Local, width_at};
 use css_tsmsg::{TsFault, read_control};
 use css_watch_lines::{
-    Known, Ticks, answer_line, cause_line, control_line, dial_line, known_line, refused_line, slept_line,
-    state_line, visit_line,
+    Known, Ticks, answer_line, cause_line, control_line, dial_line, known_line, refused_line,
+    slept_line, state_line, visit_line,
 };
 use css_wc::decode;
 use std::alloc::Global;
@@ -85,7 +85,12 @@ fn ticks_line(
     let Ok(timing) = companion.timing() else {
         return cause_line(alloc, number, reading, &Cause::NoAnswer, "");
     };
-    known_line(alloc, number, reading, &known_by(&ticks, &wall, &answer, &timing))
+    known_line(
+        alloc,
+        number,
+        reading,
+        &known_by(&ticks, &wall, &answer, &timing),
+    )
 }
 
 /// The line of a report.

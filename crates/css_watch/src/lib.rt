@@ -7,8 +7,8 @@
 
 mod config;
 mod detail;
-mod event_lines;
 mod ending;
+mod event_lines;
 mod parting;
 mod plan;
 mod progress;

@@ -20,7 +20,11 @@ pub(crate) fn counted(count: u64) -> u64
     ensures value { result ≡ spec.counted count }
     ensures few { result < 10 ^ 18 }
 {
-    if count < GREATEST { count + 1 } else { GREATEST }
+    if count < GREATEST {
+        count + 1
+    } else {
+        GREATEST
+    }
 }
 
 /// One more report than so many.

@@ -317,5 +317,12 @@ pub(crate) fn visit<K: Sink, O: Outside>(
         Err(Memory) => return Visited::Over(Watched::Memory),
     };
     let run = make_run(alloc, plan, begun, &mut companion, sink, outside);
-    after(alloc, &run.ended, &run.parting, &run.progress, sink, outside)
+    after(
+        alloc,
+        &run.ended,
+        &run.parting,
+        &run.progress,
+        sink,
+        outside,
+    )
 }

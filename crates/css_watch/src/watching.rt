@@ -12,9 +12,7 @@ ghost use Rattle.css_agree.specs.Keeping.{StandsFor};
 ghost use Rattle.css_drive.specs.CompanionStanding.{Knows};
 ghost use Rattle.css_span.specs.Frontiers.{Answers};
 
-use crate::event_lines::{
-    dial_text, heard_text, landing_text, report_due, slept_text, turn_text,
-};
+use crate::event_lines::{dial_text, heard_text, landing_text, report_due, slept_text, turn_text};
 use crate::parting::Parting;
 use crate::plan::Plan;
 use crate::progress::{Begun, Progress};
@@ -164,8 +162,8 @@ impl<'a, K: Sink> Watching<'a, K> {
         ensures plan { self.new.plan.now ≡ self.old.plan.now }
         ensures steps { (history : History) → Knows self.old.plan.now.run companion.now history
             → Steps self.old.plan.now (notes.Turn reading) history self.old.progress self.new.progress
-            self.old.agree.now self.new.agree.now self.new.over self.new.parting (K.holds self.old.sink.now) (K.holds self.new.sink.now)
-            (K.faults self.old.sink.now) (K.faults self.new.sink.now) }
+            self.old.agree.now self.new.agree.now self.new.over self.new.parting (K.holds self.old.sink.now)
+            (K.holds self.new.sink.now) (K.faults self.old.sink.now) (K.faults self.new.sink.now) }
     {
         let text = turn_text(self.alloc, self.plan, reading, companion, &self.progress);
         let parting = late(self.plan, reading, &self.progress.begun);
@@ -218,7 +216,13 @@ impl<K: Sink> Observes for Watching<'_, K> {
     }
 
     fn turned(&mut self, clocked: &Clocked, companion: &Companion) {
-        wake(self.alloc, self.plan, clocked.slept, &mut self.progress, self.agree);
+        wake(
+            self.alloc,
+            self.plan,
+            clocked.slept,
+            &mut self.progress,
+            self.agree,
+        );
         self.turn(clocked.reading, companion);
     }
 
@@ -229,7 +233,13 @@ impl<K: Sink> Observes for Watching<'_, K> {
         _report: &Report,
         companion: &Companion,
     ) {
-        wake(self.alloc, self.plan, clocked.slept, &mut self.progress, self.agree);
+        wake(
+            self.alloc,
+            self.plan,
+            clocked.slept,
+            &mut self.progress,
+            self.agree,
+        );
         self.turn(clocked.reading, companion);
     }
 
@@ -246,7 +256,13 @@ impl<K: Sink> Observes for Watching<'_, K> {
     }
 
     fn landed(&mut self, clocked: &Clocked, bytes: &[u8], companion: &Companion) {
-        wake(self.alloc, self.plan, clocked.slept, &mut self.progress, self.agree);
+        wake(
+            self.alloc,
+            self.plan,
+            clocked.slept,
+            &mut self.progress,
+            self.agree,
+        );
         self.land(clocked.reading, bytes, companion);
     }
 

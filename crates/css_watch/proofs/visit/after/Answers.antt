@@ -1,4 +1,4 @@
-use Rattle.std.proofs.Common.{◌≡◌, ◌∙◌, ap, sym, refl, Some, string_bytes}
+use Rattle.std.proofs.Common.{◌∙◌, ap, sym, refl, Some, string_bytes}
 use Rattle.std.specs.Option.{option_map}
 use Rattle.css_watch.proofs.Following as following
 use Rattle.css_watch.proofs.visit.after.Goals as goal

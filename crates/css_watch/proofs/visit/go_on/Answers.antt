@@ -1,4 +1,4 @@
-use Rattle.std.proofs.Common.{◌≡◌, ◌∙◌, ap, sym, refl, List}
+use Rattle.std.proofs.Common.{ap, refl}
 use Rattle.css_watch_lines.specs.Lines.{line_text, Ended}
 use Rattle.css_watch.proofs.Following as following
 use Rattle.css_watch.proofs.visit.go_on.Goals as goal

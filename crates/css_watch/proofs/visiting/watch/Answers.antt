@@ -1,4 +1,4 @@
-use Rattle.std.proofs.Common.{refl, arith, ◌≡◌, ◌≤◌}
+use Rattle.std.proofs.Common.{arith, ◌≡◌, ◌≤◌}
 use Rattle.std.proofs.lemmas.Grind.{common_steps}
 use Rattle.css_watch.specs.Visits.{most_visits}
 use Rattle.css_watch.proofs.Visits as all
@@ -37,8 +37,7 @@ returns-in-Over-clause-dial_faults g c =
 pub returns-clause-watches : goal.returns-clause-watches
 returns-clause-watches g c =
     let few : c.visits.visits ≤ most_visits = c.visits.invariant.few in
-    let most : c.visits.visits ≡ most_visits = grind (arith, common_steps, c.visits-test.false, few) in
-    (
+    let most : c.visits.visits ≡ most_visits = grind (arith, common_steps, c.visits-test.false, few) in (
       c.new-plan.result,
       c.new-plan.ensures,
       all.so_far_most _ _ _ _ _ c.by_reports.result c.visits.invariant.so_far most c.by_reports.ensures,

@@ -1,4 +1,4 @@
-use Rattle.std.proofs.Common.{◌≡◌, ◌∙◌}
+use Rattle.std.proofs.Common.{◌∙◌}
 use Rattle.css_watch.proofs.Landing as landing
 use Rattle.css_watch.proofs.watching.Watching.land.Goals as goal
 

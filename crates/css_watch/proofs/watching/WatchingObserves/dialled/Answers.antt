@@ -1,8 +1,7 @@
-use Rattle.std.proofs.Common.{◌≡◌, ◌∙◌, ap, sym, subst, refl, List, [], ◌∷◌, Bool, true, false}
+use Rattle.std.proofs.Common.{◌∙◌, sym, subst}
 use Rattle.css_agree.specs.Keeping.{Kept}
 use Rattle.css_drive.specs.Notes as notes
-use Rattle.css_watch.specs.Watching.{IsOf, Wakes}
-use Rattle.css_watch.specs.declared.plan.Plan.{Plan}
+use Rattle.css_watch.specs.Watching.{IsOf}
 use Rattle.css_watch.proofs.Telling as telling
 use Rattle.css_watch.proofs.watching.WatchingObserves.dialled.Goals as goal
 

@@ -1,7 +1,6 @@
-use Rattle.std.proofs.Common.{◌≡◌, ◌∙◌, ap, sym, subst, refl, List, [], ◌∷◌, Bool, true, false}
-use Rattle.css_agree.specs.Keeping.{Kept}
+use Rattle.std.proofs.Common.{◌∙◌, subst}
 use Rattle.css_drive.specs.Notes as notes
-use Rattle.css_watch.specs.Watching.{IsOf, Wakes}
+use Rattle.css_watch.specs.Watching.{Wakes}
 use Rattle.css_watch.specs.declared.plan.Plan.{Plan}
 use Rattle.css_watch.proofs.Telling as telling
 use Rattle.css_watch.proofs.watching.WatchingObserves.turned.Goals as goal
