@@ -32,7 +32,7 @@ function flush(    fits) {
     paragraph = ""
 }
 
-BEGIN { known = command ~ /^(replay|migrate|agree|audit|companion|tv|pair|relay|generate|survey)$/ }
+BEGIN { known = command ~ /^(replay|migrate|agree|audit|companion|watch|tv|pair|relay|generate|survey)$/ }
 /^\.SH / { flush(); section = $2; part = tag = ""; next }
 /^\.SS / { flush(); part = substr($0, 5); tag = ""; next }
 /^\.(br|PP)/ { flush(); next }
