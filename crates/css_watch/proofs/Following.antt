@@ -111,7 +111,7 @@ visit_of history hung ended = record { history = history; hung = hung; ended = e
 
 visit_as : (plan : Plan) (begun : Begun) (history hung : History) (ended : Driven)
     → IsVisit plan begun (visit_of history [] ended) → IsVisit plan begun (visit_of history hung ended)
-visit_as plan begun history hung ended v = record { proper = v.proper; ends = v.ends; promised = v.promised }
+visit_as plan begun history hung ended v = record { proper = v.proper; ends = v.ends; promised = v.promised; at_cause = v.at_cause }
 
 -- the text of a visit that another one follows
 text_so : (told : Told) (parting : Option Parting) (ended : Driven) (progress : Progress) (words : List ℕ)
@@ -539,7 +539,7 @@ leaves_fault end before now was is wanted cause result so h =
 pub unbegun : (plan : Plan) (begun : Begun) (start : Stage) → Makes plan begun start start (visited.Over watched.Memory)
 unbegun plan begun start = record {
   visit = visit_of [] [] driven.Memory;
-  is_last = record { visited = record { proper = Empty; ends = tt; promised = tt }; ends = inl tt };
+  is_last = record { visited = record { proper = Empty; ends = tt; promised = tt; at_cause = tt }; ends = inl tt };
   told = no_entries start.told start.told refl;
   wrote = no_prefix start.holds _;
   faults = refl;

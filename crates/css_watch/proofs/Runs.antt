@@ -19,6 +19,7 @@ use Rattle.css_watch.specs.Following.{CountsWrites, IsRun, IsWhole, Saw, Stage}
 use Rattle.css_watch.specs.Progress.{fresh, with_visit}
 use Rattle.css_watch.specs.Telling.{Told, told_of}
 use Rattle.css_watch.specs.Watching.{AreFrom, GoesOn, IsFresh, IsTelling, IsToldBy}
+use Rattle.css_watch.specs.Visits.{EndsAtCause}
 use Rattle.css_watch.specs.declared.parting.Parting.{Parting}
 use Rattle.css_watch.specs.declared.plan.Plan.{Plan}
 use Rattle.css_watch.specs.declared.progress.Begun.{Begun}
@@ -54,6 +55,10 @@ whole_of : (plan : Plan) (told : Told) (progress : Progress) (agree : Kept) (hel
     (before now : ℕ) → GoesOn plan told progress agree held holds before now → IsWhole told None progress held holds
 whole_of plan told progress agree held holds before now g =
     record { progress_so = g.progress_so; parting_so = g.parting_so; wrote = g.wrote.0 }
+
+-- there was no cause
+none : (told : Told) (ended : Driven) → told.parting ≡ None → EndsAtCause told.parting ended
+none told ended e = let P : Option Parting → Type 0 = λ x. EndsAtCause x ended in subst P (sym e) tt
 
 -- one that isn't over
 saw_on : (plan : Plan) (told : Told) (progress : Progress) (agree : Kept) (held holds : Option (List ℕ))
@@ -98,6 +103,35 @@ saw_of plan told (Some cause) (Some why) progress agree held holds before now en
       t.1.wrote.1,
     )
 
+-- where there was a cause to end the visit, the run ended by it
+at_cause : (told : Told) (parting : Option Parting) (progress : Progress) (held holds : Option (List ℕ))
+    (ended : Driven) → Saw told parting ended progress held holds → EndsAtCause told.parting ended
+at_cause told (Some why) progress held holds ended s =
+    let P : Driven → Type 0 = λ x. EndsAtCause told.parting x in subst P (sym s.0) (by told.parting)
+  where
+    by : (o : Option Parting) → EndsAtCause o driven.WriteFault
+    by None = tt
+    by (Some cause) = tt
+at_cause told None progress held holds driven.WriteFault s = by told.parting
+  where
+    by : (o : Option Parting) → EndsAtCause o driven.WriteFault
+    by None = tt
+    by (Some cause) = tt
+at_cause told None progress held holds driven.Memory s = by told.parting
+  where
+    by : (o : Option Parting) → EndsAtCause o driven.Memory
+    by None = tt
+    by (Some cause) = tt
+at_cause told None progress held holds (driven.NetFault failure) s = none told (driven.NetFault failure) s.parting_so
+at_cause told None progress held holds driven.Done s = none told driven.Done s.parting_so
+at_cause told None progress held holds (driven.BadLine line cause) s = none told (driven.BadLine line cause) s.parting_so
+at_cause told None progress held holds (driven.BadCii text reason) s = none told (driven.BadCii text reason) s.parting_so
+at_cause told None progress held holds (driven.Moved property old new) s =
+    none told (driven.Moved property old new) s.parting_so
+at_cause told None progress held holds (driven.Spent turns) s = none told (driven.Spent turns) s.parting_so
+at_cause told None progress held holds (driven.Unreachable turns) s = none told (driven.Unreachable turns) s.parting_so
+at_cause told None progress held holds (driven.BadUrl property) s = none told (driven.BadUrl property) s.parting_so
+
 -- ---- the run
 pub run_of : (plan : Plan) (begun : Begun) (start now : Stage) (saw : List Note → Type 0) (over : Option OutFault)
     (parting : Option Parting) (first progress : Progress) (agree : Kept) (ended : Driven)
@@ -111,7 +145,13 @@ run_of plan begun start now saw over parting first progress agree ended e m t co
     let s = saw_of plan (told_of plan (fresh (with_visit begun)) (noted plan.run m.history)) over parting progress agree
     start.holds now.holds start.writes now.writes ended (subst P e (t (are_from plan.run m.history))) m.so in
     record {
-      visited = record { proper = m.proper; ends = m.ends; promised = m.promised };
+      visited = record {
+        proper = m.proper;
+        ends = m.ends;
+        promised = m.promised;
+        at_cause = at_cause (told_of plan (fresh (with_visit begun)) (noted plan.run m.history)) parting progress
+            start.holds now.holds ended s.0;
+      };
       told = m.told;
       saw = s.0;
       faults = counted;

@@ -105,12 +105,24 @@ visit_text plan begun visit =
     let told = told_in plan begun visit in
     text_of told.lines ++ end_text told.progress.begun (why visit.ended told.parting)
 
--- Each call of the run was due, and the run ended where it may; its observer ends it at the first cause to. Each report
--- that a turn may make keeps the promise.
+-- what a run ends as that its observer ends, or that lacks memory
+abbrev pub IsBroken : Driven → Type 0
+IsBroken driven.WriteFault = ⊤
+IsBroken driven.Memory = ⊤
+IsBroken _ = ⊥
+
+-- the visit has no cause to end, or its run ended by it
+abbrev pub EndsAtCause : Option Parting → Driven → Type 0
+EndsAtCause None ended = ⊤
+EndsAtCause (Some cause) ended = IsBroken ended
+
+-- Each call of the run was due, and the run ended where it may; where there was a cause to end the visit, its observer
+-- ended it. Each report that a turn may make keeps the promise.
 pub record IsVisit (plan : Plan) (begun : Begun) (visit : Visit) : Type 0 where
   pub proper : IsProperRun plan.run visit.history
   pub ends : MayEnd (due plan.run visit.history) visit.ended
   pub promised : KeepsPromises plan.run visit.history
+  pub at_cause : EndsAtCause (told_in plan begun visit).parting visit.ended
 
 -- another visit follows, and the open sessions were hung up
 pub record IsFollowed (plan : Plan) (begun : Begun) (visit : Visit) : Type 0 where

@@ -1,0 +1,41 @@
+-- What is promised of the visits of a watch.
+use Rattle.std.specs.Prelude.{◌≡◌, ℕ, List, ◌∷◌, All, Some}
+use Rattle.css_agree.specs.Agreements.{IsTruthful}
+use Rattle.css_companion.specs.Headline.{IsPromised}
+use Rattle.css_companion.specs.declared.report.Report.TheVariants as report
+use Rattle.css_drive.specs.Notes.{Landed, noted}
+use Rattle.css_model.specs.Explains.{IsLawful}
+use Rattle.css_model.specs.History.{Clock, History, Took, accepted_answers}
+use Rattle.css_model.specs.World.{Errors, IsWorldFor, Reads, World}
+use Rattle.css_model.specs.declared.Why.TheVariants as why
+use Rattle.css_watch.specs.Telling.{parting_by, report_line, told_of}
+use Rattle.css_watch.specs.declared.parting.Parting.TheVariants as parting
+use Rattle.css_watch.specs.declared.plan.Plan.{Plan}
+use Rattle.css_watch.specs.declared.progress.Progress.{Progress}
+use Rattle.css_watch_lines.specs.Lines.{Known}
+use Rattle.css_watch_lines.specs.declared.known.Known.{Known as Ticking}
+
+-- Whatever happened in a visit, its answers are those that its companion accepted since its last sleep.
+abbrev pub AnswersAreAccepted : Type 0
+AnswersAreAccepted = (plan : Plan) (start : Progress) (history : History)
+    → (told_of plan start (noted plan.run history)).answers ≡ accepted_answers plan.run.companion.local history
+
+-- Where a datagram that lands ends the visit by a disagreement, no world makes all answers truthful that are accepted
+-- then.
+abbrev pub DisagreementsAreFalse : Type 0
+DisagreementsAreFalse = (plan : Plan) (progress : Progress) (history : History) (peer reading : ℕ) (bytes : List ℕ)
+    → parting_by plan (Landed reading bytes) (Took peer bytes ∷ history) progress
+    (accepted_answers plan.run.companion.local history) ≡ Some parting.Disagree
+    → (errors : Errors) (world : World) (who sleeps i : ℕ)
+    → IsWorldFor errors world who plan.run.companion.local
+    → Reads world who i plan.run.companion.local.precision reading sleeps
+    → All (IsTruthful errors world who plan.run.companion.local sleeps i)
+    (accepted_answers plan.run.companion.local (Clock why.Land reading ∷ Took peer bytes ∷ history))
+    → ⊥
+
+-- A line with ticks, at a reading after a lawful history, keeps the headline of the report with these ticks.
+abbrev pub TicksKeepTheHeadline : Type 0
+TicksKeepTheHeadline = (plan : Plan) (number reading : ℕ) (history : History) (progress : Progress) (told : Ticking)
+    → IsLawful history → report_line plan number reading history progress ≡ Known number reading told
+    → IsPromised plan.run.companion.local plan.run.companion.selector history reading
+    (report.Ticks told.ticks.lo told.ticks.hi)

@@ -1,0 +1,21 @@
+//! The answers of a visit, its contradictions, and its reports.
+
+ghost use Rattle.css_watch_laws.specs.Promises.{AnswersAreAccepted, DisagreementsAreFalse, TicksKeepTheHeadline};
+
+/// The answers that a visit holds together are those that its companion accepted since its last sleep.
+pub fn answers_are_accepted()
+    ensures { AnswersAreAccepted }
+{}
+
+/// A visit ends by a disagreement only where no world that keeps the oscillators' errors makes all answers truthful
+/// that its companion accepted since its last sleep.
+pub fn disagreements_are_false()
+    ensures { DisagreementsAreFalse }
+{}
+
+/// The ticks in the line of a report keep the promise of the report at that reading: they contain the position that the
+/// last control timestamp of the visit assigns to the television's wall clock then, in each world that explains what
+/// happened, and they come from the visit's narrowest accepted answer.
+pub fn ticks_keep_the_headline()
+    ensures { TicksKeepTheHeadline }
+{}
