@@ -1,6 +1,6 @@
 //! Runs of the live commands: each status, each refusal and each failing call is a row.
 
-use crate::outside::{SILENT, Said, Times, World};
+use crate::outside::{SILENT, Said, World};
 use crate::running::{BLANK, Case, Row};
 
 /// A response with the originate value 6, the receive value 5000 and the transmit value 5001.
@@ -38,7 +38,8 @@ pub const TS: &str =
 
 /// One answer and one control timestamp come.
 pub const ANSWERED: World = World {
-    times: Times::Usual,
+    times: &[0, 5, 6, 8, 10, 20],
+    slept: &[],
     datagrams: &[RESPONSE],
     texts: &[(1, Said::Text(CII)), (2, Said::Text(TS))],
 };
@@ -116,13 +117,13 @@ pub const COMPANIONS: &[Row] = &[
 
 /// Three readings, each a second after the one before.
 const SECONDS: World = World {
-    times: Times::Seconds,
+    times: &[0, 1_000_000_000, 2_000_000_000],
     ..SILENT
 };
 
 /// The first reading is 5000, and the second 6000.
 const LATE: World = World {
-    times: Times::Late,
+    times: &[5_000, 6_000],
     ..SILENT
 };
 
@@ -220,7 +221,8 @@ const CUT_CII: &[(u32, Said)] = &[(1, Said::Text("{\"timelines\":null,\""))];
 
 /// After a sleep another request is answered.
 const ASKED_AGAIN: World = World {
-    times: Times::SleptAndAsked,
+    times: &[0, 5, 6, 8, 10, 12, 14, 20],
+    slept: &[10],
     datagrams: &[RESPONSE, AFTER_SLEEP],
     ..ANSWERED
 };
@@ -236,8 +238,8 @@ pub const CHANGED: &[Row] = &[
     ("a cut control timestamp", Case { world: World { texts: CUT_TS, ..ANSWERED }, ..COMPANION }, "done", UNREADABLE),
     ("TS is closed", Case { world: World { texts: CLOSED, ..ANSWERED }, ..COMPANION }, "done", UNTIMED),
     ("a cut CII text", Case { world: World { texts: CUT_CII, ..ANSWERED }, ..COMPANION }, "cii text 1: not json", b""),
-    ("asleep at a turn", Case { world: World { times: Times::AsleepAtTurn, ..ANSWERED }, ..COMPANION }, "done", NONE),
-    ("asleep at landing", Case { world: World { times: Times::AsleepLanded, ..ANSWERED }, ..COMPANION }, "done", NONE),
+    ("asleep at a turn", Case { world: World { slept: &[10], ..ANSWERED }, ..COMPANION }, "done", NONE),
+    ("asleep at landing", Case { world: World { slept: &[8], ..ANSWERED }, ..COMPANION }, "done", NONE),
     ("a sleep and a request", Case { world: ASKED_AGAIN, ..COMPANION }, "done", LATER),
 ];
 
@@ -256,7 +258,7 @@ pub const EARLY: &[Row] = &[
     ("no object", Case { world: World { texts: LIST, ..SILENT }, ..SHORT_RUN }, "cii text 1: not object", b""),
     ("no address", Case { world: World { texts: NO_URL, ..SILENT }, ..SHORT_RUN }, "bad url wcUrl", b""),
     ("an address is moved", Case { world: World { texts: MOVED, ..SILENT }, ..SHORT_RUN }, "moved wcUrl", b""),
-    ("a report is due", Case { world: World { times: Times::Seconds, ..SILENT }, ..UNREACHED }, "done", FIRST_NONE),
+    ("a report is due", Case { world: SECONDS, ..UNREACHED }, "done", FIRST_NONE),
 ];
 
 /// Two reports in four turns, 10 ns apart.

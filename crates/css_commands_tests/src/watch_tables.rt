@@ -1,7 +1,7 @@
 //! Watches: what comes from outside, and the lines that tell it.
 
 use crate::live_tables::{ANSWERED, CII, RESPONSE, TS};
-use crate::outside::{SILENT, Said, Times, World};
+use crate::outside::{SILENT, Said, World};
 use crate::running::{BLANK, Case};
 
 /// A name, a watch, its status in words, and its lines.
@@ -102,7 +102,7 @@ macro_rules! no_answer {
 const WATCH: Case<'static> = Case {
     words: "watch --cii ws://127.0.0.1:6677/cii --seconds 2 --local-error 0 --local-precision 0",
     world: World {
-        times: Times::Seconds,
+        times: &[0, 1_000_000_000, 2_000_000_000],
         ..SILENT
     },
     ..BLANK
@@ -129,13 +129,13 @@ const ASKING: Case<'static> = Case {
 };
 
 const TELLS_NO_WC: World = World {
-    times: Times::Seconds,
+    times: &[0, 1_000_000_000, 2_000_000_000],
     texts: &[(1, Said::Text("{}"))],
     ..SILENT
 };
 
 const MOVES: World = World {
-    times: Times::Moving,
+    times: &[0, 5, 6, 10, 20, 21, 1_000_000_000],
     texts: &[
         (1, Said::Text(WC_TOLD)),
         (1, Said::Text(OTHER_WC)),
@@ -145,19 +145,21 @@ const MOVES: World = World {
 };
 
 const NO_OBJECT: World = World {
-    times: Times::Twice,
+    times: &[0, 1, 1_000_000_000],
     texts: &[(1, Said::Text("[]")), (2, Said::Text("{}"))],
     ..SILENT
 };
 
 const DISAGREES: World = World {
-    times: Times::Disagreeing,
+    times: &[0, 0, 0, 100, 1_000, 1_000, 1_100, 1_000_000_000],
+    slept: &[],
     datagrams: &[AT_5000, AT_9000],
     texts: &[(1, Said::Text(WC_TOLD))],
 };
 
 const SLEEPS: World = World {
-    times: Times::SleptBetween,
+    times: &[0, 5, 6, 8, 10, 20, 22, 1_000_000_000],
+    slept: &[20],
     ..ANSWERED
 };
 
@@ -165,7 +167,16 @@ const SLEEPS: World = World {
 pub const ASKS: Case<'static> = Case {
     words: "watch --cii ws://127.0.0.1:6677/cii --seconds 4",
     world: World {
-        times: Times::Asking,
+        times: &[
+            0,
+            1_000_000_000,
+            1_000_000_000,
+            2_000_000_000,
+            2_000_000_000,
+            3_000_000_000,
+            3_000_000_000,
+            4_000_000_000,
+        ],
         texts: &[(1, Said::Text(WC_TOLD))],
         ..SILENT
     },
@@ -187,7 +198,8 @@ pub const ASKED: &[&str] = &[
 /// The TS session closes after the first report. The second visit ends with the watch.
 pub const CLOSES: Case<'static> = Case {
     world: World {
-        times: Times::TwoVisits,
+        times: &[0, 5, 6, 8, 10, 20, 25, 26, 28, 30, 1_000_000_000],
+        slept: &[],
         datagrams: &[RESPONSE, NONE, LATER_RESPONSE],
         texts: &[
             (1, Said::Text(CII)),

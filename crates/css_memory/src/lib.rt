@@ -17,4 +17,4 @@ pub use memory_outside::MemoryOutside;
 pub use memory_spawner::MemorySpawner;
 pub use never_fails_outside::NeverFailsOutside;
 pub use never_fails_spawner::NeverFailsSpawner;
-pub use script::{Datagram, OutsideScript, SessionHeard};
+pub use script::{Datagram, OutsideScript, SessionHeard, can_be_read};

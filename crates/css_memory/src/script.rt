@@ -1,4 +1,7 @@
-use css_model::Kind;
+ghost use Rattle.std.specs.Prelude.{IsTrue};
+ghost use Rattle.css_memory.specs.Scripts.{are_readings};
+
+use css_model::{Kind, LIMIT};
 use css_num::Text;
 use css_outside::{Clocked, Heard};
 
@@ -45,4 +48,19 @@ impl Drop for OutsideScript {
             fails: _,
         } = self;
     }
+}
+
+/// Whether a clock can read these, one after the other.
+pub fn can_be_read(readings: &[Clocked]) -> bool
+    ensures { IsTrue result → IsTrue (are_readings 0 readings.now) }
+{
+    let mut last = 0;
+    for clocked in readings {
+        let fell = clocked.reading < last || clocked.slept && clocked.reading == last;
+        if fell || clocked.reading >= LIMIT {
+            return false;
+        }
+        last = clocked.reading;
+    }
+    true
 }

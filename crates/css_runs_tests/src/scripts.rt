@@ -1,12 +1,11 @@
 //! What an outside in memory gives in the run of a row.
 ghost use Rattle.std.specs.Prelude.{IsTrue};
-ghost use Rattle.css_memory.specs.Scripts.{are_readings, are_sessions};
+ghost use Rattle.css_memory.specs.Scripts.{are_sessions};
 
 use crate::audit_plain::unhex;
 use crate::noted::{Log, Noted};
 use crate::rows::Row;
-use css_memory::{Datagram, MemoryOutside, OutsideScript, SessionHeard};
-use css_model::LIMIT;
+use css_memory::{Datagram, MemoryOutside, OutsideScript, SessionHeard, can_be_read};
 use css_num::{Memory, Text};
 use css_outside::{Clocked, Heard, Kind};
 use std::alloc::Global;
@@ -101,21 +100,6 @@ pub fn script_of(alloc: Global, row: &Row) -> Result<OutsideScript, Memory> {
     let mut script = nothing(alloc);
     add_row(alloc, &mut script, row)?;
     Ok(script)
-}
-
-/// Whether a clock can read these, one after the other.
-fn can_be_read(readings: &[Clocked]) -> bool
-    ensures { IsTrue result → IsTrue (are_readings 0 readings.now) }
-{
-    let mut last = 0;
-    for clocked in readings {
-        let fell = clocked.reading < last || clocked.slept && clocked.reading == last;
-        if fell || clocked.reading >= LIMIT {
-            return false;
-        }
-        last = clocked.reading;
-    }
-    true
 }
 
 /// Whether sessions alone are opened, and no wall clock.
