@@ -1,7 +1,7 @@
 //! The command `watch` over devices in memory.
 
 use crate::running::{Case, NO_MEMORY, check_run};
-use crate::watch_tables::{ASKED, ASKS, CLOSED, CLOSES, FAILING, WATCHES};
+use crate::watch_tables::{CLOSED, CLOSES, FAILING, WATCHES};
 use css_num::Text;
 use std::alloc::Global;
 use std::process::Abort;
@@ -54,12 +54,12 @@ fn each_call_of_a_watch_fails_once(rt: HostRuntime) {
 // Each line is one write.
 #[test]
 fn each_write_of_a_watch_fails_once(rt: HostRuntime) {
-    for count in 0..ASKED.len() {
+    for count in 0..CLOSED.len() {
         let write = (count as u64).saturating_add(1);
         let case = Case {
             writes: &[write],
-            ..ASKS
+            ..CLOSES
         };
-        check_front(&rt, rt.alloc(), &case, "write fault", ASKED, count);
+        check_front(&rt, rt.alloc(), &case, "write fault", CLOSED, count);
     }
 }

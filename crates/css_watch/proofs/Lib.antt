@@ -4,3 +4,4 @@ pub mod Landing
 pub mod Following
 pub mod Visits
 pub mod Runs
+pub mod Writes

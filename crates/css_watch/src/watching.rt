@@ -1,5 +1,9 @@
 //! The observer that tells what happens in a visit.
 ghost use Rattle.std.specs.Prelude.{◌≡◌, ◌≤◌, ◌<◌, ◌++◌, ℕ, List, [], ◌∷◌, Option, None, Some, IfOk, MatchOption};
+ghost use Rattle.std.specs.Prelude.{OnOk, OnErr, length, take};
+ghost use Rattle.std.specs.Io.KnownBytes.{Appends};
+ghost use Rattle.css_outside.specs.Bytes.{AppendsPrefix};
+ghost use Rattle.css_outside.specs.Faults.{CountsCall};
 ghost use Rattle.css_model.specs.declared.TheConstants.{LIMIT};
 ghost use Rattle.css_drive.specs.Notes as notes;
 ghost use Rattle.css_watch.specs.Progress as progress;
@@ -41,14 +45,40 @@ pub(crate) struct Watching<'a, K: Sink> {
     pub(crate) parting: Option<Parting>,
 }
 
-/// Writes a text, if there is one. Says why not, if it fails.
+/// The first line of these bytes, with its line feed, or all of them where there is none.
+fn first_line(bytes: &[u8]) -> &[u8]
+    ensures front { result.now ≡ take (length result.now) bytes.now }
+    ensures more { 0 < length bytes.now → 0 < length result.now }
+{
+    match bytes.iter().position(|byte| *byte == b'\n') {
+        None => bytes,
+        Some(end) => &bytes[..=end],
+    }
+}
+
+/// Writes each line by itself.
+fn write_lines<K: Sink>(sink: &mut K, bytes: &[u8]) -> Result<(), OutFault>
+    ensures ok { OnOk result (Appends (K.holds sink.old) (K.holds sink.new) bytes.now) }
+    ensures err { OnErr result (AppendsPrefix (K.holds sink.old) (K.holds sink.new) bytes.now) }
+    ensures counted { CountsCall (K.faults sink.old) (K.faults sink.new) result }
+{
+    let mut written = 0;
+    while written < bytes.len() {
+        let line = first_line(&bytes[written..]);
+        write_all(sink, line)?;
+        written += line.len();
+    }
+    Ok(())
+}
+
+/// Writes the lines of a text, if there is one. Says why not, if it fails.
 pub(crate) fn put<K: Sink>(sink: &mut K, text: Result<Text, Memory>) -> Option<OutFault>
     ensures { (bytes : List ℕ) → IfOk text (λ text. text ≡ bytes)
         → Writes result (K.holds sink.old) (K.holds sink.new) (K.faults sink.old) (K.faults sink.new) bytes }
 {
     match text {
         Err(Memory) => Some(OutFault::Memory),
-        Ok(text) => match write_all(sink, text.bytes()) {
+        Ok(text) => match write_lines(sink, text.bytes()) {
             Ok(()) => None,
             Err(fault) => Some(fault),
         },
