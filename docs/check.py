@@ -71,7 +71,7 @@ def television(lines):
     for line in lines:
         if line.startswith("television$ "):
             shell = ["bash", "-c", "exec " + line.removeprefix("television$ ")]
-            started = subprocess.Popen(shell, cwd=sources.TOP)
+            started = subprocess.Popen(shell, cwd=sources.TOP, stdout=subprocess.DEVNULL)
             time.sleep(1)
             return started
     return None

@@ -3,9 +3,10 @@
 
     tests/page.py [--picture FILE] [PROGRAM ..]
 
-The lines are those of a simulation, or, where the words of a program are given, of its commands `tv` and `watch`. Each
-check prints a line, and the last line is how many failed. The status is 1 where one failed. It needs Chromium, as the
-system's package. The picture is a PNG of the page at a desk's width, with the saved evening.
+The lines are those of a simulation. Where the words of a program are given, they are those of its commands `tv` and
+`watch`, and of `watch` beside tools/wrong_tv.py. Each check prints a line, and the last line is how many failed. The
+status is 1 where one failed. It needs Chromium, as the system's package. The picture is a PNG of the page at a desk's
+width, with the saved evening.
 """
 import argparse
 import json
@@ -19,7 +20,7 @@ import time
 from page_browser import CONTRAST, DESK, PHONE, Browser
 from page_due import due, matter, refused, right_position
 from page_server import Page, end_all, serving
-from page_source import Program, Simulated
+from page_source import Program, Simulated, Wrong
 from page_streams import streams
 from page_tv import SECOND
 
@@ -127,6 +128,28 @@ def moments(seen, lines):
     check("it says that all is well where it is", len(well) > 10, well and f"{well[-1]['words']} {well[-1]['rest']}")
 
 
+# What `watch` says of each way in which the television is wrong.
+TOLD = ['"why":"CII text 2: not object"', '"fault":"Field contentTime"', '"fault":"Impossible"', '"why":"disagree"',
+        '"why":"bad tsUrl"', '"why":"closed CII"']
+
+
+def wrong(browser, source, port):
+    """What the page shows of a television that is wrong."""
+    page = Page(port)
+    browser.look(*DESK)
+    browser.open(page.url)
+    feeder = Feeder(source, page)
+    feeder.join()
+    browser.until(f"kept.lines === {len(feeder.lines)}")
+    time.sleep(1)
+    check("the television was wrong in each way", len(source.said) == source.WAYS, source.said)
+    lines = [json.dumps(line, separators=(",", ":")) for line in feeder.lines]
+    lacks = [told for told in TOLD if not any(told in line for line in lines)]
+    check("each of them is told", not lacks, lacks)
+    right_rows(browser, feeder.lines)
+    page.end()
+
+
 # ---- saved lines, and how they look
 
 def saved(browser, port):
@@ -198,6 +221,8 @@ def main(words):
         serving(check, PORT)
         browser = Browser()
         live(browser, source, PORT + 1)
+        if options.program:
+            wrong(browser, Wrong(options.program, PORT + 20), PORT + 8)
         saved(browser, PORT + 2)
         streams(check, browser, PORT + 3)
         if options.picture:

@@ -67,4 +67,6 @@ def refused(lines):
             found.append(["CSS-TS text", line["fault"]])
         elif line["event"] == "end" and line["why"].startswith("CII text"):
             found.append(line["why"].split(": ", 1))
+        elif line["event"] == "end" and line["why"].startswith("bad "):
+            found.append([line["why"].split()[1], line["why"]])
     return found[::-1]

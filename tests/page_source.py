@@ -1,9 +1,12 @@
-"""Where the lines come from that tests/page.py feeds to the page: a simulation, or `tv` and `watch` of the program.
+"""Where the lines come from that tests/page.py feeds to the page: a simulation, `tv` and `watch` of the program, or
+`watch` beside a television that is wrong.
 
-Both tell the same story by the same times, in seconds: the content is paused and goes on, the programme changes, the
+The first two tell the same story by the same times, in seconds: the content is paused and goes on, the programme changes, the
 television is off and on again. The simulation has more, which a television that keeps its word doesn't do.
 """
+import pathlib
 import subprocess
+import sys
 import threading
 import time
 
@@ -73,6 +76,27 @@ class Program:
     def truth(self, _reading, _control):
         """Nobody knows it."""
         return None
+
+
+class Wrong:
+    """`watch` of a program beside tools/wrong_tv.py, which is wrong so often, once in so many seconds."""
+
+    TOOL, EVERY, WAYS = pathlib.Path(__file__).resolve().parent.parent / "tools" / "wrong_tv.py", 2, 6
+
+    def __init__(self, words, port):
+        self.words, self.port = words, port
+
+    def lines(self):
+        tv = subprocess.Popen([sys.executable, self.TOOL, "--port", str(self.port), "--every", str(self.EVERY)],
+                              text=True, stdout=subprocess.PIPE)
+        watch = subprocess.Popen([*self.words, "watch", "--cii", f"ws://127.0.0.1:{self.port}/cii", "--report-every",
+                                  str(EVERY), "--ask-every", str(EVERY), "--seconds", str(self.EVERY * self.WAYS * 3 // 2 + 1)],
+                                 text=True, stdout=subprocess.PIPE)
+        STARTED.extend((tv, watch))
+        for line in watch.stdout:
+            yield line.rstrip("\n")
+        tv.kill()
+        self.said = tv.communicate()[0].splitlines()
 
 
 SCRIPT = f"""\

@@ -268,9 +268,11 @@ class Set(Television):
     def update(self):
         """Says on CSS-CII what has changed."""
         with self.lock:
+            if not self.peers["CII"]:
+                return
             before, now = self.sessions[-1][-1], self.state()
             changes = {name: value for name, value in now.items() if before[name] != value}
-            if changes and self.peers["CII"]:
+            if changes:
                 self.sessions[-1].append(now)
                 self.say("CII", changes)
 
