@@ -1,5 +1,6 @@
 //! Watches: what comes from outside, and the lines that tell it.
 
+use crate::evening_tables::{EVENING, EVENING_TOLD};
 use crate::live_tables::{ANSWERED, CII, RESPONSE, TS};
 use crate::outside::{SILENT, Said, World};
 use crate::running::{BLANK, Case};
@@ -33,15 +34,15 @@ const OTHER_WC: &str = r#"{"wcUrl":"udp://127.0.0.1:7000"}"#;
 
 // ---- lines
 
-const VISIT: &str = r#"{"event":"visit","number":1,"reading":"0"}"#;
+pub const VISIT: &str = r#"{"event":"visit","number":1,"reading":"0"}"#;
 
 const CII_FAILED: &str = r#"{"event":"dial","outcome":"failed","service":"CII"}"#;
 
-const CII_OPEN: &str = r#"{"event":"dial","outcome":"open","service":"CII"}"#;
+pub const CII_OPEN: &str = r#"{"event":"dial","outcome":"open","service":"CII"}"#;
 
-const WC_OPEN: &str = r#"{"event":"dial","outcome":"open","service":"WC"}"#;
+pub const WC_OPEN: &str = r#"{"event":"dial","outcome":"open","service":"WC"}"#;
 
-const TS_OPEN: &str = r#"{"event":"dial","outcome":"open","service":"TS"}"#;
+pub const TS_OPEN: &str = r#"{"event":"dial","outcome":"open","service":"TS"}"#;
 
 /// The state without the last two of its properties.
 macro_rules! state {
@@ -60,7 +61,7 @@ const STATE_WC: &str = state!(r#""tsUrl":null,"wcUrl":"udp://127.0.0.1:6677"}}"#
 
 const STATE_OTHER_WC: &str = state!(r#""tsUrl":null,"wcUrl":"udp://127.0.0.1:7000"}}"#);
 
-const STATE_BOTH: &str = state!(
+pub const STATE_BOTH: &str = state!(
     r#""tsUrl":"ws://127.0.0.1:6678/ts","wcUrl":"udp://127.0.0.1:6677"}}"#
 );
 
@@ -385,6 +386,7 @@ pub const WATCHES: &[WatchRow] = &[
             no_answer!("3", "1", "no response to 1 requests"),
         ],
     ),
+    ("an evening", EVENING, "done", EVENING_TOLD),
     (
         "words of no watch",
         Case {
