@@ -4,7 +4,8 @@
     bench/statuses.py [PROGRAM]         the program that ./css builds, where none is given
 
 A failed read comes from a standard input that is open for writing alone, a failed write from /dev/full, and want of
-memory from a limit of the address space. A status is also told by its number where standard error takes nothing.
+memory from a limit of the address space. A status is also told by its number where standard error takes nothing. A hint
+may follow the line of a status, and isn't looked at.
 """
 
 import os
@@ -61,22 +62,27 @@ def run(words, **streams):
     return subprocess.run([os.fsencode(PROGRAM), *words], stderr=subprocess.PIPE, timeout=120, **streams)
 
 
+def told(errors):
+    """What stands on standard error, but for hints."""
+    return b"".join(line for line in errors.splitlines(keepends=True) if not line.startswith(b"css: hint: "))
+
+
 def outcomes():
     for name, words, given, *wanted in ROWS:
         ran = run(words, input=given, stdout=subprocess.PIPE)
-        yield name, [ran.returncode, ran.stdout, ran.stderr], wanted
+        yield name, [ran.returncode, ran.stdout, told(ran.stderr)], wanted
     with open(os.devnull, "wb") as unread:
         ran = run([b"replay"], stdin=unread, stdout=subprocess.PIPE)
-    yield "read fault", [ran.returncode, ran.stdout, ran.stderr], [4, b"", b"css: read fault\n"]
+    yield "read fault", [ran.returncode, ran.stdout, told(ran.stderr)], [4, b"", b"css: read fault\n"]
     ran = run([b"replay"], stdin=subprocess.DEVNULL, stdout=subprocess.PIPE, preexec_fn=lambda: os.close(0))
-    yield "closed input", [ran.returncode, ran.stdout, ran.stderr], [4, b"", b"css: read fault\n"]
+    yield "closed input", [ran.returncode, ran.stdout, told(ran.stderr)], [4, b"", b"css: read fault\n"]
     with open("/dev/full", "wb") as full:
         ran = run([b"replay"], input=HEADER + EXCHANGE, stdout=full)
-        yield "write fault", [ran.returncode, ran.stderr], [5, b"css: write fault\n"]
-        told = subprocess.run([os.fsencode(PROGRAM), b"reply"], stdin=subprocess.DEVNULL, stderr=full, timeout=120)
-        yield "a full standard error", [told.returncode], [1]
+        yield "write fault", [ran.returncode, told(ran.stderr)], [5, b"css: write fault\n"]
+        ran = subprocess.run([os.fsencode(PROGRAM), b"reply"], stdin=subprocess.DEVNULL, stderr=full, timeout=120)
+        yield "a full standard error", [ran.returncode], [1]
     ran = run([b"replay"], input=asks(), stdout=subprocess.PIPE, preexec_fn=limited)
-    yield "memory", [ran.returncode, ran.stdout, ran.stderr], [14, b"", b"css: memory\n"]
+    yield "memory", [ran.returncode, ran.stdout, told(ran.stderr)], [14, b"", b"css: memory\n"]
 
 
 def main():
