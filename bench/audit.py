@@ -8,14 +8,13 @@ processor time for a megabyte and the peak of resident memory. A megabyte must t
 not grow with the record.
 """
 
-import os
 import struct
-import subprocess
 import sys
 import tempfile
 
-HERE = os.path.dirname(os.path.dirname(os.path.abspath(__file__)))
-PROGRAM = sys.argv[1] if len(sys.argv) > 1 else os.path.join(HERE, "crates", "css", "out", "proved", "css")
+import programs
+
+PROGRAM = programs.css(*sys.argv[1:2])
 CII = b'{"timelines":null,"tsUrl":"ws://127.0.0.1:6678/ts","wcUrl":"udp://127.0.0.1:6677"}'
 TS = b'{"contentTime":"900000","timelineSpeedMultiplier":0,"wallClockTime":"0"}'
 SECONDS = 0.05
@@ -48,20 +47,17 @@ def turns(size):
 
 
 def audit(given):
-    """What is printed for a record, its processor seconds, and its peak in megabytes, which includes this script's."""
+    """The status of an audit, what it prints, its processor seconds, and its peak in megabytes."""
     given.seek(0)
     with tempfile.TemporaryFile() as written:
-        child = subprocess.Popen([PROGRAM, "audit"], stdin=given, stdout=written)
-        _, status, used = os.wait4(child.pid, 0)
-        child.returncode = os.waitstatus_to_exitcode(status)
+        status, seconds, peak = programs.measured([PROGRAM, "audit"], stdin=given, stdout=written)
         written.seek(0)
-        return child.returncode, written.read(), used.ru_utime + used.ru_stime, used.ru_maxrss / 1024
+        return status, written.read(), seconds, peak
 
 
 def measured(size):
     """Seconds for a megabyte, and the peak, of audits of a record of this size, which have to say yes."""
     with tempfile.TemporaryFile() as given:
-        # A child's peak counts what this script holds when it starts one. So the record is never held whole.
         count = -1
         for text in turns(size):
             given.write(text)

@@ -6,6 +6,7 @@ import resource
 import shutil
 import subprocess
 import sys
+import tempfile
 
 HERE = os.path.dirname(os.path.dirname(os.path.abspath(__file__)))
 
@@ -62,3 +63,13 @@ def seconds(words, text=""):
     subprocess.run(words, input=text.encode(), check=True)
     after = resource.getrusage(resource.RUSAGE_CHILDREN)
     return after.ru_utime + after.ru_stime - before.ru_utime - before.ru_stime
+
+
+def measured(words, **streams):
+    """The exit status of a program, its processor seconds, and the peak of its memory in megabytes. GNU time starts it:
+    a child's peak counts what its parent held, and that is next to nothing there."""
+    with tempfile.NamedTemporaryFile("r") as peak:
+        child = subprocess.Popen(["/usr/bin/time", "-q", "-f", "%M", "-o", peak.name, *words], **streams)
+        _, status, used = os.wait4(child.pid, 0)
+        child.returncode = os.waitstatus_to_exitcode(status)
+        return child.returncode, used.ru_utime + used.ru_stime, int(peak.read()) / 1024

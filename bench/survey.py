@@ -8,13 +8,13 @@ resident memory: less than a second, and less than 16 MB. The survey must be the
 found. What is surveyed and generated must be the same twice, and a replay of it must print what was counted.
 """
 
-import os
 import subprocess
 import sys
 import tempfile
 
-HERE = os.path.dirname(os.path.dirname(os.path.abspath(__file__)))
-PROGRAM = sys.argv[1] if len(sys.argv) > 1 else os.path.join(HERE, "crates", "css", "out", "proved", "css")
+import programs
+
+PROGRAM = programs.css(*sys.argv[1:2])
 WORDS = ["--seed", "1", "--lines", "200000"]
 SURVEYS = {
     1: b"lines 200000 prints 50114 intervals 50110 widest 8178\n",
@@ -28,17 +28,15 @@ MEGABYTES = 16.0
 def run(words, given=None):
     """A file with what the program writes, its processor seconds, and its peak in megabytes."""
     written = tempfile.TemporaryFile()
-    child = subprocess.Popen([PROGRAM, *words], stdin=given or subprocess.DEVNULL, stdout=written)
-    _, status, used = os.wait4(child.pid, 0)
-    child.returncode = os.waitstatus_to_exitcode(status)
-    if child.returncode != 0:
-        sys.exit(f"{' '.join(words)} ended with {child.returncode}")
+    status, seconds, peak = programs.measured([PROGRAM, *words], stdin=given or subprocess.DEVNULL, stdout=written)
+    if status != 0:
+        sys.exit(f"{' '.join(words)} ended with {status}")
     written.seek(0)
-    return written, used.ru_utime + used.ru_stime, used.ru_maxrss / 1024
+    return written, seconds, peak
 
 
 def same(one, other):
-    """Whether two files are alike. No more than a part is held, since a child's peak has what its parent holds."""
+    """Whether two files are alike."""
     alike = True
     while alike and (part := one.read(1 << 16)):
         alike = part == other.read(1 << 16)
