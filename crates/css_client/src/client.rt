@@ -1,4 +1,4 @@
-ghost use Rattle.std.specs.Prelude.{◌≡◌, ◌≤◌, ◌<◌, ◌+◌, ℕ, [], ◌∷◌, length, max, IfOk, IfSome, OnOk, OnErr};
+ghost use Rattle.std.specs.Prelude.{◌≡◌, ◌≤◌, ◌<◌, ◌+◌, ℕ, [], ◌∷◌, length, reverse, max, IfOk, IfSome, OnOk, OnErr};
 ghost use Rattle.css_model.specs.declared.Why.TheVariants as why;
 ghost use Rattle.css_model.specs.Numbers.{max_error};
 ghost use Rattle.css_model.specs.Wire.{encoded, request_at};
@@ -201,6 +201,13 @@ impl Client {
         ensures { result ≡ self.now.floor }
     {
         self.floor
+    }
+
+    /// The kept answers, the oldest first: of each declared error the narrowest that was accepted since the last sleep.
+    pub fn answers(&self) -> &[Answer]
+        ensures { result.now ≡ reverse self.now.estimate.kept }
+    {
+        self.estimate.answers()
     }
 
     /// How many answers are kept: one of each declared error among those that were accepted since the last sleep.

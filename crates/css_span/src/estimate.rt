@@ -1,4 +1,5 @@
-ghost use Rattle.std.specs.Prelude.{◌≡◌, ◌≤◌, ◌<◌, ◌↔◌, [], length, OnOk, OnErr, IsNone, IfSome};
+ghost use Rattle.std.specs.Prelude.{◌≡◌, ◌≤◌, ◌<◌, ◌↔◌, [], length, reverse, OnOk, OnErr, IsNone};
+ghost use Rattle.std.specs.Prelude.{IfSome};
 ghost use Rattle.css_num.specs.Gives.{GivesBy};
 ghost use Rattle.css_span.specs.Frontiers.{Answers, StandsFor, Accepts, IsPossible, error_count};
 ghost use Rattle.css_span.specs.Frontiers as frontiers;
@@ -106,6 +107,13 @@ impl Estimate {
         ensures errors { (accepted : Answers) → StandsFor self.now accepted → result ≡ error_count accepted }
     {
         self.kept.len()
+    }
+
+    /// The kept answers, the oldest first: of each declared error the narrowest.
+    pub fn answers(&self) -> &[Answer]
+        ensures { result.now ≡ reverse self.now.kept }
+    {
+        &self.kept
     }
 
     /// The greatest max_freq_error that an accepted answer declares, in 1/256 ppm. It is 0 where none was accepted.
