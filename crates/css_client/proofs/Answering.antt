@@ -29,7 +29,8 @@ use Rattle.css_client.specs.Clients.{Client, local_of, first_landed, answer_of, 
 use Rattle.css_client.specs.Landings.{verdict, landing_of, landing_of_decoded}
 use Rattle.css_client.specs.Standing.{StandsFor, IsBelow, IsCurrent}
 use Rattle.css_client.proofs.Rings.{list_any-map}
-use Rattle.css_client.proofs.Aside.{each_weaker, stands_aside}
+use Rattle.css_client.proofs.Aside.{stands_aside}
+use Rattle.css_model.proofs.Requests.{each_weaker}
 use Rattle.css_client.proofs.Forgetting.{remembers_after, never_fall-later}
 
 -- whether an answer may come, by what the client knows

@@ -1,5 +1,5 @@
 -- What a client need not be told leaves what it stands for.
-use Rattle.std.proofs.Common.{◌≡◌, ℕ, ◌<◌, ◌≤◌, ap, sym, ◌∙◌, subst, false, ◌⊎◌, List, [], ◌∷◌, take, refl}
+use Rattle.std.proofs.Common.{◌≡◌, ℕ, ◌<◌, ◌≤◌, ap, sym, ◌∙◌, subst, false, ◌⊎◌, List, ◌∷◌, take, refl}
 use Rattle.std.specs.Prelude.{Option, Some, None, IfSome, IsTrue}
 use Rattle.std.specs.List.{list_any}
 use Rattle.css_model.specs.declared.Stamp.{Stamp}
@@ -20,12 +20,6 @@ if_none P (Some x) e = absurd (cc)
 -- what is said of what is there
 pub if_at : {A : Type 0} (P : A → Type 0) (o : Option A) (x : A) → o ≡ Some x → P x → IfSome o P
 if_at {A = A} P o x e p = subst (λ (q : Option A). IfSome q P) (sym e) p
-
--- what is said of each, where it implies another thing
-pub each_weaker : (P Q : Entry → History → Type 0) → ((entry : Entry) (older : History) → P entry older → Q entry older)
-    → (history : History) → Each P history → Each Q history
-each_weaker P Q f [] h = tt
-each_weaker P Q f (entry ∷ older) h = (f entry older h.0, each_weaker P Q f older h.1)
 
 -- an entry that is no request leaves the requests
 requests-aside : (entry : Entry) (older : History) → is_sleep entry ≡ false → request_by entry ≡ None

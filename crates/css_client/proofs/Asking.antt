@@ -10,12 +10,12 @@ use Rattle.css_model.specs.Wire.{stamp_of, reading_of, is_same_stamp, decoded, r
 use Rattle.css_model.specs.History.{Clock, Sent, History, sleeps, asking_at, request_by, requests, asked_originates}
 use Rattle.css_model.specs.Explains.{IsJustAsked}
 use Rattle.css_model.proofs.Lately.{is_same_stamp-true}
-use Rattle.css_model.proofs.Requests.{reading_of-stamp_of}
+use Rattle.css_model.proofs.Requests.{reading_of-stamp_of, each_weaker}
 use Rattle.css_client.specs.declared.promises.Promise.{Promise}
 use Rattle.css_client.specs.Clients.{Client, NeverFall, RemembersAll, RemembersOnly}
 use Rattle.css_client.specs.Standing.{StandsFor, IsBelow}
 use Rattle.css_client.proofs.Rings.{take-cons_take, take-map, list_any-map}
-use Rattle.css_client.proofs.Aside.{if_at, each_weaker}
+use Rattle.css_client.proofs.Aside.{if_at}
 use Rattle.css_client.proofs.Forgetting.{never_fall-later, never_fall-ring}
 
 -- the request that was sent

@@ -1,11 +1,12 @@
 -- Which histories a client stands for, and what is promised of it.
 use Rattle.std.specs.Prelude.{ℕ, ◌≡◌, ◌≤◌, ◌<◌, ◌⊎◌, pos, ◌≤ℤ◌, List, ◌∷◌, map, length}
-use Rattle.std.specs.Prelude.{false, Option, Some, None, IfSome, IfOk, IsTrue, Result}
+use Rattle.std.specs.Prelude.{false, Option, Some, None, IfSome, IfOk, IsTrue, Result, All}
 use Rattle.css_num.specs.Spans.{Interval}
 use Rattle.css_num.specs.declared.memory.Memory.{Memory}
 use Rattle.css_model.specs.declared.Stamp.{Stamp}
 use Rattle.css_model.specs.declared.Message.{Message}
 use Rattle.css_model.specs.declared.Why.TheVariants as why
+use Rattle.css_model.specs.Truth.{Contains}
 use Rattle.css_model.specs.Wire.{stamp_of, reading_of}
 use Rattle.css_model.specs.World.{World, Errors, IsWorldFor}
 use Rattle.css_model.specs.History.{Entry, Clock, Took, History, Each, is_sleep, sleeps, asking_at}
@@ -69,6 +70,15 @@ ContainsTheWall client reading span =
     → StandsFor client history → IsWorldFor errors world who (local_of client)
     → Explains world who errors.tv (local_of client) (Clock why.Turn reading ∷ history) moment_of
     → SpanHolds span (world (moment_of (length history))).wall
+
+-- In each such world the span of each kept answer contains the wall clock at that reading.
+abbrev pub KeptContainTheWall : Client → Type 0
+KeptContainTheWall client =
+    (history : History) (reading : ℕ) (errors : Errors) (world : World) (who : ℕ) (moment_of : ℕ → ℕ)
+    → StandsFor client history → IsWorldFor errors world who (local_of client)
+    → Explains world who errors.tv (local_of client) (Clock why.Turn reading ∷ history) moment_of
+    → All (λ answer. Contains (local_of client) answer reading (world (moment_of (length history))).wall)
+    client.estimate.kept
 
 -- In each world that keeps the errors and in which the history can happen, a truthful answer that lands is accepted:
 -- for every history that the client stands for.

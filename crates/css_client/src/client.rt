@@ -8,7 +8,7 @@ ghost use Rattle.css_span.specs.WallSpans.{wall_span, IsNear};
 ghost use Rattle.css_wc.specs.Datagrams.{HasNoFault};
 ghost use Rattle.css_client.specs.Clients.{local_of};
 ghost use Rattle.css_client.specs.Landings.{landing_of, judged_of, IsRefusal};
-ghost use Rattle.css_client.specs.Standing.{StandsFor, ContainsTheWall, AcceptsTheTruth};
+ghost use Rattle.css_client.specs.Standing.{StandsFor, ContainsTheWall, KeptContainTheWall, AcceptsTheTruth};
 
 use crate::asked::Asked;
 use crate::landing::Landing;
@@ -204,8 +204,10 @@ impl Client {
     }
 
     /// The kept answers, the oldest first: of each declared error the narrowest that was accepted since the last sleep.
+    /// The span of each contains the television's wall clock.
     pub fn answers(&self) -> &[Answer]
-        ensures { result.now ≡ reverse self.now.estimate.kept }
+        ensures kept { result.now ≡ reverse self.now.estimate.kept }
+        ensures holds { KeptContainTheWall self.now }
     {
         self.estimate.answers()
     }

@@ -17,6 +17,12 @@ reading_of-stamp_of r = omega arith
 stamp_of-same : (r s : ℕ) → stamp_of r ≡ stamp_of s → r ≡ s
 stamp_of-same r s e = sym (reading_of-stamp_of r) ∙ ap reading_of e ∙ reading_of-stamp_of s
 
+-- what is said of each, where it implies another thing
+pub each_weaker : (P Q : Entry → History → Type 0) → ((entry : Entry) (older : History) → P entry older → Q entry older)
+    → (history : History) → Each P history → Each Q history
+each_weaker P Q f [] h = tt
+each_weaker P Q f (entry ∷ older) h = (f entry older h.0, each_weaker P Q f older h.1)
+
 -- what two say of each entry, together
 pub each-and : (P Q : Entry → History → Type 0) (history : History) → Each P history → Each Q history
     → Each (λ entry older. P entry older × Q entry older) history
@@ -26,8 +32,7 @@ each-and P Q (entry ∷ older) p q = ((p.0, q.0), each-and P Q older p.1 q.1)
 -- and the first of them alone
 pub each-first : (P Q : Entry → History → Type 0) (history : History)
     → Each (λ entry older. P entry older × Q entry older) history → Each P history
-each-first P Q [] h = tt
-each-first P Q (entry ∷ older) h = (h.0.0, each-first P Q older h.1)
+each-first P Q = each_weaker (λ entry older. P entry older × Q entry older) P (λ entry older h. h.0)
 
 -- The reading for the request with this originate value, in the entry with this number, what came before it, and what Q
 -- says of each entry up to it.

@@ -1,7 +1,7 @@
 //! What is proved of the definitions alone. Each law is the contract of a function that does nothing, so the check
 //! proves it like any contract. The crates above rest on these laws.
 
-ghost use Rattle.css_model.specs.Explains.{WallIsTrue, TruthIsAccepted};
+ghost use Rattle.css_model.specs.Explains.{AnswersAreTrue, WallIsTrue, TruthIsAccepted};
 ghost use Rattle.css_model.specs.Examples.{IsExample, one_exchange, follow_up_after_sleep};
 ghost use Rattle.css_model.specs.Truth.{SpansAreTrue};
 ghost use Rattle.css_model.specs.WallClock.{FrontierIsEnough, NarrowestIsLeast, SpansAreTheStandard};
@@ -27,6 +27,12 @@ pub fn narrowest_is_least()
 /// narrowest of all.
 pub fn frontier_is_enough()
     ensures { FrontierIsEnough }
+{}
+
+/// In each world that keeps the oscillators' errors and explains what a companion did, the span of each answer that it
+/// accepted contains the television's wall clock, at every reading of the companion's clock up to its next sleep.
+pub fn answers_are_true()
+    ensures { AnswersAreTrue }
 {}
 
 /// In each world that keeps the oscillators' errors and explains what a companion did, the span of its narrowest
