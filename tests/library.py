@@ -10,8 +10,8 @@ where there is one:
 - each allocation refused in turn;
 - random calls, under the address sanitizer instead;
 - the tests of the Rust package;
-- examples/follow and examples/player. They follow a television on loopback that is paused and sought: one by hand, or
-  that of css where CSS is a command that runs it.
+- examples/follow and examples/player. They follow a television on loopback that is paused and sought, and whose TS
+  session is closed and opened again: one by hand, or that of css where CSS is a command that runs it.
 
 The status is 0 where all is well.
 """
@@ -32,7 +32,9 @@ live_server.OFFSET = 0
 TOP = Path(__file__).resolve().parent.parent
 TESTS, EXAMPLES = TOP / "tests" / "library", TOP / "examples"
 RANDOM_CALLS = "1000000"
-REPORTS = "30"
+REPORTS = "60"
+# how many reports they make, and after how many they close their TS session
+WORDS = [REPORTS, "30"]
 WRAPPED = "-Wl,--wrap=malloc,--wrap=realloc,--wrap=free"
 WARNINGS = ["-Wall", "-Wextra", "-Werror"]
 # What the television shows: nanoseconds from its start, and what happens then.
@@ -149,14 +151,14 @@ class Suite:
 
     def applications(self, css):
         follow = self.built([EXAMPLES / "follow" / "follow.c", EXAMPLES / "follow" / "session.c"])
-        self.with_television(css, f"{REPORTS} reports, in C", lambda url: [*self.valgrind, follow, url, REPORTS])
+        self.with_television(css, f"{REPORTS} reports, in C", lambda url: [*self.valgrind, follow, url, *WORDS])
         if not shutil.which("cargo"):
             return
         ran = self.cargo(["build", "--release"], EXAMPLES / "player")
         subprocess.run(ran["args"], cwd=ran["cwd"], env=ran["env"], check=True)
         player = self.room / "target" / "release" / "player"
         sound = self.room / "tones.wav"
-        self.with_television(css, f"{REPORTS} seconds of tones, in Rust", lambda url: [player, url, sound, REPORTS])
+        self.with_television(css, f"{REPORTS} seconds of tones, in Rust", lambda url: [player, url, sound, *WORDS])
 
 
 def main(words):

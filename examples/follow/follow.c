@@ -1,6 +1,7 @@
-/* Follows a television over its own sockets:  follow ws://HOST:PORT/cii [REPORTS]
+/* Follows a television over its own sockets:  follow ws://HOST:PORT/cii [REPORTS [REOPEN]]
  * Each second it prints the ticks that the television may be presenting, and when half a second more will have gone. It
- * takes the television's wall clock for this machine's own, as on loopback, and tells whether what was said is true. */
+ * takes the television's wall clock for this machine's own, as on loopback, and tells whether what was said is true.
+ * Where the TS session closes it opens another. After REOPEN reports it closes the session itself. */
 #define _GNU_SOURCE
 #include "css_companion.h"
 #include "session.h"
@@ -17,8 +18,9 @@ typedef struct follower {
     css_sleep sleep;
     session cii, ts;
     int udp;
-    uint64_t next; /* the reading of the next report */
-    int reports, told, held, foretold, led;
+    uint64_t next;      /* the reading of the next report */
+    uint64_t next_dial; /* no dial before it */
+    int reports, reopen, told, held, foretold, led;
 } follower;
 
 static const char *word(uint32_t code) {
@@ -41,7 +43,7 @@ static int begin(follower *f, const char *url) {
     css_sleep awake = CSS_AWAKE;
     f->sleep = awake;
     f->udp = f->ts.fd = -1;
-    f->next = css_reading();
+    f->next = f->next_dial = css_reading();
     if (css_companion_new(&f->companion, (const uint8_t *)selector, strlen(selector), NULL, 0, 128000, 1000)) return 1;
     return session_open(&f->cii, url);
 }
@@ -68,25 +70,38 @@ static int hear_content(follower *f) {
     return is;
 }
 
-static int hear_timeline(follower *f) {
+/* The wall clock's answers stay, so the next control timestamp gives an interval at once. */
+static void end_timeline(follower *f) {
+    css_companion_ts_closed(&f->companion);
+    session_close(&f->ts);
+}
+
+static void hear_timeline(follower *f) {
     const uint8_t *text;
     size_t len;
     int is = 0;
     while (f->ts.fd >= 0 && (is = session_next(&f->ts, &text, &len)) > 0) {
         css_companion_control(&f->companion, text, len);
     }
-    if (is < 0) css_companion_ts_closed(&f->companion);
-    return is;
+    if (is < 0) end_timeline(f);
+}
+
+/* The setup begins the session anew, in the companion too. */
+static void open_timeline(follower *f, const char *url) {
+    uint8_t setup[512];
+    size_t used;
+    if (session_open(&f->ts, url)) return;
+    if (!css_companion_setup(&f->companion, setup, sizeof setup, &used)) session_send(&f->ts, setup, used);
 }
 
 static void dial_what_is_told(follower *f) {
     char url[512], path[512];
-    uint8_t setup[512];
-    size_t used;
+    uint64_t now = css_reading();
+    if (now < f->next_dial) return;
     if (f->udp < 0 && property(f, CSS_WC_URL, url, sizeof url)) f->udp = dial(url, SOCK_DGRAM, path, sizeof path);
-    if (f->ts.fd < 0 && property(f, CSS_TS_URL, url, sizeof url) && !session_open(&f->ts, url) &&
-        !css_companion_setup(&f->companion, setup, sizeof setup, &used)) {
-        session_send(&f->ts, setup, used);
+    if (f->ts.fd < 0 && property(f, CSS_TS_URL, url, sizeof url)) {
+        open_timeline(f, url);
+        f->next_dial = now + 500000000;
     }
 }
 
@@ -158,13 +173,18 @@ static int turn(follower *f) {
     wait_for_any(f);
     if (css_has_slept(&f->sleep)) css_companion_slept(&f->companion);
     hear_clock(f);
-    if (hear_content(f) || hear_timeline(f)) return 1;
+    if (hear_content(f)) return 1;
+    hear_timeline(f);
     dial_what_is_told(f);
     uint64_t now = css_reading();
     if (now >= f->next) {
         f->next += 1000000000;
         report(f, now);
         ask(f);
+        if (f->reopen && f->told == f->reopen) {
+            f->reopen = 0;
+            end_timeline(f);
+        }
     }
     return f->told >= f->reports;
 }
@@ -173,6 +193,7 @@ int main(int argc, char **argv) {
     static follower f;
     if (argc < 2) return 2;
     f.reports = argc > 2 ? atoi(argv[2]) : 10;
+    f.reopen = argc > 3 ? atoi(argv[3]) : 0;
     if (begin(&f, argv[1])) return fprintf(stderr, "no television at %s\n", argv[1]), 1;
     while (!turn(&f)) {
     }

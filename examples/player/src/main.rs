@@ -1,9 +1,10 @@
 //! Plays a tone at each second of a television's programme, by its own clock, into a WAV file:
 //!
-//!     player ws://HOST:PORT/cii FILE.wav [SECONDS]
+//!     player ws://HOST:PORT/cii FILE.wav [SECONDS [REOPEN]]
 //!
 //! Each second it prints by how many milliseconds it can be ahead. It takes the television's wall clock for this
-//! machine's own, as on loopback, and tells whether what it said is true.
+//! machine's own, as on loopback, and tells whether what it said is true. Where the TS session closes it opens another.
+//! After REOPEN seconds it closes the session itself.
 mod player;
 mod session;
 mod sound;
@@ -28,6 +29,7 @@ struct Follower {
     ts: Option<Session>,
     wall: Option<UdpSocket>,
     next_request: u64,
+    next_dial: u64,
 }
 
 impl Follower {
@@ -39,6 +41,7 @@ impl Follower {
             ts: None,
             wall: None,
             next_request: 0,
+            next_dial: 0,
         })
     }
 
@@ -51,11 +54,7 @@ impl Follower {
         while let Some(text) = self.cii.next()? {
             self.companion.cii(&text)?;
         }
-        if let Some(ts) = &mut self.ts {
-            while let Some(text) = ts.next()? {
-                self.companion.control(&text)?;
-            }
-        }
+        self.hear_timeline()?;
         self.dial()?;
         if let Some(wall) = self.wall.as_ref().filter(|_| reading() >= self.next_request) {
             // a request that is lost is one that isn't answered
@@ -76,6 +75,34 @@ impl Follower {
         }
     }
 
+    /// Takes in the texts of the TS session.
+    fn hear_timeline(&mut self) -> Result<(), Error> {
+        while let Some(ts) = &mut self.ts {
+            match ts.next() {
+                Ok(Some(text)) => self.companion.control(&text)?,
+                Ok(None) => return Ok(()),
+                Err(_) => self.end_timeline()?,
+            }
+        }
+        Ok(())
+    }
+
+    /// The wall clock's answers stay, so the next control timestamp gives an interval at once.
+    fn end_timeline(&mut self) -> Result<(), Error> {
+        self.ts = None;
+        self.companion.ts_closed()
+    }
+
+    /// Opens the TS session, and lets the companion begin it anew.
+    fn open_timeline(&mut self, url: &str) -> Result<(), Box<dyn error::Error>> {
+        self.next_dial = reading() + SECOND / 2;
+        if let Ok(mut ts) = Session::open(url) {
+            ts.send(&self.companion.setup()?)?;
+            self.ts = Some(ts);
+        }
+        Ok(())
+    }
+
     /// Dials what the television told.
     fn dial(&mut self) -> Result<(), Box<dyn error::Error>> {
         if self.wall.is_none() {
@@ -83,11 +110,9 @@ impl Follower {
                 self.wall = Some(datagrams(&url)?);
             }
         }
-        if self.ts.is_none() {
+        if self.ts.is_none() && reading() >= self.next_dial {
             if let Some(url) = self.companion.property(Property::TsUrl)? {
-                let mut ts = Session::open(&url)?;
-                ts.send(&self.companion.setup()?)?;
-                self.ts = Some(ts);
+                self.open_timeline(&url)?;
             }
         }
         Ok(())
@@ -151,9 +176,10 @@ fn keep(follower: &mut Follower, player: &mut Player, tally: &mut Tally, is_told
 fn main() -> Result<(), Box<dyn error::Error>> {
     let words: Vec<String> = env::args().collect();
     let [_, url, file, rest @ ..] = &words[..] else {
-        return Err("player ws://HOST:PORT/cii FILE.wav [SECONDS]".into());
+        return Err("player ws://HOST:PORT/cii FILE.wav [SECONDS [REOPEN]]".into());
     };
     let seconds: u64 = rest.first().map_or(Ok(10), |word| word.parse())?;
+    let mut reopen: Option<u64> = rest.get(1).map(|word| word.parse()).transpose()?;
     let (mut follower, mut player, mut tally) = (Follower::open(url)?, Player::new(), Tally::default());
     let mut sound = Sound::create(file)?;
     let begun = reading();
@@ -161,6 +187,9 @@ fn main() -> Result<(), Box<dyn error::Error>> {
     while reading() < begun + seconds * SECOND {
         follower.turn()?;
         let now = reading();
+        if reopen.take_if(|after| now >= begun + *after * SECOND).is_some() {
+            follower.end_timeline()?;
+        }
         player.play(&mut sound, (now - begun) / 1000 * SAMPLES / 1_000_000)?;
         if now >= next_look {
             keep(&mut follower, &mut player, &mut tally, now >= next_line);
