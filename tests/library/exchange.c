@@ -50,9 +50,24 @@ static void wall_clock(css_companion *c) {
     IS(css_companion_position(c, 1600, &position), CSS_NO_TIMESTAMP);
 }
 
+static void listed(css_companion *c) {
+    uint8_t out[64];
+    size_t used = 0;
+    css_rate rate = {0, 0};
+    IS(css_companion_timeline(c, 0, &rate, NULL, 0, &used), CSS_NO_ROOM);
+    IS(used == 24 && rate.units_per_second == 0, 1);
+    IS(css_companion_timeline(c, 0, &rate, out, sizeof out, &used), CSS_DONE);
+    IS(used == 24 && !memcmp(out, "urn:dvb:css:timeline:pts", 24), 1);
+    IS(rate.units_per_tick == 1 && rate.units_per_second == 90000, 1);
+    IS(css_companion_timeline(c, 1, &rate, out, sizeof out, &used), CSS_NULL);
+    IS(css_companion_timeline(c, SIZE_MAX, &rate, out, sizeof out, &used), CSS_NULL);
+}
+
 static void content(css_companion *c) {
     uint8_t out[2048];
     size_t used;
+    css_rate rate;
+    IS(css_companion_timeline(c, 0, &rate, out, sizeof out, &used), CSS_NULL);
     IS(css_companion_cii_field(c, CSS_WC_URL, out, sizeof out, &used), CSS_NULL);
     IS(css_companion_cii(c, TEXT("{")), CSS_NOT_JSON);
     IS(css_companion_cii(c, NULL, 0), CSS_NOT_JSON);
@@ -67,6 +82,7 @@ static void content(css_companion *c) {
     IS(css_companion_cii_field(c, CSS_WC_URL, out, 21, &used), CSS_NO_ROOM);
     IS(used, 22);
     IS(css_companion_cii_state(c, out, sizeof out, &used), CSS_DONE);
+    listed(c);
     used = 0;
     IS(css_companion_setup(c, NULL, 0, &used), CSS_NO_ROOM);
     size_t needed = used;
@@ -151,6 +167,7 @@ static void closed(css_companion *c) {
     css_span span;
     css_position position;
     css_readings when;
+    css_rate rate;
     css_companion_free(c);
     css_companion_free(c);
     IS(css_companion_ask(c, 1800, out), CSS_CLOSED);
@@ -163,6 +180,7 @@ static void closed(css_companion *c) {
     IS(css_companion_cii(c, TEXT(cii)), CSS_CLOSED);
     IS(css_companion_cii_state(c, out, sizeof out, &used), CSS_CLOSED);
     IS(css_companion_cii_field(c, CSS_WC_URL, out, sizeof out, &used), CSS_CLOSED);
+    IS(css_companion_timeline(c, 0, &rate, out, sizeof out, &used), CSS_CLOSED);
     IS(css_companion_setup(c, out, sizeof out, &used), CSS_CLOSED);
     IS(css_companion_control(c, TEXT(control)), CSS_CLOSED);
     IS(css_companion_ts_closed(c), CSS_CLOSED);

@@ -75,11 +75,13 @@ static uint32_t put(css_companion *c, uint64_t reading, int *bad) {
     uint8_t *out = malloc(room);
     css_bound a = {(int64_t)draw_long() >> (draw() % 64), draw(), draw() & 1}, b = a;
     uint32_t code;
-    switch (draw() % 5) {
+    css_rate rate;
+    switch (draw() % 6) {
     case 0: code = css_companion_cii_field(c, draw() % 9, out, room, &used); break;
     case 1: code = css_companion_cii_state(c, out, room, &used); break;
     case 2: code = css_companion_setup(c, out, room, &used); break;
     case 3: code = css_companion_presentation(&a, &b, out, room, &used); break;
+    case 4: code = css_companion_timeline(c, draw() % 3, &rate, out, room, &used); break;
     default: code = css_companion_report(c, draw(), reading, out, room, &used);
     }
     *bad |= (code == CSS_DONE && used > room) || (code == CSS_NO_ROOM && used <= room);

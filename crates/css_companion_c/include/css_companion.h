@@ -78,7 +78,7 @@ enum css_code {
     CSS_UNREADABLE = 51,     /* the last control timestamp can't be read */
     CSS_UNAVAILABLE = 52,    /* the timeline isn't being presented */
     CSS_NO_RATE = 53,        /* the timeline's tick rate isn't known */
-    CSS_NULL = 54,           /* the property is null */
+    CSS_NULL = 54,           /* the property is null, or there is no such timeline */
     CSS_NEVER = 55           /* the tick isn't shown, as far as is known now */
 };
 
@@ -95,6 +95,9 @@ typedef struct css_position {
     int32_t speed; /* 0 is a pause, below 0 it goes backward */
 } css_position;
 
+/* units_per_second / units_per_tick ticks a second */
+typedef struct css_rate { uint32_t units_per_tick, units_per_second; } css_rate;
+
 /* readings of the own clock, in ns */
 typedef struct css_readings { uint64_t from, to; } css_readings;
 
@@ -107,6 +110,7 @@ typedef struct css_bound {
 
 CSS_ASSERT(sizeof(css_companion) == 16 + sizeof(void *) && offsetof(css_companion, at) == 16, "css_companion");
 CSS_ASSERT(sizeof(css_span) == 16 && sizeof(css_readings) == 16, "two numbers of 64 bits");
+CSS_ASSERT(sizeof(css_rate) == 8, "two numbers of 32 bits");
 CSS_ASSERT(sizeof(css_position) == 48 && offsetof(css_position, speed) == 40, "css_position");
 CSS_ASSERT(sizeof(css_bound) == 24 && offsetof(css_bound, infinite) == 16, "css_bound");
 
@@ -141,6 +145,10 @@ uint32_t css_companion_wall(css_companion *c, uint64_t reading, css_span *wall);
 uint32_t css_companion_cii(css_companion *c, const uint8_t *text, size_t len);
 uint32_t css_companion_cii_field(css_companion *c, uint32_t property, uint8_t *out, size_t room, size_t *used);
 uint32_t css_companion_cii_state(css_companion *c, uint8_t *out, size_t room, size_t *used);
+/* A timeline that the television lists, by its number from 0: its selector and its tick rate. CSS_NULL behind the last
+ * one, and where none are listed. */
+uint32_t css_companion_timeline(css_companion *c, size_t number, css_rate *rate,
+                                uint8_t *out, size_t room, size_t *used);
 
 /* ---- the TS session at tsUrl: send `setup` once it is open, and hand on each text. A companion knows one TS session:
  * once it closed, position, lead and when answer CSS_SESSION_CLOSED. Make a new companion to follow on. */

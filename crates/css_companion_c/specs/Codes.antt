@@ -5,6 +5,7 @@ use Rattle.std.specs.Prelude.{int_lt}
 use Rattle.std.specs.Prelude.{Bool, true, false, not, List, length, Option, Some, None, Result, Ok, Err, if◌then◌else◌}
 use Rattle.css_model.specs.declared.TheConstants.{LIMIT}
 use Rattle.css_num.specs.Spans.{Interval}
+use Rattle.css_num.specs.declared.timeline.Timeline.{Timeline}
 use Rattle.css_model.specs.Numbers.{max_local_error, max_local_precision}
 use Rattle.std.specs.Str.{IsUtf8}
 use Rattle.css_client.specs.declared.landing.Landing.{Landing}
@@ -134,6 +135,11 @@ value_code (Some text) room = room_code text room
 -- a property, by its number
 abbrev pub field_code : ℕ → Option (List ℕ) → ℕ → ℕ
 field_code number value room = if nat_lt 7 number then RANGE else value_code value room
+
+-- a timeline, and the room for its selector
+abbrev pub timeline_code : Option Timeline → ℕ → ℕ
+timeline_code None room = IS_NULL
+timeline_code (Some timeline) room = room_code timeline.selector room
 
 -- a number or a length that a companion can't have
 abbrev pub out_of_range : List ℕ → List ℕ → ℕ → ℕ → Bool

@@ -23,7 +23,7 @@ ghost use Rattle.css_companion_c.specs.Codes.{DONE, CLOSED, NO_ROOM, ChangesNoth
 ghost use Rattle.css_companion_c.specs.Handles.{behind, Of, Between, AnswerAlike};
 ghost use Rattle.css_companion_c.specs.Leads.{lead_code, HoldsTheLead};
 ghost use Rattle.css_companion_c.specs.Promises.{Adds, IsFresh, HoldsTheWall, HoldsThePosition, GoesWith};
-ghost use Rattle.css_companion_c.specs.Texts.{Holds, property_of};
+ghost use Rattle.css_companion_c.specs.Texts.{Holds, property_of, listed, TellsTimeline};
 ghost use Rattle.css_companion_c.specs.When.{IsShownWithin, IsNeverShown};
 
 mod codes;
@@ -39,12 +39,14 @@ mod presentations;
 mod reading;
 mod sessions;
 mod texts;
+mod timelines;
 mod when;
 mod words;
 
 use handle::Handle;
 use reading::{Ends, Position};
 use std::alloc::Global;
+use timelines::TimelineRate;
 use when::Readings;
 
 /// Makes a companion that wants the timeline with this selector of content whose id begins with this stem. Its own
@@ -332,6 +334,37 @@ pub extern "C" fn css_companion_cii_state(
     match handle.take(alloc) {
         Some(boxed) => {
             let code = content::state(alloc, &boxed, out, used);
+            handle.put_back(boxed);
+            code
+        }
+        None => codes::CLOSED,
+    }
+}
+
+/// Puts the selector of a timeline that the television lists into a buffer, with its tick rate, by its number from 0.
+#[unsafe(no_mangle)]
+pub extern "C" fn css_companion_timeline(
+    alloc: Global,
+    handle: &mut Handle,
+    number: usize,
+    rate: &mut TimelineRate,
+    out: &mut [u8],
+    used: &mut usize,
+) -> u32
+    ensures kept { result ≢ DONE → (out.new ≡ out.old) × (rate.new ≡ rate.old) }
+    ensures code { result ≡ answers.if_open (behind handle.old) (λ companion.
+        answers.timeline_code (listed number companion.state.timelines) (length out.old)) }
+    ensures same { behind handle.new ≡ behind handle.old }
+    ensures age { handle.new.age ≡ handle.old.age }
+    ensures told { result ≡ DONE → Of (behind handle.old) (λ companion.
+        IfSome (listed number companion.state.timelines) (λ timeline.
+        TellsTimeline timeline used.new out.new rate.new)) }
+    ensures needs { result ≡ NO_ROOM → Of (behind handle.old) (λ companion.
+        IfSome (listed number companion.state.timelines) (λ timeline. used.new ≡ length timeline.selector)) }
+{
+    match handle.take(alloc) {
+        Some(boxed) => {
+            let code = timelines::timeline(&boxed, number, rate, out, used);
             handle.put_back(boxed);
             code
         }

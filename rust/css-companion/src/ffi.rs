@@ -17,6 +17,13 @@ pub(crate) struct Span {
 
 #[repr(C)]
 #[derive(Clone, Copy, Default)]
+pub(crate) struct Rate {
+    pub(crate) units_per_tick: u32,
+    pub(crate) units_per_second: u32,
+}
+
+#[repr(C)]
+#[derive(Clone, Copy, Default)]
 pub(crate) struct Readings {
     pub(crate) from: u64,
     pub(crate) to: u64,
@@ -55,6 +62,14 @@ extern "C" {
         used: *mut usize,
     ) -> u32;
     pub(crate) fn css_companion_cii_state(c: *mut Handle, out: *mut u8, room: usize, used: *mut usize) -> u32;
+    pub(crate) fn css_companion_timeline(
+        c: *mut Handle,
+        number: usize,
+        rate: *mut Rate,
+        out: *mut u8,
+        room: usize,
+        used: *mut usize,
+    ) -> u32;
     pub(crate) fn css_companion_setup(c: *mut Handle, out: *mut u8, room: usize, used: *mut usize) -> u32;
     pub(crate) fn css_companion_control(c: *mut Handle, text: *const u8, len: usize) -> u32;
     pub(crate) fn css_companion_ts_closed(c: *mut Handle) -> u32;

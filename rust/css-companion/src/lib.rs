@@ -14,7 +14,7 @@ mod ffi;
 pub use error::{Cause, Error, Ignored, Refusal, TextFault};
 
 use error::told;
-use ffi::{Handle, Readings, Span};
+use ffi::{Handle, Rate, Readings, Span};
 use std::marker::PhantomData;
 use std::ops::RangeInclusive;
 
@@ -45,6 +45,14 @@ pub enum Property {
     WcUrl,
     TsUrl,
     TeUrl,
+}
+
+/// A timeline that the television lists. It has `units_per_second / units_per_tick` ticks a second.
+#[derive(Clone, Debug, PartialEq, Eq)]
+pub struct Timeline {
+    pub selector: String,
+    pub units_per_tick: u32,
+    pub units_per_second: u32,
 }
 
 /// One end of a presentation window.
@@ -147,6 +155,25 @@ impl Companion {
     pub fn state(&mut self) -> Result<String, Error> {
         let handle = &mut self.handle;
         text(|out, room, used| unsafe { ffi::css_companion_cii_state(handle, out, room, used) })
+    }
+
+    /// The timelines that the television lists, in its order. None are where it lists none.
+    pub fn timelines(&mut self) -> Result<Vec<Timeline>, Error> {
+        let mut listed = Vec::new();
+        loop {
+            let (handle, mut rate) = (&mut self.handle, Rate::default());
+            let told = text(|out, room, used| unsafe {
+                ffi::css_companion_timeline(handle, listed.len(), &mut rate, out, room, used)
+            });
+            match told {
+                Err(Error::Cause(Cause::Null)) => return Ok(listed),
+                other => listed.push(Timeline {
+                    selector: other?,
+                    units_per_tick: rate.units_per_tick,
+                    units_per_second: rate.units_per_second,
+                }),
+            }
+        }
     }
 
     /// The text to send on a TS session that was opened.

@@ -31,6 +31,9 @@ fn texts() {
     assert_eq!(c.property(Property::WcUrl).unwrap().as_deref(), Some("udp://192.168.1.5:5800"));
     assert_eq!(c.cii(r#"{"wcUrl":"udp://10.0.0.1:1"}"#), Err(Error::Text(TextFault::Moved)));
     assert!(c.state().unwrap().contains("dvb://1.2.3"));
+    let timelines = c.timelines().unwrap();
+    assert_eq!((timelines.len(), timelines[0].units_per_second), (1, 90_000));
+    assert_eq!(timelines[0].selector, "urn:dvb:css:timeline:pts");
     assert!(c.setup().unwrap().contains("urn:dvb:css:timeline:pts"));
     let window = presentation(Bound::At { content: 1, wall: 2 }, Bound::Ever { content: 3 }).unwrap();
     assert!(window.contains("plusinfinity"));
