@@ -1,0 +1,46 @@
+#!/usr/bin/env python3
+"""Counts what the calls of the library for applications cost.
+
+    bench/library.py DIR        where DIR is a folder that `./css --library DIR` made
+
+Printed are the instructions of each call, counted by callgrind, and how often it takes memory. `land` is an exchange
+less its request. How long the library's code is comes last.
+"""
+import re
+import subprocess
+import sys
+import tempfile
+from pathlib import Path
+
+HERE = Path(__file__).resolve().parent
+CALLS = ["ask", "exchange", "wall", "position", "lead", "when", "slept", "setup", "ts_closed", "control", "cii"]
+COUNT = 200
+
+
+def counted(program, room, call, count):
+    """The instructions of a run with so many calls, and how often they took memory."""
+    words = ["valgrind", "--tool=callgrind", f"--callgrind-out-file={room}/out", program, call, str(count)]
+    ran = subprocess.run(words, capture_output=True, text=True, check=True)
+    return int(re.search(r"Collected : (\d+)", ran.stderr)[1]), int(ran.stdout)
+
+
+def main(words):
+    library = Path(words[0]).resolve()
+    with tempfile.TemporaryDirectory() as room:
+        program = f"{room}/library"
+        command = ["gcc", "-O2", "-Wl,--wrap=malloc,--wrap=realloc", f"-I{library}/include", "-o", program]
+        subprocess.run([*command, HERE / "library.c", f"-L{library}/lib", "-lcss_companion"], check=True)
+        costs = {}
+        for call in CALLS:
+            (once, taken), (twice, taken_twice) = (counted(program, room, call, n * COUNT) for n in (1, 2))
+            costs[call] = (twice - once) // COUNT
+            shown = costs[call] - costs["ask"] if call == "exchange" else costs[call]
+            name = "land" if call == "exchange" else call
+            print(f"{name}: {shown} instructions, {(taken_twice - taken) / COUNT:g} times memory", flush=True)
+        sized = subprocess.run(["size", "-t", library / "lib" / "libcss_companion.a"], capture_output=True, text=True)
+        print(f"code: {int(sized.stdout.splitlines()[-1].split()[0]) // 1024} KB")
+    return 0
+
+
+if __name__ == "__main__":
+    sys.exit(main(sys.argv[1:]))
