@@ -6,9 +6,11 @@
 
 A crate waits for those below it. Of those that wait no longer, the one with the longest chain above it comes first.
 There is a prover for each processor, but only one for each 3 GB of free memory. Each prover may use every processor, so
-that none is idle while few crates can be proved; the crate with the longest chain goes before the others. rt locks the crates below the one that
-it proves, so each prover works in a room: a copy of the sources, to which the proved crates are linked. What it proved
-is carried back to crates/NAME/out, where rt finds it. An interrupt keeps what was proved.
+that none is idle while few crates can be proved; the crate with the longest chain goes before the others.
+
+rt locks the crates below the one that it proves, so each prover works in a room: a copy of the sources, to which the
+proved crates are linked. What it proved is carried back to crates/NAME/out, where rt finds it. An interrupt keeps what
+was proved.
 """
 import fcntl
 import os
