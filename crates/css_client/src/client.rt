@@ -1,9 +1,10 @@
 ghost use Rattle.std.specs.Prelude.{◌≡◌, ◌≤◌, ◌<◌, ◌+◌, ℕ, [], ◌∷◌, length, reverse, max, IfOk, IfSome, OnOk, OnErr};
+ghost use Rattle.std.specs.Prelude.{All};
 ghost use Rattle.css_model.specs.declared.Why.TheVariants as why;
 ghost use Rattle.css_model.specs.Numbers.{max_error};
 ghost use Rattle.css_model.specs.Wire.{encoded, request_at};
 ghost use Rattle.css_model.specs.History.{History, Clock, Sent, Took, Slept, accepted_answers, wall_answer};
-ghost use Rattle.css_span.specs.Frontiers.{error_count, greatest_error};
+ghost use Rattle.css_span.specs.Frontiers.{error_count, greatest_error, IsPossible};
 ghost use Rattle.css_span.specs.WallSpans.{wall_span, IsNear};
 ghost use Rattle.css_wc.specs.Datagrams.{HasNoFault};
 ghost use Rattle.css_client.specs.Clients.{local_of};
@@ -196,6 +197,13 @@ impl Client {
         self.estimate.at(reading)
     }
 
+    /// The companion's own clock.
+    pub fn local(&self) -> Local
+        ensures { result ≡ local_of self.now }
+    {
+        self.local
+    }
+
     /// The least reading that may be handed next.
     pub fn floor(&self) -> u64
         ensures { result ≡ self.now.floor }
@@ -207,6 +215,8 @@ impl Client {
     /// The span of each contains the television's wall clock.
     pub fn answers(&self) -> &[Answer]
         ensures kept { result.now ≡ reverse self.now.estimate.kept }
+        ensures possible { (reading : ℕ) → self.now.floor ≤ reading
+            → All (IsPossible (local_of self.now) reading) self.now.estimate.kept }
         ensures holds { KeptContainTheWall self.now }
     {
         self.estimate.answers()

@@ -4,3 +4,4 @@ pub mod Behind
 pub mod Rising
 pub mod Shown
 pub mod Leading
+pub mod Narrow

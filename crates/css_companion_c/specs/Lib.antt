@@ -6,3 +6,4 @@ pub mod Texts
 pub mod Words
 pub mod When
 pub mod Leads
+pub mod Until

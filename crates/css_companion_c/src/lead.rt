@@ -32,7 +32,7 @@ fn tick_length(rate: Rate) -> u64
 }
 
 /// So many lengths.
-fn lengths(ticks: i128, length: u64) -> i128
+pub(crate) fn lengths(ticks: i128, length: u64) -> i128
     requires ticks { unsigned_abs ticks ≤ 2 ^ 64 }
     requires length { length ≤ 2 ^ 60 }
     ensures value { result ≡ ticks *ℤ pos length }

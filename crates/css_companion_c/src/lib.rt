@@ -2,7 +2,7 @@
 //! and answers a code.
 #![tactic(auto)]
 
-ghost use Rattle.std.specs.Prelude.{◌≡◌, ◌≢◌, ℕ, Some, None, IsSome, IfSome, [], ◌∷◌, length, take};
+ghost use Rattle.std.specs.Prelude.{◌≡◌, ◌≢◌, ◌+◌, ℕ, Some, None, IsSome, IfSome, [], ◌∷◌, length, take};
 ghost use Rattle.css_model.specs.declared.Kind.TheVariants as kind;
 ghost use Rattle.css_model.specs.declared.Why.TheVariants as why;
 ghost use Rattle.css_model.specs.History.{History, Entry, Clock, Sent, Took, Slept, Heard, Dialled, accepted_answers};
@@ -24,6 +24,7 @@ ghost use Rattle.css_companion_c.specs.Handles.{behind, Of, Between, AnswerAlike
 ghost use Rattle.css_companion_c.specs.Leads.{lead_code, HoldsTheLead};
 ghost use Rattle.css_companion_c.specs.Promises.{Adds, IsFresh, HoldsTheWall, HoldsThePosition, GoesWith};
 ghost use Rattle.css_companion_c.specs.Texts.{Holds, property_of, listed, TellsTimeline};
+ghost use Rattle.css_companion_c.specs.Until.{any_kept, IsNarrowUntil, IsWideAt};
 ghost use Rattle.css_companion_c.specs.When.{IsShownWithin, IsNeverShown};
 
 mod codes;
@@ -40,6 +41,7 @@ mod reading;
 mod sessions;
 mod texts;
 mod timelines;
+mod until;
 mod when;
 mod words;
 
@@ -498,6 +500,33 @@ pub extern "C" fn css_companion_report(
     match handle.take(alloc) {
         Some(boxed) => {
             let code = reading::report(alloc, &boxed, number, reading, out, used);
+            handle.put_back(boxed);
+            code
+        }
+        None => codes::CLOSED,
+    }
+}
+
+/// The last reading up to which the span of the wall clock is at most so many nanoseconds wide.
+#[unsafe(no_mangle)]
+pub extern "C" fn css_companion_until(
+    alloc: Global,
+    handle: &mut Handle,
+    width: u64,
+    reading: &mut u64,
+) -> u32
+    ensures kept { result ≢ DONE → reading.new ≡ reading.old }
+    ensures code { answers.Searches (answers.if_open (behind handle.old) any_kept) result }
+    ensures same { behind handle.new ≡ behind handle.old }
+    ensures age { handle.new.age ≡ handle.old.age }
+    ensures truth { result ≡ DONE → Of (behind handle.old) (IsNarrowUntil width reading.new) }
+    ensures last { result ≡ DONE → Of (behind handle.old) (IsWideAt width (reading.new + 1)) }
+    ensures never { result ≡ answers.NEVER → Of (behind handle.old) (λ companion.
+        IsWideAt width companion.client.floor companion) }
+{
+    match handle.take(alloc) {
+        Some(boxed) => {
+            let code = until::until(&boxed, width, reading);
             handle.put_back(boxed);
             code
         }

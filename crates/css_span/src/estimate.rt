@@ -1,5 +1,5 @@
 ghost use Rattle.std.specs.Prelude.{◌≡◌, ◌≤◌, ◌<◌, ◌↔◌, [], length, reverse, OnOk, OnErr, IsNone};
-ghost use Rattle.std.specs.Prelude.{IfSome};
+ghost use Rattle.std.specs.Prelude.{IfSome, All, ℕ};
 ghost use Rattle.css_num.specs.Gives.{GivesBy};
 ghost use Rattle.css_span.specs.Frontiers.{Answers, StandsFor, Accepts, IsPossible, error_count};
 ghost use Rattle.css_span.specs.Frontiers as frontiers;
@@ -111,7 +111,9 @@ impl Estimate {
 
     /// The kept answers, the oldest first: of each declared error the narrowest.
     pub fn answers(&self) -> &[Answer]
-        ensures { result.now ≡ reverse self.now.kept }
+        ensures kept { result.now ≡ reverse self.now.kept }
+        ensures possible { (reading : ℕ) → self.now.floor ≤ reading
+            → All (IsPossible self.now.local reading) self.now.kept }
     {
         &self.kept
     }
