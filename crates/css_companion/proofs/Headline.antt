@@ -1,7 +1,7 @@
 -- The headline, of a history: the span is true, and a control timestamp takes each value of it to a tick of the report.
 use Rattle.std.proofs.Common.{◌≡◌, ℕ, arith, refl, subst, Bool, true, false, List, [], ◌∷◌, length}
 use Rattle.std.proofs.lemmas.Int.{ints}
-use Rattle.std.specs.Prelude.{ℤ, pos, ◌≤ℤ◌, ◌*ℤ◌, Option, Some, None, IfSome, Result, Ok, Err}
+use Rattle.std.specs.Prelude.{ℤ, pos, ◌≤ℤ◌, ◌*ℤ◌, Option, Some, None, IfSome, Result, Ok, Err, if◌then◌else◌}
 use Rattle.std.specs.Option.{option_map, option_or}
 use Rattle.css_model.specs.declared.Why.TheVariants as why
 use Rattle.css_model.specs.WallClock.{Answer, Local}
@@ -23,7 +23,8 @@ use Rattle.css_tsmsg.specs.declared.fault.TsFault.{TsFault}
 use Rattle.css_tsmsg.proofs.Never.{not_memory}
 use Rattle.css_companion.specs.Positions.{nanoseconds, position}
 use Rattle.css_companion.specs.Reports.{tick_at, ticks_at, timing_of, report_by, assigned_by, HasTickOf, SaysNoMemory}
-use Rattle.css_companion.specs.Meanings.{ts_text, control_by, is_closed, rate_after, timing_after, report_after}
+use Rattle.css_companion.specs.Meanings.{ts_text, opens_ts, control_by, is_closed, rate_after, timing_after}
+use Rattle.css_companion.specs.Meanings.{report_after}
 use Rattle.css_companion.specs.Headline.{ContainsThePosition, TheHeadline}
 use Rattle.css_companion.specs.declared.knowledge.Timing.{Timing}
 use Rattle.css_companion.specs.declared.report.Cause.{Cause}
@@ -74,9 +75,14 @@ newest : (text : Option (List ℕ)) (before : Option (Result Control TsFault)) �
 newest None before h = h
 newest (Some bytes) before h = not_memory bytes
 
+since : (opens : Bool) (control : Option (Result Control TsFault)) → IfSome control NotMemory
+    → IfSome (if opens then None else control) NotMemory
+since true control h = tt
+since false control h = h
+
 known : (history : History) → IfSome (control_by history) NotMemory
 known [] = tt
-known (entry ∷ older) = newest (ts_text entry older) (control_by older) (known older)
+known (entry ∷ older) = since (opens_ts entry) _ (newest (ts_text entry older) (control_by older) (known older))
 
 -- so no cause is
 timed : (span : Option Interval) (control : Option (Result Control TsFault)) (closed : Bool) (rate : Option TickRate)

@@ -277,7 +277,7 @@ pub extern "C" fn css_companion_cii(alloc: Global, handle: &mut Handle, text: &[
     match handle.take(alloc) {
         Some(boxed) => {
             let mut companion = boxed;
-            let code = sessions::cii(&mut companion, alloc, text);
+            let code = sessions::cii(&mut companion, text);
             handle.put(companion, code);
             code
         }
@@ -419,7 +419,7 @@ pub extern "C" fn css_companion_control(alloc: Global, handle: &mut Handle, text
     match handle.take(alloc) {
         Some(boxed) => {
             let mut companion = boxed;
-            let code = sessions::control(&mut companion, alloc, text);
+            let code = sessions::control(&mut companion, text);
             handle.put(companion, code);
             code
         }
@@ -430,8 +430,8 @@ pub extern "C" fn css_companion_control(alloc: Global, handle: &mut Handle, text
 /// The TS session closed.
 #[unsafe(no_mangle)]
 pub extern "C" fn css_companion_ts_closed(alloc: Global, handle: &mut Handle) -> u32
-    ensures code { Answers (answers.if_open (behind handle.old) (λ _. DONE)) DONE result }
-    ensures same { ChangesNothing result → behind handle.new ≡ behind handle.old }
+    ensures code { result ≡ answers.if_open (behind handle.old) (λ _. DONE) }
+    ensures same { result ≢ DONE → behind handle.new ≡ behind handle.old }
     ensures age { handle.new.age ≡ aged handle.old.age result }
     ensures stands { result ≡ DONE → Between (behind handle.old) (behind handle.new) (λ old new. (entry : Entry)
         → Adds (steps.IsEntryOf event.TsClosed entry) (λ history. entry ∷ history) old new) }
@@ -439,9 +439,9 @@ pub extern "C" fn css_companion_ts_closed(alloc: Global, handle: &mut Handle) ->
     match handle.take(alloc) {
         Some(boxed) => {
             let mut companion = boxed;
-            let code = sessions::ts_closed(&mut companion);
-            handle.put(companion, code);
-            code
+            companion.ts_closed();
+            handle.put(companion, codes::DONE);
+            codes::DONE
         }
         None => codes::CLOSED,
     }

@@ -36,18 +36,8 @@ fn fault_code(fault: &CompanionFault) -> u32
     }
 }
 
-/// The code of what an event came to.
-fn owed_code(owed: &Result<Option<Text>, CompanionFault>) -> u32
-    ensures { result ≡ owed_code owed.now }
-{
-    match owed {
-        Ok(_) => codes::DONE,
-        Err(fault) => fault_code(fault),
-    }
-}
-
 /// Takes in a text of the CII session.
-pub(crate) fn cii(companion: &mut Companion, alloc: Global, text: &[u8]) -> u32
+pub(crate) fn cii(companion: &mut Companion, text: &[u8]) -> u32
     ensures code { Answers (if_short text.now DONE) (owed_code (steps.cii_answer companion.old text.now)) result }
     ensures told { GoesOn result → companion.new ≡ steps.with_text companion.old text.now }
     ensures stands { GoesOn result → (history : History) (peer : ℕ) → kind_of peer history ≡ Some kind.Cii
@@ -57,14 +47,14 @@ pub(crate) fn cii(companion: &mut Companion, alloc: Global, text: &[u8]) -> u32
     if text.len() > codes::LONGEST_TEXT {
         return codes::RANGE;
     }
-    match Text::of(alloc, text) {
-        Ok(copy) => owed_code(&companion.step(CompanionEvent::CiiText(copy))),
-        Err(_) => codes::MEMORY,
+    match companion.cii(text) {
+        Ok(()) => codes::DONE,
+        Err(fault) => fault_code(&fault),
     }
 }
 
 /// Takes in a text of the TS session.
-pub(crate) fn control(companion: &mut Companion, alloc: Global, text: &[u8]) -> u32
+pub(crate) fn control(companion: &mut Companion, text: &[u8]) -> u32
     ensures code { Answers (if_short text.now DONE) DONE result }
     ensures told { result ≡ DONE → companion.new ≡ record companion.old { control = Some (control_of text.now) } }
     ensures stands { result ≡ DONE → (history : History) (peer : ℕ) → kind_of peer history ≡ Some kind.Ts
@@ -74,26 +64,8 @@ pub(crate) fn control(companion: &mut Companion, alloc: Global, text: &[u8]) -> 
     if text.len() > codes::LONGEST_TEXT {
         return codes::RANGE;
     }
-    match Text::of(alloc, text) {
-        Ok(copy) => match companion.step(CompanionEvent::TsText(copy)) {
-            Ok(_) => codes::DONE,
-            Err(_) => codes::MEMORY,
-        },
-        Err(_) => codes::MEMORY,
-    }
-}
-
-/// The TS session closed. The contract of `step` allows want of memory here too.
-pub(crate) fn ts_closed(companion: &mut Companion) -> u32
-    ensures code { Answers DONE DONE result }
-    ensures told { result ≡ DONE → companion.new ≡ record companion.old { closed = true } }
-    ensures stands { result ≡ DONE → (history : History) (entry : Entry)
-        → steps.IsEntryOf event.TsClosed entry history
-        → StandsFor companion.old history → StandsFor companion.new (entry ∷ history) }
-    ensures same { ChangesNothing result → companion.new ≡ companion.old }
-{
-    match companion.step(CompanionEvent::TsClosed) {
-        Ok(_) => codes::DONE,
+    match companion.control(text) {
+        Ok(()) => codes::DONE,
         Err(_) => codes::MEMORY,
     }
 }

@@ -292,6 +292,7 @@ fn a_companion_reports_what_it_was_told(rt: HostRuntime) {
     check_run(&rt, rt.alloc(), STAMPS, EXACT, rows::CONTROLS);
     check_run(&rt, rt.alloc(), STAMPS, EXACT, rows::SLEPT);
     check_run(&rt, rt.alloc(), STAMPS, EXACT, rows::CLOSED_FIRST);
+    check_run(&rt, rt.alloc(), STAMPS, EXACT, rows::OPENED_AGAIN);
     check_run(&rt, rt.alloc(), "urn:x:1", EXACT, rows::RATES);
     check_run(&rt, rt.alloc(), STAMPS, EXACT, rows::RATES_OF_STAMPS);
     check_run(&rt, rt.alloc(), STAMPS, EXACT, rows::REFUSALS);

@@ -190,6 +190,9 @@ const PRESENTATION: &str = concat!(
 const PLAYS: &str =
     r#"{"contentTime":"900000","wallClockTime":"10000000000","timelineSpeedMultiplier":1.0}"#;
 
+/// What is owed to a TS session that is opened.
+const SETUP: &str = r#"{"contentIdStem":"dvb://","timelineSelector":"urn:dvb:css:timeline:pts"}"#;
+
 const PLAYS_LATER: &str =
     r#"{"contentTime":"900000","timelineSpeedMultiplier":1,"wallClockTime":"10040000000"}"#;
 
@@ -203,7 +206,7 @@ pub const CONTROLS: &[Row] = &[
     LATE,
     (CiiClosed, "", "none NoTimestamp"),
     (Ts(PLAYS), "", "ticks 945000 945001"),
-    (TsOpened, r#"{"contentIdStem":"dvb://","timelineSelector":"urn:dvb:css:timeline:pts"}"#, "ticks 945000 945001"),
+    (TsOpened, SETUP, "none NoTimestamp"),
     (Ts(UNAVAILABLE), "", "none Unavailable"),
     (
         Ts(r#"{"contentTime":"900000","wallClockTime":"10000000000","timelineSpeedMultiplier":0.5}"#),
@@ -256,6 +259,23 @@ pub const CLOSED_FIRST: &[Row] = &[
     LATE,
     (TsClosed, "", "none NoTimestamp"),
     (Ts(UNAVAILABLE), "", "none SessionClosed"),
+];
+
+/// A session that is opened again begins anew. The wall clock's answer and the timeline's rate stay.
+#[rattlefmt::skip]
+pub const OPENED_AGAIN: &[Row] = &[
+    ASKS,
+    LATE,
+    (Cii(RATE_OF_STAMPS), "", "none NoTimestamp"),
+    (TsOpened, SETUP, "none NoTimestamp"),
+    (Ts(PLAYS), "", "ticks 900500 900500"),
+    (TsClosed, "", "none SessionClosed"),
+    (TsOpened, SETUP, "none NoTimestamp"),
+    (Assigned(10_500_000_000), "None", "none NoTimestamp"),
+    (Ts(PLAYS), "", "ticks 900500 900500"),
+    (TsOpened, SETUP, "none NoTimestamp"),
+    (TsClosed, "", "none NoTimestamp"),
+    (Ts(PLAYS), "", "none SessionClosed"),
 ];
 
 const RATE_50: &str = concat!(

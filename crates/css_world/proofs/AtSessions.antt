@@ -162,7 +162,7 @@ module _ (old : World) (lines : List Numbered) (number t w who l : ℕ) where
       let history = Dialled session.Cii peer ∷ own in
       let apart = cii-ts who first in
       record {
-        companion = aside final.companion (Dialled session.Cii peer) own (dialled-aside session.Cii peer own)
+        companion = aside final.companion (Dialled session.Cii peer) own (dialled-aside peer own)
             (greets own own stood refl);
         cii = subst (λ (s : Session). SessionStands peer events history s) (sym same_cii)
             (session_as mid.cii peer events history _ _ _ _ _ (dialled-open peer session.Cii own)

@@ -1,6 +1,6 @@
 -- The k-th text of a session of a companion tells the k-th state or control, and none is refused.
-use Rattle.std.proofs.Common.{◌≡◌, ℕ, ◌+◌, ◌≤◌, refl, ap, sym, subst, ◌∙◌, arith}
-use Rattle.std.proofs.Common.{Bool, true, cond, List, [], ◌∷◌, ◌++◌, length, length-append}
+use Rattle.std.proofs.Common.{◌≡◌, ℕ, ◌+◌, ◌-◌, ◌≤◌, drop, refl, ap, sym, subst, ◌∙◌, arith}
+use Rattle.std.proofs.Common.{Bool, true, false, cond, List, [], ◌∷◌, ◌++◌, length, length-append}
 use Rattle.std.specs.Prelude.{Option, Some, None, IfSome, is_some, Result, Ok}
 use Rattle.std.specs.Option.{option_or, option_map, option_to_list}
 use Rattle.std.proofs.lemmas.Bool.{and_parts}
@@ -31,18 +31,19 @@ use Rattle.css_schedule.specs.Ranges.{IsCount}
 use Rattle.css_schedule.specs.declared.line.Verb.{Verb}
 use Rattle.css_schedule.specs.declared.line.Verb.TheVariants as verb
 use Rattle.css_world.specs.Arrived.{states_of_lived, states_come, IsToldInOrder}
-use Rattle.css_world.specs.Sessions.{addresses, peer_of, setup_of, is_open, heard_from, told_to, next_down}
+use Rattle.css_world.specs.Sessions.{addresses, peer_of, setup_of, is_open, was_opened, heard_from, told_to, next_down}
 use Rattle.css_world.specs.Happened.{Numbered, hearing, event_by, done_by, events_of, history_of}
 use Rattle.css_world.specs.Verdicts.{IsDeclared, can_talk}
 use Rattle.css_world.specs.Standing.{AreAccepted}
 use Rattle.css_world.proofs.Peers.{cii_of, ts_of, cii-ts, ts-cii}
 use Rattle.css_world.proofs.Entries.{heard-one, heard-apart}
 use Rattle.css_world.proofs.Ends.{events_with}
-use Rattle.css_world.proofs.Staging.{IsStaged, IsSound, sound_by}
+use Rattle.css_world.proofs.Staging.{IsStaged, IsSound, sound_by, not_true}
 use Rattle.css_world.proofs.Staged.{IsKeptBy, IsKeptApart, each_end}
 use Rattle.css_world.proofs.Growing.{controls_of_life, controls_of_lived, LifeGrows, some_grows}
 use Rattle.css_world.proofs.Lives.{lived_after}
 use Rattle.css_world.proofs.Talking.{HasCii, HasTs, Exchanged, exchanged, IsLifeOf, HasTalked, cii_live, ts_live}
+use Rattle.css_world.proofs.Talking.{ts_never}
 use Rattle.css_world.proofs.Talked.{talked_start, talked_kept, talked_apart, setup_utf8}
 use Rattle.css_world.proofs.Telling.{AreSaid, Comes, comes_next, come, come_grown, TellsAfter, states_told, ReadsAs}
 use Rattle.css_world.proofs.Telling.{controls_told}
@@ -241,9 +242,20 @@ hears_by header who made v events own first can before = by v can where
   same : IsHearing who events own
   same = before.hearing
 
-  opened : (k : Kind) → IsHearing who events (done_by header who made events (verb.Opening k) own)
-  opened kind.Cii = silent _ same.cii_few same.tells same.ts_few same.control
-  opened kind.Ts = silent _ same.cii_few same.tells same.ts_few same.control
+  -- nothing was told on a session of CSS-TS that opens
+  untold : was_opened (ts_of who) own ≡ false
+      → None ≡ newest (come (heard_from (ts_of who) own) (controls_after who events))
+  untold never =
+      let heard = heard_from (ts_of who) own in
+      let none : 0 - length heard ≡ 0 = omega arith in
+      let no_controls : List Control = [] in
+      sym (ap (λ lived. newest (come heard (controls_of_lived lived)))
+      (ts_never header who events own before.talked never).life ∙ ap (λ n. newest (drop n no_controls)) none)
+
+  opened : (k : Kind) → can_talk who events own (verb.Opening k) ≡ true
+      → IsHearing who events (done_by header who made events (verb.Opening k) own)
+  opened kind.Cii can = silent _ same.cii_few same.tells same.ts_few same.control
+  opened kind.Ts can = silent _ same.cii_few same.tells same.ts_few (untold (not_true _ can))
 
   by : (v : Verb) → can_talk who events own v ≡ true → IsHearing who events (done_by header who made events v own)
   by (verb.Ask reading) can = silent _ same.cii_few same.tells same.ts_few same.control
@@ -255,7 +267,7 @@ hears_by header who made v events own first can before = by v can where
   by (verb.Programme content_id) can = same
   by (verb.Timeline n selector rate base) can = same
   by (verb.Viewer reading command) can = same
-  by (verb.Opening k) can = opened k
+  by (verb.Opening k) can = opened k can
   by (verb.Bring k) can =
       hears header who first events own before.talked k (next_down who k events own)
       (and_parts (is_open (peer_of who k) own) (is_some (next_down who k events own)) can).0 refl same

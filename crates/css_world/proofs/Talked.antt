@@ -182,7 +182,7 @@ module _ (header : Header) (who : ℕ) (first : 1 ≤ who) (events : List TvEven
         is = opens.life;
         of = subst (λ received. IsLifeOf setup received Unset) (sym was.received) refl;
         written = omega (arith, ap length writes);
-        closed = λ live. was.closed;
+        closed = λ live. refl;
       } in
       record {
         staging = staging;
@@ -377,7 +377,7 @@ pub talked_start : (header : Header) (who : ℕ) → HasTalked header who [] []
 talked_start header who = record {
   staging = one_staged who;
   cii = (refl, refl);
-  ts = record { life = refl; shut = refl; written = refl; received = refl; closed = refl };
+  ts = record { life = refl; shut = refl; written = refl; received = refl };
   written = tt;
   shows = tt;
 }

@@ -144,7 +144,6 @@ pub record IsUnopened (lived : Option Lived) (live : Bool) (x : Exchanged) : Typ
   pub shut : live ≡ false
   pub written : x.written ≡ []
   pub received : x.received ≡ []
-  pub closed : x.closed ≡ false
 
 -- and after that at least its setup was
 pub record IsOpened (setup : Setup) (lived : Option Lived) (live : Bool) (x : Exchanged) : Type 0 where
@@ -175,7 +174,6 @@ ts_on setup None live p q old new x on has = record {
   shut = has.shut;
   written = has.written;
   received = has.received;
-  closed = has.closed;
 }
 ts_on setup (Some session.Ts) live p q old new x on has = go (some_on p q old new has.life live on has.is) where
   go : (new ≡ lived_as has.life live) ⊎ (new ≡ lived_as (cond live (grown_by q has.life) has.life) live)

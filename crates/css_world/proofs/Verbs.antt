@@ -31,6 +31,7 @@ use Rattle.css_world.specs.declared.fault.WorldFault.{WorldFault}
 use Rattle.css_world.specs.declared.fault.WorldFault.TheVariants.{Absent, Memory}
 use Rattle.css_world.specs.declared.lane.Lane.{Lane}
 use Rattle.css_world.specs.declared.session.Phase.TheVariants as phases
+use Rattle.css_model.specs.declared.Kind.TheVariants as session
 use Rattle.css_world.specs.Sessions.{addresses, peer_of, is_open, was_opened, heard_from}
 use Rattle.css_world.specs.Sessions.{written_to, received_from, told_to, next_down, next_up}
 use Rattle.css_world.specs.Happened.{Numbered, tickets, events_of, history_of}
@@ -170,13 +171,13 @@ pub aside : (companion : Companion) (entry : Entry) (own : History) → IsAside 
     → companions.StandsFor companion (entry ∷ own)
 aside companion entry own is stands = stands_aside companion own entry stands is
 
--- a session that opens tells a companion nothing
-pub dialled-aside : (kind : _) (peer : ℕ) (own : History) → IsAside (Dialled kind peer) own
-dialled-aside kind peer own = record {
+-- a session of CSS-CII that opens tells a companion nothing
+pub dialled-aside : (peer : ℕ) (own : History) → IsAside (Dialled session.Cii peer) own
+dialled-aside peer own = record {
   client = record { awake = refl; asks_none = refl; sends_none = refl; lands_none = refl };
   no_cii = refl;
   no_ts = refl;
-  no_end = refl;
+  no_edge = refl;
 }
 
 -- nor does what it wrote
@@ -185,7 +186,7 @@ wrote-aside peer bytes own = record {
   client = record { awake = refl; asks_none = refl; sends_none = refl; lands_none = refl };
   no_cii = refl;
   no_ts = refl;
-  no_end = refl;
+  no_edge = refl;
 }
 
 -- nor does a reading of its clock for a report
@@ -194,7 +195,7 @@ turn-aside reading own = record {
   client = record { awake = refl; asks_none = refl; sends_none = refl; lands_none = refl };
   no_cii = refl;
   no_ts = refl;
-  no_end = refl;
+  no_edge = refl;
 }
 
 -- what an event did to the television and the sessions, whatever it stood for
