@@ -1,9 +1,9 @@
-use Rattle.std.proofs.Common.{◌≡◌, ℤ, arith, rules, refl, true, ◌∙◌, sym, ap, subst, inr, to_z, of_z, Option}
+use Rattle.std.proofs.Common.{◌≡◌, ℤ, arith, rules, refl, true, ◌∙◌, sym, ap, subst, inr, to_z, of_z}
 use Rattle.std.specs.Prelude.{pos, int_lt, Some, Err, reverse}
 use Rattle.std.proofs.lemmas.Int.{ints}
 use Rattle.std.proofs.lemmas.Result.{err_from_is_err_and}
 use mir.Syntax.{w128}
-use Rattle.css_model.specs.WallClock.{Answer, Local, narrowest, scaled_width}
+use Rattle.css_model.specs.WallClock.{Local, narrowest, scaled_width}
 use Rattle.css_companion_c.specs.Snapshots.{own_in, answers_in}
 use Rattle.css_companion_c.proofs.Copies.{all_in_range, found_possible}
 use Rattle.css_companion_c.proofs.snapshot.wall.Goals as goal
