@@ -6,6 +6,7 @@
 #include <string.h>
 
 static int wrong;
+static css_snapshot copy;
 
 #define IS(call, code)                                                                                                 \
     do {                                                                                                               \
@@ -31,11 +32,14 @@ static void wall_clock(css_companion *c) {
     uint8_t request[32];
     css_span wall = {0, 0};
     css_position position;
+    uint64_t last;
     IS(css_companion_version(), CSS_VERSION);
     IS(css_companion_new(c, TEXT("urn:dvb:css:timeline:pts"), TEXT("dvb://"), 0, 0), CSS_DONE);
     IS(css_companion_wall(c, 900, &wall), CSS_NO_ANSWER);
     IS(css_companion_position(c, 900, &position), CSS_NO_ANSWER);
     IS(css_companion_lead(c, 900, 5, &wall), CSS_NO_ANSWER);
+    IS(css_companion_until(c, 5, &last), CSS_NO_ANSWER);
+    IS(css_companion_snapshot(c, &copy), CSS_NO_ANSWER);
     IS(css_companion_ask(c, 1000, request), CSS_DONE);
     IS(memcmp(request + 8, answer + 8, 8) != 0, 0);
     IS(css_companion_land(c, answer, 31, 1600), CSS_UNDECODABLE);
@@ -48,6 +52,7 @@ static void wall_clock(css_companion *c) {
     IS(css_companion_ask(c, UINT64_MAX, request), CSS_RANGE);
     IS(css_companion_ask(c, 4294967296000000000u, request), CSS_RANGE);
     IS(css_companion_position(c, 1600, &position), CSS_NO_TIMESTAMP);
+    IS(css_companion_snapshot(c, &copy), CSS_NO_TIMESTAMP);
 }
 
 static void listed(css_companion *c) {
@@ -90,6 +95,73 @@ static void content(css_companion *c) {
     IS(used, needed);
 }
 
+/* a copy tells what the companion tells */
+static void copied(css_companion *c) {
+    css_position p, q;
+    IS(css_companion_snapshot(c, &copy), CSS_DONE);
+    IS(copy.count, 1);
+    for (uint64_t reading = 1600; reading < 4000000000000000000u / 3; reading *= 3) {
+        IS(css_companion_position(c, reading, &p), CSS_DONE);
+        IS(css_snapshot_position(&copy, reading, &q), CSS_DONE);
+        IS(p.lo == q.lo && p.hi == q.hi && p.content == q.content && p.wall == q.wall && p.speed == q.speed, 1);
+        IS(p.units_per_tick == q.units_per_tick && p.units_per_second == q.units_per_second, 1);
+    }
+}
+
+/* each of its numbers one past its range */
+#define BAD(number, value)                                                                                             \
+    do {                                                                                                               \
+        bad = copy;                                                                                                    \
+        bad.number = (value);                                                                                          \
+        IS(css_snapshot_position(&bad, 1600, &p), CSS_RANGE);                                                          \
+    } while (0)
+static void miscopied(void) {
+    css_snapshot bad;
+    css_position p = {7, 7, 7, 7, 7, 7, 7};
+    const uint64_t limit = 4294967296000000000u;
+    BAD(error, 2560001);
+    BAD(precision, 1000000001);
+    BAD(count, 5);
+    BAD(answers[0].t1, limit);
+    BAD(answers[0].t2, limit);
+    BAD(answers[0].t3, limit);
+    BAD(answers[0].t4, limit);
+    BAD(answers[0].t3, limit - 1); /* the television answered long after it landed */
+    BAD(answers[0].precision, 1073741824000000001);
+    BAD(answers[0].error, 25600001);
+    BAD(wall, (uint64_t)1 << 63);
+    BAD(speed, 65);
+    BAD(speed, -65);
+    BAD(units_per_tick, 0);
+    BAD(units_per_tick, 1000000001);
+    BAD(units_per_second, 0);
+    BAD(units_per_second, 1000000001);
+    IS(css_snapshot_position(&copy, limit, &p), CSS_RANGE);
+    IS(css_snapshot_position(&copy, 1599, &p), CSS_EARLY);
+    bad = copy;
+    bad.count = 0;
+    IS(css_snapshot_position(&bad, 1600, &p), CSS_NO_ANSWER);
+    IS(p.lo == 7 && p.hi == 7 && p.content == 7 && p.wall == 7 && p.speed == 7, 1);
+}
+
+/* at 500 ppm the span is narrow enough up to a reading, and 2 s later it is wider */
+static void narrow(void) {
+    css_companion c = CSS_NONE;
+    uint8_t request[32];
+    css_span wall;
+    uint64_t last;
+    IS(css_companion_new(&c, NULL, 0, NULL, 0, 128000, 1000), CSS_DONE);
+    IS(css_companion_ask(&c, 1000, request), CSS_DONE);
+    IS(css_companion_land(&c, answer, 32, 1600), CSS_DONE);
+    IS(css_companion_until(&c, 0, &last), CSS_NEVER);
+    IS(css_companion_until(&c, 1000000, &last), CSS_DONE);
+    IS(css_companion_wall(&c, last, &wall), CSS_DONE);
+    IS(wall.hi - wall.lo <= 1000000, 1);
+    IS(css_companion_wall(&c, last + 2000000000, &wall), CSS_DONE);
+    IS(wall.hi - wall.lo > 1000000, 1);
+    css_companion_free(&c);
+}
+
 static void timeline(css_companion *c) {
     css_position p;
     css_span lead;
@@ -114,6 +186,7 @@ static void timeline(css_companion *c) {
     }
     IS(css_companion_when(c, 899999, &when), CSS_NEVER);
     IS(css_companion_when(c, INT64_MAX, &when), CSS_NEVER);
+    copied(c);
     IS(css_companion_report(c, 7, 1600, out, sizeof out, &used), CSS_DONE);
     IS(used == 22 && !memcmp(out, "7 ticks 900000 900000\n", 22), 1);
     IS(css_companion_control(c, TEXT("oh")), CSS_DONE);
@@ -168,8 +241,11 @@ static void closed(css_companion *c) {
     css_position position;
     css_readings when;
     css_rate rate;
+    uint64_t last;
     css_companion_free(c);
     css_companion_free(c);
+    IS(css_snapshot_position(&copy, 1600, &position), CSS_DONE);
+    IS(position.lo == 900000 && position.hi == 900000, 1);
     IS(css_companion_ask(c, 1800, out), CSS_CLOSED);
     IS(css_companion_land(c, answer, 32, 1800), CSS_CLOSED);
     IS(css_companion_wall(c, 1800, &span), CSS_CLOSED);
@@ -177,6 +253,8 @@ static void closed(css_companion *c) {
     IS(css_companion_lead(c, 1800, 1, &span), CSS_CLOSED);
     IS(css_companion_slept(c), CSS_CLOSED);
     IS(css_companion_when(c, 1, &when), CSS_CLOSED);
+    IS(css_companion_until(c, 1, &last), CSS_CLOSED);
+    IS(css_companion_snapshot(c, &copy), CSS_CLOSED);
     IS(css_companion_cii(c, TEXT(cii)), CSS_CLOSED);
     IS(css_companion_cii_state(c, out, sizeof out, &used), CSS_CLOSED);
     IS(css_companion_cii_field(c, CSS_WC_URL, out, sizeof out, &used), CSS_CLOSED);
@@ -204,6 +282,8 @@ int main(void) {
     wall_clock(&c);
     content(&c);
     timeline(&c);
+    miscopied();
+    narrow();
     windows();
     limits(&c);
     closed(&c);

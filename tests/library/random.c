@@ -117,12 +117,40 @@ static uint32_t lead(css_companion *c, uint64_t reading, int *bad) {
     return code;
 }
 
+/* it is narrow enough at the last reading, and not by a nanosecond more at the next */
+static uint32_t until(css_companion *c, int *bad) {
+    uint64_t width = draw_long() >> (draw() % 64), last;
+    css_span wall;
+    uint32_t code = css_companion_until(c, width, &last);
+    if (code) return code;
+    if (!css_companion_wall(c, last, &wall)) *bad |= (uint64_t)wall.hi - (uint64_t)wall.lo > width;
+    if (!css_companion_wall(c, last + 1, &wall)) *bad |= (uint64_t)wall.hi - (uint64_t)wall.lo + 1 <= width;
+    return code;
+}
+
+/* a copy tells the same, and one whose numbers are drawn stays within its memory */
+static uint32_t copied(css_companion *c, uint64_t reading, int *bad) {
+    css_snapshot copy, drawn;
+    css_position p, q;
+    for (size_t k = 0; k < sizeof drawn; k++) ((uint8_t *)&drawn)[k] = draw() >> (draw() % 32);
+    *bad |= css_snapshot_position(&drawn, draw_long(), &p) >= 64;
+    uint32_t code = css_companion_snapshot(c, &copy);
+    if (code) return code;
+    code = css_companion_position(c, reading, &p);
+    *bad |= code != css_snapshot_position(&copy, reading, &q);
+    if (!code) *bad |= p.lo != q.lo || p.hi != q.hi;
+    copy.count = draw() % 6;
+    ((uint8_t *)&copy)[draw() % sizeof copy] = draw();
+    *bad |= css_snapshot_position(&copy, reading, &q) >= 64;
+    return code;
+}
+
 static uint32_t call(css_companion *c, uint64_t reading, uint8_t *request, int *bad) {
     size_t len;
     uint8_t *text = drawn_text(&len);
     css_span wall;
     uint32_t code = 0;
-    switch (draw() % 17) {
+    switch (draw() % 20) {
     case 0:
         if (draw() % 50 == 0) css_companion_free(c);
         break;
@@ -149,6 +177,9 @@ static uint32_t call(css_companion *c, uint64_t reading, uint8_t *request, int *
     case 12:
     case 13: code = css_companion_control(c, text, len); break;
     case 14: code = put(c, reading, bad); break;
+    case 15: code = until(c, bad); break;
+    case 16:
+    case 17: code = copied(c, reading, bad); break;
     default: code = when(c, bad);
     }
     free(text);

@@ -60,6 +60,8 @@ static int evening(css_companion *c, css_position *p) {
     size_t used;
     css_span span;
     css_readings when;
+    css_snapshot copy;
+    uint64_t last;
     css_bound earliest = {1, 2, false}, latest = {1, 2, true};
     TRY(css_companion_new(c, TEXT("urn:dvb:css:timeline:pts"), TEXT("dvb://"), 0, 0));
     DO(css_companion_ask(c, 1000, request));
@@ -75,6 +77,9 @@ static int evening(css_companion *c, css_position *p) {
     DO(css_companion_position(c, 1600, p));
     DO(css_companion_lead(c, 1600, 900000, &span));
     DO(css_companion_when(c, 990000, &when));
+    DO(css_companion_until(c, 1000, &last));
+    DO(css_companion_snapshot(c, &copy));
+    DO(css_snapshot_position(&copy, 1600, p));
     return 0;
 }
 

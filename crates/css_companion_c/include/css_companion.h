@@ -7,7 +7,8 @@
  * the code that is said here, and after 1 to 15 the companion is as before. What a call would have written where it
  * answers 0 is else as before too, but for *used. Of `wall`, `position`, `lead` and `when`: whatever datagrams were
  * lost, repeated or reordered, while both oscillators keep their declared error and precision, the interval contains
- * the truth.
+ * the truth. A snapshot tells the position that its companion would have told when it was taken. Up to the reading that
+ * `until` tells, `wall` is no wider than was asked.
  *
  * TRUSTED, since no prover sees your code:
  *   - this header fits the library; pointers point to what their types say, and a pointer with length 0 may be NULL;
@@ -22,6 +23,7 @@
  * There is no global state, no thread, no thread-local and no callback. Memory is taken by new, cii, cii_state, setup,
  * control, presentation and report, and by land for the first response of a declared error and for one that promises
  * a follow-up. All others take none; of these ts_closed alone may answer CSS_MEMORY, by its contract.
+ * css_snapshot_position doesn't call the allocator at all.
  *
  * It was tried on x86-64 Linux with glibc, from C11, C++17 and Rust.
  */
@@ -108,11 +110,33 @@ typedef struct css_bound {
     bool infinite;
 } css_bound;
 
+/* an answer of the wall clock, as a snapshot keeps it */
+typedef struct css_answer {
+    uint64_t t1, t2, t3, t4, precision;
+    uint32_t error;
+} css_answer;
+
+/* What positions go by, in plain numbers: copy it as you like. */
+#define CSS_ANSWERS 4
+typedef struct css_snapshot {
+    uint64_t floor; /* the least reading that may be handed */
+    uint64_t precision;
+    uint32_t error, count;
+    css_answer answers[CSS_ANSWERS]; /* `count` of them */
+    int64_t content;
+    uint64_t wall;
+    int32_t speed;
+    uint32_t units_per_tick, units_per_second;
+} css_snapshot;
+
 CSS_ASSERT(sizeof(css_companion) == 16 + sizeof(void *) && offsetof(css_companion, at) == 16, "css_companion");
 CSS_ASSERT(sizeof(css_span) == 16 && sizeof(css_readings) == 16, "two numbers of 64 bits");
 CSS_ASSERT(sizeof(css_rate) == 8, "two numbers of 32 bits");
 CSS_ASSERT(sizeof(css_position) == 48 && offsetof(css_position, speed) == 40, "css_position");
 CSS_ASSERT(sizeof(css_bound) == 24 && offsetof(css_bound, infinite) == 16, "css_bound");
+CSS_ASSERT(sizeof(css_answer) == 48 && offsetof(css_answer, error) == 40, "css_answer");
+CSS_ASSERT(sizeof(css_snapshot) == 248 && offsetof(css_snapshot, answers) == 24, "css_snapshot");
+CSS_ASSERT(offsetof(css_snapshot, content) == 216 && offsetof(css_snapshot, speed) == 232, "css_snapshot");
 
 enum css_property {
     CSS_PROTOCOL_VERSION = 0, CSS_MRS_URL = 1, CSS_CONTENT_ID = 2, CSS_CONTENT_ID_STATUS = 3,
@@ -173,6 +197,16 @@ uint32_t css_companion_lead(css_companion *c, uint64_t reading, int64_t tick, cs
  * time, when the interval is narrower. CSS_NEVER: at no reading, as on a pause or where the tick is past. CSS_TOO_WIDE
  * while responses that are kept declare different errors. It takes some microseconds. */
 uint32_t css_companion_when(css_companion *c, int64_t tick, css_readings *readings);
+/* Until when the wall clock is known well enough: at each reading up to *reading `wall` is at most `width` ns wide. Ask
+ * the television again by then. A nanosecond later each kept response alone is wider than `width` - 1 ns, before its
+ * ends are rounded. CSS_NEVER: it is so wide already. It takes some microseconds. */
+uint32_t css_companion_until(css_companion *c, uint64_t width, uint64_t *reading);
+/* A copy of what positions go by, for a thread that can't wait. Take a new one when the age rises. CSS_TOO_WIDE while
+ * more than CSS_ANSWERS responses are kept, one for each error that the television declared. */
+uint32_t css_companion_snapshot(css_companion *c, css_snapshot *snapshot);
+/* What css_companion_position tells of the companion as it was. It goes by the numbers alone, so any thread may call it
+ * at any time, also once the companion is freed. CSS_RANGE where a number can't be one of a snapshot. */
+uint32_t css_snapshot_position(const css_snapshot *snapshot, uint64_t reading, css_position *position);
 /* The line of a report, as `css companion` prints it. */
 uint32_t css_companion_report(css_companion *c, uint64_t number, uint64_t reading,
                               uint8_t *out, size_t room, size_t *used);

@@ -5,3 +5,4 @@ pub mod Rising
 pub mod Shown
 pub mod Leading
 pub mod Narrow
+pub mod Copies

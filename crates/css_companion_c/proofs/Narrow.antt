@@ -1,7 +1,8 @@
 -- Scaled widths rise with the reading, and a span of a small scaled width is narrow.
-use Rattle.std.proofs.Common.{◌≡◌, ℕ, ◌^◌, ◌∙◌, ap, to_z, of_z, ◌+◌, ◌-◌, ◌*◌, ◌<◌, ◌≤◌, arith, refl, sym, subst, Bool, true, false, cond, List, [], ◌∷◌}
-use Rattle.std.proofs.Common.{true≢false, ◌⊎◌, inl, inr}
-use Rattle.std.specs.Prelude.{ℤ, pos, unsigned_abs, int_lt, not, ◌||◌, ◌+ℤ◌, ◌-ℤ◌, ◌*ℤ◌, ◌≤ℤ◌, ◌<ℤ◌, All, Option, Some, None}
+use Rattle.std.proofs.Common.{◌≡◌, ℕ, ◌^◌, ◌+◌, ◌-◌, ◌*◌, ◌<◌, ◌≤◌, arith, refl, sym, ap, subst, ◌∙◌, to_z, of_z}
+use Rattle.std.proofs.Common.{Bool, true, false, true≢false, cond, ◌⊎◌, inl, inr, List, [], ◌∷◌}
+use Rattle.std.specs.Prelude.{ℤ, pos, unsigned_abs, int_lt, ◌+ℤ◌, ◌-ℤ◌, ◌*ℤ◌, ◌≤ℤ◌, ◌<ℤ◌}
+use Rattle.std.specs.Prelude.{not, ◌||◌, All, Option, Some, None}
 use Rattle.std.specs.List.{list_any}
 use Rattle.std.specs.Option.{option_map}
 use Rattle.std.proofs.lemmas.Int.{ints, to_z-of_z, fits_signed_from_abs}
@@ -12,8 +13,8 @@ use Rattle.css_num.specs.Division.{floor_div, ceil_div}
 use Rattle.css_num.proofs.Rounding.{IsFloor-floor_div, IsCeiling-ceil_div}
 use mir.Syntax.{w128}
 use Rattle.css_model.specs.declared.TheConstants.{F, LIMIT}
-use Rattle.css_model.specs.WallClock.{Answer, Local, IsLocal, lower, upper, lo, hi, scaled_width, least_by, lesser, narrowest}
-use Rattle.css_model.specs.WallClock.{HaveSameNarrowest}
+use Rattle.css_model.specs.WallClock.{Answer, Local, IsLocal, lower, upper, lo, hi, scaled_width}
+use Rattle.css_model.specs.WallClock.{least_by, lesser, narrowest, HaveSameNarrowest}
 use Rattle.css_model.proofs.Narrowest.{is_not_less}
 use Rattle.css_model.proofs.Widths.{width_is}
 use Rattle.css_span.specs.WallSpans.{wall_span, span_of}

@@ -7,3 +7,4 @@ pub mod Words
 pub mod When
 pub mod Leads
 pub mod Until
+pub mod Snapshots

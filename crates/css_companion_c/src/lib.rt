@@ -14,7 +14,7 @@ ghost use Rattle.css_cii.specs.Texts.{change_text};
 ghost use Rattle.css_tsmsg.specs.Controls.{control_of};
 ghost use Rattle.css_tsmsg.specs.Setups.{setup_text};
 ghost use Rattle.css_companion.specs.Meanings.{report_after, timing_after, kind_of};
-ghost use Rattle.css_companion.specs.Standing.{StandsFor, own_of, asleep};
+ghost use Rattle.css_companion.specs.Standing.{Companion, StandsFor, own_of, asleep};
 ghost use Rattle.css_companion.specs.Printed.{line_of};
 ghost use Rattle.css_companion.specs.Steps as steps;
 ghost use Rattle.css_companion.specs.declared.event.CompanionEvent.TheVariants as event;
@@ -23,6 +23,7 @@ ghost use Rattle.css_companion_c.specs.Codes.{DONE, CLOSED, NO_ROOM, ChangesNoth
 ghost use Rattle.css_companion_c.specs.Handles.{behind, Of, Between, AnswerAlike};
 ghost use Rattle.css_companion_c.specs.Leads.{lead_code, HoldsTheLead};
 ghost use Rattle.css_companion_c.specs.Promises.{Adds, IsFresh, HoldsTheWall, HoldsThePosition, GoesWith};
+ghost use Rattle.css_companion_c.specs.Snapshots.{IsSnapshotOf, copied};
 ghost use Rattle.css_companion_c.specs.Texts.{Holds, property_of, listed, TellsTimeline};
 ghost use Rattle.css_companion_c.specs.Until.{any_kept, IsNarrowUntil, IsWideAt};
 ghost use Rattle.css_companion_c.specs.When.{IsShownWithin, IsNeverShown};
@@ -39,6 +40,7 @@ pub mod plain;
 mod presentations;
 mod reading;
 mod sessions;
+mod snapshot;
 mod texts;
 mod timelines;
 mod until;
@@ -47,6 +49,7 @@ mod words;
 
 use handle::Handle;
 use reading::{Ends, Position};
+use snapshot::Snapshot;
 use std::alloc::Global;
 use timelines::TimelineRate;
 use when::Readings;
@@ -532,4 +535,49 @@ pub extern "C" fn css_companion_until(
         }
         None => codes::CLOSED,
     }
+}
+
+/// Copies what positions go by, in plain numbers. [`css_snapshot_position`] tells them without the companion.
+#[unsafe(no_mangle)]
+pub extern "C" fn css_companion_snapshot(
+    alloc: Global,
+    handle: &mut Handle,
+    snapshot: &mut Snapshot,
+) -> u32
+    ensures kept { result ≢ DONE → snapshot.new ≡ snapshot.old }
+    ensures code { result ≡ answers.if_open (behind handle.old) copied }
+    ensures same { behind handle.new ≡ behind handle.old }
+    ensures age { handle.new.age ≡ handle.old.age }
+    ensures truth { result ≡ DONE → Of (behind handle.old) (IsSnapshotOf snapshot.new) }
+{
+    match handle.take(alloc) {
+        Some(boxed) => {
+            let code = snapshot::take_snapshot(&boxed, snapshot);
+            handle.put_back(boxed);
+            code
+        }
+        None => codes::CLOSED,
+    }
+}
+
+/// The ticks by a snapshot at this reading: what [`css_companion_position`] would tell of a companion of which it is a
+/// copy. It needs no companion and no memory.
+#[unsafe(no_mangle)]
+pub extern "C" fn css_snapshot_position(
+    snapshot: &Snapshot,
+    reading: u64,
+    position: &mut Position,
+) -> u32
+    ensures kept { result ≢ DONE → position.new ≡ position.old }
+    ensures before { (companion : Companion) → IsSnapshotOf snapshot.now companion
+        → answers.at_reading companion reading DONE ≢ DONE → result ≡ answers.at_reading companion reading DONE }
+    ensures code { (companion : Companion) → IsSnapshotOf snapshot.now companion
+        → answers.at_reading companion reading DONE ≡ DONE → (history : History) → StandsFor companion history
+        → result ≡ answers.report_code (report_after (own_of companion) companion.setup.selector history reading) }
+    ensures truth { result ≡ DONE → (companion : Companion) → IsSnapshotOf snapshot.now companion
+        → HoldsThePosition reading position.new companion }
+    ensures timing { result ≡ DONE → (companion : Companion) → IsSnapshotOf snapshot.now companion
+        → GoesWith position.new companion }
+{
+    snapshot::position(snapshot, reading, position)
 }

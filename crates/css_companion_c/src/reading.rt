@@ -124,7 +124,7 @@ pub(crate) fn cause_code(cause: Cause) -> u32
 }
 
 /// The position of ticks that fit 64 bits.
-fn placed(ticks: Ends, timing: Timing) -> Position
+pub(crate) fn placed(ticks: Ends, timing: Timing) -> Position
     ensures ends { (result.lo ≡ ticks.lo) × (result.hi ≡ ticks.hi) }
     ensures content { (result.content ≡ timing.content) × (result.wall ≡ timing.wall) }
     ensures speed { result.speed ≡ timing.speed }
@@ -145,7 +145,7 @@ fn placed(ticks: Ends, timing: Timing) -> Position
 }
 
 /// The ticks of a report, or the code why none are told.
-fn told(report: &Report) -> Result<Ends, u32>
+pub(crate) fn told(report: &Report) -> Result<Ends, u32>
     ensures ticks { IfOk result (λ ticks. report.now ≡ reports.Ticks ticks.lo ticks.hi) }
     ensures code { MatchResult result (λ _. report_code report.now ≡ DONE)
         (λ code. (report_code report.now ≡ code) × (0 < code)) }

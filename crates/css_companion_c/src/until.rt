@@ -1,7 +1,6 @@
 //! Until when the television's wall clock is known narrowly enough.
 ghost use Rattle.std.specs.Prelude.{◌≡◌, ◌≢◌, ◌+◌, ◌-◌, ◌*◌, ◌≤◌, ◌<◌, ◌^◌, ℕ, pos, ◌-ℤ◌, unsigned_abs, true, false};
 ghost use Rattle.css_model.specs.WallClock.{IsLocal};
-ghost use Rattle.css_companion.specs.Standing.{own_of};
 ghost use Rattle.css_companion_c.specs.Codes.{DONE, NEVER, Searches};
 ghost use Rattle.css_companion_c.specs.Until as at;
 ghost use Rattle.css_companion_c.specs.Until.{IsNarrowUntil, IsWideAt};

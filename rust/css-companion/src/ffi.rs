@@ -36,6 +36,17 @@ pub(crate) struct Bound {
     pub(crate) infinite: bool,
 }
 
+#[repr(C)]
+#[derive(Clone, Copy, Debug, Default, PartialEq, Eq)]
+pub(crate) struct Answer {
+    t1: u64,
+    t2: u64,
+    t3: u64,
+    t4: u64,
+    precision: u64,
+    error: u32,
+}
+
 extern "C" {
     pub(crate) fn css_companion_version() -> u32;
     pub(crate) fn css_companion_new(
@@ -83,6 +94,13 @@ extern "C" {
     pub(crate) fn css_companion_position(c: *mut Handle, reading: u64, position: *mut crate::Position) -> u32;
     pub(crate) fn css_companion_lead(c: *mut Handle, reading: u64, tick: i64, lead: *mut Span) -> u32;
     pub(crate) fn css_companion_when(c: *mut Handle, tick: i64, readings: *mut Readings) -> u32;
+    pub(crate) fn css_companion_until(c: *mut Handle, width: u64, reading: *mut u64) -> u32;
+    pub(crate) fn css_companion_snapshot(c: *mut Handle, snapshot: *mut crate::Snapshot) -> u32;
+    pub(crate) fn css_snapshot_position(
+        snapshot: *const crate::Snapshot,
+        reading: u64,
+        position: *mut crate::Position,
+    ) -> u32;
     pub(crate) fn css_companion_report(
         c: *mut Handle,
         number: u64,

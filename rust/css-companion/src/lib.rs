@@ -33,6 +33,34 @@ pub struct Position {
     pub speed: i32,
 }
 
+/// What positions go by, as plain data: for a thread that can't wait, such as one of audio.
+///
+/// It knows what its companion knew. Take a new one when [`Companion::age`] rises, and drop it after a sleep.
+#[repr(C)]
+#[derive(Clone, Copy, Debug, Default, PartialEq, Eq)]
+pub struct Snapshot {
+    floor: u64,
+    precision: u64,
+    error: u32,
+    count: u32,
+    answers: [ffi::Answer; 4],
+    content: i64,
+    wall: u64,
+    speed: i32,
+    units_per_tick: u32,
+    units_per_second: u32,
+}
+
+impl Snapshot {
+    /// The ticks at this reading: what [`Companion::position`] told when the snapshot was taken. No memory is taken.
+    pub fn position(&self, reading: u64) -> Result<Position, Error> {
+        let mut position = Position::default();
+        // SAFETY: both pointers are those of values that live on, and the library keeps neither.
+        told(unsafe { ffi::css_snapshot_position(self, reading, &mut position) })?;
+        Ok(position)
+    }
+}
+
 /// A property of the content's state that is a text.
 #[derive(Clone, Copy, Debug, PartialEq, Eq)]
 #[repr(u32)]
@@ -219,6 +247,20 @@ impl Companion {
         let mut readings = Readings::default();
         told(unsafe { ffi::css_companion_when(&mut self.handle, tick, &mut readings) })?;
         Ok(readings.from..=readings.to)
+    }
+
+    /// The last reading up to which [`Companion::wall`] is at most `width` nanoseconds wide: ask again by then.
+    pub fn until(&mut self, width: u64) -> Result<u64, Error> {
+        let mut reading = 0;
+        told(unsafe { ffi::css_companion_until(&mut self.handle, width, &mut reading) })?;
+        Ok(reading)
+    }
+
+    /// A copy of what positions go by.
+    pub fn snapshot(&mut self) -> Result<Snapshot, Error> {
+        let mut snapshot = Snapshot::default();
+        told(unsafe { ffi::css_companion_snapshot(&mut self.handle, &mut snapshot) })?;
+        Ok(snapshot)
     }
 
     /// The line of a report, as `css companion` prints it.

@@ -1,5 +1,7 @@
 //! Each call once, and the first example of `css replay`: 5197 to 5603.
-use css_companion::{presentation, version, Bound, Cause, Companion, Error, Ignored, Property, Refusal, TextFault};
+use css_companion::{
+    presentation, version, Bound, Cause, Companion, Error, Ignored, Property, Refusal, Snapshot, TextFault,
+};
 
 const ANSWER: [u8; 32] =
     [0, 1, 0xe2, 0, 0, 0, 0, 0, 0, 0, 0, 0, 0, 0, 3, 0xe8, 0, 0, 0, 0, 0, 0, 0x13, 0x88, 0, 0, 0, 0, 0, 0, 0x14, 0x50];
@@ -55,6 +57,34 @@ fn ticks_and_when() {
     assert_eq!(c.report(1, 1600).unwrap(), "1 ticks 900000 900000\n");
     c.ts_closed().unwrap();
     assert_eq!(c.position(1600), Err(Error::Cause(Cause::SessionClosed)));
+}
+
+#[test]
+fn snapshot() {
+    let mut c = asked();
+    assert_eq!(c.snapshot(), Err(Error::Cause(Cause::NoTimestamp)));
+    c.control(CONTROL).unwrap();
+    let snapshot = c.snapshot().unwrap();
+    let later = [1600, 1_000_000_000, 1_000_000_000_000].map(|reading| (reading, c.position(reading)));
+    drop(c);
+    for (reading, position) in later {
+        assert_eq!(snapshot.position(reading), position);
+    }
+    assert_eq!(snapshot.position(1599), Err(Error::Refusal(Refusal::Early)));
+    assert_eq!(Snapshot::default().position(1600), Err(Error::Refusal(Refusal::Range)));
+}
+
+#[test]
+fn until() {
+    let mut c = Companion::new("urn:dvb:css:timeline:pts", "", 128_000, 1_000).unwrap();
+    assert_eq!(c.until(1_000_000), Err(Error::Cause(Cause::NoAnswer)));
+    c.ask(1000).unwrap();
+    c.land(&ANSWER, 1600).unwrap();
+    assert_eq!(c.until(1), Err(Error::Cause(Cause::Never)));
+    let last = c.until(1_000_000).unwrap();
+    let width = |wall: std::ops::RangeInclusive<i64>| wall.end() - wall.start();
+    assert!(width(c.wall(last).unwrap()) <= 1_000_000);
+    assert!(width(c.wall(last + 2_000_000_000).unwrap()) > 1_000_000);
 }
 
 #[test]
