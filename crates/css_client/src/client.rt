@@ -196,6 +196,13 @@ impl Client {
         self.estimate.at(reading)
     }
 
+    /// The companion's own clock.
+    pub fn local(&self) -> &Local
+        ensures { result.now ≡ local_of self.now }
+    {
+        &self.local
+    }
+
     /// The least reading that may be handed next.
     pub fn floor(&self) -> u64
         ensures { result ≡ self.now.floor }
