@@ -24,7 +24,7 @@ ghost use Rattle.css_companion_c.specs.Handles.{behind, Of, Between, AnswerAlike
 ghost use Rattle.css_companion_c.specs.Leads.{lead_code, HoldsTheLead};
 ghost use Rattle.css_companion_c.specs.Promises.{Adds, IsFresh, HoldsTheWall, HoldsThePosition, GoesWith};
 ghost use Rattle.css_companion_c.specs.Texts.{Holds, property_of};
-ghost use Rattle.css_companion_c.specs.When.{IsShownWithin, IsNeverShown};
+ghost use Rattle.css_companion_c.specs.When.{IsShownWithin, IsNeverShown, IsLeast};
 
 mod codes;
 mod content;
@@ -36,6 +36,7 @@ mod making;
 mod parts;
 pub mod plain;
 mod presentations;
+mod reaching;
 mod reading;
 mod sessions;
 mod texts;
@@ -425,6 +426,7 @@ pub extern "C" fn css_companion_when(
     ensures same { behind handle.new ≡ behind handle.old }
     ensures age { handle.new.age ≡ handle.old.age }
     ensures truth { result ≡ DONE → Of (behind handle.old) (IsShownWithin tick readings.new.from readings.new.to) }
+    ensures least { result ≡ DONE → Of (behind handle.old) (IsLeast tick readings.new.from readings.new.to) }
     ensures never { result ≡ answers.NEVER → Of (behind handle.old) (IsNeverShown tick) }
 {
     match handle.take(alloc) {
