@@ -1,10 +1,10 @@
 -- A tick is shown at the readings that each kept answer allows.
-use Rattle.std.proofs.Common.{◌≡◌, ℕ, ◌+◌, ◌-◌, ◌^◌, ◌≤◌, ◌<◌, ◌↔◌, ◌∙◌, arith, ap, refl, sym, subst, Bool, true, false}
+use Rattle.std.proofs.Common.{◌≡◌, ℕ, ◌+◌, ◌-◌, ◌^◌, ◌≤◌, ◌<◌, arith, sym, subst, Bool, true, false}
 use Rattle.std.proofs.Common.{List, [], length, get_or, take}
 use Rattle.std.proofs.lemmas.Int.{ints, clamps, by_lt_z}
 use Rattle.std.proofs.lemmas.List.{take-take, get_or-take, length-take, get_or-reverse, length-reverse, reverse-reverse}
 use Rattle.std.proofs.lemmas.List.Elements.{All-nil, All-take, All-get_or, All-more}
-use Rattle.std.specs.Prelude.{ℤ, pos, int_lt, ◌≤ℤ◌, ◌<ℤ◌, Option, Some, Result, Ok, All, reverse}
+use Rattle.std.specs.Prelude.{ℤ, pos, int_lt, ◌≤ℤ◌, ◌<ℤ◌, Some, Result, Ok, All, reverse}
 use Rattle.std.specs.Int.{int_min, int_max}
 use Rattle.css_model.specs.declared.TheConstants.{LIMIT}
 use Rattle.css_model.specs.WallClock.{Answer, Local, lo, hi}
