@@ -199,6 +199,35 @@ static void timeline(css_companion *c) {
     IS(css_companion_lead(c, 1600, 900000, &lead), CSS_SESSION_CLOSED);
 }
 
+/* Two kept answers that declare different errors, where the wall clock is 3800 ns ahead. It is 1,000,000 to 1,011,111
+ * while the tick is shown. By the first answer it is 3597 to 4003 ahead. By the second it is 3767 to 4103 at first, and
+ * 1 ppm more or less from then on. So the first tells the begin, and the second the end. */
+static void two_answers(void) {
+    css_companion c = CSS_NONE;
+    uint8_t request[32], second[32];
+    css_readings when;
+    IS(css_companion_new(&c, TEXT("urn:dvb:css:timeline:pts"), NULL, 0, 0, 0), CSS_DONE);
+    IS(css_companion_control(&c, TEXT(control)), CSS_DONE);
+    IS(css_companion_when(&c, 900090, &when), CSS_NO_ANSWER);
+    IS(css_companion_ask(&c, 1000, request), CSS_DONE);
+    IS(css_companion_land(&c, answer, 32, 1600), CSS_DONE);
+    IS(css_companion_when(&c, 900090, &when), CSS_DONE);
+    IS(when.from, 995997);
+    IS(when.to, 1007514);
+    IS(css_companion_ask(&c, 2000, request), CSS_DONE);
+    memcpy(second, answer, 32);
+    second[6] = 1;                        /* max_freq_error: 256, which is 1 ppm */
+    second[14] = 0x07, second[15] = 0xd0; /* originate: 2000 */
+    second[22] = 0x17, second[23] = 0xd4; /* receive: 6100 */
+    second[30] = 0x18, second[31] = 0x06; /* transmit: 6150 */
+    IS(css_companion_land(&c, second, 32, 2380), CSS_DONE);
+    IS(css_companion_when(&c, 900090, &when), CSS_DONE);
+    IS(when.from, 995997);
+    IS(when.to, 1007346);
+    IS(when.from <= 1000000 - 3800 && 1011111 - 3800 <= when.to, 1);
+    css_companion_free(&c);
+}
+
 static void windows(void) {
     uint8_t out[512];
     size_t used;
@@ -284,6 +313,7 @@ int main(void) {
     timeline(&c);
     miscopied();
     narrow();
+    two_answers();
     windows();
     limits(&c);
     closed(&c);

@@ -193,9 +193,10 @@ uint32_t css_companion_position(css_companion *c, uint64_t reading, css_position
  * At speed 1 such a ns is one of the wall clock. The television's own place isn't rounded to a tick here. */
 uint32_t css_companion_lead(css_companion *c, uint64_t reading, int64_t tick, css_span *lead);
 /* When the television shows `tick`: at a reading from readings->from to readings->to, of all that may still be handed.
- * It goes by the last control timestamp and the rate, so ask again after each text that was taken in, and nearer to the
- * time, when the interval is narrower. CSS_NEVER: at no reading, as on a pause or where the tick is past. CSS_TOO_WIDE
- * while responses that are kept declare different errors. It takes some microseconds. */
+ * It is the least interval that the kept responses allow: at each of these readings the ticks of each of them have
+ * `tick`. One response is kept for each error that the television declares. It goes by the last control timestamp and
+ * the rate, so ask again after each text that was taken in, and nearer to the time, when the interval is narrower.
+ * CSS_NEVER: at no reading, as on a pause or where the tick is past. */
 uint32_t css_companion_when(css_companion *c, int64_t tick, css_readings *readings);
 /* Until when the wall clock is known well enough: at each reading up to *reading `wall` is at most `width` ns wide. Ask
  * the television again by then. A nanosecond later each kept response alone is wider than `width` - 1 ns, before its

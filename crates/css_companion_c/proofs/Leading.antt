@@ -1,6 +1,6 @@
 -- The lead of a tick lies between the leads at both ends of a span of the wall clock.
 use Rattle.std.proofs.Common.{ℕ, ◌+◌, ◌*◌, ◌≤◌, ◌<◌, ◌≡◌, arith, ap, sym, refl, subst, length, Bool, true, false}
-use Rattle.std.specs.Prelude.{ℤ, pos, neg_ℤ, int_lt, ◌-ℤ◌, ◌*ℤ◌, ◌≤ℤ◌, unsigned_abs}
+use Rattle.std.specs.Prelude.{ℤ, pos, negsuc, neg_ℤ, int_lt, ◌-ℤ◌, ◌*ℤ◌, ◌≤ℤ◌, ◌<ℤ◌, unsigned_abs}
 use Rattle.std.specs.Prelude.{Option, Some, Result, Ok, ◌&&◌, if◌then◌else◌}
 use Rattle.std.proofs.Math.Nat.{mul-le-mul_left}
 use Rattle.std.specs.Int.{int_min, int_max}
@@ -8,8 +8,9 @@ use Rattle.std.proofs.lemmas.Int.{ints, clamps}
 use borrow.Author.Differences.{up, down, product_is}
 use Rattle.css_num.specs.Spans.{Interval, Covers}
 use Rattle.css_num.specs.Division.{floor_div, ceil_div}
-use Rattle.css_num.proofs.Rounding.{times_pos-mono, IsFloor-floor_div, IsCeiling-ceil_div, floor_div-within}
-use Rattle.css_num.proofs.Rounding.{floor_div-le-ceil_div}
+use Rattle.css_num.proofs.Rounding.{times_pos-mono, times_negsuc-mono, IsFloor-floor_div, IsCeiling-ceil_div}
+use Rattle.css_num.proofs.Rounding.{floor_div-within, floor_div-le-ceil_div}
+use Rattle.css_clock.proofs.Goes.{times_nonneg-mono}
 use Rattle.css_client.specs.Standing.{ContainsTheWall}
 use Rattle.css_companion.specs.Standing.{Companion}
 use Rattle.css_companion.specs.declared.knowledge.Timing.{Timing}
@@ -19,8 +20,12 @@ use Rattle.css_companion_c.specs.Leads.{lead_code, distance, gone, scaled_lead, 
 use Rattle.css_companion_c.specs.Leads.{HoldsTheLead}
 use Rattle.css_companion_c.specs.When.{GoesBy}
 use Rattle.css_companion_c.specs.declared.reading.Ends.{Ends}
-use Rattle.css_companion_c.proofs.Rising.{times-rises, times-falls}
-use Rattle.css_companion_c.proofs.Shown.{less_if, no_less_if}
+use Rattle.css_companion_c.proofs.Reached.{less_if, no_less_if}
+
+-- a factor below zero turns the order round
+times-falls : (x y k : ℤ) → k <ℤ pos 0 → x ≤ℤ y → (y *ℤ k) ≤ℤ (x *ℤ k)
+times-falls x y (pos n) p h = absurd (omega (arith, ints))
+times-falls x y (negsuc n) p h = times_negsuc-mono x y n h
 
 -- what has gone at a value of a span is between what has gone at both ends
 gone_by : (b : Bool) (timing : Timing) (span : Interval) (value : ℤ) → int_lt timing.speed (pos 0) ≡ b
@@ -29,17 +34,16 @@ gone_by : (b : Bool) (timing : Timing) (span : Interval) (value : ℤ) → int_l
     × (gone timing value ≤ℤ int_max (gone timing span.lo) (gone timing span.hi))
 gone_by true timing span value back inside =
     let less = less_if timing.speed (pos 0) back in
-    let slow : timing.speed ≤ℤ pos 0 = omega (arith, ints, less) in
-    let first = times-falls (span.lo -ℤ pos timing.wall) (value -ℤ pos timing.wall) timing.speed slow
+    let first = times-falls (span.lo -ℤ pos timing.wall) (value -ℤ pos timing.wall) timing.speed less
     (omega (arith, ints, inside.low)) in
-    let last = times-falls (value -ℤ pos timing.wall) (span.hi -ℤ pos timing.wall) timing.speed slow
+    let last = times-falls (value -ℤ pos timing.wall) (span.hi -ℤ pos timing.wall) timing.speed less
     (omega (arith, ints, inside.high)) in
     (omega (arith, ints, clamps, first, last), omega (arith, ints, clamps, first, last))
 gone_by false timing span value forth inside =
     let more = no_less_if timing.speed (pos 0) forth in
-    let first = times-rises (span.lo -ℤ pos timing.wall) (value -ℤ pos timing.wall) timing.speed more
+    let first = times_nonneg-mono (span.lo -ℤ pos timing.wall) (value -ℤ pos timing.wall) timing.speed more
     (omega (arith, ints, inside.low)) in
-    let last = times-rises (value -ℤ pos timing.wall) (span.hi -ℤ pos timing.wall) timing.speed more
+    let last = times_nonneg-mono (value -ℤ pos timing.wall) (span.hi -ℤ pos timing.wall) timing.speed more
     (omega (arith, ints, inside.high)) in
     (omega (arith, ints, clamps, first, last), omega (arith, ints, clamps, first, last))
 

@@ -1,7 +1,7 @@
 pub mod Pairs
 pub mod Heap
 pub mod Behind
-pub mod Rising
+pub mod Reached
 pub mod Shown
 pub mod Leading
 pub mod Narrow

@@ -167,16 +167,15 @@ is_time bound =
 abbrev pub window_code : PresentationBound → PresentationBound → ℕ
 window_code earliest latest = if is_time earliest && is_time latest then DONE else RANGE
 
--- whether readings can be told, by the timing that a companion goes by: the answers that are kept declare one error
-abbrev pub timed_code : Result Timing Cause → ℕ → ℕ
-timed_code (Err why) kept = cause_code why
-timed_code (Ok timing) kept = if kept == 1 then DONE else TOO_WIDE
+-- the code where the companion goes by a timing
+abbrev pub timed_code : Result Timing Cause → ℕ
+timed_code (Err why) = cause_code why
+timed_code (Ok timing) = DONE
 
 -- whether readings of a tick can be told
 abbrev pub searched : Companion → ℕ
 searched companion =
-    if length companion.client.estimate.kept == 0 then NO_ANSWER
-    else timed_code (timing_now companion) (length companion.client.estimate.kept)
+    if length companion.client.estimate.kept == 0 then NO_ANSWER else timed_code (timing_now companion)
 
 -- The tests decide, if they refuse the call. Else there are readings, or there are none.
 abbrev pub Searches : ℕ → ℕ → Type 0

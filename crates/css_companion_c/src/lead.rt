@@ -24,7 +24,7 @@ fn ticks_between(tick: i64, content: i64) -> i128
 }
 
 /// The nanoseconds of a tick, times the units of a second.
-fn tick_length(rate: Rate) -> u64
+pub(crate) fn tick_length(rate: Rate) -> u64
     ensures value { result ≡ rate.units_per_tick * 1000000000 }
     ensures small { result ≤ 2 ^ 60 }
 {
@@ -42,7 +42,7 @@ pub(crate) fn lengths(ticks: i128, length: u64) -> i128
 }
 
 /// The nanoseconds of the timeline from the tick of its control timestamp to this one, times the units of a second.
-fn distance(timing: &Timing, tick: i64) -> i128
+pub(crate) fn distance(timing: &Timing, tick: i64) -> i128
     ensures value { result ≡ leads.distance timing.now tick }
     ensures small { unsigned_abs result ≤ 2 ^ 124 }
 {

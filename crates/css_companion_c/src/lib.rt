@@ -26,7 +26,7 @@ ghost use Rattle.css_companion_c.specs.Promises.{Adds, IsFresh, HoldsTheWall, Ho
 ghost use Rattle.css_companion_c.specs.Snapshots.{IsSnapshotOf, copied};
 ghost use Rattle.css_companion_c.specs.Texts.{Holds, property_of, listed, TellsTimeline};
 ghost use Rattle.css_companion_c.specs.Until.{any_kept, IsNarrowUntil, IsWideAt};
-ghost use Rattle.css_companion_c.specs.When.{IsShownWithin, IsNeverShown};
+ghost use Rattle.css_companion_c.specs.When.{IsShownWithin, IsNeverShown, IsLeast};
 
 mod codes;
 mod content;
@@ -38,6 +38,7 @@ mod making;
 mod parts;
 pub mod plain;
 mod presentations;
+mod reaching;
 mod reading;
 mod sessions;
 mod snapshot;
@@ -463,6 +464,7 @@ pub extern "C" fn css_companion_when(
     ensures same { behind handle.new ≡ behind handle.old }
     ensures age { handle.new.age ≡ handle.old.age }
     ensures truth { result ≡ DONE → Of (behind handle.old) (IsShownWithin tick readings.new.from readings.new.to) }
+    ensures least { result ≡ DONE → Of (behind handle.old) (IsLeast tick readings.new.from readings.new.to) }
     ensures never { result ≡ answers.NEVER → Of (behind handle.old) (IsNeverShown tick) }
 {
     match handle.take(alloc) {

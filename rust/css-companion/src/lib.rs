@@ -242,7 +242,8 @@ impl Companion {
         Ok(lead.lo..=lead.hi)
     }
 
-    /// The readings of the own clock between which the television shows a tick, by the last control timestamp.
+    /// The readings of the own clock between which the television shows a tick, by the last control timestamp. They are
+    /// the least that the kept answers allow.
     pub fn when(&mut self, tick: i64) -> Result<RangeInclusive<u64>, Error> {
         let mut readings = Readings::default();
         told(unsafe { ffi::css_companion_when(&mut self.handle, tick, &mut readings) })?;
