@@ -197,6 +197,17 @@ static void timeline(css_companion *c) {
     IS(css_companion_position(c, 1600, &p), CSS_SESSION_CLOSED);
     IS(css_companion_age(c), age + 1);
     IS(css_companion_lead(c, 1600, 900000, &lead), CSS_SESSION_CLOSED);
+    IS(css_companion_setup(c, NULL, 0, &used), CSS_NO_ROOM);
+    IS(css_companion_position(c, 1600, &p), CSS_SESSION_CLOSED);
+    IS(css_companion_age(c), age + 1);
+    IS(css_companion_setup(c, out, sizeof out, &used), CSS_DONE); /* it was opened again */
+    IS(css_companion_age(c), age + 2);
+    IS(css_companion_position(c, 1600, &p), CSS_NO_TIMESTAMP);
+    IS(css_companion_lead(c, 1600, 900000, &lead), CSS_NO_TIMESTAMP);
+    IS(css_companion_when(c, 1000000, &when), CSS_NO_TIMESTAMP);
+    IS(css_companion_control(c, TEXT(control)), CSS_DONE);
+    IS(css_companion_position(c, 1600, &p), CSS_DONE);
+    IS(p.lo == 900000 && p.hi == 900000, 1);
 }
 
 /* Two kept answers that declare different errors, where the wall clock is 3800 ns ahead. It is 1,000,000 to 1,011,111

@@ -75,8 +75,8 @@ enum css_code {
     CSS_MOVED = 35, /* it moves wcUrl or tsUrl. Begin with a new companion */
     /* 48 to 63: why there is no interval, or no text, now. It may come: go on, and ask again */
     CSS_NO_ANSWER = 48,      /* no response of the wall clock was accepted since the last sleep */
-    CSS_NO_TIMESTAMP = 49,   /* no control timestamp came */
-    CSS_SESSION_CLOSED = 50, /* the TS session closed */
+    CSS_NO_TIMESTAMP = 49,   /* no control timestamp came on this TS session */
+    CSS_SESSION_CLOSED = 50, /* the TS session closed: open it again, and send `setup` */
     CSS_UNREADABLE = 51,     /* the last control timestamp can't be read */
     CSS_UNAVAILABLE = 52,    /* the timeline isn't being presented */
     CSS_NO_RATE = 53,        /* the timeline's tick rate isn't known */
@@ -174,8 +174,9 @@ uint32_t css_companion_cii_state(css_companion *c, uint8_t *out, size_t room, si
 uint32_t css_companion_timeline(css_companion *c, size_t number, css_rate *rate,
                                 uint8_t *out, size_t room, size_t *used);
 
-/* ---- the TS session at tsUrl: send `setup` once it is open, and hand on each text. A companion knows one TS session:
- * once it closed, position, lead and when answer CSS_SESSION_CLOSED. Make a new companion to follow on. */
+/* ---- the TS session at tsUrl: call `setup` once it is open, send that text, and hand on each that comes. After
+ * `ts_closed` position, lead and when answer CSS_SESSION_CLOSED. Open the session again then: where `setup` answers 0 it
+ * begins anew, and they answer CSS_NO_TIMESTAMP until a text comes. The wall clock and the state of CII stay. */
 uint32_t css_companion_setup(css_companion *c, uint8_t *out, size_t room, size_t *used);
 uint32_t css_companion_control(css_companion *c, const uint8_t *text, size_t len);
 uint32_t css_companion_ts_closed(css_companion *c);
@@ -185,8 +186,8 @@ uint32_t css_companion_presentation(const css_bound *earliest, const css_bound *
 
 /* ---- what it is for
  * A number that rises with each call that may change what wall, position, lead and when answer for the same reading:
- * new, slept, land, cii, control and ts_closed, where they take in what they are handed or refuse it. While it is the
- * same, an answer that you have is still the answer; only the readings that may be handed rise. */
+ * new, slept, land, cii, setup, control and ts_closed, where they answer 0 or refuse what they are handed. While it is
+ * the same, an answer that you have is still the answer; only the readings that may be handed rise. */
 uint64_t css_companion_age(const css_companion *c);
 uint32_t css_companion_position(css_companion *c, uint64_t reading, css_position *position);
 /* By how many ns of the timeline somebody at the beginning of `tick` is ahead of the television; below 0 it is behind.

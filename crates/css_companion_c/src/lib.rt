@@ -378,7 +378,8 @@ pub extern "C" fn css_companion_timeline(
     }
 }
 
-/// Puts the text to send on a TS session that was opened into a buffer.
+/// Puts the text to send on a TS session that was opened into a buffer. That session begins anew: there is no control
+/// timestamp until one comes on it.
 #[unsafe(no_mangle)]
 pub extern "C" fn css_companion_setup(
     alloc: Global,
@@ -389,8 +390,10 @@ pub extern "C" fn css_companion_setup(
     ensures kept { result ≢ DONE → out.new ≡ out.old }
     ensures code { Answers (answers.if_open (behind handle.old) (λ _. DONE)) (answers.if_open (behind handle.old)
         (λ companion. answers.room_code (setup_text companion.setup) (length out.old))) result }
-    ensures same { behind handle.new ≡ behind handle.old }
-    ensures age { handle.new.age ≡ handle.old.age }
+    ensures same { ChangesNothing result → behind handle.new ≡ behind handle.old }
+    ensures age { handle.new.age ≡ aged handle.old.age result }
+    ensures told { result ≡ DONE → Between (behind handle.old) (behind handle.new) (λ old new.
+        new ≡ steps.stepped old event.TsOpened) }
     ensures text { result ≡ DONE → Of (behind handle.old) (λ companion.
         Holds (setup_text companion.setup) used.new out.new) }
     ensures needs { result ≡ NO_ROOM → Of (behind handle.old) (λ companion.
@@ -402,7 +405,7 @@ pub extern "C" fn css_companion_setup(
         Some(boxed) => {
             let mut companion = boxed;
             let code = sessions::setup(&mut companion, out, used);
-            handle.put_back(companion);
+            handle.put(companion, code);
             code
         }
         None => codes::CLOSED,

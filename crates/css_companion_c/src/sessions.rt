@@ -70,7 +70,7 @@ pub(crate) fn control(companion: &mut Companion, text: &[u8]) -> u32
     }
 }
 
-/// The text of the setup, once the TS session is opened.
+/// The text of the setup, once the TS session is opened. Where it is in the buffer, that session begins anew.
 pub(crate) fn setup(companion: &mut Companion, out: &mut [u8], used: &mut usize) -> u32
     ensures kept { result ≢ DONE → out.new ≡ out.old }
     ensures code { Answers DONE (room_code (setup_text companion.old.setup) (length out.old)) result }
@@ -78,11 +78,15 @@ pub(crate) fn setup(companion: &mut Companion, out: &mut [u8], used: &mut usize)
     ensures needs { result ≡ NO_ROOM → used.new ≡ length (setup_text companion.old.setup) }
     ensures stands { (history : History) (peer : ℕ) → StandsFor companion.old history
         → result ≡ DONE → StandsFor companion.new (Dialled kind.Ts peer ∷ history) }
-    ensures same { companion.new ≡ companion.old }
+    ensures told { result ≡ DONE → companion.new ≡ steps.stepped companion.old event.TsOpened }
+    ensures same { result ≢ DONE → companion.new ≡ companion.old }
 {
-    match companion.step(CompanionEvent::TsOpened) {
-        Ok(Some(text)) => put(text.bytes(), out, used),
-        Ok(None) => codes::MEMORY,
-        Err(_) => codes::MEMORY,
+    let Ok(text) = companion.setup() else {
+        return codes::MEMORY;
+    };
+    let code = put(text.bytes(), out, used);
+    if code == codes::DONE {
+        companion.ts_opened();
     }
+    code
 }

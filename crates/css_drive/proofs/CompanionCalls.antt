@@ -1,8 +1,8 @@
 -- What is due at each stage of a turn, and what its calls make of the facts.
 use Rattle.std.proofs.Common.{◌≡◌, ℕ, ◌+◌, arith, ap, sym, ◌∙◌, subst, refl, Bool, true, false, cond}
 use Rattle.std.proofs.Common.{List, [], ◌∷◌, ◌++◌, Option, Some, None, Result, Ok, Err, eq-eqb, inl, inr}
-use Rattle.std.proofs.lemmas.Bool.{ne_eqb}
-use Rattle.std.specs.Prelude.{is_some, ◌&&◌, ◌==◌, IfSome, ◌⊎◌, ◌<◌, ◌≤◌}
+use Rattle.std.proofs.lemmas.Bool.{ne_eqb, or_from}
+use Rattle.std.specs.Prelude.{is_some, ◌&&◌, ◌||◌, ◌==◌, IfSome, ◌⊎◌, ◌<◌, ◌≤◌}
 use Rattle.css_model.specs.declared.Kind.{Kind}
 use Rattle.css_model.specs.declared.Kind.TheVariants as kind
 use Rattle.css_model.specs.declared.Why.{Why}
@@ -26,7 +26,8 @@ use Rattle.css_outside.specs.declared.calls.Clocked.{Clocked}
 use Rattle.css_outside.specs.declared.calls.Wrote.{Wrote as Outcome}
 use Rattle.css_outside.specs.declared.calls.Wrote.TheVariants as outcome
 use Rattle.css_companion.specs.Contents.{next_number, told}
-use Rattle.css_companion.specs.Meanings.{kind_of, is_ts, is_cii, texts_of, state_of, cii_text, ts_text, closes_ts}
+use Rattle.css_companion.specs.Meanings.{kind_of, is_ts, is_cii, texts_of, state_of, cii_text, ts_text, opens_ts}
+use Rattle.css_companion.specs.Meanings.{closes_ts}
 use Rattle.css_companion.specs.Standing.{Companion}
 use Rattle.css_companion.specs.Steps.{none_owed, IsEntryOf}
 use Rattle.css_companion.specs.declared.event.CompanionEvent.TheVariants as event
@@ -291,7 +292,7 @@ knows_read config companion clocked history k = knows_aside config companion (Cl
       no_cii
           = refl;
       no_ts = refl;
-      no_end = refl;
+      no_edge = refl;
     }
 
 pub asked_to : (config : DriveConfig) (clocked : Clocked) (history : History)
@@ -333,7 +334,7 @@ lawful_plain entry history l asks sends =
 pub knows_plain : (config : DriveConfig) (companion : Companion) (entry : Entry) (history : History)
     → Knows config companion history → is_sleep entry ≡ false → asking_at entry ≡ None
     → request_by entry ≡ None → landed_answer entry history ≡ None → cii_text entry history ≡ None
-    → ts_text entry history ≡ None → closes_ts entry history ≡ false
+    → ts_text entry history ≡ None → (opens_ts entry || closes_ts entry history) ≡ false
     → Knows config companion (entry ∷ history)
 knows_plain config companion entry history k awake asks sends lands cii ts end =
     knows_aside config companion entry history k (record {
@@ -345,18 +346,24 @@ knows_plain config companion entry history k awake asks sends lands cii ts end =
       };
       no_cii = cii;
       no_ts = ts;
-      no_end = end;
+      no_edge = end;
     })
 
+-- nor does a dial that fails or begins, or a session that isn't one of CSS-TS
+pub knows_dialling : (config : DriveConfig) (companion : Companion) (k : Kind) (to : Address) (history : History)
+    → Knows config companion history → Knows config companion (Dialling k to ∷ history)
+knows_dialling config companion k to history knows =
+    knows_plain config companion (Dialling k to) history knows refl refl refl refl refl refl refl
+
 pub knows_tried : (config : DriveConfig) (companion : Companion) (k : Kind) (to : Address) (tried : Option ℕ)
-    (history : History) → Knows config companion history
+    (history : History) → IfSome tried (λ p. opens_ts (Dialled k p) ≡ false) → Knows config companion history
     → Knows config companion (dial_entries k to tried ++ history)
-knows_tried config companion k to None history knows =
-    knows_plain config companion (NotDialled k) (Dialling k to ∷ history) (knows_plain config companion (Dialling k
-    to) history knows refl refl refl refl refl refl refl) refl refl refl refl refl refl refl
-knows_tried config companion k to (Some p) history knows =
-    knows_plain config companion (Dialled k p) (Dialling k to ∷ history) (knows_plain config companion (Dialling k
-    to) history knows refl refl refl refl refl refl refl) refl refl refl refl refl refl refl
+knows_tried config companion k to None history other knows =
+    knows_plain config companion (NotDialled k) (Dialling k to ∷ history)
+    (knows_dialling config companion k to history knows) refl refl refl refl refl refl refl
+knows_tried config companion k to (Some p) history other knows =
+    knows_plain config companion (Dialled k p) (Dialling k to ∷ history)
+    (knows_dialling config companion k to history knows) refl refl refl refl refl refl (or_from _ _ other refl)
 
 -- after a sleep nothing lands
 pub slept_landing : (config : DriveConfig) (companion : Companion) (clocked : Clocked) (history : History)

@@ -11,7 +11,7 @@ use Rattle.css_model.specs.declared.Kind.{Kind}
 use Rattle.css_model.specs.declared.Kind.TheVariants as kind
 use Rattle.css_model.specs.WallClock.{Local}
 use Rattle.css_model.specs.Wire.{is_same_stamp}
-use Rattle.css_model.specs.History.{History, Slept, Clock, Sent, Heard, Closed, Gone, LandedAnswer}
+use Rattle.css_model.specs.History.{History, Slept, Clock, Sent, Dialled, Heard, Closed, Gone, LandedAnswer}
 use Rattle.css_model.specs.History.{just_taken, request_by, request_in, answer_in, requests, landed_answers}
 use Rattle.css_model.specs.History.{possible_answers}
 use Rattle.css_span.specs.WallSpans.{wall_span}
@@ -25,8 +25,8 @@ use Rattle.css_companion.specs.Meanings.{is_closed, rate_after, timing_after, re
 use Rattle.css_companion.specs.Printed.{line_of}
 use Rattle.css_companion.specs.Reports.{timing_of, report_by, assigned_by}
 use Rattle.css_companion.specs.TimelineRates.{rate_of}
-use Rattle.css_drive.specs.SameEvents.{Happening, Sleep, Asks, Lands, TellsCii, TellsTs, EndsTs, landing, text_of}
-use Rattle.css_drive.specs.SameEvents.{end_of, with_happening, happenings, SameEventsAreReportedAlike}
+use Rattle.css_drive.specs.SameEvents.{Happening, Sleep, Asks, Lands, TellsCii, TellsTs, BeginsTs, EndsTs, landing}
+use Rattle.css_drive.specs.SameEvents.{text_of, end_of, with_happening, happenings, SameEventsAreReportedAlike}
 
 -- ---- requests
 -- the originate values of the requests since the last sleep
@@ -62,6 +62,7 @@ asked_same (Sent peer bytes ∷ older) =
     ap (λ xs. option_to_list (request_by (Sent peer bytes)) ++ xs) (asked_same older)
 asked_same (Clock why.Land reading ∷ older) =
     asked_same older ∙ asked_landing (just_taken older) reading (happenings older)
+asked_same (Dialled kind.Ts peer ∷ older) = asked_same older
 asked_same (Heard peer bytes ∷ older) = asked_same older ∙ asked_text (kind_of peer older) bytes (happenings older)
 asked_same (Closed peer ∷ older) = asked_same older ∙ asked_end (kind_of peer older) (happenings older)
 asked_same (Gone peer ∷ older) = asked_same older ∙ asked_end (kind_of peer older) (happenings older)
@@ -113,6 +114,7 @@ landed_same (Slept ∷ older) = refl
 landed_same (Clock why.Land reading ∷ older) =
     landed_landing (just_taken older) reading (happenings older) (requests older) (landed_answers older)
     (asked_same older) (landed_same older)
+landed_same (Dialled kind.Ts peer ∷ older) = landed_same older
 landed_same (Heard peer bytes ∷ older) = landed_same older ∙ landed_text (kind_of peer older) bytes (happenings older)
 landed_same (Closed peer ∷ older) = landed_same older ∙ landed_end (kind_of peer older) (happenings older)
 landed_same (Gone peer ∷ older) = landed_same older ∙ landed_end (kind_of peer older) (happenings older)
@@ -152,6 +154,7 @@ texts_same : (h : History) → texts_of h ≡ told_cii (happenings h)
 texts_same [] = refl
 texts_same (Clock why.Land reading ∷ older) =
     texts_same older ∙ texts_landing (just_taken older) reading (happenings older)
+texts_same (Dialled kind.Ts peer ∷ older) = texts_same older
 texts_same (Heard peer bytes ∷ older) =
     texts_text (kind_of peer older) bytes (happenings older) (texts_of older) (texts_same older)
 texts_same (Closed peer ∷ older) = texts_same older ∙ texts_end (kind_of peer older) (happenings older)
@@ -184,6 +187,7 @@ state_same : (h : History) → state_of h ≡ state_in (happenings h)
 state_same [] = refl
 state_same (Clock why.Land reading ∷ older) =
     state_same older ∙ state_landing (just_taken older) reading (happenings older)
+state_same (Dialled kind.Ts peer ∷ older) = state_same older
 state_same (Heard peer bytes ∷ older) =
     state_text (kind_of peer older) bytes (happenings older) (texts_of older) (state_of older) (texts_same older)
     (state_same older)
@@ -195,6 +199,7 @@ state_same (_ ∷ older) = state_same older
 abbrev control_in : List Happening → Option (Result Control TsFault)
 control_in [] = None
 control_in (TellsTs bytes ∷ earlier) = Some (control_of bytes)
+control_in (BeginsTs ∷ earlier) = None
 control_in (_ ∷ earlier) = control_in earlier
 
 control_landing : (taken : Option (List ℕ)) (reading : ℕ) (earlier : List Happening)
@@ -222,6 +227,7 @@ control_same : (h : History) → control_by h ≡ control_in (happenings h)
 control_same [] = refl
 control_same (Clock why.Land reading ∷ older) =
     control_same older ∙ control_landing (just_taken older) reading (happenings older)
+control_same (Dialled kind.Ts peer ∷ older) = refl
 control_same (Heard peer bytes ∷ older) =
     control_text (kind_of peer older) bytes (happenings older) (control_by older) (control_same older)
 control_same (Closed peer ∷ older) = control_same older ∙ control_end (kind_of peer older) (happenings older)
@@ -231,6 +237,7 @@ control_same (_ ∷ older) = control_same older
 -- ---- the end of a session of CSS-TS
 abbrev ended_in : List Happening → Bool
 ended_in [] = false
+ended_in (BeginsTs ∷ earlier) = false
 ended_in (EndsTs ∷ earlier) = true
 ended_in (_ ∷ earlier) = ended_in earlier
 
@@ -257,6 +264,7 @@ ended_same : (h : History) → is_closed h ≡ ended_in (happenings h)
 ended_same [] = refl
 ended_same (Clock why.Land reading ∷ older) =
     ended_same older ∙ ended_landing (just_taken older) reading (happenings older)
+ended_same (Dialled kind.Ts peer ∷ older) = refl
 ended_same (Heard peer bytes ∷ older) = ended_same older ∙ ended_text (kind_of peer older) bytes (happenings older)
 ended_same (Closed peer ∷ older) = ended_end (kind_of peer older) (happenings older) (is_closed older) (ended_same older)
 ended_same (Gone peer ∷ older) = ended_end (kind_of peer older) (happenings older) (is_closed older) (ended_same older)

@@ -266,6 +266,11 @@ pub record HasRead (old new : Shown) (before now : Live) (was is : Companion) (w
       → Knows config is (sleep_entries clocked.slept ++ history)
   pub only : facts_in now ≡ record (facts_in before) { asked = asked_after clocked.slept before.asked }
 
+-- a TS session was opened, and the companion knows
+abbrev pub HasBegun : Companion → Companion → Type 0
+HasBegun was is = (config : DriveConfig) (history : History) (peer : ℕ) → Knows config was history
+    → Knows config is (Dialled kind.Ts peer ∷ history)
+
 -- the TS session is over, and the companion knows
 pub record HasLost (before now : Live) (was is : Companion) : Type 0 where
   pub known : (config : DriveConfig) (history : History) (entry : Entry) → Knows config was history

@@ -5,7 +5,8 @@ use Rattle.css_model.specs.declared.Why.{Why}
 use Rattle.css_model.specs.declared.Why.TheVariants as why
 use Rattle.css_model.specs.declared.Kind.{Kind}
 use Rattle.css_model.specs.declared.Kind.TheVariants as kind
-use Rattle.css_model.specs.History.{Entry, History, Slept, Clock, Sent, Heard, Closed, Gone, just_taken}
+use Rattle.css_model.specs.History.{Entry, History, Slept, Clock, Sent, Dialled, Heard, Closed, Gone}
+use Rattle.css_model.specs.History.{just_taken}
 use Rattle.css_companion.specs.Meanings.{kind_of, state_of, report_after, assigned_after}
 use Rattle.css_companion.specs.Printed.{line_of}
 use Rattle.css_drive.specs.CompanionReports.{report_at}
@@ -22,7 +23,8 @@ pub data Happening : Type 0 where
   -- a text of a session of CSS-CII, and one of a session of CSS-TS
   TellsCii : (bytes : List ℕ) → Happening
   TellsTs : (bytes : List ℕ) → Happening
-  -- a session of CSS-TS closed
+  -- a session of CSS-TS was opened, and one closed
+  BeginsTs : Happening
   EndsTs : Happening
 
 abbrev pub landing : Option (List ℕ) → ℕ → Option Happening
@@ -40,6 +42,11 @@ text_of (Some kind.Wc) bytes = None
 text_of (Some kind.Cii) bytes = Some (TellsCii bytes)
 text_of (Some kind.Ts) bytes = Some (TellsTs bytes)
 
+-- a session of this kind was opened
+abbrev pub start_of : Kind → Option Happening
+start_of kind.Ts = Some BeginsTs
+start_of _ = None
+
 -- the end of such a session
 abbrev pub end_of : Option Kind → Option Happening
 end_of None = None
@@ -51,6 +58,7 @@ abbrev pub happening_at : Entry → History → Option Happening
 happening_at Slept older = Some Sleep
 happening_at (Clock why reading) older = clocked why reading older
 happening_at (Sent peer bytes) older = Some (Asks bytes)
+happening_at (Dialled kind peer) older = start_of kind
 happening_at (Heard peer bytes) older = text_of (kind_of peer older) bytes
 happening_at (Closed peer) older = end_of (kind_of peer older)
 happening_at (Gone peer) older = end_of (kind_of peer older)

@@ -4,12 +4,11 @@ ghost use Rattle.css_outside.specs.Faults.{HasRisen};
 ghost use Rattle.css_tsmsg.specs.Setups.{setup_text};
 ghost use Rattle.css_tsmsg.specs.Presentations.{IsPresentation};
 ghost use Rattle.css_companion.specs.Steps.{window};
-ghost use Rattle.css_companion.specs.Standing.{wanted_by};
 ghost use Rattle.css_drive.specs.CompanionDue.{due, from_cii, from_wc, from_ts, from_ask, from_setup};
 ghost use Rattle.css_drive.specs.CompanionDue.{point_of, place, window_text};
 ghost use Rattle.css_drive.specs.Configs.{IsWindow};
 ghost use Rattle.css_drive.specs.CompanionDue.{Connected, SetUp};
-ghost use Rattle.css_drive.specs.CompanionStanding.{at, Leads, LeadsFrom, Keeps, GivesPlace, IsEarly};
+ghost use Rattle.css_drive.specs.CompanionStanding.{at, Leads, LeadsFrom, Keeps, GivesPlace, IsEarly, HasBegun};
 ghost use Rattle.css_drive.specs.Proper.{SendText};
 
 use crate::companion_calls::{lose_ts, send, try_dial};
@@ -150,11 +149,12 @@ fn present<O: Outside, W: Observes>(
     }
 }
 
-/// The setup that the companion owes once its TS session is opened.
+/// The companion is told that its TS session was opened, and owes the setup.
 fn setup_of(companion: &mut Companion) -> Result<Text, Driven>
     ensures text { IfOk result (λ text. text ≡ setup_text companion.old.setup) }
     ensures err { IfErr result (λ ended. ended ≡ Driven.Memory) }
-    ensures same { companion.new ≡ companion.old }
+    ensures known { OnOk result (HasBegun companion.old companion.new) }
+    ensures client { companion.new.client ≡ companion.old.client }
 {
     match companion.step(CompanionEvent::TsOpened) {
         Ok(Some(text)) => Ok(text),
@@ -171,20 +171,20 @@ fn introduce<O: Outside, W: Observes>(
     outside: &mut O,
     observer: &mut W,
     peer: u32,
+    setup: &Text,
 ) -> Result<(), Driven>
     requires { IfSome config.now.present IsWindow }
     ensures goes { live.old.ts ≡ Some peer → live.old.ts_open ≡ Some peer → LeadsFrom W.saw W.over config.now
         (at (O.told outside.old) (O.counts outside.old) live.old companion.old observer.old)
         (at (O.told outside.new) (O.counts outside.new) live.new companion.new observer.new)
         (λ history. (point_of history ≡ Connected peer)
-        × (due config.now history ≡ SendText peer (setup_text (wanted_by config.now.companion)))) from_ask result }
+        × (due config.now history ≡ SendText peer setup.now)) from_ask result }
     ensures floor { companion.new.client.floor ≡ companion.old.client.floor }
     ensures last { (O.counts outside.new).last ≡ (O.counts outside.old).last }
     ensures keeps { Keeps (O.counts outside.old) (O.counts outside.new) live.old live.new }
     ensures early { IfErr result IsEarly }
 {
-    let text = setup_of(companion)?;
-    match send(outside, observer, peer, text.bytes()) {
+    match send(outside, observer, peer, setup.bytes()) {
         Err(ended) => Err(ended),
         Ok(Wrote::Gone) => match lose_ts(live, companion) {
             Ok(()) => Ok(()),
@@ -223,5 +223,6 @@ pub fn dial_ts<O: Outside, W: Observes>(
     };
     live.ts = Some(peer);
     live.ts_open = Some(peer);
-    introduce(config, live, companion, outside, observer, peer)
+    let setup = setup_of(companion)?;
+    introduce(config, live, companion, outside, observer, peer, &setup)
 }

@@ -12,9 +12,9 @@ pub fn followers_hear_the_run()
     ensures { FollowersHear }
 {}
 
-/// A live run and a replay report alike: where their histories tell the companion the same requests, landings, sleeps
-/// and texts, the report at a reading is the same, and so are its line, the position and the state of the content. The
-/// numbers of peers, and calls to which nothing came, make no difference.
+/// A live run and a replay report alike: where their histories tell the companion the same requests, landings, sleeps,
+/// texts, and starts and ends of TS sessions, the report at a reading is the same, and so are its line, the position
+/// and the state of the content. The numbers of peers, and calls to which nothing came, make no difference.
 pub fn same_events_are_reported_alike()
     ensures { SameEventsAreReportedAlike }
 {}

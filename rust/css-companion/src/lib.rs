@@ -204,7 +204,8 @@ impl Companion {
         }
     }
 
-    /// The text to send on a TS session that was opened.
+    /// The text to send on a TS session that was opened. That session begins anew: there is no position until a control
+    /// timestamp comes on it. What the wall clock told stays, and so does the state of the content.
     pub fn setup(&mut self) -> Result<String, Error> {
         let handle = &mut self.handle;
         text(|out, room, used| unsafe { ffi::css_companion_setup(handle, out, room, used) })
@@ -215,7 +216,7 @@ impl Companion {
         told(unsafe { ffi::css_companion_control(&mut self.handle, text.as_ptr(), text.len()) })
     }
 
-    /// The TS session closed. Make a new companion to follow on.
+    /// The TS session closed. Open it again, and send the `setup`.
     pub fn ts_closed(&mut self) -> Result<(), Error> {
         told(unsafe { ffi::css_companion_ts_closed(&mut self.handle) })
     }

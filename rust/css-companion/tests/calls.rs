@@ -57,6 +57,10 @@ fn ticks_and_when() {
     assert_eq!(c.report(1, 1600).unwrap(), "1 ticks 900000 900000\n");
     c.ts_closed().unwrap();
     assert_eq!(c.position(1600), Err(Error::Cause(Cause::SessionClosed)));
+    c.setup().unwrap();
+    assert_eq!(c.position(1600), Err(Error::Cause(Cause::NoTimestamp)));
+    c.control(CONTROL).unwrap();
+    assert_eq!(c.position(1600), Ok(p));
 }
 
 #[test]

@@ -1,14 +1,11 @@
-use Rattle.std.proofs.Common.{◌≡◌, refl, sym, ◌∙◌, ap, subst, inl, inr, arith, true, false, Option, Some, None}
-use Rattle.std.proofs.Common.{Result, Ok, Err, ℕ, List, ◌∷◌, [], ◌++◌}
+use Rattle.std.proofs.Common.{refl, sym, ◌∙◌, ap, inl, inr, Some, None}
+use Rattle.std.proofs.Common.{ℕ, ◌∷◌, []}
 use Rattle.css_model.specs.declared.Kind.TheVariants as kind
-use Rattle.css_model.specs.History.{Dialling, Dialled, NotDialled, Wrote, Gone}
-use Rattle.css_outside.specs.declared.calls.Wrote.TheVariants as outcome
-use Rattle.css_drive.specs.CompanionDue.{due_at, text_sent, text_gone, sending, window_text, from_ask}
+use Rattle.css_model.specs.History.{Dialling, Dialled, NotDialled}
 use Rattle.css_drive.specs.CompanionStanding.{Facts}
 use Rattle.css_drive.specs.Notes.{standpoint}
-use Rattle.css_drive.specs.Proper.{Dial, SendText}
-use Rattle.std.specs.Option.{option_map}
-use Rattle.css_drive.proofs.CompanionSteps.{none_if, comes, stands_saw, peers_as, peers_cii, peers_wc, peers_ts}
+use Rattle.css_drive.specs.Proper.{Dial}
+use Rattle.css_drive.proofs.CompanionSteps.{none_if, comes, stands_saw, peers_as, peers_wc}
 use Rattle.css_drive.proofs.CompanionSteps.{knows_lawful, stops_by_fault, stops_here, ends_by, at_err}
 use Rattle.css_drive.proofs.CompanionCalls as calls
 use Rattle.css_drive.proofs.companion_dials.dial_wc.Goals as goal
@@ -28,7 +25,7 @@ returns-clause-goes g c before started h s k d =
     tried.told tried.faults after saw _
     (ap {A = Facts} (λ x. record x { wc = Some p }) s.facts)
     (peers_wc _ _ p to _ _ h s.peers tried.peer.0 tried.peer.1))
-    (calls.knows_tried _ _ kind.Wc to (Some p) h k) _ refl
+    (calls.knows_tried _ _ kind.Wc to (Some p) h refl k) _ refl
 
 pub returns-in_default-2-clause-goes : goal.returns-in_default-2-clause-goes
 returns-in_default-2-clause-goes g c before started h s k d =
@@ -43,7 +40,7 @@ returns-in_default-2-clause-goes g c before started h s k d =
     comes (stands_saw s (Dial kind.Wc to) t (NotDialled kind.Wc ∷ Dialling kind.Wc to ∷ []) (inr refl) _ tried.told
     tried.faults after saw _ s.facts
     (peers_as _ _ _ _ h _ s.peers tried.later (λ q. refl)))
-    (calls.knows_tried _ _ kind.Wc to None h k) _ refl
+    (calls.knows_tried _ _ kind.Wc to None h tt k) _ refl
 
 pub returns-in_err-peer-clause-goes : goal.returns-in_err-peer-clause-goes
 returns-in_err-peer-clause-goes g c before started h s k d =
