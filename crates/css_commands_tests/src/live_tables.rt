@@ -213,7 +213,8 @@ const SHORT: Case<'static> = Case {
     ..BLANK
 };
 
-/// The record of the run of two intervals, as a program of another language spells it. The texts are [`CII`] and [`TS`].
+/// The record of the run of two intervals, as a program of another language spells it. Its texts are [`CII`] and
+/// [`TS`].
 pub const RECORD: &[u8] = b"css-record 1 0 0 urn:dvb:css:timeline:pts -\nturn 0\n\
 cii 7b2274696d656c696e6573223a6e756c6c2c22747355726c223a2277733a2f2f3132372e302e302e313a363637382f7473222c2277\
 6355726c223a227564703a2f2f3132372e302e302e313a36363737227d\nturn 5\nask 6\n\
