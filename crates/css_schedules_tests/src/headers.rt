@@ -35,7 +35,7 @@ fn told(rt: &impl Abort, alloc: Global, line: &str) -> String {
 fn headers_are_read(rt: HostRuntime) {
     for row in HEADERS.lines() {
         let (line, expected) = parts(&rt, row);
-        check(&rt, &told(&rt, rt.alloc(), line), expected);
+        check(&rt, line, &told(&rt, rt.alloc(), line), expected);
     }
 }
 

@@ -288,7 +288,7 @@ fn words_of(rt: &impl Abort, alloc: Global, line: &str) -> Vec<String> {
 /// What the words of a line ask for, and what is said of them, if anything is.
 fn check_line(rt: &impl Abort, alloc: Global, line: &str, expected: &str, said: Option<&str>) {
     let words = words_of(rt, alloc, line);
-    check(rt, &told(rt, alloc, &words), expected);
+    check(rt, line, &told(rt, alloc, &words), expected);
     let complaint = complaint(alloc, &words);
     let found = complaint.as_ref().map(shown);
     assert!(rt; found == said, "{line}: {found:?} and not {said:?}");
@@ -305,7 +305,7 @@ fn words_ask_for_commands(rt: HostRuntime) {
 
 #[test]
 fn other_words_are_usage(rt: HostRuntime) {
-    check(&rt, &told(&rt, rt.alloc(), &[]), "usage");
+    check(&rt, "no words", &told(&rt, rt.alloc(), &[]), "usage");
     for line in NO_COMMAND.lines() {
         check_line(&rt, rt.alloc(), line, "usage", None);
     }

@@ -257,7 +257,7 @@ const WORDS: [(PlayerFault, &str); 5] = [
 fn faults_have_words(rt: HostRuntime) {
     for (fault, words) in WORDS {
         let told = format!(in rt.alloc(); "{fault}").expect(&rt, "memory");
-        check(&rt, &told, words);
+        check(&rt, "a fault", &told, words);
     }
 }
 
