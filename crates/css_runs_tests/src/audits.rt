@@ -159,9 +159,9 @@ fn a_record_may_be_cut_in_its_last_line(rt: HostRuntime) -> Result<(), Fail> {
 const SHORT: &str =
     "HEADER; turn 5; ask 6; LANDING; CONTROL; turn 10; report 1 ticks 900000 900000";
 
-/// Its bytes whose last bit may be turned, and it is right again. Found by hand and by a plain computation: digits of the
-/// header's clock, the stem, two readings of turns and that of the landing, the response's precision, reserved byte and
-/// declared error, nanoseconds that leave the span within one tick, a speed of 0, and the control timestamp's wall
+/// Its bytes whose last bit may be turned, and it is right again. Found by hand and by a plain computation: digits of
+/// the header's clock, the stem, two readings of turns and that of the landing, the response's precision, reserved byte
+/// and declared error, nanoseconds that leave the span within one tick, a speed of 0, and the control timestamp's wall
 /// clock.
 #[rattlefmt::skip]
 const RIGHT_AGAIN: [usize; 24] = [

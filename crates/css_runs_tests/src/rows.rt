@@ -49,8 +49,8 @@ pub struct Row {
 pub const QUIET: Row = Row {
     name: "nothing comes", turns: 1, seconds: 0, error: 0, script: "", relative: false, follow: false, reports: 1,
     report_every: 10, presents: false, ask_every: 1000, times: &[0], slept: &[], sender: 9, datagrams: &[],
-    openings: &[], texts: &[], gone: &[], fails: &[], sink_fails: &[], ended: "Done", told: "LISTEN; turn; take; accept",
-    record: None, lines: usize::MAX,
+    openings: &[], texts: &[], gone: &[], fails: &[], sink_fails: &[], ended: "Done",
+    told: "LISTEN; turn; take; accept", record: None, lines: usize::MAX,
 };
 
 /// What a session tells that is closed.

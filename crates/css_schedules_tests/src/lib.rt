@@ -1,5 +1,5 @@
-//! Tests of the crates about schedules: their lines, their clocks, and the schedules that are generated. What a schedule
-//! prints and becomes stands in the tests of the commands.
+//! Tests of the crates about schedules: their lines, their clocks, and the schedules that are generated. What a
+//! schedule prints and becomes stands in the tests of the commands.
 #![tactic(auto)]
 
 #[cfg(test)]
