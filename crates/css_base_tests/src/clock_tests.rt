@@ -93,11 +93,16 @@ fn answer(rt: &impl Abort, tree: &mut Tree, call: Call) -> Answer {
 /// Makes the calls of a table, each of which is to give its answer.
 fn check(rt: &impl Abort, tree: &mut Tree, rows: &[(Call, Answer)]) {
     for (call, expected) in rows {
-        assert!(rt; answer(rt, tree, *call) == *expected, "{call:?}");
+        let told = answer(rt, tree, *call);
+        assert!(rt;
+            told == *expected,
+            "{call:?}: {told:?} and not {expected:?}"
+        );
     }
 }
 
 /// A root of nanoseconds, on it a clock of 90,000 ticks a second, and on that one of 25 frames a second.
+#[rattlefmt::skip]
 const FRAMES: [(Call, Answer); 22] = [
     (Root((1, 1_000_000_000)), Ok((0, 0))),
     (Clock(0, (1, 90_000), 1, (0, 0)), Ok((1, 1))),
@@ -105,10 +110,7 @@ const FRAMES: [(Call, Answer); 22] = [
     (Value(2, 39_999_999), Ok((100, 100))),
     (Value(2, 40_000_000), Ok((101, 101))),
     (Convert(2, 1, (125, 125)), Ok((90_000, 93_600))),
-    (
-        Convert(2, 0, (125, 125)),
-        Ok((1_000_000_000, 1_040_011_112)),
-    ),
+    (Convert(2, 0, (125, 125)), Ok((1_000_000_000, 1_040_011_112))),
     (Set(1, -2, (1_000_000_000, 50)), DONE),
     (Value(1, 1_000_000_001), Ok((49, 49))),
     (Value(2, 1_000_000_000), Ok((100, 100))),
@@ -152,13 +154,11 @@ const MOST: u32 = 1_000_000_000;
 const QUINTILLION: i128 = 1_000_000_000_000_000_000;
 
 /// Clocks at the ends of the range of a rate, and a product that is too large.
+#[rattlefmt::skip]
 const RATES: [(Call, Answer); 9] = [
     (Root((MOST, 1)), Ok((0, 0))),
     (Clock(0, (1, MOST), 1, (-2, 3)), Ok((1, 1))),
-    (
-        Convert(0, 1, (-5, 6)),
-        Ok((3 - 3 * QUINTILLION, 3 + 8 * QUINTILLION)),
-    ),
+    (Convert(0, 1, (-5, 6)), Ok((3 - 3 * QUINTILLION, 3 + 8 * QUINTILLION))),
     (Convert(1, 0, (-5, 6)), Ok((-3, -1))),
     (Clock(0, (1, MOST), 64, (0, 0)), Ok((2, 2))),
     (Value(2, 1 << 61), Err(Beyond(2))),
@@ -226,22 +226,18 @@ fn calls_of_forests_are_answered(rt: HostRuntime) {
 fn a_forest_has_a_greatest_depth_and_size(rt: HostRuntime) {
     let mut tree = Tree::new(rt.alloc());
     let root = Root((1, 1));
-    check_that(&rt, answer(&rt, &mut tree, root) == DONE, "a root");
+    check(&rt, &mut tree, &[(root, DONE)]);
     for parent in 0..16 {
         let added = answer(&rt, &mut tree, Clock(parent, (1, 1), 1, (0, 0)));
         check_that(&rt, added.is_ok(), "a clock");
     }
     let deeper = Clock(16, (1, 1), 1, (0, 0));
-    check_that(&rt, answer(&rt, &mut tree, deeper) == Err(Deep), "too deep");
+    check(&rt, &mut tree, &[(deeper, Err(Deep))]);
     for _ in 17..4096 {
         check_that(&rt, answer(&rt, &mut tree, root).is_ok(), "a root more");
     }
-    check_that(&rt, answer(&rt, &mut tree, root) == Err(Full), "too many");
-    check_that(
-        &rt,
-        answer(&rt, &mut tree, deeper) == Err(Full),
-        "too many before too deep",
-    );
+    // That there are too many is told before that it is too deep.
+    check(&rt, &mut tree, &[(root, Err(Full)), (deeper, Err(Full))]);
 }
 
 /// A timeline of 90,000 ticks a second that reads 900,000 ten seconds after the wall clock's 0.
@@ -298,23 +294,13 @@ fn clocks_stand_on_clocks(rt: HostRuntime) {
         parent_ticks: 0,
         child_ticks: 100,
     };
-    let at = 10_000_000_000;
-    check_that(
-        &rt,
-        span_of(&rt, &clock, at, at) == Some((-150, -150)),
-        "a clock",
-    );
+    let at = span_of(&rt, &clock, 10_000_000_000, 10_000_000_000);
+    check_that(&rt, at == Some((-150, -150)), "a clock");
     check_that(&rt, clock.rate() == frames, "its rate");
     let root = RootClock { rate: frames };
     let last = (1 << 126) - 1;
-    check_that(
-        &rt,
-        span_of(&rt, &root, 0, last) == Some((0, last)),
-        "the widest span",
-    );
-    check_that(
-        &rt,
-        span_of(&rt, &root, 0, last + 1).is_none(),
-        "too wide a span",
-    );
+    let widest = span_of(&rt, &root, 0, last);
+    check_that(&rt, widest == Some((0, last)), "the widest span");
+    let wider = span_of(&rt, &root, 0, last + 1);
+    check_that(&rt, wider.is_none(), "too wide a span");
 }

@@ -4,9 +4,15 @@ ghost use Rattle.std.specs.Prelude.{◌≡◌, true};
 
 use std::process::Abort;
 
+/// The text, where the bytes are one.
+pub fn text_of(bytes: &[u8]) -> Result<&str, &[u8]> {
+    str::from_utf8(bytes).map_err(|_| bytes)
+}
+
 /// What came of a row is what the row says.
 pub fn check(rt: &impl Abort, told: &[u8], expected: &[u8]) {
-    assert!(rt; told == expected, "{told:?} and not {expected:?}");
+    let (text, wanted) = (text_of(told), text_of(expected));
+    assert!(rt; told == expected, "{text:?} and not {wanted:?}");
 }
 
 /// What has to hold does.

@@ -4,20 +4,12 @@ use css_wc::{Message, Stamp, WcFault, decode, encode, precision_ns, reading, sta
 use std::process::Abort;
 
 /// A companion asks. The originate nanoseconds are no part of a second.
-const REQUEST: [u8; 32] = [
-    0, 0, 0, 0, 0, 0, 0, 0, //
-    0, 0, 0, 0, 255, 255, 255, 255, //
-    0, 0, 0, 0, 0, 0, 0, 0, //
-    0, 0, 0, 0, 0, 0, 0, 0,
-];
+const REQUEST: [u8; 32] =
+    *b"\0\0\0\0\0\0\0\0\0\0\0\0\xff\xff\xff\xff\0\0\0\0\0\0\0\0\0\0\0\0\0\0\0\0";
 
 /// It is received at 5000 and answered at 5200, with the precision 2^-30 s and no error.
-const RESPONSE: [u8; 32] = [
-    0, 1, 226, 0, 0, 0, 0, 0, //
-    0, 0, 0, 0, 255, 255, 255, 255, //
-    0, 0, 0, 0, 0, 0, 19, 136, //
-    0, 0, 0, 0, 0, 0, 20, 80,
-];
+const RESPONSE: [u8; 32] =
+    *b"\0\x01\xe2\0\0\0\0\0\0\0\0\0\xff\xff\xff\xff\0\0\0\0\0\0\x13\x88\0\0\0\0\0\0\x14\x50";
 
 const ODD: Stamp = Stamp {
     seconds: 0,
@@ -63,27 +55,16 @@ fn changed(changes: &[Change]) -> [u8; 32] {
 
 /// Changes of the response, and the fault that comes first. An exponent of 31, an error of 25,600,001 and a whole
 /// second of nanoseconds in a time are too much.
+#[rattlefmt::skip]
 const FAULTS: [(&[Change], Option<WcFault>); 9] = [
     (&[(0, 1), (1, 4), (2, 31)], Some(WcFault::Version)),
     (&[(1, 4), (2, 31)], Some(WcFault::MessageType)),
     (&[(2, 31), (4, 2), (20, 64)], Some(WcFault::Precision)),
-    (
-        &[(4, 1), (5, 134), (6, 160), (7, 1), (28, 64)],
-        Some(WcFault::Error),
-    ),
-    (
-        &[(20, 59), (21, 154), (22, 202), (23, 0)],
-        Some(WcFault::Nanoseconds),
-    ),
-    (
-        &[(28, 59), (29, 154), (30, 202), (31, 0)],
-        Some(WcFault::Nanoseconds),
-    ),
+    (&[(4, 1), (5, 134), (6, 160), (7, 1), (28, 64)], Some(WcFault::Error)),
+    (&[(20, 59), (21, 154), (22, 202), (23, 0)], Some(WcFault::Nanoseconds)),
+    (&[(28, 59), (29, 154), (30, 202), (31, 0)], Some(WcFault::Nanoseconds)),
     // The greatest exponent, error and nanoseconds, and any reserved byte.
-    (
-        &[(2, 30), (3, 255), (4, 1), (5, 134), (6, 160), (7, 0)],
-        None,
-    ),
+    (&[(2, 30), (3, 255), (4, 1), (5, 134), (6, 160), (7, 0)], None),
     (&[(28, 59), (29, 154), (30, 201), (31, 255)], None),
     // Nothing but the type is tested of a request.
     (&[(1, 0), (2, 31), (4, 2), (20, 64)], None),
@@ -95,11 +76,8 @@ fn the_first_fault_of_a_datagram_is_told(rt: HostRuntime) {
         let found = decode(&changed(changes));
         assert!(rt; found.err() == *expected, "{changes:?}");
     }
-    check_that(
-        &rt,
-        decode(&RESPONSE[..31]) == Err(WcFault::Length),
-        "a short datagram",
-    );
+    let short = decode(&RESPONSE[..31]);
+    check_that(&rt, short == Err(WcFault::Length), "a short datagram");
 }
 
 #[test]
@@ -113,14 +91,9 @@ fn times_have_seconds_and_nanoseconds(rt: HostRuntime) {
 }
 
 /// The exponent of a precision, and its nanoseconds.
-const PRECISIONS: [(i8, u64); 6] = [
-    (-128, 1),
-    (-30, 1),
-    (-29, 2),
-    (-20, 954),
-    (0, 1_000_000_000),
-    (30, 1_073_741_824_000_000_000),
-];
+#[rattlefmt::skip]
+const PRECISIONS: [(i8, u64); 6] =
+    [(-128, 1), (-30, 1), (-29, 2), (-20, 954), (0, 1_000_000_000), (30, 1_073_741_824_000_000_000)];
 
 #[test]
 fn precisions_are_rounded_up(rt: HostRuntime) {

@@ -107,47 +107,32 @@ impl Lines for Echo {
 type End = Result<(), Stop<Cause>>;
 
 const fn refused(line: u64, cause: Cause) -> End {
-    Err(Stop::BadLine {
-        line,
-        why: Refusal::Refused(cause),
-    })
+    let why = Refusal::Refused(cause);
+    Err(Stop::BadLine { line, why })
 }
 
 const fn long(line: u64) -> End {
-    Err(Stop::BadLine {
-        line,
-        why: Refusal::Long,
-    })
+    let why = Refusal::Long;
+    Err(Stop::BadLine { line, why })
 }
 
 /// An input, how a run over it ends, and what it prints.
 type Row = (&'static [u8], End, &'static [u8]);
 
 /// The input has at most 20 bytes, and a line feed stands in the line that it ends.
+#[rattlefmt::skip]
 fn rows() -> [Row; 10] {
     [
         (b"a\n\nbc", Ok(()), b"1 a\n2 \n3 bc\nend\n"),
         (b"wide\nabcdefgh", Ok(()), b"1 wide\n2 abcdefgh\nend\n"),
-        (
-            b"abcd\nabcd\nabcd\n\nabcd",
-            Ok(()),
-            b"1 abcd\n2 abcd\n3 abcd\n4 \n5 abcd\nend\n",
-        ),
+        (b"abcd\nabcd\nabcd\n\nabcd", Ok(()), b"1 abcd\n2 abcd\n3 abcd\n4 \n5 abcd\nend\n"),
         (b"", refused(1, Cause::NoLine), b""),
         (b"a\nstop\nb\n", refused(2, Cause::Stop), b"1 a\n"),
         (b"a\nstop", refused(2, Cause::Stop), b"1 a\n"),
         (b"a\nabcde", long(2), b"1 a\n"),
         (b"wide\nabcdefghi\n", long(2), b"1 wide\n"),
-        (
-            b"abcd\nabcd\nabcd\nabcd\n\n",
-            long(5),
-            b"1 abcd\n2 abcd\n3 abcd\n4 abcd\n",
-        ),
-        (
-            b"abcd\nabcd\nabcd\n\nabcd\n",
-            long(5),
-            b"1 abcd\n2 abcd\n3 abcd\n4 \n",
-        ),
+        (b"abcd\nabcd\nabcd\nabcd\n\n", long(5), b"1 abcd\n2 abcd\n3 abcd\n4 abcd\n"),
+        (b"abcd\nabcd\nabcd\n\nabcd\n", long(5), b"1 abcd\n2 abcd\n3 abcd\n4 \n"),
     ]
 }
 
@@ -161,7 +146,11 @@ fn check_run(rt: &impl Abort, alloc: Global, (bytes, wanted, output): Row, fault
     let mut source = source.expect(rt, "memory");
     let mut sink = MemorySink::new(alloc, written, &[failing_write]).expect(rt, "memory");
     let ended = drive(alloc, &mut source, &mut sink, &mut Echo::new(alloc));
-    assert!(rt; ended == wanted, "{bytes:?} {faults:?}");
+    let input = str::from_utf8(bytes);
+    assert!(rt;
+        ended == wanted,
+        "{input:?} {faults:?}: {ended:?} and not {wanted:?}"
+    );
     check(rt, sink.bytes(), output);
 }
 

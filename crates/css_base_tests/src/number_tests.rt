@@ -18,17 +18,12 @@ const QUOTIENTS: [Quotient; 5] = [
     (1 - LIMIT, 2, (-(LIMIT / 2), 1 - LIMIT / 2)),
 ];
 
-fn check_quotient(rt: &impl Abort, row: &Quotient) {
-    let (a, b, expected) = *row;
-    assert!(rt; 0 < b && a.unsigned_abs() < 1 << 126);
-    let found = (floor_div(a, b), ceil_div(a, b));
-    assert!(rt; found == expected, "{a} / {b}");
-}
-
 #[test]
 fn quotients_are_rounded_down_and_up(rt: HostRuntime) {
-    for row in &QUOTIENTS {
-        check_quotient(&rt, row);
+    for (a, b, expected) in QUOTIENTS {
+        assert!(rt; 0 < b && a.unsigned_abs() < 1 << 126);
+        let found = (floor_div(a, b), ceil_div(a, b));
+        assert!(rt; found == expected, "{a} / {b}: {found:?}");
     }
 }
 
@@ -36,21 +31,12 @@ fn quotients_are_rounded_down_and_up(rt: HostRuntime) {
 type Image = ((i128, i128), i128, i128, Option<(i128, i128)>);
 
 /// The rows with 90,000 go from half a second to 22,222 ns more, at 90,000 ticks a second, and at speeds of 1 and -2.
+#[rattlefmt::skip]
 const IMAGES: [Image; 9] = [
     ((1, 5), -2, 3, Some((-4, -1))),
     ((1, 5), 0, 3, Some((0, 0))),
-    (
-        (500_000_000, 500_022_222),
-        90_000,
-        1_000_000_000,
-        Some((45_000, 45_001)),
-    ),
-    (
-        (500_000_000, 500_022_222),
-        -180_000,
-        1_000_000_000,
-        Some((-90_004, -90_000)),
-    ),
+    ((500_000_000, 500_022_222), 90_000, 1_000_000_000, Some((45_000, 45_001))),
+    ((500_000_000, 500_022_222), -180_000, 1_000_000_000, Some((-90_004, -90_000))),
     ((1 - LIMIT, LIMIT - 1), -1, 1, Some((1 - LIMIT, LIMIT - 1))),
     ((0, LIMIT), -1, 1, None),
     ((-LIMIT, 0), 1, 1, None),
@@ -78,13 +64,10 @@ fn an_image_has_the_lesser_end_first(rt: HostRuntime) {
 }
 
 /// A word, the limit of the number, and the number that it spells.
+#[rattlefmt::skip]
 const WHOLE: [(&str, u64, Option<u64>); 9] = [
     ("0", 1, Some(0)),
-    (
-        "18446744073709551614",
-        u64::MAX,
-        Some(18_446_744_073_709_551_614),
-    ),
+    ("18446744073709551614", u64::MAX, Some(18_446_744_073_709_551_614)),
     ("0", 0, None),
     ("100", 100, None),
     ("18446744073709551616", u64::MAX, None),

@@ -5,16 +5,12 @@ use css_span::{AcceptFault, Answer, Estimate, Local, Span, scaled_width, span};
 use std::alloc::Global;
 use std::process::Abort;
 
-const EXACT: Local = Local {
-    error: 0,
-    precision: 0,
-};
+#[rattlefmt::skip]
+const EXACT: Local = Local { error: 0, precision: 0 };
 
 /// 500 ppm.
-const FAIR: Local = Local {
-    error: 128_000,
-    precision: 0,
-};
+#[rattlefmt::skip]
+const FAIR: Local = Local { error: 128_000, precision: 0 };
 
 /// The square of one whole, `256_000_000`.
 const WHOLE_SQUARED: i128 = 65_536_000_000_000_000;
@@ -52,9 +48,8 @@ fn an_impossible_answer_changes_nothing(rt: HostRuntime) {
     let accepted = estimate.accept(answer_at(6000, 0), 1600);
     check_that(&rt, accepted == impossible, "impossible");
     check_at(&rt, &estimate, 1600, None);
-    estimate
-        .accept(answer_at(5200, 0), 1600)
-        .expect(&rt, "possible");
+    let accepted = estimate.accept(answer_at(5200, 0), 1600);
+    accepted.expect(&rt, "possible");
     let accepted = estimate.accept(answer_at(6000, 0), 1600);
     check_that(&rt, accepted == impossible, "impossible again");
     check_at(&rt, &estimate, 1600, Some((5197, 5603)));
@@ -64,34 +59,22 @@ fn an_impossible_answer_changes_nothing(rt: HostRuntime) {
 fn both_errors_widen_a_span(rt: HostRuntime) {
     let answer = answer_at(5200, 128_000);
     let unit: i128 = 16_384_000_000;
-    check_that(
-        &rt,
-        scaled_width(&answer, &FAIR, 1600) == 1_626_400_798 * unit,
-        "its width",
-    );
+    let width = scaled_width(&answer, &FAIR, 1600);
+    check_that(&rt, width == 1_626_400_798 * unit, "its width");
     let later = scaled_width(&answer, &FAIR, 1_000_001_600);
-    check_that(
-        &rt,
-        later == 8_001_626_400_798 * unit,
-        "its width a second later",
-    );
+    check_that(&rt, later == 8_001_626_400_798 * unit, "a second later");
     let mut estimate = Estimate::new(rt.alloc(), FAIR);
     estimate.accept(answer, 1600).expect(&rt, "possible");
     check_at(&rt, &estimate, 1600, Some((5197, 5604)));
-    check_at(
-        &rt,
-        &estimate,
-        1_000_001_600,
-        Some((999_005_696, 1_001_006_104)),
-    );
+    let later = Some((999_005_696, 1_001_006_104));
+    check_at(&rt, &estimate, 1_000_001_600, later);
 }
 
 #[test]
 fn a_smaller_error_wins_later(rt: HostRuntime) {
     let mut estimate = Estimate::new(rt.alloc(), EXACT);
-    estimate
-        .accept(answer_at(5200, 256_000), 1600)
-        .expect(&rt, "possible");
+    let accepted = estimate.accept(answer_at(5200, 256_000), 1600);
+    accepted.expect(&rt, "possible");
     let second = Answer {
         t1: 2000,
         t2: 6000,
@@ -104,11 +87,8 @@ fn a_smaller_error_wins_later(rt: HostRuntime) {
     check_at(&rt, &estimate, 701_300, Some((704_197, 706_004)));
     check_at(&rt, &estimate, 701_301, Some((703_498, 705_304)));
     check_that(&rt, estimate.kept() == 2, "both are kept");
-    check_that(
-        &rt,
-        estimate.greatest_error() == 256_000,
-        "the greatest error",
-    );
+    let greatest = estimate.greatest_error();
+    check_that(&rt, greatest == 256_000, "the greatest error");
 }
 
 /// The narrowest of all answers, of equals the first.
@@ -148,11 +128,11 @@ fn check_same(rt: &impl Abort, estimate: &Estimate, plain: &[Answer], local: &Lo
 {
     let expected = plain_at(plain, local, reading);
     assert!(rt; estimate.at(reading) == expected, "at {reading}");
-    let narrowest = plain_narrowest(plain, local, reading).copied();
-    assert!(rt;
-        estimate.answer(reading) == narrowest,
-        "the answer at {reading}"
+    let (found, narrowest) = (
+        estimate.answer(reading),
+        plain_narrowest(plain, local, reading),
     );
+    assert!(rt; found == narrowest.copied(), "the answer at {reading}");
 }
 
 /// Accepts a drawn answer in both, and compares them then and later.
@@ -209,18 +189,9 @@ fn compare_all(rt: &impl Abort, alloc: Global, local: Local) {
     for i in 1..200 {
         word = next_word(word);
         let answer = drawn(word >> 33, i * STEP);
-        compare(
-            rt,
-            &mut estimate,
-            &mut plain,
-            &local,
-            answer,
-            i * STEP + 500,
-        );
+        let landed = i * STEP + 500;
+        compare(rt, &mut estimate, &mut plain, &local, answer, landed);
     }
-    check_that(
-        rt,
-        estimate.kept() == 4 && plain.len() > 100,
-        "what is kept",
-    );
+    let (kept, all) = (estimate.kept(), plain.len());
+    check_that(rt, kept == 4 && all > 100, "what is kept");
 }

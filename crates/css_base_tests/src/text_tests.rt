@@ -1,4 +1,4 @@
-use crate::common::{check, check_that};
+use crate::common::{check, check_that, text_of};
 use css_text::{
     Field, Map, TextFault, field_of, list, member, object, read_object, rewrite_numerals,
     write_value,
@@ -91,7 +91,11 @@ fn odd(alloc: Global, bytes: &[u8]) -> Result<u32, TextFault> {
 }
 
 fn check_odd(rt: &impl Abort, alloc: Global, bytes: &[u8], expected: Result<u32, TextFault>) {
-    assert!(rt; odd(alloc, bytes) == expected, "{bytes:?}");
+    let (found, text) = (odd(alloc, bytes), text_of(bytes));
+    assert!(rt;
+        found == expected,
+        "{text:?}: {found:?} and not {expected:?}"
+    );
 }
 
 fn expected(word: &str) -> Result<u32, TextFault> {
@@ -136,13 +140,8 @@ fn bytes_beyond_printed_ascii_are_read_or_refused(rt: HostRuntime) {
 const MANY: usize = 1 << 18;
 
 /// A text in which two parts stand so often one after the other, and how many of its numerals are odd.
-type Long = (
-    &'static str,
-    (&'static str, &'static str),
-    usize,
-    &'static str,
-    Result<u32, TextFault>,
-);
+#[rattlefmt::skip]
+type Long = (&'static str, (&'static str, &'static str), usize, &'static str, Result<u32, TextFault>);
 
 const LONG: [Long; 7] = [
     ("{\"a\":", ("[", "]"), 126, "}", Ok(0)),
@@ -170,17 +169,14 @@ fn long_texts_are_read_or_refused(rt: HostRuntime) {
 }
 
 /// A text, what it is rewritten as, and how many of its numerals are odd.
+#[rattlefmt::skip]
 const REWRITTEN: [(&str, &str, u32); 7] = [
     ("", "", 0),
     ("-0.00", "0", 0),
     ("-7.0", "-7", 0),
     ("1e5 -1E-2 1234567890123456789", "null null null", 3),
     ("01 1. .5 +1 - true e E", "01 1. .5 +1 - true e E", 0),
-    (
-        r#"{"a 1.0":1.0,"e\"2.0":[2.5]}"#,
-        r#"{"a 1.0":1,"e\"2.0":[null]}"#,
-        1,
-    ),
+    (r#"{"a 1.0":1.0,"e\"2.0":[2.5]}"#, r#"{"a 1.0":1,"e\"2.0":[null]}"#, 1),
     (r#""\\"1.0"1.0\"#, r#""\\"1"1.0\"#, 0),
 ];
 
@@ -219,21 +215,17 @@ fn members_are_found(rt: HostRuntime) {
     check_that(&rt, count_in(&map, "object").is_none(), "no list");
     check_that(&rt, members_in(&map, "object") == Some(1), "an object");
     check_that(&rt, members_in(&map, "list").is_none(), "no object");
-    check_that(
-        &rt,
+    let (twice, half) = (
         is_x(&rt, rt.alloc(), &map, "twice"),
-        "the last of both",
+        is_x(&rt, rt.alloc(), &map, "half"),
     );
-    check_that(&rt, !is_x(&rt, rt.alloc(), &map, "half"), "no words");
+    check_that(&rt, twice && !half, "the last of both, and no words");
 }
 
 #[test]
 fn values_are_written_compactly(rt: HostRuntime) {
     let value = json!(in rt.alloc(); {"b": [1, null, "x\"\n", []], "a": {"d": -7, "c": {}}});
     let text = write_value(rt.alloc(), &value.expect(&rt, "memory")).expect(&rt, "memory");
-    check(
-        &rt,
-        text.bytes(),
-        br#"{"a":{"c":{},"d":-7},"b":[1,null,"x\"\n",[]]}"#,
-    );
+    let expected = br#"{"a":{"c":{},"d":-7},"b":[1,null,"x\"\n",[]]}"#;
+    check(&rt, text.bytes(), expected);
 }

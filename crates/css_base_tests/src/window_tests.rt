@@ -14,47 +14,28 @@ const FAR: i128 = 21_267_647_932_558_653_966_460_912_964_485_513_215;
 /// The least and the greatest delay at which a plain scan looks for a bound of the generated windows.
 const SCANNED: (i64, i64) = (-200, 200);
 
-const FREE: Window = Window {
-    ups: 90_000,
-    own: 0,
-    earliest: None,
-    latest: None,
-};
+#[rattlefmt::skip]
+const FREE: Window = Window { ups: 90_000, own: 0, earliest: None, latest: None };
 
 /// From 40 ms on.
-const LATE: Window = Window {
-    earliest: Some(3_600_000_000_000),
-    ..FREE
-};
+#[rattlefmt::skip]
+const LATE: Window = Window { earliest: Some(3_600_000_000_000), ..FREE };
 
 /// Up to 30 ms.
-const SOON: Window = Window {
-    latest: Some(2_700_000_000_000),
-    ..FREE
-};
+#[rattlefmt::skip]
+const SOON: Window = Window { latest: Some(2_700_000_000_000), ..FREE };
 
 /// Only at a delay of 1.5 ns, which is no whole number.
-const BETWEEN: Window = Window {
-    ups: 2,
-    own: -3,
-    earliest: Some(0),
-    latest: Some(0),
-};
+#[rattlefmt::skip]
+const BETWEEN: Window = Window { ups: 2, own: -3, earliest: Some(0), latest: Some(0) };
 
 /// The greatest offsets: only at delay 0, and only from about 4 * 10^28 ns on.
-const FARTHEST: Window = Window {
-    ups: 1_000_000_000,
-    own: -FAR,
-    earliest: Some(FAR),
-    latest: Some(-FAR),
-};
+#[rattlefmt::skip]
+const FARTHEST: Window = Window { ups: 1_000_000_000, own: -FAR, earliest: Some(FAR), latest: Some(-FAR) };
 
 /// Up to the greatest delay.
-const AT_THE_TOP: Window = Window {
-    ups: 1,
-    own: -10_000_000_000,
-    ..BETWEEN
-};
+#[rattlefmt::skip]
+const AT_THE_TOP: Window = Window { ups: 1, own: -10_000_000_000, ..BETWEEN };
 
 #[test]
 fn the_least_delay_or_two_windows_are_told(rt: HostRuntime) {
@@ -184,9 +165,6 @@ fn chooses_what_a_scan_of_every_delay_finds(rt: HostRuntime) {
         let fits = compare(&rt, &windows, (word >> 50) as u32 % 40);
         fitting = fitting.wrapping_add(u32::from(fits));
     }
-    check_that(
-        &rt,
-        500 < fitting && fitting < 1500,
-        "about half of them fit",
-    );
+    let about_half = 500 < fitting && fitting < 1500;
+    check_that(&rt, about_half, "about half of them fit");
 }

@@ -10,10 +10,6 @@ mod crowd_tests;
 #[cfg(test)]
 mod crowds;
 #[cfg(test)]
-mod evening_tables;
-#[cfg(test)]
-mod follower_tests;
-#[cfg(test)]
 mod generated_tests;
 #[cfg(test)]
 mod line_tests;

@@ -1,5 +1,6 @@
 //! What `agree`, `audit` and `migrate` print, and what they refuse.
 
+use crate::live_tables::RECORD;
 use crate::running::{BLANK, Case, EXCHANGE, NO_MEMORY, Row, check_rows, check_run};
 use std::alloc::Global;
 use std::process::Abort;
@@ -70,22 +71,13 @@ fn answers_agree_or_are_refused(rt: HostRuntime) {
     check_lines(&rt, rt.alloc(), "agree", "", HEADERS);
 }
 
-/// The record of a companion that reported once, up to the turn of its second report. The texts are
-/// `{"timelines":null,"tsUrl":"ws://127.0.0.1:6678/ts","wcUrl":"udp://127.0.0.1:6677"}` and
-/// `{"contentTime":"900000","timelineSpeedMultiplier":1,"wallClockTime":"0"}`. The response to the request of reading 6
-/// was received at 5000 ns and sent at 5001 ns, with a precision of 1 ns.
-const BEGUN: &str = "\
-css-record 1 0 0 urn:dvb:css:timeline:pts -\nturn 0\ncii 7b2274696d656c696e6573223a6e756c6c2c227\
-47355726c223a2277733a2f2f3132372e302e302e313a363637382f7473222c22776355726c223a227564703a2f2f313\
-2372e302e302e313a36363737227d\nturn 5\nask 6\nland 8 0001e20000000000000000000000000600000000000\
-013880000000000001389\nts 7b22636f6e74656e7454696d65223a22393030303030222c2274696d656c696e655370\
-6565644d756c7469706c696572223a312c2277616c6c436c6f636b54696d65223a2230227d\nturn 10\nreport 1 ti\
-cks 900000 900000\nturn 20\n";
+/// The last line of the record.
+const LAST: &str = "report 2 ticks 900000 900000\n";
 
-/// What stands after the record that was begun.
+/// What stands in its place.
 #[rattlefmt::skip]
 const REPORTS: &[Lines] = &[
-    ("report 2 ticks 900000 900000\n", "done", "reports 2\n"),
+    (LAST, "done", "reports 2\n"),
     ("", "done", "reports 1\n"),
     ("report 2 ticks 900000 900001\n", "line 11: wrong report", ""),
     ("report 3 ticks 900000 900000\n", "line 11: wrong report", ""),
@@ -114,7 +106,9 @@ const NO_TEXT: Case<'static> = Case {
 
 #[test]
 fn reports_are_right_or_refused(rt: HostRuntime) {
-    check_lines(&rt, rt.alloc(), "audit", BEGUN, REPORTS);
+    let record = str::from_utf8(RECORD).unwrap_or("");
+    let begun = record.strip_suffix(LAST).expect(&rt, "a record");
+    check_lines(&rt, rt.alloc(), "audit", begun, REPORTS);
     check_lines(&rt, rt.alloc(), "audit", "", RECORDS);
     check_run(&rt, rt.alloc(), "bytes", &NO_TEXT, "line 2: form", b"");
 }
@@ -141,6 +135,7 @@ const EXCHANGES: &[Row] = &[
 #[rattlefmt::skip]
 const NO_FIRST: &[Lines] = &[
     ("", "line 1: form", ""),
+    ("1000 4800 1000 ask 1000\n", "line 1: form", ""),
     ("css-schedule 2 plain 0 -30 1\ncompanion 1 0 0 urn:dvb:css:timeline:pts -\n", "line 1: form", ""),
     (
         "css-schedule 1 follow 0 -30 0 0 s t\n1 2 3 wall 4\n5 6 7 walk 8\n9 9 9 wall 9\n", "line 3: form",

@@ -7,29 +7,6 @@ use crate::running::{BLANK, Case, Row};
 pub const RESPONSE: &[u8] =
     b"\0\x01\xe2\0\0\0\0\0\0\0\0\0\0\0\0\x06\0\0\0\0\0\0\x13\x88\0\0\0\0\0\0\x13\x89";
 
-/// The response and one more byte.
-const LONG: &[u8] =
-    b"\0\x01\xe2\0\0\0\0\0\0\0\0\0\0\0\0\x06\0\0\0\0\0\0\x13\x88\0\0\0\0\0\0\x13\x89\0";
-
-/// Its first 31 bytes.
-const CUT: &[u8] = b"\0\x01\xe2\0\0\0\0\0\0\0\0\0\0\0\0\x06\0\0\0\0\0\0\x13\x88\0\0\0\0\0\0\x13";
-
-/// A response to a request of the reading 7, which was never made.
-const OF_ANOTHER: &[u8] =
-    b"\0\x01\xe2\0\0\0\0\0\0\0\0\0\0\0\0\x07\0\0\0\0\0\0\x13\x88\0\0\0\0\0\0\x13\x89";
-
-/// A request with the same values.
-const REQUEST: &[u8] =
-    b"\0\0\xe2\0\0\0\0\0\0\0\0\0\0\0\0\x06\0\0\0\0\0\0\x13\x88\0\0\0\0\0\0\x13\x89";
-
-/// The transmit value is 6000, long after the landing.
-const IMPOSSIBLE: &[u8] =
-    b"\0\x01\xe2\0\0\0\0\0\0\0\0\0\0\0\0\x06\0\0\0\0\0\0\x13\x88\0\0\0\0\0\0\x17\x70";
-
-/// A response to the request of the reading 12, with the receive value 6000 and the transmit value 6001.
-const AFTER_SLEEP: &[u8] =
-    b"\0\x01\xe2\0\0\0\0\0\0\0\0\0\0\0\0\x0c\0\0\0\0\0\0\x17\x70\0\0\0\0\0\0\x17\x71";
-
 pub const CII: &str =
     "{\"timelines\":null,\"tsUrl\":\"ws://127.0.0.1:6678/ts\",\"wcUrl\":\"udp://127.0.0.1:6677\"}";
 
@@ -98,6 +75,8 @@ const FIRST: &[u8] = b"1 ticks 900000 900000\n";
 
 const FIRST_NONE: &[u8] = b"1 none NoAnswer\n";
 
+const NONE: &[u8] = b"1 none NoAnswer\n2 none NoAnswer\n";
+
 const FOLLOWED: &[u8] =
     b"1 ticks 900000 900000\ncue start passed\nwidth 0\n2 ticks 900000 900000\n";
 
@@ -116,7 +95,7 @@ pub const COMPANIONS: &[Row] = &[
 ];
 
 /// Three readings, each a second after the one before.
-const SECONDS: World = World {
+pub const SECONDS: World = World {
     times: &[0, 1_000_000_000, 2_000_000_000],
     ..SILENT
 };
@@ -202,47 +181,6 @@ pub const FAILING: &[(&[u64], &str, &[u8])] = &[
     (&[19, 20], "net fault", TWO),
 ];
 
-const NONE: &[u8] = b"1 none NoAnswer\n2 none NoAnswer\n";
-
-const UNREADABLE: &[u8] = b"1 none Unreadable NotJson\n2 none Unreadable NotJson\n";
-
-const UNTIMED: &[u8] = b"1 none NoTimestamp\n2 none NoTimestamp\n";
-
-const LATER: &[u8] = b"1 none NoAnswer\n2 ticks 900000 900000\n";
-
-const CUT_TS: &[(u32, Said)] = &[
-    (1, Said::Text(CII)),
-    (2, Said::Text("{\"contentTime\":\"9000")),
-];
-
-const CLOSED: &[(u32, Said)] = &[(1, Said::Text(CII)), (2, Said::Closed)];
-
-const CUT_CII: &[(u32, Said)] = &[(1, Said::Text("{\"timelines\":null,\""))];
-
-/// After a sleep another request is answered.
-const ASKED_AGAIN: World = World {
-    times: &[0, 5, 6, 8, 10, 12, 14, 20],
-    slept: &[10],
-    datagrams: &[RESPONSE, AFTER_SLEEP],
-    ..ANSWERED
-};
-
-/// Another datagram, another text, or a sleep.
-#[rattlefmt::skip]
-pub const CHANGED: &[Row] = &[
-    ("one more byte", Case { world: World { datagrams: &[LONG], ..ANSWERED }, ..COMPANION }, "done", NONE),
-    ("31 bytes", Case { world: World { datagrams: &[CUT], ..ANSWERED }, ..COMPANION }, "done", NONE),
-    ("another request", Case { world: World { datagrams: &[OF_ANOTHER], ..ANSWERED }, ..COMPANION }, "done", NONE),
-    ("a request comes back", Case { world: World { datagrams: &[REQUEST], ..ANSWERED }, ..COMPANION }, "done", NONE),
-    ("an impossible answer", Case { world: World { datagrams: &[IMPOSSIBLE], ..ANSWERED }, ..COMPANION }, "done", NONE),
-    ("a cut control timestamp", Case { world: World { texts: CUT_TS, ..ANSWERED }, ..COMPANION }, "done", UNREADABLE),
-    ("TS is closed", Case { world: World { texts: CLOSED, ..ANSWERED }, ..COMPANION }, "done", UNTIMED),
-    ("a cut CII text", Case { world: World { texts: CUT_CII, ..ANSWERED }, ..COMPANION }, "cii text 1: not json", b""),
-    ("asleep at a turn", Case { world: World { slept: &[10], ..ANSWERED }, ..COMPANION }, "done", NONE),
-    ("asleep at landing", Case { world: World { slept: &[8], ..ANSWERED }, ..COMPANION }, "done", NONE),
-    ("a sleep and a request", Case { world: ASKED_AGAIN, ..COMPANION }, "done", LATER),
-];
-
 pub const LIST: &[(u32, Said)] = &[(1, Said::Text("[]"))];
 
 const NO_URL: &[(u32, Said)] = &[(1, Said::Text("{\"wcUrl\":\"http://h/\"}"))];
@@ -275,8 +213,9 @@ const SHORT: Case<'static> = Case {
     ..BLANK
 };
 
-/// The record of the run of two intervals, as a program of another language spells it.
-const RECORD: &[u8] = b"css-record 1 0 0 urn:dvb:css:timeline:pts -\nturn 0\n\
+/// The record of the run of two intervals, as a program of another language spells it. Its texts are [`CII`] and
+/// [`TS`].
+pub const RECORD: &[u8] = b"css-record 1 0 0 urn:dvb:css:timeline:pts -\nturn 0\n\
 cii 7b2274696d656c696e6573223a6e756c6c2c22747355726c223a2277733a2f2f3132372e302e302e313a363637382f7473222c2277\
 6355726c223a227564703a2f2f3132372e302e302e313a36363737227d\nturn 5\nask 6\n\
 land 8 0001e20000000000000000000000000600000000000013880000000000001389\n\

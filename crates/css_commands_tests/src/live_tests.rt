@@ -1,21 +1,15 @@
 //! The live commands over devices in memory.
 
-use crate::live_tables::{
-    CHANGED, COMPANIONS, EARLY, FAILING, PAIR, PAIRS, RECORDS, TELEVISIONS, TIMED,
-};
+use crate::live_tables::{COMPANIONS, EARLY, FAILING, PAIR, PAIRS, RECORDS, TELEVISIONS, TIMED};
 use crate::running::{Case, NO_MEMORY, check_rows, check_run};
 use std::alloc::Global;
 use std::process::Abort;
 
 #[test]
 fn each_run_ends_as_it_should(rt: HostRuntime) {
-    check_rows(&rt, rt.alloc(), COMPANIONS);
-    check_rows(&rt, rt.alloc(), CHANGED);
-    check_rows(&rt, rt.alloc(), EARLY);
-    check_rows(&rt, rt.alloc(), TELEVISIONS);
-    check_rows(&rt, rt.alloc(), PAIRS);
-    check_rows(&rt, rt.alloc(), RECORDS);
-    check_rows(&rt, rt.alloc(), TIMED);
+    for rows in [COMPANIONS, EARLY, TELEVISIONS, PAIRS, RECORDS, TIMED] {
+        check_rows(&rt, rt.alloc(), rows);
+    }
 }
 
 fn check_fails(rt: &impl Abort, alloc: Global, calls: &[u64], ended: &str, printed: &[u8]) {

@@ -1,64 +1,43 @@
 //! Replays of schedules.
 
-use crate::replay_tables::{PLAIN, SECOND, SESSIONS};
+use crate::replay_tables::{AT_ONCE, FIRST, REFUSED, REFUSED_SECOND, SECOND, SHORT, TICKS};
 use crate::running::{BLANK, Case, EXCHANGE, NO_MEMORY, Row, check_rows, check_run};
 use std::alloc::Global;
 use std::process::Abort;
 
-/// The name of a row, how its replay ends, its schedule, and what is printed.
-fn replay_of(row: &str) -> Option<(&str, &str, &str, &str)> {
+/// How the replay of a row ends, its schedule, and what is printed.
+fn replay_of(row: &str) -> Option<(&str, &str, &str)> {
     let (head, rest) = row.split_once('\n')?;
-    let (name, ended) = head.split_once(" => ")?;
+    let (_, ended) = head.split_once("=> ")?;
     let (schedule, printed) = rest.split_once("> ").unwrap_or((rest, ""));
-    Some((name, ended, schedule, printed))
+    Some((ended, schedule, printed))
 }
 
-/// In whole pieces and byte by byte.
 fn check_replay(rt: &impl Abort, alloc: Global, row: &str) {
-    let (name, ended, schedule, printed) = replay_of(row).expect(rt, "a row without its parts");
-    for piece in [4096, 1] {
-        let case = Case {
-            words: "replay",
-            input: schedule.as_bytes(),
-            piece,
-            ..BLANK
-        };
-        check_run(rt, alloc, name, &case, ended, printed.as_bytes());
-    }
-}
-
-/// What is short for what in a table.
-const ABBREVIATIONS: [(&str, &str); 5] = [
-    (
-        "~",
-        "css-schedule 1 plain 0 -30 0 0 urn:dvb:css:timeline:pts -",
-    ),
-    ("^", "css-schedule 1 plain 0 -30 0 0 urn:x -"),
-    ("@", "0 10000000000 0"),
-    ("; ", "\n"),
-    (" | ", "\n"),
-];
-
-fn spelled(rt: &impl Abort, alloc: Global, table: &str) -> String {
-    let mut text = table.to_string(alloc).expect(rt, NO_MEMORY);
-    for (short, whole) in &ABBREVIATIONS {
-        text = text.replace(alloc, short, whole).expect(rt, NO_MEMORY);
-    }
-    text
+    let (ended, schedule, printed) = replay_of(row).expect(rt, "a row without its parts");
+    let case = Case {
+        words: "replay",
+        input: schedule.as_bytes(),
+        ..BLANK
+    };
+    check_run(rt, alloc, row, &case, ended, printed.as_bytes());
 }
 
 fn check_table(rt: &impl Abort, alloc: Global, table: &str) {
-    let table = spelled(rt, alloc, table);
-    for row in table.split("# ").skip(1) {
+    let mut text = table.to_string(alloc).expect(rt, NO_MEMORY);
+    for (short, whole) in &SHORT {
+        text = text.replace(alloc, short, whole).expect(rt, NO_MEMORY);
+    }
+    for row in text.split("# ").skip(1) {
         check_replay(rt, alloc, row);
     }
 }
 
 #[test]
 fn each_schedule_prints_what_it_should(rt: HostRuntime) {
-    check_table(&rt, rt.alloc(), PLAIN);
-    check_table(&rt, rt.alloc(), SECOND);
-    check_table(&rt, rt.alloc(), SESSIONS);
+    for table in [FIRST, TICKS, SECOND, REFUSED, REFUSED_SECOND, AT_ONCE] {
+        check_table(&rt, rt.alloc(), table);
+    }
 }
 
 /// Devices that fail in mid-stream.

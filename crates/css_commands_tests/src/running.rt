@@ -84,19 +84,15 @@ fn status_of<S: Source, K: Sink, O: Outside, P: Spawner, F: Listens>(
 /// What is told when memory runs out.
 pub const NO_MEMORY: &str = "no memory";
 
-/// Makes a run with these followers. Its status in words, and what it printed.
-pub fn run_with<F: Listens>(
-    rt: &impl Abort,
-    alloc: Global,
-    case: &Case<'_>,
-    followers: &mut F,
-) -> (String, Vec<u8>) {
+/// Makes a run with the followers of the program. Its status in words, and what it printed.
+fn run_case(rt: &impl Abort, alloc: Global, case: &Case<'_>) -> (String, Vec<u8>) {
     let piece = case.piece.max(1);
     let mut source = MemorySource::new(alloc, case.input, piece, case.reads).expect(rt, NO_MEMORY);
     let mut sink = MemorySink::new(alloc, piece, case.writes).expect(rt, NO_MEMORY);
     let script = script_of(rt, alloc, &case.world, case.calls);
     let mut outside = MemoryOutside::new(alloc, script).expect(rt, NO_MEMORY);
     let mut spawner = MemorySpawner::new(alloc, case.children, case.spawns).expect(rt, NO_MEMORY);
+    let (first, second) = (Cues::new(alloc), Meter::new(alloc));
     let status = status_of(
         alloc,
         &words_of(rt, alloc, case.words),
@@ -104,30 +100,30 @@ pub fn run_with<F: Listens>(
         &mut sink,
         &mut outside,
         &mut spawner,
-        followers,
+        &mut before(first, before(second, Nobody)),
     );
     let ended = format!(in alloc; "{status}").expect(rt, NO_MEMORY);
     (ended, sink.bytes().to_vec(alloc).expect(rt, NO_MEMORY))
 }
 
-/// Makes a run with the followers of the program.
-fn run_case(rt: &impl Abort, alloc: Global, case: &Case<'_>) -> (String, Vec<u8>) {
-    let mut followers = Before {
-        first: Cues::new(alloc),
-        rest: Before {
-            first: Meter::new(alloc),
-            rest: Nobody,
-        },
-    };
-    run_with(rt, alloc, case, &mut followers)
+fn before<F, R>(first: F, rest: R) -> Before<F, R> {
+    Before { first, rest }
 }
 
-/// What was told or printed is this.
+fn text_of(bytes: &[u8]) -> &str {
+    str::from_utf8(bytes).unwrap_or("bytes that aren't UTF-8")
+}
+
+/// What was printed is this.
 pub fn check(rt: &impl Abort, told: &[u8], expected: &[u8], name: &str) {
-    assert!(rt; told == expected, "{name}: {told:?} and not {expected:?}");
+    let (text, wanted) = (text_of(told), text_of(expected));
+    assert!(rt;
+        told == expected,
+        "{name}: printed\n{text}\nand not\n{wanted}"
+    );
 }
 
-/// Makes a run, which leaves this.
+/// Makes a run, which ends so and prints this.
 pub fn check_run(
     rt: &impl Abort,
     alloc: Global,
@@ -136,9 +132,12 @@ pub fn check_run(
     ended: &str,
     printed: &[u8],
 ) {
-    let (told, output) = run_case(rt, alloc, case);
-    check(rt, told.as_bytes(), ended.as_bytes(), name);
-    check(rt, &output, printed, name);
+    let (status, output) = run_case(rt, alloc, case);
+    let (words, text, wanted) = (case.words, text_of(&output), text_of(printed));
+    assert!(rt;
+        status.as_str() == ended && output.as_slice() == printed,
+        "{name}: {words}: {status} and not {ended}: printed\n{text}\nand not\n{wanted}"
+    );
 }
 
 /// Makes the run of each row.

@@ -1,17 +1,12 @@
 //! Watches: what comes from outside, and the lines that tell it.
 
-use crate::evening_tables::{EVENING, EVENING_TOLD};
-use crate::live_tables::{ANSWERED, CII, RESPONSE, TS};
+use crate::live_tables::{ANSWERED, CII, RESPONSE, SECONDS, TS};
 use crate::outside::{SILENT, Said, World};
 use crate::running::{BLANK, Case};
 
 /// A name, a watch, its status in words, and its lines.
-pub type WatchRow = (
-    &'static str,
-    Case<'static>,
-    &'static str,
-    &'static [&'static str],
-);
+#[rattlefmt::skip]
+pub type WatchRow = (&'static str, Case<'static>, &'static str, &'static [&'static str]);
 
 /// A response to the request of the reading 26, with the receive value 6000 and the transmit value 6001.
 const LATER_RESPONSE: &[u8] =
@@ -34,24 +29,22 @@ const OTHER_WC: &str = r#"{"wcUrl":"udp://127.0.0.1:7000"}"#;
 
 // ---- lines
 
-pub const VISIT: &str = r#"{"event":"visit","number":1,"reading":"0"}"#;
+const VISIT: &str = r#"{"event":"visit","number":1,"reading":"0"}"#;
 
 const CII_FAILED: &str = r#"{"event":"dial","outcome":"failed","service":"CII"}"#;
 
-pub const CII_OPEN: &str = r#"{"event":"dial","outcome":"open","service":"CII"}"#;
+const CII_OPEN: &str = r#"{"event":"dial","outcome":"open","service":"CII"}"#;
 
-pub const WC_OPEN: &str = r#"{"event":"dial","outcome":"open","service":"WC"}"#;
+const WC_OPEN: &str = r#"{"event":"dial","outcome":"open","service":"WC"}"#;
 
-pub const TS_OPEN: &str = r#"{"event":"dial","outcome":"open","service":"TS"}"#;
+const TS_OPEN: &str = r#"{"event":"dial","outcome":"open","service":"TS"}"#;
 
 /// The state without the last two of its properties.
+#[rattlefmt::skip]
 macro_rules! state {
     ($rest:literal) => {
-        concat!(
-            r#"{"event":"state","state":{"contentId":null,"contentIdStatus":null,"mrsUrl":null,"#,
-            r#""presentationStatus":null,"protocolVersion":null,"teUrl":null,"timelines":null,"#,
-            $rest
-        )
+        concat!(r#"{"event":"state","state":{"contentId":null,"contentIdStatus":null,"mrsUrl":null,"#,
+            r#""presentationStatus":null,"protocolVersion":null,"teUrl":null,"timelines":null,"#, $rest)
     };
 }
 
@@ -61,39 +54,60 @@ const STATE_WC: &str = state!(r#""tsUrl":null,"wcUrl":"udp://127.0.0.1:6677"}}"#
 
 const STATE_OTHER_WC: &str = state!(r#""tsUrl":null,"wcUrl":"udp://127.0.0.1:7000"}}"#);
 
-pub const STATE_BOTH: &str = state!(
-    r#""tsUrl":"ws://127.0.0.1:6678/ts","wcUrl":"udp://127.0.0.1:6677"}}"#
-);
+#[rattlefmt::skip]
+const STATE_BOTH: &str = state!(r#""tsUrl":"ws://127.0.0.1:6678/ts","wcUrl":"udp://127.0.0.1:6677"}}"#);
 
-const CONTROL: &str = concat!(
-    r#"{"control":{"contentTime":"900000","timelineSpeedMultiplier":1,"wallClockTime":"0"},"#,
-    r#""event":"control"}"#
-);
+/// The line of a control timestamp.
+#[rattlefmt::skip]
+macro_rules! control {
+    ($content:literal, $speed:literal, $wall:literal) => {
+        concat!(r#"{"control":{"contentTime":""#, $content, r#"","timelineSpeedMultiplier":"#, $speed,
+            r#","wallClockTime":""#, $wall, r#""},"event":"control"}"#)
+    };
+}
+
+const CONTROL: &str = control!("900000", "1", "0");
+
+/// The line of an answer.
+#[rattlefmt::skip]
+macro_rules! answer {
+    ($error:literal, $precision:literal, $landed:literal, $originate:literal, $receive:literal, $transmit:literal,
+        $width:literal) => {
+        concat!(r#"{"error":"#, $error, r#","event":"answer","landed":""#, $landed, r#"","originate":""#, $originate,
+            r#"","precision":""#, $precision, r#"","receive":""#, $receive, r#"","transmit":""#, $transmit,
+            r#"","type":1,"width":""#, $width, r#""}"#)
+    };
+}
 
 /// The response of the reading 6 lands at 8.
-const ANSWER: &str = concat!(
-    r#"{"error":0,"event":"answer","landed":"8","originate":"6","precision":"1","receive":"5000","#,
-    r#""transmit":"5001","type":1,"width":"7"}"#
-);
+const ANSWER: &str = answer!("0", "1", "8", "6", "5000", "5001", "7");
+
+/// A report with these ticks, and with this wall clock.
+#[rattlefmt::skip]
+macro_rules! known {
+    ($error:literal, $number:literal, $reading:literal, $speed:literal, $ticks:literal, $wall:literal) => {
+        concat!(r#"{"error":"#, $error, r#","event":"report","number":"#, $number,
+            r#","rate":{"unitsPerSecond":90000,"unitsPerTick":1},"reading":""#, $reading, r#"","speed":"#, $speed,
+            r#","ticks":["#, $ticks, r#"],"wall":["#, $wall, "]}")
+    };
+}
 
 /// The report of the reading 10.
-const REPORT: &str = concat!(
-    r#"{"error":0,"event":"report","number":1,"rate":{"unitsPerSecond":90000,"unitsPerTick":1},"#,
-    r#""reading":"10","speed":1,"ticks":["900000","900000"],"wall":["5000","5007"]}"#
+const REPORT: &str = known!(
+    "0",
+    "1",
+    "10",
+    "1",
+    r#""900000","900000""#,
+    r#""5000","5007""#
 );
 
-/// A report without ticks at a reading in seconds.
+/// A report without ticks.
+#[rattlefmt::skip]
 macro_rules! no_answer {
-    ($number:literal, $seconds:literal, $detail:literal) => {
-        concat!(
-            r#"{"cause":"NoAnswer","detail":""#,
-            $detail,
-            r#"","event":"report","number":"#,
-            $number,
-            r#","reading":""#,
-            $seconds,
-            r#"000000000"}"#
-        )
+    ($number:literal, $reading:literal, $detail:literal) => {
+        concat!(r#"{"cause":"NoAnswer","detail":""#, $detail, r#"","event":"report","number":"#, $number,
+            r#","reading":""#, $reading, r#""}"#)
     };
 }
 
@@ -102,10 +116,7 @@ macro_rules! no_answer {
 /// A watch of two seconds, to which nothing comes.
 const WATCH: Case<'static> = Case {
     words: "watch --cii ws://127.0.0.1:6677/cii --seconds 2 --local-error 0 --local-precision 0",
-    world: World {
-        times: &[0, 1_000_000_000, 2_000_000_000],
-        ..SILENT
-    },
+    world: SECONDS,
     ..BLANK
 };
 
@@ -117,31 +128,25 @@ const SECOND: Case<'static> = Case {
 
 /// A watch of a second, with a report every 10 ns.
 const OFTEN: Case<'static> = Case {
-    words: "watch --cii ws://127.0.0.1:6677/cii --seconds 1 --report-every 10 --local-error 0 \
---local-precision 0",
+    words: "watch --cii ws://127.0.0.1:6677/cii --seconds 1 --report-every 10 --local-error 0 --local-precision 0",
     ..BLANK
 };
 
 /// A watch of a second that asks every 1000 ns.
 const ASKING: Case<'static> = Case {
-    words: "watch --cii ws://127.0.0.1:6677/cii --seconds 1 --ask-every 1000 --local-error 0 \
---local-precision 0",
+    words: "watch --cii ws://127.0.0.1:6677/cii --seconds 1 --ask-every 1000 --local-error 0 --local-precision 0",
     ..BLANK
 };
 
 const TELLS_NO_WC: World = World {
-    times: &[0, 1_000_000_000, 2_000_000_000],
     texts: &[(1, Said::Text("{}"))],
-    ..SILENT
+    ..SECONDS
 };
 
+#[rattlefmt::skip]
 const MOVES: World = World {
     times: &[0, 5, 6, 10, 20, 21, 1_000_000_000],
-    texts: &[
-        (1, Said::Text(WC_TOLD)),
-        (1, Said::Text(OTHER_WC)),
-        (2, Said::Text(OTHER_WC)),
-    ],
+    texts: &[(1, Said::Text(WC_TOLD)), (1, Said::Text(OTHER_WC)), (2, Said::Text(OTHER_WC))],
     ..SILENT
 };
 
@@ -165,235 +170,146 @@ const SLEEPS: World = World {
 };
 
 /// Three requests are made, and no answer comes.
-pub const ASKS: Case<'static> = Case {
+#[rattlefmt::skip]
+const ASKS: Case<'static> = Case {
     words: "watch --cii ws://127.0.0.1:6677/cii --seconds 4",
     world: World {
-        times: &[
-            0,
-            1_000_000_000,
-            1_000_000_000,
-            2_000_000_000,
-            2_000_000_000,
-            3_000_000_000,
-            3_000_000_000,
-            4_000_000_000,
-        ],
+        times: &[0, 1_000_000_000, 1_000_000_000, 2_000_000_000, 2_000_000_000, 3_000_000_000, 3_000_000_000,
+            4_000_000_000],
         texts: &[(1, Said::Text(WC_TOLD))],
         ..SILENT
     },
     ..BLANK
 };
 
-/// The lines of this watch.
-pub const ASKED: &[&str] = &[
-    VISIT,
-    CII_OPEN,
-    STATE_WC,
-    no_answer!("1", "1", "WC isn't open"),
-    WC_OPEN,
-    no_answer!("2", "2", "no response to 1 requests"),
-    no_answer!("3", "3", "no response to 2 requests"),
-    no_answer!("4", "4", "no response to 3 requests"),
-];
-
 /// The TS session closes after the first report. The second visit ends with the watch.
+#[rattlefmt::skip]
 pub const CLOSES: Case<'static> = Case {
     world: World {
         times: &[0, 5, 6, 8, 10, 20, 25, 26, 28, 30, 1_000_000_000],
         slept: &[],
         datagrams: &[RESPONSE, NONE, LATER_RESPONSE],
-        texts: &[
-            (1, Said::Text(CII)),
-            (2, Said::Text(TS)),
-            (2, Said::Closed),
-            (3, Said::Text(CII)),
-            (4, Said::Text(TS)),
-        ],
+        texts: &[(1, Said::Text(CII)), (2, Said::Text(TS)), (2, Said::Closed), (3, Said::Text(CII)),
+            (4, Said::Text(TS))],
     },
     ..OFTEN
 };
 
 /// The lines of this watch.
+#[rattlefmt::skip]
 pub const CLOSED: &[&str] = &[
-    VISIT,
-    CII_OPEN,
-    STATE_BOTH,
-    WC_OPEN,
-    TS_OPEN,
-    ANSWER,
-    CONTROL,
-    REPORT,
+    VISIT, CII_OPEN, STATE_BOTH, WC_OPEN, TS_OPEN, ANSWER, CONTROL, REPORT,
     r#"{"event":"end","number":1,"why":"closed TS"}"#,
     r#"{"event":"visit","number":2,"reading":"20"}"#,
-    r#"{"cause":"NoAnswer","detail":"CII isn't open","event":"report","number":2,"reading":"20"}"#,
-    CII_OPEN,
-    STATE_BOTH,
-    WC_OPEN,
-    TS_OPEN,
-    concat!(
-        r#"{"error":0,"event":"answer","landed":"28","originate":"26","precision":"1","#,
-        r#""receive":"6000","transmit":"6001","type":1,"width":"7"}"#
-    ),
+    no_answer!("2", "20", "CII isn't open"),
+    CII_OPEN, STATE_BOTH, WC_OPEN, TS_OPEN,
+    answer!("0", "1", "28", "26", "6000", "6001", "7"),
     CONTROL,
-    concat!(
-        r#"{"error":0,"event":"report","number":3,"rate":{"unitsPerSecond":90000,"unitsPerTick":1},"#,
-        r#""reading":"30","speed":1,"ticks":["900000","900000"],"wall":["6000","6007"]}"#
-    ),
-    concat!(
-        r#"{"error":0,"event":"report","number":4,"rate":{"unitsPerSecond":90000,"unitsPerTick":1},"#,
-        r#""reading":"1000000000","speed":1,"ticks":["990000","990000"],"#,
-        r#""wall":["1000005970","1000005977"]}"#
-    ),
+    known!("0", "3", "30", "1", r#""900000","900000""#, r#""6000","6007""#),
+    known!("0", "4", "1000000000", "1", r#""990000","990000""#, r#""1000005970","1000005977""#),
 ];
 
 /// Calls of the outside in this watch, and how many lines are written where one of them fails.
+#[rattlefmt::skip]
 pub const FAILING: &[(&[u64], usize)] = &[
-    (&[1], 0),
-    (&[3], 2),
-    (&[4], 3),
-    (&[7, 8, 9, 10, 11], 5),
-    (&[12, 13], 6),
-    (&[14], 7),
-    (&[15, 16, 17], 8),
-    (&[18, 19], 9),
-    (&[21], 12),
-    (&[22], 13),
-    (&[25, 26, 27, 28, 29], 15),
-    (&[30, 31], 16),
-    (&[32], 17),
-    (&[33, 34, 35, 36], 18),
-    (&[37, 38], 19),
+    (&[1], 0), (&[3], 2), (&[4], 3), (&[7, 8, 9, 10, 11], 5), (&[12, 13], 6), (&[14], 7), (&[15, 16, 17], 8),
+    (&[18, 19], 9), (&[21], 12), (&[22], 13), (&[25, 26, 27, 28, 29], 15), (&[30, 31], 16), (&[32], 17),
+    (&[33, 34, 35, 36], 18), (&[37, 38], 19),
 ];
 
+// ---- the evening of `examples/evening.schedule`: the same times at both ends, and the same ticks
+
+/// The television declares 12,800 of 1/256 ppm and 2^-20 s. The request of 12 ms was received at 5.013 s and answered
+/// 200 µs later.
+const FIRST_ANSWER: &[u8] =
+    b"\0\x01\xec\0\0\0\x32\0\0\0\0\0\0\xb7\x1b\0\0\0\0\x05\0\xc6]@\0\0\0\x05\0\xc9j\x80";
+
+/// The request of 30 ms was received at 5.0305 s and answered 100 µs later.
+const SECOND_ANSWER: &[u8] =
+    b"\0\x01\xec\0\0\0\x32\0\0\0\0\0\x01\xc9\xc3\x80\0\0\0\x05\x01\xd1d\xa0\0\0\0\x05\x01\xd2\xeb@";
+
+const BEGINS: &str =
+    r#"{"contentTime":"900000","timelineSpeedMultiplier":1,"wallClockTime":"5000000000"}"#;
+
+const PAUSES: &str =
+    r#"{"contentTime":"901800","timelineSpeedMultiplier":0,"wallClockTime":"5020000000"}"#;
+
+const RESUMES: &str =
+    r#"{"contentTime":"6300000","timelineSpeedMultiplier":1,"wallClockTime":"5024000000"}"#;
+
+/// A report is due each millisecond. The first response is lost. The clock reads at each turn, request and landing.
+#[rattlefmt::skip]
+const EVENING: Case<'static> = Case {
+    words: "watch --cii ws://127.0.0.1:6677/cii --seconds 1 --report-every 1000000 --ask-every 400000 \
+--local-error 12800 --local-precision 1000",
+    world: World {
+        times: &[
+            0, 500_000, 600_000, 1_000_000, 12_000_000, 14_000_000, 14_000_000, 14_000_000, 21_000_000, 21_000_000,
+            22_000_000, 30_000_000, 31_000_000, 31_000_000, 31_000_000, 1_000_000_000,
+        ],
+        slept: &[],
+        datagrams: &[NONE, FIRST_ANSWER, NONE, NONE, SECOND_ANSWER],
+        texts: &[(1, Said::Text(CII)), (2, Said::Text(BEGINS)), (2, Said::Text(BEGINS)), (2, Said::Text(BEGINS)),
+            (2, Said::Text(PAUSES)), (2, Said::Text(RESUMES)), (2, Said::Closed)],
+    },
+    ..BLANK
+};
+
+/// The lines of this watch.
+#[rattlefmt::skip]
+const EVENING_TOLD: &[&str] = &[
+    VISIT, CII_OPEN, STATE_BOTH, WC_OPEN, TS_OPEN,
+    control!("900000", "1", "5000000000"),
+    no_answer!("1", "1000000", "no response to 1 requests"),
+    answer!("12800", "954", "14000000", "12000000", "5013000000", "5013200000", "1806113"),
+    control!("900000", "1", "5000000000"),
+    known!("12800", "2", "14000000", "1", r#""901187","901350""#, r#""5013197044","5015003157""#),
+    control!("900000", "1", "5000000000"),
+    known!("12800", "3", "21000000", "1", r#""901817","901980""#, r#""5020196344","5022003857""#),
+    control!("901800", "0", "5020000000"),
+    known!("12800", "4", "22000000", "0", r#""901800","901800""#, r#""5021196244","5023003957""#),
+    answer!("12800", "954", "31000000", "30000000", "5030500000", "5030600000", "906013"),
+    control!("6300000", "1", "5024000000"),
+    known!("12800", "5", "31000000", "1", r#""6300593","6300675""#, r#""5030597044","5031503057""#),
+    r#"{"event":"end","number":1,"why":"closed TS"}"#,
+    r#"{"event":"visit","number":2,"reading":"1000000000"}"#,
+    no_answer!("6", "1000000000", "CII isn't open"),
+];
+
+// ---- all
+
 /// Watches of what a television may do.
+#[rattlefmt::skip]
 pub const WATCHES: &[WatchRow] = &[
-    (
-        "every dial fails",
-        Case {
-            calls: &[2, 4],
-            ..WATCH
-        },
-        "unreachable after 3 turns",
-        &[
-            VISIT,
-            CII_FAILED,
-            no_answer!("1", "1", "CII isn't open"),
-            no_answer!("2", "2", "CII isn't open"),
-        ],
-    ),
-    (
-        "no wcUrl",
-        Case {
-            world: TELLS_NO_WC,
-            ..WATCH
-        },
-        "no interval in 2 reports",
-        &[
-            VISIT,
-            CII_OPEN,
-            STATE_NONE,
-            no_answer!("1", "1", "no wcUrl"),
-            no_answer!("2", "2", "no wcUrl"),
-        ],
-    ),
-    (
-        "three requests and no answer",
-        ASKS,
-        "no interval in 4 reports",
-        ASKED,
-    ),
+    ("every dial fails", Case { calls: &[2, 4], ..WATCH }, "unreachable after 3 turns",
+        &[VISIT, CII_FAILED, no_answer!("1", "1000000000", "CII isn't open"),
+            no_answer!("2", "2000000000", "CII isn't open")]),
+    ("no wcUrl", Case { world: TELLS_NO_WC, ..WATCH }, "no interval in 2 reports",
+        &[VISIT, CII_OPEN, STATE_NONE, no_answer!("1", "1000000000", "no wcUrl"),
+            no_answer!("2", "2000000000", "no wcUrl")]),
+    ("three requests and no answer", ASKS, "no interval in 4 reports",
+        &[VISIT, CII_OPEN, STATE_WC, no_answer!("1", "1000000000", "WC isn't open"), WC_OPEN,
+            no_answer!("2", "2000000000", "no response to 1 requests"),
+            no_answer!("3", "3000000000", "no response to 2 requests"),
+            no_answer!("4", "4000000000", "no response to 3 requests")]),
     ("the TS session closes", CLOSES, "done", CLOSED),
-    (
-        "another wcUrl",
-        Case {
-            world: MOVES,
-            ..SECOND
-        },
-        "no interval in 1 reports",
-        &[
-            VISIT,
-            CII_OPEN,
-            STATE_WC,
-            WC_OPEN,
-            r#"{"event":"end","number":1,"why":"moved wcUrl"}"#,
-            r#"{"event":"visit","number":2,"reading":"10"}"#,
-            CII_OPEN,
-            STATE_OTHER_WC,
-            WC_OPEN,
-            no_answer!("1", "1", "no response to 1 requests"),
-        ],
-    ),
-    (
-        "no object",
-        Case {
-            world: NO_OBJECT,
-            ..SECOND
-        },
-        "no interval in 1 reports",
-        &[
-            VISIT,
-            CII_OPEN,
-            r#"{"event":"end","number":1,"why":"CII text 1: not object"}"#,
-            r#"{"event":"visit","number":2,"reading":"1"}"#,
-            CII_OPEN,
-            STATE_NONE,
-            no_answer!("1", "1", "no wcUrl"),
-        ],
-    ),
-    (
-        "the wall clock is set",
-        Case {
-            world: DISAGREES,
-            ..ASKING
-        },
-        "no interval in 1 reports",
-        &[
-            VISIT,
-            CII_OPEN,
-            STATE_WC,
-            WC_OPEN,
-            concat!(
-                r#"{"error":0,"event":"answer","landed":"100","originate":"0","precision":"1","#,
-                r#""receive":"5000","transmit":"5000","type":1,"width":"106"}"#
-            ),
-            concat!(
-                r#"{"error":0,"event":"answer","landed":"1100","originate":"1000","precision":"1","#,
-                r#""receive":"9000","transmit":"9000","type":1,"width":"106"}"#
-            ),
-            r#"{"event":"end","number":1,"why":"disagree"}"#,
-            r#"{"event":"visit","number":2,"reading":"1000000000"}"#,
-            no_answer!("1", "1", "CII isn't open"),
-        ],
-    ),
-    (
-        "a sleep between two reports",
-        Case {
-            world: SLEEPS,
-            ..OFTEN
-        },
-        "done",
-        &[
-            VISIT,
-            CII_OPEN,
-            STATE_BOTH,
-            WC_OPEN,
-            TS_OPEN,
-            ANSWER,
-            CONTROL,
-            REPORT,
+    ("another wcUrl", Case { world: MOVES, ..SECOND }, "no interval in 1 reports",
+        &[VISIT, CII_OPEN, STATE_WC, WC_OPEN, r#"{"event":"end","number":1,"why":"moved wcUrl"}"#,
+            r#"{"event":"visit","number":2,"reading":"10"}"#, CII_OPEN, STATE_OTHER_WC, WC_OPEN,
+            no_answer!("1", "1000000000", "no response to 1 requests")]),
+    ("no object", Case { world: NO_OBJECT, ..SECOND }, "no interval in 1 reports",
+        &[VISIT, CII_OPEN, r#"{"event":"end","number":1,"why":"CII text 1: not object"}"#,
+            r#"{"event":"visit","number":2,"reading":"1"}"#, CII_OPEN, STATE_NONE,
+            no_answer!("1", "1000000000", "no wcUrl")]),
+    ("the wall clock is set", Case { world: DISAGREES, ..ASKING }, "no interval in 1 reports",
+        &[VISIT, CII_OPEN, STATE_WC, WC_OPEN, answer!("0", "1", "100", "0", "5000", "5000", "106"),
+            answer!("0", "1", "1100", "1000", "9000", "9000", "106"), r#"{"event":"end","number":1,"why":"disagree"}"#,
+            r#"{"event":"visit","number":2,"reading":"1000000000"}"#, no_answer!("1", "1000000000", "CII isn't open")]),
+    ("a sleep between two reports", Case { world: SLEEPS, ..OFTEN }, "done",
+        &[VISIT, CII_OPEN, STATE_BOTH, WC_OPEN, TS_OPEN, ANSWER, CONTROL, REPORT,
             r#"{"event":"slept","reading":"20"}"#,
-            r#"{"cause":"NoAnswer","detail":"nothing was asked","event":"report","number":2,"reading":"20"}"#,
-            no_answer!("3", "1", "no response to 1 requests"),
-        ],
-    ),
+            no_answer!("2", "20", "nothing was asked"),
+            no_answer!("3", "1000000000", "no response to 1 requests")]),
     ("an evening", EVENING, "done", EVENING_TOLD),
-    (
-        "words of no watch",
-        Case {
-            words: "watch",
-            ..BLANK
-        },
-        "usage",
-        &[],
-    ),
+    ("words of no watch", Case { words: "watch", ..BLANK }, "usage", &[]),
 ];

@@ -11,10 +11,8 @@ use std::fmt::Debug;
 use std::process::Abort;
 
 /// A clock without errors.
-pub const EXACT: Local = Local {
-    error: 0,
-    precision: 0,
-};
+#[rattlefmt::skip]
+pub const EXACT: Local = Local { error: 0, precision: 0 };
 
 pub fn text(rt: &impl Abort, alloc: Global, words: &str) -> Text
     ensures { IsUtf8 result }
@@ -32,8 +30,8 @@ pub fn shown(rt: &impl Abort, alloc: Global, value: &impl Debug) -> String {
 }
 
 /// What came of a row is what the row says.
-pub fn check(rt: &impl Abort, told: &str, expected: &str) {
-    assert!(rt; told == expected, "{told} and not {expected}");
+pub fn check(rt: &impl Abort, row: &impl Debug, told: &str, expected: &str) {
+    assert!(rt; told == expected, "{row:?}: {told} and not {expected}");
 }
 
 pub fn check_that(rt: &impl Abort, holds: bool, what: &str) {

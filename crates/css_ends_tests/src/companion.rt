@@ -253,7 +253,7 @@ fn check_report(rt: &impl Abort, alloc: Global, companion: &Companion, reading: 
 {
     let printed = line(alloc, 7, &report(companion, reading), None).expect(rt, "memory");
     let expected = format!(in alloc; "7 {told}\n").expect(rt, "memory");
-    check(rt, words(&printed), &expected);
+    check(rt, &reading, words(&printed), &expected);
 }
 
 /// What comes of each row, and the report after it if the row tells one, is what the row says. The last reading.
@@ -267,7 +267,7 @@ pub fn play(rt: &impl Abort, alloc: Global, companion: &mut Companion, rows: &[R
         let reading = reading_of(*happened, floor);
         check_order(rt, floor, reading);
         let told = carry_out(rt, alloc, companion, *happened, floor, reading);
-        check(rt, &told, expected);
+        check(rt, happened, &told, expected);
         if !report.is_empty() {
             check_report(rt, alloc, companion, reading, report);
         }
@@ -329,6 +329,6 @@ const LINES: [(u64, Report, Option<i128>, &str); 3] = [
 fn lines_are_printed(rt: HostRuntime) {
     for (number, report, assigned, expected) in &LINES {
         let printed = line(rt.alloc(), *number, report, *assigned).expect(&rt, "memory");
-        check(&rt, words(&printed), expected);
+        check(&rt, number, words(&printed), expected);
     }
 }

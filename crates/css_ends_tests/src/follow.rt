@@ -37,11 +37,8 @@ fn sheets_have_their_limits(rt: HostRuntime) {
 #[test]
 fn a_fault_is_told_in_words(rt: HostRuntime) {
     let told = format!(in rt.alloc(); "{}, {}", SheetFault::Line(7), SheetFault::from(Memory));
-    check(
-        &rt,
-        &told.expect(&rt, "memory"),
-        "sheet line 7, out of memory",
-    );
+    let told = told.expect(&rt, "memory");
+    check(&rt, &"faults", &told, "sheet line 7, out of memory");
 }
 
 fn sheet(rt: &impl Abort, alloc: Global, lines: &str) -> Sheet {
@@ -59,15 +56,13 @@ fn report_of(interval: Option<(i128, i128)>) -> Report {
 fn check_follower<F: Follower>(rt: &impl Abort, alloc: Global, mut follower: F, steps: &[Step]) {
     for (lines, interval, said, goes_on) in steps {
         if !lines.is_empty() {
-            follower
-                .prepare(&sheet(rt, alloc, lines))
-                .expect(rt, "memory");
+            let prepared = follower.prepare(&sheet(rt, alloc, lines));
+            prepared.expect(rt, "memory");
         }
         let mut out = Text::new(alloc);
-        let told = follower
-            .told(&report_of(*interval), &mut out)
-            .expect(rt, "memory");
-        check(rt, words(&out), said);
+        let told = follower.told(&report_of(*interval), &mut out);
+        let told = told.expect(rt, "memory");
+        check(rt, interval, words(&out), said);
         check_that(rt, told == *goes_on, said);
     }
 }
@@ -133,6 +128,6 @@ fn want_of_memory_ends_the_telling(rt: HostRuntime) {
             let told = followers.tell(&report_of(Some(interval)), &mut out);
             check_that(&rt, told.is_err(), "want of memory");
         }
-        check(&rt, words(&out), "cue a possible\ncue a passed\n");
+        check(&rt, &sheets, words(&out), "cue a possible\ncue a passed\n");
     }
 }

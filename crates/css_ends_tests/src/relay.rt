@@ -19,13 +19,8 @@ type Response = (i8, u32, u64, u64);
 
 /// What the relay was told, the length of a datagram and its first two bytes, the readings at which the relay takes it
 /// and answers it, and the response or the fault.
-type Row = (
-    &'static [Told],
-    (usize, [u8; 2]),
-    u64,
-    u64,
-    Result<Response, RelayFault>,
-);
+#[rattlefmt::skip]
+type Row = (&'static [Told], (usize, [u8; 2]), u64, u64, Result<Response, RelayFault>);
 
 const REQUEST: (usize, [u8; 2]) = (32, [0, 0]);
 
@@ -134,11 +129,7 @@ fn land(rt: &impl Abort, relay: &mut Relay, bytes: &[u8], reading: u64)
     ensures { relay.new.companion.client.floor ≤ reading }
 {
     let landing = relay.land(bytes, reading).expect(rt, "memory");
-    check_that(
-        rt,
-        landing == Landing::Accepted,
-        "an answer that isn't accepted",
-    );
+    check_that(rt, landing == Landing::Accepted, "an answer");
 }
 
 /// The relay asks for each answer, which lands. The last reading.
@@ -193,7 +184,8 @@ fn check_row(rt: &impl Abort, alloc: Global, relay: &mut Relay, row: &Row)
     check_order(rt, *taken, *given);
     let bytes = request(rt, alloc, *form);
     let served = serve(relay, &bytes, *taken, *given);
-    check_that(rt, served == wanted.map(response), "a row");
+    let wanted = wanted.map(response);
+    assert!(rt; served == wanted, "{row:?}: {served:?} and not {wanted:?}");
 }
 
 fn check_rows(rt: &impl Abort, alloc: Global, rows: &[Row]) {
@@ -221,6 +213,7 @@ fn relayed_after(rt: &impl Abort, alloc: Global, told: &str) -> Text {
 #[test]
 fn the_relay_tells_its_own_address(rt: HostRuntime) {
     for (told, expected) in &STATES {
-        check(&rt, words(&relayed_after(&rt, rt.alloc(), told)), expected);
+        let relayed = relayed_after(&rt, rt.alloc(), told);
+        check(&rt, told, words(&relayed), expected);
     }
 }

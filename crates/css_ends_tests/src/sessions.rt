@@ -9,7 +9,7 @@ use std::alloc::Global;
 use std::process::Abort;
 
 /// What is done at the sessions, or asked of them.
-#[derive(Clone, Copy)]
+#[derive(Clone, Copy, Debug)]
 enum Call {
     OpenCii,
     OpenTs,
@@ -162,11 +162,10 @@ fn outcome(
         return format!(in alloc; "{fault}").expect(rt, "memory");
     }
     match row.0 {
-        Windows => shown(
-            rt,
-            alloc,
-            &sessions.windows(alloc).expect(rt, "memory").as_slice(),
-        ),
+        Windows => {
+            let windows = sessions.windows(alloc).expect(rt, "memory");
+            shown(rt, alloc, &windows.as_slice())
+        }
         IsSetUp => shown(rt, alloc, &sessions.is_setup(row.1)),
         _ => {
             let mut all = String::new(alloc);
@@ -182,7 +181,8 @@ fn outcome(
 fn play(rt: &impl Abort, alloc: Global, sessions: &mut Sessions, rows: &[Row]) {
     let player = new_player(rt, alloc);
     for row in rows {
-        check(rt, &outcome(rt, alloc, sessions, &player, row), row.3);
+        let told = outcome(rt, alloc, sessions, &player, row);
+        check(rt, row, &told, row.3);
     }
 }
 

@@ -23,18 +23,11 @@ fn television(rt: &impl Abort, alloc: Global) -> Tv {
     Tv::new(alloc, config).expect(rt, "memory")
 }
 
+#[rattlefmt::skip]
 fn write_bound(rt: &impl Abort, out: &mut String, limit: Limit, none: &str) {
     match limit {
-        None => write!(
-            out,
-            "{{\"contentTime\":\"0\",\"wallClockTime\":\"{none}\"}}"
-        ),
-        Some((content, wall)) => {
-            write!(
-                out,
-                "{{\"contentTime\":\"{content}\",\"wallClockTime\":\"{wall}\"}}"
-            )
-        }
+        None => write!(out, "{{\"contentTime\":\"0\",\"wallClockTime\":\"{none}\"}}"),
+        Some((content, wall)) => write!(out, "{{\"contentTime\":\"{content}\",\"wallClockTime\":\"{wall}\"}}"),
     }
     .expect(rt, "memory");
 }
@@ -130,7 +123,7 @@ fn outcome(rt: &impl Abort, alloc: Global, tv: &mut Tv, event: Event) -> String 
 /// What comes of each row is what the row says.
 fn play(rt: &impl Abort, alloc: Global, tv: &mut Tv, rows: &[Row]) {
     for (event, expected) in rows {
-        check(rt, &outcome(rt, alloc, tv, *event), expected);
+        check(rt, event, &outcome(rt, alloc, tv, *event), expected);
     }
 }
 
@@ -164,7 +157,8 @@ fn play_drawn(rt: &impl Abort, alloc: Global, seed: u64) -> Plain {
     for i in 0..110 {
         let event = drawn(&mut dice, &plain, i);
         let expected = plain.outcome(rt, alloc, event);
-        check(rt, &outcome(rt, alloc, &mut tv, event), &expected);
+        let told = outcome(rt, alloc, &mut tv, event);
+        check(rt, &(seed, i, event), &told, &expected);
     }
     plain
 }

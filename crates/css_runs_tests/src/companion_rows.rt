@@ -2,23 +2,29 @@
 use crate::rows::{CLOSED, QUIET, Row};
 
 /// A response with the originate value 6, the receive value 5000 and the transmit value 5001.
-const RESPONSE: &str = "0001e20000000000000000000000000600000000000013880000000000001389";
+const RESPONSE: &[u8] =
+    b"\0\x01\xe2\0\0\0\0\0\0\0\0\0\0\0\0\x06\0\0\0\0\0\0\x13\x88\0\0\0\0\0\0\x13\x89";
 
 /// The same and one more byte, and its first 31 bytes.
-const LONG: &str = "0001e2000000000000000000000000060000000000001388000000000000138900";
+const LONG: &[u8] =
+    b"\0\x01\xe2\0\0\0\0\0\0\0\0\0\0\0\0\x06\0\0\0\0\0\0\x13\x88\0\0\0\0\0\0\x13\x89\0";
 
-const SHORT: &str = "0001e200000000000000000000000006000000000000138800000000000013";
+const SHORT: &[u8] = b"\0\x01\xe2\0\0\0\0\0\0\0\0\0\0\0\0\x06\0\0\0\0\0\0\x13\x88\0\0\0\0\0\0\x13";
 
 /// The same to the request of the reading 7, and as a request.
-const OF_ANOTHER: &str = "0001e20000000000000000000000000700000000000013880000000000001389";
+const OF_ANOTHER: &[u8] =
+    b"\0\x01\xe2\0\0\0\0\0\0\0\0\0\0\0\0\x07\0\0\0\0\0\0\x13\x88\0\0\0\0\0\0\x13\x89";
 
-const REQUEST: &str = "0000e20000000000000000000000000600000000000013880000000000001389";
+const REQUEST: &[u8] =
+    b"\0\0\xe2\0\0\0\0\0\0\0\0\0\0\0\0\x06\0\0\0\0\0\0\x13\x88\0\0\0\0\0\0\x13\x89";
 
 /// The transmit value is 6000, long after the landing.
-const IMPOSSIBLE: &str = "0001e20000000000000000000000000600000000000013880000000000001770";
+const IMPOSSIBLE: &[u8] =
+    b"\0\x01\xe2\0\0\0\0\0\0\0\0\0\0\0\0\x06\0\0\0\0\0\0\x13\x88\0\0\0\0\0\0\x17\x70";
 
 /// A response to the request of the reading 12, with 6000 and 6001.
-const AFTER_SLEEP: &str = "0001e20000000000000000000000000c00000000000017700000000000001771";
+const AFTER_SLEEP: &[u8] =
+    b"\0\x01\xe2\0\0\0\0\0\0\0\0\0\0\0\0\x0c\0\0\0\0\0\0\x17\x70\0\0\0\0\0\0\x17\x71";
 
 #[rattlefmt::skip]
 const CII: Option<&str> =
@@ -62,13 +68,6 @@ const SOON: Row = Row { turns: 3, reports: 1, times: &[0, 1, 2], texts: &[], tol
 const TIMED: Row = Row {
     seconds: 2, reports: 9, times: &[0, 1_000_000_000, 2_000_000_000], report_every: 1_000_000_000,
     told: WITHOUT_ANSWER, ..SOON
-};
-
-/// A run in which a call fails.
-const CUT: Row = Row {
-    name: "a call fails",
-    ended: "NetFault",
-    ..K
 };
 
 /// Whole runs, and datagrams that answer nothing.
@@ -175,50 +174,20 @@ pub const DIALS: &[Row] = &[
     Row { name: "the second write fails", sink_fails: &[2], ended: "WriteFault", told: ONE_INTERVAL, ..L },
 ];
 
-/// The other calls of the first run fail: up to the first report, and then.
+/// The other calls of the first run, how the run is cut where one fails, and how many lines its record has then.
 #[rattlefmt::skip]
-pub const EARLY_CUTS: &[Row] = &[
-    Row { fails: &[1], told: "", lines: 1, ..CUT },
-    Row { fails: &[3], told: "", lines: 2, ..CUT },
-    Row { fails: &[4], told: "", lines: 3, ..CUT },
-    Row { fails: &[7], told: "", lines: 4, ..CUT },
-    Row { fails: &[8], told: "", lines: 4, ..CUT },
-    Row { fails: &[9], told: "", lines: 4, ..CUT },
-    Row { fails: &[10], told: "", lines: 5, ..CUT },
-    Row { fails: &[11], told: "", lines: 5, ..CUT },
-    Row { fails: &[12], told: "", lines: 6, ..CUT },
-    Row { fails: &[13], told: "", lines: 6, ..CUT },
-    Row { fails: &[14], told: "", lines: 7, ..CUT },
+pub const CUTS: &[(&[u64], &str, usize)] = &[
+    (&[1], "", 1), (&[3], "", 2), (&[4], "", 3), (&[7], "", 4), (&[8], "", 4), (&[9], "", 4), (&[10], "", 5),
+    (&[11], "", 5), (&[12], "", 6), (&[13], "", 6), (&[14], "", 7), (&[15], ONE_INTERVAL, 9),
+    (&[16], ONE_INTERVAL, 9), (&[17], ONE_INTERVAL, 9), (&[18], ONE_INTERVAL, 9), (&[19], TWO_INTERVALS, 11),
+    (&[20], TWO_INTERVALS, 11),
 ];
 
+/// The write of the record that fails, and how many of its lines are written. A report's line is written with that of
+/// its turn.
 #[rattlefmt::skip]
-pub const LATE_CUTS: &[Row] = &[
-    Row { fails: &[15], told: ONE_INTERVAL, lines: 9, ..CUT },
-    Row { fails: &[16], told: ONE_INTERVAL, lines: 9, ..CUT },
-    Row { fails: &[17], told: ONE_INTERVAL, lines: 9, ..CUT },
-    Row { fails: &[18], told: ONE_INTERVAL, lines: 9, ..CUT },
-    Row { fails: &[19], lines: 11, ..CUT },
-    Row { fails: &[20], lines: 11, ..CUT },
-];
-
-/// A recorded run in which a write fails. A report's line is written with that of its turn.
-const UNWRITTEN: Row = Row {
-    name: "a write of a record fails",
-    ended: "WriteFault",
-    ..K
-};
-
-#[rattlefmt::skip]
-pub const UNWRITTEN_RECORDS: &[Row] = &[
-    Row { sink_fails: &[1], lines: 0, ..UNWRITTEN },
-    Row { sink_fails: &[2], lines: 1, ..UNWRITTEN },
-    Row { sink_fails: &[3], lines: 2, ..UNWRITTEN },
-    Row { sink_fails: &[4], lines: 3, ..UNWRITTEN },
-    Row { sink_fails: &[5], lines: 4, ..UNWRITTEN },
-    Row { sink_fails: &[6], lines: 5, ..UNWRITTEN },
-    Row { sink_fails: &[7], lines: 6, ..UNWRITTEN },
-    Row { sink_fails: &[8], lines: 7, ..UNWRITTEN },
-    Row { sink_fails: &[9], lines: 9, ..UNWRITTEN },
+pub const UNWRITTEN: &[(&[u64], usize)] = &[
+    (&[1], 0), (&[2], 1), (&[3], 2), (&[4], 3), (&[5], 4), (&[6], 5), (&[7], 6), (&[8], 7), (&[9], 9),
 ];
 
 pub const CUES: Row = Row {

@@ -2,8 +2,7 @@
 //! row.
 use crate::audits::words;
 use crate::companion_rows::{
-    ANSWERS, CUES, DIALS, EARLY_CUTS, LACKING, LATE_CUTS, REFUSALS, SESSIONS, TURNS,
-    UNWRITTEN_RECORDS,
+    ANSWERS, CUES, CUTS, DIALS, K, LACKING, REFUSALS, SESSIONS, TURNS, UNWRITTEN,
 };
 use crate::rows::{Row, lines_of};
 use crate::runs::{assert_told, companion, recorded};
@@ -66,43 +65,47 @@ fn assert_rows(rt: &impl Abort, alloc: Global, rows: &[Row]) -> Result<(), Fail>
 }
 
 #[test]
-fn an_answer_is_taken_for_its_request_alone(rt: HostRuntime) -> Result<(), Fail> {
-    assert_rows(&rt, rt.alloc(), ANSWERS)
+fn each_run_ends_as_its_row_says(rt: HostRuntime) -> Result<(), Fail> {
+    for rows in [ANSWERS, SESSIONS, REFUSALS, TURNS, DIALS] {
+        assert_rows(&rt, rt.alloc(), rows)?;
+    }
+    Ok(())
 }
 
 #[test]
-fn a_session_ends_and_a_text_is_gone(rt: HostRuntime) -> Result<(), Fail> {
-    assert_rows(&rt, rt.alloc(), SESSIONS)
-}
-
-#[test]
-fn a_refused_text_ends_the_run(rt: HostRuntime) -> Result<(), Fail> {
-    assert_rows(&rt, rt.alloc(), REFUSALS)
-}
-
-#[test]
-fn a_sleep_forgets_the_answer_and_turns_end(rt: HostRuntime) -> Result<(), Fail> {
-    assert_rows(&rt, rt.alloc(), TURNS)
-}
-
-#[test]
-fn each_dial_and_each_write_of_a_companion_fails_once(rt: HostRuntime) -> Result<(), Fail> {
-    assert_rows(&rt, rt.alloc(), DIALS)
-}
-
-#[test]
-fn each_call_up_to_the_first_report_fails_once(rt: HostRuntime) -> Result<(), Fail> {
-    assert_rows(&rt, rt.alloc(), EARLY_CUTS)
-}
-
-#[test]
-fn each_later_call_fails_once(rt: HostRuntime) -> Result<(), Fail> {
-    assert_rows(&rt, rt.alloc(), LATE_CUTS)
-}
-
-#[test]
-fn each_write_of_a_record_fails_once(rt: HostRuntime) -> Result<(), Fail> {
-    assert_records(&rt, rt.alloc(), UNWRITTEN_RECORDS)
+fn each_call_and_each_write_fails_once(rt: HostRuntime) -> Result<(), Fail> {
+    for (fails, told, lines) in CUTS {
+        let (name, ended) = ("a call fails", "NetFault");
+        let (fails, told, lines) = (*fails, *told, *lines);
+        assert_rows(
+            &rt,
+            rt.alloc(),
+            &[Row {
+                name,
+                fails,
+                ended,
+                told,
+                lines,
+                ..K
+            }],
+        )?;
+    }
+    for (sink_fails, lines) in UNWRITTEN {
+        let (name, ended) = ("a write of a record fails", "WriteFault");
+        let (sink_fails, lines) = (*sink_fails, *lines);
+        assert_records(
+            &rt,
+            rt.alloc(),
+            &[Row {
+                name,
+                sink_fails,
+                ended,
+                lines,
+                ..K
+            }],
+        )?;
+    }
+    Ok(())
 }
 
 /// Says nothing of the first report that it hears, and lacks memory at each other.

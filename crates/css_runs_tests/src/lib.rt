@@ -3,10 +3,6 @@
 #![tactic(auto)]
 
 #[cfg(test)]
-mod audit_changes;
-#[cfg(test)]
-mod audit_plain;
-#[cfg(test)]
 mod audits;
 #[cfg(test)]
 mod companion_rows;

@@ -3,12 +3,13 @@ use crate::rows::{CLOSED, QUIET as NOTHING, Row};
 use css_outside::Kind;
 
 /// A request with the originate value 42, and the same and one more byte.
-const REQUEST: &str = "0000000000000000000000000000002a00000000000000000000000000000000";
+const REQUEST: &[u8] = b"\0\0\0\0\0\0\0\0\0\0\0\0\0\0\0\x2a\0\0\0\0\0\0\0\0\0\0\0\0\0\0\0\0";
 
-const LONG: &str = "0000000000000000000000000000002a0000000000000000000000000000000000";
+const LONG: &[u8] = b"\0\0\0\0\0\0\0\0\0\0\0\0\0\0\0\x2a\0\0\0\0\0\0\0\0\0\0\0\0\0\0\0\0\0";
 
 /// A response with the originate value 1000, the receive value 5000, the transmit value 5200 and the precision -30.
-const RESPONSE: &str = "0001e2000000000000000000000003e800000000000013880000000000001450";
+const RESPONSE: &[u8] =
+    b"\0\x01\xe2\0\0\0\0\0\0\0\0\0\0\0\x03\xe8\0\0\0\0\0\0\x13\x88\0\0\0\0\0\0\x14\x50";
 
 /// The television's addresses.
 #[rattlefmt::skip]
@@ -41,7 +42,7 @@ pub const CROWD: Row = Row {
 #[rattlefmt::skip]
 const EXCHANGE: Row = Row {
     name: "a request is answered", turns: 3, times: &[900, 950, 1000, 1600, 1600, 1600, 1700],
-    datagrams: &["", RESPONSE, REQUEST], texts: &[(1, ADDRESSES)],
+    datagrams: &[b"", RESPONSE, REQUEST], texts: &[(1, ADDRESSES)],
     told: "SERVE; turn; dial; take; accept; text 1; turn; dial; other; send 2 0 0 0; take; other; accept; text 1; \
         turn; take; receive; give; send 9 1 5400 5500; accept; text 1; hang 1",
     ..QUIET

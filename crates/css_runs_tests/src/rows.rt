@@ -25,9 +25,9 @@ pub struct Row {
     /// What the clock reads, and before which of these readings the machine slept.
     pub times: &'static [u64],
     pub slept: &'static [u64],
-    /// Who sends the datagrams, and which one comes at each take, in pairs of digits: none where there are no digits.
+    /// Who sends the datagrams, and which one comes at each take: none where there are no bytes.
     pub sender: u32,
-    pub datagrams: &'static [&'static str],
+    pub datagrams: &'static [&'static [u8]],
     pub openings: &'static [Option<Kind>],
     /// By the number of the session. It is closed where it tells nothing.
     pub texts: &'static [(u32, Option<&'static str>)],
@@ -45,31 +45,12 @@ pub struct Row {
 }
 
 /// One turn of a television, in which nothing comes.
+#[rattlefmt::skip]
 pub const QUIET: Row = Row {
-    name: "nothing comes",
-    turns: 1,
-    seconds: 0,
-    error: 0,
-    script: "",
-    relative: false,
-    follow: false,
-    reports: 1,
-    report_every: 10,
-    presents: false,
-    ask_every: 1000,
-    times: &[0],
-    slept: &[],
-    sender: 9,
-    datagrams: &[],
-    openings: &[],
-    texts: &[],
-    gone: &[],
-    fails: &[],
-    sink_fails: &[],
-    ended: "Done",
-    told: "LISTEN; turn; take; accept",
-    record: None,
-    lines: usize::MAX,
+    name: "nothing comes", turns: 1, seconds: 0, error: 0, script: "", relative: false, follow: false, reports: 1,
+    report_every: 10, presents: false, ask_every: 1000, times: &[0], slept: &[], sender: 9, datagrams: &[],
+    openings: &[], texts: &[], gone: &[], fails: &[], sink_fails: &[], ended: "Done",
+    told: "LISTEN; turn; take; accept", record: None, lines: usize::MAX,
 };
 
 /// What a session tells that is closed.
@@ -142,4 +123,9 @@ fn push_line(alloc: Global, lines: &mut String, short: &str) -> Result<(), Alloc
     }
     lines.push_str(&line)?;
     lines.push_str("\n")
+}
+
+/// Bytes as they are shown where they aren't the wanted ones.
+pub fn text_of(bytes: &[u8]) -> &str {
+    str::from_utf8(bytes).unwrap_or("bytes that aren't UTF-8")
 }

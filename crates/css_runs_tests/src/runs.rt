@@ -7,7 +7,7 @@ ghost use Rattle.css_outside.specs.Limits.{IsLimit};
 ghost use Rattle.css_schedule.specs.Ranges.{IsScriptLine};
 
 use crate::noted::Noted;
-use crate::rows::{Row, lines_of};
+use crate::rows::{Row, lines_of, text_of};
 use css_client::Local;
 use css_companion::CompanionConfig;
 use css_drive::{DriveConfig, Driven, Listens, TvDrive, drive_companion, drive_tv};
@@ -178,7 +178,11 @@ fn assert_ended(
     driven: &Driven,
 ) -> Result<(), AllocError> {
     let ended = end_words(alloc, driven)?;
-    assert!(rt; ended.starts_with(row.ended), "{}: {ended}", row.name);
+    let (name, wanted) = (row.name, row.ended);
+    assert!(rt;
+        ended.starts_with(wanted),
+        "{name}: {ended} and not {wanted}"
+    );
     Ok(())
 }
 
@@ -244,6 +248,10 @@ pub fn assert_told(
     count: usize,
 ) -> Result<(), AllocError> {
     let lines = lines_of(alloc, short, count)?;
-    assert!(rt; told == lines.as_bytes(), "{}: {told:?}", row.name);
+    let (name, text) = (row.name, text_of(told));
+    assert!(rt;
+        told == lines.as_bytes(),
+        "{name}: told\n{text}and not\n{lines}"
+    );
     Ok(())
 }

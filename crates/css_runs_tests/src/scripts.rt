@@ -2,7 +2,6 @@
 ghost use Rattle.std.specs.Prelude.{IsTrue};
 ghost use Rattle.css_memory.specs.Scripts.{are_sessions};
 
-use crate::audit_plain::unhex;
 use crate::noted::{Log, Noted};
 use crate::rows::Row;
 use css_memory::{Datagram, MemoryOutside, OutsideScript, SessionHeard, can_be_read};
@@ -78,9 +77,9 @@ fn add_texts(
 }
 
 fn add_datagrams(alloc: Global, script: &mut OutsideScript, row: &Row) -> Result<(), Memory> {
-    for digits in row.datagrams {
-        let bytes = unhex(alloc, digits.as_bytes());
-        add_datagram(alloc, script, row.sender, bytes.as_deref())?;
+    for bytes in row.datagrams {
+        let some = (!bytes.is_empty()).then_some(*bytes);
+        add_datagram(alloc, script, row.sender, some)?;
     }
     Ok(())
 }

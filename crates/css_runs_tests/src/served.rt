@@ -3,7 +3,7 @@ use crate::noted::Noted;
 use crate::rows::Row;
 use crate::runs::{assert_told, relay, television};
 use crate::scripts::outside_of;
-use crate::{relay_rows, television_rows};
+use crate::{relay_rows as relays, television_rows as tvs};
 use std::alloc::Global;
 use std::process::Abort;
 use std::test::Fail;
@@ -23,31 +23,6 @@ fn assert_televisions(rt: &impl Abort, alloc: Global, rows: &[Row]) -> Result<()
     Ok(())
 }
 
-#[test]
-fn each_call_of_a_television_fails_once(rt: HostRuntime) -> Result<(), Fail> {
-    assert_televisions(&rt, rt.alloc(), television_rows::CALLS)
-}
-
-#[test]
-fn lines_of_a_script_are_due_or_refused(rt: HostRuntime) -> Result<(), Fail> {
-    assert_televisions(&rt, rt.alloc(), television_rows::SCRIPTS)
-}
-
-#[test]
-fn a_television_ends_by_its_time(rt: HostRuntime) -> Result<(), Fail> {
-    assert_televisions(&rt, rt.alloc(), television_rows::LIMITS)
-}
-
-#[test]
-fn a_television_answers_requests_alone(rt: HostRuntime) -> Result<(), Fail> {
-    assert_televisions(&rt, rt.alloc(), television_rows::DATAGRAMS)
-}
-
-#[test]
-fn a_television_tells_its_sessions(rt: HostRuntime) -> Result<(), Fail> {
-    assert_televisions(&rt, rt.alloc(), television_rows::SESSIONS)
-}
-
 fn assert_relays(rt: &impl Abort, alloc: Global, rows: &[Row]) -> Result<(), Fail> {
     for row in rows {
         let mut outside = outside_of(rt, alloc, row)?;
@@ -58,18 +33,25 @@ fn assert_relays(rt: &impl Abort, alloc: Global, rows: &[Row]) -> Result<(), Fai
 }
 
 #[test]
-fn each_call_of_a_relay_fails_once(rt: HostRuntime) -> Result<(), Fail> {
-    assert_relays(&rt, rt.alloc(), relay_rows::CALLS)
+fn each_television_makes_its_calls(rt: HostRuntime) -> Result<(), Fail> {
+    for rows in [
+        tvs::CALLS,
+        tvs::SCRIPTS,
+        tvs::LIMITS,
+        tvs::DATAGRAMS,
+        tvs::SESSIONS,
+    ] {
+        assert_televisions(&rt, rt.alloc(), rows)?;
+    }
+    Ok(())
 }
 
 #[test]
-fn a_relay_tells_what_it_was_told(rt: HostRuntime) -> Result<(), Fail> {
-    assert_relays(&rt, rt.alloc(), relay_rows::TEXTS)
-}
-
-#[test]
-fn sessions_of_a_relay_end_and_datagrams_come(rt: HostRuntime) -> Result<(), Fail> {
-    assert_relays(&rt, rt.alloc(), relay_rows::ENDS)
+fn each_relay_makes_its_calls(rt: HostRuntime) -> Result<(), Fail> {
+    for rows in [relays::CALLS, relays::TEXTS, relays::ENDS] {
+        assert_relays(&rt, rt.alloc(), rows)?;
+    }
+    Ok(())
 }
 
 /// How many calls were made in the last turn.
@@ -88,7 +70,7 @@ fn last_calls(made: &[u8]) -> usize {
 /// In the last turn each of 256 sessions is asked for a text, and then each is hung up. The 257th was hung up at once.
 #[test]
 fn a_television_keeps_256_sessions(rt: HostRuntime) -> Result<(), Fail> {
-    let row = &television_rows::CROWD;
+    let row = &tvs::CROWD;
     let mut outside = outside_of(&rt, rt.alloc(), row)?;
     television(&rt, rt.alloc(), row, &mut outside)?;
     assert_eq!(rt; last_calls(outside.log.words.bytes()), 259 + 256);
@@ -98,7 +80,7 @@ fn a_television_keeps_256_sessions(rt: HostRuntime) -> Result<(), Fail> {
 /// The relay has a session with its television, too.
 #[test]
 fn a_relay_keeps_256_sessions(rt: HostRuntime) -> Result<(), Fail> {
-    let row = &relay_rows::CROWD;
+    let row = &relays::CROWD;
     let mut outside = outside_of(&rt, rt.alloc(), row)?;
     relay(&rt, rt.alloc(), row, &mut outside)?;
     assert_eq!(rt; last_calls(outside.log.words.bytes()), 4 + 256 + 257);

@@ -3,13 +3,13 @@ use crate::rows::{CLOSED, QUIET, Row};
 use css_outside::Kind;
 
 /// A request with the originate value 4800, the same and one more byte, its first 31 bytes, and a response.
-const REQUEST: &str = "000000000000000000000000000012c000000000000000000000000000000000";
+const REQUEST: &[u8] = b"\0\0\0\0\0\0\0\0\0\0\0\0\0\0\x12\xc0\0\0\0\0\0\0\0\0\0\0\0\0\0\0\0\0";
 
-const LONG: &str = "000000000000000000000000000012c00000000000000000000000000000000000";
+const LONG: &[u8] = b"\0\0\0\0\0\0\0\0\0\0\0\0\0\0\x12\xc0\0\0\0\0\0\0\0\0\0\0\0\0\0\0\0\0\0";
 
-const SHORT: &str = "000000000000000000000000000012c0000000000000000000000000000000";
+const SHORT: &[u8] = b"\0\0\0\0\0\0\0\0\0\0\0\0\0\0\x12\xc0\0\0\0\0\0\0\0\0\0\0\0\0\0\0\0";
 
-const RESPONSE: &str = "000100000000000000000000000012c000000000000000000000000000000000";
+const RESPONSE: &[u8] = b"\0\x01\0\0\0\0\0\0\0\0\0\0\0\0\x12\xc0\0\0\0\0\0\0\0\0\0\0\0\0\0\0\0\0";
 
 #[rattlefmt::skip]
 const SETUP: Option<&str> = Some("{\"contentIdStem\":\"\",\"timelineSelector\":\"urn:dvb:css:timeline:pts\"}");

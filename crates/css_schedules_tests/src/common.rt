@@ -5,8 +5,8 @@ use std::fmt::Debug;
 use std::process::Abort;
 
 /// What came of a row is what the row says.
-pub(crate) fn check(rt: &impl Abort, told: &str, expected: &str) {
-    assert!(rt; told == expected, "{told} and not {expected}");
+pub(crate) fn check(rt: &impl Abort, row: &str, told: &str, expected: &str) {
+    assert!(rt; told == expected, "{row}: {told} and not {expected}");
 }
 
 pub(crate) fn check_that(rt: &impl Abort, holds: bool, what: &str) {

@@ -1,9 +1,7 @@
-//! Headers of schedules and the lines of their companions, read and printed.
+//! Headers of schedules and the lines of their companions. Schedules that are generated have a printed header.
 
-use crate::common::{check, check_that, parts, shown, words};
-use crate::opening::open;
-use css_num::Text;
-use css_schedule::{LineFault, print_header, read_companion, read_header};
+use crate::common::{check, check_that, parts, shown};
+use css_schedule::{LineFault, read_companion, read_header};
 use std::alloc::Global;
 use std::process::Abort;
 
@@ -37,7 +35,7 @@ fn told(rt: &impl Abort, alloc: Global, line: &str) -> String {
 fn headers_are_read(rt: HostRuntime) {
     for row in HEADERS.lines() {
         let (line, expected) = parts(&rt, row);
-        check(&rt, &told(&rt, rt.alloc(), line), expected);
+        check(&rt, line, &told(&rt, rt.alloc(), line), expected);
     }
 }
 
@@ -84,34 +82,5 @@ fn what_is_no_header_is_refused(rt: HostRuntime) {
     for line in NO_COMPANION.split('|') {
         let read = read_companion(rt.alloc(), line.as_bytes(), 2);
         check_that(&rt, matches!(read, Err(LineFault::Form)), line);
-    }
-}
-
-/// Whole headers, which are printed as they were read.
-const WHOLE: [&str; 5] = [
-    "css-schedule 1 plain 0 -30 0 0 urn:dvb:css:timeline:pts -",
-    "css-schedule 1 follow 25600000 -128 2560000 1000000000 - dvb://1.2",
-    "css-schedule 1 follow 12800 30 12800 1000 ~ --",
-    "css-schedule 2 follow 12800 -20 1\ncompanion 1 0 0 urn:x -",
-    "css-schedule 2 follow 12800 -20 2\ncompanion 1 0 0 urn:x -\ncompanion 2 12800 1000 ~ dvb://",
-];
-
-/// The header that these lines are read as, printed again.
-fn printed_again(rt: &impl Abort, alloc: Global, header: &str) -> Text {
-    let lines: Vec<&str> = header.lines().collect(alloc).expect(rt, "memory");
-    let opened = open(rt, alloc, &lines);
-    let printed = if opened.is_first {
-        print_header(alloc, &opened.header, 1)
-    } else {
-        print_header(alloc, &opened.header, 2)
-    };
-    printed.expect(rt, "memory")
-}
-
-#[test]
-fn headers_are_printed_as_they_were_read(rt: HostRuntime) {
-    for header in WHOLE {
-        let printed = printed_again(&rt, rt.alloc(), header);
-        check(&rt, words(printed.bytes()), header);
     }
 }

@@ -1,5 +1,5 @@
-//! Tests of the crates about schedules: their lines, their clocks, the world that they make, and the schedules that are
-//! generated or migrated.
+//! Tests of the crates about schedules: their lines, their clocks, and the schedules that are generated. What a
+//! schedule prints and becomes stands in the tests of the commands.
 #![tactic(auto)]
 
 #[cfg(test)]
@@ -12,13 +12,3 @@ mod generated;
 mod headers;
 #[cfg(test)]
 mod lines;
-#[cfg(test)]
-mod migrated;
-#[cfg(test)]
-mod opening;
-#[cfg(test)]
-mod printed;
-#[cfg(test)]
-mod refused;
-#[cfg(test)]
-mod world;

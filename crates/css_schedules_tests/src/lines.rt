@@ -79,7 +79,7 @@ fn told(rt: &impl Abort, alloc: Global, companions: Option<u32>, text: &str) -> 
 fn check_read(rt: &impl Abort, alloc: Global, companions: Option<u32>, rows: &str) {
     for row in rows.lines() {
         let (text, expected) = parts(rt, row);
-        check(rt, &told(rt, alloc, companions, text), expected);
+        check(rt, text, &told(rt, alloc, companions, text), expected);
     }
 }
 
@@ -94,7 +94,7 @@ fn lines_are_read(rt: HostRuntime) {
     check_read(&rt, rt.alloc(), Some(16), SECOND);
     for row in SCRIPT.lines() {
         let (text, expected) = parts(&rt, row);
-        check(&rt, &script_told(&rt, rt.alloc(), text), expected);
+        check(&rt, text, &script_told(&rt, rt.alloc(), text), expected);
     }
 }
 
@@ -122,8 +122,8 @@ fn lines_are_printed(rt: HostRuntime) {
     for row in PRINTED.lines() {
         let (text, expected) = parts(&rt, row);
         let (first, second) = printed(&rt, rt.alloc(), text);
-        check(&rt, words(first.bytes()), text);
-        check(&rt, words(second.bytes()), expected);
+        check(&rt, text, words(first.bytes()), text);
+        check(&rt, text, words(second.bytes()), expected);
     }
 }
 
@@ -224,10 +224,7 @@ const WHY: [(LineWhy, &str); 5] = [
 #[test]
 fn a_line_that_ends_the_run_is_told_in_a_word(rt: HostRuntime) {
     for (why, words) in &WHY {
-        check(
-            &rt,
-            &format!(in rt.alloc(); "{why}").expect(&rt, "memory"),
-            words,
-        );
+        let told = format!(in rt.alloc(); "{why}").expect(&rt, "memory");
+        check(&rt, "a fault", &told, words);
     }
 }

@@ -1,8 +1,8 @@
 //! Command lines, what each of them asks for, and what is said of those that are of no command.
 use crate::common::{check, check_that, words as shown};
 use css_words::{
-    Address, Bound, Command, CompanionOptions, GeneratorWords, Limit, RelayWords, TvWords,
-    WatchWords, command_of, complaint,
+    Address, Bound, Command, CompanionOptions, CompanionWords, GeneratorWords, Limit, PairWords,
+    RelayWords, TvWords, WatchWords, command_of, complaint,
 };
 use std::alloc::{AllocError, Global};
 use std::process::Abort;
@@ -74,105 +74,13 @@ reply
 --help
 -";
 
-/// Words that no command takes.
-const USAGE: &str = "\
-replay --
-agree --seed 7
-audit --record
-migrate --companions 2
-generate
-generate --lines 9
-generate --seed 7 --lines 8
-generate --seed 7 --lines 200001
-generate --seed 9223372036854775808 --lines 9
-generate --seed=-1 --lines 9
-generate --seed +7 --lines 9
-generate --seed 007 --lines 9
-generate --seed 7 --lines
-generate --seed=7 --seed=7 --lines=9
-generate --see 7 --lines 9
-generate --seed 7 --lines 15 --companions 2
-generate --seed 7 --lines 200 --companions 1
-generate --seed 7 --lines 200 --companions 17
-tv --port 65535
-tv --turns 1000001
-tv --precision=-129
-tv --precision=31
-tv --precision -20
-tv --error 25600001
-tv --follow=true
-tv --follow --follow
-tv --seconds 1 --turns 5
-tv --seconds 0
-tv --seconds 31536001
-tv --seconds=
-tv --relative=true
-tv --host=
-tv --host=a b
-tv --follow --host ::1
-companion --reports 2
-companion --cii=
-companion --cii wss://h
-companion --cii ws://h --reports 0
-companion --cii ws://h --reports 1000001
-companion --cii ws://h --local-error 2560001
-companion --cii ws://h --local-precision 1000000001
-companion --cii ws://h --earliest 5,0
-companion --cii ws://h --earliest 5,plusinfinity --latest 6,plusinfinity
-companion --cii ws://h --earliest 5,0 --latest 6,minusinfinity
-companion --cii ws://h --earliest 5 --latest 6,0
-companion --cii ws://h --earliest 5,0 --latest 6,9223372036854775808
-companion --cii ws://h --earliest 1000000000000000000,0 --latest 6,0
-companion --cii ws://h --port 6677
-companion --cii ws://h --seconds 31536001
-companion --cii ws://h --seconds 1 --turns 1
-companion --cii ws://h --relative
-companion --record
-companion --record --cii ws://h --selector=a\tb
-companion --record --cii ws://h --stem=-
-companion --record --cii ws://h --stem=é
-relay
-relay --cii ws://tv:6677/cii --port 65535
-relay --cii ws://tv:6677/cii --host
-relay --cii ws://tv:6677/cii --seconds 0
-relay --cii ws://tv:6677/cii --relative
-watch
-watch --seconds 60
-watch --cii=
-watch --cii tv.local
-watch --cii wss://h
-watch --cii ws://h --cii ws://h
-watch --cii ws://h --seconds 0
-watch --cii ws://h --seconds 31536001
-watch --cii ws://h --seconds 007
-watch --cii ws://h --seconds
-watch --cii ws://h --seconds=5 --seconds=5
-watch --cii ws://h --report-every 0
-watch --cii ws://h --report-every 1000000000001
-watch --cii ws://h --ask-every 0
-watch --cii ws://h --ask-every 1000000000001
-watch --cii ws://h --local-error=-1
-watch --cii ws://h --local-error 2560001
-watch --cii ws://h --local-precision=-1
-watch --cii ws://h --local-precision 1000000001
-watch --cii ws://h --turns 5
-watch --cii ws://h --reports 5
-watch --cii ws://h --record
-watch --cii ws://h --earliest 5,0
-watch --cii ws://h --latest 5,0
-watch --cii ws://h --second 5
-watch --cii ws://h --help
-watch --cii ws://h x
-watch --cii ws://h --
-pair --cii ws://127.0.0.1:6677/cii
-pair --seconds 2 --turns 2
-pair --earliest 0,0";
-
 /// Words that no command takes, and what is said of them.
 const COMPLAINTS: &str = "\
 replay -- => stray word: --
 replay x => stray word: x
 agree --seed 7 => no such option: --seed
+audit --record => no such option: --record
+migrate --companions 2 => no such option: --companions
 generate => --seed is missing
 generate --seed 7 => --lines is missing
 generate --lines 8 --seed 7 => --lines: 8 isn't from 9 to 200000
@@ -189,7 +97,9 @@ tv --help => no such option: --help
 tv --turns=-1 => --turns: -1 has a sign
 tv --turns= => --turns is empty
 tv --seconds 1 --turns 5 => --seconds and --turns exclude each other
-tv --seconds 0 --port 1 => --port: 1 isn't from 1024 to 65534
+tv --seconds 0 --port 65535 => --port: 65535 isn't from 1024 to 65534
+tv --turns 1000001 => --turns: 1000001 isn't from 1 to 1000000
+tv --error 25600001 => --error: 25600001 isn't from 0 to 25600000
 tv --seconds 31536001 => --seconds: 31536001 isn't from 1 to 31536000
 tv --precision=-129 => --precision: -129 isn't from -128 to 30
 tv --precision=-01 => --precision: -01 has zeros before its digits
@@ -198,20 +108,35 @@ tv --precision -20 => no such option: -2
 tv --follow=true => --follow takes no value
 tv --follow --follow => --follow is given twice
 tv --host= => --host is empty
+tv --host=a b => stray word: b
 tv --host ::1 => --host: ::1 needs brackets around IPv6, as [::1]
 companion --reports 0 => --cii is missing
 companion --cii tv.local => --cii: tv.local is no ws: address
 companion --cii wss://h => --cii: no encryption: ws:// alone
+companion --cii= => --cii is empty
 companion --cii ws://::1:6677/cii => --cii: ws://::1:6677/cii needs brackets around IPv6, as ws://[::1]:6677/cii
 companion --cii ws://h --reports 0 --turns 0 => --reports: 0 isn't from 1 to 1000000
 companion --cii ws://h --earliest 5,0 => --earliest is without --latest
 companion --cii ws://h --latest 5,0 => --latest is without --earliest
 companion --cii ws://h --earliest 5 --latest 6,0 => --earliest: 5 isn't TICK,WALL or TICK,minusinfinity
 companion --cii ws://h --earliest 5,0 --latest 6 => --latest: 6 isn't TICK,WALL or TICK,plusinfinity
+companion --cii ws://h --earliest 5,plusinfinity --latest 6,plusinfinity \
+=> --earliest: 5,plusinfinity isn't TICK,WALL or TICK,minusinfinity
+companion --cii ws://h --earliest 5,0 --latest 6,minusinfinity \
+=> --latest: 6,minusinfinity isn't TICK,WALL or TICK,plusinfinity
+companion --cii ws://h --earliest 5,0 --latest 6,9223372036854775808 \
+=> --latest: 6,9223372036854775808 isn't TICK,WALL or TICK,plusinfinity
+companion --cii ws://h --earliest 1000000000000000000,0 --latest 6,0 \
+=> --earliest: 1000000000000000000,0 isn't TICK,WALL or TICK,minusinfinity
 companion --cii ws://h --relative => no such option: --relative
 companion --record --cii ws://h --selector=é --stem=- => --selector: é can't stand in a record
 companion --record --cii ws://h --stem=- => --stem: - can't stand in a record
+companion --record --cii ws://h --stem=é => --stem: é can't stand in a record
+companion --record --cii ws://h --selector=a\tb => --selector: a\tb can't stand in a record
 relay --relative => no such option: --relative
+relay --cii ws://h --seconds 0 => --seconds: 0 isn't from 1 to 31536000
+relay --cii ws://h --host => --host has no value
+relay --cii ws://h --ask-every 1000000000001 => --ask-every: 1000000000001 isn't from 1 to 1000000000000
 relay --cii ws://h --host=[ => --host: [ is no host
 watch --seconds 0 => --cii is missing
 watch --seconds 0 --cii wss://h => --cii: no encryption: ws:// alone
@@ -222,9 +147,11 @@ watch --local-error=-1 --ask-every=-5 --cii ws://h => --ask-every: -5 has a sign
 watch --local-precision=x --local-error 2560001 --cii ws://h => --local-error: 2560001 isn't from 0 to 2560000
 watch --cii ws://h --local-precision 1000000001 => --local-precision: 1000000001 isn't from 0 to 1000000000
 watch --cii ws://h --seconds= => --seconds is empty
+watch --cii ws://h -- => stray word: --
 watch --cii ws://h --stem=a --stem=b => --stem is given twice
 watch --seconds 0 --turns 5 => no such option: --turns
 pair --cii ws://h => no such option: --cii
+pair --seconds 2 --turns 2 => --seconds and --turns exclude each other
 pair --precision 31 --local-error 2560001 => --local-error: 2560001 isn't from 0 to 2560000";
 
 fn show_bound(out: &mut String, bound: &Bound) -> Result<(), AllocError> {
@@ -242,55 +169,51 @@ fn show_limit(out: &mut String, limit: Limit) -> Result<(), AllocError> {
     }
 }
 
-fn show_options(rt: &impl Abort, out: &mut String, options: &CompanionOptions) {
+fn show_options(out: &mut String, options: &CompanionOptions) -> Result<(), AllocError> {
     let (selector, stem) = (shown(&options.selector), shown(&options.stem));
-    let reports = options.reports;
-    write!(out, " {selector} '{stem}' {reports}").expect(rt, "memory");
-    show_limit(out, options.limit).expect(rt, "memory");
+    write!(out, " {selector} '{stem}' {}", options.reports)?;
+    show_limit(out, options.limit)?;
     let (report_every, ask_every) = (options.report_every, options.ask_every);
     let (error, precision) = (options.local_error, options.local_precision);
-    write!(out, " {report_every} {ask_every} {error} {precision}").expect(rt, "memory");
-    match &options.present {
-        None => out.push_str(" always").expect(rt, "memory"),
-        Some((earliest, latest)) => {
-            show_bound(out, earliest).expect(rt, "memory");
-            show_bound(out, latest).expect(rt, "memory");
-        }
-    }
+    write!(out, " {report_every} {ask_every} {error} {precision}")?;
+    let Some((earliest, latest)) = &options.present else {
+        return write!(out, " always");
+    };
+    show_bound(out, earliest)?;
+    show_bound(out, latest)
 }
 
-fn show_address(rt: &impl Abort, out: &mut String, cii: &Address) {
-    let (host, port, path) = (shown(&cii.host), cii.port, shown(&cii.path));
-    write!(out, " {host} {port} {path}").expect(rt, "memory");
+fn show_address(out: &mut String, cii: &Address) -> Result<(), AllocError> {
+    let (host, path) = (shown(&cii.host), shown(&cii.path));
+    write!(out, " {host} {} {path}", cii.port)
 }
 
-fn show_tv(rt: &impl Abort, out: &mut String, tv: &TvWords) {
-    let (port, host) = (tv.port, shown(&tv.host));
-    write!(out, " {port}").expect(rt, "memory");
-    show_limit(out, tv.limit).expect(rt, "memory");
-    let (precision, error, follow) = (tv.precision, tv.error, tv.follow);
+fn show_tv(out: &mut String, tv: &TvWords) -> Result<(), AllocError> {
+    write!(out, " {}", tv.port)?;
+    show_limit(out, tv.limit)?;
+    let (precision, error, follow, host) = (tv.precision, tv.error, tv.follow, shown(&tv.host));
     let relative = if tv.relative { " relative" } else { "" };
-    write!(out, " {precision} {error} {follow} {host}{relative}").expect(rt, "memory");
+    write!(out, " {precision} {error} {follow} {host}{relative}")
 }
 
-fn show_relay(rt: &impl Abort, out: &mut String, relay: &RelayWords) {
-    let (port, every, host) = (relay.port, relay.ask_every, shown(&relay.host));
-    write!(out, " {port}").expect(rt, "memory");
-    show_limit(out, relay.limit).expect(rt, "memory");
-    let (error, precision) = (relay.local_error, relay.local_precision);
-    write!(out, " {every} {error} {precision} {host}").expect(rt, "memory");
+fn show_relay(out: &mut String, relay: &RelayWords) -> Result<(), AllocError> {
+    show_address(out, &relay.cii)?;
+    write!(out, " {}", relay.port)?;
+    show_limit(out, relay.limit)?;
+    let (every, error) = (relay.ask_every, relay.local_error);
+    let (precision, host) = (relay.local_precision, shown(&relay.host));
+    write!(out, " {every} {error} {precision} {host}")
 }
 
-fn show_watch(rt: &impl Abort, out: &mut String, watch: &WatchWords) {
+fn show_watch(out: &mut String, watch: &WatchWords) -> Result<(), AllocError> {
+    show_address(out, &watch.cii)?;
     let (selector, stem) = (shown(&watch.selector), shown(&watch.stem));
     let (seconds, report_every, ask_every) = (watch.seconds, watch.report_every, watch.ask_every);
+    let (error, precision) = (watch.local_error, watch.local_precision);
     write!(
         out,
-        " {selector} '{stem}' {seconds} {report_every} {ask_every}"
+        " {selector} '{stem}' {seconds} {report_every} {ask_every} {error} {precision}"
     )
-    .expect(rt, "memory");
-    let (error, precision) = (watch.local_error, watch.local_precision);
-    write!(out, " {error} {precision}").expect(rt, "memory");
 }
 
 fn show_generator(out: &mut String, words: &GeneratorWords) -> Result<(), AllocError> {
@@ -299,6 +222,17 @@ fn show_generator(out: &mut String, words: &GeneratorWords) -> Result<(), AllocE
         None => write!(out, " {seed} {lines}"),
         Some(count) => write!(out, " {seed} {lines} {count}"),
     }
+}
+
+fn show_companion(out: &mut String, words: &CompanionWords) -> Result<(), AllocError> {
+    show_address(out, &words.cii)?;
+    show_options(out, &words.options)?;
+    out.push_str(if words.recorded { " recorded" } else { "" })
+}
+
+fn show_pair(out: &mut String, words: &PairWords) -> Result<(), AllocError> {
+    show_tv(out, &words.tv)?;
+    show_options(out, &words.companion)
 }
 
 fn name_of(command: &Command) -> &'static str {
@@ -317,32 +251,16 @@ fn name_of(command: &Command) -> &'static str {
     }
 }
 
-fn show(rt: &impl Abort, out: &mut String, command: &Command) {
-    out.push_str(name_of(command)).expect(rt, "memory");
+fn show(out: &mut String, command: &Command) -> Result<(), AllocError> {
+    out.push_str(name_of(command))?;
     match command {
-        Command::Replay | Command::Agree | Command::Audit | Command::Migrate => {}
-        Command::Companion(words) => {
-            show_address(rt, out, &words.cii);
-            show_options(rt, out, &words.options);
-            let recorded = if words.recorded { " recorded" } else { "" };
-            out.push_str(recorded).expect(rt, "memory");
-        }
-        Command::Tv(words) => show_tv(rt, out, words),
-        Command::Pair(words) => {
-            show_tv(rt, out, &words.tv);
-            show_options(rt, out, &words.companion);
-        }
-        Command::Generate(words) | Command::Survey(words) => {
-            show_generator(out, words).expect(rt, "memory");
-        }
-        Command::Relay(words) => {
-            show_address(rt, out, &words.cii);
-            show_relay(rt, out, words);
-        }
-        Command::Watch(words) => {
-            show_address(rt, out, &words.cii);
-            show_watch(rt, out, words);
-        }
+        Command::Replay | Command::Agree | Command::Audit | Command::Migrate => Ok(()),
+        Command::Companion(words) => show_companion(out, words),
+        Command::Tv(words) => show_tv(out, words),
+        Command::Pair(words) => show_pair(out, words),
+        Command::Generate(words) | Command::Survey(words) => show_generator(out, words),
+        Command::Relay(words) => show_relay(out, words),
+        Command::Watch(words) => show_watch(out, words),
     }
 }
 
@@ -350,9 +268,10 @@ fn show(rt: &impl Abort, out: &mut String, command: &Command) {
 fn told(rt: &impl Abort, alloc: Global, words: &[String]) -> String {
     let mut told = String::new(alloc);
     match command_of(alloc, words) {
-        Ok(command) => show(rt, &mut told, &command),
-        Err(fault) => write!(told, "{fault}").expect(rt, "memory"),
+        Ok(command) => show(&mut told, &command),
+        Err(fault) => write!(told, "{fault}"),
     }
+    .expect(rt, "memory");
     told
 }
 
@@ -366,41 +285,32 @@ fn words_of(rt: &impl Abort, alloc: Global, line: &str) -> Vec<String> {
     words
 }
 
-/// What the words of a line ask for, and whether something is said of them.
-fn check_line(rt: &impl Abort, alloc: Global, line: &str, expected: &str, is_said: bool) {
+/// What the words of a line ask for, and what is said of them, if anything is.
+fn check_line(rt: &impl Abort, alloc: Global, line: &str, expected: &str, said: Option<&str>) {
     let words = words_of(rt, alloc, line);
-    check(rt, &told(rt, alloc, &words), expected);
-    check_that(rt, complaint(alloc, &words).is_some() == is_said, line);
+    check(rt, line, &told(rt, alloc, &words), expected);
+    let complaint = complaint(alloc, &words);
+    let found = complaint.as_ref().map(shown);
+    assert!(rt; found == said, "{line}: {found:?} and not {said:?}");
 }
 
 #[test]
 fn words_ask_for_commands(rt: HostRuntime) {
-    let table = COMMANDS
-        .replace(rt.alloc(), "DEFAULTS", DEFAULTS)
-        .expect(&rt, "memory");
-    for row in table.lines() {
+    let table = COMMANDS.replace(rt.alloc(), "DEFAULTS", DEFAULTS);
+    for row in table.expect(&rt, "memory").lines() {
         let (line, expected) = row.split_once(" => ").expect(&rt, "an arrow");
-        check_line(&rt, rt.alloc(), line, expected, false);
+        check_line(&rt, rt.alloc(), line, expected, None);
     }
 }
 
 #[test]
 fn other_words_are_usage(rt: HostRuntime) {
-    check(&rt, &told(&rt, rt.alloc(), &[]), "usage");
+    check(&rt, "no words", &told(&rt, rt.alloc(), &[]), "usage");
     for line in NO_COMMAND.lines() {
-        check_line(&rt, rt.alloc(), line, "usage", false);
+        check_line(&rt, rt.alloc(), line, "usage", None);
     }
-    for line in USAGE.lines() {
-        check_line(&rt, rt.alloc(), line, "usage", true);
-    }
-}
-
-#[test]
-fn complaints_say_what_is_wrong(rt: HostRuntime) {
     for row in COMPLAINTS.lines() {
-        let (line, expected) = row.split_once(" => ").expect(&rt, "an arrow");
-        let words = words_of(&rt, rt.alloc(), line);
-        let said = complaint(rt.alloc(), &words).expect(&rt, line);
-        check(&rt, shown(&said), expected);
+        let (line, said) = row.split_once(" => ").expect(&rt, "an arrow");
+        check_line(&rt, rt.alloc(), line, "usage", Some(said));
     }
 }

@@ -4,8 +4,8 @@ use css_num::Text;
 use std::process::Abort;
 
 /// What came of a row is what the row says.
-pub fn check(rt: &impl Abort, told: &str, expected: &str) {
-    assert!(rt; told == expected, "{told} and not {expected}");
+pub fn check(rt: &impl Abort, row: &str, told: &str, expected: &str) {
+    assert!(rt; told == expected, "{row}: {told} and not {expected}");
 }
 
 pub fn check_that(rt: &impl Abort, holds: bool, what: &str) {

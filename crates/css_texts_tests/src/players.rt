@@ -28,7 +28,7 @@ const FAR: i64 = 100_000_000_000_000_000;
 const LAST: u64 = 4_294_967_295_999_999_999;
 
 /// The content time, the wall time and the speed of a timeline's control timestamp, where it is available.
-fn told(player: &Player, selector: &[u8]) -> Option<(i64, u64, i32)> {
+fn told(player: &Player, selector: &[u8]) -> Told {
     match player.control(b"dvb", selector) {
         Control::Available {
             content,
@@ -54,23 +54,18 @@ fn added(player: &mut Player, alloc: Global, programme: u32, base: i64) -> Resul
 /// A player of the programme `dvb://1` with a PTS timeline.
 fn loaded(rt: &impl Abort, alloc: Global) -> Player {
     let mut player = Player::new(alloc);
-    check_that(
-        rt,
-        player.add_programme(alloc, b"dvb://1") == Ok(1),
-        "a programme",
-    );
+    let number = player.add_programme(alloc, b"dvb://1");
+    check_that(rt, number == Ok(1), "a programme");
     let added = player.add_timeline(alloc, 1, PTS, STAMPS, 900_000);
     added.expect(rt, "a timeline");
     player
 }
 
+/// A content time, a wall time and a speed, where there are some.
+type Told = Option<(i64, u64, i32)>;
+
 /// A command, its reading, what comes of it, and the control timestamp after it.
-type Step = (
-    Command,
-    u64,
-    Result<(), PlayerFault>,
-    Option<(i64, u64, i32)>,
-);
+type Step = (Command, u64, Result<(), PlayerFault>, Told);
 
 #[rattlefmt::skip]
 const STEPS: [Step; 17] = [
@@ -116,38 +111,31 @@ fn delayed(player: &mut Player, delay: u64) -> Option<(i128, u64)>
     player.segment().map(|segment| (segment.at, segment.delay))
 }
 
+/// A delay, and the start and the delay of what is shown then. It never begins before 0.
+#[rattlefmt::skip]
+const DELAYS: [(u64, Option<(i128, u64)>); 3] =
+    [(6, Some((3, 10))), (7, Some((0, 7))), (10_000_000_000, Some((9_999_999_993, 10_000_000_000)))];
+
 #[test]
 fn a_delay_turns_the_segment(rt: HostRuntime) {
     let mut player = loaded(&rt, rt.alloc());
     check_that(&rt, delayed(&mut player, 10).is_none(), "nothing is shown");
     did(&mut player, Command::Change(1), 0).expect(&rt, "a change");
+    let later = delayed(&mut player, 10) == Some((10, 10));
     check_that(
         &rt,
-        delayed(&mut player, 10) == Some((10, 10)),
+        later && told(&player, PTS) == Some((900_000, 10, 1)),
         "it begins later",
     );
-    check_that(
-        &rt,
-        told(&player, PTS) == Some((900_000, 10, 1)),
-        "it is told so",
-    );
     did(&mut player, Command::Speed(2), 3).expect(&rt, "a speed");
-    check_that(
-        &rt,
-        delayed(&mut player, 6) == Some((3, 10)),
-        "it never begins before 0",
-    );
-    check_that(
-        &rt,
-        delayed(&mut player, 7) == Some((0, 7)),
-        "it begins at 0",
-    );
-    let greatest = delayed(&mut player, 10_000_000_000);
-    check_that(
-        &rt,
-        greatest == Some((9_999_999_993, 10_000_000_000)),
-        "the greatest delay",
-    );
+    for (delay, expected) in DELAYS {
+        assert!(rt; delay <= 10_000_000_000);
+        check_that(
+            &rt,
+            delayed(&mut player, delay) == expected,
+            "another delay",
+        );
+    }
 }
 
 /// The parts of a rate, a base tick, a media position, and its tick.
@@ -161,13 +149,7 @@ const TICKS: [(u32, u32, i64, i64, i64); 5] = [
 ];
 
 /// The control timestamp at a media position of a timeline that is added to a player.
-fn control_at(
-    rt: &impl Abort,
-    alloc: Global,
-    rate: Rate,
-    base: i64,
-    media: i64,
-) -> Option<(i64, u64, i32)> {
+fn control_at(rt: &impl Abort, alloc: Global, rate: Rate, base: i64, media: i64) -> Told {
     let mut player = loaded(rt, alloc);
     let added = player.add_timeline(alloc, 1, OTHER, rate, base);
     added.expect(rt, "a timeline");
@@ -231,24 +213,14 @@ fn timelines_told(rt: &impl Abort, alloc: Global, player: &Player) -> Option<(us
 #[test]
 fn what_is_shown_is_told(rt: HostRuntime) {
     let mut player = loaded(&rt, rt.alloc());
-    check_that(
-        &rt,
-        player.content_id().is_none() && player.rate(PTS).is_none(),
-        "nothing",
-    );
-    check_that(
-        &rt,
-        timelines_told(&rt, rt.alloc(), &player).is_none(),
-        "no timelines",
-    );
+    let timelines = timelines_told(&rt, rt.alloc(), &player);
+    let is_told = player.content_id().is_some() || player.rate(PTS).is_some();
+    check_that(&rt, !is_told && timelines.is_none(), "nothing");
     added(&mut player, rt.alloc(), 1, 7).expect(&rt, "a timeline");
     added(&mut player, rt.alloc(), 1, 8).expect(&rt, "a timeline");
     did(&mut player, Command::Change(1), 0).expect(&rt, "a change");
-    check_that(
-        &rt,
-        player.content_id() == Some(b"dvb://1".as_slice()),
-        "its name",
-    );
+    let name = b"dvb://1".as_slice();
+    check_that(&rt, player.content_id() == Some(name), "its name");
     check_that(
         &rt,
         told(&player, OTHER) == Some((7, 0, 1)),
@@ -275,20 +247,17 @@ fn a_copy_goes_its_own_way(rt: HostRuntime) {
     check_that(&rt, player.segment() == before, "the player");
 }
 
+#[rattlefmt::skip]
+const WORDS: [(PlayerFault, &str); 5] = [
+    (PlayerFault::NoProgramme, "no programme"), (PlayerFault::Speed, "speed"), (PlayerFault::Range, "range"),
+    (PlayerFault::Full, "full"), (PlayerFault::Memory, "out of memory"),
+];
+
 #[test]
 fn faults_have_words(rt: HostRuntime) {
-    for (fault, words) in [
-        (PlayerFault::NoProgramme, "no programme"),
-        (PlayerFault::Speed, "speed"),
-        (PlayerFault::Range, "range"),
-        (PlayerFault::Full, "full"),
-        (PlayerFault::Memory, "out of memory"),
-    ] {
-        check(
-            &rt,
-            &format!(in rt.alloc(); "{fault}").expect(&rt, "memory"),
-            words,
-        );
+    for (fault, words) in WORDS {
+        let told = format!(in rt.alloc(); "{fault}").expect(&rt, "memory");
+        check(&rt, "a fault", &told, words);
     }
 }
 

@@ -61,7 +61,7 @@ fn check_written(rt: &impl Abort, alloc: Global, change: &Change, text: &str)
     requires { IsUtf8Change change.now }
 {
     let written = write_message(alloc, change).expect(rt, "memory");
-    check(rt, words(&written), text);
+    check(rt, "a change", words(&written), text);
 }
 
 /// Reads a text onto a state. It is that of the difference, too.

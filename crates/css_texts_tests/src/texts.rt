@@ -257,7 +257,7 @@ fn with_names(rt: &impl Abort, alloc: Global, short: &str) -> String {
 fn check_text(rt: &impl Abort, alloc: Global, reader: Reader, text: &str, expected: &str) {
     let text = with_names(rt, alloc, text);
     let told = outcome(rt, alloc, reader, text.as_bytes());
-    check(rt, &told, &with_names(rt, alloc, expected));
+    check(rt, &text, &told, &with_names(rt, alloc, expected));
 }
 
 fn check_rows(rt: &impl Abort, alloc: Global, reader: Reader, table: &str) {
@@ -312,11 +312,8 @@ const CONTROL: Control = Control::Available {
 #[test]
 fn times_are_read_as_values(rt: HostRuntime) {
     let text = with_names(&rt, rt.alloc(), r#"{C:"900000",W:"10000000000",S:1.0}"#);
-    check_that(
-        &rt,
-        read_control(rt.alloc(), text.as_bytes()) == Ok(CONTROL),
-        "a control",
-    );
+    let read = read_control(rt.alloc(), text.as_bytes());
+    check_that(&rt, read == Ok(CONTROL), "a control");
     check_that(&rt, is_same(&CONTROL, &CONTROL), "the same");
     check_that(&rt, !is_same(&CONTROL, &Control::Unavailable), "another");
     let text = r#"{E:{C:"900000",W:"10040000000"},L:{C:"900001",W:"plusinfinity"}}"#;
@@ -335,20 +332,23 @@ fn times_are_read_as_values(rt: HostRuntime) {
 
 #[test]
 fn a_setup_is_read_as_a_value(rt: HostRuntime) {
-    let text = with_names(
-        &rt,
-        rt.alloc(),
-        r#"{N:"urn:dvb:css:timeline:pts",I:"dvb://"}"#,
-    );
+    let short = r#"{N:"urn:dvb:css:timeline:pts",I:"dvb://"}"#;
+    let text = with_names(&rt, rt.alloc(), short);
     let setup = read_setup(rt.alloc(), text.as_bytes()).expect(&rt, "a setup");
-    check(&rt, words(&setup.stem), "dvb://");
-    check(&rt, words(&setup.selector), "urn:dvb:css:timeline:pts");
+    check(&rt, "its stem", words(&setup.stem), "dvb://");
+    let selector = words(&setup.selector);
+    check(&rt, "its selector", selector, "urn:dvb:css:timeline:pts");
 }
 
 #[test]
 fn want_of_memory_and_names_are_told(rt: HostRuntime) {
-    let told = format!(in rt.alloc(); "{}; {}", CiiFault::Memory, CiiName::TsUrl);
-    check(&rt, &told.expect(&rt, "memory"), "out of memory; tsUrl");
-    let told = format!(in rt.alloc(); "{}; {}", TsFault::Memory, TsName::Actual);
-    check(&rt, &told.expect(&rt, "memory"), "out of memory; actual");
+    let (cii, ts) = (CiiFault::Memory, TsFault::Memory);
+    let told = format!(in rt.alloc(); "{cii}; {}; {ts}; {}", CiiName::TsUrl, TsName::Actual);
+    let told = told.expect(&rt, "memory");
+    check(
+        &rt,
+        "faults",
+        &told,
+        "out of memory; tsUrl; out of memory; actual",
+    );
 }

@@ -1,16 +1,16 @@
-//! The lines of a watch: one of each kind, in its words.
+//! The lines of a watch, where those of the tests of the command `watch` don't have their kind or their numbers.
 
 use crate::common::{check, words};
 use css_cii::{State, apply_to, read_message};
 use css_client::Landing;
 use css_companion::Cause;
-use css_model::{Kind, WcFault};
+use css_model::WcFault;
 use css_num::{Memory, Rate, Span, Text};
 use css_span::Answer;
 use css_tsmsg::{TsFault, TsName, read_control};
 use css_watch_lines::{
-    Known, Ticks, answer_line, cause_line, control_line, dial_line, end_line, known_line,
-    refused_line, slept_line, state_line, visit_line,
+    Known, Ticks, answer_line, cause_line, control_line, known_line, refused_line, slept_line,
+    state_line, visit_line,
 };
 use std::alloc::Global;
 use std::process::Abort;
@@ -22,7 +22,7 @@ const LAST: u64 = 4_294_967_295_999_999_999;
 fn check_line(rt: &impl Abort, alloc: Global, line: Result<Text, Memory>, text: &str) {
     let line = line.expect(rt, "memory");
     let expected = format!(in alloc; "{text}\n").expect(rt, "memory");
-    check(rt, words(&line), &expected);
+    check(rt, "a line", words(&line), &expected);
 }
 
 #[test]
@@ -35,17 +35,6 @@ fn visits_and_sleeps_have_their_readings(rt: HostRuntime) {
     check_line(&rt, alloc, line, last);
     let slept = r#"{"event":"slept","reading":"9007199254740993"}"#;
     check_line(&rt, alloc, slept_line(alloc, 9_007_199_254_740_993), slept);
-}
-
-#[test]
-fn dials_have_their_outcomes(rt: HostRuntime) {
-    let alloc = rt.alloc();
-    let failed = r#"{"event":"dial","outcome":"failed","service":"CII"}"#;
-    check_line(&rt, alloc, dial_line(alloc, Kind::Cii, false), failed);
-    let open = r#"{"event":"dial","outcome":"open","service":"WC"}"#;
-    check_line(&rt, alloc, dial_line(alloc, Kind::Wc, true), open);
-    let open = r#"{"event":"dial","outcome":"open","service":"TS"}"#;
-    check_line(&rt, alloc, dial_line(alloc, Kind::Ts, true), open);
 }
 
 /// A text of CII.
@@ -164,21 +153,10 @@ fn a_report_has_all_that_carries_it_on(rt: HostRuntime) {
 #[test]
 fn a_report_has_its_cause_else(rt: HostRuntime) {
     let alloc = rt.alloc();
-    let line =
-        r#"{"cause":"NoAnswer","detail":"no wcUrl","event":"report","number":1,"reading":"5"}"#;
-    let told = cause_line(alloc, 1, 5, &Cause::NoAnswer, "no wcUrl");
-    check_line(&rt, alloc, told, line);
     let line = concat!(
         r#"{"cause":"Unreadable Range wallClockTime","detail":"","event":"report","number":1,"#,
         r#""reading":"5"}"#
     );
     let cause = Cause::Unreadable(TsFault::Range(TsName::WallClockTime));
     check_line(&rt, alloc, cause_line(alloc, 1, 5, &cause, ""), line);
-}
-
-#[test]
-fn an_end_says_why(rt: HostRuntime) {
-    let alloc = rt.alloc();
-    let line = r#"{"event":"end","number":12,"why":"closed TS"}"#;
-    check_line(&rt, alloc, end_line(alloc, 12, "closed TS"), line);
 }
