@@ -59,12 +59,24 @@ static int call(css_companion *c, const char *what) {
     css_span span;
     css_position position;
     css_readings readings;
+    static css_snapshot copy;
+    uint64_t last;
     if (!strcmp(what, "ask")) return css_companion_ask(c, reading += 1000, out);
     if (!strcmp(what, "exchange")) return exchange(c), 0;
     if (!strcmp(what, "wall")) return css_companion_wall(c, reading += 1000, &span);
     if (!strcmp(what, "position")) return css_companion_position(c, reading += 1000, &position);
     if (!strcmp(what, "lead")) return css_companion_lead(c, reading += 1000, 950000, &span);
     if (!strcmp(what, "when")) return css_companion_when(c, 2000000, &readings);
+    if (!strcmp(what, "until")) return css_companion_until(c, 10000000, &last);
+    if (!strcmp(what, "snapshot")) return css_companion_snapshot(c, &copy);
+    if (!strcmp(what, "snapshot position")) {
+        if (!copy.count) css_companion_snapshot(c, &copy);
+        return css_snapshot_position(&copy, reading, &position);
+    }
+    if (!strcmp(what, "timeline")) {
+        css_rate rate;
+        return css_companion_timeline(c, 0, &rate, out, sizeof out, &used);
+    }
     if (!strcmp(what, "slept")) return css_companion_slept(c);
     if (!strcmp(what, "setup")) return css_companion_setup(c, out, sizeof out, &used);
     if (!strcmp(what, "ts_closed")) return css_companion_ts_closed(c);

@@ -13,7 +13,8 @@ import tempfile
 from pathlib import Path
 
 HERE = Path(__file__).resolve().parent
-CALLS = ["ask", "exchange", "wall", "position", "lead", "when", "slept", "setup", "ts_closed", "control", "cii"]
+CALLS = ["ask", "exchange", "wall", "position", "lead", "when", "until", "snapshot", "snapshot position", "slept"]
+CALLS += ["timeline", "setup", "ts_closed", "control", "cii"]
 COUNT = 200
 
 

@@ -22,8 +22,7 @@
  *
  * There is no global state, no thread, no thread-local and no callback. Memory is taken by new, cii, cii_state, setup,
  * control, presentation and report, and by land for the first response of a declared error and for one that promises
- * a follow-up. All others take none; of these ts_closed alone may answer CSS_MEMORY, by its contract.
- * css_snapshot_position doesn't call the allocator at all.
+ * a follow-up. All others take none, and never answer CSS_MEMORY.
  *
  * It was tried on x86-64 Linux with glibc, from C11, C++17 and Rust.
  */

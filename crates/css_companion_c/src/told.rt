@@ -1,0 +1,209 @@
+//! Calls of the two sessions: their texts, and what the television told.
+ghost use Rattle.std.specs.Prelude.{◌≡◌, ◌≢◌, ℕ, Some, IfSome, ◌∷◌, length, take};
+ghost use Rattle.css_model.specs.declared.Kind.TheVariants as kind;
+ghost use Rattle.css_model.specs.History.{Entry, Heard, Dialled};
+ghost use Rattle.css_cii.specs.States.{full_change};
+ghost use Rattle.css_cii.specs.Texts.{change_text};
+ghost use Rattle.css_tsmsg.specs.Controls.{control_of};
+ghost use Rattle.css_tsmsg.specs.Setups.{setup_text};
+ghost use Rattle.css_companion.specs.Meanings.{kind_of};
+ghost use Rattle.css_companion.specs.Steps as steps;
+ghost use Rattle.css_companion.specs.declared.event.CompanionEvent.TheVariants as event;
+ghost use Rattle.css_companion_c.specs.Codes as answers;
+ghost use Rattle.css_companion_c.specs.Codes.{DONE, NO_ROOM, ChangesNothing, GoesOn, Answers, aged};
+ghost use Rattle.css_companion_c.specs.Handles.{behind, Of, Between};
+ghost use Rattle.css_companion_c.specs.Promises.{Adds};
+ghost use Rattle.css_companion_c.specs.Texts.{Holds, property_of, listed, TellsTimeline};
+
+use crate::handle::Handle;
+use crate::timelines::{TimelineRate, timeline};
+use crate::{codes, content, sessions};
+use std::alloc::Global;
+
+/// Takes in a text of the CII session.
+#[unsafe(no_mangle)]
+pub extern "C" fn css_companion_cii(alloc: Global, handle: &mut Handle, text: &[u8]) -> u32
+    ensures code { Answers (answers.heard (behind handle.old) text.now DONE)
+        (answers.if_open (behind handle.old) (λ old. answers.owed_code (steps.cii_answer old text.now))) result }
+    ensures same { ChangesNothing result → behind handle.new ≡ behind handle.old }
+    ensures age { handle.new.age ≡ aged handle.old.age result }
+    ensures told { GoesOn result → Between (behind handle.old) (behind handle.new) (λ old new.
+        new ≡ steps.with_text old text.now) }
+    ensures stands { GoesOn result → Between (behind handle.old) (behind handle.new) (λ old new. (peer : ℕ)
+        → Adds (λ history. kind_of peer history ≡ Some kind.Cii) (λ history. Heard peer text.now ∷ history) old new) }
+{
+    match handle.take(alloc) {
+        Some(boxed) => {
+            let mut companion = boxed;
+            let code = sessions::cii(&mut companion, text);
+            handle.put(companion, code);
+            code
+        }
+        None => codes::CLOSED,
+    }
+}
+
+/// Puts a property of the content's state into a buffer, by its number: 0 protocolVersion, 1 mrsUrl, 2 contentId,
+/// 3 contentIdStatus, 4 presentationStatus, 5 wcUrl, 6 tsUrl, 7 teUrl.
+#[unsafe(no_mangle)]
+pub extern "C" fn css_companion_cii_field(
+    alloc: Global,
+    handle: &mut Handle,
+    property: u32,
+    out: &mut [u8],
+    used: &mut usize,
+) -> u32
+    ensures kept { result ≢ DONE → out.new ≡ out.old }
+    ensures code { result ≡ answers.if_open (behind handle.old) (λ companion.
+        answers.field_code property (property_of property companion.state) (length out.old)) }
+    ensures same { behind handle.new ≡ behind handle.old }
+    ensures age { handle.new.age ≡ handle.old.age }
+    ensures text { result ≡ DONE → Of (behind handle.old) (λ companion.
+        property_of property companion.state ≡ Some (take used.new out.new)) }
+    ensures needs { result ≡ NO_ROOM → Of (behind handle.old) (λ companion.
+        IfSome (property_of property companion.state) (λ text. used.new ≡ length text)) }
+{
+    match handle.take(alloc) {
+        Some(boxed) => {
+            let code = content::field(&boxed, property, out, used);
+            handle.put_back(boxed);
+            code
+        }
+        None => codes::CLOSED,
+    }
+}
+
+/// Puts the whole state of the content into a buffer, as the text that tells it.
+#[unsafe(no_mangle)]
+pub extern "C" fn css_companion_cii_state(
+    alloc: Global,
+    handle: &mut Handle,
+    out: &mut [u8],
+    used: &mut usize,
+) -> u32
+    ensures kept { result ≢ DONE → out.new ≡ out.old }
+    ensures code { Answers (answers.if_open (behind handle.old) (λ _. DONE)) (answers.if_open (behind handle.old)
+        (λ companion. answers.room_code (change_text (full_change companion.state)) (length out.old))) result }
+    ensures same { behind handle.new ≡ behind handle.old }
+    ensures age { handle.new.age ≡ handle.old.age }
+    ensures text { result ≡ DONE → Of (behind handle.old) (λ companion.
+        Holds (change_text (full_change companion.state)) used.new out.new) }
+    ensures needs { result ≡ NO_ROOM → Of (behind handle.old) (λ companion.
+        used.new ≡ length (change_text (full_change companion.state))) }
+{
+    match handle.take(alloc) {
+        Some(boxed) => {
+            let code = content::state(alloc, &boxed, out, used);
+            handle.put_back(boxed);
+            code
+        }
+        None => codes::CLOSED,
+    }
+}
+
+/// Puts the selector of a timeline that the television lists into a buffer, with its tick rate, by its number from 0.
+#[unsafe(no_mangle)]
+pub extern "C" fn css_companion_timeline(
+    alloc: Global,
+    handle: &mut Handle,
+    number: usize,
+    rate: &mut TimelineRate,
+    out: &mut [u8],
+    used: &mut usize,
+) -> u32
+    ensures kept { result ≢ DONE → (out.new ≡ out.old) × (rate.new ≡ rate.old) }
+    ensures code { result ≡ answers.if_open (behind handle.old) (λ companion.
+        answers.timeline_code (listed number companion.state.timelines) (length out.old)) }
+    ensures same { behind handle.new ≡ behind handle.old }
+    ensures age { handle.new.age ≡ handle.old.age }
+    ensures told { result ≡ DONE → Of (behind handle.old) (λ companion.
+        IfSome (listed number companion.state.timelines) (λ timeline.
+        TellsTimeline timeline used.new out.new rate.new)) }
+    ensures needs { result ≡ NO_ROOM → Of (behind handle.old) (λ companion.
+        IfSome (listed number companion.state.timelines) (λ timeline. used.new ≡ length timeline.selector)) }
+{
+    match handle.take(alloc) {
+        Some(boxed) => {
+            let code = timeline(&boxed, number, rate, out, used);
+            handle.put_back(boxed);
+            code
+        }
+        None => codes::CLOSED,
+    }
+}
+
+/// Puts the text to send on a TS session that was opened into a buffer. That session begins anew: there is no control
+/// timestamp until one comes on it.
+#[unsafe(no_mangle)]
+pub extern "C" fn css_companion_setup(
+    alloc: Global,
+    handle: &mut Handle,
+    out: &mut [u8],
+    used: &mut usize,
+) -> u32
+    ensures kept { result ≢ DONE → out.new ≡ out.old }
+    ensures code { Answers (answers.if_open (behind handle.old) (λ _. DONE)) (answers.if_open (behind handle.old)
+        (λ companion. answers.room_code (setup_text companion.setup) (length out.old))) result }
+    ensures same { ChangesNothing result → behind handle.new ≡ behind handle.old }
+    ensures age { handle.new.age ≡ aged handle.old.age result }
+    ensures told { result ≡ DONE → Between (behind handle.old) (behind handle.new) (λ old new.
+        new ≡ steps.stepped old event.TsOpened) }
+    ensures text { result ≡ DONE → Of (behind handle.old) (λ companion.
+        Holds (setup_text companion.setup) used.new out.new) }
+    ensures needs { result ≡ NO_ROOM → Of (behind handle.old) (λ companion.
+        used.new ≡ length (setup_text companion.setup)) }
+    ensures stands { result ≡ DONE → Between (behind handle.old) (behind handle.new) (λ old new. (peer : ℕ)
+        → Adds (λ _. Unit {0}) (λ history. Dialled kind.Ts peer ∷ history) old new) }
+{
+    match handle.take(alloc) {
+        Some(boxed) => {
+            let mut companion = boxed;
+            let code = sessions::setup(&mut companion, out, used);
+            handle.put(companion, code);
+            code
+        }
+        None => codes::CLOSED,
+    }
+}
+
+/// Takes in a text of the TS session. One that can't be read takes the place of the last control timestamp too.
+#[unsafe(no_mangle)]
+pub extern "C" fn css_companion_control(alloc: Global, handle: &mut Handle, text: &[u8]) -> u32
+    ensures code { Answers (answers.heard (behind handle.old) text.now DONE) DONE result }
+    ensures same { ChangesNothing result → behind handle.new ≡ behind handle.old }
+    ensures age { handle.new.age ≡ aged handle.old.age result }
+    ensures told { result ≡ DONE → Between (behind handle.old) (behind handle.new) (λ old new.
+        new ≡ record old { control = Some (control_of text.now) }) }
+    ensures stands { result ≡ DONE → Between (behind handle.old) (behind handle.new) (λ old new. (peer : ℕ)
+        → Adds (λ history. kind_of peer history ≡ Some kind.Ts) (λ history. Heard peer text.now ∷ history) old new) }
+{
+    match handle.take(alloc) {
+        Some(boxed) => {
+            let mut companion = boxed;
+            let code = sessions::control(&mut companion, text);
+            handle.put(companion, code);
+            code
+        }
+        None => codes::CLOSED,
+    }
+}
+
+/// The TS session closed.
+#[unsafe(no_mangle)]
+pub extern "C" fn css_companion_ts_closed(alloc: Global, handle: &mut Handle) -> u32
+    ensures code { result ≡ answers.if_open (behind handle.old) (λ _. DONE) }
+    ensures same { result ≢ DONE → behind handle.new ≡ behind handle.old }
+    ensures age { handle.new.age ≡ aged handle.old.age result }
+    ensures stands { result ≡ DONE → Between (behind handle.old) (behind handle.new) (λ old new. (entry : Entry)
+        → Adds (steps.IsEntryOf event.TsClosed entry) (λ history. entry ∷ history) old new) }
+{
+    match handle.take(alloc) {
+        Some(boxed) => {
+            let mut companion = boxed;
+            companion.ts_closed();
+            handle.put(companion, codes::DONE);
+            codes::DONE
+        }
+        None => codes::CLOSED,
+    }
+}
