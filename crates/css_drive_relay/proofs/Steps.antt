@@ -1,12 +1,12 @@
 -- How a relay's run goes on by a call that is due, and how it ends.
 use Rattle.std.proofs.Common.{◌≡◌, ℕ, ap, sym, ◌∙◌, subst, refl, Bool, true, false}
-use Rattle.std.proofs.Common.{[], ◌∷◌, ◌++◌, None}
+use Rattle.std.proofs.Common.{[], ◌∷◌, ◌++◌, None, ◌||◌}
 use Rattle.css_model.specs.declared.Why.{Why}
 use Rattle.css_model.specs.Explains.{IsLawful}
 use Rattle.css_model.specs.History.{Entry, Slept, Clock, History, is_sleep, asking_at, request_by, landed_answer}
 use Rattle.css_outside.specs.Outsides.{with_entries, clock_entries, sleep_entries}
 use Rattle.css_outside.specs.declared.calls.Clocked.{Clocked}
-use Rattle.css_companion.specs.Meanings.{kind_of, cii_text, ts_text, closes_ts}
+use Rattle.css_companion.specs.Meanings.{kind_of, cii_text, ts_text, opens_ts, closes_ts}
 use Rattle.css_companion.proofs.Telling as telling
 use Rattle.css_relay.specs.Relays.{Relay}
 use Rattle.css_drive.specs.CompanionStanding.{Shown, Failed, asked_after}
@@ -25,14 +25,14 @@ use Rattle.css_drive_relay.specs.declared.config.RelayRun.{RelayRun}
 -- an entry that tells it nothing
 pub knows_plain : {run : RelayRun} {relay : Relay} {history : History} → Knows run relay history → (entry : Entry)
     → is_sleep entry ≡ false → asking_at entry ≡ None → request_by entry ≡ None → landed_answer entry history ≡ None
-    → cii_text entry history ≡ None → ts_text entry history ≡ None → closes_ts entry history ≡ false
-    → Knows run relay (entry ∷ history)
+    → cii_text entry history ≡ None → ts_text entry history ≡ None
+    → (opens_ts entry || closes_ts entry history) ≡ false → Knows run relay (entry ∷ history)
 knows_plain {run} {relay} {history} k entry awake asks sends lands cii ts end = record {
   stands = telling.stands_aside relay.companion history entry k.stands (record {
     client = record { awake = awake; asks_none = asks; sends_none = sends; lands_none = lands };
     no_cii = cii;
     no_ts = ts;
-    no_end = end;
+    no_edge = end;
   });
   own = k.own;
   wc_url = k.wc_url;
