@@ -18,12 +18,17 @@ const QUOTIENTS: [Quotient; 5] = [
     (1 - LIMIT, 2, (-(LIMIT / 2), 1 - LIMIT / 2)),
 ];
 
+fn check_quotient(rt: &impl Abort, row: &Quotient) {
+    let (a, b, expected) = *row;
+    assert!(rt; 0 < b && a.unsigned_abs() < 1 << 126);
+    let found = (floor_div(a, b), ceil_div(a, b));
+    assert!(rt; found == expected, "{a} / {b}: {found:?}");
+}
+
 #[test]
 fn quotients_are_rounded_down_and_up(rt: HostRuntime) {
-    for (a, b, expected) in QUOTIENTS {
-        assert!(rt; 0 < b && a.unsigned_abs() < 1 << 126);
-        let found = (floor_div(a, b), ceil_div(a, b));
-        assert!(rt; found == expected, "{a} / {b}: {found:?}");
+    for row in &QUOTIENTS {
+        check_quotient(&rt, row);
     }
 }
 
