@@ -1,6 +1,6 @@
 //! Lines of schedules and of scripts, read and printed.
 
-use crate::common::{check, check_that, parts, shown, words};
+use crate::common::{check, check_that, parts, words};
 use css_num::Text;
 use css_schedule::{Line, LineFault, LineWhy, PlayerFault, print_line, read_line, read_script};
 use std::alloc::Global;

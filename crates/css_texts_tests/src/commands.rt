@@ -1,5 +1,5 @@
 //! Command lines, what each of them asks for, and what is said of those that are of no command.
-use crate::common::{check, check_that, words as shown};
+use crate::common::{check, words as shown};
 use css_words::{
     Address, Bound, Command, CompanionOptions, CompanionWords, GeneratorWords, Limit, PairWords,
     RelayWords, TvWords, WatchWords, command_of, complaint,
