@@ -4,7 +4,7 @@ use Rattle.std.specs.Prelude.{List, length, map, reverse, take, All, Option, Non
 use Rattle.css_num.specs.Rates.{IsTickRate}
 use Rattle.css_num.specs.Spans.{Interval}
 use Rattle.css_model.specs.declared.TheConstants.{LIMIT}
-use Rattle.css_model.specs.WallClock.{Answer, Local, IsLocal}
+use Rattle.css_model.specs.WallClock.{Answer, Local, IsAnswer, IsLocal}
 use Rattle.css_model.specs.History.{History}
 use Rattle.css_span.specs.Frontiers.{IsPossible}
 use Rattle.css_span.specs.WallSpans.{wall_span}
@@ -64,6 +64,14 @@ pub record IsInRange (snapshot : Snapshot) : Type 0 where
   pub timed : IsTimed (timing_in snapshot)
   pub rate : IsTickRate (timing_in snapshot).rate
 
+-- each number alone is in range
+pub record HasRanges (snapshot : Snapshot) : Type 0 where
+  pub own : IsLocal (own_in snapshot)
+  pub count : snapshot.count ≤ MOST_ANSWERS
+  pub answers : All (λ kept. IsAnswer (times_of kept)) (take snapshot.count snapshot.answers)
+  pub timed : IsTimed (timing_in snapshot)
+  pub rate : IsTickRate (timing_in snapshot).rate
+
 -- It is a copy of what the companion answers by: of its own clock, the least reading that may be handed, the kept
 -- answers and the timing.
 pub record IsSnapshotOf (snapshot : Snapshot) (companion : Companion) : Type 0 where
@@ -76,15 +84,15 @@ pub record IsSnapshotOf (snapshot : Snapshot) (companion : Companion) : Type 0 w
   pub in_range : IsInRange snapshot
 
 -- whether so many answers find room, beside a timing
-abbrev pub room_code : Result Timing Cause → ℕ → ℕ
-room_code (Err why) kept = cause_code why
-room_code (Ok timing) kept = if nat_le kept MOST_ANSWERS then DONE else TOO_WIDE
+abbrev pub kept_code : Result Timing Cause → ℕ → ℕ
+kept_code (Err why) kept = cause_code why
+kept_code (Ok timing) kept = if nat_le kept MOST_ANSWERS then DONE else TOO_WIDE
 
 -- whether a snapshot can be taken
 abbrev pub copied : Companion → ℕ
 copied companion =
     if length companion.client.estimate.kept == 0 then NO_ANSWER
-    else room_code (timing_now companion) (length companion.client.estimate.kept)
+    else kept_code (timing_now companion) (length companion.client.estimate.kept)
 
 -- ---- for private clauses
 -- RANGE or EARLY, or DONE where a companion with this floor can be handed the reading

@@ -16,7 +16,7 @@ ghost use Rattle.css_companion_c.specs.Codes.{DONE, CLOSED, NO_ROOM, ChangesNoth
 ghost use Rattle.css_companion_c.specs.Handles.{behind, Of, Between, AnswerAlike};
 ghost use Rattle.css_companion_c.specs.Leads.{lead_code, HoldsTheLead};
 ghost use Rattle.css_companion_c.specs.Promises.{Adds, IsFresh, HoldsTheWall, HoldsThePosition, GoesWith};
-ghost use Rattle.css_companion_c.specs.Snapshots.{IsSnapshotOf, copied};
+ghost use Rattle.css_companion_c.specs.Snapshots.{IsSnapshotOf, HasRanges, copied};
 ghost use Rattle.css_companion_c.specs.Texts.{Holds};
 ghost use Rattle.css_companion_c.specs.Until.{any_kept, IsNarrowUntil, IsWideAt};
 ghost use Rattle.css_companion_c.specs.When.{IsShownWithin, IsNeverShown, IsLeast};
@@ -386,6 +386,7 @@ pub extern "C" fn css_snapshot_position(
         → result ≡ answers.report_code (report_after (own_of companion) companion.setup.selector history reading) }
     ensures truth { result ≡ DONE → (companion : Companion) → IsSnapshotOf snapshot.now companion
         → HoldsThePosition reading position.new companion }
+    ensures range { result ≡ DONE → HasRanges snapshot.now }
     ensures timing { result ≡ DONE → (companion : Companion) → IsSnapshotOf snapshot.now companion
         → GoesWith position.new companion }
 {

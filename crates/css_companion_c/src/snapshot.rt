@@ -1,7 +1,8 @@
 //! A copy of what a companion answers by, for a thread that can't wait.
 ghost use Rattle.std.specs.Prelude.{◌≡◌, ◌≢◌, ◌≤◌, ◌<◌, Ok, Some, None, IfOk, IfErr, MatchResult, length, map};
 ghost use Rattle.std.specs.Prelude.{reverse, take, All};
-ghost use Rattle.css_model.specs.WallClock.{IsAnswer, lesser, narrowest, scaled_width};
+ghost use Rattle.css_num.specs.Rates.{IsTickRate};
+ghost use Rattle.css_model.specs.WallClock.{IsAnswer, IsLocal, lesser, narrowest, scaled_width};
 ghost use Rattle.css_model.specs.History.{History};
 ghost use Rattle.css_span.specs.WallSpans.{IsNear};
 ghost use Rattle.css_companion.specs.Meanings.{report_after, timing_after};
@@ -11,7 +12,7 @@ ghost use Rattle.css_companion.specs.declared.report.Report.TheVariants as repor
 ghost use Rattle.css_companion_c.specs.Codes.{DONE, RANGE, at_reading, report_code};
 ghost use Rattle.css_companion_c.specs.Promises.{HoldsThePosition, GoesWith};
 ghost use Rattle.css_companion_c.specs.Snapshots.{IsSnapshotOf, IsInRange, IsWhyNone, copied, times_of, own_in};
-ghost use Rattle.css_companion_c.specs.Snapshots.{timing_in, timing_at, shown, at_floor, span_in};
+ghost use Rattle.css_companion_c.specs.Snapshots.{HasRanges, timing_in, timing_at, shown, at_floor, span_in};
 
 use crate::codes;
 use crate::reading::{Position, cause_code, placed, told};
@@ -26,6 +27,9 @@ pub const MOST_ANSWERS: usize = 4;
 
 /// The greatest precision that an answer can declare, in nanoseconds.
 const MOST_PRECISION: u64 = 1_073_741_824_000_000_000;
+
+/// The greatest error that it can declare, in 1/256 ppm.
+const MOST_ERROR: u32 = 25_600_000;
 
 /// An answer of the wall clock. Its times are below 2^32 seconds, in nanoseconds.
 #[repr(C)]
@@ -142,10 +146,11 @@ pub(crate) fn take_snapshot(companion: &Companion, out: &mut Snapshot) -> u32
 /// The answer of plain numbers, where they are in range.
 fn answer_of(kept: &SnapshotAnswer) -> Result<Answer, u32>
     ensures ok { IfOk result (λ answer. answer ≡ times_of kept.now) }
+    ensures range { IfOk result (λ _. IsAnswer (times_of kept.now)) }
     ensures err { IfErr result (λ code. (code ≡ RANGE) × (IsAnswer (times_of kept.now) → ⊥)) }
 {
     let in_time = kept.t1 < LIMIT && kept.t2 < LIMIT && kept.t3 < LIMIT && kept.t4 < LIMIT;
-    if in_time && kept.precision <= MOST_PRECISION && kept.error <= 25_600_000 {
+    if in_time && kept.precision <= MOST_PRECISION && kept.error <= MOST_ERROR {
         Ok(Answer {
             t1: kept.t1,
             t2: kept.t2,
@@ -180,6 +185,7 @@ fn narrower(older: Option<Answer>, newer: Answer, local: &Local, reading: u64) -
 fn narrowest_of(kept: &[SnapshotAnswer], local: &Local, reading: u64) -> Result<Option<Answer>, u32>
     requires { reading < LIMIT }
     ensures ok { IfOk result (λ best. best ≡ narrowest local.now reading (reverse (map times_of kept.now))) }
+    ensures range { IfOk result (λ _. All (λ k. IsAnswer (times_of k)) kept.now) }
     ensures err { IfErr result (λ code. (code ≡ RANGE) × (All (λ k. IsAnswer (times_of k)) kept.now → ⊥)) }
 {
     let mut best = None;
@@ -192,6 +198,7 @@ fn narrowest_of(kept: &[SnapshotAnswer], local: &Local, reading: u64) -> Result<
 /// The own clock, where its numbers are in range.
 fn local_of(snapshot: &Snapshot) -> Result<Local, u32>
     ensures ok { IfOk result (λ local. local ≡ own_in snapshot.now) }
+    ensures range { IfOk result (λ _. IsLocal (own_in snapshot.now)) }
     ensures err { IfErr result (λ code. (code ≡ RANGE) × (IsInRange snapshot.now → ⊥)) }
 {
     if snapshot.error <= 2_560_000 && snapshot.precision <= 1_000_000_000 {
@@ -207,6 +214,7 @@ fn local_of(snapshot: &Snapshot) -> Result<Local, u32>
 /// The timing, where its numbers are in range.
 fn timing_of(snapshot: &Snapshot) -> Result<Timing, u32>
     ensures ok { IfOk result (λ timing. (timing ≡ timing_in snapshot.now) × IsTimed timing) }
+    ensures range { IfOk result (λ _. IsTickRate (timing_in snapshot.now).rate) }
     ensures err { IfErr result (λ code. (code ≡ RANGE) × (IsInRange snapshot.now → ⊥)) }
 {
     if snapshot.wall >= 1 << 63 || snapshot.speed < -64 || 64 < snapshot.speed {
@@ -228,6 +236,10 @@ fn wall(snapshot: &Snapshot, reading: u64) -> Result<Span, u32>
     requires { reading < LIMIT }
     ensures ok { IfOk result (λ span. span_in snapshot.now reading ≡ Some span) }
     ensures near { IfOk result IsNear }
+    ensures own { IfOk result (λ _. IsLocal (own_in snapshot.now)) }
+    ensures count { IfOk result (λ _. snapshot.now.count ≤ MOST_ANSWERS) }
+    ensures answers { IfOk result (λ _. All (λ k. IsAnswer (times_of k))
+        (take snapshot.now.count snapshot.now.answers)) }
     ensures err { IfErr result (IsWhyNone snapshot.now reading) }
 {
     let local = local_of(snapshot)?;
@@ -251,6 +263,7 @@ fn position_at(snapshot: &Snapshot, reading: u64) -> Result<Position, u32>
     requires { reading < LIMIT }
     ensures ok { IfOk result (λ position. shown snapshot.now reading ≡ reports.Ticks position.lo position.hi) }
     ensures timing { IfOk result (λ position. timing_in snapshot.now ≡ timing_at position) }
+    ensures range { IfOk result (λ _. HasRanges snapshot.now) }
     ensures code { IsInRange snapshot.now → snapshot.now.floor ≤ reading → MatchResult result
         (λ _. report_code (shown snapshot.now reading) ≡ DONE)
         (λ code. code ≡ report_code (shown snapshot.now reading)) }
@@ -286,6 +299,7 @@ pub(crate) fn position(snapshot: &Snapshot, reading: u64, out: &mut Position) ->
         → result ≡ report_code (report_after (own_of companion) companion.setup.selector history reading) }
     ensures truth { result ≡ DONE → (companion : Known) → IsSnapshotOf snapshot.now companion
         → HoldsThePosition reading out.new companion }
+    ensures range { result ≡ DONE → HasRanges snapshot.now }
     ensures timing { result ≡ DONE → (companion : Known) → IsSnapshotOf snapshot.now companion
         → GoesWith out.new companion }
 {
