@@ -89,16 +89,19 @@ static uint32_t put(css_companion *c, uint64_t reading, int *bad) {
     return code;
 }
 
-/* the tick is shown at both ends, and not behind them */
+/* The tick is shown at both ends, and not behind them. Where several responses are kept, the one that a position goes by
+ * may still have it there. */
 static uint32_t when(css_companion *c, int *bad) {
     int64_t tick = (int32_t)draw();
     css_readings readings;
     css_position p;
+    css_snapshot kept;
     uint32_t code = css_companion_when(c, tick, &readings);
     if (code) return code;
     *bad |= readings.from > readings.to;
     if (!css_companion_position(c, readings.from, &p)) *bad |= p.lo > tick || tick > p.hi;
     if (!css_companion_position(c, readings.to, &p)) *bad |= p.lo > tick || tick > p.hi;
+    if (css_companion_snapshot(c, &kept) || kept.count > 1) return code;
     if (!css_companion_position(c, readings.to + 1, &p)) *bad |= p.lo <= tick && tick <= p.hi;
     return code;
 }
