@@ -45,55 +45,59 @@ static void answer(uint8_t *datagram) {
     put(datagram + 24, reading + 500000);
 }
 
-static void exchange(css_companion *c) {
-    uint8_t datagram[32];
-    css_companion_ask(c, reading, datagram);
-    answer(datagram);
-    css_companion_land(c, datagram, sizeof datagram, reading + 1000000);
-    reading += 1000000000;
-}
+static uint8_t out[512];
+static size_t used;
+static css_span span;
+static css_position position;
+static css_readings readings;
+static css_rate rate;
+static css_snapshot copy;
+static uint64_t last;
 
-static int call(css_companion *c, const char *what) {
-    uint8_t out[512];
-    size_t used;
-    css_span span;
-    css_position position;
-    css_readings readings;
-    static css_snapshot copy;
-    uint64_t last;
-    if (!strcmp(what, "ask")) return css_companion_ask(c, reading += 1000, out);
-    if (!strcmp(what, "exchange")) return exchange(c), 0;
-    if (!strcmp(what, "wall")) return css_companion_wall(c, reading += 1000, &span);
-    if (!strcmp(what, "position")) return css_companion_position(c, reading += 1000, &position);
-    if (!strcmp(what, "lead")) return css_companion_lead(c, reading += 1000, 950000, &span);
-    if (!strcmp(what, "when")) return css_companion_when(c, 2000000, &readings);
-    if (!strcmp(what, "until")) return css_companion_until(c, 10000000, &last);
-    if (!strcmp(what, "snapshot")) return css_companion_snapshot(c, &copy);
-    if (!strcmp(what, "snapshot position")) {
-        if (!copy.count) css_companion_snapshot(c, &copy);
-        return css_snapshot_position(&copy, reading, &position);
-    }
-    if (!strcmp(what, "timeline")) {
-        css_rate rate;
-        return css_companion_timeline(c, 0, &rate, out, sizeof out, &used);
-    }
-    if (!strcmp(what, "slept")) return css_companion_slept(c);
-    if (!strcmp(what, "setup")) return css_companion_setup(c, out, sizeof out, &used);
-    if (!strcmp(what, "ts_closed")) return css_companion_ts_closed(c);
-    if (!strcmp(what, "control")) return css_companion_control(c, TEXT(control));
-    if (!strcmp(what, "cii")) return css_companion_cii(c, TEXT(cii));
-    return 1;
+static uint32_t nothing(css_companion *c) { return c == NULL; }
+static uint32_t ask(css_companion *c) { return css_companion_ask(c, reading, out); }
+static uint32_t asked(css_companion *c) {
+    uint32_t code = css_companion_ask(c, reading += 1000000, out);
+    answer(out);
+    return code;
 }
+static uint32_t exchange(css_companion *c) {
+    uint32_t code = asked(c);
+    return code | css_companion_land(c, out, 32, reading += 1000000);
+}
+static uint32_t wall(css_companion *c) { return css_companion_wall(c, reading + 1000000, &span); }
+static uint32_t ticks(css_companion *c) { return css_companion_position(c, reading + 1000000, &position); }
+static uint32_t lead(css_companion *c) { return css_companion_lead(c, reading + 1000000, 950000, &span); }
+static uint32_t when(css_companion *c) { return css_companion_when(c, 2000000, &readings); }
+static uint32_t until(css_companion *c) { return css_companion_until(c, 10000000, &last); }
+static uint32_t snapshot(css_companion *c) { return css_companion_snapshot(c, &copy); }
+static uint32_t copied(css_companion *c) { return c ? css_snapshot_position(&copy, reading + 1000000, &position) : 1; }
+static uint32_t slept(css_companion *c) { return css_companion_slept(c); }
+static uint32_t timeline(css_companion *c) { return css_companion_timeline(c, 0, &rate, out, sizeof out, &used); }
+static uint32_t setup(css_companion *c) { return css_companion_setup(c, out, sizeof out, &used); }
+static uint32_t ts_closed(css_companion *c) { return css_companion_ts_closed(c); }
+static uint32_t hear_ts(css_companion *c) { return css_companion_control(c, TEXT(control)); }
+static uint32_t hear_cii(css_companion *c) { return css_companion_cii(c, TEXT(cii)); }
+
+static const struct {
+    const char *name;
+    uint32_t (*make)(css_companion *c);
+} calls[] = {
+    {"nothing", nothing},   {"ask", ask},           {"asked", asked}, {"exchange", exchange}, {"wall", wall},
+    {"position", ticks},    {"lead", lead},         {"when", when},   {"until", until},       {"snapshot", snapshot},
+    {"copied", copied},     {"slept", slept},       {"setup", setup}, {"timeline", timeline}, {"ts_closed", ts_closed},
+    {"control", hear_ts},   {"cii", hear_cii},
+};
 
 int main(int argc, char **argv) {
     static css_companion c;
     if (argc < 3 || css_companion_new(&c, TEXT("urn:dvb:css:timeline:pts"), NULL, 0, 128000, 1000)) return 2;
-    css_companion_cii(&c, TEXT(cii));
-    exchange(&c);
-    css_companion_control(&c, TEXT(control));
+    uint32_t wrong = hear_cii(&c) | exchange(&c) | hear_ts(&c) | snapshot(&c);
     taken = 0;
-    int wrong = 0;
-    for (int k = atoi(argv[2]); k > 0; k--) wrong |= call(&c, argv[1]);
+    for (size_t is = 0; is < sizeof calls / sizeof *calls; is++) {
+        if (strcmp(calls[is].name, argv[1])) continue;
+        for (int k = atoi(argv[2]); k > 0; k--) wrong |= calls[is].make(&c);
+    }
     printf("%lu\n", taken);
     css_companion_free(&c);
     return wrong != 0;

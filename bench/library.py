@@ -3,8 +3,8 @@
 
     bench/library.py DIR        where DIR is a folder that `./css --library DIR` made
 
-Printed are the instructions of each call, counted by callgrind, and how often it takes memory. `land` is an exchange
-less its request. How long the library's code is comes last.
+Printed are the instructions of each call, counted by callgrind, and how often it takes memory. What is made beside a
+call is taken off. How long the library's code is comes last.
 """
 import re
 import subprocess
@@ -13,8 +13,11 @@ import tempfile
 from pathlib import Path
 
 HERE = Path(__file__).resolve().parent
-CALLS = ["ask", "exchange", "wall", "position", "lead", "when", "until", "snapshot", "snapshot position", "slept"]
-CALLS += ["timeline", "setup", "ts_closed", "control", "cii"]
+# each call with what is made beside it, which is taken off
+CALLS = {"ask": "nothing", "exchange": "asked", "wall": "nothing", "position": "nothing", "lead": "nothing",
+         "when": "nothing", "until": "nothing", "snapshot": "nothing", "copied": "nothing", "slept": "nothing",
+         "timeline": "nothing", "setup": "nothing", "ts_closed": "nothing", "control": "nothing", "cii": "nothing"}
+NAMES = {"exchange": "land", "copied": "snapshot position"}
 COUNT = 200
 
 
@@ -31,13 +34,10 @@ def main(words):
         program = f"{room}/library"
         command = ["gcc", "-O2", "-Wl,--wrap=malloc,--wrap=realloc", f"-I{library}/include", "-o", program]
         subprocess.run([*command, HERE / "library.c", f"-L{library}/lib", "-lcss_companion"], check=True)
-        costs = {}
-        for call in CALLS:
-            (once, taken), (twice, taken_twice) = (counted(program, room, call, n * COUNT) for n in (1, 2))
-            costs[call] = (twice - once) // COUNT
-            shown = costs[call] - costs["ask"] if call == "exchange" else costs[call]
-            name = "land" if call == "exchange" else call
-            print(f"{name}: {shown} instructions, {(taken_twice - taken) / COUNT:g} times memory", flush=True)
+        for call, beside in CALLS.items():
+            (cost, taken), (less, _) = (counted(program, room, each, COUNT) for each in (call, beside))
+            name = NAMES.get(call, call)
+            print(f"{name}: {(cost - less) // COUNT} instructions, {taken / COUNT:g} times memory", flush=True)
         sized = subprocess.run(["size", "-t", library / "lib" / "libcss_companion.a"], capture_output=True, text=True)
         print(f"code: {int(sized.stdout.splitlines()[-1].split()[0]) // 1024} KB")
     return 0
