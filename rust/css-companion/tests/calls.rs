@@ -111,11 +111,12 @@ fn age() {
     let before = c.age();
     c.ask(1600).unwrap();
     c.wall(1600).unwrap();
-    c.setup().unwrap();
     assert_eq!(c.cii(&" ".repeat(262_145)), Err(Error::Refusal(Refusal::Range)));
     assert_eq!(c.age(), before);
-    c.control(CONTROL).unwrap();
+    c.setup().unwrap();
     assert_eq!(c.age(), before + 1);
+    c.control(CONTROL).unwrap();
+    assert_eq!(c.age(), before + 2);
 }
 
 #[test]
