@@ -67,13 +67,8 @@ const TOO_EARLY: AgreeFault = AgreeFault::Impossible(-14 * 65_536_000_000_000_00
 /// An answer, the reading at which it is added, what comes of it, and what all answers say then.
 type Step = (Answer, u64, Result<(), AgreeFault>, Agreed);
 
-const fn within(lo: i128, hi: i128) -> Agreed {
-    Agreed::Within(Span { lo, hi })
-}
-
-const fn apart(low: Answer, high: Answer) -> Agreed {
-    Agreed::Disagree { low, high }
-}
+#[rattlefmt::skip]
+const ONE: Agreed = Agreed::Within(Span { lo: 5197, hi: 5603 });
 
 /// What the answers say at a reading is this, and so is whether they contradict each other.
 fn check_told(rt: &impl Abort, agree: &Agree, reading: u64, told: &Agreed)
@@ -98,36 +93,44 @@ fn check_steps(rt: &impl Abort, alloc: Global, local: Local, steps: &[Step]) {
     check_that(rt, agree.kept() == 2, "two are kept");
 }
 
-/// Answers share less than each has, come in any order, contradict each other, or themselves before they can have
-/// landed. An impossible one changes nothing.
+/// Two answers share less than each has, and come in any order. An impossible one changes nothing.
 #[rattlefmt::skip]
 #[test]
-fn answers_agree_or_are_apart(rt: HostRuntime) {
-    let one = within(5197, 5603);
-    let rows: [&[Step]; 5] = [
-        &[(FIRST, 1600, Ok(()), one), (SECOND, 2400, Ok(()), within(5997, 6103))],
-        &[(SECOND, 2400, Ok(()), within(5897, 6103)), (FIRST, 1600, Ok(()), within(5197, 5303)),
-            (IMPOSSIBLE, 2400, Err(TOO_NARROW), within(5997, 6103))],
-        &[(LOOSE, 700, Err(TOO_EARLY), Agreed::Nothing), (LOOSE, 1600, Ok(()), within(5497, 5664)),
-            (LOOSE, 700, Err(TOO_EARLY), apart(LOOSE, LOOSE))],
-        &[(FIRST, 1600, Ok(()), one), (MOVED, 2400, Ok(()), apart(MOVED, FIRST))],
-        &[(IMPOSSIBLE, 1600, Err(TOO_NARROW), Agreed::Nothing), (FIRST, 1600, Ok(()), one),
-            (IMPOSSIBLE, 1600, Err(TOO_NARROW), one), (BACKWARD, 2000, Err(TOO_NARROW), within(5597, 6003)),
-            (BOTH_BACKWARD, 2000, Ok(()), apart(FIRST, BOTH_BACKWARD))],
-    ];
-    for steps in rows {
-        check_steps(&rt, rt.alloc(), EXACT, steps);
-    }
+fn answers_share_what_each_has(rt: HostRuntime) {
+    let both = Agreed::Within(Span { lo: 5997, hi: 6103 });
+    let second = Agreed::Within(Span { lo: 5897, hi: 6103 });
+    let earlier = Agreed::Within(Span { lo: 5197, hi: 5303 });
+    let later = Agreed::Within(Span { lo: 5997, hi: 6103 });
+    let steps = [(FIRST, 1600, Ok(()), ONE), (SECOND, 2400, Ok(()), both)];
+    check_steps(&rt, rt.alloc(), EXACT, &steps);
+    let steps = [(SECOND, 2400, Ok(()), second), (FIRST, 1600, Ok(()), earlier),
+        (IMPOSSIBLE, 2400, Err(TOO_NARROW), later)];
+    check_steps(&rt, rt.alloc(), EXACT, &steps);
 }
 
+/// Answers contradict each other, or one itself before it can have landed.
+#[rattlefmt::skip]
+#[test]
+fn answers_are_apart(rt: HostRuntime) {
+    let landed = Agreed::Within(Span { lo: 5497, hi: 5664 });
+    let steps = [(LOOSE, 700, Err(TOO_EARLY), Agreed::Nothing), (LOOSE, 1600, Ok(()), landed),
+        (LOOSE, 700, Err(TOO_EARLY), Agreed::Disagree { low: LOOSE, high: LOOSE })];
+    check_steps(&rt, rt.alloc(), EXACT, &steps);
+    let steps = [(FIRST, 1600, Ok(()), ONE), (MOVED, 2400, Ok(()), Agreed::Disagree { low: MOVED, high: FIRST })];
+    check_steps(&rt, rt.alloc(), EXACT, &steps);
+    let later = Agreed::Within(Span { lo: 5597, hi: 6003 });
+    let steps = [(IMPOSSIBLE, 1600, Err(TOO_NARROW), Agreed::Nothing), (FIRST, 1600, Ok(()), ONE),
+        (IMPOSSIBLE, 1600, Err(TOO_NARROW), ONE), (BACKWARD, 2000, Err(TOO_NARROW), later),
+        (BOTH_BACKWARD, 2000, Ok(()), Agreed::Disagree { low: FIRST, high: BOTH_BACKWARD })];
+    check_steps(&rt, rt.alloc(), EXACT, &steps);
+}
+
+#[rattlefmt::skip]
 #[test]
 fn numbers_may_be_at_their_ends(rt: HostRuntime) {
-    let widest = within(-1_073_741_825_782_178_220, 10_140_895_006_666_666_667);
-    let both = within(3_221_225_470_217_821_779, 5_368_709_122_222_222_224);
-    let steps = [
-        (WIDEST, LIMIT - 1, Ok(()), widest),
-        (LAST, LIMIT - 1, Ok(()), both),
-    ];
+    let widest = Span { lo: -1_073_741_825_782_178_220, hi: 10_140_895_006_666_666_667 };
+    let both = Span { lo: 3_221_225_470_217_821_779, hi: 5_368_709_122_222_222_224 };
+    let steps = [(WIDEST, LIMIT - 1, Ok(()), Agreed::Within(widest)), (LAST, LIMIT - 1, Ok(()), Agreed::Within(both))];
     check_steps(&rt, rt.alloc(), WORST, &steps);
 }
 
