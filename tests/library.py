@@ -58,7 +58,8 @@ class Program:
     """The television of css, with the script."""
 
     def __init__(self, css, port):
-        self.child = subprocess.Popen([*css, "tv", "--port", str(port)], stdin=subprocess.PIPE)
+        words = ["tv", "--port", str(port), "--seconds", "120"]
+        self.child = subprocess.Popen([*css, *words], stdin=subprocess.PIPE)
         self.child.stdin.write(script())
         self.child.stdin.close()
         for _ in range(200):
