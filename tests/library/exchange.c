@@ -239,6 +239,41 @@ static void two_answers(void) {
     css_companion_free(&c);
 }
 
+/* A television that declares five errors in turn: one response of each is kept, and all calls go on. */
+static void five_errors(void) {
+    css_companion c = CSS_NONE;
+    uint8_t request[32], in[32];
+    css_span wall;
+    css_position p;
+    css_readings when;
+    css_snapshot five;
+    uint64_t last;
+    IS(css_companion_new(&c, TEXT("urn:dvb:css:timeline:pts"), NULL, 0, 0, 0), CSS_DONE);
+    IS(css_companion_control(&c, TEXT(control)), CSS_DONE);
+    for (int k = 0; k < 5; k++) { /* the wall clock is 4000 ns ahead */
+        uint16_t ask = 1000 + 1000 * k, receive = ask + 4100, transmit = receive + 50;
+        IS(css_companion_ask(&c, ask, request), CSS_DONE);
+        memcpy(in, answer, 32);
+        in[6] = k;
+        in[14] = ask >> 8, in[15] = ask;
+        in[22] = receive >> 8, in[23] = receive;
+        in[30] = transmit >> 8, in[31] = transmit;
+        IS(css_companion_land(&c, in, 32, ask + 300), CSS_DONE);
+        IS(css_companion_wall(&c, ask + 300, &wall), CSS_DONE);
+        IS(wall.lo <= ask + 4300 && ask + 4300 <= wall.hi, 1);
+        IS(css_companion_snapshot(&c, &five), k < 4 ? CSS_DONE : CSS_TOO_WIDE);
+    }
+    IS(css_companion_position(&c, 5300, &p), CSS_DONE);
+    IS(css_companion_when(&c, 900090, &when), CSS_DONE); /* from 1000000 to 1011111 of the wall clock */
+    IS(when.from <= 1000000 - 4000 && 1011111 - 4000 <= when.to, 1);
+    IS(css_companion_until(&c, 1000, &last), CSS_DONE);
+    IS(css_companion_wall(&c, last, &wall), CSS_DONE);
+    IS(wall.hi - wall.lo <= 1000, 1);
+    IS(css_companion_slept(&c), CSS_DONE);
+    IS(css_companion_snapshot(&c, &five), CSS_NO_ANSWER);
+    css_companion_free(&c);
+}
+
 static void windows(void) {
     uint8_t out[512];
     size_t used;
@@ -325,6 +360,7 @@ int main(void) {
     miscopied();
     narrow();
     two_answers();
+    five_errors();
     windows();
     limits(&c);
     closed(&c);
