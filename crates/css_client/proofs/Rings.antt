@@ -7,7 +7,7 @@ use Rattle.std.proofs.lemmas.Bool.{and_parts, eqb-true, eq-eqb, ltb-true, ltb-fa
 use Rattle.std.proofs.lemmas.List.{reverse-append, length-reverse, take-append-drop, length-drop, take-append-le}
 use Rattle.std.proofs.lemmas.List.Sorted.{list_any-IsPermutation, IsPermutation-reverse}
 use Rattle.std.proofs.lemmas.List.Folds.{list_any-append}
-use Rattle.circular_buffer.specs.Buffer.{keep_last}
+use Rattle.circular_buffer.specs.Buffer.{keep_last, last_item}
 use Rattle.css_model.specs.declared.Stamp.{Stamp}
 use Rattle.css_model.specs.Wire.{stamp_of, reading_of, second, is_same_stamp}
 
@@ -78,7 +78,28 @@ oldest_of_ring [] = refl
 oldest_of_ring (x ∷ xs) =
     ap (λ (ys : List ℕ). last_or None ys) (reverse-append (x ∷ []) xs) ∙ last_or-end None (reverse xs) x
 
+-- the first of two lists, where the first has one
+first_of_both : (xs ys : List ℕ) → 0 < length xs → slice_get (xs ++ ys) 0 ≡ slice_get xs 0
+first_of_both [] ys some = absurd (omega arith)
+first_of_both (x ∷ xs) ys some = refl
+
+-- the newest of a ring stands at its back
+pub newest_at_back : (xs : List ℕ) → slice_get (reverse xs) 0 ≡ last_item xs
+newest_at_back [] = refl
+newest_at_back (x ∷ []) = refl
+newest_at_back (x ∷ y ∷ xs) =
+    let here : suc (length xs) - 1 ≡ length xs = omega arith in
+    let there : suc (suc (length xs)) - 1 ≡ suc (length xs) = omega arith in
+    ap (λ (ys : List ℕ). slice_get ys 0) (reverse-append (x ∷ []) (y ∷ xs))
+    ∙ first_of_both (reverse (y ∷ xs)) (x ∷ []) (omega (arith, length-reverse (y ∷ xs))) ∙ newest_at_back (y ∷ xs)
+    ∙ ap (slice_get (y ∷ xs)) here ∙ sym (ap (slice_get (x ∷ y ∷ xs)) there)
+
 -- ---- whether a request is among them
+-- the newest is
+pub newest_is_among : (r : ℕ) (asked : List ℕ) → slice_get asked 0 ≡ Some r → list_any (λ a. a == r) asked ≡ true
+newest_is_among r [] e = cc
+newest_is_among r (x ∷ xs) e = let same : x ≡ r = cc in rw (eq-eqb x r same) refl
+
 -- a test finds the same in a list from behind
 pub list_any-reverse : {A : Type 0} (p : A → Bool) (xs : List A) → list_any p (reverse xs) ≡ list_any p xs
 list_any-reverse p xs = sym (list_any-IsPermutation p xs (reverse xs) (IsPermutation-reverse xs))

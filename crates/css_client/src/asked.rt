@@ -1,4 +1,4 @@
-ghost use Rattle.std.specs.Prelude.{◌≡◌, ◌<◌, [], ◌∷◌, take, None, IfOk, IsTrue, ◌==◌};
+ghost use Rattle.std.specs.Prelude.{◌≡◌, ◌<◌, [], ◌∷◌, take, slice_get, None, IfOk, IsTrue, ◌==◌};
 ghost use Rattle.std.specs.List.{list_any, last_or};
 ghost use Rattle.css_model.specs.Wire as wire;
 ghost use Rattle.css_client.specs.Clients.{is_among};
@@ -66,7 +66,25 @@ impl Asked {
         if originate.nanoseconds >= SECOND {
             return false;
         }
-        self.contains(reading(originate))
+        self.is_asked(reading(originate))
+    }
+
+    /// The newest of the requests.
+    #[tactic(auto, using(crate::proofs::Rings::newest_at_back))]
+    fn newest(&self) -> Option<u64>
+        ensures { result ≡ slice_get self.now 0 }
+    {
+        self.ring.back().copied()
+    }
+
+    /// Whether a request is among them. Mostly it is the newest.
+    fn is_asked(&self, request: u64) -> bool
+        ensures { result ≡ list_any (λ asked. asked == request) self.now }
+    {
+        match self.newest() {
+            Some(newest) if newest == request => true,
+            _ => self.contains(request),
+        }
     }
 
     fn contains(&self, request: u64) -> bool

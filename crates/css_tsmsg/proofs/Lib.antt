@@ -3,3 +3,4 @@ pub mod Values
 pub mod Windows
 pub mod Never
 pub mod ReadBack
+pub mod ControlTexts

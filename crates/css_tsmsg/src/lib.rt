@@ -11,6 +11,7 @@ mod name;
 mod presentation;
 mod setup;
 mod writing;
+mod written;
 
 pub use bound::{Bound, Presentation};
 pub use control::{is_same, read_control};

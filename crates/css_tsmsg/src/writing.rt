@@ -10,6 +10,7 @@ ghost use Rattle.css_tsmsg.specs.Setups as setups;
 
 use crate::bound::{Bound, Presentation};
 use crate::setup::Setup;
+use crate::written::words_of;
 use css_num::{Control, Memory, Text};
 use css_text::{Map, write_value};
 use serde_json::Value;
@@ -123,8 +124,8 @@ pub fn write_control(alloc: Global, control: &Control) -> Result<Text, Memory>
     ensures text { IfOk result (λ text. text ≡ controls.control_text control.now) }
     ensures read_back { IfOk result (λ text. controls.control_of text ≡ Ok control.now) }
 {
-    let value = control_value(alloc, control)?;
-    write_value(alloc, &value)
+    let words = words_of(alloc, control)?;
+    Text::of(alloc, words.as_bytes())
 }
 
 /// The words of a content time.
