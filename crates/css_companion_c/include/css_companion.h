@@ -174,8 +174,8 @@ uint32_t css_companion_timeline(css_companion *c, size_t number, css_rate *rate,
                                 uint8_t *out, size_t room, size_t *used);
 
 /* ---- the TS session at tsUrl: call `setup` once it is open, send that text, and hand on each that comes. After
- * `ts_closed` position, lead and when answer CSS_SESSION_CLOSED. Open the session again then: where `setup` answers 0 it
- * begins anew, and they answer CSS_NO_TIMESTAMP until a text comes. The wall clock and the state of CII stay. */
+ * `ts_closed` position, lead and when answer CSS_SESSION_CLOSED. Open the session again then: where `setup` answers 0
+ * it begins anew, and they answer CSS_NO_TIMESTAMP until a text comes. The wall clock and the state of CII stay. */
 uint32_t css_companion_setup(css_companion *c, uint8_t *out, size_t room, size_t *used);
 uint32_t css_companion_control(css_companion *c, const uint8_t *text, size_t len);
 uint32_t css_companion_ts_closed(css_companion *c);
@@ -206,7 +206,8 @@ uint32_t css_companion_until(css_companion *c, uint64_t width, uint64_t *reading
  * more than CSS_ANSWERS responses are kept, one for each error that the television declared. */
 uint32_t css_companion_snapshot(css_companion *c, css_snapshot *snapshot);
 /* What css_companion_position tells of the companion as it was. It goes by the numbers alone, so any thread may call it
- * at any time, also once the companion is freed. CSS_RANGE where a number can't be one of a snapshot. */
+ * at any time, also once the companion is freed. Of numbers that css_companion_snapshot didn't fill it answers
+ * CSS_RANGE, or the position that they show. */
 uint32_t css_snapshot_position(const css_snapshot *snapshot, uint64_t reading, css_position *position);
 /* The line of a report, as `css companion` prints it. */
 uint32_t css_companion_report(css_companion *c, uint64_t number, uint64_t reading,

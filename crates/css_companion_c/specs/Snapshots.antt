@@ -14,7 +14,7 @@ use Rattle.css_companion.specs.Standing.{Companion, StandsFor, own_of, timing_no
 use Rattle.css_companion.specs.declared.knowledge.Timing.{Timing}
 use Rattle.css_companion.specs.declared.report.Cause.{Cause}
 use Rattle.css_companion.specs.declared.report.Report.{Report}
-use Rattle.css_companion_c.specs.Codes.{DONE, RANGE, EARLY, NO_ANSWER, TOO_WIDE, cause_code}
+use Rattle.css_companion_c.specs.Codes.{DONE, RANGE, EARLY, NO_ANSWER, TOO_WIDE, cause_code, report_code}
 use Rattle.css_companion_c.specs.declared.reading.Position.{Position}
 use Rattle.css_companion_c.specs.declared.snapshot.SnapshotAnswer.{SnapshotAnswer}
 use Rattle.css_companion_c.specs.declared.snapshot.Snapshot.{Snapshot}
@@ -72,6 +72,19 @@ pub record HasRanges (snapshot : Snapshot) : Type 0 where
   pub timed : IsTimed (timing_in snapshot)
   pub rate : IsTickRate (timing_in snapshot).rate
 
+-- each number that the span of the wall clock goes by is
+pub record HasAnswers (snapshot : Snapshot) : Type 0 where
+  pub own : IsLocal (own_in snapshot)
+  pub count : snapshot.count ≤ MOST_ANSWERS
+  pub answers : All (λ kept. IsAnswer (times_of kept)) (take snapshot.count snapshot.answers)
+
+-- What is answered at a reading that may be handed: RANGE, which is told of no copy of a companion, or the code of the
+-- report, where each number is in range.
+abbrev pub IsCodeOf : Snapshot → ℕ → ℕ → Type 0
+IsCodeOf snapshot reading code =
+    ((code ≡ RANGE) × (IsInRange snapshot → ⊥))
+    ⊎ (HasRanges snapshot × (code ≡ report_code (shown snapshot reading)))
+
 -- It is a copy of what the companion answers by: of its own clock, the least reading that may be handed, the kept
 -- answers and the timing.
 pub record IsSnapshotOf (snapshot : Snapshot) (companion : Companion) : Type 0 where
@@ -94,11 +107,11 @@ copied companion =
     if length companion.client.estimate.kept == 0 then NO_ANSWER
     else kept_code (timing_now companion) (length companion.client.estimate.kept)
 
--- ---- for private clauses
 -- RANGE or EARLY, or DONE where a companion with this floor can be handed the reading
 abbrev pub at_floor : ℕ → ℕ → ℕ
 at_floor floor reading = if nat_le LIMIT reading then RANGE else if nat_lt reading floor then EARLY else DONE
 
+-- ---- for private clauses
 -- the span of the wall clock
 abbrev pub span_in : Snapshot → ℕ → Option Interval
 span_in snapshot reading = wall_span (own_in snapshot) reading (reverse (answers_in snapshot))
@@ -106,7 +119,7 @@ span_in snapshot reading = wall_span (own_in snapshot) reading (reverse (answers
 -- why there is none
 abbrev pub IsWhyNone : Snapshot → ℕ → ℕ → Type 0
 IsWhyNone snapshot reading code =
-    ((code ≡ NO_ANSWER) × (span_in snapshot reading ≡ None))
+    ((code ≡ NO_ANSWER) × (span_in snapshot reading ≡ None) × HasAnswers snapshot)
     ⊎ ((code ≡ RANGE) × (IsInRange snapshot → snapshot.floor ≤ reading → ⊥))
 
 -- what a position goes by

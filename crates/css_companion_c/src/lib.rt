@@ -16,7 +16,7 @@ ghost use Rattle.css_companion_c.specs.Codes.{DONE, CLOSED, NO_ROOM, ChangesNoth
 ghost use Rattle.css_companion_c.specs.Handles.{behind, Of, Between, AnswerAlike};
 ghost use Rattle.css_companion_c.specs.Leads.{lead_code, HoldsTheLead};
 ghost use Rattle.css_companion_c.specs.Promises.{Adds, IsFresh, HoldsTheWall, HoldsThePosition, GoesWith};
-ghost use Rattle.css_companion_c.specs.Snapshots.{IsSnapshotOf, HasRanges, copied};
+ghost use Rattle.css_companion_c.specs.Snapshots.{IsSnapshotOf, IsCodeOf, HasRanges, at_floor, copied};
 ghost use Rattle.css_companion_c.specs.Texts.{Holds};
 ghost use Rattle.css_companion_c.specs.Until.{any_kept, IsNarrowUntil, IsWideAt};
 ghost use Rattle.css_companion_c.specs.When.{IsShownWithin, IsNeverShown, IsLeast};
@@ -379,6 +379,8 @@ pub extern "C" fn css_snapshot_position(
     position: &mut Position,
 ) -> u32
     ensures kept { result ≢ DONE → position.new ≡ position.old }
+    ensures early { at_floor snapshot.now.floor reading ≢ DONE → result ≡ at_floor snapshot.now.floor reading }
+    ensures told { at_floor snapshot.now.floor reading ≡ DONE → IsCodeOf snapshot.now reading result }
     ensures before { (companion : Companion) → IsSnapshotOf snapshot.now companion
         → answers.at_reading companion reading DONE ≢ DONE → result ≡ answers.at_reading companion reading DONE }
     ensures code { (companion : Companion) → IsSnapshotOf snapshot.now companion

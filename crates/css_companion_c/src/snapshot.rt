@@ -12,7 +12,8 @@ ghost use Rattle.css_companion.specs.declared.report.Report.TheVariants as repor
 ghost use Rattle.css_companion_c.specs.Codes.{DONE, RANGE, at_reading, report_code};
 ghost use Rattle.css_companion_c.specs.Promises.{HoldsThePosition, GoesWith};
 ghost use Rattle.css_companion_c.specs.Snapshots.{IsSnapshotOf, IsInRange, IsWhyNone, copied, times_of, own_in};
-ghost use Rattle.css_companion_c.specs.Snapshots.{HasRanges, timing_in, timing_at, shown, at_floor, span_in};
+ghost use Rattle.css_companion_c.specs.Snapshots.{HasAnswers, HasRanges, IsCodeOf, timing_in, timing_at, shown, at_floor};
+ghost use Rattle.css_companion_c.specs.Snapshots.{span_in};
 
 use crate::codes;
 use crate::reading::{Position, cause_code, placed, told};
@@ -267,6 +268,8 @@ fn position_at(snapshot: &Snapshot, reading: u64) -> Result<Position, u32>
     ensures code { IsInRange snapshot.now → snapshot.now.floor ≤ reading → MatchResult result
         (λ _. report_code (shown snapshot.now reading) ≡ DONE)
         (λ code. code ≡ report_code (shown snapshot.now reading)) }
+    ensures told { snapshot.now.floor ≤ reading → MatchResult result
+        (λ _. report_code (shown snapshot.now reading) ≡ DONE) (IsCodeOf snapshot.now reading) }
     ensures err { IfErr result (λ code. 0 < code) }
 {
     let timing = timing_of(snapshot)?;
@@ -292,6 +295,8 @@ fn early(snapshot: &Snapshot, reading: u64) -> u32
 /// The position by a snapshot: of each companion of which it is a copy, that of the companion.
 pub(crate) fn position(snapshot: &Snapshot, reading: u64, out: &mut Position) -> u32
     ensures kept { result ≢ DONE → out.new ≡ out.old }
+    ensures early { at_floor snapshot.now.floor reading ≢ DONE → result ≡ at_floor snapshot.now.floor reading }
+    ensures told { at_floor snapshot.now.floor reading ≡ DONE → IsCodeOf snapshot.now reading result }
     ensures before { (companion : Known) → IsSnapshotOf snapshot.now companion
         → at_reading companion reading DONE ≢ DONE → result ≡ at_reading companion reading DONE }
     ensures code { (companion : Known) → IsSnapshotOf snapshot.now companion
