@@ -14,6 +14,8 @@ static const char *cii =
     "\"timelineProperties\":{\"unitsPerTick\":1,\"unitsPerSecond\":90000}}]}";
 static const char *control =
     "{\"contentTime\":\"900000\",\"timelineSpeedMultiplier\":1,\"wallClockTime\":\"1000000000\"}";
+static const char *spaced =
+    "{\"contentTime\": \"900000\", \"timelineSpeedMultiplier\": 1.0, \"wallClockTime\": \"1000000000\"}";
 static uint64_t reading = 1000000000;
 static unsigned long taken;
 
@@ -45,7 +47,7 @@ static void answer(uint8_t *datagram) {
     put(datagram + 24, reading + 500000);
 }
 
-static uint8_t out[512];
+static uint8_t out[512], oldest[32];
 static size_t used;
 static css_span span;
 static css_position position;
@@ -55,16 +57,22 @@ static css_snapshot copy;
 static uint64_t last;
 
 static uint32_t nothing(css_companion *c) { return c == NULL; }
-static uint32_t ask(css_companion *c) { return css_companion_ask(c, reading, out); }
-static uint32_t asked(css_companion *c) {
+static uint32_t answered(css_companion *c) {
+    reading += 1000000;
+    answer(out);
+    return c == NULL;
+}
+static uint32_t ask(css_companion *c) {
     uint32_t code = css_companion_ask(c, reading += 1000000, out);
     answer(out);
     return code;
 }
 static uint32_t exchange(css_companion *c) {
-    uint32_t code = asked(c);
+    uint32_t code = ask(c);
     return code | css_companion_land(c, out, 32, reading += 1000000);
 }
+/* The answer to the oldest request that is remembered comes once more. */
+static uint32_t late(css_companion *c) { return css_companion_land(c, oldest, 32, reading += 1000000); }
 static uint32_t wall(css_companion *c) { return css_companion_wall(c, reading + 1000000, &span); }
 static uint32_t ticks(css_companion *c) { return css_companion_position(c, reading + 1000000, &position); }
 static uint32_t lead(css_companion *c) { return css_companion_lead(c, reading + 1000000, 950000, &span); }
@@ -77,22 +85,26 @@ static uint32_t timeline(css_companion *c) { return css_companion_timeline(c, 0,
 static uint32_t setup(css_companion *c) { return css_companion_setup(c, out, sizeof out, &used); }
 static uint32_t ts_closed(css_companion *c) { return css_companion_ts_closed(c); }
 static uint32_t hear_ts(css_companion *c) { return css_companion_control(c, TEXT(control)); }
+static uint32_t hear_spaced(css_companion *c) { return css_companion_control(c, TEXT(spaced)); }
 static uint32_t hear_cii(css_companion *c) { return css_companion_cii(c, TEXT(cii)); }
 
 static const struct {
     const char *name;
     uint32_t (*make)(css_companion *c);
 } calls[] = {
-    {"nothing", nothing},   {"ask", ask},           {"asked", asked}, {"exchange", exchange}, {"wall", wall},
-    {"position", ticks},    {"lead", lead},         {"when", when},   {"until", until},       {"snapshot", snapshot},
-    {"copied", copied},     {"slept", slept},       {"setup", setup}, {"timeline", timeline}, {"ts_closed", ts_closed},
-    {"control", hear_ts},   {"cii", hear_cii},
+    {"nothing", nothing},   {"answered", answered}, {"ask", ask},           {"exchange", exchange},
+    {"late", late},         {"wall", wall},         {"position", ticks},    {"lead", lead},
+    {"when", when},         {"until", until},       {"snapshot", snapshot}, {"copied", copied},
+    {"slept", slept},       {"setup", setup},       {"timeline", timeline}, {"ts_closed", ts_closed},
+    {"control", hear_ts},   {"spaced", hear_spaced}, {"cii", hear_cii},
 };
 
 int main(int argc, char **argv) {
     static css_companion c;
     if (argc < 3 || css_companion_new(&c, TEXT("urn:dvb:css:timeline:pts"), NULL, 0, 128000, 1000)) return 2;
-    uint32_t wrong = hear_cii(&c) | exchange(&c) | hear_ts(&c) | snapshot(&c);
+    uint32_t wrong = hear_cii(&c) | exchange(&c) | hear_ts(&c) | snapshot(&c) | ask(&c);
+    memcpy(oldest, out, sizeof oldest);
+    for (int k = 1; k < 64; k++) wrong |= ask(&c);
     taken = 0;
     for (size_t is = 0; is < sizeof calls / sizeof *calls; is++) {
         if (strcmp(calls[is].name, argv[1])) continue;

@@ -14,10 +14,12 @@ from pathlib import Path
 
 HERE = Path(__file__).resolve().parent
 # each call with what is made beside it, which is taken off
-CALLS = {"ask": "nothing", "exchange": "asked", "wall": "nothing", "position": "nothing", "lead": "nothing",
-         "when": "nothing", "until": "nothing", "snapshot": "nothing", "copied": "nothing", "slept": "nothing",
-         "timeline": "nothing", "setup": "nothing", "ts_closed": "nothing", "control": "nothing", "cii": "nothing"}
-NAMES = {"exchange": "land", "copied": "snapshot position"}
+CALLS = {"ask": "answered", "exchange": "ask", "late": "nothing", "wall": "nothing", "position": "nothing",
+         "lead": "nothing", "when": "nothing", "until": "nothing", "snapshot": "nothing", "copied": "nothing",
+         "slept": "nothing", "timeline": "nothing", "setup": "nothing", "ts_closed": "nothing", "control": "nothing",
+         "spaced": "nothing", "cii": "nothing"}
+NAMES = {"exchange": "land", "late": "land, for the oldest of 64 requests", "copied": "snapshot position",
+         "control": "control, as css writes it", "spaced": "control, with spaces"}
 COUNT = 200
 
 

@@ -11,7 +11,7 @@ use Rattle.css_model.specs.WallClock.{Answer, Local, lo, hi}
 use Rattle.css_model.specs.Truth.{Contains}
 use Rattle.css_span.specs.WallSpans.{span_of}
 use Rattle.css_client.specs.Standing.{KeptContainTheWall}
-use Rattle.css_companion.specs.Reports.{assigned_by, ticks_at, report_at, HasTickOf}
+use Rattle.css_companion.specs.Reports.{assigned_by, ticks_at, report_by, HasTickOf}
 use Rattle.css_companion.specs.Standing.{Companion, own_of, timing_now}
 use Rattle.css_companion.specs.declared.knowledge.Timing.{Timing}
 use Rattle.css_companion.specs.declared.report.Cause.{Cause}
@@ -178,5 +178,5 @@ may_show companion timing tick values readings presented timed met reading above
     (place timing (hi own answer reading)) tick come
     (λ passed. let late = (presented.end (lo own answer reading) (omega (arith, near.low))).1 passed in
     let low = meets.low in omega (arith, ints)) in
-    subst (λ (t : Result Timing Cause). HasTickOf (report_at (span_of own reading answer) t) (Some tick)) (sym timed)
+    subst (λ (t : Result Timing Cause). HasTickOf (report_by (Some (span_of own reading answer)) t) (Some tick)) (sym timed)
     told
