@@ -12,7 +12,7 @@ ghost use Rattle.css_companion.specs.declared.report.Report.TheVariants as repor
 ghost use Rattle.css_companion_c.specs.Codes.{DONE, RANGE, at_reading, report_code};
 ghost use Rattle.css_companion_c.specs.Promises.{HoldsThePosition, GoesWith};
 ghost use Rattle.css_companion_c.specs.Snapshots.{IsSnapshotOf, IsInRange, IsWhyNone, copied, times_of, own_in};
-ghost use Rattle.css_companion_c.specs.Snapshots.{HasAnswers, HasRanges, IsCodeOf, timing_in, timing_at, shown, at_floor};
+ghost use Rattle.css_companion_c.specs.Snapshots.{HasRanges, IsCodeOf, timing_in, timing_at, shown, at_floor};
 ghost use Rattle.css_companion_c.specs.Snapshots.{span_in};
 
 use crate::codes;
