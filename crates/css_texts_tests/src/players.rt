@@ -1,7 +1,7 @@
 //! The television's player.
 ghost use Rattle.std.specs.Prelude.{◌≤◌};
 
-use crate::common::{check, check_that, next_word};
+use crate::common::{check_that, next_word};
 use css_num::{Control, Rate};
 use css_player::{Command, Player, PlayerFault, Segment};
 use std::alloc::Global;
@@ -245,20 +245,6 @@ fn a_copy_goes_its_own_way(rt: HostRuntime) {
     check_that(&rt, copy.segment() == before, "the copy");
     player.put_back(before);
     check_that(&rt, player.segment() == before, "the player");
-}
-
-#[rattlefmt::skip]
-const WORDS: [(PlayerFault, &str); 5] = [
-    (PlayerFault::NoProgramme, "no programme"), (PlayerFault::Speed, "speed"), (PlayerFault::Range, "range"),
-    (PlayerFault::Full, "full"), (PlayerFault::Memory, "out of memory"),
-];
-
-#[test]
-fn faults_have_words(rt: HostRuntime) {
-    for (fault, words) in WORDS {
-        let told = format!(in rt.alloc(); "{fault}").expect(&rt, "memory");
-        check(&rt, "a fault", &told, words);
-    }
 }
 
 /// A plain player: what is shown now is moved on from event to event, whatever the event is.

@@ -2,7 +2,7 @@
 
 use crate::common::{check, check_that, parts, words};
 use css_num::Text;
-use css_schedule::{Line, LineFault, LineWhy, PlayerFault, print_line, read_line, read_script};
+use css_schedule::{Line, LineFault, print_line, read_line, read_script};
 use std::alloc::Global;
 use std::process::Abort;
 
@@ -122,8 +122,8 @@ fn lines_are_printed(rt: HostRuntime) {
     for row in PRINTED.lines() {
         let (text, expected) = parts(&rt, row);
         let (first, second) = printed(&rt, rt.alloc(), text);
-        check(&rt, text, words(first.bytes()), text);
-        check(&rt, text, words(second.bytes()), expected);
+        check(&rt, text, words(&first), text);
+        check(&rt, text, words(&second), expected);
     }
 }
 
@@ -210,21 +210,5 @@ fn other_bytes_are_refused(rt: HostRuntime) {
     for bytes in NO_WORDS {
         let read = read_line(rt.alloc(), bytes, 1, 1);
         check_that(&rt, matches!(read, Err(LineFault::Form)), "other bytes");
-    }
-}
-
-const WHY: [(LineWhy, &str); 5] = [
-    (LineWhy::Long, "long"),
-    (LineWhy::Form, "form"),
-    (LineWhy::Absent, "absent"),
-    (LineWhy::Player(PlayerFault::NoProgramme), "no programme"),
-    (LineWhy::Player(PlayerFault::Full), "full"),
-];
-
-#[test]
-fn a_line_that_ends_the_run_is_told_in_a_word(rt: HostRuntime) {
-    for (why, words) in &WHY {
-        let told = format!(in rt.alloc(); "{why}").expect(&rt, "memory");
-        check(&rt, "a fault", &told, words);
     }
 }
