@@ -137,10 +137,8 @@ const NO_FIRST: &[Lines] = &[
     ("", "line 1: form", ""),
     ("1000 4800 1000 ask 1000\n", "line 1: form", ""),
     ("css-schedule 2 plain 0 -30 1\ncompanion 1 0 0 urn:dvb:css:timeline:pts -\n", "line 1: form", ""),
-    (
-        "css-schedule 1 follow 0 -30 0 0 s t\n1 2 3 wall 4\n5 6 7 walk 8\n9 9 9 wall 9\n", "line 3: form",
-        "css-schedule 2 follow 0 -30 1\ncompanion 1 0 0 s t\n1 2 1 3 wall 4\n",
-    ),
+    ("css-schedule 1 follow 0 -30 0 0 s t\n1 2 3 wall 4\n5 6 7 walk 8\n9 9 9 wall 9\n", "line 3: form",
+        "css-schedule 2 follow 0 -30 1\ncompanion 1 0 0 s t\n1 2 1 3 wall 4\n"),
 ];
 
 #[test]
