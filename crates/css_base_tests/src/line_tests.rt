@@ -128,9 +128,16 @@ const ROWS: [Row; 10] = [
 /// How many bytes a read and a write take at most, and the numbers of the read and of the write that fail, or 0.
 type Faults = (usize, usize, u64, u64);
 
-/// Runs over any source and any sink. It promises nothing, so that no test has what `drive` promises in its context.
-fn ended<S: Source, K: Sink>(alloc: Global, source: &mut S, sink: &mut K) -> End {
-    drive(alloc, source, sink, &mut Echo::new(alloc))
+/// Any run. It promises nothing, so that no test has what `drive` promises in its context.
+fn run<S: Source, K: Sink, L: Lines>(
+    alloc: Global,
+    source: &mut S,
+    sink: &mut K,
+    lines: &mut L,
+) -> Result<(), Stop<L::Cause>>
+    requires { L.stands lines.old [] }
+{
+    drive(alloc, source, sink, lines)
 }
 
 fn check_run(rt: &impl Abort, alloc: Global, (bytes, wanted, output): Row, faults: Faults) {
@@ -139,7 +146,7 @@ fn check_run(rt: &impl Abort, alloc: Global, (bytes, wanted, output): Row, fault
     let source = MemorySource::new(alloc, bytes, read, &[failing_read]);
     let mut source = source.expect(rt, "memory");
     let mut sink = MemorySink::new(alloc, written, &[failing_write]).expect(rt, "memory");
-    let ended = ended(alloc, &mut source, &mut sink);
+    let ended = run(alloc, &mut source, &mut sink, &mut Echo::new(alloc));
     let input = str::from_utf8(bytes);
     assert!(rt;
         ended == wanted,

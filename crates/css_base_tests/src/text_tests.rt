@@ -3,6 +3,7 @@ use css_text::{
     Field, Map, TextFault, field_of, list, member, object, read_object, rewrite_numerals,
     write_value,
 };
+use serde_json::json;
 use std::alloc::Global;
 use std::process::Abort;
 
@@ -223,10 +224,8 @@ fn members_are_found(rt: HostRuntime) {
 
 #[test]
 fn values_are_written_compactly(rt: HostRuntime) {
-    let text = br#"{"value" : {"b": [1, null, "x\"\n", []], "a": {"d": -7, "c": {}}}}"#;
-    let map = read_object(rt.alloc(), text).expect(&rt, "an object").map;
-    let value = member(&map, "value").expect(&rt, "a value");
-    let written = write_value(rt.alloc(), value).expect(&rt, "memory");
+    let value = json!(in rt.alloc(); {"b": [1, null, "x\"\n", []], "a": {"d": -7, "c": {}}});
+    let text = write_value(rt.alloc(), &value.expect(&rt, "memory")).expect(&rt, "memory");
     let expected = br#"{"a":{"c":{},"d":-7},"b":[1,null,"x\"\n",[]]}"#;
-    check(&rt, written.bytes(), expected);
+    check(&rt, text.bytes(), expected);
 }
