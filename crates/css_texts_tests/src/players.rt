@@ -92,9 +92,11 @@ const STEPS: [Step; 17] = [
 fn check_steps(rt: &impl Abort, player: &mut Player, steps: &[Step]) {
     for (command, reading, done, published) in steps {
         assert!(rt; *reading <= LAST);
-        let did = did(player, *command, *reading);
-        check_that(rt, did == *done, "what comes of a command");
-        check_that(rt, told(player, PTS) == *published, "what is told then");
+        let came = (did(player, *command, *reading), told(player, PTS));
+        assert!(rt;
+            came == (*done, *published),
+            "{command:?} at {reading}: {came:?}"
+        );
     }
 }
 
@@ -130,10 +132,9 @@ fn a_delay_turns_the_segment(rt: HostRuntime) {
     did(&mut player, Command::Speed(2), 3).expect(&rt, "a speed");
     for (delay, expected) in DELAYS {
         assert!(rt; delay <= 10_000_000_000);
-        check_that(
-            &rt,
+        assert!(rt;
             delayed(&mut player, delay) == expected,
-            "another delay",
+            "a delay of {delay}"
         );
     }
 }
