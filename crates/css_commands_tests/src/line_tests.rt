@@ -1,7 +1,7 @@
 //! What `agree`, `audit` and `migrate` print, and what they refuse.
 
 use crate::live_tables::RECORD;
-use crate::running::{BLANK, Case, EXCHANGE, NO_MEMORY, Row, check_rows, check_run};
+use crate::running::{BLANK, Case, EXCHANGE, NO_MEMORY, Row, check_rows, check_run, over};
 use std::alloc::Global;
 use std::process::Abort;
 
@@ -12,11 +12,7 @@ type Lines = (&'static str, &'static str, &'static str);
 fn check_lines(rt: &impl Abort, alloc: Global, words: &'static str, begun: &str, rows: &[Lines]) {
     for (rest, ended, printed) in rows {
         let input = format!(in alloc; "{begun}{rest}").expect(rt, NO_MEMORY);
-        let case = Case {
-            words,
-            input: input.as_bytes(),
-            ..BLANK
-        };
+        let case = over(words, &input);
         check_run(rt, alloc, rest, &case, ended, printed.as_bytes());
     }
 }

@@ -41,6 +41,15 @@ pub const BLANK: Case<'static> = Case {
     spawns: &[],
 };
 
+/// A run of a command over an input.
+pub fn over<'a>(words: &'static str, input: &'a str) -> Case<'a> {
+    Case {
+        words,
+        input: input.as_bytes(),
+        ..BLANK
+    }
+}
+
 /// One exchange, of 188 bytes.
 pub const EXCHANGE: Case<'static> = Case {
     words: "replay",
