@@ -29,7 +29,12 @@ const LAST: u64 = 4_294_967_295_999_999_999;
 
 /// The content time, the wall time and the speed of a timeline's control timestamp, where it is available.
 fn told(player: &Player, selector: &[u8]) -> Told {
-    match player.control(b"dvb", selector) {
+    told_behind(player, "dvb", selector)
+}
+
+/// The same to a session with this stem.
+fn told_behind(player: &Player, stem: &str, selector: &[u8]) -> Told {
+    match player.control(stem.as_bytes(), selector) {
         Control::Available {
             content,
             wall,
@@ -229,8 +234,8 @@ fn what_is_shown_is_told(rt: HostRuntime) {
     );
     check_that(&rt, told(&player, b"urn:x:2").is_none(), "no such timeline");
     for (stem, has_it) in [("dvb://1", true), ("dvb://12", false), ("//1", false)] {
-        let control = player.control(stem.as_bytes(), PTS);
-        check_that(&rt, (control != Control::Unavailable) == has_it, stem);
+        let control = told_behind(&player, stem, PTS);
+        check_that(&rt, control.is_some() == has_it, stem);
     }
     let timelines = timelines_told(&rt, rt.alloc(), &player);
     check_that(&rt, timelines == Some((3, FILM)), "the timelines");
