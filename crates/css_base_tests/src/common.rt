@@ -6,7 +6,10 @@ use std::process::Abort;
 
 /// The text, where the bytes are one.
 pub fn text_of(bytes: &[u8]) -> Result<&str, &[u8]> {
-    str::from_utf8(bytes).map_err(|_| bytes)
+    match str::from_utf8(bytes) {
+        Ok(text) => Ok(text),
+        Err(_) => Err(bytes),
+    }
 }
 
 /// What came of a row is what the row says.

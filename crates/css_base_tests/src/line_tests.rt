@@ -1,9 +1,10 @@
 ghost use Rattle.std.specs.Prelude.{◌≡◌, ◌≤◌, ◌++◌, ◌∷◌, [], OnOk, OnErr, decimal, false};
 
 use crate::common::check;
-use css_lines::{LineFault, Lines, Refusal, Stop, drive};
+use css_lines::Refusal::{Long, Refused};
+use css_lines::{LineFault, Lines, Stop, drive};
 use css_memory::{MemorySink, MemorySource};
-use css_outside::Memory;
+use css_outside::{Memory, Sink, Source};
 use std::alloc::Global;
 use std::process::Abort;
 
@@ -106,38 +107,38 @@ impl Lines for Echo {
 /// How a run ends.
 type End = Result<(), Stop<Cause>>;
 
-const fn refused(line: u64, cause: Cause) -> End {
-    let why = Refusal::Refused(cause);
-    Err(Stop::BadLine { line, why })
-}
-
-const fn long(line: u64) -> End {
-    let why = Refusal::Long;
-    Err(Stop::BadLine { line, why })
-}
-
 /// An input, how a run over it ends, and what it prints.
 type Row = (&'static [u8], End, &'static [u8]);
 
 /// The input has at most 20 bytes, and a line feed stands in the line that it ends.
 #[rattlefmt::skip]
-fn rows() -> [Row; 10] {
-    [
-        (b"a\n\nbc", Ok(()), b"1 a\n2 \n3 bc\nend\n"),
-        (b"wide\nabcdefgh", Ok(()), b"1 wide\n2 abcdefgh\nend\n"),
-        (b"abcd\nabcd\nabcd\n\nabcd", Ok(()), b"1 abcd\n2 abcd\n3 abcd\n4 \n5 abcd\nend\n"),
-        (b"", refused(1, Cause::NoLine), b""),
-        (b"a\nstop\nb\n", refused(2, Cause::Stop), b"1 a\n"),
-        (b"a\nstop", refused(2, Cause::Stop), b"1 a\n"),
-        (b"a\nabcde", long(2), b"1 a\n"),
-        (b"wide\nabcdefghi\n", long(2), b"1 wide\n"),
-        (b"abcd\nabcd\nabcd\nabcd\n\n", long(5), b"1 abcd\n2 abcd\n3 abcd\n4 abcd\n"),
-        (b"abcd\nabcd\nabcd\n\nabcd\n", long(5), b"1 abcd\n2 abcd\n3 abcd\n4 \n"),
-    ]
-}
+const ROWS: [Row; 10] = [
+    (b"a\n\nbc", Ok(()), b"1 a\n2 \n3 bc\nend\n"),
+    (b"wide\nabcdefgh", Ok(()), b"1 wide\n2 abcdefgh\nend\n"),
+    (b"abcd\nabcd\nabcd\n\nabcd", Ok(()), b"1 abcd\n2 abcd\n3 abcd\n4 \n5 abcd\nend\n"),
+    (b"", Err(Stop::BadLine { line: 1, why: Refused(Cause::NoLine) }), b""),
+    (b"a\nstop\nb\n", Err(Stop::BadLine { line: 2, why: Refused(Cause::Stop) }), b"1 a\n"),
+    (b"a\nstop", Err(Stop::BadLine { line: 2, why: Refused(Cause::Stop) }), b"1 a\n"),
+    (b"a\nabcde", Err(Stop::BadLine { line: 2, why: Long }), b"1 a\n"),
+    (b"wide\nabcdefghi\n", Err(Stop::BadLine { line: 2, why: Long }), b"1 wide\n"),
+    (b"abcd\nabcd\nabcd\nabcd\n\n", Err(Stop::BadLine { line: 5, why: Long }), b"1 abcd\n2 abcd\n3 abcd\n4 abcd\n"),
+    (b"abcd\nabcd\nabcd\n\nabcd\n", Err(Stop::BadLine { line: 5, why: Long }), b"1 abcd\n2 abcd\n3 abcd\n4 \n"),
+];
 
 /// How many bytes a read and a write take at most, and the numbers of the read and of the write that fail, or 0.
 type Faults = (usize, usize, u64, u64);
+
+/// Any run. It promises nothing, so that no test has what `drive` promises in its context.
+fn run<S: Source, K: Sink, L: Lines>(
+    alloc: Global,
+    source: &mut S,
+    sink: &mut K,
+    lines: &mut L,
+) -> Result<(), Stop<L::Cause>>
+    requires { L.stands lines.old [] }
+{
+    drive(alloc, source, sink, lines)
+}
 
 fn check_run(rt: &impl Abort, alloc: Global, (bytes, wanted, output): Row, faults: Faults) {
     let (read, written, failing_read, failing_write) = faults;
@@ -145,7 +146,7 @@ fn check_run(rt: &impl Abort, alloc: Global, (bytes, wanted, output): Row, fault
     let source = MemorySource::new(alloc, bytes, read, &[failing_read]);
     let mut source = source.expect(rt, "memory");
     let mut sink = MemorySink::new(alloc, written, &[failing_write]).expect(rt, "memory");
-    let ended = drive(alloc, &mut source, &mut sink, &mut Echo::new(alloc));
+    let ended = run(alloc, &mut source, &mut sink, &mut Echo::new(alloc));
     let input = str::from_utf8(bytes);
     assert!(rt;
         ended == wanted,
@@ -156,7 +157,7 @@ fn check_run(rt: &impl Abort, alloc: Global, (bytes, wanted, output): Row, fault
 
 #[test]
 fn lines_are_printed_up_to_a_refusal(rt: HostRuntime) {
-    for row in rows() {
+    for row in ROWS {
         for piece in [1, 5, 100] {
             check_run(&rt, rt.alloc(), row, (piece, piece, 0, 0));
         }

@@ -1,7 +1,8 @@
 ghost use Rattle.std.specs.Prelude.{◌<◌, IfSome, unsigned_abs};
 
 use crate::common::{check_that, next_word};
-use css_window::{Chosen, Window, choose};
+use css_window::Chosen::{self, Fits, Nothing};
+use css_window::{Window, choose};
 use std::alloc::Global;
 use std::process::Abort;
 
@@ -37,34 +38,25 @@ const FARTHEST: Window = Window { ups: 1_000_000_000, own: -FAR, earliest: Some(
 #[rattlefmt::skip]
 const AT_THE_TOP: Window = Window { ups: 1, own: -10_000_000_000, ..BETWEEN };
 
+/// The least delay with the window that decides it, or two windows that no delay fits.
+fn check_choice(rt: &impl Abort, windows: &[Window], max_delay: u64, expected: Chosen) {
+    assert!(rt;
+        max_delay <= TOP && choose(windows, max_delay) == expected,
+        "{windows:?}"
+    );
+}
+
+#[rattlefmt::skip]
 #[test]
 fn the_least_delay_or_two_windows_are_told(rt: HostRuntime) {
-    let rows: [(&[Window], u64, Chosen); 8] = [
-        (&[], TOP, fits(0, None)),
-        (&[SOON, FREE], TOP, fits(0, None)),
-        (&[FREE, LATE, LATE], TOP, fits(40_000_000, Some(1))),
-        (&[LATE, AT_THE_TOP], TOP, fits(TOP, Some(1))),
-        (&[SOON, LATE, SOON, LATE], TOP, nothing(Some(1), Some(0))),
-        (&[AT_THE_TOP], TOP - 1, nothing(Some(0), None)),
-        (&[BETWEEN], TOP, nothing(Some(0), Some(0))),
-        (&[FARTHEST], TOP, nothing(Some(0), Some(0))),
-    ];
-    for (windows, max_delay, expected) in rows {
-        assert!(rt;
-            max_delay <= TOP && choose(windows, max_delay) == expected,
-            "{windows:?}"
-        );
-    }
-}
-
-/// The least delay, and the window that decides it.
-fn fits(delay: u64, by: Option<usize>) -> Chosen {
-    Chosen::Fits { delay, by }
-}
-
-/// The windows that no delay fits together.
-fn nothing(low: Option<usize>, high: Option<usize>) -> Chosen {
-    Chosen::Nothing { low, high }
+    check_choice(&rt, &[], TOP, Fits { delay: 0, by: None });
+    check_choice(&rt, &[SOON, FREE], TOP, Fits { delay: 0, by: None });
+    check_choice(&rt, &[FREE, LATE, LATE], TOP, Fits { delay: 40_000_000, by: Some(1) });
+    check_choice(&rt, &[LATE, AT_THE_TOP], TOP, Fits { delay: TOP, by: Some(1) });
+    check_choice(&rt, &[SOON, LATE, SOON, LATE], TOP, Nothing { low: Some(1), high: Some(0) });
+    check_choice(&rt, &[AT_THE_TOP], TOP - 1, Nothing { low: Some(0), high: None });
+    check_choice(&rt, &[BETWEEN], TOP, Nothing { low: Some(0), high: Some(0) });
+    check_choice(&rt, &[FARTHEST], TOP, Nothing { low: Some(0), high: Some(0) });
 }
 
 /// The offset of a window's content at a delay.
@@ -111,10 +103,16 @@ fn plain_choice(windows: &[Window], max_delay: i64) -> Chosen {
     for delay in 0..max_delay.wrapping_add(1) {
         if first_early(windows, delay).is_none() && first_late(windows, delay).is_none() {
             let by = first_early(windows, delay.wrapping_sub(1)).filter(|_| delay != 0);
-            return fits(delay.unsigned_abs(), by);
+            return Fits {
+                delay: delay.unsigned_abs(),
+                by,
+            };
         }
     }
-    nothing(plain_low(windows), plain_high(windows, max_delay))
+    Nothing {
+        low: plain_low(windows),
+        high: plain_high(windows, max_delay),
+    }
 }
 
 fn drawn_bound(word: u64, least: i8) -> Option<i128>
@@ -152,7 +150,7 @@ fn compare(rt: &impl Abort, windows: &[Window], max_delay: u32) -> bool {
     let plain = plain_choice(windows, i64::from(max_delay));
     let chosen = choose(windows, u64::from(max_delay));
     assert!(rt; chosen == plain, "{windows:?} up to {max_delay}");
-    matches!(chosen, Chosen::Fits { .. })
+    matches!(chosen, Fits { .. })
 }
 
 #[test]

@@ -1,7 +1,7 @@
 //! Drawn schedules are replayed as they are computed a second time.
 
 use crate::crowds::{Crowd, Plan};
-use crate::running::{BLANK, Case, check_run};
+use crate::running::{check_run, over};
 use std::alloc::Global;
 use std::process::Abort;
 
@@ -16,19 +16,9 @@ const PLANS: [Plan; 3] = [
 fn check_computed(rt: &impl Abort, alloc: Global, plan: Plan) {
     let mut crowd = Crowd::new(alloc, plan);
     crowd.draw(alloc).expect(rt, "memory");
-    let case = Case {
-        words: "replay",
-        input: crowd.schedule.as_bytes(),
-        ..BLANK
-    };
-    check_run(
-        rt,
-        alloc,
-        plan.name,
-        &case,
-        "done",
-        crowd.printed.as_bytes(),
-    );
+    let case = over("replay", &crowd.schedule);
+    let printed = crowd.printed.as_bytes();
+    check_run(rt, alloc, plan.name, &case, "done", printed);
     let twice = crowd.intervals.wrapping_mul(2);
     assert!(rt;
         crowd.sleeps > 0 && crowd.prints > 0 && twice >= crowd.prints,

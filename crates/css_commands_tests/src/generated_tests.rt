@@ -1,6 +1,6 @@
 //! What `generate` and `survey` write.
 
-use crate::running::{BLANK, Case, Row, check_rows, check_run};
+use crate::running::{BLANK, Case, Row, check_rows, check_run, over};
 use std::alloc::Global;
 use std::process::Abort;
 
@@ -28,7 +28,7 @@ const COMMANDS: [(&str, &str); 5] = [
 
 fn check_commands(rt: &impl Abort, alloc: Global, rows: &[(&'static str, &str)]) {
     for (words, printed) in rows {
-        let case = Case { words, ..BLANK };
+        let case = over(words, "");
         check_run(rt, alloc, words, &case, "done", printed.as_bytes());
     }
 }

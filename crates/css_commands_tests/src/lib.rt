@@ -12,6 +12,8 @@ mod crowds;
 #[cfg(test)]
 mod generated_tests;
 #[cfg(test)]
+mod hint_tests;
+#[cfg(test)]
 mod line_tests;
 #[cfg(test)]
 mod live_tables;

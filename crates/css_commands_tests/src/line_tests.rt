@@ -1,7 +1,7 @@
 //! What `agree`, `audit` and `migrate` print, and what they refuse.
 
 use crate::live_tables::RECORD;
-use crate::running::{BLANK, Case, EXCHANGE, NO_MEMORY, Row, check_rows, check_run};
+use crate::running::{BLANK, Case, EXCHANGE, NO_MEMORY, Row, check_rows, check_run, over};
 use std::alloc::Global;
 use std::process::Abort;
 
@@ -12,11 +12,7 @@ type Lines = (&'static str, &'static str, &'static str);
 fn check_lines(rt: &impl Abort, alloc: Global, words: &'static str, begun: &str, rows: &[Lines]) {
     for (rest, ended, printed) in rows {
         let input = format!(in alloc; "{begun}{rest}").expect(rt, NO_MEMORY);
-        let case = Case {
-            words,
-            input: input.as_bytes(),
-            ..BLANK
-        };
+        let case = over(words, &input);
         check_run(rt, alloc, rest, &case, ended, printed.as_bytes());
     }
 }
@@ -137,10 +133,8 @@ const NO_FIRST: &[Lines] = &[
     ("", "line 1: form", ""),
     ("1000 4800 1000 ask 1000\n", "line 1: form", ""),
     ("css-schedule 2 plain 0 -30 1\ncompanion 1 0 0 urn:dvb:css:timeline:pts -\n", "line 1: form", ""),
-    (
-        "css-schedule 1 follow 0 -30 0 0 s t\n1 2 3 wall 4\n5 6 7 walk 8\n9 9 9 wall 9\n", "line 3: form",
-        "css-schedule 2 follow 0 -30 1\ncompanion 1 0 0 s t\n1 2 1 3 wall 4\n",
-    ),
+    ("css-schedule 1 follow 0 -30 0 0 s t\n1 2 3 wall 4\n5 6 7 walk 8\n9 9 9 wall 9\n", "line 3: form",
+        "css-schedule 2 follow 0 -30 1\ncompanion 1 0 0 s t\n1 2 1 3 wall 4\n"),
 ];
 
 #[test]

@@ -236,7 +236,6 @@ const TEXT: &[u8] = b"css-record 1 128000 1000 urn:dvb:css:timeline:pts dvb://\n
 #[rattlefmt::skip]
 pub const RECORDS: &[Row] = &[
     ("two intervals", RECORDED, "done", RECORD),
-    ("an audit of this record", Case { words: "audit", input: RECORD, ..BLANK }, "done", b"reports 2\n"),
     ("the source would fail", Case { input: b"meter 1\n", reads: &[1], ..RECORDED }, "done", RECORD),
     ("the sink fails at the first turn", Case { writes: &[2], ..RECORDED }, "write fault", RECORD_HEADER),
     ("every dial fails", Case { calls: &[2, 4, 6], ..SHORT }, "unreachable after 3 turns", TURNS),

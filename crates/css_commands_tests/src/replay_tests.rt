@@ -1,7 +1,7 @@
 //! Replays of schedules.
 
 use crate::replay_tables::{AT_ONCE, FIRST, REFUSED, REFUSED_SECOND, SECOND, SHORT, TICKS};
-use crate::running::{BLANK, Case, EXCHANGE, NO_MEMORY, Row, check_rows, check_run};
+use crate::running::{Case, EXCHANGE, NO_MEMORY, Row, check_rows, check_run, over};
 use std::alloc::Global;
 use std::process::Abort;
 
@@ -15,11 +15,7 @@ fn replay_of(row: &str) -> Option<(&str, &str, &str)> {
 
 fn check_replay(rt: &impl Abort, alloc: Global, row: &str) {
     let (ended, schedule, printed) = replay_of(row).expect(rt, "a row without its parts");
-    let case = Case {
-        words: "replay",
-        input: schedule.as_bytes(),
-        ..BLANK
-    };
+    let case = over("replay", schedule);
     check_run(rt, alloc, row, &case, ended, printed.as_bytes());
 }
 
@@ -76,12 +72,7 @@ fn check_long(rt: &impl Abort, alloc: Global, rows: &[(&str, &str, usize, &str, 
         let filling = "a".repeat(alloc, length.saturating_sub(line.len()));
         let filling = filling.expect(rt, NO_MEMORY);
         let text = format!(in alloc; "{before}{line}{filling}{after}").expect(rt, NO_MEMORY);
-        let case = Case {
-            words: "replay",
-            input: text.as_bytes(),
-            ..BLANK
-        };
-        check_run(rt, alloc, line, &case, ended, b"");
+        check_run(rt, alloc, line, &over("replay", &text), ended, b"");
     }
 }
 

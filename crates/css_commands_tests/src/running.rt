@@ -12,7 +12,7 @@ use std::process::Abort;
 /// A run: its words, its input, its devices, and which of their calls fail, counted from 1.
 #[derive(Clone, Copy)]
 pub struct Case<'a> {
-    /// The words, separated by spaces. Without bytes there are none.
+    /// The words, as [`words_of`] finds them.
     pub words: &'static str,
     pub input: &'a [u8],
     /// How many bytes a call of the source or of the sink takes at most.
@@ -41,6 +41,15 @@ pub const BLANK: Case<'static> = Case {
     spawns: &[],
 };
 
+/// A run of a command over an input.
+pub fn over<'a>(words: &'static str, input: &'a str) -> Case<'a> {
+    Case {
+        words,
+        input: input.as_bytes(),
+        ..BLANK
+    }
+}
+
 /// One exchange, of 188 bytes.
 pub const EXCHANGE: Case<'static> = Case {
     words: "replay",
@@ -57,7 +66,8 @@ pub const EXCHANGE: Case<'static> = Case {
 /// A name, a run, its status in words, and what it prints.
 pub type Row = (&'static str, Case<'static>, &'static str, &'static [u8]);
 
-fn words_of(rt: &impl Abort, alloc: Global, line: &str) -> Vec<String> {
+/// The words of a line, separated by spaces. Without bytes there are none.
+pub fn words_of(rt: &impl Abort, alloc: Global, line: &str) -> Vec<String> {
     let mut words = Vec::new(alloc);
     if !line.is_empty() {
         for word in line.split(' ') {

@@ -5,13 +5,12 @@ use css_app::{LineWhy, Status, tell};
 use css_cii::{CiiFault, CiiName};
 use css_companion::{Cause, Report};
 use css_memory::MemorySink;
-use css_num::Text;
 use css_outside::{Failure, OutFault};
 use css_schedule::PlayerFault;
 use std::alloc::Global;
 use std::process::Abort;
 
-fn check_told(rt: &impl Abort, alloc: Global, status: &Status, number: u8, line: &str) {
+pub fn check_told(rt: &impl Abort, alloc: Global, status: &Status, number: u8, line: &str) {
     let mut sink = MemorySink::new(alloc, 1, &[]).expect(rt, NO_MEMORY);
     let ending = tell(alloc, status, &mut sink);
     check(rt, sink.bytes(), line.as_bytes(), line);
@@ -56,16 +55,6 @@ const STATUSES: [(Status, u8, &str); 24] = [
 #[test]
 fn each_status_is_told(rt: HostRuntime) {
     check_all(&rt, rt.alloc(), &STATUSES);
-}
-
-#[test]
-fn a_moved_address_is_told(rt: HostRuntime) {
-    let moved = Status::Moved {
-        property: CiiName::WcUrl,
-        old: Text::of(rt.alloc(), b"udp://h:1").expect(&rt, NO_MEMORY),
-        new: Text::of(rt.alloc(), b"udp://h:2").expect(&rt, NO_MEMORY),
-    };
-    check_told(&rt, rt.alloc(), &moved, 8, "css: moved wcUrl\n");
 }
 
 #[test]

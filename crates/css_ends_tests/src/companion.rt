@@ -217,33 +217,25 @@ fn carry_out(
     ensures { companion.new.client.floor ≤ reading }
 {
     match happened {
-        Happened::AsksEach(_) => {
-            ask_each(companion, floor, reading);
-            String::new(alloc)
-        }
-        Happened::Asks(_) => {
-            ask(companion, reading);
-            String::new(alloc)
-        }
+        Happened::AsksEach(_) => ask_each(companion, floor, reading),
+        Happened::Asks(_) => ask(companion, reading),
+        Happened::Sleeps if floor < reading => sleep(companion),
         Happened::Lands(message_type, times, error, _) => {
             let bytes = datagram(message_type, -30, error, times);
-            land(rt, alloc, companion, &bytes, reading)
+            return land(rt, alloc, companion, &bytes, reading);
         }
-        Happened::Bytes(bytes, _) => land(rt, alloc, companion, bytes, reading),
-        Happened::Sleeps if floor < reading => {
-            sleep(companion);
-            String::new(alloc)
-        }
+        Happened::Bytes(bytes, _) => return land(rt, alloc, companion, bytes, reading),
         Happened::Wall(_)
         | Happened::Rate
         | Happened::Assigned(_)
         | Happened::Kept
         | Happened::Narrowest(_)
-        | Happened::Judges(_, _, _, _)
-        | Happened::JudgesBytes(_, _)
-        | Happened::StateAfter(_) => answer_of(rt, alloc, companion, happened, reading),
-        _ => happen(rt, alloc, companion, happened),
+        | Happened::Judges(..)
+        | Happened::JudgesBytes(..)
+        | Happened::StateAfter(_) => return answer_of(rt, alloc, companion, happened, reading),
+        _ => return happen(rt, alloc, companion, happened),
     }
+    String::new(alloc)
 }
 
 /// The report is printed so behind the number 7.

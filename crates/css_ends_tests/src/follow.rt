@@ -21,16 +21,23 @@ fn sheets_are_read_by_their_grammar(rt: HostRuntime) {
     }
 }
 
+fn long_sheet(rt: &impl Abort, alloc: Global, parts: &[(&str, usize)]) -> String {
+    let mut sheet = String::new(alloc);
+    for (part, count) in parts {
+        let part = part.repeat(alloc, *count).expect(rt, "memory");
+        sheet.push_str(&part).expect(rt, "memory");
+    }
+    sheet
+}
+
 #[test]
 fn sheets_have_their_limits(rt: HostRuntime) {
     for (parts, expected) in &LONG_SHEETS {
-        let mut sheet = String::new(rt.alloc());
-        for (part, count) in parts.iter() {
-            let part = part.repeat(rt.alloc(), *count).expect(&rt, "memory");
-            sheet.push_str(&part).expect(&rt, "memory");
-        }
-        let read = counts(rt.alloc(), sheet.as_bytes());
-        assert!(rt; read == *expected, "{parts:?}");
+        let sheet = long_sheet(&rt, rt.alloc(), parts);
+        assert!(rt;
+            counts(rt.alloc(), sheet.as_bytes()) == *expected,
+            "{parts:?}"
+        );
     }
 }
 

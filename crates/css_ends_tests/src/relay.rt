@@ -65,18 +65,14 @@ const ANSWERED: [Row; 6] = [
     (LAST, REQUEST, 0, 0, Ok((-29, 0, 4_294_967_295_999_999_997, 4_294_967_295_999_999_997))),
     (BEGUN, REQUEST, 1000, 1000, Ok((0, 0, 500_000_503, 500_000_503))),
     // The greatest half width.
-    (
-        &[([0, MIDDLE, MIDDLE, AT_MOST], 29, 0)], REQUEST, AT_MOST, AT_MOST,
-        Ok((30, 0, 2_684_354_559_999_999_998, 2_684_354_559_999_999_998)),
-    ),
+    (&[([0, MIDDLE, MIDDLE, AT_MOST], 29, 0)], REQUEST, AT_MOST, AT_MOST,
+        Ok((30, 0, 2_684_354_559_999_999_998, 2_684_354_559_999_999_998))),
 ];
 
 #[rattlefmt::skip]
 const REFUSED: [Row; 8] = [
-    (
-        &[([0, MIDDLE, MIDDLE, AT_MOST + 1], 29, 0)], REQUEST, AT_MOST + 1, AT_MOST + 1,
-        Err(RelayFault::Wide(1_073_741_824_000_000_001)),
-    ),
+    (&[([0, MIDDLE, MIDDLE, AT_MOST + 1], 29, 0)], REQUEST, AT_MOST + 1, AT_MOST + 1,
+        Err(RelayFault::Wide(1_073_741_824_000_000_001))),
     // Beyond all readings. In the second row there is a ticket of before.
     (LAST, REQUEST, 1000, 1000, Err(BEYOND)),
     (LAST, REQUEST, 3, 4, Err(JUST_BEYOND)),
@@ -90,16 +86,11 @@ const REFUSED: [Row; 8] = [
 /// A CII text, and the state that a relay tells after it.
 #[rattlefmt::skip]
 const STATES: [(&str, &str); 2] = [
-    (
-        "{}",
-        "{\"contentId\":null,\"contentIdStatus\":null,\"mrsUrl\":null,\"presentationStatus\":null,\
-         \"protocolVersion\":null,\"teUrl\":null,\"timelines\":null,\"tsUrl\":null,\"wcUrl\":null}",
-    ),
-    (
-        "{\"wcUrl\":\"udp://10.0.0.1:6677\",\"contentId\":\"dvb://1.2.3\"}",
+    ("{}", "{\"contentId\":null,\"contentIdStatus\":null,\"mrsUrl\":null,\"presentationStatus\":null,\
+         \"protocolVersion\":null,\"teUrl\":null,\"timelines\":null,\"tsUrl\":null,\"wcUrl\":null}"),
+    ("{\"wcUrl\":\"udp://10.0.0.1:6677\",\"contentId\":\"dvb://1.2.3\"}",
         "{\"contentId\":\"dvb://1.2.3\",\"contentIdStatus\":null,\"mrsUrl\":null,\"presentationStatus\":null,\
-         \"protocolVersion\":null,\"teUrl\":null,\"timelines\":null,\"tsUrl\":null,\"wcUrl\":\"udp://10.0.0.2:6690\"}",
-    ),
+         \"protocolVersion\":null,\"teUrl\":null,\"timelines\":null,\"tsUrl\":null,\"wcUrl\":\"udp://10.0.0.2:6690\"}"),
 ];
 
 /// A relay of a timeline's television, at port 6690 of a host.

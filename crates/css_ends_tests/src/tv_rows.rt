@@ -112,23 +112,17 @@ pub const SHOWING: &[Row] = &[
 /// After that, windows delay what is shown, if they don't exclude each other, and while the speed is 1.
 #[rattlefmt::skip]
 pub const DELAYS: &[Row] = &[
-    (
-        Presents(2, AT_40, None),
-        r#"2 {"contentTime":"900000","timelineSpeedMultiplier":1,"wallClockTime":"10040000000"}"#,
-    ),
+    (Presents(2, AT_40, None),
+        r#"2 {"contentTime":"900000","timelineSpeedMultiplier":1,"wallClockTime":"10040000000"}"#),
     (Ts(3), ""),
     (Hears(3, SETUP), r#"3 {"contentTime":"900000","timelineSpeedMultiplier":1,"wallClockTime":"10040000000"}"#),
     (Presents(3, None, AT_30), ""),
     (Delay, "Some(40000000)"),
     (Closes(2), ""),
-    (
-        Presents(3, None, AT_30),
-        r#"3 {"contentTime":"900000","timelineSpeedMultiplier":1,"wallClockTime":"10000000000"}"#,
-    ),
-    (
-        Viewer(Speed(0), 10_000),
-        r#"3 {"contentTime":"900000","timelineSpeedMultiplier":0,"wallClockTime":"10000000000"}"#,
-    ),
+    (Presents(3, None, AT_30),
+        r#"3 {"contentTime":"900000","timelineSpeedMultiplier":1,"wallClockTime":"10000000000"}"#),
+    (Viewer(Speed(0), 10_000),
+        r#"3 {"contentTime":"900000","timelineSpeedMultiplier":0,"wallClockTime":"10000000000"}"#),
     (Presents(3, AT_40, None), ""),
     (Delay, "Some(0)"),
 ];
@@ -142,15 +136,11 @@ pub const REFUSED: &[Row] = &[
     (Timeline(2, FAR + 1), "no programme"),
     (Programme("dvb://1.2.4"), ""),
     (Timeline(2, FAR), ""),
-    (
-        Viewer(Seek(FAR), 11_000),
-        r#"2 {"contentTime":"9000000900000","timelineSpeedMultiplier":1,"wallClockTime":"11000000000"}"#,
-    ),
+    (Viewer(Seek(FAR), 11_000),
+        r#"2 {"contentTime":"9000000900000","timelineSpeedMultiplier":1,"wallClockTime":"11000000000"}"#),
     (Viewer(Speed(0), 11_001), "range"),
-    (
-        Viewer(Seek(-FAR), 11_000),
-        r#"2 {"contentTime":"-8999999100000","timelineSpeedMultiplier":1,"wallClockTime":"11000000000"}"#,
-    ),
+    (Viewer(Seek(-FAR), 11_000),
+        r#"2 {"contentTime":"-8999999100000","timelineSpeedMultiplier":1,"wallClockTime":"11000000000"}"#),
 ];
 
 /// What happens where 256 sessions are open, of the peers 0 to 255.

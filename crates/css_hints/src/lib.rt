@@ -12,8 +12,6 @@ mod input;
 mod line;
 mod options;
 mod session;
-#[cfg(test)]
-mod tests;
 mod usage;
 mod walk;
 

@@ -72,38 +72,18 @@ fn each_run_ends_as_its_row_says(rt: HostRuntime) -> Result<(), Fail> {
     Ok(())
 }
 
+#[rattlefmt::skip]
 #[test]
 fn each_call_and_each_write_fails_once(rt: HostRuntime) -> Result<(), Fail> {
     for (fails, told, lines) in CUTS {
-        let (name, ended) = ("a call fails", "NetFault");
         let (fails, told, lines) = (*fails, *told, *lines);
-        assert_rows(
-            &rt,
-            rt.alloc(),
-            &[Row {
-                name,
-                fails,
-                ended,
-                told,
-                lines,
-                ..K
-            }],
-        )?;
+        let cut = Row { name: "a call fails", fails, ended: "NetFault", told, lines, ..K };
+        assert_rows(&rt, rt.alloc(), &[cut])?;
     }
     for (sink_fails, lines) in UNWRITTEN {
-        let (name, ended) = ("a write of a record fails", "WriteFault");
         let (sink_fails, lines) = (*sink_fails, *lines);
-        assert_records(
-            &rt,
-            rt.alloc(),
-            &[Row {
-                name,
-                sink_fails,
-                ended,
-                lines,
-                ..K
-            }],
-        )?;
+        let cut = Row { name: "a write of a record fails", sink_fails, ended: "WriteFault", lines, ..K };
+        assert_records(&rt, rt.alloc(), &[cut])?;
     }
     Ok(())
 }

@@ -8,48 +8,38 @@ use std::alloc::Global;
 use std::process::Abort;
 use std::test::Fail;
 
-/// Finds that these calls were made.
-fn assert_made(rt: &impl Abort, alloc: Global, row: &Row, outside: &Noted) -> Result<(), Fail> {
-    let made = outside.log.words.bytes();
-    Ok(assert_told(rt, alloc, row, made, row.told, usize::MAX)?)
+#[derive(Clone, Copy)]
+enum End {
+    Television,
+    Relay,
 }
 
-fn assert_televisions(rt: &impl Abort, alloc: Global, rows: &[Row]) -> Result<(), Fail> {
-    for row in rows {
-        let mut outside = outside_of(rt, alloc, row)?;
-        television(rt, alloc, row, &mut outside)?;
-        assert_made(rt, alloc, row, &outside)?;
+/// Makes the run of a row: its outside.
+fn run_of(rt: &impl Abort, alloc: Global, end: End, row: &Row) -> Result<Noted, Fail> {
+    let mut outside = outside_of(rt, alloc, row)?;
+    match end {
+        End::Television => television(rt, alloc, row, &mut outside)?,
+        End::Relay => relay(rt, alloc, row, &mut outside)?,
     }
-    Ok(())
+    Ok(outside)
 }
 
-fn assert_relays(rt: &impl Abort, alloc: Global, rows: &[Row]) -> Result<(), Fail> {
-    for row in rows {
-        let mut outside = outside_of(rt, alloc, row)?;
-        relay(rt, alloc, row, &mut outside)?;
-        assert_made(rt, alloc, row, &outside)?;
-    }
-    Ok(())
-}
+/// Tables of runs, each with its end.
+#[rattlefmt::skip]
+const SERVED: [(End, &[Row]); 8] = [
+    (End::Television, tvs::CALLS), (End::Television, tvs::SCRIPTS), (End::Television, tvs::LIMITS),
+    (End::Television, tvs::DATAGRAMS), (End::Television, tvs::SESSIONS),
+    (End::Relay, relays::CALLS), (End::Relay, relays::TEXTS), (End::Relay, relays::ENDS),
+];
 
 #[test]
-fn each_television_makes_its_calls(rt: HostRuntime) -> Result<(), Fail> {
-    for rows in [
-        tvs::CALLS,
-        tvs::SCRIPTS,
-        tvs::LIMITS,
-        tvs::DATAGRAMS,
-        tvs::SESSIONS,
-    ] {
-        assert_televisions(&rt, rt.alloc(), rows)?;
-    }
-    Ok(())
-}
-
-#[test]
-fn each_relay_makes_its_calls(rt: HostRuntime) -> Result<(), Fail> {
-    for rows in [relays::CALLS, relays::TEXTS, relays::ENDS] {
-        assert_relays(&rt, rt.alloc(), rows)?;
+fn each_end_makes_its_calls(rt: HostRuntime) -> Result<(), Fail> {
+    for (end, rows) in &SERVED {
+        for row in rows.iter() {
+            let outside = run_of(&rt, rt.alloc(), *end, row)?;
+            let made = outside.log.words.bytes();
+            assert_told(&rt, rt.alloc(), row, made, row.told, usize::MAX)?;
+        }
     }
     Ok(())
 }
@@ -68,21 +58,15 @@ fn last_calls(made: &[u8]) -> usize {
 }
 
 /// In the last turn each of 256 sessions is asked for a text, and then each is hung up. The 257th was hung up at once.
-#[test]
-fn a_television_keeps_256_sessions(rt: HostRuntime) -> Result<(), Fail> {
-    let row = &tvs::CROWD;
-    let mut outside = outside_of(&rt, rt.alloc(), row)?;
-    television(&rt, rt.alloc(), row, &mut outside)?;
-    assert_eq!(rt; last_calls(outside.log.words.bytes()), 259 + 256);
-    Ok(())
-}
-
 /// The relay has a session with its television, too.
 #[test]
-fn a_relay_keeps_256_sessions(rt: HostRuntime) -> Result<(), Fail> {
-    let row = &relays::CROWD;
-    let mut outside = outside_of(&rt, rt.alloc(), row)?;
-    relay(&rt, rt.alloc(), row, &mut outside)?;
-    assert_eq!(rt; last_calls(outside.log.words.bytes()), 4 + 256 + 257);
+fn each_end_keeps_256_sessions(rt: HostRuntime) -> Result<(), Fail> {
+    for (end, row, calls) in [
+        (End::Television, &tvs::CROWD, 259 + 256),
+        (End::Relay, &relays::CROWD, 4 + 256 + 257),
+    ] {
+        let outside = run_of(&rt, rt.alloc(), end, row)?;
+        assert_eq!(rt; last_calls(outside.log.words.bytes()), calls);
+    }
     Ok(())
 }

@@ -1,6 +1,8 @@
 //! What the tests share.
 
 use css_num::Text;
+use std::alloc::Global;
+use std::fmt::Debug;
 use std::process::Abort;
 
 /// What came of a row is what the row says.
@@ -14,6 +16,16 @@ pub fn check_that(rt: &impl Abort, holds: bool, what: &str) {
 
 pub fn words(text: &Text) -> &str {
     str::from_utf8(text.bytes()).unwrap_or("not UTF-8")
+}
+
+/// A value as Rust shows it.
+pub fn shown(rt: &impl Abort, alloc: Global, value: &impl Debug) -> String {
+    format!(in alloc; "{value:?}").expect(rt, "memory")
+}
+
+/// The two parts of a row.
+pub fn parts<'a>(rt: &impl Abort, row: &'a str) -> (&'a str, &'a str) {
+    row.split_once(" = ").expect(rt, "a row of two parts")
 }
 
 /// The next of the numbers that look random.

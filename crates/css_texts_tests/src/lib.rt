@@ -1,13 +1,22 @@
-//! Tests of the texts of sessions, of command lines, of the player, of agreements and of the lines of a watch: the
-//! public calls of `css_cii`, `css_tsmsg`, `css_words`, `css_player`, `css_agree` and `css_watch_lines`.
+//! Tests of the texts of sessions, of command lines, of the player, of agreements and of the lines of a watch, and of
+//! schedules: the public calls of `css_cii`, `css_tsmsg`, `css_words`, `css_player`, `css_agree`, `css_watch_lines`,
+//! `css_schedule`, `css_moments` and `css_gen`. What a schedule prints and becomes stands in the tests of the commands.
 #![tactic(auto)]
 
 #[cfg(test)]
 mod agreements;
 #[cfg(test)]
+mod clocks;
+#[cfg(test)]
 mod commands;
 #[cfg(test)]
 mod common;
+#[cfg(test)]
+mod generated;
+#[cfg(test)]
+mod headers;
+#[cfg(test)]
+mod lines;
 #[cfg(test)]
 mod players;
 #[cfg(test)]

@@ -1,7 +1,7 @@
 //! The television's player.
 ghost use Rattle.std.specs.Prelude.{◌≤◌};
 
-use crate::common::{check, check_that, next_word};
+use crate::common::{check_that, next_word};
 use css_num::{Control, Rate};
 use css_player::{Command, Player, PlayerFault, Segment};
 use std::alloc::Global;
@@ -29,7 +29,12 @@ const LAST: u64 = 4_294_967_295_999_999_999;
 
 /// The content time, the wall time and the speed of a timeline's control timestamp, where it is available.
 fn told(player: &Player, selector: &[u8]) -> Told {
-    match player.control(b"dvb", selector) {
+    told_behind(player, "dvb", selector)
+}
+
+/// The same to a session with this stem.
+fn told_behind(player: &Player, stem: &str, selector: &[u8]) -> Told {
+    match player.control(stem.as_bytes(), selector) {
         Control::Available {
             content,
             wall,
@@ -92,9 +97,11 @@ const STEPS: [Step; 17] = [
 fn check_steps(rt: &impl Abort, player: &mut Player, steps: &[Step]) {
     for (command, reading, done, published) in steps {
         assert!(rt; *reading <= LAST);
-        let did = did(player, *command, *reading);
-        check_that(rt, did == *done, "what comes of a command");
-        check_that(rt, told(player, PTS) == *published, "what is told then");
+        let came = (did(player, *command, *reading), told(player, PTS));
+        assert!(rt;
+            came == (*done, *published),
+            "{command:?} at {reading}: {came:?}"
+        );
     }
 }
 
@@ -130,10 +137,9 @@ fn a_delay_turns_the_segment(rt: HostRuntime) {
     did(&mut player, Command::Speed(2), 3).expect(&rt, "a speed");
     for (delay, expected) in DELAYS {
         assert!(rt; delay <= 10_000_000_000);
-        check_that(
-            &rt,
+        assert!(rt;
             delayed(&mut player, delay) == expected,
-            "another delay",
+            "a delay of {delay}"
         );
     }
 }
@@ -228,8 +234,8 @@ fn what_is_shown_is_told(rt: HostRuntime) {
     );
     check_that(&rt, told(&player, b"urn:x:2").is_none(), "no such timeline");
     for (stem, has_it) in [("dvb://1", true), ("dvb://12", false), ("//1", false)] {
-        let control = player.control(stem.as_bytes(), PTS);
-        check_that(&rt, (control != Control::Unavailable) == has_it, stem);
+        let control = told_behind(&player, stem, PTS);
+        check_that(&rt, control.is_some() == has_it, stem);
     }
     let timelines = timelines_told(&rt, rt.alloc(), &player);
     check_that(&rt, timelines == Some((3, FILM)), "the timelines");
@@ -245,20 +251,6 @@ fn a_copy_goes_its_own_way(rt: HostRuntime) {
     check_that(&rt, copy.segment() == before, "the copy");
     player.put_back(before);
     check_that(&rt, player.segment() == before, "the player");
-}
-
-#[rattlefmt::skip]
-const WORDS: [(PlayerFault, &str); 5] = [
-    (PlayerFault::NoProgramme, "no programme"), (PlayerFault::Speed, "speed"), (PlayerFault::Range, "range"),
-    (PlayerFault::Full, "full"), (PlayerFault::Memory, "out of memory"),
-];
-
-#[test]
-fn faults_have_words(rt: HostRuntime) {
-    for (fault, words) in WORDS {
-        let told = format!(in rt.alloc(); "{fault}").expect(&rt, "memory");
-        check(&rt, "a fault", &told, words);
-    }
 }
 
 /// A plain player: what is shown now is moved on from event to event, whatever the event is.

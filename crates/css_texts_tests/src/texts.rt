@@ -5,6 +5,7 @@
 use crate::common::{check, check_that, words};
 use css_cii::{CiiFault, CiiName, read_message, write_message};
 use css_num::{Control, Memory, Text};
+use css_player::PlayerFault;
 use css_tsmsg::{
     Bound, Presentation, TsFault, TsName, is_same, read_control, read_presentation, read_setup,
     write_control, write_presentation, write_setup,
@@ -340,15 +341,14 @@ fn a_setup_is_read_as_a_value(rt: HostRuntime) {
     check(&rt, "its selector", selector, "urn:dvb:css:timeline:pts");
 }
 
+/// The words of the other faults stand with the statuses of commands.
 #[test]
 fn want_of_memory_and_names_are_told(rt: HostRuntime) {
-    let (cii, ts) = (CiiFault::Memory, TsFault::Memory);
-    let told = format!(in rt.alloc(); "{cii}; {}; {ts}; {}", CiiName::TsUrl, TsName::Actual);
-    let told = told.expect(&rt, "memory");
-    check(
-        &rt,
-        "faults",
-        &told,
-        "out of memory; tsUrl; out of memory; actual",
+    let (cii, ts, player) = (CiiFault::Memory, TsFault::Memory, PlayerFault::Memory);
+    let (url, actual) = (CiiName::TsUrl, TsName::Actual);
+    let told = format!(in rt.alloc(); "{cii}; {url}; {ts}; {actual}; {player}").expect(
+        &rt, "memory",
     );
+    let expected = "out of memory; tsUrl; out of memory; actual; out of memory";
+    check(&rt, "faults", &told, expected);
 }

@@ -1,79 +1,62 @@
 //! What helps after each status.
 
-use crate::asked::Asked;
-use crate::course::Course;
-use crate::hinting::hint;
+use crate::running::{NO_MEMORY, check, words_of};
+use crate::status_tests::check_told;
 use css_app::{LineWhy, Status};
 use css_cii::{CiiFault, CiiName};
 use css_companion::{Cause, Report};
+use css_hints::{Asked, Course, hint};
 use css_num::Text;
 use css_outside::Failure;
 use css_schedule::PlayerFault;
 use std::alloc::Global;
 use std::process::Abort;
 
-const NO_MEMORY: &str = "memory";
+/// A run that dialled the television alone.
+const DIALLED: Course<'static> = Course {
+    state: b"",
+    has_clock: false,
+    requests: 0,
+    responses: 0,
+    has_timestamps: false,
+    timestamps: 0,
+};
 
-/// What every line begins with.
-const FRONT: &str = "css: hint: ";
+/// The words, the refused line and the last CSS-CII text of a run.
+type Told = (&'static str, &'static str, &'static str);
 
-fn words_in(rt: &impl Abort, alloc: Global, line: &str) -> Vec<String> {
-    let mut words = Vec::new(alloc);
-    for word in line.split(' ') {
-        let word = String::from_str(alloc, word).expect(rt, NO_MEMORY);
-        words.push(word).expect(rt, NO_MEMORY);
-    }
-    words
-}
-
-/// A run that dialled the television alone, which told this.
-fn course(state: &[u8]) -> Course<'_> {
-    Course {
-        state,
-        has_clock: false,
-        requests: 0,
-        responses: 0,
-        has_timestamps: false,
-        timestamps: 0,
-    }
-}
-
-/// What helps after a status of these words, with this refused line and this last text: nothing, or a line of these.
-fn check(rt: &impl Abort, alloc: Global, status: &Status, told: (&str, &str, &str), helps: &str) {
+/// What helps after a status of a run that was told this: nothing, or a line of these words.
+fn check_hint(rt: &impl Abort, alloc: Global, status: &Status, told: &Told, helps: &str) {
     let (line, refused, state) = told;
-    let words = words_in(rt, alloc, line);
+    let words = words_of(rt, alloc, line);
     let asked = Asked {
         words: &words,
         dial: Some(Failure::HttpStatus(404)),
         line: Some(refused.as_bytes()),
         first_line_returned: false,
-        course: course(state.as_bytes()),
+        course: Course {
+            state: state.as_bytes(),
+            ..DIALLED
+        },
     };
     match hint(alloc, status, &asked) {
-        None => assert!(rt; helps.is_empty(), "{line}: {helps}"),
-        Some(told) => {
-            let wanted = format!(in alloc; "{FRONT}{helps}\n").expect(rt, NO_MEMORY);
-            assert!(rt; told.bytes() == wanted.as_bytes(), "{line}: {helps}");
+        None => check(rt, b"", helps.as_bytes(), line),
+        Some(hint) => {
+            let wanted = format!(in alloc; "css: hint: {helps}\n").expect(rt, NO_MEMORY);
+            check(rt, hint.bytes(), wanted.as_bytes(), line);
         }
     }
 }
 
-fn check_all(rt: &impl Abort, alloc: Global, rows: &[Row]) {
+fn check_all(rt: &impl Abort, alloc: Global, rows: &[(Status, Told, &str)]) {
     for (status, told, helps) in rows {
-        check(rt, alloc, status, *told, helps);
+        check_hint(rt, alloc, status, told, helps);
     }
 }
 
-/// A status; the words, the refused line and the last CSS-CII text; and what helps.
-type Row = (
-    Status,
-    (&'static str, &'static str, &'static str),
-    &'static str,
-);
-
 /// Statuses of whose hints no run of the program tells, and of each other kind one.
 #[rattlefmt::skip]
-const ROWS: [Row; 23] = [
+const HINTS: [(Status, Told, &str); 23] = [
     (Status::Done, ("tv", "", ""), ""),
     (Status::Usage, ("comapnion", "", ""), "no such command: comapnion; did you mean companion?"),
     (Status::Usage, ("television", "", ""), "no such command: television; css --help lists them"),
@@ -113,18 +96,20 @@ const ROWS: [Row; 23] = [
 
 #[test]
 fn each_status_has_its_hint(rt: HostRuntime) {
-    check_all(&rt, rt.alloc(), &ROWS);
+    check_all(&rt, rt.alloc(), &HINTS);
 }
 
+/// The old address is cut in the hint, and is no part of the status line.
 #[test]
-fn a_long_text_is_cut(rt: HostRuntime) {
+fn a_moved_address_is_told(rt: HostRuntime) {
     let moved = Status::Moved {
         property: CiiName::WcUrl,
         old: Text::of(rt.alloc(), &[b'o'; 300]).expect(&rt, NO_MEMORY),
         new: Text::of(rt.alloc(), b"udp://h:2").expect(&rt, NO_MEMORY),
     };
+    check_told(&rt, rt.alloc(), &moved, 8, "css: moved wcUrl\n");
     let helps =
         "wcUrl was oooooooooooooooooooooooooooooooooooooooooooooooooooooooooooo and is udp://h:2: \
                  start the companion again";
-    check(&rt, rt.alloc(), &moved, ("companion", "", ""), helps);
+    check_hint(&rt, rt.alloc(), &moved, &("companion", "", ""), helps);
 }

@@ -1,6 +1,6 @@
 use Rattle.std.proofs.Common.{◌<◌}
 use Rattle.std.specs.Option.{ForSome}
-use Rattle.css_schedules_tests.proofs.clocks.watch.Given as goal
+use Rattle.css_texts_tests.proofs.clocks.watch.Given as goal
 
 -- the next line comes after the last one
 abbrev pub invariant-loop-line : goal.invariant-loop-line

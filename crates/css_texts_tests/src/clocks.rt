@@ -2,7 +2,7 @@
 
 ghost use Rattle.std.specs.Prelude.{◌≡◌, ◌<◌, ◌≤◌, ◌^◌, unsigned_abs};
 
-use crate::common::check_that;
+use crate::common::{check_that, next_word};
 use css_model::LIMIT;
 use css_moments::{Drift, DriftFault};
 use std::alloc::Global;
@@ -144,9 +144,7 @@ fn watch(rt: &impl Abort, alloc: Global, error: u32, spread: u64) -> (u64, u64)
     let mut word: u64 = 1;
     let (mut fell, mut drifted): (u64, u64) = (0, 0);
     for line in 1..2000 {
-        word = word
-            .wrapping_mul(6_364_136_223_846_793_005)
-            .wrapping_add(1_442_695_040_888_963_407);
+        word = next_word(word);
         if line % 200 == 0 {
             drift.slept();
             lately.clear();

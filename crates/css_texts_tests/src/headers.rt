@@ -1,41 +1,45 @@
 //! Headers of schedules and the lines of their companions. Schedules that are generated have a printed header.
 
-use crate::common::{check, check_that, parts, shown};
-use css_schedule::{LineFault, read_companion, read_header};
+use crate::common::{check, parts, shown};
+use css_schedule::{read_companion, read_header};
 use std::alloc::Global;
 use std::process::Abort;
 
 /// Headers, and what each is read as. Words are told by their bytes.
 const HEADERS: &str = "\
-css-schedule 1 plain 25600000 -128 2560000 1000000000 !~ -0 = One(Header { follow: false, tv_error: 25600000, \
+css-schedule 1 plain 25600000 -128 2560000 1000000000 !~ -0 = Ok(One(Header { follow: false, tv_error: 25600000, \
 tv_precision: -128, companions: Companions { list: [CompanionLine { local: Local { error: 2560000, \
-precision: 1000000000 }, selector: Text { bytes: [33, 126] }, stem: Text { bytes: [45, 48] } }] } })
-css-schedule 1 follow 12800 30 0 0 - - = One(Header { follow: true, tv_error: 12800, tv_precision: 30, \
+precision: 1000000000 }, selector: Text { bytes: [33, 126] }, stem: Text { bytes: [45, 48] } }] } }))
+css-schedule 1 follow 12800 30 0 0 - - = Ok(One(Header { follow: true, tv_error: 12800, tv_precision: 30, \
 companions: Companions { list: [CompanionLine { local: Local { error: 0, precision: 0 }, \
-selector: Text { bytes: [45] }, stem: Text { bytes: [] } }] } })
-css-schedule 2 plain 0 -30 1 = Two { header: Header { follow: false, tv_error: 0, tv_precision: -30, \
-companions: Companions { list: [] } }, companions: 1 }
-css-schedule 2 follow 25600000 -128 16 = Two { header: Header { follow: true, tv_error: 25600000, \
-tv_precision: -128, companions: Companions { list: [] } }, companions: 16 }
-companion 2 2560000 1000000000 !~ -0 = CompanionLine { local: Local { error: 2560000, precision: 1000000000 }, \
-selector: Text { bytes: [33, 126] }, stem: Text { bytes: [45, 48] } }";
+selector: Text { bytes: [45] }, stem: Text { bytes: [] } }] } }))
+css-schedule 2 plain 0 -30 1 = Ok(Two { header: Header { follow: false, tv_error: 0, tv_precision: -30, \
+companions: Companions { list: [] } }, companions: 1 })
+css-schedule 2 follow 25600000 -128 16 = Ok(Two { header: Header { follow: true, tv_error: 25600000, \
+tv_precision: -128, companions: Companions { list: [] } }, companions: 16 })
+companion 2 2560000 1000000000 !~ -0 = Ok(CompanionLine { local: Local { error: 2560000, precision: 1000000000 }, \
+selector: Text { bytes: [33, 126] }, stem: Text { bytes: [45, 48] } })";
 
-/// What a header, or else the line of companion 2, is read as.
-fn told(rt: &impl Abort, alloc: Global, line: &str) -> String {
-    if line.starts_with("companion") {
-        let companion = read_companion(alloc, line.as_bytes(), 2).expect(rt, "a companion");
-        shown(rt, alloc, &companion)
+/// What the line of companion 2, or else a header, is read as.
+fn told(rt: &impl Abort, alloc: Global, is_companion: bool, line: &str) -> String {
+    if is_companion {
+        shown(rt, alloc, &read_companion(alloc, line.as_bytes(), 2))
     } else {
-        let start = read_header(alloc, line.as_bytes()).expect(rt, "a header");
-        shown(rt, alloc, &start)
+        shown(rt, alloc, &read_header(alloc, line.as_bytes()))
     }
+}
+
+fn check_line(rt: &impl Abort, alloc: Global, is_companion: bool, line: &str, expected: &str) {
+    let told = told(rt, alloc, is_companion, line);
+    check(rt, line, &told, expected);
 }
 
 #[test]
 fn headers_are_read(rt: HostRuntime) {
     for row in HEADERS.lines() {
         let (line, expected) = parts(&rt, row);
-        check(&rt, line, &told(&rt, rt.alloc(), line), expected);
+        let is_companion = line.starts_with("companion");
+        check_line(&rt, rt.alloc(), is_companion, line, expected);
     }
 }
 
@@ -70,8 +74,7 @@ const NO_COMPANION: &str = "\
 fn check_no_headers(rt: &impl Abort, alloc: Global, first: &str, headers: &str) {
     for header in headers.split('|') {
         let text = format!(in alloc; "{first}{header}").expect(rt, "memory");
-        let read = read_header(alloc, text.as_bytes());
-        check_that(rt, matches!(read, Err(LineFault::Form)), &text);
+        check_line(rt, alloc, false, &text, "Err(Form)");
     }
 }
 
@@ -80,7 +83,6 @@ fn what_is_no_header_is_refused(rt: HostRuntime) {
     check_no_headers(&rt, rt.alloc(), "css-schedule ", NO_HEADER);
     check_no_headers(&rt, rt.alloc(), "", NO_SCHEDULE);
     for line in NO_COMPANION.split('|') {
-        let read = read_companion(rt.alloc(), line.as_bytes(), 2);
-        check_that(&rt, matches!(read, Err(LineFault::Form)), line);
+        check_line(&rt, rt.alloc(), true, line, "Err(Form)");
     }
 }

@@ -1,8 +1,8 @@
 //! Lines of schedules and of scripts, read and printed.
 
-use crate::common::{check, check_that, parts, words};
+use crate::common::{check, parts, shown, words};
 use css_num::Text;
-use css_schedule::{Line, LineFault, LineWhy, PlayerFault, print_line, read_line, read_script};
+use css_schedule::{Line, LineFault, print_line, read_line, read_script};
 use std::alloc::Global;
 use std::process::Abort;
 
@@ -63,17 +63,22 @@ selector: Text { bytes: [45] }, rate: Rate { units_per_tick: 1000, units_per_sec
 9 seek 999999999999999999 = 9 Viewer { reading: 0, command: Seek(999999999999999999) }";
 
 /// Reads a line of version 1, or of version 2 with so many companions.
-fn read(alloc: Global, companions: Option<u32>, text: &str) -> Result<Line, LineFault> {
+fn read(alloc: Global, companions: Option<u32>, bytes: &[u8]) -> Result<Line, LineFault> {
     match companions {
-        None => read_line(alloc, text.as_bytes(), 1, 1),
-        Some(companions) => read_line(alloc, text.as_bytes(), 2, companions),
+        None => read_line(alloc, bytes, 1, 1),
+        Some(companions) => read_line(alloc, bytes, 2, companions),
     }
 }
 
+/// What a line is read as, or its fault.
 fn told(rt: &impl Abort, alloc: Global, companions: Option<u32>, text: &str) -> String {
-    let line = read(alloc, companions, text).expect(rt, "a line");
-    let (t, w, who, l) = (line.t, line.w, line.who, line.l);
-    format!(in alloc; "{t} {w} {who} {l} {:?}", line.verb).expect(rt, "memory")
+    match read(alloc, companions, text.as_bytes()) {
+        Ok(line) => {
+            let (t, w, who, l) = (line.t, line.w, line.who, line.l);
+            format!(in alloc; "{t} {w} {who} {l} {:?}", line.verb).expect(rt, "memory")
+        }
+        Err(fault) => shown(rt, alloc, &fault),
+    }
 }
 
 fn check_read(rt: &impl Abort, alloc: Global, companions: Option<u32>, rows: &str) {
@@ -84,8 +89,10 @@ fn check_read(rt: &impl Abort, alloc: Global, companions: Option<u32>, rows: &st
 }
 
 fn script_told(rt: &impl Abort, alloc: Global, text: &str) -> String {
-    let script = read_script(alloc, text.as_bytes()).expect(rt, "a line of a script");
-    format!(in alloc; "{} {:?}", script.due, script.verb).expect(rt, "memory")
+    match read_script(alloc, text.as_bytes()) {
+        Ok(script) => format!(in alloc; "{} {:?}", script.due, script.verb).expect(rt, "memory"),
+        Err(fault) => shown(rt, alloc, &fault),
+    }
 }
 
 #[test]
@@ -122,8 +129,8 @@ fn lines_are_printed(rt: HostRuntime) {
     for row in PRINTED.lines() {
         let (text, expected) = parts(&rt, row);
         let (first, second) = printed(&rt, rt.alloc(), text);
-        check(&rt, text, words(first.bytes()), text);
-        check(&rt, text, words(second.bytes()), expected);
+        check(&rt, text, words(&first), text);
+        check(&rt, text, words(&second), expected);
     }
 }
 
@@ -186,8 +193,7 @@ fn check_refused(
 ) {
     for line in lines.split('|') {
         let text = format!(in alloc; "{clocks}{line}").expect(rt, "memory");
-        let read = read(alloc, companions, &text);
-        check_that(rt, matches!(read, Err(LineFault::Form)), &text);
+        check(rt, &text, &told(rt, alloc, companions, &text), "Form");
     }
 }
 
@@ -197,8 +203,7 @@ fn what_is_no_line_is_refused(rt: HostRuntime) {
     check_refused(&rt, rt.alloc(), None, "", NO_FIRST);
     check_refused(&rt, rt.alloc(), Some(2), "", NO_SECOND);
     for text in NO_SCRIPT.split('|') {
-        let read = read_script(rt.alloc(), text.as_bytes());
-        check_that(&rt, matches!(read, Err(LineFault::Form)), text);
+        check(&rt, text, &script_told(&rt, rt.alloc(), text), "Form");
     }
 }
 
@@ -208,23 +213,7 @@ const NO_WORDS: [&[u8]; 3] = [b"1\xa02 3 ask 4", b"1 2 3 ask 4\xff", b"1 2 3 w\x
 #[test]
 fn other_bytes_are_refused(rt: HostRuntime) {
     for bytes in NO_WORDS {
-        let read = read_line(rt.alloc(), bytes, 1, 1);
-        check_that(&rt, matches!(read, Err(LineFault::Form)), "other bytes");
-    }
-}
-
-const WHY: [(LineWhy, &str); 5] = [
-    (LineWhy::Long, "long"),
-    (LineWhy::Form, "form"),
-    (LineWhy::Absent, "absent"),
-    (LineWhy::Player(PlayerFault::NoProgramme), "no programme"),
-    (LineWhy::Player(PlayerFault::Full), "full"),
-];
-
-#[test]
-fn a_line_that_ends_the_run_is_told_in_a_word(rt: HostRuntime) {
-    for (why, words) in &WHY {
-        let told = format!(in rt.alloc(); "{why}").expect(&rt, "memory");
-        check(&rt, "a fault", &told, words);
+        let read = read(rt.alloc(), None, bytes);
+        assert!(rt; matches!(read, Err(LineFault::Form)), "{bytes:?}");
     }
 }
