@@ -13,8 +13,10 @@ import sys
 import tempfile
 from pathlib import Path
 
+from build import alone, closure, fill, graph, prove, room_in_git
+
 TOP = Path(__file__).resolve().parent.parent
-CRATE = TOP / "crates" / "css_companion_c"
+NAME = "css_companion_c"
 VERSION = "1.0"
 
 
@@ -24,11 +26,30 @@ def kit():
     return Path(page).parent
 
 
-def build():
-    """The proved library. rt takes what it has kept, and proves what is new."""
-    if subprocess.run(["rt", "lib"], cwd=CRATE, check=False).returncode:
+def build(folder):
+    """Proves the crates below the library, and then the library, whose archive this makes in a folder."""
+    below = graph()
+    crates = closure(NAME, below) - {NAME}
+    room, archive = Path(folder) / "room", Path(folder) / f"lib{NAME}.a"
+    print(f"css: proving the library and the {len(crates)} crates below it", file=sys.stderr, flush=True)
+    fill(room, crates)
+    prove(room, crates)
+    places = {crate: room / "crates" / crate / "out" / "rlib" for crate in crates}
+    rows = (TOP / "crates.txt").read_text().splitlines()
+    uses = next(row for row in rows if row.split(" ")[0] == NAME).partition(":")[2].split()
+    words = [f"--crate-name={NAME}", "src/lib.rt", "--crate-type=staticlib", f"--links={NAME}="]
+    for crate in ["std", *uses]:
+        words += ["--extern", f"{crate}={places.get(crate, kit() / 'rlibs') / f'{crate}.rlib'}"]
+    for place in [kit() / "rlibs", *places.values()]:
+        words += ["-L", f"dependency={place}"]
+    words += ["--antt-project", kit() / "rattle/logic/antt-project.json", "--logic-built", kit() / "logic_built"]
+    words += ["--toolchain", kit() / "toolchain", "--jobs", str(len(os.sched_getaffinity(0))), "-o", archive]
+    how = {"cwd": TOP / "crates" / NAME, "stdout": subprocess.PIPE, "stderr": subprocess.STDOUT, "text": True}
+    made = subprocess.run([kit() / "bin/rattle", "build", *words], **how, check=False)
+    if made.returncode:
+        print(made.stdout[-4000:], file=sys.stderr)
         sys.exit("tools/library.py: the library can't be built")
-    return CRATE / "out" / "libcss_companion_c.a"
+    return archive
 
 
 def joined(archives, target):
@@ -60,9 +81,10 @@ def main(words):
         print(__doc__)
         return 2
     folder = Path(os.path.abspath(words[0]))
-    joined([build(), kit() / "c" / "liblibc_c.a"], folder / "lib" / "libcss_companion.a")
+    with alone(), room_in_git() as made:
+        joined([build(made), kit() / "c" / "liblibc_c.a"], folder / "lib" / "libcss_companion.a")
     (folder / "include").mkdir(parents=True, exist_ok=True)
-    shutil.copy(CRATE / "include" / "css_companion.h", folder / "include")
+    shutil.copy(TOP / "crates" / NAME / "include" / "css_companion.h", folder / "include")
     package(folder)
     package_of_rust = Path("rust") / "css-companion"
     skipped = shutil.ignore_patterns("target")
