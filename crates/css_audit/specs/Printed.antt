@@ -1,7 +1,7 @@
 -- The lines of a record as texts: the words of each, with one space between two of them.
 use Rattle.std.specs.Prelude.{ℕ, ◌++◌, List, [], ◌∷◌, codes, decimal}
 use Rattle.css_companion.specs.declared.config.CompanionConfig.{CompanionConfig}
-use Rattle.css_schedule.specs.Printed.{with_words, stem_word}
+use Rattle.css_schedule.specs.Words.{with_words, stem_word}
 use Rattle.css_audit.specs.HexWords.{hex_of}
 use Rattle.css_audit.specs.declared.input.RecordLine.{RecordLine}
 use Rattle.css_audit.specs.declared.input.RecordLine.TheVariants as lines

@@ -1,5 +1,5 @@
 ghost use Rattle.std.specs.Prelude.{◌≡◌, ◌∷◌, [], codes, decimal, IfOk, OnOk};
-ghost use Rattle.css_schedule.specs.Printed.{with_words, stem_word};
+ghost use Rattle.css_schedule.specs.Words.{with_words, stem_word};
 ghost use Rattle.css_audit.specs.HexWords.{hex_of};
 ghost use Rattle.css_audit.specs.Printed as printed;
 

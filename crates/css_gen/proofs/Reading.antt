@@ -3,10 +3,10 @@ use Rattle.std.proofs.Common.{◌≡◌, ℕ, ◌≤◌, ap, arith, refl, cond, 
 use Rattle.std.proofs.lemmas.Bool.{ne_eqb}
 use Rattle.std.proofs.lemmas.Int.{ints}
 use Rattle.std.proofs.lemmas.List.Elements.{All-nil, All-cons}
-use Rattle.css_schedule.specs.Printed.{header_text, line_text}
+use Rattle.css_printed.specs.Printed.{header_text, line_text}
 use Rattle.css_schedule.specs.Ranges.{IsPrintable, IsPrintableCompanion}
-use Rattle.css_schedule.proofs.HeadersBack.{header_text-back}
-use Rattle.css_schedule.proofs.ReadBack.{line_back}
+use Rattle.css_printed.proofs.HeadersBack.{header_text-back}
+use Rattle.css_printed.proofs.ReadBack.{line_back}
 use Rattle.css_gen.specs.Opening.{header, companion}
 use Rattle.css_gen.specs.Generated.{line_numbered, text_numbered}
 use Rattle.css_gen.specs.Readable.{GeneratedLinesAreRead}

@@ -13,11 +13,11 @@ use Rattle.css_schedule.specs.Headers.{max_companions, mode_at, declared_at, loc
 use Rattle.css_schedule.specs.Headers.{second_of_words, start_of, header_of_words, header_of, after_number}
 use Rattle.css_schedule.specs.Headers.{numbered_of_words, companion_of}
 use Rattle.css_schedule.specs.Lines.{line_in}
-use Rattle.css_schedule.specs.Printed.{declared_words, companion_words, line_text_in}
+use Rattle.css_printed.specs.Printed.{declared_words, companion_words, line_text_in}
 use Rattle.css_schedule.specs.Ranges.{IsLine, IsSecond}
-use Rattle.css_schedule.proofs.NumbersBack.{up_to-back, signed-back, text-back}
-use Rattle.css_schedule.proofs.Spaced.{Solid, AllSolid, words_of-with_words, graphic-solid, decimal-solid, signed-solid}
-use Rattle.css_schedule.proofs.ReadBack.{line_back_in}
+use Rattle.css_printed.proofs.NumbersBack.{up_to-back, signed-back, text-back}
+use Rattle.css_printed.proofs.Spaced.{Solid, AllSolid, words_of-with_words, graphic-solid, decimal-solid, signed-solid}
+use Rattle.css_printed.proofs.ReadBack.{line_back_in}
 use Rattle.css_gen.specs.Opening.{pts, header, companion}
 use Rattle.css_gen.specs.Crowd.{next_line_of}
 use Rattle.css_gen.specs.Second.{second_header_text, companion_text, openings, line_placed, second_line_from}

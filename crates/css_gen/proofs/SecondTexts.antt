@@ -2,7 +2,7 @@
 use Rattle.std.proofs.Common.{◌≡◌, ℕ, refl, sym, [], ◌∷◌, ◌++◌}
 use Rattle.std.specs.Prelude.{codes, decimal}
 use Rattle.std.specs.Fmt.{digits}
-use Rattle.css_schedule.proofs.Spaced.{with_words-after}
+use Rattle.css_printed.proofs.Spaced.{with_words-after}
 use Rattle.css_gen.specs.Opening.{pts}
 use Rattle.css_gen.specs.Second.{second_header_text, companion_text}
 

@@ -1,7 +1,7 @@
 -- The lines of a generated schedule.
 use Rattle.std.specs.Prelude.{ℕ, ◌+◌, ◌-◌, ◌==◌, nat_lt, if◌then◌else◌, List, Option, Some, None}
 use Rattle.css_schedule.specs.declared.line.Line.{Line}
-use Rattle.css_schedule.specs.Printed.{header_text, line_text}
+use Rattle.css_printed.specs.Printed.{header_text, line_text}
 use Rattle.css_gen.specs.Course.{next_line, course_after}
 use Rattle.css_gen.specs.declared.course.Course.{Course}
 use Rattle.css_gen.specs.Opening.{header, opening_line}

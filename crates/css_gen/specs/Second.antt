@@ -3,7 +3,8 @@
 use Rattle.std.specs.Prelude.{ℕ, ◌+◌, ◌-◌, ◌*◌, ◌/◌, ◌%◌, ◌==◌, nat_lt, nat_le, if◌then◌else◌, List, [], ◌∷◌}
 use Rattle.std.specs.Prelude.{codes, decimal}
 use Rattle.css_schedule.specs.declared.line.Line.{Line}
-use Rattle.css_schedule.specs.Printed.{with_words, declared_words, companion_words, line_text_in}
+use Rattle.css_schedule.specs.Words.{with_words}
+use Rattle.css_printed.specs.Printed.{declared_words, companion_words, line_text_in}
 use Rattle.css_gen.specs.Opening.{header, companion, opening_verb}
 use Rattle.css_gen.specs.Crowd.{next_line_of, next_crowd, crowd_after}
 use Rattle.css_gen.specs.declared.crowd.Crowd.{Crowd}

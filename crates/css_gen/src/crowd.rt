@@ -1,6 +1,6 @@
 ghost use Rattle.std.specs.Prelude.{◌≡◌, ◌≤◌, ◌<◌, ◌-◌, ◌^◌, min, length, IfOk, OnOk, OnErr};
 ghost use Rattle.css_schedule.specs.Owners.{is_own};
-ghost use Rattle.css_schedule.specs.Printed as printed;
+ghost use Rattle.css_printed.specs.Printed as printed;
 ghost use Rattle.css_gen.specs.Crowd as crowds;
 ghost use Rattle.css_gen.specs.Bounds.{CanHappen};
 ghost use Rattle.css_gen.specs.Standing.{AreSome, IsReady, CanTurn, IsKnown};
@@ -8,7 +8,8 @@ ghost use Rattle.css_gen.specs.Standing.{AreSome, IsReady, CanTurn, IsKnown};
 use crate::course::{Course, draw};
 use crate::senders::Senders;
 use css_num::{Memory, Text};
-use css_schedule::{Line, Verb, print_line};
+use css_printed::print_line;
+use css_schedule::{Line, Verb};
 use std::alloc::Global;
 
 /// The course of a schedule of several companions. With one companion only `course` goes on.

@@ -1,5 +1,5 @@
 ghost use Rattle.std.specs.Prelude.{◌≡◌, ◌≤◌, ◌==◌, IfOk, OnOk, OnErr};
-ghost use Rattle.css_schedule.specs.Printed as printed;
+ghost use Rattle.css_printed.specs.Printed as printed;
 ghost use Rattle.css_gen.specs.Course.{next_line, next_course};
 ghost use Rattle.css_gen.specs.Opening as opening;
 ghost use Rattle.css_gen.specs.Generated.{text_from, next_text, after_next};
@@ -12,7 +12,7 @@ use crate::crowd::Crowd;
 use crate::opening::{header, opening_line};
 use crate::second::second_text;
 use css_num::{Memory, Text};
-use css_schedule::{print_header, print_line};
+use css_printed::{print_header, print_line};
 use std::alloc::Global;
 use std::marker::Model;
 

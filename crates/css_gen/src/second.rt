@@ -1,12 +1,13 @@
 ghost use Rattle.std.specs.Prelude.{◌≡◌, ◌≤◌, ◌++◌, decimal, IfOk, OnOk, OnErr};
-ghost use Rattle.css_schedule.specs.Printed as printed;
+ghost use Rattle.css_printed.specs.Printed as printed;
 ghost use Rattle.css_gen.specs.Second as second;
 ghost use Rattle.css_gen.specs.Standing.{IsReady};
 
 use crate::crowd::Crowd;
 use crate::opening::opening_verb;
 use css_num::{Memory, Text};
-use css_schedule::{Line, print_line};
+use css_printed::print_line;
+use css_schedule::Line;
 use std::alloc::Global;
 
 /// How many lines open the schedule: line 1, one for each companion, three of the television, and five for the sessions

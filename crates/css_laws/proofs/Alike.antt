@@ -14,7 +14,7 @@ use Rattle.css_schedule.specs.declared.header.CompanionLine.{CompanionLine}
 use Rattle.css_schedule.specs.declared.line.Line.{Line}
 use Rattle.css_schedule.specs.Headers.{header_of}
 use Rattle.css_schedule.specs.Lines.{line_of, line_in}
-use Rattle.css_schedule.specs.Printed.{line_text_in}
+use Rattle.css_printed.specs.Printed.{line_text_in}
 use Rattle.css_migrate.specs.Migrated.{fed, line_becomes, text_becomes, migrated}
 use Rattle.css_migrate.specs.declared.migrate.NoLine.{NoLine}
 use Rattle.css_world.specs.Happened.{Numbered}

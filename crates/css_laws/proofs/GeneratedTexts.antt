@@ -11,7 +11,7 @@ use Rattle.css_schedule.specs.declared.header.Start.{Start}
 use Rattle.css_schedule.specs.declared.line.Line.{Line}
 use Rattle.css_schedule.specs.Headers.{companion_of, with_companion}
 use Rattle.css_schedule.specs.Lines.{line_in}
-use Rattle.css_schedule.specs.Printed.{line_text_in}
+use Rattle.css_printed.specs.Printed.{line_text_in}
 use Rattle.css_gen.specs.Opening as opening
 use Rattle.css_gen.specs.Generated.{line_numbered, text_numbered, text_in}
 use Rattle.css_gen.specs.Second.{second_line, second_text}

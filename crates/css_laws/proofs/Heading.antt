@@ -17,13 +17,14 @@ use Rattle.css_schedule.specs.declared.header.Start.TheVariants.{One, Two}
 use Rattle.css_schedule.specs.Words.{is_word, lines_of, ◌>>=◌}
 use Rattle.css_schedule.specs.Headers as headers
 use Rattle.css_schedule.specs.Headers.{header_of, companion_of, with_companion, with_lines, whole_header_in}
-use Rattle.css_schedule.specs.Printed.{with_words, mode_word, stem_word, companion_words, second_words, with_companions}
-use Rattle.css_schedule.specs.Printed.{second_text}
+use Rattle.css_schedule.specs.Words.{with_words, stem_word}
+use Rattle.css_printed.specs.Printed.{mode_word, companion_words, second_words, with_companions}
+use Rattle.css_printed.specs.Printed.{second_text}
 use Rattle.css_schedule.specs.Ranges.{is_stem, IsPrintableCompanion, IsPrintable, IsCount}
 use Rattle.css_schedule.proofs.HeadersInRange.{headers_are_in_range}
-use Rattle.css_schedule.proofs.HeadersBack.{header_back_in}
-use Rattle.css_schedule.proofs.Spaced.{Solid, with_words-after, line-free, lines_of-between}
-use Rattle.css_schedule.proofs.Spaced.{graphic-solid, word-solid, decimal-solid, signed-solid}
+use Rattle.css_printed.proofs.HeadersBack.{header_back_in}
+use Rattle.css_printed.proofs.Spaced.{Solid, with_words-after, line-free, lines_of-between}
+use Rattle.css_printed.proofs.Spaced.{graphic-solid, word-solid, decimal-solid, signed-solid}
 use Rattle.css_migrate.specs.Migrated.{fed, header_becomes}
 use Rattle.css_app.specs.Replayed.{Opening, Running, started, grown, declared, next_companion, after, reached}
 use Rattle.css_laws.proofs.Runs.{joined}

@@ -9,7 +9,8 @@ use Rattle.std.proofs.lemmas.List.Sums.{sum_by-cons}
 use Rattle.std.proofs.lemmas.List.Splits.{join_with_byte-slice_split}
 use Rattle.css_lines.specs.Meaning.{offset}
 use Rattle.css_schedule.specs.Words.{words_of}
-use Rattle.css_schedule.specs.Printed.{with_words, verb_words, line_text_in}
+use Rattle.css_schedule.specs.Words.{with_words}
+use Rattle.css_printed.specs.Printed.{verb_words, line_text_in}
 use Rattle.css_schedule.proofs.InRange.{lines_are_in_range}
 use Rattle.css_laws.proofs.Turned.{LinesGrowLittle}
 use Rattle.css_laws.proofs.SpelledLines.{line-spelled}

@@ -15,7 +15,8 @@ use Rattle.css_model.specs.declared.TheConstants.{LIMIT}
 use Rattle.css_player.specs.declared.command.Command.TheVariants as commands
 use Rattle.css_num.specs.declared.protocol.Kind.{Kind}
 use Rattle.css_num.specs.declared.protocol.Kind.TheVariants.{Cii, Ts}
-use Rattle.css_schedule.specs.Printed.{with_words, kind_word, verb_words, clock_words, line_text_in}
+use Rattle.css_schedule.specs.Words.{with_words}
+use Rattle.css_printed.specs.Printed.{kind_word, verb_words, clock_words, line_text_in}
 use Rattle.css_schedule.specs.Ranges.{IsVerb, IsLine}
 use Rattle.css_schedule.specs.declared.line.Line.{Line}
 use Rattle.css_schedule.specs.declared.line.Verb.{Verb}

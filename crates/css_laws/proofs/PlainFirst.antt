@@ -4,7 +4,7 @@ use Rattle.std.specs.Prelude.{◌==◌, if◌then◌else◌, nat_lt, min, pos, c
 use Rattle.std.proofs.lemmas.Bool.{ne_eqb}
 use Rattle.css_player.specs.declared.command.Command.TheVariants as commands
 use Rattle.css_num.specs.declared.protocol.Kind.TheVariants.{Cii, Ts}
-use Rattle.css_schedule.specs.Printed.{declared_words, companion_words, header_words, header_text, line_text_in}
+use Rattle.css_printed.specs.Printed.{declared_words, companion_words, header_words, header_text, line_text_in}
 use Rattle.css_schedule.specs.declared.line.Verb.TheVariants.{Programme, Timeline, Viewer, Opening, Bring, Up}
 use Rattle.css_gen.specs.Draws.{draw}
 use Rattle.css_gen.specs.Course.{asked, taken, taken_back, given, given_next, landed, landed_back, printed}

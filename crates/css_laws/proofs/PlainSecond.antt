@@ -4,7 +4,7 @@ use Rattle.std.proofs.Common.{◌≡◌, ℕ, ◌+◌, ◌-◌, ◌/◌, ◌%◌
 use Rattle.std.proofs.Common.{Bool, true, false, List, [], ◌∷◌, length}
 use Rattle.std.specs.Prelude.{◌==◌, if◌then◌else◌, nat_lt, nat_le, min, codes, decimal}
 use Rattle.std.proofs.lemmas.Bool.{ne_eqb, le-leb, lt-leb}
-use Rattle.css_schedule.specs.Printed.{declared_words, companion_words, line_text_in}
+use Rattle.css_printed.specs.Printed.{declared_words, companion_words, line_text_in}
 use Rattle.css_gen.specs.Draws.{draw}
 use Rattle.css_gen.specs.Course.{asked, printed, chosen}
 use Rattle.css_gen.specs.Crowd.{turn, datagrams, landed_from, landed_of, slept, chosen_of, happening_of}

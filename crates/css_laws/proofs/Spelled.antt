@@ -19,7 +19,7 @@ use Rattle.css_schedule.specs.Words.{after_word}
 use Rattle.css_schedule.specs.Lines.{time_at, position_at, kind_of, kind_at, finite_at, wall_time_at, earliest_of}
 use Rattle.css_schedule.specs.Lines.{latest_of, earliest_at, latest_at, change_at, speed_at, seek_at, command_at}
 use Rattle.css_schedule.specs.Lines.{ask_at, take_at, give_at, land_at, wall_at, print_at, programme_at}
-use Rattle.css_schedule.specs.Printed.{kind_word, command_name, command_word, verb_words}
+use Rattle.css_printed.specs.Printed.{kind_word, command_name, command_word, verb_words}
 
 -- ---- one word
 -- the words are this one and those after it

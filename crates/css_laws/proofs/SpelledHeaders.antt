@@ -17,7 +17,8 @@ use Rattle.css_schedule.specs.Words.{is_word, word_at, number_at, signed_at, int
 use Rattle.css_schedule.specs.Words.{all_read, words_of}
 use Rattle.css_schedule.specs.Headers.{stem_of, mode_of, mode_at, declared_at, local_at, companion_of_words, count_at}
 use Rattle.css_schedule.specs.Headers.{first_of_words, second_of_words, start_of, header_of_words, header_of}
-use Rattle.css_schedule.specs.Printed.{mode_word, stem_word, companion_words, first_words, declared_words, header_words}
+use Rattle.css_schedule.specs.Words.{stem_word}
+use Rattle.css_printed.specs.Printed.{mode_word, companion_words, first_words, declared_words, header_words}
 use Rattle.css_laws.proofs.Heading.{first_text, companion_text}
 use Rattle.css_laws.proofs.Alike.{HeadersGrowLittle}
 use Rattle.css_laws.proofs.Spelled.{IsThen, IsTextThen, one_of, same_word, word-spelled, number-spelled}

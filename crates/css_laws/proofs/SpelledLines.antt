@@ -15,7 +15,7 @@ use Rattle.css_schedule.specs.Lines.{time_at, position_at, kind_at, earliest_at,
 use Rattle.css_schedule.specs.Lines.{timeline_at}
 use Rattle.css_schedule.specs.Lines.{viewer_at, opening_at, bring_at, up_at, present_at, close_at, session_at}
 use Rattle.css_schedule.specs.Lines.{timelines_at, operands_at, verb_at, line_of_words, line_of}
-use Rattle.css_schedule.specs.Printed.{kind_word, command_name, verb_words}
+use Rattle.css_printed.specs.Printed.{kind_word, command_name, verb_words}
 use Rattle.css_laws.proofs.Spelled.{IsThen, IsTextThen, IsBoundThen, IsCommandThen, IsVerbThen, named, one_of}
 use Rattle.css_laws.proofs.Spelled.{word-spelled, time-spelled, ordinal-spelled, position-spelled}
 use Rattle.css_laws.proofs.Spelled.{text-spelled, after_word-spelled, kind-spelled, earliest-spelled, latest-spelled}

@@ -15,12 +15,12 @@ use Rattle.css_schedule.specs.declared.header.Header.{Header}
 use Rattle.css_schedule.specs.declared.line.Line.{Line}
 use Rattle.css_schedule.specs.Headers.{max_companions}
 use Rattle.css_schedule.specs.Lines.{line_of, line_in}
-use Rattle.css_schedule.specs.Printed.{verb_words, line_text_in}
+use Rattle.css_printed.specs.Printed.{verb_words, line_text_in}
 use Rattle.css_schedule.specs.Ranges.{IsLine, IsSecond}
 use Rattle.css_schedule.proofs.InRange.{lines_are_in_range}
-use Rattle.css_schedule.proofs.ReadBack.{line_back_in}
-use Rattle.css_schedule.proofs.Spaced.{line-free, decimal-solid}
-use Rattle.css_schedule.proofs.VerbsBack.{reading-solid, verb-solid}
+use Rattle.css_printed.proofs.ReadBack.{line_back_in}
+use Rattle.css_printed.proofs.Spaced.{line-free, decimal-solid}
+use Rattle.css_printed.proofs.VerbsBack.{reading-solid, verb-solid}
 use Rattle.css_migrate.specs.Migrated.{fed, line_becomes, migrated}
 use Rattle.css_world.specs.Happened.{Numbered}
 use Rattle.css_world.specs.Verdicts.{line_meant}

@@ -7,7 +7,7 @@ use Rattle.css_schedule.specs.declared.header.Start.TheVariants.{One, Two}
 use Rattle.css_schedule.specs.declared.line.Line.{Line}
 use Rattle.css_schedule.specs.Headers.{header_of}
 use Rattle.css_schedule.specs.Lines.{line_of}
-use Rattle.css_schedule.specs.Printed.{second_text, line_text_in}
+use Rattle.css_printed.specs.Printed.{second_text, line_text_in}
 use Rattle.css_migrate.specs.declared.migrate.NoLine.{NoLine}
 
 -- a text and a line feed

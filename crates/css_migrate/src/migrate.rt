@@ -2,14 +2,15 @@ ghost use Rattle.std.specs.Prelude.{◌≡◌, ◌++◌, length, OnOk, OnErr};
 ghost use Rattle.css_lines.specs.Answers.{Answers};
 ghost use Rattle.css_schedule.specs.Headers.{header_of};
 ghost use Rattle.css_schedule.specs.Lines.{line_of};
-ghost use Rattle.css_schedule.specs.Printed.{second_text, line_text_in};
+ghost use Rattle.css_printed.specs.Printed.{second_text, line_text_in};
 ghost use Rattle.css_schedule.specs.Ranges.{IsPrintable, IsLine, IsFirst};
 ghost use Rattle.css_migrate.specs.Migrated.{fed, header_becomes, line_becomes};
 ghost use Rattle.css_migrate.specs.Standing.{unread_fault};
 
 use css_lines::{LineFault, Lines};
 use css_num::{Memory, Text};
-use css_schedule::{Header, Line, Start, print_header, print_line, read_header, read_line};
+use css_printed::{print_header, print_line};
+use css_schedule::{Header, Line, Start, read_header, read_line};
 use std::alloc::Global;
 
 /// A line is outside the grammar of version 1, or a number is outside its range. A header of version 2 is told so too.

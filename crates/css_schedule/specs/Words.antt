@@ -1,6 +1,6 @@
 -- The words of a line, read from left to right.
 use Rattle.std.specs.Prelude.{◌≡◌, ℕ, ◌&&◌, ◌==◌, ℤ, int_lt, Bool, not, nat_le, if◌then◌else◌, List, [], ◌∷◌, length}
-use Rattle.std.specs.Prelude.{Option, Some, None, Result, Ok, Err, bytes_eq}
+use Rattle.std.specs.Prelude.{Option, Some, None, Result, Ok, Err, bytes_eq, ◌++◌, codes}
 use Rattle.std.specs.Option.{option_copied}
 use Rattle.std.specs.List.{slice_split, list_all}
 use Rattle.css_num.specs.Gives.{GivesBy}
@@ -114,3 +114,13 @@ pub record SpellsFirst (words : List (List ℕ)) (number : ℕ) (rest : List (Li
 abbrev pub all_read : List (List ℕ) → Result (Unit {0}) LineFault
 all_read [] = Ok tt
 all_read (word ∷ rest) = Err Form
+
+-- ---- words of a text
+-- a text with words after it, a space before each
+abbrev pub with_words : List ℕ → List (List ℕ) → List ℕ
+with_words text [] = text
+with_words text (word ∷ words) = with_words (text ++ 32 ∷ word) words
+
+-- `-` stands for the empty stem
+abbrev pub stem_word : List ℕ → List ℕ
+stem_word stem = if length stem == 0 then codes "-" else stem

@@ -10,7 +10,6 @@ mod header;
 mod line;
 mod opening;
 mod parts;
-mod printing;
 mod reading;
 pub mod words;
 
@@ -22,5 +21,4 @@ pub use fault::{LineFault, LineWhy};
 pub use header::{CompanionLine, Companions, Header, Start};
 pub use line::{Line, ScriptLine, Verb};
 pub use opening::{read_companion, read_header};
-pub use printing::{print_header, print_line};
 pub use reading::{read_line, read_script};

@@ -2,7 +2,8 @@
 
 use crate::common::{check, parts, shown, words};
 use css_num::Text;
-use css_schedule::{Line, LineFault, print_line, read_line, read_script};
+use css_printed::print_line;
+use css_schedule::{Line, LineFault, read_line, read_script};
 use std::alloc::Global;
 use std::process::Abort;
 

@@ -14,7 +14,7 @@ use Rattle.css_num.specs.Words.{digits_after, has_leading_zero, number_of}
 use Rattle.css_num.proofs.Numerals.{number_of-decimal, then_some}
 use Rattle.css_schedule.proofs.Graphic.{both}
 use Rattle.css_schedule.specs.Words.{is_space, is_feed, is_graphic, is_word, words_of, lines_of}
-use Rattle.css_schedule.specs.Printed.{with_words}
+use Rattle.css_schedule.specs.Words.{with_words}
 
 -- ---- parts with a byte between two of them
 -- the byte stands nowhere in it

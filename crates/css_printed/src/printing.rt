@@ -3,15 +3,15 @@ ghost use Rattle.std.specs.Fmt.{signed_decimal};
 ghost use Rattle.css_tsmsg.specs.Presentations.{content_text, wall_text};
 ghost use Rattle.css_schedule.specs.Headers.{max_companions, header_of, whole_header_of};
 ghost use Rattle.css_schedule.specs.Lines.{line_in};
-ghost use Rattle.css_schedule.specs.Printed as printed;
-ghost use Rattle.css_schedule.specs.Printed.{with_words};
+ghost use Rattle.css_printed.specs.Printed as printed;
+ghost use Rattle.css_schedule.specs.Words.{with_words};
 ghost use Rattle.css_schedule.specs.Ranges.{IsVersion, IsCount, FitsFirst, IsLine, IsOf, IsPrintable};
 ghost use Rattle.css_schedule.specs.declared.header.Start.TheVariants as starts;
 ghost use Rattle.css_schedule.specs.declared.line.Verb.TheVariants as verbs;
 
-use crate::{CompanionLine, Companions, Header, Line, Verb};
 use css_num::{Kind, Memory, Rate, Text};
 use css_player::Command;
+use css_schedule::{CompanionLine, Companions, Header, Line, Verb};
 use css_tsmsg::Bound;
 use std::alloc::Global;
 

@@ -9,26 +9,18 @@ use Rattle.css_num.specs.declared.protocol.Kind.{Kind}
 use Rattle.css_num.specs.declared.protocol.Kind.TheVariants.{Cii, Ts}
 use Rattle.css_tsmsg.specs.declared.bound.Bound.{Bound}
 use Rattle.css_tsmsg.specs.Presentations.{content_text, wall_text}
+use Rattle.css_schedule.specs.Words.{with_words, stem_word}
 use Rattle.css_schedule.specs.declared.header.CompanionLine.{CompanionLine}
 use Rattle.css_schedule.specs.declared.header.Header.{Header}
 use Rattle.css_schedule.specs.declared.line.Verb.{Verb}
 use Rattle.css_schedule.specs.declared.line.Verb.TheVariants as verbs
 use Rattle.css_schedule.specs.declared.line.Line.{Line}
 
--- a text with words after it, a space before each
-abbrev pub with_words : List ℕ → List (List ℕ) → List ℕ
-with_words text [] = text
-with_words text (word ∷ words) = with_words (text ++ 32 ∷ word) words
-
 -- ---- headers
 -- the word for whether the television promises follow-ups
 abbrev pub mode_word : Bool → List ℕ
 mode_word true = codes "follow"
 mode_word false = codes "plain"
-
--- `-` stands for the empty stem
-abbrev pub stem_word : List ℕ → List ℕ
-stem_word stem = if length stem == 0 then codes "-" else stem
 
 -- `EL PL SELECTOR STEM`
 abbrev pub companion_words : CompanionLine → List (List ℕ)

@@ -1,7 +1,7 @@
 -- The lines that are still to come make the text whole.
 use Rattle.std.proofs.Common.{◌≡◌, ◌+◌, drop}
-use Rattle.css_schedule.specs.Printed.{with_companions}
-use Rattle.css_schedule.proofs.printing.add_companion_lines.Given as goal
+use Rattle.css_printed.specs.Printed.{with_companions}
+use Rattle.css_printed.proofs.printing.add_companion_lines.Given as goal
 
 abbrev pub invariant-loop-companion : goal.invariant-loop-companion
 invariant-loop-companion l = record {

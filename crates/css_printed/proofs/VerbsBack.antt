@@ -19,9 +19,9 @@ use Rattle.css_tsmsg.specs.Presentations.{content_text, wall_text, IsEarliest, I
 use Rattle.css_tsmsg.specs.Times.{IsContent}
 use Rattle.css_tsmsg.specs.declared.bound.Bound.{Bound}
 use Rattle.css_tsmsg.specs.declared.bound.Bound.TheVariants.{At, MinusInfinity, PlusInfinity}
-use Rattle.css_schedule.proofs.NumbersBack.{number-back, time-back, ordinal-back, integer-back, position-back}
-use Rattle.css_schedule.proofs.NumbersBack.{text-back}
-use Rattle.css_schedule.proofs.Spaced.{Solid, AllSolid, graphic-solid, word-solid, decimal-solid, signed-solid}
+use Rattle.css_printed.proofs.NumbersBack.{number-back, time-back, ordinal-back, integer-back, position-back}
+use Rattle.css_printed.proofs.NumbersBack.{text-back}
+use Rattle.css_printed.proofs.Spaced.{Solid, AllSolid, graphic-solid, word-solid, decimal-solid, signed-solid}
 use Rattle.css_schedule.specs.declared.line.Verb.{Verb}
 use Rattle.css_schedule.specs.declared.line.Verb.TheVariants as verbs
 use Rattle.css_schedule.specs.Words.{is_graphic, after_word}
@@ -32,7 +32,7 @@ use Rattle.css_schedule.specs.Lines.{viewer_at}
 use Rattle.css_schedule.specs.Lines.{opening_at, bring_at, up_at, present_at, close_at, session_at, timelines_at}
 use Rattle.css_schedule.specs.Lines.{operands_at, verb_at}
 use Rattle.css_schedule.specs.Owners.{is_sleep}
-use Rattle.css_schedule.specs.Printed.{kind_word, command_name, command_word, timeline_words, verb_words}
+use Rattle.css_printed.specs.Printed.{kind_word, command_name, command_word, timeline_words, verb_words}
 use Rattle.css_schedule.specs.Ranges.{IsOrdinal, IsNumbered, IsTimeline, IsCommand, IsVerb}
 
 -- ---- what several verbs have

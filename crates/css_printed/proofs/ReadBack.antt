@@ -3,9 +3,9 @@ use Rattle.std.proofs.Common.{◌≡◌, ℕ, ◌≤◌, arith, ap, subst, refl,
 use Rattle.std.specs.Prelude.{if◌then◌else◌, ◌==◌, ◌||◌, ◌&&◌, not, Ok, codes, decimal}
 use Rattle.std.proofs.lemmas.Bool.{eqb-true, eq-eqb}
 use Rattle.css_player.specs.declared.command.Command.TheVariants.{Change, Speed, Seek}
-use Rattle.css_schedule.proofs.NumbersBack.{good, time-back, up_to-back}
-use Rattle.css_schedule.proofs.Spaced.{decimal-solid, words_of-with_words}
-use Rattle.css_schedule.proofs.VerbsBack.{reading-solid, verb-back, verb-solid}
+use Rattle.css_printed.proofs.NumbersBack.{good, time-back, up_to-back}
+use Rattle.css_printed.proofs.Spaced.{decimal-solid, words_of-with_words}
+use Rattle.css_printed.proofs.VerbsBack.{reading-solid, verb-back, verb-solid}
 use Rattle.css_schedule.specs.declared.line.Line.{Line}
 use Rattle.css_schedule.specs.declared.line.Verb.{Verb}
 use Rattle.css_schedule.specs.declared.line.Verb.TheVariants as verbs
@@ -14,7 +14,8 @@ use Rattle.css_schedule.specs.Headers.{max_companions}
 use Rattle.css_schedule.specs.Lines as lines
 use Rattle.css_schedule.specs.Lines.{verb_at, second_verb_at, line_of_words, line_of, line_in}
 use Rattle.css_schedule.specs.Owners.{is_sleep, is_own, is_named}
-use Rattle.css_schedule.specs.Printed.{with_words, verb_words, line_text, clock_words, line_text_in}
+use Rattle.css_schedule.specs.Words.{with_words}
+use Rattle.css_printed.specs.Printed.{verb_words, line_text, clock_words, line_text_in}
 use Rattle.css_schedule.specs.Ranges.{IsVerb, IsLine, IsFirst, IsSecond, IsOf}
 
 -- ---- lines of version 1

@@ -11,10 +11,10 @@ use Rattle.std.proofs.lemmas.List.{append-nil}
 use Rattle.std.proofs.lemmas.List.Elements.{All-head, All-tail}
 use Rattle.css_model.specs.Numbers.{max_error, max_local_error, max_local_precision}
 use Rattle.css_schedule.proofs.Graphic.{both}
-use Rattle.css_schedule.proofs.NumbersBack.{good, up_to-back, signed-back, text-back}
-use Rattle.css_schedule.proofs.Spaced.{Solid, AllSolid, AllFree, between, words_of-with_words, with_words-after}
-use Rattle.css_schedule.proofs.Spaced.{line-free, lines_of-between, graphic-solid, word-solid, decimal-solid}
-use Rattle.css_schedule.proofs.Spaced.{signed-solid}
+use Rattle.css_printed.proofs.NumbersBack.{good, up_to-back, signed-back, text-back}
+use Rattle.css_printed.proofs.Spaced.{Solid, AllSolid, AllFree, between, words_of-with_words, with_words-after}
+use Rattle.css_printed.proofs.Spaced.{line-free, lines_of-between, graphic-solid, word-solid, decimal-solid}
+use Rattle.css_printed.proofs.Spaced.{signed-solid}
 use Rattle.css_schedule.specs.declared.header.CompanionLine.{CompanionLine}
 use Rattle.css_schedule.specs.declared.header.Header.{Header}
 use Rattle.css_schedule.specs.declared.header.Start.{Start}
@@ -27,9 +27,10 @@ use Rattle.css_schedule.specs.Headers.{max_companions, stem_of, mode_at, declare
 use Rattle.css_schedule.specs.Headers.{count_at, header_with, first_of_words, second_of_words, start_of}
 use Rattle.css_schedule.specs.Headers.{header_of_words, header_of, after_number, numbered_of_words, companion_of}
 use Rattle.css_schedule.specs.Headers.{with_companion, with_lines, started, whole_header_in, whole_header_of}
-use Rattle.css_schedule.specs.Printed.{with_words, mode_word, stem_word, companion_words, first_words, declared_words}
-use Rattle.css_schedule.specs.Printed.{header_words, header_text, second_words, with_companions, second_text}
-use Rattle.css_schedule.specs.Printed.{header_text_in}
+use Rattle.css_schedule.specs.Words.{with_words, stem_word}
+use Rattle.css_printed.specs.Printed.{mode_word, companion_words, first_words, declared_words}
+use Rattle.css_printed.specs.Printed.{header_words, header_text, second_words, with_companions, second_text}
+use Rattle.css_printed.specs.Printed.{header_text_in}
 use Rattle.css_schedule.specs.Ranges.{is_stem, IsPrintableCompanion, IsPrintable, IsCount, FitsFirst}
 
 -- ---- parts of a header

@@ -1,0 +1,5 @@
+pub mod Spaced
+pub mod NumbersBack
+pub mod VerbsBack
+pub mod ReadBack
+pub mod HeadersBack
