@@ -127,8 +127,8 @@ asked_child asked = record {
 }
 
 -- ---- `agree`
--- The same as `ByReplay`, of answers. What is printed of them is what they say together, and it is true in every world that makes them
--- truthful.
+-- The same as of a replay (`ByReplay`), of answers. What is printed of them is what they say together, and it is true
+-- in every world that makes them truthful.
 pub record ByAgree (source : SourceUse) (sink : SinkUse) (result : Status) : Type 0 where
   pub no_usage : IsNoUsage result
   pub agrees : (bytes : List ℕ) → source.left_old ≡ Some bytes

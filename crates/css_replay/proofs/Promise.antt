@@ -57,8 +57,10 @@ use Rattle.css_world.proofs.Worlds.{carried_ok}
 use Rattle.css_world.proofs.Truth.{accepted_lines_are_true, accepted_lines_are_world}
 use Rattle.css_replay.specs.declared.reader.Cause.{Cause}
 use Rattle.css_replay.specs.declared.reader.Cause.TheVariants.{Form}
-use Rattle.css_replay.specs.Replayed.{Extent, Outset, Opening, Running, Unread, started, grown, declared, next_companion}
-use Rattle.css_replay.specs.Replayed.{next_line, with_line, after, reached, caused, read_meant, opened, meant_at, ended_at}
+use Rattle.css_replay.specs.Replayed.{Extent, Outset, Opening, Running, Unread, started, grown, declared}
+use Rattle.css_replay.specs.Replayed.{next_companion}
+use Rattle.css_replay.specs.Replayed.{next_line, with_line, after, reached, caused, read_meant, opened, meant_at}
+use Rattle.css_replay.specs.Replayed.{ended_at}
 use Rattle.css_replay.specs.Replayed.{replayed}
 use Rattle.css_replay.specs.Headline.{accepted_before, IsTrueInterval, IsCause, AreTrueTicks, IsReportedCause}
 use Rattle.css_replay.specs.Headline.{IsKept, KeepsLine, AreKept, KeepsPromise}

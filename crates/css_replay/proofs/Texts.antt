@@ -11,7 +11,8 @@ use Rattle.css_schedule.specs.declared.line.Line.{Line}
 use Rattle.css_schedule.specs.Headers.{header_of, with_companion}
 use Rattle.css_world.specs.Happened.{Numbered}
 use Rattle.css_world.specs.Standing.{IsNext}
-use Rattle.css_replay.specs.Replayed.{Extent, Outset, Opening, Running, Unread, started, grown, declared, next_companion}
+use Rattle.css_replay.specs.Replayed.{Extent, Outset, Opening, Running, Unread, started, grown, declared}
+use Rattle.css_replay.specs.Replayed.{next_companion}
 use Rattle.css_replay.specs.Replayed.{next_line, with_line, after, read_from, reached}
 
 -- a text more is read after those before it
