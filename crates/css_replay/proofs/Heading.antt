@@ -17,11 +17,10 @@ use Rattle.css_schedule.specs.Ranges.{IsStart, IsGoodHeader, IsGoodCompanion, Is
 use Rattle.css_replay.specs.declared.reader.Cause.{Cause}
 use Rattle.css_replay.specs.declared.reader.Format.{Format}
 use Rattle.css_replay.specs.declared.reader.Replay.{Replay}
-use Rattle.css_replay.specs.Replayed.{Extent, Outset, Opening, Running, Unread, started, grown, declared}
-use Rattle.css_replay.specs.Replayed.{next_companion}
-use Rattle.css_replay.specs.Replayed.{opened}
-use Rattle.css_replay.specs.Stands.{format_of, unread_fault, IsNew, IsPart, IsGrown, IsAt, Starts, Declares}
-use Rattle.css_replay.specs.Stands.{Grows, ReadsOn}
+use Rattle.css_replay.specs.Replayed.{Extent, Opening, Outset, Running, Unread, declared, grown, next_companion, opened}
+use Rattle.css_replay.specs.Replayed.{started}
+use Rattle.css_replay.specs.Stands.{Declares, Grows, IsAt, IsGrown, IsNew, IsPart, ReadsOn, Starts, format_of}
+use Rattle.css_replay.specs.Stands.{unread_fault}
 use Rattle.css_replay.proofs.Answering.{unread-fault}
 
 -- ---- line 1

@@ -57,13 +57,11 @@ use Rattle.css_world.proofs.Worlds.{carried_ok}
 use Rattle.css_world.proofs.Truth.{accepted_lines_are_true, accepted_lines_are_world}
 use Rattle.css_replay.specs.declared.reader.Cause.{Cause}
 use Rattle.css_replay.specs.declared.reader.Cause.TheVariants.{Form}
-use Rattle.css_replay.specs.Replayed.{Extent, Outset, Opening, Running, Unread, started, grown, declared}
-use Rattle.css_replay.specs.Replayed.{next_companion}
-use Rattle.css_replay.specs.Replayed.{next_line, with_line, after, reached, caused, read_meant, opened, meant_at}
-use Rattle.css_replay.specs.Replayed.{ended_at}
-use Rattle.css_replay.specs.Replayed.{replayed}
-use Rattle.css_replay.specs.Headline.{accepted_before, IsTrueInterval, IsCause, AreTrueTicks, IsReportedCause}
-use Rattle.css_replay.specs.Headline.{IsKept, KeepsLine, AreKept, KeepsPromise}
+use Rattle.css_replay.specs.Replayed.{Extent, Opening, Outset, Running, Unread, after, caused, declared, ended_at}
+use Rattle.css_replay.specs.Replayed.{grown, meant_at, next_companion, next_line, opened, reached, read_meant, replayed}
+use Rattle.css_replay.specs.Replayed.{started, with_line}
+use Rattle.css_replay.specs.Headline.{AreKept, AreTrueTicks, IsCause, IsKept, IsReportedCause, IsTrueInterval}
+use Rattle.css_replay.specs.Headline.{KeepsLine, KeepsPromise, accepted_before}
 use Rattle.css_replay.proofs.Texts.{reached-push, is_next}
 
 -- ---- one line

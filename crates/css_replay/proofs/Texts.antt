@@ -11,9 +11,8 @@ use Rattle.css_schedule.specs.declared.line.Line.{Line}
 use Rattle.css_schedule.specs.Headers.{header_of, with_companion}
 use Rattle.css_world.specs.Happened.{Numbered}
 use Rattle.css_world.specs.Standing.{IsNext}
-use Rattle.css_replay.specs.Replayed.{Extent, Outset, Opening, Running, Unread, started, grown, declared}
-use Rattle.css_replay.specs.Replayed.{next_companion}
-use Rattle.css_replay.specs.Replayed.{next_line, with_line, after, read_from, reached}
+use Rattle.css_replay.specs.Replayed.{Extent, Opening, Outset, Running, Unread, after, declared, grown, next_companion}
+use Rattle.css_replay.specs.Replayed.{next_line, reached, read_from, started, with_line}
 
 -- a text more is read after those before it
 read_from-push : (number : ℕ) (extent : Extent) (texts : List (List ℕ)) (text : List ℕ)

@@ -1,6 +1,5 @@
-use Rattle.css_replay.proofs.Standing.{next-number, known-version, same-companions, fits-first, some_lines}
-use Rattle.css_replay.proofs.Standing.{stands-after}
-use Rattle.css_replay.proofs.Standing.{answers-line, answers-header, stands-header, at-last}
+use Rattle.css_replay.proofs.Standing.{answers-header, answers-line, at-last, fits-first, known-version, next-number}
+use Rattle.css_replay.proofs.Standing.{same-companions, some_lines, stands-after, stands-header}
 use Rattle.css_replay.specs.Replayed.{reached}
 use Rattle.css_replay.proofs.reader.ReplayLines.line.Goals as goal
 
