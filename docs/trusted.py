@@ -18,7 +18,7 @@ PAGE = sources.TOP / "docs" / "TRUSTED.md"
 # Each table of the page, and the definitions that its clauses name. A table leaves out what an earlier one has.
 TABLES = {
     "headline": ["css_companion.Headline.TheHeadline"],
-    "replay": ["css_app.Headline.Promised"],
+    "replay": ["css_replay.Headline.Promised"],
     "live": ["css_drive.CompanionRun.Ran"],
     "commands": ["css_app.Commands.ByCompanion", "css_app.Commands.ByPair", "css_app.Commands.ByTv"],
     "generated": ["css_app.Commands.ByGenerate", "css_app.Commands.BySurvey"],

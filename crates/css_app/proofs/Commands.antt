@@ -14,12 +14,13 @@ use Rattle.css_words.specs.declared.fault.WordsFault.TheVariants as words
 use Rattle.css_survey.specs.Generated.{schedule_text}
 use Rattle.css_survey.specs.Surveyed.{survey_text}
 use Rattle.css_app.specs.declared.child.Child.{Child}
-use Rattle.css_app.specs.declared.status.Status.{Status}
-use Rattle.css_app.specs.declared.status.Status.TheVariants as status
+use Rattle.css_replay.specs.declared.status.Status.{Status}
+use Rattle.css_replay.specs.declared.status.Status.TheVariants as status
 use Rattle.css_app.specs.Commands.{ByCompanion, ByRecord, CompanionsBy, Does, EitherCompanion, EndsAsAsked, IsAskedRun}
 use Rattle.css_app.specs.Commands.{PairsAsAsked, PairsBy, RecordsBy, asked_child, asked_drive}
-use Rattle.css_app.specs.Devices.{FollowersUse, OutsideUse, SinkUse, SourceUse, SpawnerUse, stage_after, stage_before}
-use Rattle.css_app.specs.Ended.{IsNoUsage}
+use Rattle.css_app.specs.Devices.{FollowersUse, OutsideUse, SpawnerUse, stage_after, stage_before}
+use Rattle.css_replay.specs.Devices.{SinkUse, SourceUse}
+use Rattle.css_replay.specs.Ended.{IsNoUsage}
 use Rattle.css_app.specs.Live.{Companions, EndsAsDue, Stage}
 use Rattle.css_app.specs.Pairs.{Children, Pairs, PairsAsDue, PairsByScript, address_at}
 use Rattle.css_app.proofs.Relays.{relays_no_usage}

@@ -1,52 +1,17 @@
--- A replay of a schedule that no line stops ends before its end only for want of memory, unless a device failed.
+-- A run over answers that no line stops ends before its end only for want of memory, unless a device failed.
 use Rattle.std.proofs.Common.{ℕ, arith, ap, sym, ◌∙◌, List}
 use Rattle.std.specs.Prelude.{Option}
 use Rattle.css_lines.specs.Meaning.{Outcome}
 use Rattle.css_lines.specs.Ending.{RanUntil, SourceCounts, SinkCounts}
-use Rattle.css_lines.specs.declared.reader.Refusal.TheVariants as refusals
 use Rattle.css_lines.specs.declared.ending.Stop.{Stop}
 use Rattle.css_lines.specs.declared.ending.Stop.TheVariants.{BadLine, ReadFault, WriteFault, Memory}
 use Rattle.css_agree.specs.declared.reader.Cause as agree
 use Rattle.css_agree.specs.Agreeing.{agreeing}
 use Rattle.css_audit.specs.Auditing.{auditing}
 use Rattle.css_audit.specs.declared.fault.AuditFault.{AuditFault}
-use Rattle.css_app.specs.declared.replay.Cause.{Cause}
-use Rattle.css_app.specs.Replayed.{replayed}
-use Rattle.css_app.specs.declared.replay.Cause.TheVariants as causes
-use Rattle.css_app.specs.Ended.{IsAccepted, AreAllRead, AreAllRight, HasNotFailed, IsDoneUnlessMemory, Replays}
-use Rattle.css_app.specs.Ended.{status_of, agree_status_of, audit_status_of}
+use Rattle.css_replay.specs.Ended.{HasNotFailed, IsDoneUnlessMemory}
+use Rattle.css_app.specs.Ended.{AreAllRead, AreAllRight, agree_status_of, audit_status_of}
 
-pub completes : (bytes : List ℕ) (left holds_old holds_new : Option (List ℕ)) (stop : Stop Cause)
-    (reads reads_new writes writes_new : ℕ)
-    → RanUntil replayed bytes left holds_old holds_new stop → IsAccepted bytes
-    → SourceCounts reads reads_new stop → SinkCounts writes writes_new stop
-    → HasNotFailed reads reads_new → HasNotFailed writes writes_new → IsDoneUnlessMemory (status_of stop)
-completes bytes left holds_old holds_new (BadLine line why) reads reads_new writes writes_new ran accepted source sink
-    read written =
-    let verdict = sym (ap (λ (o : Outcome Cause). o.verdict) ran.verdict) ∙ accepted in
-    absurd (cc)
-completes bytes left holds_old holds_new ReadFault reads reads_new writes writes_new ran accepted source sink read
-    written =
-    absurd (omega (arith, source.risen read.below, read.same))
-completes bytes left holds_old holds_new WriteFault reads reads_new writes writes_new ran accepted source sink read
-    written =
-    absurd (omega (arith, sink.risen written.below, written.same))
-completes bytes left holds_old holds_new Memory reads reads_new writes writes_new ran accepted source sink read
-    written = tt
-
--- a replay that stopped leaves what its status says
-pub stopped : (bytes : List ℕ) (left holds_old holds_new : Option (List ℕ)) (stop : Stop Cause)
-    → RanUntil replayed bytes left holds_old holds_new stop → Replays bytes left holds_old holds_new (status_of stop)
-stopped bytes left holds_old holds_new (BadLine line refusals.Long) ran = ran
-stopped bytes left holds_old holds_new (BadLine line (refusals.Refused causes.Form)) ran = ran
-stopped bytes left holds_old holds_new (BadLine line (refusals.Refused causes.Absent)) ran = ran
-stopped bytes left holds_old holds_new (BadLine line (refusals.Refused (causes.Player fault))) ran = ran
-stopped bytes left holds_old holds_new (BadLine line (refusals.Refused (causes.Broken earlier excess))) ran = ran
-stopped bytes left holds_old holds_new ReadFault ran = ran
-stopped bytes left holds_old holds_new WriteFault ran = ran
-stopped bytes left holds_old holds_new Memory ran = ran
-
--- so does a run over answers of which no line is refused
 pub answers_complete : (bytes : List ℕ) (left holds_old holds_new : Option (List ℕ)) (stop : Stop agree.Cause)
     (reads reads_new writes writes_new : ℕ)
     → RanUntil agreeing bytes left holds_old holds_new stop → AreAllRead bytes
@@ -65,7 +30,7 @@ answers_complete bytes left holds_old holds_new WriteFault reads reads_new write
 answers_complete bytes left holds_old holds_new Memory reads reads_new writes writes_new ran accepted source sink read
     written = tt
 
--- and an audit of a record of which no line is refused
+-- so does an audit of a record of which no line is refused
 pub record_complete : (bytes : List ℕ) (left holds_old holds_new : Option (List ℕ)) (stop : Stop AuditFault)
     (reads reads_new writes writes_new : ℕ)
     → RanUntil auditing bytes left holds_old holds_new stop → AreAllRight bytes

@@ -20,12 +20,14 @@ use Rattle.css_words.specs.declared.fault.WordsFault.{WordsFault}
 use Rattle.css_words.specs.declared.fault.WordsFault.TheVariants as words
 use Rattle.css_survey.specs.Generated.{schedule_text}
 use Rattle.css_survey.specs.Surveyed.{survey_text}
-use Rattle.css_app.specs.declared.status.Status.TheVariants as status
-use Rattle.css_app.specs.Commands.{ByAgree, ByAudit, ByMigrate, ByRecord, ByReplay, ByWriting, Does}
+use Rattle.css_replay.specs.declared.status.Status.TheVariants as status
+use Rattle.css_app.specs.Commands.{ByAgree, ByAudit, ByMigrate, ByRecord, ByWriting, Does}
+use Rattle.css_replay.specs.Does.{ByReplay}
 use Rattle.css_app.specs.Commands.{EitherCompanion}
-use Rattle.css_app.specs.Devices.{followers_use, sink_use, source_use}
+use Rattle.css_app.specs.Devices.{followers_use}
+use Rattle.css_replay.specs.Devices.{sink_use, source_use}
 use Rattle.css_app.specs.Pairs.{Children}
-use Rattle.css_app.specs.Replayed.{replayed}
+use Rattle.css_replay.specs.Replayed.{replayed}
 
 module _ {Cause : Type 0} (meaning : Meaning Cause) where
   nothing_sound : IsSound meaning []

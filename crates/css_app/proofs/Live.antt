@@ -15,10 +15,10 @@ use Rattle.css_drive.specs.declared.config.DriveConfig.{DriveConfig}
 use Rattle.css_drive.specs.declared.driven.Driven.{Driven}
 use Rattle.css_drive.specs.declared.driven.Driven.TheVariants as driven
 use Rattle.css_schedule.specs.declared.line.ScriptLine.{ScriptLine}
-use Rattle.css_app.specs.declared.status.Status.{Status}
-use Rattle.css_app.specs.declared.status.Status.TheVariants as status
-use Rattle.css_app.specs.Ended.{CountsReads, CountsWrites, HasNotFailed}
-use Rattle.css_app.specs.Live.{CountsCalls, CountsDials, EndsAsDue, HasNoScript, HasNoSheet, MakesRun, ServesAsDue}
+use Rattle.css_replay.specs.declared.status.Status.{Status}
+use Rattle.css_replay.specs.declared.status.Status.TheVariants as status
+use Rattle.css_replay.specs.Ended.{CountsCalls, CountsDials, CountsReads, CountsWrites, HasNotFailed}
+use Rattle.css_app.specs.Live.{EndsAsDue, HasNoScript, HasNoSheet, MakesRun, ServesAsDue}
 use Rattle.css_app.specs.Live.{Stage, driven_status}
 use Rattle.css_app.specs.Scripts.{script_in}
 

@@ -8,8 +8,7 @@ use Rattle.css_lines.specs.declared.ending.Stop.{Stop}
 use Rattle.css_lines.specs.declared.ending.Stop.TheVariants.{BadLine, ReadFault, WriteFault, Memory}
 use Rattle.css_migrate.specs.Migrated.{migrated}
 use Rattle.css_migrate.specs.declared.migrate.NoLine.{NoLine}
-use Rattle.css_app.specs.Ended.{HasNotFailed, IsDoneUnlessMemory, IsNoUsage}
-use Rattle.css_app.specs.Live.{TellsNoLive}
+use Rattle.css_replay.specs.Ended.{HasNotFailed, IsDoneUnlessMemory, IsNoUsage, TellsNoLive}
 use Rattle.css_app.specs.Migrations.{AreAllFirst, migrate_status_of}
 
 pub migrate_quiet : (stop : Stop NoLine) → TellsNoLive (migrate_status_of stop)

@@ -14,10 +14,11 @@ use Rattle.css_follow.specs.Following.{Plan}
 use Rattle.css_drive.specs.declared.config.DriveConfig.{DriveConfig}
 use Rattle.css_drive.specs.declared.driven.Driven.{Driven}
 use Rattle.css_drive.specs.declared.driven.Driven.TheVariants as driven
-use Rattle.css_app.specs.declared.status.Status.{Status}
-use Rattle.css_app.specs.declared.status.Status.TheVariants as status
-use Rattle.css_app.specs.Ended.{CountsReads, CountsWrites, HasNotFailed, IsNoUsage}
-use Rattle.css_app.specs.Live.{CountsCalls, CountsDials, CountsSpawns, EndsAsDue, IsAsDue, MakesRun, Stage}
+use Rattle.css_replay.specs.declared.status.Status.{Status}
+use Rattle.css_replay.specs.declared.status.Status.TheVariants as status
+use Rattle.css_replay.specs.Ended.{CountsCalls, CountsDials, CountsReads, CountsSpawns, CountsWrites, HasNotFailed}
+use Rattle.css_replay.specs.Ended.{IsNoUsage}
+use Rattle.css_app.specs.Live.{EndsAsDue, IsAsDue, MakesRun, Stage}
 use Rattle.css_app.specs.Live.{driven_status}
 use Rattle.css_app.specs.Pairs.{PairsAsDue, RunsBeside, child_status, is_done, with_child}
 

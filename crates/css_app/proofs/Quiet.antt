@@ -1,6 +1,6 @@
 -- Which faults a command's status never tells.
 use Rattle.std.proofs.Common.{◌≡◌, ℕ, List, refl, sym, subst, arith, inl, inr}
-use Rattle.std.specs.Prelude.{Option, Some, None, Ok, Err}
+use Rattle.std.specs.Prelude.{Option, Ok, Err}
 use Rattle.css_model.specs.History.{History}
 use Rattle.css_lines.specs.declared.ending.Stop.{Stop}
 use Rattle.css_lines.specs.declared.ending.Stop.TheVariants as stops
@@ -18,33 +18,16 @@ use Rattle.css_drive.specs.Ends.{MayEnd}
 use Rattle.css_drive.specs.TvDue.{TvRun, run_of, due}
 use Rattle.css_drive.specs.declared.tv_config.TvDrive.{TvDrive}
 use Rattle.css_app.specs.declared.child.Child.{Child}
-use Rattle.css_app.specs.declared.replay.Cause.{Cause}
-use Rattle.css_app.specs.declared.replay.Cause.TheVariants as causes
-use Rattle.css_app.specs.declared.status.Status.{Status}
-use Rattle.css_app.specs.declared.status.Status.TheVariants as status
-use Rattle.css_app.specs.Ended.{CountsReads, IsNoUsage, Writes, agree_status_of, audit_status_of, status_of}
-use Rattle.css_app.specs.Live.{Companions, CountsDials, CountsSpawns, HasNoScript, HasNoSheet, Serves, Stage}
-use Rattle.css_app.specs.Live.{TellsNoLive, driven_status}
+use Rattle.css_replay.specs.declared.status.Status.{Status}
+use Rattle.css_replay.specs.declared.status.Status.TheVariants as status
+use Rattle.css_replay.specs.Ended.{CountsDials, CountsReads, CountsSpawns, IsNoUsage, TellsNoLive}
+use Rattle.css_app.specs.Ended.{Writes, agree_status_of, audit_status_of}
+use Rattle.css_app.specs.Live.{Companions, HasNoScript, HasNoSheet, Serves, Stage, driven_status}
 use Rattle.css_app.specs.Pairs.{Beside, Children, IsNoStart, Pairs, empty_sheet}
 use Rattle.css_app.proofs.Pairs.{keeps_no_usage}
 use Rattle.css_app.proofs.TvEnds.{never_unreachable}
 
 -- ---- commands over lines
-pub replay_quiet : (stop : Stop Cause) → TellsNoLive (status_of stop)
-replay_quiet (stops.BadLine line refusals.Long) =
-    record { calls = λ n. refl; dials = λ n. omega arith; spawns = λ n. omega arith }
-replay_quiet (stops.BadLine line (refusals.Refused causes.Form)) =
-    record { calls = λ n. refl; dials = λ n. omega arith; spawns = λ n. omega arith }
-replay_quiet (stops.BadLine line (refusals.Refused causes.Absent)) =
-    record { calls = λ n. refl; dials = λ n. omega arith; spawns = λ n. omega arith }
-replay_quiet (stops.BadLine line (refusals.Refused (causes.Player fault))) =
-    record { calls = λ n. refl; dials = λ n. omega arith; spawns = λ n. omega arith }
-replay_quiet (stops.BadLine line (refusals.Refused (causes.Broken earlier excess))) =
-    record { calls = λ n. refl; dials = λ n. omega arith; spawns = λ n. omega arith }
-replay_quiet stops.ReadFault = record { calls = λ n. refl; dials = λ n. omega arith; spawns = λ n. omega arith }
-replay_quiet stops.WriteFault = record { calls = λ n. refl; dials = λ n. omega arith; spawns = λ n. omega arith }
-replay_quiet stops.Memory = record { calls = λ n. refl; dials = λ n. omega arith; spawns = λ n. omega arith }
-
 pub agree_quiet : (stop : Stop agree.Cause) → TellsNoLive (agree_status_of stop)
 agree_quiet (stops.BadLine line refusals.Long) =
     record { calls = λ n. refl; dials = λ n. omega arith; spawns = λ n. omega arith }
@@ -79,16 +62,6 @@ audit_quiet stops.WriteFault =
     record { calls = λ n. refl; dials = λ n. omega arith; spawns = λ n. omega arith }
 audit_quiet stops.Memory =
     record { calls = λ n. refl; dials = λ n. omega arith; spawns = λ n. omega arith }
-
-pub replay_no_usage : (stop : Stop Cause) → IsNoUsage (status_of stop)
-replay_no_usage (stops.BadLine line refusals.Long) = tt
-replay_no_usage (stops.BadLine line (refusals.Refused causes.Form)) = tt
-replay_no_usage (stops.BadLine line (refusals.Refused causes.Absent)) = tt
-replay_no_usage (stops.BadLine line (refusals.Refused (causes.Player fault))) = tt
-replay_no_usage (stops.BadLine line (refusals.Refused (causes.Broken earlier excess))) = tt
-replay_no_usage stops.ReadFault = tt
-replay_no_usage stops.WriteFault = tt
-replay_no_usage stops.Memory = tt
 
 pub agree_no_usage : (stop : Stop agree.Cause) → IsNoUsage (agree_status_of stop)
 agree_no_usage (stops.BadLine line refusals.Long) = tt

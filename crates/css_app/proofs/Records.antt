@@ -9,7 +9,7 @@ use Rattle.css_drive.specs.declared.config.DriveConfig.{DriveConfig}
 use Rattle.css_drive.specs.declared.driven.Driven.{Driven}
 use Rattle.css_drive.specs.declared.driven.Driven.TheVariants as driven
 use Rattle.css_record.specs.Runs.{Recorded}
-use Rattle.css_app.specs.Ended.{HasNotFailed}
+use Rattle.css_replay.specs.Ended.{HasNotFailed}
 use Rattle.css_app.specs.Live.{EndsAsDue, driven_status}
 use Rattle.css_app.proofs.Live.{driven-calls, driven-writes, due_or_memory}
 

@@ -10,10 +10,10 @@ use Rattle.css_drive_relay.specs.Due as relay
 use Rattle.css_drive_relay.specs.Ran.{RelayRan}
 use Rattle.css_drive_relay.specs.declared.config.RelayRun.{RelayRun}
 use Rattle.css_words.specs.Relay.{RelayAsked}
-use Rattle.css_app.specs.Ended.{HasNotFailed, IsNoUsage}
+use Rattle.css_replay.specs.Ended.{HasNotFailed, IsNoUsage}
 use Rattle.css_app.specs.Live.{driven_status}
 use Rattle.css_app.specs.Relays.{IsAskedRelay, RelaysAsDue, RelaysBy, RelaysNone}
-use Rattle.css_app.specs.declared.status.Status.{Status}
+use Rattle.css_replay.specs.declared.status.Status.{Status}
 use Rattle.css_app.proofs.Live.{driven-calls, driven-no_writes, due_or_memory}
 use Rattle.css_app.proofs.Quiet.{driven_no_child}
 

@@ -15,8 +15,8 @@ use Rattle.css_schedule.specs.Ranges.{IsScriptLine}
 use Rattle.css_schedule.specs.declared.line.ScriptLine.{ScriptLine}
 use Rattle.css_app.specs.declared.scripts.NoLine.{NoLine}
 use Rattle.css_app.specs.declared.scripts.ScriptLines.{ScriptLines}
-use Rattle.css_app.specs.declared.status.Status.TheVariants as status
-use Rattle.css_app.specs.Ended.{CountsReads}
+use Rattle.css_replay.specs.declared.status.Status.TheVariants as status
+use Rattle.css_replay.specs.Ended.{CountsReads}
 use Rattle.css_app.specs.Live.{GivesScript, HasNoScript, TellsNoRun, script_status}
 use Rattle.css_app.specs.Scripts.{Stands, line_in, line_of, script_in, script_lines, script_of_lines, unless_refused}
 use Rattle.css_app.specs.Scripts.{why_of}

@@ -13,7 +13,7 @@ use Rattle.css_follow.specs.declared.fault.SheetFault.TheVariants.{Line}
 use Rattle.css_follow.specs.declared.line.Form.{Form}
 use Rattle.css_follow.specs.declared.reading.SheetLines.{SheetLines}
 use Rattle.css_follow.proofs.SheetsRead.{read-ok}
-use Rattle.css_app.specs.Ended.{CountsReads}
+use Rattle.css_replay.specs.Ended.{CountsReads}
 use Rattle.css_app.specs.Live.{GivesSheet, HasNoSheet, TellsNoRun, sheet_status}
 
 -- the first line that is refused

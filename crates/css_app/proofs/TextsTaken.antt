@@ -9,9 +9,9 @@ use Rattle.css_lines.specs.declared.reader.Refusal.{Refusal}
 use Rattle.css_schedule.specs.declared.fault.LineWhy.{LineWhy}
 use Rattle.css_schedule.specs.declared.line.ScriptLine.{ScriptLine}
 use Rattle.css_app.specs.declared.scripts.NoLine.{NoLine}
-use Rattle.css_app.specs.declared.status.Status.{Status}
-use Rattle.css_app.specs.declared.status.Status.TheVariants as status
-use Rattle.css_app.specs.Ended.{CountsReads}
+use Rattle.css_replay.specs.declared.status.Status.{Status}
+use Rattle.css_replay.specs.declared.status.Status.TheVariants as status
+use Rattle.css_replay.specs.Ended.{CountsReads}
 use Rattle.css_app.specs.Live.{GivesAll, GivesScript, HasNoScript}
 use Rattle.css_app.specs.Pairs.{GivesScriptText, GivesUpTo, IsScript}
 use Rattle.css_app.specs.Scripts.{script_in, script_lines, script_of_lines, unless_refused, why_of}

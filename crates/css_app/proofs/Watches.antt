@@ -6,11 +6,12 @@ use Rattle.css_watch.specs.declared.ending.Watched.{Watched}
 use Rattle.css_watch.specs.declared.ending.Watched.TheVariants as watched
 use Rattle.css_words.specs.Watch.{WatchAsked}
 use Rattle.css_app.specs.Commands.{WatchesBy}
-use Rattle.css_app.specs.Devices.{OutsideUse, SinkUse}
-use Rattle.css_app.specs.Ended.{CountsReads, CountsWrites, HasNotFailed, IsNoUsage}
-use Rattle.css_app.specs.Live.{CountsCalls, CountsDials, CountsSpawns}
+use Rattle.css_app.specs.Devices.{OutsideUse}
+use Rattle.css_replay.specs.Devices.{SinkUse}
+use Rattle.css_replay.specs.Ended.{CountsCalls, CountsDials, CountsReads, CountsSpawns, CountsWrites, HasNotFailed}
+use Rattle.css_replay.specs.Ended.{IsNoUsage}
 use Rattle.css_app.specs.Watches.{EndsAtLastUnlessMemory, watched_status}
-use Rattle.css_app.specs.declared.status.Status.{Status}
+use Rattle.css_replay.specs.declared.status.Status.{Status}
 
 -- ---- counts
 pub watched-reads : (ended : Watched) (count : ℕ) → CountsReads count count (watched_status ended)

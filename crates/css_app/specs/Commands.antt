@@ -25,12 +25,13 @@ use Rattle.css_words.specs.Watch.{WatchAsked}
 use Rattle.css_words.specs.declared.fault.WordsFault.{WordsFault}
 use Rattle.css_words.specs.declared.fault.WordsFault.TheVariants as words
 use Rattle.css_app.specs.declared.child.Child.{Child}
-use Rattle.css_app.specs.declared.status.Status.{Status}
-use Rattle.css_app.specs.declared.status.Status.TheVariants as status
-use Rattle.css_app.specs.Devices.{SourceUse, SinkUse, OutsideUse, SpawnerUse, FollowersUse, stage_before, stage_after}
-use Rattle.css_app.specs.Ended.{Agrees, AreAllRead, AreAllRight, Audits, HasNotFailed, IsAccepted, IsDoneUnlessMemory}
-use Rattle.css_app.specs.Ended.{IsNoUsage, Replays, Writes}
-use Rattle.css_app.specs.Headline.{Promised}
+use Rattle.css_replay.specs.declared.status.Status.{Status}
+use Rattle.css_replay.specs.declared.status.Status.TheVariants as status
+use Rattle.css_replay.specs.Devices.{SourceUse, SinkUse}
+use Rattle.css_replay.specs.Does.{ByReplay}
+use Rattle.css_app.specs.Devices.{OutsideUse, SpawnerUse, FollowersUse, stage_before, stage_after}
+use Rattle.css_app.specs.Ended.{Agrees, AreAllRead, AreAllRight, Audits, Writes}
+use Rattle.css_replay.specs.Ended.{HasNotFailed, IsDoneUnlessMemory, IsNoUsage}
 use Rattle.css_app.specs.Live.{IsAsDue, MakesNoRun, RunsBySheet, Serves, ServesAsDue, Stage}
 use Rattle.css_app.specs.Migrations.{AreAllFirst, Migrates}
 use Rattle.css_app.specs.Pairs.{ArePairedAsDue, Children, PairsByScript, PairsNone, address_at}
@@ -125,25 +126,9 @@ asked_child asked = record {
   relative = asked.relative;
 }
 
--- ---- `replay`
--- The status says how the schedule was read, and the sink holds the output of its lines. Whatever the source, what the
--- sink gained keeps the promise of `Headline`: each interval of ticks contains the position that the last control
--- timestamp received assigns to the value that its line gives the television's wall clock, and comes from the narrowest
--- accepted response; lacking a response or usable timestamp the cause is printed. Once told, the companion's state of
--- the content is one that the television published.
-pub record ByReplay (source : SourceUse) (sink : SinkUse) (result : Status) : Type 0 where
-  pub no_usage : IsNoUsage result
-  pub replays : (bytes : List ℕ) → source.left_old ≡ Some bytes
-      → Replays bytes source.left_new sink.holds_old sink.holds_new result
-  pub promise : Promised source.left_old source.left_new sink.holds_old sink.holds_new
-  -- a schedule of which no line is refused is read to its end, over devices that don't fail
-  pub complete : (bytes : List ℕ) → source.left_old ≡ Some bytes → IsAccepted bytes
-      → HasNotFailed source.faults_old source.faults_new → HasNotFailed sink.faults_old sink.faults_new
-      → IsDoneUnlessMemory result
-
 -- ---- `agree`
--- The same of answers. What is printed of them is what they say together, and it is true in every world that makes them
--- truthful.
+-- The same as of a replay (`ByReplay`), of answers. What is printed of them is what they say together, and it is true
+-- in every world that makes them truthful.
 pub record ByAgree (source : SourceUse) (sink : SinkUse) (result : Status) : Type 0 where
   pub no_usage : IsNoUsage result
   pub agrees : (bytes : List ℕ) → source.left_old ≡ Some bytes

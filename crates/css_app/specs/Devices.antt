@@ -1,34 +1,13 @@
--- What there is to see of the devices of a run, before it and after it.
+-- What there is to see of a run's devices beside its source and its sink, before it and after it.
 use Rattle.std.specs.Prelude.{ℕ, List, Option}
 use Rattle.css_model.specs.History.{History}
 use Rattle.css_outside.specs.Outsides.{Counts}
 use Rattle.css_follow.specs.Following.{Plan}
 use Rattle.css_follow.specs.declared.sheet.Sheet.{Sheet}
 use Rattle.css_drive.specs.Listening.{Listener}
+use Rattle.css_replay.specs.Devices.{SinkUse}
 use Rattle.css_app.specs.Live.{Stage, stage}
 use Rattle.css_app.specs.Pairs.{Children}
-
--- the bytes that the source has left, where it tells them, and how often a read has failed
-pub record SourceUse : Type 0 where
-  pub left_old : Option (List ℕ)
-  pub left_new : Option (List ℕ)
-  pub faults_old : ℕ
-  pub faults_new : ℕ
-
-abbrev pub source_use : Option (List ℕ) → Option (List ℕ) → ℕ → ℕ → SourceUse
-source_use left_old left_new faults_old faults_new =
-    record { left_old = left_old; left_new = left_new; faults_old = faults_old; faults_new = faults_new }
-
--- the bytes that the sink holds, where it tells them, and how often a write has failed
-pub record SinkUse : Type 0 where
-  pub holds_old : Option (List ℕ)
-  pub holds_new : Option (List ℕ)
-  pub faults_old : ℕ
-  pub faults_new : ℕ
-
-abbrev pub sink_use : Option (List ℕ) → Option (List ℕ) → ℕ → ℕ → SinkUse
-sink_use holds_old holds_new faults_old faults_new =
-    record { holds_old = holds_old; holds_new = holds_new; faults_old = faults_old; faults_new = faults_new }
 
 -- the calls of the outside, where it tells them, and how often a call other than a dial has failed
 pub record OutsideUse : Type 0 where

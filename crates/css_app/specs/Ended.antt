@@ -1,11 +1,7 @@
--- How a run ends, as a status.
-use Rattle.std.specs.Prelude.{ℕ, ◌≡◌, ◌<◌, ◌-◌, ◌^◌, ◌⊎◌, List, [], ◌++◌, codes, decimal}
-use Rattle.std.specs.Prelude.{Option, Some, None, Ok, Err}
-use Rattle.std.specs.Fmt.{signed_decimal}
+-- How a run over answers ends as a status, one over a record, and one that writes a text.
+use Rattle.std.specs.Prelude.{ℕ, ◌≡◌, ◌⊎◌, List, [], Option, Some, None}
 use Rattle.std.specs.Io.KnownBytes.{Appends}
 use Rattle.css_outside.specs.Bytes.{AppendsPrefix}
-use Rattle.css_outside.specs.Faults.{HasRisen}
-use Rattle.css_lines.specs.declared.reader.Refusal.{Refusal}
 use Rattle.css_lines.specs.declared.reader.Refusal.TheVariants as refusals
 use Rattle.css_lines.specs.declared.ending.Stop.{Stop}
 use Rattle.css_lines.specs.declared.ending.Stop.TheVariants as stops
@@ -17,133 +13,10 @@ use Rattle.css_agree.specs.Agreeing.{agreeing}
 use Rattle.css_audit.specs.Auditing.{auditing}
 use Rattle.css_audit.specs.declared.fault.AuditFault.{AuditFault}
 use Rattle.css_audit.specs.declared.fault.AuditFault.TheVariants as audits
-use Rattle.css_app.specs.declared.replay.Cause.{Cause}
-use Rattle.css_app.specs.declared.replay.Cause.TheVariants as causes
-use Rattle.css_cii.specs.FaultWords.{fault_words}
-use Rattle.css_cii.specs.Names.{json_name}
-use Rattle.css_schedule.specs.FaultWords.{why_words}
-use Rattle.css_schedule.specs.declared.fault.LineWhy.{LineWhy}
-use Rattle.css_schedule.specs.declared.fault.LineWhy.TheVariants.{Long, Form, Absent, Player}
-use Rattle.css_app.specs.declared.status.Status.{Status}
-use Rattle.css_app.specs.declared.status.Status.TheVariants.{Done, Usage, BadLine, Broken, ReadFault, WriteFault}
-use Rattle.css_app.specs.declared.status.Status.TheVariants.{NetFault, BadCii, Moved, Spent, Unreachable, ChildFault}
-use Rattle.css_app.specs.declared.status.Status.TheVariants.{BadSheet, BadUrl, WrongReport, NoInterval, Memory}
-use Rattle.css_app.specs.Replayed.{replayed}
-
--- the exit status of the program
-abbrev pub status_number : Status → ℕ
-status_number Done = 0
-status_number Usage = 1
-status_number (BadLine line why) = 2
-status_number (Broken line earlier excess) = 3
-status_number ReadFault = 4
-status_number WriteFault = 5
-status_number (NetFault failure) = 6
-status_number (BadCii text fault) = 7
-status_number (Moved property old new) = 8
-status_number (Spent turns) = 9
-status_number (Unreachable turns) = 10
-status_number (ChildFault status) = 11
-status_number (BadSheet line) = 12
-status_number (BadUrl property) = 13
-status_number Memory = 14
-status_number (WrongReport line right) = 15
-status_number (NoInterval reports) = 16
-
--- the words of a status, which stand behind the program's name on standard error
-abbrev pub status_words : Status → List ℕ
-status_words Done = codes "done"
-status_words Usage = codes "usage"
-status_words (BadLine line why) = codes "line " ++ decimal line ++ codes ": " ++ why_words why
-status_words (Broken line earlier excess) =
-    codes "line " ++ decimal line ++ codes ": broken with line " ++ decimal earlier ++ codes " by "
-    ++ signed_decimal excess
-status_words ReadFault = codes "read fault"
-status_words WriteFault = codes "write fault"
-status_words (NetFault failure) = codes "net fault"
-status_words (BadCii text fault) = codes "cii text " ++ decimal text ++ codes ": " ++ fault_words fault
-status_words (Moved property old new) = codes "moved " ++ json_name property
-status_words (Spent turns) = codes "spent after " ++ decimal turns ++ codes " turns"
-status_words (Unreachable turns) = codes "unreachable after " ++ decimal turns ++ codes " turns"
-status_words (ChildFault (Err failure)) = codes "child fault"
-status_words (ChildFault (Ok status)) = codes "child status " ++ signed_decimal status
-status_words (BadSheet line) = codes "sheet line " ++ decimal line
-status_words (BadUrl property) = codes "bad url " ++ json_name property
-status_words (WrongReport line right) = codes "line " ++ decimal line ++ codes ": wrong report"
-status_words (NoInterval reports) = codes "no interval in " ++ decimal reports ++ codes " reports"
-status_words Memory = codes "memory"
-
--- the program's name, the words of a status, and a line feed
-abbrev pub words_line : Status → List ℕ
-words_line status = codes "css: " ++ status_words status ++ codes "\n"
-
--- The line that tells a status on standard error. Done is told by no line.
-abbrev pub status_line : Status → List ℕ
-status_line Done = []
-status_line status = words_line status
-
--- why the line of a schedule is refused
-abbrev pub refusal_of : LineWhy → Refusal Cause
-refusal_of Long = refusals.Long
-refusal_of Form = refusals.Refused causes.Form
-refusal_of Absent = refusals.Refused causes.Absent
-refusal_of (Player fault) = refusals.Refused (causes.Player fault)
-
--- The input was read to its end, no line of it is refused, and the sink grew by its whole output.
-pub record ReplaysAll (bytes : List ℕ) (left holds_old holds_new : Option (List ℕ)) : Type 0 where
-  pub at_end : left ≡ Some []
-  pub accepted : (outcome replayed bytes).verdict ≡ None
-  pub grew : Appends holds_old holds_new (outcome replayed bytes).printed
-
--- What a replay of a schedule with these bytes may leave, by its status.
-abbrev pub Replays : List ℕ → Option (List ℕ) → Option (List ℕ) → Option (List ℕ) → Status → Type 0
-Replays bytes left holds_old holds_new Done = ReplaysAll bytes left holds_old holds_new
-Replays bytes left holds_old holds_new Usage = ⊥
-Replays bytes left holds_old holds_new (BadLine line why) =
-    RanUntil replayed bytes left holds_old holds_new (stops.BadLine line (refusal_of why))
-Replays bytes left holds_old holds_new (Broken line earlier excess) =
-    RanUntil replayed bytes left holds_old holds_new
-    (stops.BadLine line (refusals.Refused (causes.Broken earlier excess)))
-Replays bytes left holds_old holds_new ReadFault = RanUntil replayed bytes left holds_old holds_new stops.ReadFault
-Replays bytes left holds_old holds_new WriteFault = RanUntil replayed bytes left holds_old holds_new stops.WriteFault
-Replays bytes left holds_old holds_new Memory = RanUntil replayed bytes left holds_old holds_new stops.Memory
-Replays bytes left holds_old holds_new _ = ⊥
-
--- the source's count of faults has risen where a read failed, and else is as it was
-abbrev pub CountsReads : ℕ → ℕ → Status → Type 0
-CountsReads before now ReadFault = HasRisen before now
-CountsReads before now _ = now ≡ before
-
--- the sink's count of faults has risen where a write failed, and else is as it was
-abbrev pub CountsWrites : ℕ → ℕ → Status → Type 0
-CountsWrites before now WriteFault = HasRisen before now
-CountsWrites before now _ = now ≡ before
-
--- No call of a device failed: its count of faults is as it was, and below its greatest value, where it would stay.
-pub record HasNotFailed (before now : ℕ) : Type 0 where
-  pub below : before < 2 ^ 64 - 1
-  pub same : now ≡ before
-
--- the input was read to its end, unless memory ran out
-abbrev pub IsDoneUnlessMemory : Status → Type 0
-IsDoneUnlessMemory Done = Unit {0}
-IsDoneUnlessMemory Memory = Unit {0}
-IsDoneUnlessMemory _ = ⊥
-
--- no line of the schedule is refused
-abbrev pub IsAccepted : List ℕ → Type 0
-IsAccepted bytes = (outcome replayed bytes).verdict ≡ None
-
--- the status of a replay that stopped
-abbrev pub status_of : Stop Cause → Status
-status_of (stops.BadLine line refusals.Long) = BadLine line Long
-status_of (stops.BadLine line (refusals.Refused causes.Form)) = BadLine line Form
-status_of (stops.BadLine line (refusals.Refused causes.Absent)) = BadLine line Absent
-status_of (stops.BadLine line (refusals.Refused (causes.Player fault))) = BadLine line (Player fault)
-status_of (stops.BadLine line (refusals.Refused (causes.Broken earlier excess))) = Broken line earlier excess
-status_of stops.ReadFault = ReadFault
-status_of stops.WriteFault = WriteFault
-status_of stops.Memory = Memory
+use Rattle.css_schedule.specs.declared.fault.LineWhy.TheVariants.{Long, Form, Absent}
+use Rattle.css_replay.specs.declared.status.Status.{Status}
+use Rattle.css_replay.specs.declared.status.Status.TheVariants.{BadCii, BadLine, Broken, Done, Memory, Moved, ReadFault}
+use Rattle.css_replay.specs.declared.status.Status.TheVariants.{WriteFault, WrongReport}
 
 -- ---- answers
 -- the status of a run over answers that stopped
@@ -213,11 +86,6 @@ Audits bytes left holds_old holds_new status =
 -- no line of the record is refused, and each report of it is right
 abbrev pub AreAllRight : List ℕ → Type 0
 AreAllRight bytes = (outcome auditing bytes).verdict ≡ None
-
--- the words were those of a command
-abbrev pub IsNoUsage : Status → Type 0
-IsNoUsage Usage = ⊥
-IsNoUsage _ = Unit {0}
 
 -- ---- what is written whole
 -- The sink grew by the whole text, or by a front part of it where a write failed or memory ran out. There is no other

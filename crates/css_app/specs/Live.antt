@@ -1,11 +1,10 @@
 -- How the live commands end: a companion's run by a cue sheet, and a television's run by a script.
-use Rattle.std.specs.Prelude.{◌≡◌, ◌⊎◌, ℕ, ◌≤◌, List, Option, Some, None}
+use Rattle.std.specs.Prelude.{◌≡◌, ◌⊎◌, ℕ, List, Option, Some}
 use Rattle.std.specs.Prelude.{Ok, Err, Result, MatchResult, ⊤}
 use Rattle.std.specs.Io.KnownBytes.{Consumes, IsAtEnd}
 use Rattle.css_lines.specs.declared.ending.Stop.{Stop}
 use Rattle.css_lines.specs.declared.ending.Stop.TheVariants as stops
 use Rattle.css_model.specs.History.{History}
-use Rattle.css_outside.specs.Faults.{HasRisen}
 use Rattle.css_outside.specs.Outsides.{with_entries}
 use Rattle.css_follow.specs.Following.{Plan, Seen}
 use Rattle.css_follow.specs.Sheets.{sheet_in}
@@ -26,9 +25,9 @@ use Rattle.css_drive.specs.declared.driven.Driven.TheVariants as driven
 use Rattle.css_schedule.specs.declared.line.ScriptLine.{ScriptLine}
 use Rattle.css_drive.specs.declared.tv_config.TvDrive.{TvDrive}
 use Rattle.css_app.specs.declared.scripts.NoLine.{NoLine}
-use Rattle.css_app.specs.declared.status.Status.{Status}
-use Rattle.css_app.specs.declared.status.Status.TheVariants as status
-use Rattle.css_app.specs.Ended.{CountsReads, CountsWrites}
+use Rattle.css_replay.specs.declared.status.Status.{Status}
+use Rattle.css_replay.specs.declared.status.Status.TheVariants as status
+use Rattle.css_replay.specs.Ended.{CountsCalls, CountsDials, CountsReads, CountsSpawns, CountsWrites}
 use Rattle.css_app.specs.Scripts.{script_in, why_of}
 
 -- ---- statuses
@@ -58,33 +57,9 @@ script_status stops.ReadFault = status.ReadFault
 script_status _ = status.Memory
 
 -- ---- counts of faults
--- The outside's count of faults of calls other than dials has risen where a call failed, and else is as it was.
-abbrev pub CountsCalls : ℕ → ℕ → Status → Type 0
-CountsCalls before now (status.NetFault failure) = HasRisen before now
-CountsCalls before now _ = now ≡ before
-
--- Where no dial succeeded, the count of failed dials has risen. It never falls.
-abbrev pub CountsDials : ℕ → ℕ → Status → Type 0
-CountsDials before now (status.Unreachable turns) = HasRisen before now
-CountsDials before now _ = before ≤ now
-
--- The spawner's count of faults has risen where a status says so, and is as it was at `Done` and at a child's status.
--- It never falls.
-abbrev pub CountsSpawns : ℕ → ℕ → Status → Type 0
-CountsSpawns before now status.Done = now ≡ before
-CountsSpawns before now (status.ChildFault (Err failure)) = HasRisen before now
-CountsSpawns before now (status.ChildFault (Ok ended)) = now ≡ before
-CountsSpawns before now _ = before ≤ now
-
 -- A status that comes before a run tells no fault of the sink, of the outside or of a spawner.
 pub record TellsNoRun (result : Status) : Type 0 where
   pub writes : (count : ℕ) → CountsWrites count count result
-  pub calls : (count : ℕ) → CountsCalls count count result
-  pub dials : (count : ℕ) → CountsDials count count result
-  pub spawns : (count : ℕ) → CountsSpawns count count result
-
--- A status of a command over lines tells no fault of the outside or of a spawner.
-pub record TellsNoLive (result : Status) : Type 0 where
   pub calls : (count : ℕ) → CountsCalls count count result
   pub dials : (count : ℕ) → CountsDials count count result
   pub spawns : (count : ℕ) → CountsSpawns count count result

@@ -9,8 +9,8 @@ use Rattle.css_lines.specs.Meaning.{outcome}
 use Rattle.css_migrate.specs.Migrated.{migrated}
 use Rattle.css_migrate.specs.declared.migrate.NoLine.{NoLine}
 use Rattle.css_schedule.specs.declared.fault.LineWhy.TheVariants.{Long, Form}
-use Rattle.css_app.specs.declared.status.Status.{Status}
-use Rattle.css_app.specs.declared.status.Status.TheVariants.{Done, BadLine, ReadFault, WriteFault, Memory}
+use Rattle.css_replay.specs.declared.status.Status.{Status}
+use Rattle.css_replay.specs.declared.status.Status.TheVariants.{Done, BadLine, ReadFault, WriteFault, Memory}
 
 -- the status of a migration that stopped
 abbrev pub migrate_status_of : Stop NoLine → Status

@@ -4,8 +4,8 @@ use Rattle.css_model.specs.History.{History}
 use Rattle.css_drive.specs.declared.config.DriveConfig.{DriveConfig}
 use Rattle.css_drive.specs.declared.driven.Driven.{Driven}
 use Rattle.css_record.specs.Runs.{Recorded}
-use Rattle.css_app.specs.declared.status.Status.{Status}
-use Rattle.css_app.specs.declared.status.Status.TheVariants as status
+use Rattle.css_replay.specs.declared.status.Status.{Status}
+use Rattle.css_replay.specs.declared.status.Status.TheVariants as status
 use Rattle.css_app.specs.Live.{driven_status}
 
 -- A run was made, the sink gained its record, and the status says how it ended.

@@ -9,8 +9,8 @@ use Rattle.css_drive_relay.specs.Due.{IsProperRelay}
 use Rattle.css_drive_relay.specs.Ran.{RelayRan}
 use Rattle.css_drive_relay.specs.declared.config.RelayRun.{RelayRun}
 use Rattle.css_words.specs.Relay.{RelayAsked}
-use Rattle.css_app.specs.declared.status.Status.{Status}
-use Rattle.css_app.specs.declared.status.Status.TheVariants as status
+use Rattle.css_replay.specs.declared.status.Status.{Status}
+use Rattle.css_replay.specs.declared.status.Status.TheVariants as status
 use Rattle.css_app.specs.Live.{driven_status}
 
 -- the run is what the options of a relay ask for

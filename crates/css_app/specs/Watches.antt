@@ -8,8 +8,8 @@ use Rattle.css_watch.specs.declared.ending.Watched.{Watched}
 use Rattle.css_watch.specs.declared.ending.Watched.TheVariants as watched
 use Rattle.css_watch.specs.declared.plan.Plan.{Plan}
 use Rattle.css_words.specs.Watch.{WatchAsked}
-use Rattle.css_app.specs.declared.status.Status.{Status}
-use Rattle.css_app.specs.declared.status.Status.TheVariants as status
+use Rattle.css_replay.specs.declared.status.Status.{Status}
+use Rattle.css_replay.specs.declared.status.Status.TheVariants as status
 
 -- the status of a watch that ended so
 abbrev pub watched_status : Watched → Status

@@ -1,13 +1,13 @@
 ghost use Rattle.std.specs.Prelude.{◌≡◌};
 ghost use Rattle.css_app.specs.Commands.{ByAgree};
-ghost use Rattle.css_app.specs.Devices.{sink_use, source_use};
-ghost use Rattle.css_app.specs.Ended.{CountsReads, CountsWrites, agree_status_of};
-ghost use Rattle.css_app.specs.Live.{TellsNoLive};
+ghost use Rattle.css_replay.specs.Devices.{sink_use, source_use};
+ghost use Rattle.css_replay.specs.Ended.{CountsReads, CountsWrites, TellsNoLive};
+ghost use Rattle.css_app.specs.Ended.{agree_status_of};
 
-use crate::status::Status;
 use css_agree::{Agreeing, Cause};
 use css_lines::{Refusal, Stop, drive};
 use css_outside::{Sink, Source};
+use css_replay::Status;
 use css_schedule::LineWhy;
 use std::alloc::Global;
 

@@ -1,15 +1,15 @@
 ghost use Rattle.std.specs.Prelude.{◌≡◌};
 ghost use Rattle.css_app.specs.Commands.{ByAudit};
-ghost use Rattle.css_app.specs.Devices.{sink_use, source_use};
-ghost use Rattle.css_app.specs.Ended.{CountsReads, CountsWrites, audit_status_of};
+ghost use Rattle.css_replay.specs.Devices.{sink_use, source_use};
+ghost use Rattle.css_replay.specs.Ended.{CountsReads, CountsWrites, TellsNoLive};
+ghost use Rattle.css_app.specs.Ended.{audit_status_of};
 ghost use Rattle.css_app.specs.Ended as ended;
-ghost use Rattle.css_app.specs.Live.{TellsNoLive};
 ghost use Rattle.css_lines.specs.declared.ending.Stop.TheVariants as stops;
 
-use crate::status::Status;
 use css_audit::{AuditFault, Auditing};
 use css_lines::{Refusal, Stop, drive};
 use css_outside::{Sink, Source};
+use css_replay::Status;
 use css_schedule::LineWhy;
 use std::alloc::Global;
 

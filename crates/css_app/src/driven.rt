@@ -1,8 +1,8 @@
 ghost use Rattle.std.specs.Prelude.{◌≡◌};
 ghost use Rattle.css_app.specs.Live.{driven_status};
 
-use crate::status::Status;
 use css_drive::Driven;
+use css_replay::Status;
 
 /// The status of a run that ended so.
 pub(crate) fn status_of(driven: Driven) -> Status

@@ -3,15 +3,15 @@ ghost use Rattle.css_drive.specs.Configs.{IsWritable};
 ghost use Rattle.css_follow.specs.Sheets.{sheet_in};
 ghost use Rattle.css_follow.specs.declared.sheet.Sheet.{Sheet};
 ghost use Rattle.css_drive.specs.Listening.{all_plans};
-ghost use Rattle.css_app.specs.Ended.{CountsReads, CountsWrites, HasNotFailed};
-ghost use Rattle.css_app.specs.Live.{Companions, CountsCalls, CountsDials, EndsAsDue, MakesRun, stage};
+ghost use Rattle.css_replay.specs.Ended.{CountsCalls, CountsDials, CountsReads, CountsWrites, HasNotFailed};
+ghost use Rattle.css_app.specs.Live.{Companions, EndsAsDue, MakesRun, stage};
 
 use crate::driven::status_of;
 use crate::sheets::take_sheet;
-use crate::status::Status;
 use css_drive::{DriveConfig, Listens, drive_companion};
 use css_num::Memory;
 use css_outside::{Outside, Sink, Source};
+use css_replay::Status;
 use std::alloc::Global;
 
 /// Makes a companion's run, and tells how it ended.

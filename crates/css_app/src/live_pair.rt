@@ -2,8 +2,9 @@ ghost use Rattle.std.specs.Prelude.{◌≡◌, List, ℕ, IfOk, OnOk, Ok, Some};
 ghost use Rattle.css_drive.specs.Configs.{IsWritable};
 ghost use Rattle.css_drive.specs.Listening.{all_plans, all_seen};
 ghost use Rattle.css_schedule.specs.declared.line.ScriptLine.{ScriptLine};
-ghost use Rattle.css_app.specs.Ended.{CountsReads, CountsWrites, HasNotFailed};
-ghost use Rattle.css_app.specs.Live.{CountsCalls, CountsDials, CountsSpawns, stage};
+ghost use Rattle.css_replay.specs.Ended.{CountsCalls, CountsDials, CountsReads, CountsSpawns, CountsWrites};
+ghost use Rattle.css_replay.specs.Ended.{HasNotFailed};
+ghost use Rattle.css_app.specs.Live.{stage};
 ghost use Rattle.css_app.specs.Pairs.{Beside, Pairs, PairsAsDue, children};
 ghost use Rattle.css_app.specs.Pairs as pairs;
 ghost use Rattle.css_app.specs.Scripts.{script_in};
@@ -11,11 +12,11 @@ ghost use Rattle.css_app.specs.Scripts.{script_in};
 use crate::child::{Child, child_words};
 use crate::live_companion::make_run;
 use crate::script_text::take_script_text;
-use crate::status::Status;
 use css_drive::{DriveConfig, Listens};
 use css_follow::Sheet;
 use css_num::{Memory, Text};
 use css_outside::{Limit, OutFault, Outside, Sink, Source, Spawner};
+use css_replay::Status;
 use std::alloc::Global;
 
 // Whether a run was made to its end.

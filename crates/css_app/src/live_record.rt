@@ -1,15 +1,16 @@
 //! A companion's run that is recorded.
 ghost use Rattle.std.specs.Prelude.{◌≡◌, List, ℕ};
 ghost use Rattle.css_drive.specs.Configs.{IsWritable};
-ghost use Rattle.css_app.specs.Ended.{CountsReads, CountsWrites, HasNotFailed};
-ghost use Rattle.css_app.specs.Live.{CountsCalls, CountsDials, CountsSpawns, EndsAsDue};
+ghost use Rattle.css_replay.specs.Ended.{CountsCalls, CountsDials, CountsReads, CountsSpawns, CountsWrites};
+ghost use Rattle.css_replay.specs.Ended.{HasNotFailed};
+ghost use Rattle.css_app.specs.Live.{EndsAsDue};
 ghost use Rattle.css_app.specs.Records.{MakesRecord};
 
 use crate::driven::status_of;
-use crate::status::Status;
 use css_drive::DriveConfig;
 use css_outside::{Outside, Sink};
 use css_record::drive_record;
+use css_replay::Status;
 use std::alloc::Global;
 
 /// Makes a companion's run, and writes its record to the sink in place of the reports: what the devices told, line by

@@ -5,17 +5,16 @@ ghost use Rattle.css_drive_relay.specs.Ran.{IsWritable};
 ghost use Rattle.css_words.specs.Relay.{relay_of};
 ghost use Rattle.css_app.specs.Commands.{ByRelay};
 ghost use Rattle.css_app.specs.Devices.{outside_use};
-ghost use Rattle.css_app.specs.Ended.{CountsReads, CountsWrites};
-ghost use Rattle.css_app.specs.Live.{CountsCalls, CountsDials, CountsSpawns};
+ghost use Rattle.css_replay.specs.Ended.{CountsCalls, CountsDials, CountsReads, CountsSpawns, CountsWrites};
 ghost use Rattle.css_app.specs.Relays.{IsAskedRelay};
 
 use crate::driven::status_of;
-use crate::status::Status;
 use css_client::Local;
 use css_companion::CompanionConfig;
 use css_drive_relay::{RelayRun, drive_relay};
 use css_num::Text;
 use css_outside::Outside;
+use css_replay::Status;
 use css_words::RelayWords;
 use std::alloc::Global;
 

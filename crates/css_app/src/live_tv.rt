@@ -2,17 +2,17 @@ ghost use Rattle.std.specs.Prelude.{◌≡◌, ◌≤◌, ◌≤ℤ◌, pos, Lis
 ghost use Rattle.std.specs.Str.{IsUtf8};
 ghost use Rattle.css_model.specs.Numbers.{max_error};
 ghost use Rattle.css_schedule.specs.declared.line.ScriptLine.{ScriptLine};
-ghost use Rattle.css_app.specs.Ended.{CountsReads, CountsWrites, HasNotFailed};
+ghost use Rattle.css_replay.specs.Ended.{CountsCalls, CountsReads, CountsWrites, HasNotFailed};
 ghost use Rattle.css_drive.specs.TvDue.{run_of};
 ghost use Rattle.css_outside.specs.Limits.{IsLimit};
-ghost use Rattle.css_app.specs.Live.{CountsCalls, Serves, ServesAsDue};
+ghost use Rattle.css_app.specs.Live.{Serves, ServesAsDue};
 ghost use Rattle.css_app.specs.Scripts.{script_in};
 
 use crate::driven::status_of;
 use crate::scripts::take_script;
-use crate::status::Status;
 use css_drive::{TvDrive, drive_tv};
 use css_outside::{Outside, Source};
+use css_replay::Status;
 use std::alloc::Global;
 
 /// Reads a script from the source, to its end, and then makes a television's run.

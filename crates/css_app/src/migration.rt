@@ -1,14 +1,13 @@
 ghost use Rattle.std.specs.Prelude.{◌≡◌};
 ghost use Rattle.css_app.specs.Commands.{ByMigrate};
-ghost use Rattle.css_app.specs.Devices.{sink_use, source_use};
-ghost use Rattle.css_app.specs.Ended.{CountsReads, CountsWrites};
-ghost use Rattle.css_app.specs.Live.{TellsNoLive};
+ghost use Rattle.css_replay.specs.Devices.{sink_use, source_use};
+ghost use Rattle.css_replay.specs.Ended.{CountsReads, CountsWrites, TellsNoLive};
 ghost use Rattle.css_app.specs.Migrations.{migrate_status_of};
 
-use crate::status::Status;
 use css_lines::{Refusal, Stop, drive};
 use css_migrate::{Migrate, NoLine};
 use css_outside::{Sink, Source};
+use css_replay::Status;
 use css_schedule::LineWhy;
 use std::alloc::Global;
 

@@ -10,15 +10,14 @@ ghost use Rattle.css_words.specs.Watch.{WatchAsked};
 ghost use Rattle.css_words.specs.Written.{IsWritable};
 ghost use Rattle.css_words.specs.declared.fault.WordsFault.TheVariants as words_fault;
 ghost use Rattle.css_app.specs.Commands.{ByAgree, ByAudit, ByCompanion, ByGenerate, ByMigrate, ByPair, ByRecord};
-ghost use Rattle.css_app.specs.Commands.{ByRelay, ByReplay, BySurvey, ByTv, ByWatch, Does};
+ghost use Rattle.css_app.specs.Commands.{ByRelay, BySurvey, ByTv, ByWatch, Does};
+ghost use Rattle.css_replay.specs.Does.{ByReplay};
 ghost use Rattle.css_app.specs.Commands.{IsUsageUnlessMemory, uses_followers, uses_outside, uses_sink, uses_source};
 ghost use Rattle.css_app.specs.Commands.{uses_spawner};
-ghost use Rattle.css_app.specs.Devices.{followers_use, outside_use, sink_use, source_use, spawner_use};
-ghost use Rattle.css_app.specs.Ended.{CountsReads, CountsWrites};
-ghost use Rattle.css_app.specs.Ended as ended;
-ghost use Rattle.css_app.specs.Live.{CountsCalls, CountsDials, CountsSpawns, TellsNoLive};
+ghost use Rattle.css_app.specs.Devices.{followers_use, outside_use, spawner_use};
+ghost use Rattle.css_replay.specs.Devices.{sink_use, source_use};
+ghost use Rattle.css_replay.specs.Ended.{CountsCalls, CountsDials, CountsReads, CountsSpawns, CountsWrites};
 ghost use Rattle.css_app.specs.Pairs.{children};
-ghost use Rattle.css_lines.specs.declared.ending.Stop.TheVariants as stops;
 
 use crate::agreement::agree;
 use crate::audited::audit;
@@ -26,65 +25,11 @@ use crate::by_words::{companion_by, generate_by, pair_by, survey_by, tv_by};
 use crate::live_relay::relay_by;
 use crate::live_watch::watch_by;
 use crate::migration::migrate;
-use crate::replay::{Cause, Replay};
-use crate::status::Status;
 use css_drive::Listens;
-use css_lines::{Refusal, Stop, drive};
 use css_outside::{Outside, Sink, Source, Spawner};
-use css_schedule::LineWhy;
+use css_replay::{Status, replay};
 use css_words::{Command, WordsFault, command_of};
 use std::alloc::Global;
-
-// The status of a replay that refused a line.
-fn refused(line: u64, why: Refusal<Cause>) -> Status
-    ensures { result ≡ ended.status_of (stops.BadLine line why) }
-{
-    let why = match why {
-        Refusal::Long => LineWhy::Long,
-        Refusal::Refused(Cause::Form) => LineWhy::Form,
-        Refusal::Refused(Cause::Absent) => LineWhy::Absent,
-        Refusal::Refused(Cause::Player(fault)) => LineWhy::Player(fault),
-        Refusal::Refused(Cause::Broken { earlier, excess }) => {
-            return Status::Broken {
-                line,
-                earlier,
-                excess,
-            };
-        }
-    };
-    Status::BadLine { line, why }
-}
-
-// The status of a replay that stopped.
-fn status_of(stop: Stop<Cause>) -> Status
-    ensures { result ≡ ended.status_of stop }
-{
-    match stop {
-        Stop::BadLine { line, why } => refused(line, why),
-        Stop::ReadFault => Status::ReadFault,
-        Stop::WriteFault => Status::WriteFault,
-        Stop::Memory => Status::Memory,
-    }
-}
-
-// Replays the schedule that the source has.
-fn replay<S: Source, K: Sink>(alloc: Global, source: &mut S, sink: &mut K) -> Status
-    ensures does { ByReplay
-        (source_use (S.left source.old) (S.left source.new) (S.faults source.old) (S.faults source.new))
-        (sink_use (K.holds sink.old) (K.holds sink.new) (K.faults sink.old) (K.faults sink.new)) result }
-    ensures quiet { TellsNoLive result }
-    ensures counted_reads { CountsReads (S.faults source.old) (S.faults source.new) result }
-    ensures counted_writes { CountsWrites (K.faults sink.old) (K.faults sink.new) result }
-{
-    let mut replay = Replay::new(alloc);
-    let ended = drive(alloc, source, sink, &mut replay);
-    // What the lines left isn't needed for the status.
-    drop(replay);
-    match ended {
-        Ok(()) => Status::Done,
-        Err(stop) => status_of(stop),
-    }
-}
 
 // Runs a command.
 fn run_command<S: Source, K: Sink, O: Outside, P: Spawner, F: Listens>(

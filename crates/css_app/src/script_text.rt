@@ -3,9 +3,9 @@ ghost use Rattle.css_app.specs.Live.{CountsTaking, HasNoScript, TellsNoRun};
 ghost use Rattle.css_app.specs.Pairs.{GivesScriptText, GivesUpTo, IsScript};
 
 use crate::scripts::take_script;
-use crate::status::Status;
 use css_lines::PIECE;
 use css_outside::{Failed, NeverFailsSource, Source};
+use css_replay::Status;
 use std::alloc::Global;
 
 /// The most bytes of a script.

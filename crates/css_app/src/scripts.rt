@@ -5,9 +5,9 @@ ghost use Rattle.css_schedule.specs.Ranges.{IsScriptLine};
 ghost use Rattle.css_app.specs.Live.{CountsTaking, GivesScript, HasNoScript, TellsNoRun, script_status};
 ghost use Rattle.css_app.specs.Scripts.{line_of};
 
-use crate::status::Status;
 use css_lines::{LineFault, Lines, PIECE, Refusal, Stop, drive};
 use css_outside::{NeverFailsSink, Source};
+use css_replay::Status;
 use css_schedule::{LineWhy, ScriptLine, read_script};
 use std::alloc::Global;
 

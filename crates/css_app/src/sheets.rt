@@ -1,10 +1,10 @@
 ghost use Rattle.std.specs.Prelude.{◌≡◌, IfErr, MatchResult};
 ghost use Rattle.css_app.specs.Live.{CountsTaking, GivesSheet, HasNoSheet, TellsNoRun, sheet_status};
 
-use crate::status::Status;
 use css_follow::{Form, Sheet, SheetLines};
 use css_lines::{PIECE, Stop, drive};
 use css_outside::{NeverFailsSink, Source};
+use css_replay::Status;
 use std::alloc::Global;
 
 // The status where a cue sheet was not read. The sink of its reader never fails.

@@ -4,11 +4,12 @@ ghost use Rattle.css_outside.specs.Bytes.{AppendsPrefix};
 ghost use Rattle.css_outside.specs.Faults.{CountsCall};
 ghost use Rattle.css_gen.specs.Second.{least_lines};
 ghost use Rattle.css_survey.specs.Surveyed.{survey_text};
-ghost use Rattle.css_app.specs.Ended.{Writes, CountsWrites, HasNotFailed, IsDoneUnlessMemory};
+ghost use Rattle.css_app.specs.Ended.{Writes};
+ghost use Rattle.css_replay.specs.Ended.{CountsWrites, HasNotFailed, IsDoneUnlessMemory};
 
-use crate::status::Status;
 use css_num::Memory;
 use css_outside::{OutFault, Sink, write_all};
+use css_replay::Status;
 use std::alloc::Global;
 
 // The line of a survey.

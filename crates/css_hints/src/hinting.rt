@@ -8,8 +8,8 @@ use crate::input::{bad_line, bad_sheet};
 use crate::line::line_of;
 use crate::session::{bad_cii, bad_url, moved, wrong_report};
 use crate::usage::usage;
-use css_app::Status;
 use css_num::Text;
+use css_replay::Status;
 use std::alloc::Global;
 
 /// The words that help after a status, where some do.

@@ -5,7 +5,7 @@ use crate::asked::Asked;
 use crate::grammar::Grammar;
 use crate::options::command_in;
 use crate::walk::first_misfit;
-use css_app::LineWhy;
+use css_replay::LineWhy;
 use css_schedule::PlayerFault;
 use std::alloc::Global;
 use std::str;

@@ -20,10 +20,10 @@ use Rattle.css_migrate.specs.declared.migrate.NoLine.{NoLine}
 use Rattle.css_world.specs.Happened.{Numbered}
 use Rattle.css_world.specs.Verdicts.{line_meant}
 use Rattle.css_world.specs.declared.fault.WorldFault.{WorldFault}
-use Rattle.css_app.specs.declared.replay.Cause.{Cause}
-use Rattle.css_app.specs.Replayed.{Extent, Running, started, after, with_line, caused, opened}
-use Rattle.css_app.specs.Replayed.{meant_at, ended_at, version_of, longest_line, longest_input, replayed}
-use Rattle.css_app.proofs.Texts.{reached-push}
+use Rattle.css_replay.specs.declared.reader.Cause.{Cause}
+use Rattle.css_replay.specs.Replayed.{Extent, Running, after, caused, ended_at, longest_input, longest_line, meant_at}
+use Rattle.css_replay.specs.Replayed.{opened, replayed, started, version_of, with_line}
+use Rattle.css_replay.proofs.Texts.{reached-push}
 use Rattle.css_laws.specs.Numbers.{raised_lines}
 use Rattle.css_laws.specs.Raised.{raised, MigratedSchedulesAreReplayedAlike}
 use Rattle.css_laws.proofs.Fed.{IsWhole, meant-whole}

@@ -19,13 +19,13 @@ use Rattle.css_gen.specs.Standing.{AreSome}
 use Rattle.css_gen.proofs.Reading.{generated_read}
 use Rattle.css_gen.proofs.SecondReading.{second_read}
 use Rattle.css_survey.specs.Generated.{header_for, heading, version_for, line_for, generated}
-use Rattle.css_app.specs.declared.replay.Cause.{Cause}
-use Rattle.css_app.specs.Replayed.{Extent, Outset, Opening, Running, started, grown, declared, next_companion}
-use Rattle.css_app.specs.Replayed.{with_line, after, reached, opened, meant_at}
+use Rattle.css_replay.specs.declared.reader.Cause.{Cause}
+use Rattle.css_replay.specs.Replayed.{Extent, Opening, Outset, Running, after, declared, grown, meant_at}
+use Rattle.css_replay.specs.Replayed.{next_companion, opened, reached, started, with_line}
 use Rattle.css_laws.proofs.Plain.{IsShort, IsLineText}
 use Rattle.css_laws.proofs.PlainFirst.{first-short, first-header, first-text}
 use Rattle.css_laws.proofs.PlainSecond.{second-short, second-header, second-text}
-use Rattle.css_app.proofs.Texts.{reached-push}
+use Rattle.css_replay.proofs.Texts.{reached-push}
 
 -- ---- one text
 -- a generated line has one of the verbs that are short

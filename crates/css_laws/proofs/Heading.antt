@@ -26,7 +26,7 @@ use Rattle.css_printed.proofs.HeadersBack.{header_back_in}
 use Rattle.css_printed.proofs.Spaced.{Solid, with_words-after, line-free, lines_of-between}
 use Rattle.css_printed.proofs.Spaced.{graphic-solid, word-solid, decimal-solid, signed-solid}
 use Rattle.css_migrate.specs.Migrated.{fed, header_becomes}
-use Rattle.css_app.specs.Replayed.{Opening, Running, started, grown, declared, next_companion, after, reached}
+use Rattle.css_replay.specs.Replayed.{Opening, Running, started, grown, declared, next_companion, after, reached}
 use Rattle.css_laws.proofs.Runs.{joined}
 
 -- ---- the two lines

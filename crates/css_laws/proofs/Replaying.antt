@@ -32,14 +32,14 @@ use Rattle.css_survey.specs.Generated.{schedule_text, header_for, heading, versi
 use Rattle.css_survey.specs.Generated.{generated}
 use Rattle.css_survey.specs.Surveyed.{Told, asked_by, told_by, told_at, told_of, told_text, told_in}
 use Rattle.css_survey.proofs.Accepted.{generated_accepted}
-use Rattle.css_app.specs.declared.replay.Cause.{Cause}
+use Rattle.css_replay.specs.declared.reader.Cause.{Cause}
 use Rattle.css_laws.specs.Generations.{GeneratedSchedulesAreReplayed}
-use Rattle.css_app.specs.Replayed.{Running, caused, read_meant, reached, ended_at, version_of, longest_line}
-use Rattle.css_app.specs.Replayed.{longest_input, replayed}
+use Rattle.css_replay.specs.Replayed.{Running, caused, ended_at, longest_input, longest_line, reached, read_meant}
+use Rattle.css_replay.specs.Replayed.{replayed, version_of}
 use Rattle.css_laws.proofs.GeneratedTexts.{line_short, line_text, line_read, header_short, header_silent, texts_of}
 use Rattle.css_laws.proofs.GeneratedTexts.{text_meant, text-meant, lines-read}
 use Rattle.css_laws.proofs.Plain.{IsShort, IsLineText, line-plain}
-use Rattle.css_app.proofs.Promise.{printed_is}
+use Rattle.css_replay.proofs.Promise.{printed_is}
 
 -- ---- what is printed
 -- the line of a report, if there is one

@@ -26,10 +26,10 @@ use Rattle.css_world.specs.Happened.{Numbered}
 use Rattle.css_world.specs.Verdicts.{line_meant}
 use Rattle.css_world.specs.declared.fault.WorldFault.{WorldFault}
 use Rattle.css_world.specs.declared.fault.WorldFault.TheVariants as world
-use Rattle.css_app.specs.declared.replay.Cause.{Cause}
-use Rattle.css_app.specs.declared.replay.Cause.TheVariants.{Form, Absent, Player, Broken}
-use Rattle.css_app.specs.Replayed.{Extent, Running, after, reached, caused, read_meant, meant_at, version_of}
-use Rattle.css_app.specs.Replayed.{longest_line, longest_input, replayed}
+use Rattle.css_replay.specs.declared.reader.Cause.{Cause}
+use Rattle.css_replay.specs.declared.reader.Cause.TheVariants.{Form, Absent, Player, Broken}
+use Rattle.css_replay.specs.Replayed.{Extent, Running, after, caused, longest_input, longest_line, meant_at, reached}
+use Rattle.css_replay.specs.Replayed.{read_meant, replayed, version_of}
 use Rattle.css_laws.specs.Numbers.{raised_lines, raised_print, raised_result}
 use Rattle.css_laws.specs.Raised.{raised_verdict, raised}
 use Rattle.css_laws.proofs.Fed.{IsWhole, PrintsWhole, nothing-whole, raised_print-append}

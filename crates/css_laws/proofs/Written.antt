@@ -8,7 +8,7 @@ use Rattle.css_lines.specs.declared.ending.Stop.TheVariants.{BadLine, ReadFault,
 use Rattle.css_migrate.specs.Migrated.{migrated}
 use Rattle.css_migrate.specs.declared.migrate.NoLine.{NoLine}
 use Rattle.css_app.specs.Migrations.{Migrates, migrate_status_of}
-use Rattle.css_app.specs.declared.status.Status.TheVariants.{Done}
+use Rattle.css_replay.specs.declared.status.Status.TheVariants.{Done}
 use Rattle.css_laws.specs.Raised.{MigratedSchedulesAreReplayedAlike}
 use Rattle.css_laws.specs.Writing.{GainsAlike, WrittenIsReplayedAlike}
 

@@ -4,7 +4,7 @@ use Rattle.css_lines.specs.Meaning.{outcome, accepted}
 use Rattle.css_gen.specs.Standing.{AreSome}
 use Rattle.css_survey.specs.Generated.{schedule_text, heading}
 use Rattle.css_survey.specs.Surveyed.{told_text, told_in}
-use Rattle.css_app.specs.Replayed.{replayed}
+use Rattle.css_replay.specs.Replayed.{replayed}
 
 -- A replay of a generated schedule refuses no line, and prints the lines of these reports.
 abbrev pub GeneratedSchedulesAreReplayed : Type 0

@@ -6,9 +6,9 @@ use Rattle.css_lines.specs.Meaning.{Outcome, outcome}
 use Rattle.css_lines.specs.declared.reader.Refusal.{Refusal}
 use Rattle.css_lines.specs.declared.reader.Refusal.TheVariants.{Long, Refused}
 use Rattle.css_migrate.specs.Migrated.{migrated}
-use Rattle.css_app.specs.Replayed.{replayed}
-use Rattle.css_app.specs.declared.replay.Cause.{Cause}
-use Rattle.css_app.specs.declared.replay.Cause.TheVariants.{Form, Absent, Player, Broken}
+use Rattle.css_replay.specs.Replayed.{replayed}
+use Rattle.css_replay.specs.declared.reader.Cause.{Cause}
+use Rattle.css_replay.specs.declared.reader.Cause.TheVariants.{Form, Absent, Player, Broken}
 use Rattle.css_laws.specs.Numbers.{raised_print}
 
 -- the earlier line that a cause names has its number raised by one

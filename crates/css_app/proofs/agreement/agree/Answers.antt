@@ -1,8 +1,7 @@
 -- What a run over answers adds to the sink keeps the promise, however it ends.
 use Rattle.std.proofs.Common.{inl, inr, subst, sym, refl, arith}
 use Rattle.css_agree.proofs.Promise.{promised_done, promised_stop}
-use Rattle.css_app.specs.Ended.{IsDoneUnlessMemory, IsNoUsage}
-use Rattle.css_app.specs.Live.{TellsNoLive}
+use Rattle.css_replay.specs.Ended.{IsDoneUnlessMemory, IsNoUsage, TellsNoLive}
 use Rattle.css_app.proofs.Completeness.{answers_complete}
 use Rattle.css_app.proofs.Quiet.{agree_no_usage, agree_quiet}
 use Rattle.css_app.proofs.agreement.agree.Goals as goal

@@ -1,8 +1,7 @@
 -- A yes of the audit says that each report is right, and a refusal says what is wrong.
 use Rattle.std.proofs.Common.{inl, inr, subst, sym, refl, arith}
 use Rattle.css_audit.proofs.Promise.{says_right}
-use Rattle.css_app.specs.Ended.{IsDoneUnlessMemory, IsNoUsage}
-use Rattle.css_app.specs.Live.{TellsNoLive}
+use Rattle.css_replay.specs.Ended.{IsDoneUnlessMemory, IsNoUsage, TellsNoLive}
 use Rattle.css_app.proofs.Completeness.{record_complete}
 use Rattle.css_app.proofs.Quiet.{audit_no_usage, audit_quiet, never_done}
 use Rattle.css_app.proofs.audited.audit.Goals as goal

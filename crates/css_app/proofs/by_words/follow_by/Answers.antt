@@ -1,5 +1,5 @@
 use Rattle.css_words.specs.Companion.{companion_of}
-use Rattle.css_app.specs.Devices.{source_use}
+use Rattle.css_replay.specs.Devices.{source_use}
 use Rattle.css_app.proofs.Commands.{companions_by, ends_as_asked}
 use Rattle.css_app.proofs.Quiet.{companions_no_child}
 use Rattle.css_app.proofs.by_words.follow_by.Goals as goal

@@ -1,6 +1,6 @@
 use Rattle.std.proofs.Common.{refl, inl}
 use Rattle.css_words.specs.Pair.{pair_of}
-use Rattle.css_app.specs.Devices.{source_use}
+use Rattle.css_replay.specs.Devices.{source_use}
 use Rattle.css_app.proofs.Commands.{pairs_as_asked, pairs_by}
 use Rattle.css_app.proofs.by_words.pair_by.Goals as goal
 

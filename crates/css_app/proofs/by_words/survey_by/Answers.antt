@@ -2,7 +2,7 @@ use Rattle.std.proofs.Common.{ℕ, ◌≤◌, subst, sym}
 use Rattle.css_gen.specs.Second.{least_lines}
 use Rattle.css_survey.specs.Surveyed.{survey_text}
 use Rattle.css_app.specs.Commands.{ByWriting}
-use Rattle.css_app.specs.Devices.{sink_use}
+use Rattle.css_replay.specs.Devices.{sink_use}
 use Rattle.css_app.proofs.Generating.{some_asked, few_asked, lines_asked}
 use Rattle.css_app.proofs.Quiet.{writes_no_read, writes_quiet}
 use Rattle.css_app.proofs.by_words.survey_by.Goals as goal

@@ -1,7 +1,8 @@
 use Rattle.std.proofs.Common.{subst, sym}
 use Rattle.css_drive.specs.TvDue.{run_of}
 use Rattle.css_drive.specs.declared.tv_config.TvDrive.{TvDrive}
-use Rattle.css_app.specs.Live.{CountsDials, Serves, ServesAsDue}
+use Rattle.css_replay.specs.Ended.{CountsDials}
+use Rattle.css_app.specs.Live.{Serves, ServesAsDue}
 use Rattle.css_app.proofs.Quiet.{serves_no_dial}
 use Rattle.css_app.proofs.by_words.tv_by.Goals as goal
 

@@ -1,6 +1,6 @@
 use Rattle.std.proofs.Common.{subst, sym, ap, refl, inl, inr}
 use Rattle.css_drive.specs.Listening.{all_plans}
-use Rattle.css_app.specs.Ended.{CountsReads}
+use Rattle.css_replay.specs.Ended.{CountsReads}
 use Rattle.css_app.specs.Live.{MakesRun, Stage, stage}
 use Rattle.css_app.proofs.Live.{as_due, sheet_lacks}
 use Rattle.css_app.proofs.live_companion.companion.Goals as goal

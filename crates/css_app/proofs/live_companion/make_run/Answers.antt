@@ -1,6 +1,5 @@
 use Rattle.std.proofs.Common.{subst, sym, refl}
-use Rattle.css_app.specs.Ended.{CountsReads, CountsWrites}
-use Rattle.css_app.specs.Live.{CountsCalls, CountsDials}
+use Rattle.css_replay.specs.Ended.{CountsCalls, CountsDials, CountsReads, CountsWrites}
 use Rattle.css_app.proofs.Live.{driven-calls, driven-dials, driven-reads, driven-writes}
 use Rattle.css_app.proofs.live_companion.make_run.Goals as goal
 

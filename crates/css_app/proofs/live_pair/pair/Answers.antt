@@ -1,7 +1,7 @@
 use Rattle.std.proofs.Common.{List, subst, sym, ap, refl, inl, inr, ◌∙◌}
 use Rattle.css_follow.specs.Following.{Seen}
 use Rattle.css_drive.specs.Listening.{all_plans, all_seen}
-use Rattle.css_app.specs.Ended.{CountsReads}
+use Rattle.css_replay.specs.Ended.{CountsReads}
 use Rattle.css_app.specs.Live.{Stage, stage}
 use Rattle.css_app.specs.Pairs.{Beside, child_words, children}
 use Rattle.css_app.proofs.Live.{script_lacks}

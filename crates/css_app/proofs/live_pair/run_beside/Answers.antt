@@ -1,7 +1,6 @@
 use Rattle.std.proofs.Common.{subst, sym, ap, refl, inl, inr, ◌∙◌, arith}
 use Rattle.css_outside.specs.Faults.{CountsOutFault}
-use Rattle.css_app.specs.Ended.{CountsReads, CountsWrites}
-use Rattle.css_app.specs.Live.{CountsCalls, CountsDials, CountsSpawns}
+use Rattle.css_replay.specs.Ended.{CountsCalls, CountsDials, CountsReads, CountsSpawns, CountsWrites}
 use Rattle.css_app.specs.Pairs.{PairsAsDue, children}
 use Rattle.css_app.proofs.Live.{as_due}
 use Rattle.css_app.proofs.Pairs.{counts_spawns, keeps_calls, keeps_dials, keeps_reads, keeps_writes, pairs_as_due}

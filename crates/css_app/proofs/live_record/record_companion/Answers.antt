@@ -1,6 +1,6 @@
 use Rattle.std.proofs.Common.{subst, sym}
-use Rattle.css_app.specs.Ended.{CountsReads, CountsWrites}
-use Rattle.css_app.specs.Live.{CountsCalls, CountsDials, CountsSpawns, EndsAsDue}
+use Rattle.css_replay.specs.Ended.{CountsCalls, CountsDials, CountsReads, CountsSpawns, CountsWrites}
+use Rattle.css_app.specs.Live.{EndsAsDue}
 use Rattle.css_app.proofs.Live.{driven-calls, driven-dials, driven-reads, driven-writes}
 use Rattle.css_app.proofs.Quiet.{driven_no_child}
 use Rattle.css_app.proofs.Records.{recorded_as_due}

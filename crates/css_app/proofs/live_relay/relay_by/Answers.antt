@@ -1,6 +1,5 @@
 use Rattle.std.proofs.Common.{inr, subst, sym}
-use Rattle.css_app.specs.Ended.{CountsReads, CountsWrites}
-use Rattle.css_app.specs.Live.{CountsCalls, CountsDials, CountsSpawns}
+use Rattle.css_replay.specs.Ended.{CountsCalls, CountsDials, CountsReads, CountsSpawns, CountsWrites}
 use Rattle.css_app.specs.Relays.{RelaysAsDue}
 use Rattle.css_app.proofs.Live.{driven-calls, driven-dials, driven-no_writes, driven-reads}
 use Rattle.css_app.proofs.Quiet.{driven_no_child}

@@ -2,8 +2,8 @@ use Rattle.std.proofs.Common.{List, subst, sym, refl, inl, inr, ◌∙◌}
 use Rattle.css_drive.specs.TvDue.{run_of}
 use Rattle.css_drive.specs.TvRan.{TvRan}
 use Rattle.css_schedule.specs.declared.line.ScriptLine.{ScriptLine}
-use Rattle.css_app.specs.Ended.{CountsReads, CountsWrites}
-use Rattle.css_app.specs.Live.{CountsCalls, ServesAsDue}
+use Rattle.css_replay.specs.Ended.{CountsCalls, CountsReads, CountsWrites}
+use Rattle.css_app.specs.Live.{ServesAsDue}
 use Rattle.css_app.proofs.Live.{driven-calls, driven-no_writes, driven-reads, script_lacks, served_as_due}
 use Rattle.css_app.proofs.TextsTaken.{same_script}
 use Rattle.css_app.proofs.live_tv.tv.Goals as goal

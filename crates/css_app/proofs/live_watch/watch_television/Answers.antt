@@ -1,6 +1,5 @@
 use Rattle.std.proofs.Common.{subst, sym}
-use Rattle.css_app.specs.Ended.{CountsReads, CountsWrites}
-use Rattle.css_app.specs.Live.{CountsCalls, CountsDials, CountsSpawns}
+use Rattle.css_replay.specs.Ended.{CountsCalls, CountsDials, CountsReads, CountsSpawns, CountsWrites}
 use Rattle.css_app.specs.Watches.{EndsAtLastUnlessMemory}
 use Rattle.css_app.proofs.Watches.{watched-calls, watched-dials, watched-reads, watched-spawns, watched-writes}
 use Rattle.css_app.proofs.Watches.{watched_last}

@@ -1,6 +1,5 @@
 use Rattle.std.proofs.Common.{inl, inr, subst, sym, refl, arith}
-use Rattle.css_app.specs.Ended.{IsDoneUnlessMemory, IsNoUsage}
-use Rattle.css_app.specs.Live.{TellsNoLive}
+use Rattle.css_replay.specs.Ended.{IsDoneUnlessMemory, IsNoUsage, TellsNoLive}
 use Rattle.css_app.proofs.Migrations.{migrate_no_usage, migrate_quiet, migration_complete}
 use Rattle.css_app.proofs.migration.migrate.Goals as goal
 

@@ -1,7 +1,7 @@
 use Rattle.std.proofs.Common.{subst, sym}
 use Rattle.std.specs.Prelude.{All}
 use Rattle.css_schedule.specs.Ranges.{IsScriptLine}
-use Rattle.css_app.specs.Ended.{CountsReads}
+use Rattle.css_replay.specs.Ended.{CountsReads}
 use Rattle.css_app.specs.Live.{GivesScript, HasNoScript, TellsNoRun}
 use Rattle.css_app.proofs.ScriptsTaken.{gives-script, memory-quiet, no-script, script-counts, script-quiet}
 use Rattle.css_app.proofs.scripts.take_script.Goals as goal

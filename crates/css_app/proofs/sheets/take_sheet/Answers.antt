@@ -1,5 +1,5 @@
 use Rattle.std.proofs.Common.{subst, sym}
-use Rattle.css_app.specs.Ended.{CountsReads}
+use Rattle.css_replay.specs.Ended.{CountsReads}
 use Rattle.css_app.specs.Live.{GivesSheet, HasNoSheet, TellsNoRun}
 use Rattle.css_app.proofs.ScriptsTaken.{memory-quiet}
 use Rattle.css_app.proofs.SheetsTaken.{gives-sheet, no-sheet, sheet-counts, sheet-quiet}

@@ -1,8 +1,0 @@
-use Rattle.std.proofs.Common.{ap, ◌∙◌}
-use Rattle.css_app.specs.Replayed.{longest_input}
-use Rattle.css_app.proofs.Standing.{version-at}
-use Rattle.css_app.proofs.replay.ReplayLines.longest_input.Goals as goal
-
-pub returns-clause-value : goal.returns-clause-value
-returns-clause-value c = λ before stands.
-    c.longest_input.ensures ∙ ap longest_input (version-at c.args.self.now before stands)

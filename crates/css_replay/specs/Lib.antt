@@ -1,0 +1,6 @@
+pub mod Replayed
+pub mod Stands
+pub mod Ended
+pub mod Headline
+pub mod Devices
+pub mod Does
