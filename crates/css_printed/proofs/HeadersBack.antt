@@ -21,7 +21,6 @@ use Rattle.css_schedule.specs.declared.header.Start.{Start}
 use Rattle.css_schedule.specs.declared.header.Start.TheVariants.{One, Two}
 use Rattle.css_schedule.specs.declared.fault.LineFault.{LineFault}
 use Rattle.css_schedule.specs.declared.fault.LineFault.TheVariants.{Form}
-use Rattle.css_schedule.specs.declared.opening.Declared.{Declared}
 use Rattle.css_schedule.specs.Words.{is_word, is_feed, after_word, lines_of, ◌>>=◌}
 use Rattle.css_schedule.specs.Headers.{max_companions, stem_of, mode_at, declared_at, local_at, companion_of_words}
 use Rattle.css_schedule.specs.Headers.{count_at, header_with, first_of_words, second_of_words, start_of}
@@ -65,13 +64,14 @@ stem_word-back (byte ∷ bytes) h =
     not_yes true p = absurd (cc)
     not_yes false p = refl
 
--- what a header says of the television
-abbrev declared_of : Header → Declared
-declared_of header =
-    record { follow = header.follow; tv_error = header.tv_error; tv_precision = header.tv_precision }
+-- what a header says of the television, with these companions
+abbrev same_tv : Header → List CompanionLine → Header
+same_tv header companions = header_with
+    (record { follow = header.follow; tv_error = header.tv_error; tv_precision = header.tv_precision }) companions
 
 declared-back : (header : Header) (rest : List (List ℕ)) → IsPrintable header
-    → declared_at (declared_words header rest) ≡ Ok (declared_of header, rest)
+    → declared_at (declared_words header rest)
+    ≡ Ok (record { follow = header.follow; tv_error = header.tv_error; tv_precision = header.tv_precision }, rest)
 unfolding declared_at
 declared-back header rest h =
     let small = precision-small header.tv_precision h.least h.greatest in
@@ -124,7 +124,7 @@ companion-solid companion h = (
 -- ---- version 1
 first-back : (header : Header) (companion : CompanionLine) → IsPrintable header → IsPrintableCompanion companion
     → header_of_words (codes "css-schedule" ∷ codes "1" ∷ declared_words header (companion_words companion))
-    ≡ Ok (One (header_with (declared_of header) (companion ∷ [])))
+    ≡ Ok (One (same_tv header (companion ∷ [])))
 unfolding header_of_words after_word start_of first_of_words
 first-back header companion h own =
     rw (declared-back header (companion_words companion) h, companion-back companion own) refl
@@ -149,7 +149,7 @@ one-back header companion h own alone =
     ∙ ap header_of_words (words_of-with_words (codes "css-schedule") words (graphic-solid (codes "css-schedule") refl)
     (first-solid header companion h own))
     ∙ first-back header companion h own
-    ∙ ap (λ (list : List CompanionLine). good (One (header_with (declared_of header) list))) (sym alone)
+    ∙ ap (λ (list : List CompanionLine). good (One (same_tv header list))) (sym alone)
 
 -- the one companion of a header
 only_one : (header : Header) → length header.companions ≡ 1 → IsPrintable header
@@ -261,7 +261,7 @@ with_lines-back : (number : ℕ) (header : Header) (companions : List CompanionL
     → number + length companions ≤ max_companions + 1 → All IsPrintableCompanion companions
     → with_lines number header (companion_lines number companions) ≡ Ok (with_all header companions)
 with_lines-back number header [] few all =
-    ap (λ (list : List CompanionLine). good (with_all (header_with (declared_of header) []) list))
+    ap (λ (list : List CompanionLine). good (with_all (same_tv header []) list))
     (sym (append-nil header.companions))
 with_lines-back number header (companion ∷ companions) few all =
     let own = All-head IsPrintableCompanion companion companions all in
@@ -271,13 +271,13 @@ with_lines-back number header (companion ∷ companions) few all =
     r >>= λ c. with_lines (suc number) (with_companion header c) lines)
     (companion_line-back number companion (omega (arith, few)) own)
     ∙ with_lines-back (suc number) (with_companion header companion) companions (omega (arith, few)) rest
-    ∙ ap (λ (list : List CompanionLine). good (with_all (header_with (declared_of header) []) list))
+    ∙ ap (λ (list : List CompanionLine). good (with_all (same_tv header []) list))
     (append_assoc header.companions (companion ∷ []) companions)
 
 -- ---- version 2
 -- a header without its companions
 abbrev bare : Header → Header
-bare header = header_with (declared_of header) []
+bare header = same_tv header []
 
 -- the words of line 1 are read back
 second-back : (header : Header) → IsPrintable header → IsCount (length header.companions)

@@ -4,7 +4,7 @@ ghost use Rattle.css_tsmsg.specs.Presentations.{content_text, wall_text};
 ghost use Rattle.css_schedule.specs.Headers.{max_companions, header_of, whole_header_of};
 ghost use Rattle.css_schedule.specs.Lines.{line_in};
 ghost use Rattle.css_printed.specs.Printed as printed;
-ghost use Rattle.css_schedule.specs.Words.{with_words};
+ghost use Rattle.css_schedule.specs.Words.{with_words, stem_word};
 ghost use Rattle.css_schedule.specs.Ranges.{IsVersion, IsCount, FitsFirst, IsLine, IsOf, IsPrintable};
 ghost use Rattle.css_schedule.specs.declared.header.Start.TheVariants as starts;
 ghost use Rattle.css_schedule.specs.declared.line.Verb.TheVariants as verbs;
@@ -227,7 +227,7 @@ fn mode_word(follow: bool) -> &'static [u8]
 }
 
 fn add_stem(text: &mut Text, stem: &Text) -> Result<(), Memory>
-    ensures { OnOk result (text.new ≡ with_words text.old (printed.stem_word stem.now ∷ [])) }
+    ensures { OnOk result (text.new ≡ with_words text.old (stem_word stem.now ∷ [])) }
 {
     if stem.bytes().is_empty() {
         add_word(text, b"-")
