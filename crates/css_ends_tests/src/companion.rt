@@ -239,13 +239,20 @@ fn carry_out(
 }
 
 /// The report is printed so behind the number 7.
-fn check_report(rt: &impl Abort, alloc: Global, companion: &Companion, reading: u64, told: &str)
+fn check_report(
+    rt: &impl Abort,
+    alloc: Global,
+    companion: &Companion,
+    reading: u64,
+    place: usize,
+    told: &str,
+)
     requires range { reading < LIMIT }
     requires floor { companion.now.client.floor ≤ reading }
 {
     let printed = line(alloc, 7, &report(companion, reading), None).expect(rt, "memory");
     let expected = format!(in alloc; "7 {told}\n").expect(rt, "memory");
-    check(rt, &reading, words(&printed), &expected);
+    check(rt, place, words(&printed), &expected);
 }
 
 /// What comes of each row, and the report after it if the row tells one, is what the row says. The last reading.
@@ -255,13 +262,13 @@ pub fn play(rt: &impl Abort, alloc: Global, companion: &mut Companion, rows: &[R
     ensures floor { companion.new.client.floor ≤ result }
 {
     let mut floor = 0;
-    for (happened, expected, report) in rows {
+    for (place, (happened, expected, report)) in rows.iter().enumerate() {
         let reading = reading_of(*happened, floor);
         check_order(rt, floor, reading);
         let told = carry_out(rt, alloc, companion, *happened, floor, reading);
-        check(rt, happened, &told, expected);
+        check(rt, place, &told, expected);
         if !report.is_empty() {
-            check_report(rt, alloc, companion, reading, report);
+            check_report(rt, alloc, companion, reading, place, report);
         }
         floor = reading;
     }
@@ -319,8 +326,8 @@ const LINES: [(u64, Report, Option<i128>, &str); 3] = [
 
 #[test]
 fn lines_are_printed(rt: HostRuntime) {
-    for (number, report, assigned, expected) in &LINES {
+    for (place, (number, report, assigned, expected)) in LINES.iter().enumerate() {
         let printed = line(rt.alloc(), *number, report, *assigned).expect(&rt, "memory");
-        check(&rt, number, words(&printed), expected);
+        check(&rt, place, words(&printed), expected);
     }
 }

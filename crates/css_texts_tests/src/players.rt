@@ -115,7 +115,8 @@ fn delayed(player: &mut Player, delay: u64) -> Option<(i128, u64)>
     requires { delay ≤ 10000000000 }
 {
     player.delay(delay);
-    player.segment().map(|segment| (segment.at, segment.delay))
+    let segment = player.segment()?;
+    Some((segment.at, segment.delay))
 }
 
 /// A delay, and the start and the delay of what is shown then. It never begins before 0.
@@ -212,7 +213,7 @@ fn a_thousand_programmes_are_full(rt: HostRuntime) {
 fn timelines_told(rt: &impl Abort, alloc: Global, player: &Player) -> Option<(usize, Rate)> {
     let timelines = player.timelines(alloc).expect(rt, "memory")?;
     let list = timelines.list();
-    list.last().map(|timeline| (list.len(), timeline.rate))
+    Some((list.len(), list.last()?.rate))
 }
 
 /// Of two timelines with one selector the first counts.
@@ -282,16 +283,16 @@ fn plain_command(plain: Option<Plain>, command: Command, reading: u64) -> Option
             programme,
             delay: 0,
         }),
-        Command::Change(_) => plain,
         Command::Speed(speed) if -64 <= speed && speed <= 64 => {
-            plain.map(|plain| Plain { at, speed, ..plain })
+            let plain = plain?;
+            Some(Plain { at, speed, ..plain })
         }
-        Command::Speed(_) => plain,
-        Command::Seek(media) => plain.map(|plain| Plain {
-            shown: i128::from(media),
-            at,
-            ..plain
-        }),
+        Command::Seek(media) => {
+            let shown = i128::from(media);
+            let plain = plain?;
+            Some(Plain { shown, at, ..plain })
+        }
+        _ => plain,
     }
 }
 
@@ -324,7 +325,7 @@ fn step(player: &mut Player, plain: Option<Plain>, word: u64, reading: u64) -> O
     if word % 3 == 0 {
         let delay = word / 3 % 50;
         player.delay(delay);
-        plain.map(|plain| plain_delay(plain, delay))
+        Some(plain_delay(plain?, delay))
     } else {
         let command = drawn_command(word / 3);
         let _ = did(player, command, reading);
@@ -333,7 +334,8 @@ fn step(player: &mut Player, plain: Option<Plain>, word: u64, reading: u64) -> O
 }
 
 /// The plain player of a segment at a reading.
-fn plain_of(segment: Segment, reading: u64) -> Plain {
+fn plain_of(segment: Option<Segment>, reading: u64) -> Option<Plain> {
+    let segment = segment?;
     let at_its_start = Plain {
         shown: segment.media,
         at: segment.at,
@@ -341,7 +343,8 @@ fn plain_of(segment: Segment, reading: u64) -> Plain {
         programme: segment.programme,
         delay: segment.delay,
     };
-    passed(at_its_start, i128::from(reading).wrapping_sub(segment.at))
+    let elapsed = i128::from(reading).wrapping_sub(segment.at);
+    Some(passed(at_its_start, elapsed))
 }
 
 /// Forty events, ten nanoseconds apart.
@@ -350,9 +353,11 @@ fn play(rt: &impl Abort, player: &mut Player, seed: u64) {
     let mut word = seed;
     for i in 0..40 {
         word = next_word(word);
-        plain = plain.map(|plain| passed(plain, 10));
+        if let Some(before) = plain {
+            plain = Some(passed(before, 10));
+        }
         plain = step(player, plain, word >> 33, i * 10);
-        let shown = player.segment().map(|segment| plain_of(segment, i * 10));
+        let shown = plain_of(player.segment(), i * 10);
         assert!(rt; shown == plain, "event {i} of {seed}");
     }
 }
