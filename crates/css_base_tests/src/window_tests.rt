@@ -67,9 +67,8 @@ fn offset(window: &Window, delay: i64) -> i128 {
 
 fn first_early(windows: &[Window], delay: i64) -> Option<usize> {
     for (place, window) in windows.iter().enumerate() {
-        match window.earliest {
-            Some(earliest) if offset(window, delay) < earliest => return Some(place),
-            _ => {}
+        if offset(window, delay) < window.earliest.unwrap_or(i128::MIN) {
+            return Some(place);
         }
     }
     None
@@ -77,9 +76,8 @@ fn first_early(windows: &[Window], delay: i64) -> Option<usize> {
 
 fn first_late(windows: &[Window], delay: i64) -> Option<usize> {
     for (place, window) in windows.iter().enumerate() {
-        match window.latest {
-            Some(latest) if latest < offset(window, delay) => return Some(place),
-            _ => {}
+        if offset(window, delay) > window.latest.unwrap_or(i128::MAX) {
+            return Some(place);
         }
     }
     None
@@ -108,10 +106,9 @@ fn plain_high(windows: &[Window], max_delay: i64) -> Option<usize> {
 fn plain_choice(windows: &[Window], max_delay: i64) -> Chosen {
     for delay in 0..max_delay.wrapping_add(1) {
         if first_early(windows, delay).is_none() && first_late(windows, delay).is_none() {
-            let by = if delay == 0 {
-                None
-            } else {
-                first_early(windows, delay.wrapping_sub(1))
+            let by = match delay {
+                0 => None,
+                _ => first_early(windows, delay.wrapping_sub(1)),
             };
             return Fits {
                 delay: delay.unsigned_abs(),

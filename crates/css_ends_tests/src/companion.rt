@@ -281,10 +281,8 @@ fn check_run(rt: &impl Abort, alloc: Global, selector: &str, local: Local, rows:
 }
 
 /// The greatest errors that a companion may have.
-const WIDEST: Local = Local {
-    error: 2_560_000,
-    precision: 1_000_000_000,
-};
+#[rattlefmt::skip]
+const WIDEST: Local = Local { error: 2_560_000, precision: 1_000_000_000 };
 
 #[test]
 fn a_companion_reports_what_it_was_told(rt: HostRuntime) {

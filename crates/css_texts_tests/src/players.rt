@@ -9,17 +9,13 @@ use std::process::Abort;
 
 const PTS: &[u8] = b"urn:dvb:css:timeline:pts";
 
-const STAMPS: Rate = Rate {
-    units_per_tick: 1,
-    units_per_second: 90_000,
-};
+#[rattlefmt::skip]
+const STAMPS: Rate = Rate { units_per_tick: 1, units_per_second: 90_000 };
 
 const OTHER: &[u8] = b"urn:x:1";
 
-const FILM: Rate = Rate {
-    units_per_tick: 1,
-    units_per_second: 25,
-};
+#[rattlefmt::skip]
+const FILM: Rate = Rate { units_per_tick: 1, units_per_second: 25 };
 
 /// The greatest position and the greatest base tick either way.
 const FAR: i64 = 100_000_000_000_000_000;
@@ -228,11 +224,8 @@ fn what_is_shown_is_told(rt: HostRuntime) {
     did(&mut player, Command::Change(1), 0).expect(&rt, "a change");
     let name = b"dvb://1".as_slice();
     check_that(&rt, player.content_id() == Some(name), "its name");
-    check_that(
-        &rt,
-        told(&player, OTHER) == Some((7, 0, 1)),
-        "the first of both",
-    );
+    let first = told(&player, OTHER);
+    check_that(&rt, first == Some((7, 0, 1)), "the first of both");
     check_that(&rt, told(&player, b"urn:x:2").is_none(), "no such timeline");
     for (stem, has_it) in [("dvb://1", true), ("dvb://12", false), ("//1", false)] {
         let control = told_behind(&player, stem, PTS);
