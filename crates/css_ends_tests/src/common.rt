@@ -29,9 +29,9 @@ pub fn shown(rt: &impl Abort, alloc: Global, value: &impl Debug) -> String {
     format!(in alloc; "{value:?}").expect(rt, "memory")
 }
 
-/// What came of a row, by its place in its table, is what the row says.
+/// What came of a row is what the row says. It is told by its place in its table, or by its reading.
 pub fn check(rt: &impl Abort, row: usize, told: &str, expected: &str) {
-    assert!(rt; told == expected, "row {row}: {told} and not {expected}");
+    assert!(rt; told == expected, "at {row}: {told} and not {expected}");
 }
 
 pub fn check_that(rt: &impl Abort, holds: bool, what: &str) {

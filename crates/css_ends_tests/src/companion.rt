@@ -239,20 +239,13 @@ fn carry_out(
 }
 
 /// The report is printed so behind the number 7.
-fn check_report(
-    rt: &impl Abort,
-    alloc: Global,
-    companion: &Companion,
-    reading: u64,
-    place: usize,
-    told: &str,
-)
+fn check_report(rt: &impl Abort, alloc: Global, companion: &Companion, reading: u64, told: &str)
     requires range { reading < LIMIT }
     requires floor { companion.now.client.floor ≤ reading }
 {
     let printed = line(alloc, 7, &report(companion, reading), None).expect(rt, "memory");
     let expected = format!(in alloc; "7 {told}\n").expect(rt, "memory");
-    check(rt, place, words(&printed), &expected);
+    check(rt, reading as usize, words(&printed), &expected);
 }
 
 /// What comes of each row, and the report after it if the row tells one, is what the row says. The last reading.
@@ -262,13 +255,13 @@ pub fn play(rt: &impl Abort, alloc: Global, companion: &mut Companion, rows: &[R
     ensures floor { companion.new.client.floor ≤ result }
 {
     let mut floor = 0;
-    for (place, (happened, expected, report)) in rows.iter().enumerate() {
+    for (happened, expected, report) in rows {
         let reading = reading_of(*happened, floor);
         check_order(rt, floor, reading);
         let told = carry_out(rt, alloc, companion, *happened, floor, reading);
-        check(rt, place, &told, expected);
+        check(rt, reading as usize, &told, expected);
         if !report.is_empty() {
-            check_report(rt, alloc, companion, reading, place, report);
+            check_report(rt, alloc, companion, reading, report);
         }
         floor = reading;
     }
