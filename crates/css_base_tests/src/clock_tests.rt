@@ -81,11 +81,14 @@ pub(crate) fn convert(
 
 fn answer(rt: &impl Abort, tree: &mut Tree, call: Call) -> Answer {
     match call {
-        Root(own) => tree.add_root(rate(rt, own)).map(|id| twice(i64::from(id))),
+        Root(own) => Ok(twice(i64::from(tree.add_root(rate(rt, own))?))),
         Clock(parent, own, speed, ticks) => add(rt, tree, parent, own, speed, ticks),
         Set(id, speed, ticks) => set(rt, tree, id, speed, ticks),
-        Available(id, available) => tree.set_available(id, available).map(|_| (0, 0)),
-        Value(id, root) => tree.value(id, root).map(twice),
+        Available(id, available) => {
+            tree.set_available(id, available)?;
+            DONE
+        }
+        Value(id, root) => Ok(twice(tree.value(id, root)?)),
         Convert(from, to, span) => convert(rt, tree, from, to, span),
     }
 }

@@ -11,10 +11,8 @@ const REQUEST: [u8; 32] =
 const RESPONSE: [u8; 32] =
     *b"\0\x01\xe2\0\0\0\0\0\0\0\0\0\xff\xff\xff\xff\0\0\0\0\0\0\x13\x88\0\0\0\0\0\0\x14\x50";
 
-const ODD: Stamp = Stamp {
-    seconds: 0,
-    nanoseconds: 4_294_967_295,
-};
+#[rattlefmt::skip]
+const ODD: Stamp = Stamp { seconds: 0, nanoseconds: 4_294_967_295 };
 
 #[test]
 fn an_exchange_is_written_and_read(rt: HostRuntime) {

@@ -66,17 +66,21 @@ fn offset(window: &Window, delay: i64) -> i128 {
 }
 
 fn first_early(windows: &[Window], delay: i64) -> Option<usize> {
-    windows.iter().position(|window| match window.earliest {
-        None => false,
-        Some(earliest) => offset(window, delay) < earliest,
-    })
+    for (place, window) in windows.iter().enumerate() {
+        if offset(window, delay) < window.earliest.unwrap_or(i128::MIN) {
+            return Some(place);
+        }
+    }
+    None
 }
 
 fn first_late(windows: &[Window], delay: i64) -> Option<usize> {
-    windows.iter().position(|window| match window.latest {
-        None => false,
-        Some(latest) => latest < offset(window, delay),
-    })
+    for (place, window) in windows.iter().enumerate() {
+        if offset(window, delay) > window.latest.unwrap_or(i128::MAX) {
+            return Some(place);
+        }
+    }
+    None
 }
 
 /// The first window that comes too early at the last delay at which any does.
@@ -102,7 +106,10 @@ fn plain_high(windows: &[Window], max_delay: i64) -> Option<usize> {
 fn plain_choice(windows: &[Window], max_delay: i64) -> Chosen {
     for delay in 0..max_delay.wrapping_add(1) {
         if first_early(windows, delay).is_none() && first_late(windows, delay).is_none() {
-            let by = first_early(windows, delay.wrapping_sub(1)).filter(|_| delay != 0);
+            let by = match delay {
+                0 => None,
+                _ => first_early(windows, delay.wrapping_sub(1)),
+            };
             return Fits {
                 delay: delay.unsigned_abs(),
                 by,

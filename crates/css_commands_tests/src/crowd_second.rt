@@ -94,8 +94,12 @@ impl Companion {
     }
 
     fn is_asked(&self, originate: u64) -> bool {
-        let mut last = self.requests.iter().rev().take(64);
-        last.any(|request| *request == originate)
+        for request in self.requests.iter().rev().take(64) {
+            if *request == originate {
+                return true;
+            }
+        }
+        false
     }
 
     /// When the first response landed that promised this follow-up.

@@ -94,11 +94,8 @@ const RECORDS: &[Lines] = &[
 ];
 
 /// A line of bytes that aren't UTF-8.
-const NO_TEXT: Case<'static> = Case {
-    words: "audit",
-    input: b"css-record 1 0 0 urn:x -\nturn \xff\n",
-    ..BLANK
-};
+#[rattlefmt::skip]
+const NO_TEXT: Case<'static> = Case { words: "audit", input: b"css-record 1 0 0 urn:x -\nturn \xff\n", ..BLANK };
 
 #[test]
 fn reports_are_right_or_refused(rt: HostRuntime) {

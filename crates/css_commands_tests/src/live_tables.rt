@@ -37,10 +37,8 @@ const SHORT_RUN: Case<'static> = Case {
 };
 
 /// Every dial fails.
-const UNREACHED: Case<'static> = Case {
-    calls: &[2, 4, 6],
-    ..SHORT_RUN
-};
+#[rattlefmt::skip]
+const UNREACHED: Case<'static> = Case { calls: &[2, 4, 6], ..SHORT_RUN };
 
 /// A companion beside a child.
 pub const PAIR: Case<'static> = Case {
@@ -51,17 +49,12 @@ pub const PAIR: Case<'static> = Case {
 };
 
 /// Every dial to the child fails.
-const SHORT_PAIR: Case<'static> = Case {
-    words: "pair --reports 1 --turns 3",
-    calls: &[2, 4, 6],
-    ..BLANK
-};
+#[rattlefmt::skip]
+const SHORT_PAIR: Case<'static> = Case { words: "pair --reports 1 --turns 3", calls: &[2, 4, 6], ..BLANK };
 
 /// A television makes one turn: `listen`, `now`, `take_datagram` and `accept`.
-const TV: Case<'static> = Case {
-    words: "tv --turns 1",
-    ..BLANK
-};
+#[rattlefmt::skip]
+const TV: Case<'static> = Case { words: "tv --turns 1", ..BLANK };
 
 /// A relay makes one turn: `listen`, `now`, `dial`, `take_datagram` and `accept`.
 const RELAY: Case<'static> = Case {
@@ -95,23 +88,16 @@ pub const COMPANIONS: &[Row] = &[
 ];
 
 /// Three readings, each a second after the one before.
-pub const SECONDS: World = World {
-    times: &[0, 1_000_000_000, 2_000_000_000],
-    ..SILENT
-};
+#[rattlefmt::skip]
+pub const SECONDS: World = World { times: &[0, 1_000_000_000, 2_000_000_000], ..SILENT };
 
 /// The first reading is 5000, and the second 6000.
-const LATE: World = World {
-    times: &[5_000, 6_000],
-    ..SILENT
-};
+#[rattlefmt::skip]
+const LATE: World = World { times: &[5_000, 6_000], ..SILENT };
 
 /// A line that the player refuses when it is due, at 1000.
-const AT_1000: Case<'static> = Case {
-    input: b"1000 speed 1\n",
-    world: LATE,
-    ..BLANK
-};
+#[rattlefmt::skip]
+const AT_1000: Case<'static> = Case { input: b"1000 speed 1\n", world: LATE, ..BLANK };
 
 /// A companion of two seconds. Its third turn is the last, and makes no call after its report.
 const TWO_SECONDS: Case<'static> = Case {

@@ -29,12 +29,8 @@ pub struct World {
 }
 
 /// Nothing comes but three readings.
-pub const SILENT: World = World {
-    times: &[0, 1, 2],
-    slept: &[],
-    datagrams: &[],
-    texts: &[],
-};
+#[rattlefmt::skip]
+pub const SILENT: World = World { times: &[0, 1, 2], slept: &[], datagrams: &[], texts: &[] };
 
 fn readings_of(rt: &impl Abort, alloc: Global, world: &World) -> Vec<Clocked>
     ensures { IsTrue (are_readings 0 result.items) }

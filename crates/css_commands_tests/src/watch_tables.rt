@@ -163,11 +163,8 @@ const DISAGREES: World = World {
     texts: &[(1, Said::Text(WC_TOLD))],
 };
 
-const SLEEPS: World = World {
-    times: &[0, 5, 6, 8, 10, 20, 22, 1_000_000_000],
-    slept: &[20],
-    ..ANSWERED
-};
+#[rattlefmt::skip]
+const SLEEPS: World = World { times: &[0, 5, 6, 8, 10, 20, 22, 1_000_000_000], slept: &[20], ..ANSWERED };
 
 /// Three requests are made, and no answer comes.
 #[rattlefmt::skip]

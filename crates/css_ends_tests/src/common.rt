@@ -29,9 +29,9 @@ pub fn shown(rt: &impl Abort, alloc: Global, value: &impl Debug) -> String {
     format!(in alloc; "{value:?}").expect(rt, "memory")
 }
 
-/// What came of a row is what the row says.
-pub fn check(rt: &impl Abort, row: &impl Debug, told: &str, expected: &str) {
-    assert!(rt; told == expected, "{row:?}: {told} and not {expected}");
+/// What came of a row is what the row says. It is told by its place in its table, or by its reading.
+pub fn check(rt: &impl Abort, row: usize, told: &str, expected: &str) {
+    assert!(rt; told == expected, "at {row}: {told} and not {expected}");
 }
 
 pub fn check_that(rt: &impl Abort, holds: bool, what: &str) {

@@ -245,7 +245,7 @@ fn check_report(rt: &impl Abort, alloc: Global, companion: &Companion, reading: 
 {
     let printed = line(alloc, 7, &report(companion, reading), None).expect(rt, "memory");
     let expected = format!(in alloc; "7 {told}\n").expect(rt, "memory");
-    check(rt, &reading, words(&printed), &expected);
+    check(rt, reading as usize, words(&printed), &expected);
 }
 
 /// What comes of each row, and the report after it if the row tells one, is what the row says. The last reading.
@@ -259,7 +259,7 @@ pub fn play(rt: &impl Abort, alloc: Global, companion: &mut Companion, rows: &[R
         let reading = reading_of(*happened, floor);
         check_order(rt, floor, reading);
         let told = carry_out(rt, alloc, companion, *happened, floor, reading);
-        check(rt, happened, &told, expected);
+        check(rt, reading as usize, &told, expected);
         if !report.is_empty() {
             check_report(rt, alloc, companion, reading, report);
         }
@@ -274,10 +274,8 @@ fn check_run(rt: &impl Abort, alloc: Global, selector: &str, local: Local, rows:
 }
 
 /// The greatest errors that a companion may have.
-const WIDEST: Local = Local {
-    error: 2_560_000,
-    precision: 1_000_000_000,
-};
+#[rattlefmt::skip]
+const WIDEST: Local = Local { error: 2_560_000, precision: 1_000_000_000 };
 
 #[test]
 fn a_companion_reports_what_it_was_told(rt: HostRuntime) {
@@ -319,8 +317,8 @@ const LINES: [(u64, Report, Option<i128>, &str); 3] = [
 
 #[test]
 fn lines_are_printed(rt: HostRuntime) {
-    for (number, report, assigned, expected) in &LINES {
+    for (place, (number, report, assigned, expected)) in LINES.iter().enumerate() {
         let printed = line(rt.alloc(), *number, report, *assigned).expect(&rt, "memory");
-        check(&rt, number, words(&printed), expected);
+        check(&rt, place, words(&printed), expected);
     }
 }

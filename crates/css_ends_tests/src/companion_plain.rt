@@ -42,23 +42,30 @@ impl Plain {
     }
 }
 
-/// A CII text, some of which tell nothing of the timeline `urn:x:1`.
-fn drawn_cii(rt: &impl Abort, alloc: Global, dice: &mut Dice, plain: &mut Plain) -> Text {
-    let rate = [50, 1000, 90_000][dice.next(3) as usize];
+/// Ticks in a second, and a CII text that tells them of the timeline `urn:x:1`.
+#[rattlefmt::skip]
+const RATES: [(u32, &str); 3] = [
+    (50, concat!(r#"{"timelines":[{"timelineSelector":"urn:x:1","#,
+        r#""timelineProperties":{"unitsPerTick":1,"unitsPerSecond":50}}]}"#)),
+    (1000, concat!(r#"{"timelines":[{"timelineSelector":"urn:x:1","#,
+        r#""timelineProperties":{"unitsPerTick":1,"unitsPerSecond":1000}}]}"#)),
+    (90_000, concat!(r#"{"timelines":[{"timelineSelector":"urn:x:1","#,
+        r#""timelineProperties":{"unitsPerTick":1,"unitsPerSecond":90000}}]}"#)),
+];
+
+/// A CII text, some of which tell nothing of the timeline.
+fn drawn_cii(dice: &mut Dice, plain: &mut Plain) -> &'static str {
+    let (rate, told) = RATES[dice.next(3) as usize];
     match dice.next(6) {
-        0 => text(rt, alloc, "[]"),
-        1 => text(rt, alloc, r#"{"timelines":null,"teUrl":5}"#),
+        0 => "[]",
+        1 => r#"{"timelines":null,"teUrl":5}"#,
         2 => {
             plain.rate = None;
-            text(rt, alloc, r#"{"timelines":null}"#)
+            r#"{"timelines":null}"#
         }
         _ => {
             plain.rate = Some(rate);
-            let words = format!(in alloc;
-                "{{\"timelines\":[{{\"timelineSelector\":\"urn:x:1\",\
-                 \"timelineProperties\":{{\"unitsPerTick\":1,\"unitsPerSecond\":{rate}}}}}]}}"
-            );
-            text(rt, alloc, &words.expect(rt, "memory"))
+            told
         }
     }
 }
@@ -92,7 +99,7 @@ fn drawn(rt: &impl Abort, alloc: Global, dice: &mut Dice, plain: &mut Plain) -> 
     ensures { IsEvent result }
 {
     if dice.next(2) == 0 {
-        CompanionEvent::CiiText(drawn_cii(rt, alloc, dice, plain))
+        CompanionEvent::CiiText(text(rt, alloc, drawn_cii(dice, plain)))
     } else {
         CompanionEvent::TsText(drawn_ts(rt, alloc, dice, plain))
     }

@@ -4,7 +4,7 @@ use Happened::*;
 use css_model::LIMIT;
 
 /// What happens at a companion, or a question.
-#[derive(Clone, Copy, Debug)]
+#[derive(Clone, Copy)]
 pub enum Happened {
     /// A request at this reading.
     Asks(u64),

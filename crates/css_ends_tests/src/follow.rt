@@ -45,7 +45,7 @@ fn sheets_have_their_limits(rt: HostRuntime) {
 fn a_fault_is_told_in_words(rt: HostRuntime) {
     let told = format!(in rt.alloc(); "{}, {}", SheetFault::Line(7), SheetFault::from(Memory));
     let told = told.expect(&rt, "memory");
-    check(&rt, &"faults", &told, "sheet line 7, out of memory");
+    check(&rt, 0, &told, "sheet line 7, out of memory");
 }
 
 fn sheet(rt: &impl Abort, alloc: Global, lines: &str) -> Sheet {
@@ -61,7 +61,7 @@ fn report_of(interval: Option<(i128, i128)>) -> Report {
 
 /// Finds that a follower says what each step tells.
 fn check_follower<F: Follower>(rt: &impl Abort, alloc: Global, mut follower: F, steps: &[Step]) {
-    for (lines, interval, said, goes_on) in steps {
+    for (place, (lines, interval, said, goes_on)) in steps.iter().enumerate() {
         if !lines.is_empty() {
             let prepared = follower.prepare(&sheet(rt, alloc, lines));
             prepared.expect(rt, "memory");
@@ -69,7 +69,7 @@ fn check_follower<F: Follower>(rt: &impl Abort, alloc: Global, mut follower: F, 
         let mut out = Text::new(alloc);
         let told = follower.told(&report_of(*interval), &mut out);
         let told = told.expect(rt, "memory");
-        check(rt, interval, words(&out), said);
+        check(rt, place, words(&out), said);
         check_that(rt, told == *goes_on, said);
     }
 }
@@ -135,6 +135,7 @@ fn want_of_memory_ends_the_telling(rt: HostRuntime) {
             let told = followers.tell(&report_of(Some(interval)), &mut out);
             check_that(&rt, told.is_err(), "want of memory");
         }
-        check(&rt, &sheets, words(&out), "cue a possible\ncue a passed\n");
+        let said = "cue a possible\ncue a passed\n";
+        check(&rt, usize::from(sheets), words(&out), said);
     }
 }

@@ -203,8 +203,8 @@ fn relayed_after(rt: &impl Abort, alloc: Global, told: &str) -> Text {
 
 #[test]
 fn the_relay_tells_its_own_address(rt: HostRuntime) {
-    for (told, expected) in &STATES {
+    for (place, (told, expected)) in STATES.iter().enumerate() {
         let relayed = relayed_after(&rt, rt.alloc(), told);
-        check(&rt, told, words(&relayed), expected);
+        check(&rt, place, words(&relayed), expected);
     }
 }

@@ -9,7 +9,7 @@ use std::alloc::Global;
 use std::process::Abort;
 
 /// What is done at the sessions, or asked of them.
-#[derive(Clone, Copy, Debug)]
+#[derive(Clone, Copy)]
 enum Call {
     OpenCii,
     OpenTs,
@@ -180,9 +180,9 @@ fn outcome(
 /// What comes of each row is what the row says.
 fn play(rt: &impl Abort, alloc: Global, sessions: &mut Sessions, rows: &[Row]) {
     let player = new_player(rt, alloc);
-    for row in rows {
+    for (place, row) in rows.iter().enumerate() {
         let told = outcome(rt, alloc, sessions, &player, row);
-        check(rt, row, &told, row.3);
+        check(rt, place, &told, row.3);
     }
 }
 

@@ -41,6 +41,16 @@ const SETUPS: [(&str, bool, bool); 3] = [
     (r#"{"contentIdStem":"dvb://2","timelineSelector":"urn:dvb:css:timeline:pts"}"#, false, true),
 ];
 
+/// Which setup a text is, if it is one.
+fn setup_of(text: &str) -> Option<usize> {
+    for (place, (setup, _, _)) in SETUPS.iter().enumerate() {
+        if *setup == text {
+            return Some(place);
+        }
+    }
+    None
+}
+
 /// A television: how many timelines each programme has, what is shown, and the sessions.
 #[derive(Drop)]
 pub struct Plain {
@@ -210,8 +220,7 @@ impl Plain {
     /// A setup, where the session waits for one. Any other text closes it.
     fn hear(&mut self, rt: &impl Abort, alloc: Global, peer: u32, text: &str) -> String {
         let mut all = String::new(alloc);
-        let setup = SETUPS.iter().position(|setup| setup.0 == text);
-        if let (Some(setup), Talk::Waiting) = (setup, self.talk(peer)) {
+        if let (Some(setup), Talk::Waiting) = (setup_of(text), self.talk(peer)) {
             let control = self.control(setup);
             self.set(peer, Talk::Ts(setup, control, None));
             push_control(rt, alloc, &mut all, peer, control);
@@ -279,10 +288,15 @@ impl Plain {
         }
     }
 
+    /// The delay of what is shown.
+    fn delay(&self) -> Option<i128> {
+        Some(self.shown?.delay)
+    }
+
     /// What comes of an event, in words.
     pub fn outcome(&mut self, rt: &impl Abort, alloc: Global, event: Event) -> String {
         let told = match event {
-            Event::Delay => shown(rt, alloc, &self.shown.map(|shown| shown.delay)),
+            Event::Delay => shown(rt, alloc, &self.delay()),
             Event::Viewer(command, milliseconds) => self.command(rt, alloc, command, milliseconds),
             Event::Hears(peer, text) => self.hear(rt, alloc, peer, text),
             Event::Presents(peer, from, to) => self.present(rt, alloc, peer, from, to),
@@ -291,7 +305,7 @@ impl Plain {
                 self.publish(rt, alloc)
             }
         };
-        let is_delayed = self.shown.is_some_and(|shown| shown.delay > 0);
+        let is_delayed = self.delay().unwrap_or(0) > 0;
         self.delays = self.delays.saturating_add(u32::from(is_delayed));
         told
     }

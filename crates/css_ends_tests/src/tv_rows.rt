@@ -8,7 +8,7 @@ use css_player::Command::{self, Change, Seek, Speed};
 pub type Limit = Option<(i64, u64)>;
 
 /// What happens, or a question.
-#[derive(Clone, Copy, Debug)]
+#[derive(Clone, Copy)]
 pub enum Event {
     Programme(&'static str),
     /// A programme has a timeline more of 90,000 ticks a second, which has this tick at the media position 0.

@@ -29,7 +29,10 @@ impl Network {
 
     /// One of those that were sent before a turn. In one case of four none comes, though there may be some.
     pub fn come(&mut self, turn: u64) -> Option<Text> {
-        let sent = self.flight.iter().filter(|one| one.turn < turn).count();
+        let mut sent = 0usize;
+        for one in &self.flight {
+            sent = sent.wrapping_add(usize::from(one.turn < turn));
+        }
         if sent == 0 || self.words.next_word() % 4 == 0 {
             return None;
         }

@@ -19,24 +19,16 @@ const ADDRESSES: Option<&str> =
 const OKAY: Option<&str> = Some("{\"presentationStatus\":\"okay\"}");
 
 /// One turn in which nothing comes.
-const QUIET: Row = Row {
-    told: "SERVE; turn; dial; take; accept; text 1; hang 1",
-    ..NOTHING
-};
+#[rattlefmt::skip]
+const QUIET: Row = Row { told: "SERVE; turn; dial; take; accept; text 1; hang 1", ..NOTHING };
 
 /// A call fails.
-const CUT: Row = Row {
-    name: "a call fails",
-    ended: "NetFault",
-    ..NOTHING
-};
+#[rattlefmt::skip]
+const CUT: Row = Row { name: "a call fails", ended: "NetFault", ..NOTHING };
 
 /// One of 257 sessions comes in each turn.
-pub const CROWD: Row = Row {
-    turns: 258,
-    openings: &[Some(Kind::Cii); 257],
-    ..QUIET
-};
+#[rattlefmt::skip]
+pub const CROWD: Row = Row { turns: 258, openings: &[Some(Kind::Cii); 257], ..QUIET };
 
 /// The relay asks the television, and answers a request.
 #[rattlefmt::skip]

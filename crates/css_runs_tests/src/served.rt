@@ -1,6 +1,6 @@
 //! Runs of a television and of a relay: each fault, each refusal and each end is a row.
 use crate::noted::Noted;
-use crate::rows::Row;
+use crate::rows::{Row, text_of};
 use crate::runs::{assert_told, relay, television};
 use crate::scripts::outside_of;
 use crate::{relay_rows as relays, television_rows as tvs};
@@ -47,8 +47,8 @@ fn each_end_makes_its_calls(rt: HostRuntime) -> Result<(), Fail> {
 /// How many calls were made in the last turn.
 fn last_calls(made: &[u8]) -> usize {
     let mut count = 0usize;
-    for call in made.split(|byte| *byte == b'\n') {
-        count = if call == b"turn".as_slice() {
+    for call in text_of(made).lines() {
+        count = if call == "turn" {
             0
         } else {
             count.wrapping_add(1)
@@ -62,8 +62,8 @@ fn last_calls(made: &[u8]) -> usize {
 #[test]
 fn each_end_keeps_256_sessions(rt: HostRuntime) -> Result<(), Fail> {
     for (end, row, calls) in [
-        (End::Television, &tvs::CROWD, 259 + 256),
-        (End::Relay, &relays::CROWD, 4 + 256 + 257),
+        (End::Television, &tvs::CROWD, 2 + 256 + 256),
+        (End::Relay, &relays::CROWD, 3 + 256 + 257),
     ] {
         let outside = run_of(&rt, rt.alloc(), end, row)?;
         assert_eq!(rt; last_calls(outside.log.words.bytes()), calls);

@@ -20,22 +20,16 @@ const PRESENTATION: Option<&str> = Some(
     \"latest\":{\"contentTime\":\"900000\",\"wallClockTime\":\"plusinfinity\"}}");
 
 /// One of 257 sessions comes in each turn.
-pub const CROWD: Row = Row {
-    turns: 258,
-    openings: &[Some(Kind::Ts); 257],
-    ..QUIET
-};
+#[rattlefmt::skip]
+pub const CROWD: Row = Row { turns: 258, openings: &[Some(Kind::Ts); 257], ..QUIET };
 
 /// A datagram comes, and no answer is sent.
 #[rattlefmt::skip]
 const DROPPED: Row = Row { times: &[4900, 5000, 5200], told: "LISTEN; turn; take; receive; accept", ..QUIET };
 
 /// A line of the script is refused in the first turn.
-const REFUSED: Row = Row {
-    name: "a refused line",
-    told: "LISTEN; turn",
-    ..QUIET
-};
+#[rattlefmt::skip]
+const REFUSED: Row = Row { name: "a refused line", told: "LISTEN; turn", ..QUIET };
 
 /// Each call of the first run fails.
 #[rattlefmt::skip]

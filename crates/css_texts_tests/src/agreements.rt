@@ -182,11 +182,8 @@ fn compare_at(rt: &impl Abort, agree: &Agree, plain: &[Answer], reading: u64, se
     requires { reading < 5000000000 }
 {
     let told = agree.at(reading);
-    check_that(
-        rt,
-        is_plain(&told, plain, agree.local(), reading),
-        "what all answers say",
-    );
+    let same = is_plain(&told, plain, agree.local(), reading);
+    check_that(rt, same, "what all answers say");
     seen.within |= matches!(told, Agreed::Within(_));
     seen.disagree |= matches!(told, Agreed::Disagree { .. });
 }

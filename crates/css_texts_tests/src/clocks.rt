@@ -43,12 +43,9 @@ fn the_greatest_numbers_fit(rt: HostRuntime) {
     drift.add(1, 0, 0).expect(&rt, "the first line");
     let earlier = 1;
     let excess = 989_560_464_998_399_999_513_600_000;
+    let broken = Err(DriftFault::Broken { earlier, excess });
     let added = drift.add(2, LIMIT - 1, 0);
-    check_that(
-        &rt,
-        added == Err(DriftFault::Broken { earlier, excess }),
-        "the greatest excess",
-    );
+    check_that(&rt, added == broken, "the greatest excess");
     let added = drift.add(u64::MAX, LIMIT - 1, LIMIT - 1);
     check_that(&rt, added.is_ok(), "the last line");
 }

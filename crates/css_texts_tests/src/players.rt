@@ -9,17 +9,13 @@ use std::process::Abort;
 
 const PTS: &[u8] = b"urn:dvb:css:timeline:pts";
 
-const STAMPS: Rate = Rate {
-    units_per_tick: 1,
-    units_per_second: 90_000,
-};
+#[rattlefmt::skip]
+const STAMPS: Rate = Rate { units_per_tick: 1, units_per_second: 90_000 };
 
 const OTHER: &[u8] = b"urn:x:1";
 
-const FILM: Rate = Rate {
-    units_per_tick: 1,
-    units_per_second: 25,
-};
+#[rattlefmt::skip]
+const FILM: Rate = Rate { units_per_tick: 1, units_per_second: 25 };
 
 /// The greatest position and the greatest base tick either way.
 const FAR: i64 = 100_000_000_000_000_000;
@@ -115,7 +111,8 @@ fn delayed(player: &mut Player, delay: u64) -> Option<(i128, u64)>
     requires { delay ≤ 10000000000 }
 {
     player.delay(delay);
-    player.segment().map(|segment| (segment.at, segment.delay))
+    let segment = player.segment()?;
+    Some((segment.at, segment.delay))
 }
 
 /// A delay, and the start and the delay of what is shown then. It never begins before 0.
@@ -212,7 +209,7 @@ fn a_thousand_programmes_are_full(rt: HostRuntime) {
 fn timelines_told(rt: &impl Abort, alloc: Global, player: &Player) -> Option<(usize, Rate)> {
     let timelines = player.timelines(alloc).expect(rt, "memory")?;
     let list = timelines.list();
-    list.last().map(|timeline| (list.len(), timeline.rate))
+    Some((list.len(), list.last()?.rate))
 }
 
 /// Of two timelines with one selector the first counts.
@@ -227,11 +224,8 @@ fn what_is_shown_is_told(rt: HostRuntime) {
     did(&mut player, Command::Change(1), 0).expect(&rt, "a change");
     let name = b"dvb://1".as_slice();
     check_that(&rt, player.content_id() == Some(name), "its name");
-    check_that(
-        &rt,
-        told(&player, OTHER) == Some((7, 0, 1)),
-        "the first of both",
-    );
+    let first = told(&player, OTHER);
+    check_that(&rt, first == Some((7, 0, 1)), "the first of both");
     check_that(&rt, told(&player, b"urn:x:2").is_none(), "no such timeline");
     for (stem, has_it) in [("dvb://1", true), ("dvb://12", false), ("//1", false)] {
         let control = told_behind(&player, stem, PTS);
@@ -282,16 +276,16 @@ fn plain_command(plain: Option<Plain>, command: Command, reading: u64) -> Option
             programme,
             delay: 0,
         }),
-        Command::Change(_) => plain,
         Command::Speed(speed) if -64 <= speed && speed <= 64 => {
-            plain.map(|plain| Plain { at, speed, ..plain })
+            let plain = plain?;
+            Some(Plain { at, speed, ..plain })
         }
-        Command::Speed(_) => plain,
-        Command::Seek(media) => plain.map(|plain| Plain {
-            shown: i128::from(media),
-            at,
-            ..plain
-        }),
+        Command::Seek(media) => {
+            let shown = i128::from(media);
+            let plain = plain?;
+            Some(Plain { shown, at, ..plain })
+        }
+        _ => plain,
     }
 }
 
@@ -324,7 +318,7 @@ fn step(player: &mut Player, plain: Option<Plain>, word: u64, reading: u64) -> O
     if word % 3 == 0 {
         let delay = word / 3 % 50;
         player.delay(delay);
-        plain.map(|plain| plain_delay(plain, delay))
+        Some(plain_delay(plain?, delay))
     } else {
         let command = drawn_command(word / 3);
         let _ = did(player, command, reading);
@@ -333,7 +327,8 @@ fn step(player: &mut Player, plain: Option<Plain>, word: u64, reading: u64) -> O
 }
 
 /// The plain player of a segment at a reading.
-fn plain_of(segment: Segment, reading: u64) -> Plain {
+fn plain_of(segment: Option<Segment>, reading: u64) -> Option<Plain> {
+    let segment = segment?;
     let at_its_start = Plain {
         shown: segment.media,
         at: segment.at,
@@ -341,7 +336,8 @@ fn plain_of(segment: Segment, reading: u64) -> Plain {
         programme: segment.programme,
         delay: segment.delay,
     };
-    passed(at_its_start, i128::from(reading).wrapping_sub(segment.at))
+    let elapsed = i128::from(reading).wrapping_sub(segment.at);
+    Some(passed(at_its_start, elapsed))
 }
 
 /// Forty events, ten nanoseconds apart.
@@ -350,9 +346,11 @@ fn play(rt: &impl Abort, player: &mut Player, seed: u64) {
     let mut word = seed;
     for i in 0..40 {
         word = next_word(word);
-        plain = plain.map(|plain| passed(plain, 10));
+        if let Some(before) = plain {
+            plain = Some(passed(before, 10));
+        }
         plain = step(player, plain, word >> 33, i * 10);
-        let shown = player.segment().map(|segment| plain_of(segment, i * 10));
+        let shown = plain_of(player.segment(), i * 10);
         assert!(rt; shown == plain, "event {i} of {seed}");
     }
 }

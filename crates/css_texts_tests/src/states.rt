@@ -93,11 +93,8 @@ fn texts_change_what_they_say(rt: HostRuntime) {
 fn check_session(rt: &impl Abort, first: &State, second: &State) {
     let whole = full(first).expect(rt, "memory");
     let difference = diff(first, second).expect(rt, "memory");
-    check_that(
-        rt,
-        !whole.is_same(&difference) && whole.is_same(&whole),
-        "two changes",
-    );
+    let differ = !whole.is_same(&difference) && whole.is_same(&whole);
+    check_that(rt, differ, "two changes");
     let merged = merge(&[whole, difference]).expect(rt, "memory");
     check_that(rt, merged.is_same(second), "the second state");
 }

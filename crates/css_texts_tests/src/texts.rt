@@ -304,11 +304,8 @@ fn values_of_other_forms_are_refused(rt: HostRuntime) {
     check_places(&rt, rt.alloc(), &TIMELINES_AT, &lists.expect(&rt, "memory"));
 }
 
-const CONTROL: Control = Control::Available {
-    content: 900_000,
-    wall: 10_000_000_000,
-    speed: 1,
-};
+#[rattlefmt::skip]
+const CONTROL: Control = Control::Available { content: 900_000, wall: 10_000_000_000, speed: 1 };
 
 #[test]
 fn times_are_read_as_values(rt: HostRuntime) {
