@@ -1,61 +1,56 @@
 -- What is due at each stage of a turn, and what its calls make of the facts.
-use Rattle.std.proofs.Common.{◌≡◌, ℕ, ◌+◌, arith, ap, sym, ◌∙◌, subst, refl, Bool, true, false, cond}
-use Rattle.std.proofs.Common.{List, [], ◌∷◌, ◌++◌, Option, Some, None, Result, Ok, Err, eq-eqb, inl, inr}
+use Rattle.std.proofs.Common.{◌≡◌, ℕ, ◌+◌, arith, ap, sym, ◌∙◌, subst, refl, Bool, true, false, cond, List, ◌∷◌, ◌++◌}
+use Rattle.std.proofs.Common.{Option, Some, None, Result, Err, eq-eqb, inl, inr}
 use Rattle.std.proofs.lemmas.Bool.{ne_eqb, or_from}
-use Rattle.std.specs.Prelude.{is_some, ◌&&◌, ◌||◌, ◌==◌, IfSome, ◌⊎◌, ◌<◌, ◌≤◌}
+use Rattle.std.specs.Prelude.{is_some, ◌&&◌, ◌||◌, IfSome, ◌⊎◌, ◌<◌, ◌≤◌}
 use Rattle.css_model.specs.declared.Kind.{Kind}
 use Rattle.css_model.specs.declared.Kind.TheVariants as kind
 use Rattle.css_model.specs.declared.Why.{Why}
 use Rattle.css_model.specs.declared.Why.TheVariants as why
 use Rattle.css_model.specs.Wire.{encoded, request_at}
 use Rattle.css_companion.specs.Aside.{IsAside}
-use Rattle.css_model.specs.History.{Address, Entry, Slept, Clock, Dialling, Dialled, NotDialled, Sent, Took, TookNone}
-use Rattle.css_model.specs.History.{Quiet, Heard, Closed, Wrote, Gone, HungUp, History, is_sleep, asking_at}
-use Rattle.css_model.specs.History.{request_by, landed_answer, sleeps, Each}
+use Rattle.css_model.specs.History.{Address, Entry, Slept, Clock, Dialling, Dialled, NotDialled, Sent, Took, Quiet}
+use Rattle.css_model.specs.History.{Heard, Closed, Gone, History, is_sleep, asking_at, request_by, landed_answer}
+use Rattle.css_model.specs.History.{sleeps, Each}
 use Rattle.css_address.specs.declared.fault.AddressFault.{AddressFault}
 use Rattle.css_cii.specs.declared.name.CiiName.{CiiName}
 use Rattle.css_cii.specs.declared.name.CiiName.TheVariants.{WcUrl, TsUrl}
 use Rattle.css_cii.specs.declared.state.State.{State}
-use Rattle.css_outside.specs.Outsides.{Counts, with_entries, clock_entries, sleep_entries, heard_entries, wrote_entries}
+use Rattle.css_outside.specs.Outsides.{Counts, clock_entries, sleep_entries, heard_entries, wrote_entries}
 use Rattle.css_outside.specs.declared.calls.Heard.{Heard as Answer}
 use Rattle.css_outside.specs.declared.calls.Heard.TheVariants as answer
-use Rattle.css_outside.specs.declared.failure.Failure.{Failure}
 use Rattle.css_outside.specs.declared.fault.OutFault.{OutFault}
 use Rattle.std.specs.Option.{option_map}
 use Rattle.css_outside.specs.declared.calls.Clocked.{Clocked}
 use Rattle.css_outside.specs.declared.calls.Wrote.{Wrote as Outcome}
 use Rattle.css_outside.specs.declared.calls.Wrote.TheVariants as outcome
-use Rattle.css_companion.specs.Contents.{next_number, told}
-use Rattle.css_companion.specs.Meanings.{kind_of, is_ts, is_cii, texts_of, state_of, cii_text, ts_text, opens_ts}
-use Rattle.css_companion.specs.Meanings.{closes_ts}
+use Rattle.css_companion.specs.Contents.{told}
+use Rattle.css_companion.specs.Meanings.{kind_of, is_ts, is_cii, state_of, cii_text, ts_text, opens_ts, closes_ts}
 use Rattle.css_companion.specs.Standing.{Companion}
-use Rattle.css_companion.specs.Steps.{none_owed, IsEntryOf}
-use Rattle.css_companion.specs.declared.event.CompanionEvent.TheVariants as event
 use Rattle.css_model.specs.declared.Stamp.{Stamp}
 use Rattle.css_model.specs.Explains.{IsLawful, IsJustAsked}
 use Rattle.css_companion.specs.declared.fault.CompanionFault.{CompanionFault}
 use Rattle.css_companion.specs.declared.fault.CompanionFault.TheVariants as fault
-use Rattle.css_drive.specs.CompanionDue as dues
-use Rattle.css_drive.specs.CompanionDue.{due, due_at, dial_to, dial_first, take_text, send_to, place, point_of, SetUp}
-use Rattle.css_drive.specs.CompanionDue.{from_turn, from_cii, from_wc, from_ts, from_ask, from_take, from_cii_text}
-use Rattle.css_drive.specs.CompanionDue.{from_ts_text, from_end, text_sent, text_gone, unless_refused, refusal_of}
-use Rattle.css_drive.specs.CompanionDue.{fault_in, end_by}
+use Rattle.css_drive.specs.CompanionDue.{due, dial_to, dial_first, take_text, send_to, place, from_cii, from_wc}
+use Rattle.css_drive.specs.CompanionDue.{from_ts, from_ask, from_take, from_cii_text, from_ts_text, from_end}
+use Rattle.css_drive.specs.CompanionDue.{unless_refused, refusal_of, end_by}
 use Rattle.css_drive.specs.CompanionStanding.{Shown, Facts, facts_of, facts_in, KnowsPeers, Stands, Knows, GivesPlace}
-use Rattle.css_drive.specs.CompanionStanding.{asked_after, IsRefusal, HasRead, HasLost, Keeps, Comes, Stops}
-use Rattle.css_drive.specs.CompanionStanding.{dial_entries, IsFault, IsEndBy}
-use Rattle.css_drive.specs.CompanionTurns.{dialled, opened, is_peer, unless, is_asking, turns}
+use Rattle.css_drive.specs.CompanionStanding.{asked_after, IsRefusal, HasRead, Keeps, Stops, dial_entries, IsFault}
+use Rattle.css_drive.specs.CompanionStanding.{IsEndBy, Adds}
+use Rattle.css_drive.specs.CompanionTurns.{dialled, is_peer, unless, is_asking}
 use Rattle.css_drive.specs.Ends.{MayEnd}
 use Rattle.css_drive.specs.Notes as notes
 use Rattle.css_drive.specs.Notes.{Note, noted, session_at, session_with, with_event, slept_notes, landing_notes}
 use Rattle.css_drive.specs.Notes.{heard_notes, wrote_notes, standpoint}
 use Rattle.css_drive.specs.declared.session.Session.{Session}
 use Rattle.css_drive.specs.declared.session.Session.TheVariants as session
-use Rattle.css_drive.specs.Proper.{Due, MayAdd, Now, Dial, TakeDatagram, TakeText, SendText, SendDatagram, Ends}
+use Rattle.css_drive.specs.Proper.{Due, MayAdd, Now, TakeDatagram, TakeText, SendText, Ends}
 use Rattle.css_drive.specs.declared.companion_live.Live.{Live}
 use Rattle.css_drive.specs.declared.config.DriveConfig.{DriveConfig}
 use Rattle.css_drive.specs.declared.driven.Driven.{Driven}
 use Rattle.css_drive.specs.declared.driven.Driven.TheVariants as driven
-use Rattle.css_drive.proofs.CompanionSteps.{opened_dialled, peers_as, knows_aside, stands_saw, stops_after, comes, IsOwn}
+use Rattle.css_drive.proofs.CompanionSteps.{opened_dialled, peers_as, knows_aside, stands_saw, stops_here, ends_by}
+use Rattle.css_drive.proofs.CompanionSteps.{IsOwn}
 
 module _ (config : DriveConfig) (before now : Shown) (saw : List Note → Type 0) (live : Live)
     (history : History) (s : Stands config before now saw live history) where
@@ -197,12 +192,8 @@ module _ (config : DriveConfig) (before now : Shown) (saw : List Note → Type 0
       by false why.Ask is = s.facts
       by true why.Land is = ap {A = Facts} (λ x. record x { asked = None }) s.facts
       by false why.Land is = s.facts
-      by b why.Turn (inl e) = absurd (cc)
-      by b why.Turn (inr e) = absurd (cc)
-      by b why.Take (inl e) = absurd (cc)
-      by b why.Take (inr e) = absurd (cc)
-      by b why.Give (inl e) = absurd (cc)
-      by b why.Give (inr e) = absurd (cc)
+      by b _ (inl e) = absurd (cc)
+      by b _ (inr e) = absurd (cc)
 
 pub peers_clock : (n : ℕ) (cii ts : Option ℕ) (w : Why) (clocked : Clocked) (history : History)
     → KnowsPeers n cii ts history → KnowsPeers n cii ts (clock_entries w clocked ++ history)
@@ -422,78 +413,35 @@ heard_ts config p bytes history k =
 -- a refused text ends the run so
 pub refusal_ends : (refusal : Option CompanionFault) (rest : Due) (ended : Driven) → IsRefusal refusal ended
     → MayEnd (unless_refused refusal rest) ended
-refusal_ends None rest ended r = by ended r
+refusal_ends refusal rest driven.Memory r = tt
+refusal_ends None rest _ r = absurd r
+refusal_ends (Some f) rest _ r = subst (MayEnd (Ends (end_by f))) (sym r) (ends f)
   where
-    by : (ended : Driven) → IsRefusal None ended → MayEnd rest ended
-    by driven.Memory r = tt
-    by (driven.NetFault failure) r = tt
-    by driven.WriteFault r = tt
-    by driven.Done r = absurd r
-    by (driven.BadLine line why) r = absurd r
-    by (driven.BadCii text fault) r = absurd r
-    by (driven.Moved property old new) r = absurd r
-    by (driven.Spent turns) r = absurd r
-    by (driven.Unreachable turns) r = absurd r
-    by (driven.BadUrl property) r = absurd r
-refusal_ends (Some f) rest ended r = by ended r
-  where
-    by : (ended : Driven) → IsRefusal (Some f) ended → MayEnd (Ends (end_by f)) ended
-    by driven.Memory r = tt
-    by (driven.NetFault failure) r = tt
-    by driven.WriteFault r = tt
-    by driven.Done r = ap Ends (sym r)
-    by (driven.BadLine line why) r = ap Ends (sym r)
-    by (driven.BadCii text fault) r = ap Ends (sym r)
-    by (driven.Moved property old new) r = ap Ends (sym r)
-    by (driven.Spent turns) r = ap Ends (sym r)
-    by (driven.Unreachable turns) r = ap Ends (sym r)
-    by (driven.BadUrl property) r = ap Ends (sym r)
+    ends : (f : CompanionFault) → MayEnd (Ends (end_by f)) (end_by f)
+    ends (fault.BadCii number reason) = refl
+    ends (fault.Moved property old new) = refl
+    ends fault.Memory = tt
 
-pub refusal_quiet : (refusal : Option CompanionFault) (failure : Failure) → IsRefusal refusal (driven.NetFault failure)
-    → ⊥
-refusal_quiet None failure r = r
-refusal_quiet (Some (fault.BadCii number reason)) failure r = cc
-refusal_quiet (Some (fault.Moved property old new)) failure r = cc
-refusal_quiet (Some fault.Memory) failure r = cc
-
-refusal_own : (refusal : Option CompanionFault) (ended : Driven) → IsRefusal refusal ended → IsOwn ended
-refusal_own refusal (driven.NetFault failure) r = refusal_quiet refusal failure r
-refusal_own None driven.WriteFault r = r
-refusal_own (Some (fault.BadCii number reason)) driven.WriteFault r = cc
-refusal_own (Some (fault.Moved property old new)) driven.WriteFault r = cc
-refusal_own (Some fault.Memory) driven.WriteFault r = cc
-refusal_own refusal driven.Done r = tt
-refusal_own refusal (driven.BadLine line why) r = tt
-refusal_own refusal (driven.BadCii text reason) r = tt
-refusal_own refusal (driven.Moved property old new) r = tt
-refusal_own refusal (driven.Spent turns) r = tt
-refusal_own refusal (driven.Unreachable turns) r = tt
-refusal_own refusal (driven.BadUrl property) r = tt
+pub refusal_own : (refusal : Option CompanionFault) (ended : Driven) → IsRefusal refusal ended → IsOwn ended
 refusal_own refusal driven.Memory r = tt
+refusal_own None _ r = absurd r
+refusal_own (Some f) _ r = subst IsOwn (sym r) (own f)
+  where
+    own : (f : CompanionFault) → IsOwn (end_by f)
+    own (fault.BadCii number reason) = tt
+    own (fault.Moved property old new) = tt
+    own fault.Memory = tt
 
 -- a text that is refused ends the run
 pub refused_stops : {config : DriveConfig} {before now : Shown} {saw : List Note → Type 0} {live : Live}
-    {history : History} → Stands config before now saw live history → (d : Due) → due config history ≡ d
-    → (p : ℕ) (bytes : List ℕ) → MayAdd d (Heard p bytes ∷ []) → (next : Shown)
-    → next.told ≡ with_entries (Heard p bytes ∷ []) now.told → next.counts.faults ≡ now.counts.faults
-    → (after : List Note → Type 0) → after (noted config (Heard p bytes ∷ history)) → IsLawful history
-    → kind_of p history ≡ Some kind.Cii → (over : Option OutFault) → (ended : Driven)
-    → IsRefusal (refusal_of (Some bytes) history) ended → Stops config before next after over ended
-refused_stops {config} {history} s d is-due p bytes may next told faults after notes lawful k over ended r =
-    let P : Due → Type 0 = λ x. MayEnd x ended in
-    stops_after s d is-due (Heard p bytes ∷ []) may next told faults after notes
-    (lawful_plain (Heard p bytes) history lawful refl refl) over ended
+    {p : ℕ} {bytes : List ℕ} {history : History} → Stands config before now saw live (Heard p bytes ∷ history)
+    → IsLawful history → kind_of p history ≡ Some kind.Cii → (over : Option OutFault) → (ended : Driven)
+    → IsRefusal (refusal_of (Some bytes) history) ended → Stops config before now saw over ended
+refused_stops {config} {p = p} {bytes = bytes} {history = history} s lawful k over ended r =
+    stops_here s (lawful_plain (Heard p bytes) history lawful refl refl) over ended
     (refusal_own (refusal_of (Some bytes) history) ended r)
-    (subst P (sym (heard_cii config p bytes history (refusal_of (Some bytes) history) k refl)) (refusal_ends
-    (refusal_of (Some bytes) history) (from_ts_text config (Heard p bytes ∷ history)) ended r))
-
-pub owed_none : (r : Result State CompanionFault) (v : Option (List ℕ)) → none_owed r ≡ Ok v → fault_in r ≡ None
-owed_none (Ok state) v e = refl
-owed_none (Err f) v e = absurd (cc)
-
-pub owed_fault : (r : Result State CompanionFault) (f : CompanionFault) → none_owed r ≡ Err f → fault_in r ≡ Some f
-owed_fault (Ok state) f e = absurd (cc)
-owed_fault (Err f) g e = let same : f ≡ g = cc in ap Some same
+    (ends_by _ _ ended (heard_cii config p bytes history (refusal_of (Some bytes) history) k refl)
+    (refusal_ends (refusal_of (Some bytes) history) (from_ts_text config (Heard p bytes ∷ history)) ended r))
 
 -- ---- the addresses that are told
 abbrev pub wc_place : State → Option (Result Address AddressFault)
@@ -512,37 +460,52 @@ pub keeps_same : {old new : Counts} {before now : Live} → new.dial_faults ≡ 
     → Keeps new new before now → Keeps old new before now
 keeps_same e k = record { made = k.made; reported = k.reported; dials = omega (arith, e); dialled = k.dialled }
 
--- ---- the TS session is over
-pub over_comes : {config : DriveConfig} {before now : Shown} {saw : List Note → Type 0} {live : Live}
+-- ---- a session is asked for a text, or sent one
+-- a call that dials none is added, and the variables say what it did
+pub call_stands : {config : DriveConfig} {before now : Shown} {saw : List Note → Type 0} {live : Live}
     {history : History} → Stands config before now saw live history → (d : Due) → due config history ≡ d
-    → (entry : Entry) → MayAdd d (entry ∷ []) → (next : Shown) → next.told ≡ with_entries (entry ∷ []) now.told
-    → next.counts ≡ now.counts → (after : List Note → Type 0) → after (noted config (entry ∷ history))
-    → (later : Live) (was is : Companion) → HasLost live later was is
-    → facts_of config (entry ∷ history) ≡ record (facts_in live) { ts_open = None } → ((q : ℕ)
-    → kind_of q (entry ∷ history) ≡ kind_of q history) → Knows config was history
-    → IsEntryOf event.TsClosed entry history
-    → (to : History → Due) → due config (entry ∷ history) ≡ to (entry ∷ history)
-    → Comes config before next after later is to
-over_comes {config} {before} {now} {saw} {live} {history} s d is-due entry may next told same after notes later was
-    is-now l facts kinds k ends to goes =
-    comes (stands_saw s d is-due (entry ∷ []) may next told (ap (λ x. x.faults) same) after notes later
-    (facts ∙ sym l.only)
-    (live_peers now.counts.peers next.counts.peers live later (entry ∷ history) (ap (λ x. x.peers) same) (ap {A =
-    Facts} (λ x. x.cii) l.only) (ap {A = Facts} (λ x. x.ts) l.only) (peers_as now.counts.peers now.counts.peers
-    live.cii live.ts history (entry ∷ history) s.peers (omega arith) kinds)))
-    (l.known config history entry k ends) to goes
+    → (call : History) → MayAdd d call → ((q : ℕ) → kind_of q (call ++ history) ≡ kind_of q history)
+    → {next : Shown} → Adds now next call → (after : List Note → Type 0) → after (noted config (call ++ history))
+    → (later : Live) → facts_of config (call ++ history) ≡ facts_in later → later.cii ≡ live.cii → later.ts ≡ live.ts
+    → Stands config before next after later (call ++ history)
+call_stands {config} {before} {now} {saw} {live} {history} s d is-due call may kinds {next} adds after notes later facts
+    cii ts =
+    stands_saw s d is-due call may next adds.told (ap (λ x. x.faults) adds.same) after notes later facts
+    (live_peers now.counts.peers next.counts.peers live later (call ++ history) (ap (λ x. x.peers) adds.same) cii ts
+    (peers_as now.counts.peers now.counts.peers live.cii live.ts history (call ++ history) s.peers (omega arith) kinds))
 
-pub over_stops : {config : DriveConfig} {before now : Shown} {saw : List Note → Type 0} {live : Live}
-    {history : History} → Stands config before now saw live history → (d : Due) → due config history ≡ d
-    → (entry : Entry) → MayAdd d (entry ∷ []) → (next : Shown) → next.told ≡ with_entries (entry ∷ []) now.told
-    → next.counts ≡ now.counts → (after : List Note → Type 0) → after (noted config (entry ∷ history))
-    → IsLawful history → asking_at entry ≡ None → request_by entry ≡ None → (over : Option OutFault)
-    → (ended : Driven) → ended ≡ driven.Memory → Stops config before next after over ended
-over_stops {config} {before} {now} {history} s d is-due entry may next told same after notes lawful asks sends over
-    ended e =
-    let P : Driven → Type 0 = λ x. Stops config before next after over x in
-    subst P (sym e) (stops_after s d is-due (entry ∷ []) may next told (ap (λ x. x.faults) same) after notes
-    (lawful_plain entry history lawful asks sends) over driven.Memory tt tt)
+pub said_stands : {config : DriveConfig} {before now : Shown} {saw : List Note → Type 0} {live : Live}
+    {history : History} → Stands config before now saw live history → (which : Session) → (p : ℕ)
+    → session_at p history ≡ Some which → due config history ≡ TakeText p → (said : Answer) → {next : Shown}
+    → Adds now next (heard_entries p said) → (after : List Note → Type 0)
+    → after (heard_notes which (standpoint config history) said ++ noted config history) → (later : Live)
+    → facts_of config (heard_entries p said ++ history) ≡ facts_in later → later.cii ≡ live.cii → later.ts ≡ live.ts
+    → Stands config before next after later (heard_entries p said ++ history)
+said_stands {config} {before} {now} {saw} {live} {history} s which p at is-due said {next} adds after notes later facts
+    cii ts =
+    call_stands s (TakeText p) is-due (heard_entries p said) (said, refl) (kinds said) adds after
+    (subst after (sym (heard_noted config p said which history at)) notes) later facts cii ts
+  where
+    kinds : (a : Answer) (q : ℕ) → kind_of q (heard_entries p a ++ history) ≡ kind_of q history
+    kinds answer.Quiet q = refl
+    kinds (answer.Text text) q = refl
+    kinds answer.Closed q = refl
+
+pub sent_stands : {config : DriveConfig} {before now : Shown} {saw : List Note → Type 0} {live : Live}
+    {history : History} → Stands config before now saw live history → (p : ℕ) → session_at p history ≡ Some session.Ts
+    → (text : List ℕ) → due config history ≡ SendText p text → (sent : Outcome) → {next : Shown}
+    → Adds now next (wrote_entries p text sent) → (after : List Note → Type 0)
+    → after (wrote_notes (standpoint config history) sent ++ noted config history) → (later : Live)
+    → facts_of config (wrote_entries p text sent ++ history) ≡ facts_in later → later.cii ≡ live.cii
+    → later.ts ≡ live.ts → Stands config before next after later (wrote_entries p text sent ++ history)
+sent_stands {config} {before} {now} {saw} {live} {history} s p at text is-due sent {next} adds after notes later facts
+    cii ts =
+    call_stands s (SendText p text) is-due (wrote_entries p text sent) (sent, refl) (kinds sent) adds after
+    (subst after (sym (wrote_noted config p text sent history at)) notes) later facts cii ts
+  where
+    kinds : (o : Outcome) (q : ℕ) → kind_of q (wrote_entries p text o ++ history) ≡ kind_of q history
+    kinds outcome.Sent q = refl
+    kinds outcome.Gone q = refl
 
 -- ---- addresses
 -- a bad address ends the run
@@ -550,35 +513,11 @@ pub bad_place : (property : CiiName) (told : Option (Result Address AddressFault
     Driven)
     → GivesPlace property told (Err ended) → MayEnd (dial_to None k property told rest) ended
 bad_place property told k rest driven.Memory g = tt
-bad_place property told k rest (driven.NetFault failure) g = tt
-bad_place property told k rest driven.WriteFault g = tt
-bad_place property told k rest driven.Done g = absurd (let e : driven.Done ≡ driven.BadUrl property = g.1 in cc)
-bad_place property told k rest (driven.BadLine line why) g = absurd (let e : driven.BadLine line why ≡ driven.BadUrl
-    property = g.1 in cc)
-bad_place property told k rest (driven.BadCii text fault) g = absurd (let e : driven.BadCii text fault ≡
-    driven.BadUrl property = g.1 in cc)
-bad_place property told k rest (driven.Moved p old new) g = absurd (let e : driven.Moved p old new ≡ driven.BadUrl
-    property = g.1 in cc)
-bad_place property told k rest (driven.Spent turns) g = absurd (let e : driven.Spent turns ≡ driven.BadUrl property =
-    g.1 in cc)
-bad_place property told k rest (driven.Unreachable turns) g = absurd (let e : driven.Unreachable turns ≡
-    driven.BadUrl property = g.1 in cc)
-bad_place property told k rest (driven.BadUrl p) g =
-    ap (λ x. dial_to None k property x rest) g.2 ∙ ap Ends (sym g.1)
-
-pub bad_quiet : (property : CiiName) (told : Option (Result Address AddressFault)) {failure : Failure}
-    → GivesPlace property told (Err (driven.NetFault failure)) → ⊥
-bad_quiet property told {failure} g = let e : driven.NetFault failure ≡ driven.BadUrl property = g.1 in cc
+bad_place property told k rest _ g =
+    let P : Driven → Type 0 = λ x. MayEnd (dial_to None k property told rest) x in
+    subst P (sym g.1) (ap (λ x. dial_to None k property x rest) g.2)
 
 pub bad_own : (property : CiiName) (told : Option (Result Address AddressFault)) (ended : Driven)
     → GivesPlace property told (Err ended) → IsOwn ended
-bad_own property told (driven.NetFault failure) g = bad_quiet property told g
-bad_own property told driven.WriteFault g = let e : driven.WriteFault ≡ driven.BadUrl property = g.1 in cc
-bad_own property told driven.Done g = tt
-bad_own property told (driven.BadLine line why) g = tt
-bad_own property told (driven.BadCii text fault) g = tt
-bad_own property told (driven.Moved p old new) g = tt
-bad_own property told (driven.Spent turns) g = tt
-bad_own property told (driven.Unreachable turns) g = tt
-bad_own property told (driven.BadUrl p) g = tt
 bad_own property told driven.Memory g = tt
+bad_own property told _ g = subst IsOwn (sym g.1) tt

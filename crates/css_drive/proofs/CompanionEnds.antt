@@ -1,15 +1,13 @@
 -- How a turn begins, and how a run ends.
-use Rattle.std.proofs.Common.{◌≡◌, ℕ, ◌+◌, ◌<◌, suc, arith, ap, sym, ◌∙◌, subst, refl, Bool, true, false, cond}
-use Rattle.std.proofs.Common.{List, [], ◌∷◌, ◌++◌, length, Option, Some, None, eq-eqb}
+use Rattle.std.proofs.Common.{◌≡◌, ℕ, ◌+◌, ◌<◌, suc, arith, ap, sym, ◌∙◌, subst, refl, Bool, true, false, cond, List}
+use Rattle.std.proofs.Common.{[], ◌∷◌, ◌++◌, length, Option, Some, None, eq-eqb}
 use Rattle.std.proofs.lemmas.Bool.{ltb-true}
 use Rattle.std.proofs.lemmas.Grind.{common_steps}
 use Rattle.std.specs.Prelude.{is_some, nat_lt, not, ◌||◌, ◌&&◌, unwrap_or}
 use Rattle.css_model.specs.declared.Kind.TheVariants as kind
 use Rattle.css_model.specs.declared.Why.TheVariants as why
 use Rattle.css_model.specs.Explains.{IsLawful}
-use Rattle.css_model.specs.History.{Entry, Listening, Slept, Clock, Dialling, Dialled, NotDialled, Accepted}
-use Rattle.css_model.specs.History.{NoneCame, Sent}
-use Rattle.css_model.specs.History.{Took, TookNone, Quiet, Heard, Closed, Wrote, Gone, HungUp, History}
+use Rattle.css_model.specs.History.{Slept, Dialled, HungUp, History}
 use Rattle.css_outside.specs.Limits as limits
 use Rattle.css_outside.specs.Limits.{most_turns, IsLimit}
 use Rattle.css_outside.specs.Outsides.{clock_entries, sleep_entries}
@@ -19,18 +17,16 @@ use Rattle.css_outside.specs.declared.limit.Limit.{Limit}
 use Rattle.css_outside.specs.declared.limit.Limit.TheVariants as limit
 use Rattle.css_companion.specs.declared.report.Report.{Report}
 use Rattle.css_companion.proofs.Headline as headline
-use Rattle.css_drive.specs.CompanionDue.{due, hang_up, from_hang_ups, from_turn, from_cii, from_end, final}
-use Rattle.css_drive.specs.CompanionDue.{is_short, IsProperRun}
-use Rattle.css_drive.specs.CompanionReports.{due_reports, report_at, is_due}
-use Rattle.css_drive.specs.CompanionReports.{IsPromisedAt, KeepsPromises}
-use Rattle.css_drive.specs.CompanionStanding.{Shown, Facts, facts_of, facts_in, Stands}
-use Rattle.css_drive.specs.CompanionStanding.{asked_after}
-use Rattle.css_drive.specs.CompanionStanding.{IsOver, IsHangingUp, IsSo, hung, ending_of}
+use Rattle.css_drive.specs.CompanionDue.{due, hang_up, from_hang_ups, from_turn, from_cii, from_end, final, is_short}
+use Rattle.css_drive.specs.CompanionDue.{IsProperRun}
+use Rattle.css_drive.specs.CompanionReports.{due_reports, report_at, is_due, IsPromisedAt, KeepsPromises}
+use Rattle.css_drive.specs.CompanionStanding.{Shown, Facts, facts_of, facts_in, Stands, asked_after, IsOver}
+use Rattle.css_drive.specs.CompanionStanding.{IsHangingUp, IsSo, hung, ending_of}
 use Rattle.css_drive.specs.CompanionTurns.{turn_at, first_turn, this_turn, turns, first_of, counted, is_late, goes_on}
 use Rattle.css_drive.specs.CompanionTurns.{dialled, opened, any_dialled, is_peer, unless}
 use Rattle.css_drive.specs.Ends.{MayEnd, IsNetFault}
 use Rattle.css_drive.specs.Notes.{Note, Reported, noted, turn_notes, standpoint, slept_from}
-use Rattle.css_drive.specs.Proper.{Due, Now, HangUp, Ends, MayAdd, More}
+use Rattle.css_drive.specs.Proper.{Due, Now, Ends, MayAdd, More}
 use Rattle.css_drive.specs.declared.companion_live.Live.{Live}
 use Rattle.css_drive.specs.declared.config.DriveConfig.{DriveConfig}
 use Rattle.css_drive.specs.declared.driven.Driven.{Driven}
@@ -154,22 +150,7 @@ any_is (Dialled kind.Ts p ∷ h) = by (is_some (dialled kind.Cii h)) (is_some (d
     by true b = refl
     by false true = refl
     by false false = refl
-any_is (Listening host port ∷ h) = any_is h
-any_is (Slept ∷ h) = any_is h
-any_is (Clock w r ∷ h) = any_is h
-any_is (Dialling k to ∷ h) = any_is h
-any_is (NotDialled k ∷ h) = any_is h
-any_is (Accepted p k ∷ h) = any_is h
-any_is (NoneCame ∷ h) = any_is h
-any_is (Sent p b ∷ h) = any_is h
-any_is (Took p b ∷ h) = any_is h
-any_is (TookNone ∷ h) = any_is h
-any_is (Quiet p ∷ h) = any_is h
-any_is (Heard p b ∷ h) = any_is h
-any_is (Closed p ∷ h) = any_is h
-any_is (Wrote p b ∷ h) = any_is h
-any_is (Gone p ∷ h) = any_is h
-any_is (HungUp p ∷ h) = any_is h
+any_is (_ ∷ h) = any_is h
 
 ending_over : (turns : ℕ) (b : Bool) → IsOver (cond b (driven.Spent turns) (driven.Unreachable turns))
 ending_over turns true = tt
@@ -307,40 +288,19 @@ module _ (config : DriveConfig) (before now : Shown) (saw : List Note → Type 0
 
 -- ---- hanging up
 pub over_ends : (end : Driven) → IsOver end → MayEnd (Ends end) end
-over_ends driven.Done o = refl
-over_ends (driven.Spent n) o = refl
-over_ends (driven.Unreachable n) o = refl
 over_ends (driven.NetFault failure) o = tt
 over_ends driven.WriteFault o = tt
 over_ends driven.Memory o = tt
-over_ends (driven.BadLine line why) o = refl
-over_ends (driven.BadCii text fault) o = refl
-over_ends (driven.Moved property old new) o = refl
-over_ends (driven.BadUrl property) o = refl
+over_ends _ o = refl
 
 pub over_quiet : (end : Driven) → IsOver end → IsNetFault end → ⊥
 over_quiet (driven.NetFault failure) o e = o
-over_quiet driven.WriteFault o e = e
-over_quiet driven.Memory o e = e
-over_quiet driven.Done o e = e
-over_quiet (driven.BadLine line why) o e = e
-over_quiet (driven.BadCii text fault) o e = e
-over_quiet (driven.Moved property old new) o e = e
-over_quiet (driven.Spent turns) o e = e
-over_quiet (driven.Unreachable turns) o e = e
-over_quiet (driven.BadUrl property) o e = e
+over_quiet _ o e = e
 
 pub over_so : (over : Option OutFault) (end : Driven) → IsOver end → IsSo over end
-over_so over driven.Done o = tt
-over_so over (driven.Spent n) o = tt
-over_so over (driven.Unreachable n) o = tt
 over_so over (driven.NetFault failure) o = absurd o
 over_so over driven.WriteFault o = absurd o
-over_so over driven.Memory o = tt
-over_so over (driven.BadLine line why) o = tt
-over_so over (driven.BadCii text fault) o = tt
-over_so over (driven.Moved property old new) o = tt
-over_so over (driven.BadUrl property) o = tt
+over_so over _ o = tt
 
 pub hung_lawful : (history : History) (o : Option ℕ) → IsLawful history → IsLawful (hung o ++ history)
 hung_lawful history None l = l

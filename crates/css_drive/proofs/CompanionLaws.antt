@@ -1,14 +1,13 @@
 -- The laws of companions' runs.
 use Rattle.std.proofs.Common.{◌≡◌, ℕ, ◌+◌, ◌≤◌, ◌<◌, arith, suc, ap, sym, ◌∙◌, subst, refl, Bool, true, false, cond}
-use Rattle.std.proofs.Common.{inl, inr, map}
-use Rattle.std.proofs.Common.{List, [], ◌∷◌, ◌++◌, length, drop, Option, Some, None, Result, Ok, Err}
+use Rattle.std.proofs.Common.{inl, inr, map, List, [], ◌∷◌, ◌++◌, length, drop, Option, Some, None, Result, Ok, Err}
 use Rattle.std.proofs.lemmas.Bool.{ltb-true, ltb-false}
-use Rattle.std.specs.Prelude.{◌&&◌, not, ◌⊎◌, is_some, if◌then◌else◌}
+use Rattle.std.specs.Prelude.{◌&&◌, not, is_some, if◌then◌else◌}
 use Rattle.css_model.specs.declared.Kind.{Kind}
 use Rattle.css_model.specs.declared.Kind.TheVariants as kind
 use Rattle.css_model.specs.declared.Why.{Why}
 use Rattle.css_model.specs.declared.Why.TheVariants as why
-use Rattle.css_model.specs.History.{Address, History, Clock, Slept, Dialling, Dialled, NotDialled, Sent, HungUp}
+use Rattle.css_model.specs.History.{Address, History, Clock, Slept, Sent}
 use Rattle.css_address.specs.declared.fault.AddressFault.{AddressFault}
 use Rattle.css_cii.specs.declared.name.CiiName.{CiiName}
 use Rattle.css_cii.specs.declared.name.CiiName.TheVariants.{WcUrl, TsUrl}
@@ -29,21 +28,18 @@ use Rattle.css_companion.specs.declared.report.Report.{Report}
 use Rattle.css_follow.specs.Following.{Seen, Hears, told_unless, after, ends_by}
 use Rattle.css_drive.specs.CompanionDue as dues
 use Rattle.css_drive.specs.CompanionDue.{Point, due, due_at, dial_to, dial_first, take_text, hang_up, sending, send_to}
-use Rattle.css_drive.specs.CompanionDue.{from_hang_ups, from_turn, from_cii, from_wc, from_ts, from_ask, from_take}
-use Rattle.css_drive.specs.CompanionDue.{from_cii_text, from_ts_text, from_end, from_setup, final, is_short}
-use Rattle.css_drive.specs.CompanionDue.{refusal, place, window_text}
+use Rattle.css_drive.specs.CompanionDue.{from_hang_ups, from_cii, from_wc, from_ts, from_ask, from_take, from_cii_text}
+use Rattle.css_drive.specs.CompanionDue.{from_ts_text, from_end, final, is_short, refusal, place, window_text}
 use Rattle.css_drive.specs.CompanionDue.{unless_refused, point_of, end_by, IsProperRun}
-use Rattle.css_drive.specs.CompanionLaws.{ReportsAreAsAsked, MakesReports, FollowersHear, HasHeard, EachHasHeard}
+use Rattle.css_drive.specs.CompanionLaws.{ReportsAreAsAsked, FollowersHear, HasHeard, EachHasHeard}
 use Rattle.css_drive.specs.CompanionReports.{due_reports, is_due, report_at, with_report}
 use Rattle.css_drive.specs.CompanionTurns.{turn_at, first_turn, this_turn, turns, dialled, opened, any_dialled}
 use Rattle.css_drive.specs.CompanionTurns.{asked_turn, is_asking, is_late, goes_on}
-use Rattle.css_drive.specs.CompanionRun.{Followed, after_all}
+use Rattle.css_drive.specs.CompanionRun.{after_all}
 use Rattle.css_drive.specs.Listening.{Listener, hearing, words_of}
-use Rattle.css_drive.specs.Proper.{Due, Listen, Now, Dial, Accept, SendDatagram, TakeDatagram, TakeText, SendText}
-use Rattle.css_drive.specs.Proper.{HangUp}
-use Rattle.css_drive.specs.Proper.{Ends, MayAdd, IsProper, Empty, More}
+use Rattle.css_drive.specs.Proper.{Due, Now, Dial, Accept, SendDatagram, TakeDatagram, TakeText, SendText, HangUp, Ends}
+use Rattle.css_drive.specs.Proper.{MayAdd, Empty, More}
 use Rattle.css_drive.specs.declared.config.DriveConfig.{DriveConfig}
-use Rattle.css_drive.specs.declared.driven.Driven.{Driven}
 use Rattle.css_drive.specs.declared.driven.Driven.TheVariants as driven
 
 -- ---- followers
@@ -257,8 +253,7 @@ module _ (config : DriveConfig) (h : History) (d : Due) (t : IsFinal d) where
         where
           refused : (f : CompanionFault) → IsFinal (Ends (end_by f)) → ⊥
           refused (fault.BadCii number reason) x = x
-          refused (fault.Moved property old new) x = x
-          refused fault.Memory x = x
+          refused _ x = x
 
 turn_due : (config : DriveConfig) (h : History) → due config h ≡ Now why.Turn → is_short config h ≡ true
 turn_due config h e = settled config h (Now why.Turn) tt e
@@ -323,8 +318,6 @@ call_within config older (Now why.Take) e call m w = within_same config older ca
     m.0 m.1 refl) w
 call_within config older (Now why.Give) e call m w = within_same config older call (quiet config older call why.Give
     m.0 m.1 refl) w
-call_within config older (Listen host port) e call m w = within_same config older call (ap (λ c. due_reports config
-    (c ++ older)) m) w
 call_within config older (Dial k to) e call (inl m) w = within_same config older call (ap (λ c. due_reports config (c
     ++ older)) m.1) w
 call_within config older (Dial k to) e call (inr m) w = within_same config older call (ap (λ c. due_reports config (c
@@ -335,8 +328,6 @@ call_within config older Accept e call m w = within_same config older call (ap (
     by : (came : Option (ℕ × Kind)) → due_reports config (opening_entries came ++ older) ≡ due_reports config older
     by None = refl
     by (Some (peer, k)) = refl
-call_within config older (SendDatagram peer bytes) e call m w = within_same config older call (ap (λ c. due_reports
-    config (c ++ older)) m) w
 call_within config older TakeDatagram e call m w = within_same config older call (ap (λ c. due_reports config (c ++
     older)) m.2 ∙ by m.1) w
   where
@@ -356,9 +347,8 @@ call_within config older (SendText peer bytes) e call m w = within_same config o
     by : (sent : Outcome) → due_reports config (wrote_entries peer bytes sent ++ older) ≡ due_reports config older
     by outcome.Sent = refl
     by outcome.Gone = refl
-call_within config older (HangUp peer) e call m w = within_same config older call (ap (λ c. due_reports config (c ++
-    older)) m) w
 call_within config older (Ends end) e call m w = absurd m
+call_within config older _ e call m w = within_same config older call (ap (λ c. due_reports config (c ++ older)) m) w
 
 never_more : (config : DriveConfig) (history : History) → 1 ≤ config.reports → IsProperRun config history
     → length (due_reports config history) ≤ config.reports

@@ -1,8 +1,8 @@
 -- What the turns of a run come to.
-use Rattle.std.proofs.Common.{◌≡◌, ◌≤◌, ℕ, ap, sym, ◌∙◌, subst, refl, inl, inr, Bool, true, false, arith}
-use Rattle.std.proofs.Common.{[], ◌∷◌, Option, Some, None, Result, Ok, Err, List}
+use Rattle.std.proofs.Common.{◌≡◌, ◌≤◌, ℕ, ap, sym, ◌∙◌, subst, refl, inl, inr, arith, [], Option, Some, None, Result}
+use Rattle.std.proofs.Common.{Ok, Err, List}
 use Rattle.std.proofs.lemmas.Grind.{common_steps}
-use Rattle.std.specs.Prelude.{nat_lt, ◌⊎◌, OnOk, IfErr, MatchResult}
+use Rattle.std.specs.Prelude.{◌⊎◌, OnOk}
 use Rattle.css_model.specs.History.{History}
 use Rattle.css_outside.specs.Faults.{HasRisen}
 use Rattle.css_outside.specs.Outsides.{with_entries}
@@ -13,12 +13,11 @@ use Rattle.css_companion.specs.Standing.{Companion, own_of}
 use Rattle.css_companion.specs.declared.report.Report.{Report}
 use Rattle.css_drive.specs.CompanionDue.{due, from_end}
 use Rattle.css_drive.specs.CompanionReports.{report_at}
-use Rattle.css_drive.specs.CompanionStanding.{Shown, Knows, Comes, Stops, Made, IsFault, IsOver, IsEarly, IsSo}
-use Rattle.css_drive.specs.CompanionStanding.{IsEndBy, IsEndOf, final_end, ending_of, facts_of, facts_in, KnowsPeers}
-use Rattle.css_drive.specs.CompanionStanding.{HasTried}
+use Rattle.css_drive.specs.CompanionStanding.{Shown, Knows, Comes, Stops, Made, IsFault, IsEarly, IsSo, IsEndBy}
+use Rattle.css_drive.specs.CompanionStanding.{IsEndOf, final_end, ending_of, facts_of, facts_in, KnowsPeers, HasTried}
 use Rattle.css_drive.specs.Ends.{MayEnd, CountsNetFault, CountsDialFaults}
 use Rattle.css_drive.specs.Notes.{Note}
-use Rattle.css_drive.specs.Proper.{Empty, Due}
+use Rattle.css_drive.specs.Proper.{Empty}
 use Rattle.css_drive.specs.declared.companion_live.Live.{Live}
 use Rattle.css_drive.specs.declared.config.DriveConfig.{DriveConfig}
 use Rattle.css_drive.specs.declared.driven.Driven.{Driven}
@@ -37,16 +36,9 @@ reports_so config companion history reading report k e =
 
 -- ---- how it may end
 pub fault_early : (ended : Driven) → IsFault ended → IsEarly ended
-fault_early driven.Done f = absurd f
-fault_early (driven.BadLine line why) f = absurd f
-fault_early driven.WriteFault f = absurd f
 fault_early (driven.NetFault failure) f = tt
-fault_early (driven.BadCii text fault) f = absurd f
-fault_early (driven.Moved property old new) f = absurd f
-fault_early (driven.Spent n) f = absurd f
-fault_early (driven.Unreachable n) f = absurd f
-fault_early (driven.BadUrl property) f = absurd f
 fault_early driven.Memory f = tt
+fault_early _ f = absurd f
 
 pub fails_early : (over : Option OutFault) (ended : Driven) → IsEndBy over ended → IsEarly ended
 fails_early None ended f = fault_early ended f
@@ -61,16 +53,9 @@ hung_early over end ended early (inr f) = fails_early over ended f
 -- ---- counts of failed dials
 pub early_dials : (before now : ℕ) (ended : Driven) → IsEarly ended → before ≤ now
     → CountsDialFaults before now ended
-early_dials before now driven.Done f e = e
-early_dials before now (driven.BadLine line why) f e = e
-early_dials before now driven.WriteFault f e = e
-early_dials before now (driven.NetFault failure) f e = e
-early_dials before now (driven.BadCii text fault) f e = e
-early_dials before now (driven.Moved property old new) f e = e
 early_dials before now (driven.Spent n) f e = absurd f
 early_dials before now (driven.Unreachable n) f e = absurd f
-early_dials before now (driven.BadUrl property) f e = e
-early_dials before now driven.Memory f e = e
+early_dials before now _ f e = e
 
 pub final_dials : (over : Option OutFault) (before now : ℕ) (ended : Driven) → CountsDialFaults before now ended
     → before ≤ now → CountsDialFaults before now (final_end over ended)
@@ -156,15 +141,7 @@ counted_of config before now saw over ended result e s =
     same : (o : OutFault) (d : Driven) → IsSo (Some o) d
         → CountsNetFault before.counts.faults now.counts.faults d → now.counts.faults ≡ before.counts.faults
     same o (driven.NetFault failure) i c = let none : Some o ≡ None = i in cc
-    same o driven.WriteFault i c = c
-    same o driven.Done i c = c
-    same o (driven.BadLine line why) i c = c
-    same o (driven.BadCii text reason) i c = c
-    same o (driven.Moved property old new) i c = c
-    same o (driven.Spent turns) i c = c
-    same o (driven.Unreachable turns) i c = c
-    same o (driven.BadUrl property) i c = c
-    same o driven.Memory i c = c
+    same o _ i c = c
 
     by : (o : Option OutFault) (d : Driven) → IsSo o d
         → CountsNetFault before.counts.faults now.counts.faults d
@@ -174,7 +151,7 @@ counted_of config before now saw over ended result e s =
     by (Some fault.Memory) d i c = same fault.Memory d i c
 
 -- ---- the beginning
-no_entries : (told : Option History) → told ≡ with_entries [] told
+pub no_entries : (told : Option History) → told ≡ with_entries [] told
 no_entries None = refl
 no_entries (Some h) = refl
 

@@ -1,7 +1,7 @@
 -- How a run's history goes on by a call.
-use Rattle.std.proofs.Common.{◌≡◌, ℕ, ◌≤◌, ◌<◌, arith, ap, sym, ◌∙◌, subst, refl, Bool, true, false, cond}
-use Rattle.std.proofs.Common.{List, [], ◌∷◌, ◌++◌, append_assoc, Option, Some, None, eq-eqb, Result, Ok, Err}
-use Rattle.std.specs.Prelude.{◌≢◌, is_some, ◌==◌, IfSome, MatchResult, IsErrAnd}
+use Rattle.std.proofs.Common.{◌≡◌, ℕ, ◌≤◌, ◌<◌, arith, ap, sym, ◌∙◌, subst, refl, Bool, true, false, cond, List, []}
+use Rattle.std.proofs.Common.{◌∷◌, ◌++◌, append_assoc, Option, Some, None, eq-eqb, Result, Ok, Err}
+use Rattle.std.specs.Prelude.{is_some, IfSome, MatchResult, IsErrAnd}
 use Rattle.std.specs.Option.{option_or}
 use Rattle.std.proofs.lemmas.Bool.{ne_eqb}
 use Rattle.css_model.specs.declared.Kind.{Kind}
@@ -15,8 +15,8 @@ use Rattle.css_companion.specs.Aside.{IsAside}
 use Rattle.css_companion.specs.Meanings.{kind_of}
 use Rattle.css_companion.specs.Standing.{Companion}
 use Rattle.css_companion.proofs.Telling as telling
-use Rattle.css_drive.specs.CompanionDue.{due, IsProperRun}
-use Rattle.css_drive.specs.CompanionStanding.{Shown, Facts, facts_of, facts_in, KnowsPeers, Stands, Knows, Comes, Stops}
+use Rattle.css_drive.specs.CompanionDue.{due}
+use Rattle.css_drive.specs.CompanionStanding.{Shown, facts_of, facts_in, KnowsPeers, Stands, Knows, Comes, Stops}
 use Rattle.css_drive.specs.CompanionStanding.{IsFault, IsEndBy, IsSo, Fails}
 use Rattle.css_drive.specs.CompanionTurns.{dialled, dialled_by, opened, ended_by, open_after, unless, newest, is_peer}
 use Rattle.css_drive.specs.Ends.{MayEnd, IsNetFault, CountsNetFault}
@@ -67,12 +67,12 @@ peers_as n m cii ts history later k le same = record {
     by None is e = tt
     by (Some p) is e = same p ∙ e
 
-other_kind : (n p q : ℕ) (k : Kind) (to : Address) (history : History) → p ≤ n → n < q
+pub other_kind : (n p q : ℕ) (k : Kind) (to : Address) (history : History) → p ≤ n → n < q
     → kind_of p (Dialled k q ∷ Dialling k to ∷ history) ≡ kind_of p history
 other_kind n p q k to history le lt =
     ap (λ b. option_or (cond b (Some k) None) (kind_of p history)) (ne_eqb q p (λ e. omega (arith, le, lt, e)))
 
-own_kind : (q : ℕ) (k : Kind) (to : Address) (history : History)
+pub own_kind : (q : ℕ) (k : Kind) (to : Address) (history : History)
     → kind_of q (Dialled k q ∷ Dialling k to ∷ history) ≡ Some k
 own_kind q k to history = ap (λ b. option_or (cond b (Some k) None) (kind_of q history)) (eq-eqb q q refl)
 
@@ -148,15 +148,7 @@ knows_as config was is history e k = subst (λ (x : Companion). Knows config x h
 pub counts_same : (before now : ℕ) (ended : Driven) → (IsNetFault ended → ⊥) → now ≡ before
     → CountsNetFault before now ended
 counts_same before now (driven.NetFault failure) never e = absurd (never tt)
-counts_same before now driven.Done never e = e
-counts_same before now (driven.BadLine line why) never e = e
-counts_same before now driven.WriteFault never e = e
-counts_same before now (driven.BadCii text fault) never e = e
-counts_same before now (driven.Moved property old new) never e = e
-counts_same before now (driven.Spent turns) never e = e
-counts_same before now (driven.Unreachable turns) never e = e
-counts_same before now (driven.BadUrl property) never e = e
-counts_same before now driven.Memory never e = e
+counts_same before now _ never e = e
 
 pub counts_from : (a b n : ℕ) (ended : Driven) → a ≡ b → CountsNetFault a n ended → CountsNetFault b n ended
 counts_from a b n ended e c = let P : ℕ → Type 0 = λ x. CountsNetFault x n ended in subst P e c
@@ -171,26 +163,11 @@ IsOwn _ = Unit {0}
 own_so : (over : Option OutFault) (ended : Driven) → IsOwn ended → IsSo over ended
 own_so over (driven.NetFault failure) own = absurd own
 own_so over driven.WriteFault own = absurd own
-own_so over driven.Done own = tt
-own_so over (driven.BadLine line why) own = tt
-own_so over (driven.BadCii text fault) own = tt
-own_so over (driven.Moved property old new) own = tt
-own_so over (driven.Spent turns) own = tt
-own_so over (driven.Unreachable turns) own = tt
-own_so over (driven.BadUrl property) own = tt
-own_so over driven.Memory own = tt
+own_so over _ own = tt
 
-own_quiet : (ended : Driven) → IsOwn ended → IsNetFault ended → ⊥
+pub own_quiet : (ended : Driven) → IsOwn ended → IsNetFault ended → ⊥
 own_quiet (driven.NetFault failure) own n = own
-own_quiet driven.WriteFault own n = n
-own_quiet driven.Memory own n = n
-own_quiet driven.Done own n = n
-own_quiet (driven.BadLine line why) own n = n
-own_quiet (driven.BadCii text fault) own n = n
-own_quiet (driven.Moved property old new) own n = n
-own_quiet (driven.Spent turns) own n = n
-own_quiet (driven.Unreachable turns) own n = n
-own_quiet (driven.BadUrl property) own n = n
+own_quiet _ own n = n
 
 own_counts : (before now : ℕ) (ended : Driven) → IsOwn ended → now ≡ before → CountsNetFault before now ended
 own_counts before now ended own e = counts_same before now ended (own_quiet ended own) e
@@ -220,14 +197,7 @@ fails_so (Some fault.Memory) ended f = let P : Driven → Type 0 = λ x. IsSo (S
 pub fault_ends : (d : Due) (ended : Driven) → IsFault ended → MayEnd d ended
 fault_ends d (driven.NetFault failure) f = tt
 fault_ends d driven.Memory f = tt
-fault_ends d driven.WriteFault f = absurd f
-fault_ends d driven.Done f = absurd f
-fault_ends d (driven.BadLine line why) f = absurd f
-fault_ends d (driven.BadCii text fault) f = absurd f
-fault_ends d (driven.Moved property old new) f = absurd f
-fault_ends d (driven.Spent n) f = absurd f
-fault_ends d (driven.Unreachable n) f = absurd f
-fault_ends d (driven.BadUrl property) f = absurd f
+fault_ends d _ f = absurd f
 
 pub fails_end : (d : Due) (over : Option OutFault) (ended : Driven) → IsEndBy over ended → MayEnd d ended
 fails_end d None ended f = fault_ends d ended f

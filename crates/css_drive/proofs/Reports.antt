@@ -1,9 +1,8 @@
 -- What a run's observer that writes its reports has written.
-use Rattle.std.proofs.Common.{◌≡◌, ℕ, ◌+◌, suc, ap, sym, ◌∙◌, subst, refl, inl, inr, Bool, true, false}
-use Rattle.std.proofs.Common.{List, [], ◌∷◌, ◌++◌, append_assoc, append-nil, length, take, map, flat_map}
-use Rattle.std.proofs.Common.{Option, Some, None, Result, Ok, Err, cond}
+use Rattle.std.proofs.Common.{◌≡◌, ℕ, ◌+◌, suc, ap, sym, ◌∙◌, subst, refl, inl, Bool, true, false, List, [], ◌∷◌, ◌++◌}
+use Rattle.std.proofs.Common.{append_assoc, append-nil, length, take, map, flat_map, Option, Some, None, Result, Ok}
+use Rattle.std.proofs.Common.{Err, cond}
 use Rattle.std.proofs.KnownBytes.{Appends-nil, Appends-trans}
-use Rattle.std.specs.Prelude.{◌⊎◌}
 use Rattle.std.specs.Io.KnownBytes.{Appends}
 use Rattle.css_model.specs.History.{History}
 use Rattle.css_outside.specs.Bytes.{AppendsPrefix}
@@ -13,19 +12,19 @@ use Rattle.css_outside.specs.declared.fault.OutFault.TheVariants as fault
 use Rattle.css_companion.specs.Printed.{line_of}
 use Rattle.css_companion.specs.declared.report.Report.{Report}
 use Rattle.css_follow.specs.Following.{Seen, Plan, told, says_by, ends_by}
-use Rattle.css_drive.specs.CompanionReports.{due_reports, report_at, is_due, written, all_but_newest, IsPart, HasWritten}
-use Rattle.css_drive.specs.CompanionRun.{Followed, HearFirst, HeardNewest, FollowedInPart, HasFollowed, Ran}
-use Rattle.css_drive.specs.CompanionRun.{after_all, said_of}
+use Rattle.css_drive.specs.CompanionReports.{due_reports, report_at, is_due, written, all_but_newest, IsPart}
+use Rattle.css_drive.specs.CompanionReports.{HasWritten}
+use Rattle.css_drive.specs.CompanionRun.{Followed, FollowedInPart, HasFollowed, Ran, after_all, said_of}
 use Rattle.css_drive.specs.CompanionReports as reports
 use Rattle.css_drive.specs.CompanionStanding.{Made, IsEndOf}
 use Rattle.css_drive.specs.CompanionTurns.{turn_at, first_turn}
 use Rattle.css_drive.specs.Ends.{CountsWriteFault}
-use Rattle.css_drive.specs.Listening.{Listener, HearEach, SayFirst, TellsEach, hearing, words_of}
-use Rattle.css_drive.specs.Notes.{Note, Event, Happened, Reported, noted, with_event, with_report, event_of, slept_notes}
+use Rattle.css_drive.specs.Listening.{Listener, HearEach, TellsEach, hearing, words_of}
+use Rattle.css_drive.specs.Notes.{Note, Event, Reported, noted, with_event, with_report, event_of, slept_notes}
 use Rattle.css_drive.specs.Notes.{turn_notes, Standpoint, standpoint}
 use Rattle.css_outside.specs.declared.calls.Clocked.{Clocked}
-use Rattle.css_drive.specs.Telling.{HasSaid, HasSaidFirst, Audience, IsWritten, IsPartlyWritten, WritesReport}
-use Rattle.css_drive.specs.Telling.{reports_in, AreNumbered, HasTold, HasToldPart, Tells}
+use Rattle.css_drive.specs.Telling.{Audience, IsWritten, IsPartlyWritten, WritesReport, reports_in, AreNumbered}
+use Rattle.css_drive.specs.Telling.{HasTold, HasToldPart, Tells}
 use Rattle.css_drive.specs.declared.config.DriveConfig.{DriveConfig}
 use Rattle.css_drive.specs.declared.driven.Driven.{Driven}
 use Rattle.css_drive.specs.declared.driven.Driven.TheVariants as driven
@@ -64,49 +63,6 @@ tells_on (Err e) report b n bs ns old mid new h m s = record {
   rest = s.rest;
   grew = s.grew ∙ ap (λ x. x ++ s.said) m ∙ append_assoc old (words_of report b) s.said;
 }
-
--- none heard it
-pub tells_none : (report : Report) (bs ns : List Listener) (old new : List ℕ) → ns ≡ bs → new ≡ old
-    → SayFirst report bs ns old new
-tells_none report bs ns old new e f =
-    record {
-      count = 0;
-      said = [];
-      each = record { heard = refl; said = refl };
-      rest = e;
-      grew = f ∙ sym (append-nil old);
-    }
-
--- ---- one report
--- it was written
-pub wrote_text : (was is : Audience) (before now number : ℕ) (report : Report) (text : List ℕ)
-    → HasSaid number report was.heard is.heard text → Appends was.holds is.holds text → now ≡ before
-    → WritesReport None was is before now number report
-wrote_text was is before now number report text s grew same =
-    (record { words = s.words; grew = subst (Appends was.holds is.holds) s.is grew; heard = s.heard }, same)
-
--- a part of it was written
-pub wrote_part : (was is : Audience) (before now number : ℕ) (report : Report) (text : List ℕ) (cause : OutFault)
-    → HasSaid number report was.heard is.heard text → AppendsPrefix was.holds is.holds text
-    → CountsOutFault before now cause → WritesReport (Some cause) was is before now number report
-wrote_part was is before now number report text cause s grew counted = (
-  record { words = s.words; grew = subst (AppendsPrefix was.holds is.holds) s.is grew; heard = inl s.heard },
-  counted,
-)
-
--- it has no text, and nothing was written
-pub wrote_none : (held : Option (List ℕ)) (before number : ℕ) (report : Report) (was is : List Listener)
-    → HasSaidFirst report was is
-    → WritesReport (Some fault.Memory) (record { holds = held; heard = was }) (record { holds = held; heard = is })
-    before before number report
-wrote_none held before number report was is s = (
-  record {
-    words = s.words;
-    grew = record { front = []; of = (line_of number report None ++ s.words, refl); grew = Appends-nil held };
-    heard = inr s.heard;
-  },
-  refl,
-)
 
 -- ---- all reports
 -- a sleep is no report
@@ -260,14 +216,7 @@ wrote_whole : (reports : List Report) (said : List (List ℕ)) (ended : Driven) 
     → HasWritten reports said (written reports said) ended
 wrote_whole reports said driven.WriteFault e = part_whole reports said e
 wrote_whole reports said driven.Memory e = part_whole reports said e
-wrote_whole reports said (driven.NetFault failure) e = refl
-wrote_whole reports said driven.Done e = refl
-wrote_whole reports said (driven.BadLine line why) e = refl
-wrote_whole reports said (driven.BadCii text fault) e = refl
-wrote_whole reports said (driven.Moved property old new) e = refl
-wrote_whole reports said (driven.Spent turns) e = refl
-wrote_whole reports said (driven.Unreachable turns) e = refl
-wrote_whole reports said (driven.BadUrl property) e = refl
+wrote_whole reports said _ e = refl
 
 -- the first of two lists that are alike, and the rest
 same_head : {A : Type 0} (x y : A) (xs ys : List A) → x ∷ xs ≡ y ∷ ys → x ≡ y
@@ -295,14 +244,7 @@ followed_whole : (reports : List Report) (said : List (List ℕ)) (before now : 
     → Followed reports said before now → HasFollowed reports said before now ended
 followed_whole reports said before now driven.WriteFault f = followed_part reports said before now f
 followed_whole reports said before now driven.Memory f = followed_part reports said before now f
-followed_whole reports said before now (driven.NetFault failure) f = f
-followed_whole reports said before now driven.Done f = f
-followed_whole reports said before now (driven.BadLine line why) f = f
-followed_whole reports said before now (driven.BadCii text fault) f = f
-followed_whole reports said before now (driven.Moved property old new) f = f
-followed_whole reports said before now (driven.Spent turns) f = f
-followed_whole reports said before now (driven.Unreachable turns) f = f
-followed_whole reports said before now (driven.BadUrl property) f = f
+followed_whole reports said before now _ f = f
 
 -- all reports are written
 ran_whole : (config : DriveConfig) (before now : Option History) (started audience : Audience) (was is : ℕ)
@@ -383,15 +325,7 @@ ran_by config before now started audience was is saw (Some fault.Memory) ended m
 pub writes_same : (before now : ℕ) (ended : Driven) → (ended ≡ driven.WriteFault → ⊥) → now ≡ before
     → CountsWriteFault before now ended
 writes_same before now driven.WriteFault never e = absurd (never refl)
-writes_same before now (driven.NetFault failure) never e = e
-writes_same before now driven.Done never e = e
-writes_same before now (driven.BadLine line why) never e = e
-writes_same before now (driven.BadCii text reason) never e = e
-writes_same before now (driven.Moved property old new) never e = e
-writes_same before now (driven.Spent turns) never e = e
-writes_same before now (driven.Unreachable turns) never e = e
-writes_same before now (driven.BadUrl property) never e = e
-writes_same before now driven.Memory never e = e
+writes_same before now _ never e = e
 
 -- the sink's faults of an observer that is over, or isn't
 abbrev pub CountsOver : Option OutFault → ℕ → ℕ → Type 0

@@ -11,9 +11,8 @@ use Rattle.css_model.specs.declared.Kind.{Kind}
 use Rattle.css_model.specs.declared.Kind.TheVariants as kind
 use Rattle.css_model.specs.WallClock.{Local}
 use Rattle.css_model.specs.Wire.{is_same_stamp}
-use Rattle.css_model.specs.History.{History, Slept, Clock, Sent, Dialled, Heard, Closed, Gone, LandedAnswer}
-use Rattle.css_model.specs.History.{just_taken, request_by, request_in, answer_in, requests, landed_answers}
-use Rattle.css_model.specs.History.{possible_answers}
+use Rattle.css_model.specs.History.{History, Slept, Clock, Sent, Dialled, Heard, Closed, Gone, LandedAnswer, just_taken}
+use Rattle.css_model.specs.History.{request_by, request_in, answer_in, requests, landed_answers, possible_answers}
 use Rattle.css_span.specs.WallSpans.{wall_span}
 use Rattle.css_cii.specs.States.{empty}
 use Rattle.css_cii.specs.declared.state.State.{State}
@@ -28,6 +27,28 @@ use Rattle.css_companion.specs.TimelineRates.{rate_of}
 use Rattle.css_drive.specs.SameEvents.{Happening, Sleep, Asks, Lands, TellsCii, TellsTs, BeginsTs, EndsTs, landing}
 use Rattle.css_drive.specs.SameEvents.{text_of, end_of, with_happening, happenings, SameEventsAreReportedAlike}
 
+-- ---- what leaves some happenings out
+skips_landing : {X : Type 0} (g : List Happening → X)
+    → ((bytes : List ℕ) (reading : ℕ) (earlier : List Happening) → g earlier ≡ g (Lands bytes reading ∷ earlier))
+    → (taken : Option (List ℕ)) (reading : ℕ) (earlier : List Happening)
+    → g earlier ≡ g (with_happening (landing taken reading) earlier)
+skips_landing g same None reading earlier = refl
+skips_landing g same (Some bytes) reading earlier = same bytes reading earlier
+
+skips_text : {X : Type 0} (g : List Happening → X)
+    → ((bytes : List ℕ) (earlier : List Happening) → g earlier ≡ g (TellsCii bytes ∷ earlier))
+    → ((bytes : List ℕ) (earlier : List Happening) → g earlier ≡ g (TellsTs bytes ∷ earlier))
+    → (k : Option Kind) (bytes : List ℕ) (earlier : List Happening)
+    → g earlier ≡ g (with_happening (text_of k bytes) earlier)
+skips_text g cii ts (Some kind.Cii) bytes earlier = cii bytes earlier
+skips_text g cii ts (Some kind.Ts) bytes earlier = ts bytes earlier
+skips_text g cii ts _ bytes earlier = refl
+
+skips_end : {X : Type 0} (g : List Happening → X) → ((earlier : List Happening) → g earlier ≡ g (EndsTs ∷ earlier))
+    → (k : Option Kind) (earlier : List Happening) → g earlier ≡ g (with_happening (end_of k) earlier)
+skips_end g same (Some kind.Ts) earlier = same earlier
+skips_end g same _ earlier = refl
+
 -- ---- requests
 -- the originate values of the requests since the last sleep
 abbrev asked : List Happening → List Stamp
@@ -37,35 +58,19 @@ asked (Asks bytes ∷ earlier) =
     option_to_list (option_map (λ (m : Message). m.originate) (request_in bytes)) ++ asked earlier
 asked (_ ∷ earlier) = asked earlier
 
-asked_landing : (taken : Option (List ℕ)) (reading : ℕ) (earlier : List Happening)
-    → asked earlier ≡ asked (with_happening (landing taken reading) earlier)
-asked_landing None reading earlier = refl
-asked_landing (Some bytes) reading earlier = refl
-
-asked_text : (k : Option Kind) (bytes : List ℕ) (earlier : List Happening)
-    → asked earlier ≡ asked (with_happening (text_of k bytes) earlier)
-asked_text None bytes earlier = refl
-asked_text (Some kind.Wc) bytes earlier = refl
-asked_text (Some kind.Cii) bytes earlier = refl
-asked_text (Some kind.Ts) bytes earlier = refl
-
-asked_end : (k : Option Kind) (earlier : List Happening) → asked earlier ≡ asked (with_happening (end_of k) earlier)
-asked_end None earlier = refl
-asked_end (Some kind.Wc) earlier = refl
-asked_end (Some kind.Cii) earlier = refl
-asked_end (Some kind.Ts) earlier = refl
-
 asked_same : (h : History) → requests h ≡ asked (happenings h)
 asked_same [] = refl
 asked_same (Slept ∷ older) = refl
 asked_same (Sent peer bytes ∷ older) =
     ap (λ xs. option_to_list (request_by (Sent peer bytes)) ++ xs) (asked_same older)
 asked_same (Clock why.Land reading ∷ older) =
-    asked_same older ∙ asked_landing (just_taken older) reading (happenings older)
+    asked_same older ∙ skips_landing asked (λ b r e. refl) (just_taken older) reading (happenings older)
+asked_same (Heard peer bytes ∷ older) =
+    asked_same older ∙ skips_text asked (λ b e. refl) (λ b e. refl) (kind_of peer older) bytes (happenings older)
+asked_same (Closed peer ∷ older) =
+    asked_same older ∙ skips_end asked (λ e. refl) (kind_of peer older) (happenings older)
+asked_same (Gone peer ∷ older) = asked_same older ∙ skips_end asked (λ e. refl) (kind_of peer older) (happenings older)
 asked_same (Dialled kind.Ts peer ∷ older) = asked_same older
-asked_same (Heard peer bytes ∷ older) = asked_same older ∙ asked_text (kind_of peer older) bytes (happenings older)
-asked_same (Closed peer ∷ older) = asked_same older ∙ asked_end (kind_of peer older) (happenings older)
-asked_same (Gone peer ∷ older) = asked_same older ∙ asked_end (kind_of peer older) (happenings older)
 asked_same (_ ∷ older) = asked_same older
 
 -- ---- answers
@@ -95,29 +100,19 @@ landed_landing None reading earlier asks rest e f = f
 landed_landing (Some bytes) reading earlier asks rest e f =
     ap₂ (λ (xs : List Stamp) (ys : List LandedAnswer). landed_of reading (awaited xs bytes) ++ ys) e f
 
-landed_text : (k : Option Kind) (bytes : List ℕ) (earlier : List Happening)
-    → landed earlier ≡ landed (with_happening (text_of k bytes) earlier)
-landed_text None bytes earlier = refl
-landed_text (Some kind.Wc) bytes earlier = refl
-landed_text (Some kind.Cii) bytes earlier = refl
-landed_text (Some kind.Ts) bytes earlier = refl
-
-landed_end : (k : Option Kind) (earlier : List Happening) → landed earlier ≡ landed (with_happening (end_of k) earlier)
-landed_end None earlier = refl
-landed_end (Some kind.Wc) earlier = refl
-landed_end (Some kind.Cii) earlier = refl
-landed_end (Some kind.Ts) earlier = refl
-
 landed_same : (h : History) → landed_answers h ≡ landed (happenings h)
 landed_same [] = refl
 landed_same (Slept ∷ older) = refl
 landed_same (Clock why.Land reading ∷ older) =
     landed_landing (just_taken older) reading (happenings older) (requests older) (landed_answers older)
     (asked_same older) (landed_same older)
+landed_same (Heard peer bytes ∷ older) =
+    landed_same older ∙ skips_text landed (λ b e. refl) (λ b e. refl) (kind_of peer older) bytes (happenings older)
+landed_same (Closed peer ∷ older) =
+    landed_same older ∙ skips_end landed (λ e. refl) (kind_of peer older) (happenings older)
+landed_same (Gone peer ∷ older) =
+    landed_same older ∙ skips_end landed (λ e. refl) (kind_of peer older) (happenings older)
 landed_same (Dialled kind.Ts peer ∷ older) = landed_same older
-landed_same (Heard peer bytes ∷ older) = landed_same older ∙ landed_text (kind_of peer older) bytes (happenings older)
-landed_same (Closed peer ∷ older) = landed_same older ∙ landed_end (kind_of peer older) (happenings older)
-landed_same (Gone peer ∷ older) = landed_same older ∙ landed_end (kind_of peer older) (happenings older)
 landed_same (_ ∷ older) = landed_same older
 
 -- ---- texts of CSS-CII
@@ -131,68 +126,44 @@ state_in [] = empty
 state_in (TellsCii bytes ∷ earlier) = state_after (next_number (told_cii earlier)) (state_in earlier) bytes
 state_in (_ ∷ earlier) = state_in earlier
 
-texts_landing : (taken : Option (List ℕ)) (reading : ℕ) (earlier : List Happening)
-    → told_cii earlier ≡ told_cii (with_happening (landing taken reading) earlier)
-texts_landing None reading earlier = refl
-texts_landing (Some bytes) reading earlier = refl
-
 texts_text : (k : Option Kind) (bytes : List ℕ) (earlier : List Happening) (texts : ℕ) → texts ≡ told_cii earlier
     → counted (if is_cii k then Some bytes else None) texts ≡ told_cii (with_happening (text_of k bytes) earlier)
-texts_text None bytes earlier texts e = e
-texts_text (Some kind.Wc) bytes earlier texts e = e
 texts_text (Some kind.Cii) bytes earlier texts e = ap next_number e
-texts_text (Some kind.Ts) bytes earlier texts e = e
-
-texts_end : (k : Option Kind) (earlier : List Happening)
-    → told_cii earlier ≡ told_cii (with_happening (end_of k) earlier)
-texts_end None earlier = refl
-texts_end (Some kind.Wc) earlier = refl
-texts_end (Some kind.Cii) earlier = refl
-texts_end (Some kind.Ts) earlier = refl
+texts_text _ bytes earlier texts e = e
 
 texts_same : (h : History) → texts_of h ≡ told_cii (happenings h)
 texts_same [] = refl
 texts_same (Clock why.Land reading ∷ older) =
-    texts_same older ∙ texts_landing (just_taken older) reading (happenings older)
-texts_same (Dialled kind.Ts peer ∷ older) = texts_same older
+    texts_same older ∙ skips_landing told_cii (λ b r e. refl) (just_taken older) reading (happenings older)
 texts_same (Heard peer bytes ∷ older) =
     texts_text (kind_of peer older) bytes (happenings older) (texts_of older) (texts_same older)
-texts_same (Closed peer ∷ older) = texts_same older ∙ texts_end (kind_of peer older) (happenings older)
-texts_same (Gone peer ∷ older) = texts_same older ∙ texts_end (kind_of peer older) (happenings older)
+texts_same (Closed peer ∷ older) =
+    texts_same older ∙ skips_end told_cii (λ e. refl) (kind_of peer older) (happenings older)
+texts_same (Gone peer ∷ older) =
+    texts_same older ∙ skips_end told_cii (λ e. refl) (kind_of peer older) (happenings older)
+texts_same (Dialled kind.Ts peer ∷ older) = texts_same older
 texts_same (_ ∷ older) = texts_same older
-
-state_landing : (taken : Option (List ℕ)) (reading : ℕ) (earlier : List Happening)
-    → state_in earlier ≡ state_in (with_happening (landing taken reading) earlier)
-state_landing None reading earlier = refl
-state_landing (Some bytes) reading earlier = refl
 
 state_text : (k : Option Kind) (bytes : List ℕ) (earlier : List Happening) (texts : ℕ) (state : State)
     → texts ≡ told_cii earlier → state ≡ state_in earlier
     → merged_with (if is_cii k then Some bytes else None) texts state
     ≡ state_in (with_happening (text_of k bytes) earlier)
-state_text None bytes earlier texts state e f = f
-state_text (Some kind.Wc) bytes earlier texts state e f = f
 state_text (Some kind.Cii) bytes earlier texts state e f =
     ap₂ (λ (n : ℕ) (s : State). state_after (next_number n) s bytes) e f
-state_text (Some kind.Ts) bytes earlier texts state e f = f
-
-state_end : (k : Option Kind) (earlier : List Happening)
-    → state_in earlier ≡ state_in (with_happening (end_of k) earlier)
-state_end None earlier = refl
-state_end (Some kind.Wc) earlier = refl
-state_end (Some kind.Cii) earlier = refl
-state_end (Some kind.Ts) earlier = refl
+state_text _ bytes earlier texts state e f = f
 
 state_same : (h : History) → state_of h ≡ state_in (happenings h)
 state_same [] = refl
 state_same (Clock why.Land reading ∷ older) =
-    state_same older ∙ state_landing (just_taken older) reading (happenings older)
-state_same (Dialled kind.Ts peer ∷ older) = state_same older
+    state_same older ∙ skips_landing state_in (λ b r e. refl) (just_taken older) reading (happenings older)
 state_same (Heard peer bytes ∷ older) =
     state_text (kind_of peer older) bytes (happenings older) (texts_of older) (state_of older) (texts_same older)
     (state_same older)
-state_same (Closed peer ∷ older) = state_same older ∙ state_end (kind_of peer older) (happenings older)
-state_same (Gone peer ∷ older) = state_same older ∙ state_end (kind_of peer older) (happenings older)
+state_same (Closed peer ∷ older) =
+    state_same older ∙ skips_end state_in (λ e. refl) (kind_of peer older) (happenings older)
+state_same (Gone peer ∷ older) =
+    state_same older ∙ skips_end state_in (λ e. refl) (kind_of peer older) (happenings older)
+state_same (Dialled kind.Ts peer ∷ older) = state_same older
 state_same (_ ∷ older) = state_same older
 
 -- ---- texts of CSS-TS
@@ -202,36 +173,24 @@ control_in (TellsTs bytes ∷ earlier) = Some (control_of bytes)
 control_in (BeginsTs ∷ earlier) = None
 control_in (_ ∷ earlier) = control_in earlier
 
-control_landing : (taken : Option (List ℕ)) (reading : ℕ) (earlier : List Happening)
-    → control_in earlier ≡ control_in (with_happening (landing taken reading) earlier)
-control_landing None reading earlier = refl
-control_landing (Some bytes) reading earlier = refl
-
 control_text : (k : Option Kind) (bytes : List ℕ) (earlier : List Happening) (control : Option (Result Control TsFault))
     → control ≡ control_in earlier
     → option_or (option_map control_of (if is_ts k then Some bytes else None)) control
     ≡ control_in (with_happening (text_of k bytes) earlier)
-control_text None bytes earlier control e = e
-control_text (Some kind.Wc) bytes earlier control e = e
-control_text (Some kind.Cii) bytes earlier control e = e
 control_text (Some kind.Ts) bytes earlier control e = refl
-
-control_end : (k : Option Kind) (earlier : List Happening)
-    → control_in earlier ≡ control_in (with_happening (end_of k) earlier)
-control_end None earlier = refl
-control_end (Some kind.Wc) earlier = refl
-control_end (Some kind.Cii) earlier = refl
-control_end (Some kind.Ts) earlier = refl
+control_text _ bytes earlier control e = e
 
 control_same : (h : History) → control_by h ≡ control_in (happenings h)
 control_same [] = refl
 control_same (Clock why.Land reading ∷ older) =
-    control_same older ∙ control_landing (just_taken older) reading (happenings older)
+    control_same older ∙ skips_landing control_in (λ b r e. refl) (just_taken older) reading (happenings older)
 control_same (Dialled kind.Ts peer ∷ older) = refl
 control_same (Heard peer bytes ∷ older) =
     control_text (kind_of peer older) bytes (happenings older) (control_by older) (control_same older)
-control_same (Closed peer ∷ older) = control_same older ∙ control_end (kind_of peer older) (happenings older)
-control_same (Gone peer ∷ older) = control_same older ∙ control_end (kind_of peer older) (happenings older)
+control_same (Closed peer ∷ older) =
+    control_same older ∙ skips_end control_in (λ e. refl) (kind_of peer older) (happenings older)
+control_same (Gone peer ∷ older) =
+    control_same older ∙ skips_end control_in (λ e. refl) (kind_of peer older) (happenings older)
 control_same (_ ∷ older) = control_same older
 
 -- ---- the end of a session of CSS-TS
@@ -241,32 +200,20 @@ ended_in (BeginsTs ∷ earlier) = false
 ended_in (EndsTs ∷ earlier) = true
 ended_in (_ ∷ earlier) = ended_in earlier
 
-ended_landing : (taken : Option (List ℕ)) (reading : ℕ) (earlier : List Happening)
-    → ended_in earlier ≡ ended_in (with_happening (landing taken reading) earlier)
-ended_landing None reading earlier = refl
-ended_landing (Some bytes) reading earlier = refl
-
-ended_text : (k : Option Kind) (bytes : List ℕ) (earlier : List Happening)
-    → ended_in earlier ≡ ended_in (with_happening (text_of k bytes) earlier)
-ended_text None bytes earlier = refl
-ended_text (Some kind.Wc) bytes earlier = refl
-ended_text (Some kind.Cii) bytes earlier = refl
-ended_text (Some kind.Ts) bytes earlier = refl
-
 ended_end : (k : Option Kind) (earlier : List Happening) (closed : Bool) → closed ≡ ended_in earlier
     → (is_ts k || closed) ≡ ended_in (with_happening (end_of k) earlier)
-ended_end None earlier closed e = e
-ended_end (Some kind.Wc) earlier closed e = e
-ended_end (Some kind.Cii) earlier closed e = e
 ended_end (Some kind.Ts) earlier closed e = refl
+ended_end _ earlier closed e = e
 
 ended_same : (h : History) → is_closed h ≡ ended_in (happenings h)
 ended_same [] = refl
 ended_same (Clock why.Land reading ∷ older) =
-    ended_same older ∙ ended_landing (just_taken older) reading (happenings older)
+    ended_same older ∙ skips_landing ended_in (λ b r e. refl) (just_taken older) reading (happenings older)
 ended_same (Dialled kind.Ts peer ∷ older) = refl
-ended_same (Heard peer bytes ∷ older) = ended_same older ∙ ended_text (kind_of peer older) bytes (happenings older)
-ended_same (Closed peer ∷ older) = ended_end (kind_of peer older) (happenings older) (is_closed older) (ended_same older)
+ended_same (Heard peer bytes ∷ older) =
+    ended_same older ∙ skips_text ended_in (λ b e. refl) (λ b e. refl) (kind_of peer older) bytes (happenings older)
+ended_same (Closed peer ∷ older) =
+    ended_end (kind_of peer older) (happenings older) (is_closed older) (ended_same older)
 ended_same (Gone peer ∷ older) = ended_end (kind_of peer older) (happenings older) (is_closed older) (ended_same older)
 ended_same (_ ∷ older) = ended_same older
 

@@ -1,19 +1,17 @@
 -- What an event of a television does to its sessions' calls: none but an opening opens a session.
-use Rattle.std.proofs.Common.{◌≡◌, ℕ, ◌≤◌, ◌<◌, Bool, true, false, cond, eqb, List, [], ◌∷◌, ◌++◌, Option, Some, None}
-use Rattle.std.proofs.Common.{refl, sym, ap, subst, ◌∙◌, Result, Ok, Err}
+use Rattle.std.proofs.Common.{◌≡◌, ℕ, ◌<◌, Bool, true, false, cond, eqb, List, [], ◌∷◌, ◌++◌, Option, Some, None, refl}
+use Rattle.std.proofs.Common.{sym, ap, subst, ◌∙◌, Result, Ok, Err}
 use Rattle.std.specs.Prelude.{⊤, not, ◌==◌, ◌||◌, nat_lt, length, option_map, All, is_some}
 use Rattle.css_player.specs.Player.{Player}
 use Rattle.css_player.specs.Segments.{with_programme, with_timeline, commanded}
-use Rattle.css_player.specs.Events.{TimelineAdded, Commanded}
-use Rattle.css_player.specs.Events.{Event as PlayerCall}
+use Rattle.css_player.specs.Events.{TimelineAdded, Commanded, Event as PlayerCall}
 use Rattle.css_player.specs.declared.command.PlayerFault.{PlayerFault}
 use Rattle.css_tsmsg.specs.Setups.{setup_of}
 use Rattle.css_tsmsg.specs.Presentations.{presentation_of}
 use Rattle.css_tsmsg.specs.declared.bound.Presentation.{Presentation}
 use Rattle.css_tsmsg.specs.declared.setup.Setup.{Setup}
 use Rattle.css_tsmsg.specs.declared.fault.TsFault.{TsFault}
-use Rattle.css_sessions.specs.Kept.{Event, Opened, SetUp, Published, Closed, Presented, Dropped, Kept, talk_of}
-use Rattle.css_sessions.specs.Kept.{set_up_in}
+use Rattle.css_sessions.specs.Kept.{Event, Opened, SetUp, Published, Closed, Kept, talk_of, set_up_in}
 use Rattle.css_num.specs.declared.protocol.Kind.{Kind}
 use Rattle.css_sessions.specs.declared.session.Session.{Session}
 use Rattle.css_sessions.specs.Told.{Lived, life_of, born, state_of, ended, living, set_life, grown_life, when, peers_of}
@@ -102,12 +100,9 @@ quiet a (event.Closed peer) p k n = (tt, tt)
 narrow_calls : (called h : List Event) → AreQuiet called → Narrows (peers_of h) (peers_of (called ++ h))
 narrow_calls [] h q = λ peers covers. covers
 narrow_calls (Opened p k ∷ called) h q = absurd q.0
-narrow_calls (SetUp p u player ∷ called) h q = narrow_calls called h q.1
-narrow_calls (Published s player ∷ called) h q = narrow_calls called h q.1
-narrow_calls (Presented p t player ∷ called) h q = narrow_calls called h q.1
-narrow_calls (Dropped ∷ called) h q = narrow_calls called h q.1
 narrow_calls (Closed p ∷ called) h q = λ peers covers.
     covers_filtered (λ x. not (x == p)) peers (peers_of (called ++ h)) (narrow_calls called h q.1 peers covers)
+narrow_calls (_ ∷ called) h q = narrow_calls called h q.1
 
 pub event_narrows : (a : Addresses) (e : TvEvent) (es : List TvEvent) → IsNoOpening e
     → Narrows (open_after a es) (open_after a (e ∷ es))
@@ -130,10 +125,9 @@ quiet_life peer (SetUp p u player ∷ called) h q none =
     (p == peer) (living (set_life u player))
 quiet_life peer (Published s player ∷ called) h q none =
     ap (option_map (living (grown_life s player))) (quiet_life peer called h q.1 none)
-quiet_life peer (Presented p t player ∷ called) h q none = quiet_life peer called h q.1 none
-quiet_life peer (Dropped ∷ called) h q none = quiet_life peer called h q.1 none
 quiet_life peer (Closed p ∷ called) h q none =
     ap (when (p == peer) (option_map ended)) (quiet_life peer called h q.1 none) ∙ when_none (p == peer) ended
+quiet_life peer (_ ∷ called) h q none = quiet_life peer called h q.1 none
 
 -- an event that opens no session of this peer
 abbrev pub IsOther : ℕ → TvEvent → Type 0

@@ -1,10 +1,10 @@
 -- How a turn begins, and how the loop over the lines of the script goes on.
-use Rattle.std.proofs.Common.{◌≡◌, ℕ, ◌+◌, ◌≤◌, ◌<◌, Bool, true, false, cond, List, [], ◌∷◌, ◌++◌, Option, refl}
-use Rattle.std.proofs.Common.{sym, ap, subst, ◌∙◌, arith, drop, Result, Ok, Err}
+use Rattle.std.proofs.Common.{◌≡◌, ℕ, ◌+◌, ◌≤◌, ◌<◌, Bool, true, false, cond, List, [], ◌++◌, Option, refl, sym, ap}
+use Rattle.std.proofs.Common.{subst, ◌∙◌, drop, Result, Ok, Err}
 use Rattle.std.specs.Prelude.{nat_lt, not, ◌==◌, ◌&&◌, OnOk}
 use Rattle.css_model.specs.declared.Why.TheVariants as why
 use Rattle.css_model.specs.History.{History}
-use Rattle.css_outside.specs.Outsides.{with_entries, clock_entries}
+use Rattle.css_outside.specs.Outsides.{clock_entries}
 use Rattle.css_schedule.specs.declared.line.ScriptLine.{ScriptLine}
 use Rattle.css_tv.specs.Stages.{Television}
 use Rattle.css_drive.specs.Proper.{Now, TakeDatagram}
@@ -14,7 +14,6 @@ use Rattle.css_drive.specs.TvTurns.{begun, goes_on, is_over, IsRanged, IsOneMore
 use Rattle.css_drive.specs.declared.turns.Turns.{Turns}
 use Rattle.css_model.specs.declared.TheConstants.{LIMIT}
 use Rattle.css_outside.specs.Limits.{most_turns}
-use Rattle.css_drive.specs.TvPeers.{Covers}
 use Rattle.css_drive.specs.TvStanding.{IsRead, Comes, Airs, Reaches, Carries, IsTurned, IsAtEnd}
 use Rattle.css_drive.specs.declared.on_air.OnAir.{OnAir}
 use Rattle.css_drive.specs.declared.driven.Driven.{Driven}

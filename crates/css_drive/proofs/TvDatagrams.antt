@@ -1,24 +1,19 @@
 -- How a run comes on by a reading of the clock, and by a datagram.
 use Rattle.std.proofs.Common.{◌≡◌, ℕ, ◌+◌, ◌≤◌, Bool, true, false, cond, List, [], ◌∷◌, ◌++◌, Option, Some, None, refl}
-use Rattle.std.proofs.Common.{sym, ap, subst, ◌∙◌, arith}
-use Rattle.std.proofs.Common.{Result, Ok, Err, take}
-use Rattle.std.specs.Option.{option_map, option_to_list}
+use Rattle.std.proofs.Common.{sym, ap, subst, ◌∙◌, arith, Result, Ok, Err, take}
 use Rattle.css_model.specs.declared.Why.{Why}
 use Rattle.css_model.specs.declared.Why.TheVariants as why
 use Rattle.css_model.specs.History.{History, Clock, Slept, Sent, Took, TookNone}
-use Rattle.css_model.specs.Wire.{encoded}
 use Rattle.css_outside.specs.Outsides.{with_entries, clock_entries}
 use Rattle.css_outside.specs.declared.calls.Clocked.{Clocked}
-use Rattle.css_server.specs.Tickets.{Ticket, Server, received, after_ticket, response_to, follow_up_for}
+use Rattle.css_server.specs.Tickets.{Ticket, received, after_ticket}
 use Rattle.css_server.specs.declared.fault.ServeFault.{ServeFault}
 use Rattle.css_tv.specs.Stages.{Television}
 use Rattle.css_tv.specs.Standing.{StandsFor}
 use Rattle.css_tv.specs.declared.state.Addresses.{Addresses}
-use Rattle.css_tv.specs.declared.event.TvOut.{TvOut}
-use Rattle.css_drive.specs.Proper.{Due, Now, SendDatagram, TakeDatagram, MayAdd}
+use Rattle.css_drive.specs.Proper.{Now, SendDatagram, TakeDatagram}
 use Rattle.css_drive.specs.TvProgress.{Place, Turned, Taken, Received, Answers, Served, Progress, after, addresses_in}
-use Rattle.css_drive.specs.TvProgress.{answers, answering}
-use Rattle.css_drive.specs.TvProgress.{ticketed, received_at, answered_at, sent_at, progress_of, settled, happened}
+use Rattle.css_drive.specs.TvProgress.{answers, answering, ticketed, received_at, answered_at, sent_at, settled}
 use Rattle.css_drive.specs.TvProgress.{open_after}
 use Rattle.css_drive.specs.TvDue.{TvRun, due_for, from_hang_ups}
 use Rattle.css_drive.specs.TvTurns.{is_over}

@@ -1,35 +1,28 @@
 -- How a run comes on where sessions come, are asked for texts, and are hung up.
-use Rattle.std.proofs.Common.{◌≡◌, ℕ, ◌+◌, ◌≤◌, ◌<◌, Bool, true, false, List, [], ◌∷◌, ◌++◌, Option, Some, None, refl}
-use Rattle.std.proofs.Common.{sym, ap, subst, ◌∙◌, arith}
-use Rattle.std.proofs.Common.{Result, Ok, Err, suc, drop}
-use Rattle.std.specs.Prelude.{is_some, filter, All}
-use Rattle.std.specs.List.{remove}
+use Rattle.std.proofs.Common.{◌≡◌, ℕ, ◌≤◌, ◌<◌, List, [], ◌∷◌, Option, Some, None, refl, sym, ap, ◌∙◌, arith}
+use Rattle.std.specs.Prelude.{is_some}
 use Rattle.css_model.specs.declared.Kind.{Kind as PeerKind}
 use Rattle.css_model.specs.declared.Kind.TheVariants as peer_kind
-use Rattle.css_model.specs.History.{History, Accepted, NoneCame, Quiet, Heard, Closed, HungUp}
+use Rattle.css_model.specs.History.{History, Accepted, NoneCame, Quiet, Heard, Closed}
 use Rattle.css_outside.specs.Outsides.{with_entries}
 use Rattle.css_outside.specs.declared.calls.Heard.TheVariants as heard
 use Rattle.css_sessions.specs.Kept.{talk_of}
-use Rattle.css_sessions.specs.Told.{life_of}
 use Rattle.css_num.specs.declared.protocol.Kind.{Kind}
 use Rattle.css_num.specs.declared.protocol.Kind.TheVariants as kind
 use Rattle.css_tv.specs.Stages.{Television}
 use Rattle.css_tv.specs.Standing.{calls_of}
 use Rattle.css_tv.specs.declared.event.TvEvent.{TvEvent}
 use Rattle.css_tv.specs.declared.event.TvEvent.TheVariants as event
-use Rattle.css_drive.specs.Proper.{Accept, TakeText, HangUp}
-use Rattle.css_drive.specs.TvProgress.{Place, Served, Asked, Over, Progress, after, addresses_in, happened, settled}
-use Rattle.css_drive.specs.TvProgress.{open_after, hung_up}
-use Rattle.css_drive.specs.TvDue.{TvRun, due, due_for, due_at, from_end, from_hang_ups, from_texts}
-use Rattle.css_drive.specs.TvPeers.{Knows, has, above}
-use Rattle.css_drive.specs.TvStanding.{Told, Stays, IsAt, Comes, Continues, Keeps, Airs, Reaches, IsUnasked, Hears}
-use Rattle.css_drive.specs.TvStanding.{HangsUp, Goes, Stops, Arrives}
-use Rattle.css_drive.specs.declared.driven.Driven.{Driven}
+use Rattle.css_drive.specs.Proper.{Accept, TakeText}
+use Rattle.css_drive.specs.TvProgress.{Place, Served, Asked, Progress, after, addresses_in, happened, settled}
+use Rattle.css_drive.specs.TvProgress.{open_after}
+use Rattle.css_drive.specs.TvDue.{TvRun, due, due_for}
+use Rattle.css_drive.specs.TvPeers.{has}
+use Rattle.css_drive.specs.TvStanding.{Told, Stays, IsAt, Comes, Continues, Airs, Reaches, IsUnasked}
 use Rattle.css_drive.specs.declared.on_air.OnAir.{OnAir}
-use Rattle.css_drive.proofs.TvCalls.{IsNoOpening, event_narrows, event_covers, has_talk}
+use Rattle.css_drive.proofs.TvCalls.{IsNoOpening, event_narrows, has_talk}
 use Rattle.css_drive.proofs.TvPeers as lists
-use Rattle.css_drive.proofs.TvSteps.{due_free, told_more, told_as, below_later, stays_on, continues, settled_at_place}
-use Rattle.css_drive.proofs.TvSteps.{sessions_same}
+use Rattle.css_drive.proofs.TvSteps.{due_free, told_more, below_later, stays_on, continues, sessions_same}
 
 -- ---- a text
 told_due : {run : TvRun} {start told : Option History} {peers : ℕ} {p : Progress} {h : History} {peer : ℕ}

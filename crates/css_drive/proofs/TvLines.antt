@@ -1,8 +1,7 @@
 -- How a run comes on by a line of the script.
-use Rattle.std.proofs.Common.{◌≡◌, ℕ, ◌+◌, ◌≤◌, ◌<◌, Bool, true, false, cond, List, [], ◌∷◌, ◌++◌, Option, Some, None}
-use Rattle.std.proofs.Common.{refl, sym, ap, subst, ◌∙◌, arith}
-use Rattle.std.proofs.Common.{Result, Ok, Err, suc, drop, length, get_or, inl, inr, ◌⊎◌}
-use Rattle.std.specs.Prelude.{nat_le, ◌&&◌, All}
+use Rattle.std.proofs.Common.{◌≡◌, ℕ, ◌+◌, ◌≤◌, ◌<◌, Bool, true, false, cond, List, [], ◌∷◌, Option, Some, None, refl}
+use Rattle.std.proofs.Common.{sym, ap, subst, ◌∙◌, arith, Result, Ok, Err, drop, length, get_or, inl, inr, ◌⊎◌}
+use Rattle.std.specs.Prelude.{◌&&◌, All}
 use Rattle.std.proofs.lemmas.Bool.Decides.{nat_tests}
 use Rattle.std.proofs.lemmas.Grind.{common_steps}
 use Rattle.css_model.specs.History.{History}
@@ -21,15 +20,14 @@ use Rattle.css_schedule.specs.declared.fault.LineWhy.TheVariants as line_why
 use Rattle.css_schedule.specs.declared.line.ScriptLine.{ScriptLine}
 use Rattle.css_schedule.specs.declared.line.Verb.{Verb}
 use Rattle.css_schedule.specs.declared.line.Verb.TheVariants as verb
-use Rattle.css_drive.specs.Proper.{Due, Ends}
+use Rattle.css_drive.specs.Proper.{Ends}
 use Rattle.css_drive.specs.TvProgress.{Place, Turned, Progress, settled, settled_at, carry, with_line, past_line}
-use Rattle.css_drive.specs.TvProgress.{played, played_if, event_of, happened}
-use Rattle.css_drive.specs.TvProgress.{outcome_after, addresses_in, is_free, is_free_of, is_due, open_after}
+use Rattle.css_drive.specs.TvProgress.{played, played_if, event_of, happened, addresses_in, is_free, is_free_of, is_due}
+use Rattle.css_drive.specs.TvProgress.{open_after}
 use Rattle.css_drive.specs.TvTurns.{since}
-use Rattle.css_drive.specs.TvDue.{TvRun, due, due_for, unless_refused, unless_owed, bad_line, due_at}
+use Rattle.css_drive.specs.TvDue.{TvRun, due, due_for}
 use Rattle.css_drive.specs.TvPeers.{Covers, AreRising}
-use Rattle.css_drive.specs.TvStanding.{Told, Stays, Comes, Continues, Stops, IsAccepted, Keeps, Airs}
-use Rattle.css_drive.specs.declared.driven.Driven.{Driven}
+use Rattle.css_drive.specs.TvStanding.{Told, Stays, Comes, Stops, IsAccepted, Keeps, Airs}
 use Rattle.css_drive.specs.declared.driven.Driven.TheVariants as driven
 use Rattle.css_drive.specs.declared.on_air.OnAir.{OnAir}
 use Rattle.css_drive.proofs.TvCalls.{IsNoOpening}
@@ -97,10 +95,6 @@ pub record IsPlain (e : TvEvent) : Type 0 where
   pub fresh : (h : List Call) → IsFresh e h
   pub accepted : (peers : ℕ) → IsAccepted e peers
 
-plain_if : (made : Option TvEvent) → ((e : TvEvent) → made ≡ Some e → IsPlain e) → (e : TvEvent) → Some e ≡ made
-    → IsPlain e
-plain_if made f e is = f e (sym is)
-
 pub plain : (r : ℕ) (v : Verb) (e : TvEvent) → Some e ≡ event_of r v → IsPlain e
 plain r (verb.Programme id) e is =
     let same : e ≡ event.Programme id = cc in
@@ -111,18 +105,7 @@ plain r (verb.Timeline m selector rate base) e is =
 plain r (verb.Viewer unused command) e is =
     let same : e ≡ event.Viewer command r = cc in
     subst IsPlain (sym same) (record { opens_none = tt; fresh = λ h. tt; accepted = λ peers. tt })
-plain r (verb.Ask x) e is = absurd (cc)
-plain r (verb.Take x y) e is = absurd (cc)
-plain r (verb.Give x y) e is = absurd (cc)
-plain r (verb.Land x y) e is = absurd (cc)
-plain r (verb.Wall x) e is = absurd (cc)
-plain r (verb.Print x) e is = absurd (cc)
-plain r (verb.Opening x) e is = absurd (cc)
-plain r (verb.Bring x) e is = absurd (cc)
-plain r verb.Up e is = absurd (cc)
-plain r (verb.Present x y) e is = absurd (cc)
-plain r (verb.Close x) e is = absurd (cc)
-plain r verb.Sleep e is = absurd (cc)
+plain r _ e is = absurd (cc)
 
 -- ---- a line that the player refuses
 pub line_refused : {run : TvRun} {start told : Option History} {peers : ℕ} {tv : Television} {p : Progress}

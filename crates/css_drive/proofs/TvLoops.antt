@@ -1,18 +1,16 @@
 -- The loops over the peers of sessions.
-use Rattle.std.proofs.Common.{◌≡◌, ℕ, ◌+◌, ◌≤◌, ◌<◌, Bool, true, false, cond, List, [], ◌∷◌, ◌++◌, Option, Some, None}
-use Rattle.std.proofs.Common.{refl, sym, ap, subst, ◌∙◌, arith}
-use Rattle.std.proofs.Common.{drop, length}
+use Rattle.std.proofs.Common.{◌≡◌, ℕ, ◌+◌, ◌≤◌, true, false, List, [], ◌∷◌, Option, Some, refl, sym, ap, subst, ◌∙◌}
+use Rattle.std.proofs.Common.{arith, drop}
 use Rattle.std.specs.Prelude.{filter, All}
 use Rattle.std.specs.List.{remove}
 use Rattle.css_model.specs.History.{History, HungUp}
 use Rattle.css_outside.specs.Outsides.{with_entries}
-use Rattle.css_drive.specs.Proper.{Due, Now, TakeText, HangUp, Ends}
-use Rattle.css_model.specs.declared.Why.TheVariants as why
-use Rattle.css_drive.specs.TvProgress.{Place, Asked, Over, Progress, addresses_in, after, open_after, settled, hung_up}
+use Rattle.css_drive.specs.Proper.{TakeText, HangUp}
+use Rattle.css_drive.specs.TvProgress.{Asked, Over, Progress, addresses_in, after, open_after, settled, hung_up}
 use Rattle.css_drive.specs.TvTurns.{goes_on}
-use Rattle.css_drive.specs.TvDue.{TvRun, due, due_for, due_at, from_end, from_hang_ups, from_texts}
-use Rattle.css_drive.specs.TvPeers.{has, above, AreRising, Covers}
-use Rattle.css_drive.specs.TvStanding.{Stays, Comes, Keeps, Airs, Reaches, Hears, HangsUp, IsAtEnd, Stops}
+use Rattle.css_drive.specs.TvDue.{TvRun, due, due_for, from_hang_ups, from_texts}
+use Rattle.css_drive.specs.TvPeers.{has, AreRising, Covers}
+use Rattle.css_drive.specs.TvStanding.{Stays, Comes, Reaches, Hears, HangsUp, IsAtEnd, Stops}
 use Rattle.css_drive.specs.declared.driven.Driven.TheVariants as driven
 use Rattle.css_drive.specs.declared.on_air.OnAir.{OnAir}
 use Rattle.css_drive.proofs.TvPeers as lists
@@ -108,22 +106,6 @@ all_heard {run} x none = record {
 }
 
 -- ---- hang-ups
-pub hangs_up : {run : TvRun} {start told : Option History} {peers : ℕ} {air : OnAir} {place : Place} {p : Progress}
-    {h : History}
-    → Airs run start told peers air place p p h → IsAtEnd run place p → goes_on air.turns ≡ false
-    → HangsUp run start told peers air 0
-hangs_up {run} {air = air} {place} {p} {h} s fits over =
-    let live = open_after (addresses_in run.config) p.events in
-    record {
-      place = place;
-      p = p;
-      h = h;
-      airs = s;
-      left =
-          fits ∙ ap (λ b. cond b (Now why.Turn) (from_hang_ups live)) (ap goes_on s.keeps.turns ∙ over)
-          ∙ ap from_hang_ups (sym s.keeps.knows.covers);
-    }
-
 pub hang_due : {run : TvRun} {start told : Option History} {peers : ℕ} {air : OnAir} {at : ℕ}
     → (x : HangsUp run start told peers air at)
     → (peer : ℕ) (rest : List ℕ) → drop at air.peers.items ≡ peer ∷ rest

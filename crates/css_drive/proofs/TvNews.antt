@@ -7,8 +7,7 @@ use Rattle.std.proofs.lemmas.List.{reverse-append, map-append}
 use Rattle.std.proofs.lemmas.List.Elements.{filter-append}
 use Rattle.css_player.specs.Player.{Player}
 use Rattle.css_player.specs.Segments.{with_programme, with_timeline, with_delay, commanded}
-use Rattle.css_player.specs.Events.{TimelineAdded, Commanded}
-use Rattle.css_player.specs.Events.{Event as PlayerCall}
+use Rattle.css_player.specs.Events.{TimelineAdded, Commanded, Event as PlayerCall}
 use Rattle.css_player.specs.declared.command.PlayerFault.{PlayerFault}
 use Rattle.css_tsmsg.specs.Setups.{setup_of}
 use Rattle.css_tsmsg.specs.Presentations.{presentation_of}
@@ -99,10 +98,8 @@ sessions-after (Ok o) before = refl
 
 -- ---- events keep the sessions' calls lawful
 waits : (t : Option Talk) → set_up_in t ≡ Some false → t ≡ Some talk.Waiting
-waits None e = absurd (cc)
-waits (Some talk.Cii) e = absurd (cc)
 waits (Some talk.Waiting) e = refl
-waits (Some (talk.Ts setup sent window)) e = absurd (cc)
+waits _ e = absurd (cc)
 
 lawful-programme : (id : List ℕ) (r : Result Player PlayerFault) (h : List Call) → IsLawful h
     → IsLawful (called_in (by_player (programme_added id) r) ++ h)
@@ -178,15 +175,12 @@ few-text (Some text) = omega arith
 
 few-call : (peer : ℕ) (call : Call) (k : Kept) → Rising 0 k.list → Few peer (step_of call k).said
 few-call peer (calls.Opened p kind.Cii) k rising = few-one peer p _ (eqb p peer) refl
-few-call peer (calls.Opened p kind.Ts) k rising = omega arith
 few-call peer (calls.SetUp p u player) k rising = few-one peer p _ (eqb p peer) refl
 few-call peer (calls.Published state player) k rising =
     let change = difference_text k.state state in
     subst (λ (texts : List (List ℕ)). length texts ≤ 1) (sym (said_to-news change player peer 0 k.list rising))
     (few-text (option_and_then (news_of_talk change player) (talk_of peer k.list)))
-few-call peer (calls.Presented p q player) k rising = omega arith
-few-call peer calls.Dropped k rising = omega arith
-few-call peer (calls.Closed p) k rising = omega arith
+few-call peer _ k rising = omega arith
 
 -- one call that says nothing more
 few-more : (peer : ℕ) (said : List Said) → Few peer said → Few peer (said ++ [])

@@ -2,19 +2,18 @@
 use Rattle.std.proofs.Common.{◌≡◌, ℕ, ◌+◌, ◌≤◌, ◌<◌, Bool, true, false, List, [], ◌∷◌, ◌++◌, Option, Some, None, refl}
 use Rattle.std.proofs.Common.{sym, ap, subst, ◌∙◌, arith, Result, Ok, Err, drop, length, get_or}
 use Rattle.std.proofs.lemmas.Grind.{common_steps}
-use Rattle.std.specs.Prelude.{is_some, filter, All, ◌↔◌}
+use Rattle.std.specs.Prelude.{is_some, All, ◌↔◌}
 use Rattle.css_model.specs.History.{History}
-use Rattle.css_model.specs.declared.Why.TheVariants as why
 use Rattle.css_outside.specs.Outsides.{Counts, CountsPlain}
 use Rattle.css_sessions.specs.Kept.{talk_of}
 use Rattle.css_num.specs.declared.protocol.Kind.{Kind}
 use Rattle.css_tv.specs.Stages.{Television}
 use Rattle.css_tv.specs.declared.event.TvEvent.TheVariants as event
-use Rattle.css_drive.specs.TvProgress.{Place, Turned, Served, Asked, Progress, addresses_in, happened, open_after}
+use Rattle.css_drive.specs.TvProgress.{Place, Served, Asked, Progress, addresses_in, happened, open_after}
 use Rattle.css_drive.specs.TvDue.{TvRun}
-use Rattle.css_drive.specs.TvPeers.{AreRising, Covers, has}
-use Rattle.css_drive.specs.TvStanding.{Told, Stays, IsAt, Comes, Goes, Stops, Keeps, Airs, Reaches, Arrives, IsUnasked}
-use Rattle.css_drive.specs.TvStanding.{IsTurned, IsAtEnd, IsUnused, Hears, KeepsCounts}
+use Rattle.css_drive.specs.TvPeers.{AreRising, Covers}
+use Rattle.css_drive.specs.TvStanding.{Comes, Goes, Keeps, Airs, Reaches, Arrives, IsUnasked, IsTurned, IsUnused}
+use Rattle.css_drive.specs.TvStanding.{KeepsCounts}
 use Rattle.css_drive.specs.declared.driven.Driven.{Driven}
 use Rattle.css_drive.specs.declared.on_air.OnAir.{OnAir}
 use Rattle.css_drive.proofs.TvCalls.{event_covers}
@@ -116,11 +115,6 @@ served {run} {air = air} x peers' le tv y =
     airs_on x.airs.keeps peers' le (record { tv = tv; peers = air.peers; lines = air.lines; turns = air.turns }) refl
     refl refl y
     (settled_at_place (addresses_in run.config) y.p Served y.at refl)
-
--- sessions are asked from the first one on
-pub hears_all : {run : TvRun} {start told : Option History} {peers : ℕ} {air : OnAir} {p : Progress} {h : History}
-    → Airs run start told peers air (Asked None) p p h → Hears run start told peers air 0
-hears_all {p = p} {h = h} s = record { last = None; p = p; h = h; airs = s; left = sym s.keeps.knows.covers }
 
 pub peer_from : (xs : List ℕ) (i : ℕ) → i < length xs → drop i xs ≡ get_or xs i 0 ∷ drop (i + 1) xs
 peer_from xs i lt = grind (arith, common_steps)

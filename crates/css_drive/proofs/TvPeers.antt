@@ -1,15 +1,14 @@
 -- What is known of the peers that a television's loop keeps.
-use Rattle.std.proofs.Common.{◌≡◌, ℕ, ◌+◌, ◌<◌, ◌≤◌, Bool, true, false, not, cond, eqb, ltb, List, [], ◌∷◌, ◌++◌}
-use Rattle.std.proofs.Common.{refl, sym, ap, subst, ◌∙◌, arith, length, take, drop, get_or, add-one, zero, suc}
-use Rattle.std.specs.Prelude.{◌||◌, ◌&&◌, ◌==◌, nat_lt, filter, All, Option, Some, None, if◌then◌else◌}
+use Rattle.std.proofs.Common.{◌≡◌, ℕ, ◌+◌, ◌<◌, ◌≤◌, Bool, true, false, cond, eqb, ltb, List, [], ◌∷◌, ◌++◌, refl, sym}
+use Rattle.std.proofs.Common.{ap, subst, ◌∙◌, arith, drop, zero, suc}
+use Rattle.std.specs.Prelude.{◌||◌, ◌&&◌, nat_lt, filter, All, Some}
 use Rattle.std.specs.List.{remove}
-use Rattle.std.proofs.lemmas.Bool.{eq-eqb, eqb-true, eqb-false}
+use Rattle.std.proofs.lemmas.Bool.{eq-eqb, eqb-true}
 use Rattle.std.proofs.lemmas.Bool.Decides.{nat_tests}
-use Rattle.std.proofs.lemmas.Grind.{common_steps}
 use Rattle.std.proofs.lemmas.List.{append-nil}
 use Rattle.std.proofs.lemmas.List.Elements.{filter-append, All-filter, All-head, All-tail, All-nil, All-cons}
 use Rattle.css_sessions.specs.Told.{with_peer}
-use Rattle.css_drive.specs.TvPeers.{above, has, Covers, AreRising, Knows, Narrows}
+use Rattle.css_drive.specs.TvPeers.{above, has, Covers, AreRising, Knows}
 
 -- ---- filters
 and-comm : (a b : Bool) → (a && b) ≡ (b && a)
@@ -71,7 +70,7 @@ covers_filtered f peers live covers =
     ∙ ap (filter f) covers
 
 -- ---- opening
-has-more : (x q : ℕ) (live : List ℕ) → eqb q x ≡ false → has x (live ++ q ∷ []) ≡ has x live
+pub has-more : (x q : ℕ) (live : List ℕ) → eqb q x ≡ false → has x (live ++ q ∷ []) ≡ has x live
 has-more x q [] e = ap (λ b. b || false) e
 has-more x q (y ∷ live) e = ap (λ b. eqb y x || b) (has-more x q live e)
 
@@ -147,10 +146,6 @@ pass-all p (x ∷ xs) h =
     (pass-all p xs (All-tail (λ x. p + 1 ≤ x) x xs h))
 
 -- ---- the place of a peer
--- what stands behind a front part
-split : (i : ℕ) (xs : List ℕ) (p : ℕ) → i < length xs → p ≡ get_or xs i p → drop i xs ≡ p ∷ drop (i + 1) xs
-split i xs p lt is = grind (arith, common_steps)
-
 All-drop : (i : ℕ) (P : ℕ → Type 0) (xs : List ℕ) → All P xs → All P (drop i xs)
 All-drop zero P xs h = h
 All-drop (suc i) P [] h = h
@@ -185,12 +180,6 @@ above_passed i p peers live rest rising covers e =
     ap (filter (λ x. nat_lt p x)) (sym covers)
     ∙ filter-comm (λ x. nat_lt p x) (λ x. has x live) peers
     ∙ ap (filter (λ x. has x live)) (passed 0 i p peers rest rising e)
-
--- a peer without a session may be left out
-removed : (i p : ℕ) (xs rest : List ℕ) → drop i xs ≡ p ∷ rest → drop (suc i) xs ≡ rest
-removed i p [] rest e = absurd (drops-none i p rest e)
-removed zero p (x ∷ xs) rest e = cc
-removed (suc i) p (x ∷ xs) rest e = removed i p xs rest e
 
 pub drop_removed : (i p : ℕ) (xs rest : List ℕ) → drop i xs ≡ p ∷ rest → drop i (remove xs i) ≡ rest
 drop_removed i p [] rest e = absurd (drops-none i p rest e)

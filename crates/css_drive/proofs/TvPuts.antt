@@ -1,7 +1,7 @@
 -- How a run comes on by one thing that a step has the television do.
-use Rattle.std.proofs.Common.{◌≡◌, ℕ, ◌+◌, ◌≤◌, List, [], ◌∷◌, ◌++◌, Option, Some, None, refl, sym, ap, subst, ◌∙◌}
-use Rattle.std.proofs.Common.{arith, append-nil}
-use Rattle.std.specs.Prelude.{not, ◌==◌, Result, Ok, Err, OnOk, IfErr}
+use Rattle.std.proofs.Common.{◌≡◌, ℕ, ◌+◌, ◌≤◌, List, [], ◌∷◌, ◌++◌, Option, refl, sym, ap, subst, ◌∙◌, arith}
+use Rattle.std.proofs.Common.{append-nil}
+use Rattle.std.specs.Prelude.{Result, Ok, Err, OnOk, IfErr}
 use Rattle.css_drive.specs.declared.driven.Driven.{Driven}
 use Rattle.css_drive.specs.declared.driven.Driven.TheVariants as driven
 use Rattle.css_model.specs.History.{History, Wrote, Gone, HungUp}
@@ -14,7 +14,7 @@ use Rattle.css_tv.specs.declared.event.TvOut.TheVariants as out
 use Rattle.css_drive.specs.Proper.{SendText, HangUp}
 use Rattle.css_drive.specs.TvProgress.{Progress, settled, addresses_in, after, without_first, hung_up}
 use Rattle.css_drive.specs.TvDue.{TvRun}
-use Rattle.css_drive.specs.TvStanding.{IsFault, Told, Stays, Stands, Comes, Goes, Closes}
+use Rattle.css_drive.specs.TvStanding.{IsFault, Told, Stands, Comes, Goes, Closes}
 use Rattle.css_drive.proofs.TvCalls.{event_narrows, event_unused}
 use Rattle.css_drive.proofs.TvSteps.{not_free, settled_stops, due_say, due_hang, told_as, told_more, below_later}
 use Rattle.css_drive.proofs.TvSteps.{stays_on, continues, stops_by_fault}

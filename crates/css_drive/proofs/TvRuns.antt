@@ -1,27 +1,22 @@
 -- How a television's run begins, and how it ends.
-use Rattle.std.proofs.Common.{◌≡◌, Bool, ℕ, ◌+◌, ◌≤◌, ◌<◌, List, [], ◌∷◌, Option, Some, None, refl, sym, ap, subst, ◌∙◌}
-use Rattle.std.proofs.Common.{arith, Result, Ok, Err, drop}
-use Rattle.std.specs.Prelude.{◌≢◌, All, IsErrOf, IfErr}
+use Rattle.std.proofs.Common.{◌≡◌, Bool, ℕ, ◌≤◌, [], ◌∷◌, Option, Some, None, refl, sym, ap, subst, arith, drop}
+use Rattle.std.specs.Prelude.{All}
 use Rattle.std.proofs.lemmas.List.Elements.{All-nil}
 use Rattle.css_model.specs.History.{History, Listening}
-use Rattle.css_outside.specs.Outsides.{Counts, with_entries}
-use Rattle.css_server.specs.Tickets.{Server}
+use Rattle.css_outside.specs.Outsides.{with_entries}
 use Rattle.css_tv.specs.Serving.{server_of}
-use Rattle.css_tv.specs.Stages.{Television}
 use Rattle.css_tv.specs.Standing.{StandsFor}
-use Rattle.css_drive.specs.Ends.{CountsNetFault}
 use Rattle.css_drive.specs.Proper.{Listen, Empty}
-use Rattle.css_drive.specs.TvProgress.{Place, Listens, Progress, addresses_in, beginning}
+use Rattle.css_drive.specs.TvProgress.{Listens, Progress, addresses_in, beginning}
 use Rattle.css_drive.specs.TvDue.{TvRun}
 use Rattle.css_drive.specs.TvTurns.{no_turns, IsRanged}
 use Rattle.css_drive.specs.declared.turns.Turns.{Turns}
 use Rattle.css_outside.specs.Limits.{IsLimit}
 use Rattle.css_outside.specs.declared.limit.Limit.{Limit}
 use Rattle.css_drive.specs.TvPeers.{AreRising, Covers}
-use Rattle.css_drive.specs.TvRan.{TvRan, CountsTvRun}
-use Rattle.css_drive.specs.TvStanding.{HasCause, Told, Stops, Reaches, IsAtEnd}
+use Rattle.css_drive.specs.TvRan.{TvRan}
+use Rattle.css_drive.specs.TvStanding.{Told, Stops, Reaches, IsAtEnd}
 use Rattle.css_drive.specs.declared.driven.Driven.{Driven}
-use Rattle.css_drive.specs.declared.driven.Driven.TheVariants as driven
 use Rattle.css_drive.specs.declared.on_air.OnAir.{OnAir}
 use Rattle.css_drive.proofs.TvSteps.{told_more}
 
@@ -90,18 +85,3 @@ none_ranged t limit relative e k =
 pub ran_by : {run : TvRun} {start told : Option History} {ended : Driven} → Stops run start told ended
     → TvRan run start told ended
 ran_by x = record { h = x.h; grew = x.grew; proper = x.proper; numbered = x.numbered; ends = x.ends; whole = x.whole }
-
--- a run that stopped after calls of which none failed
-pub counts_stopped : {T : Type 0} (before mid now : Counts) (ended : Driven) → mid.dial_faults ≡ before.dial_faults
-    → mid.faults ≡ before.faults
-    → (result : Result T Driven) → result ≡ Err ended → HasCause mid now result → CountsTvRun before now ended
-counts_stopped before mid now ended dials faults (Ok x) is k = absurd (cc)
-counts_stopped before mid now ended dials faults (Err f) is k =
-    let same : f ≡ ended = cc in
-    record {
-      dials = k.dials ∙ dials;
-      faults =
-          subst (λ n. CountsNetFault n now.faults ended) faults
-          (subst (CountsNetFault mid.faults now.faults) same k.failed);
-      no_writes = λ e. k.no_writes (same ∙ e);
-    }

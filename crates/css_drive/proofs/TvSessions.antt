@@ -8,22 +8,21 @@ use Rattle.css_tv.specs.declared.event.TvOut.{TvOut}
 use Rattle.css_tv.specs.declared.event.TvOut.TheVariants as out
 use Rattle.css_tv.specs.declared.fault.TvFault.{TvFault}
 use Rattle.css_tv.specs.declared.fault.TvFault.TheVariants as fault
-use Rattle.css_drive.specs.Proper.{Due, Listen, Now, Dial, Accept, SendDatagram, TakeDatagram, TakeText, SendText}
-use Rattle.css_drive.specs.Proper.{HangUp, Ends, MayAdd, IsProper, Empty, More}
-use Rattle.css_drive.specs.TvProgress.{Place, Begins, Listens, Turned, Taken, Received, Answers, Served, Asked, Over}
-use Rattle.css_drive.specs.TvProgress.{addresses_in, progress_of, open_after}
+use Rattle.css_drive.specs.Proper.{Due, Now, Dial, Accept, TakeDatagram, TakeText, SendText, HangUp, Ends, MayAdd}
+use Rattle.css_drive.specs.Proper.{IsProper, Empty, More}
+use Rattle.css_drive.specs.TvProgress.{Place, Listens, Turned, Answers, Asked, Over, addresses_in, progress_of}
+use Rattle.css_drive.specs.TvProgress.{open_after}
 use Rattle.css_drive.specs.TvDue.{TvRun, due, due_at, from_end, from_hang_ups, from_texts, from_turn, from_answers}
+use Rattle.css_drive.specs.TvDue.{unless_owed, unless_refused}
 use Rattle.css_drive.specs.TvTurns.{goes_on, is_over}
 use Rattle.css_drive.specs.declared.turns.Turns.{Turns}
-use Rattle.css_drive.specs.TvDue.{unless_owed, unless_refused}
 use Rattle.css_drive.specs.TvPeers.{above}
 use Rattle.css_drive.specs.TvRan.{AreNumbered}
 use Rattle.css_drive.specs.TvTold.{sent_to, is_gone, lost, SessionsAreTold}
 use Rattle.css_drive.specs.declared.driven.Driven.TheVariants as driven
 use Rattle.css_drive.proofs.TvNews.{news_of}
 use Rattle.css_drive.proofs.TvTellings.{Good, clock_good, opening_good, datagram_good, heard_good, wrote_good}
-use Rattle.css_drive.proofs.TvTellings.{hung_good}
-use Rattle.css_drive.proofs.TvTellings.{hung_due}
+use Rattle.css_drive.proofs.TvTellings.{hung_good, hung_due}
 
 -- ---- what is due where nothing is owed
 -- it is no text
@@ -56,15 +55,12 @@ no_text_answering peer [] = tt
 no_text_answering peer (datagram ∷ datagrams) = tt
 
 no_text : (run : TvRun) (live : List ℕ) (turns : Turns) (place : Place) → IsNoText (due_at run live turns place)
-no_text run live turns Begins = tt
 no_text run live turns Listens = no_text_ending turns live
 no_text run live turns (Turned reading) = no_text_taking turns live
-no_text run live turns (Taken peer bytes) = tt
-no_text run live turns (Received peer ticket) = tt
 no_text run live turns (Answers peer datagrams) = no_text_answering peer datagrams
-no_text run live turns Served = tt
 no_text run live turns (Asked last) = no_text_asking turns live (above last live)
 no_text run live turns (Over last) = no_text_hanging (above (Some last) live)
+no_text run live turns _ = tt
 
 -- ---- a call
 abbrev Step : TvRun → ℕ → History → History → Type 0
@@ -74,8 +70,6 @@ Step run peer older call = AreNumbered (call ++ older) → Good run peer (call +
 call_good : (run : TvRun) (peer : ℕ) (older : History) (d : Due) → IsNoText d
     → (progress_of run older).owed ≡ [] → (call : History) → MayAdd d call → Good run peer older
     → Step run peer older call
-call_good run peer older (Listen host port) quiet none call may t =
-    subst (Step run peer older) (sym may) (λ numbered. t)
 call_good run peer older (Now w) quiet none call may t =
     subst (Step run peer older) (sym may.1)
     (λ numbered. clock_good run peer older w may.0.reading may.0.slept t)
@@ -84,8 +78,6 @@ call_good run peer older (Dial k to) quiet none call (inl may) t =
 call_good run peer older (Dial k to) quiet none call (inr may) t = subst (Step run peer older) (sym may) (λ numbered. t)
 call_good run peer older Accept quiet none call may t =
     subst (Step run peer older) (sym may.1) (λ numbered. opening_good run peer older may.0 none numbered t)
-call_good run peer older (SendDatagram p bytes) quiet none call may t =
-    subst (Step run peer older) (sym may) (λ numbered. t)
 call_good run peer older TakeDatagram quiet none call may t =
     subst (Step run peer older) (sym may.2) (λ numbered. datagram_good run peer older may.0 may.1 t)
 call_good run peer older (TakeText p) quiet none call may t =
@@ -94,6 +86,7 @@ call_good run peer older (SendText p text) quiet none call may t = absurd quiet
 call_good run peer older (HangUp p) quiet none call may t =
     subst (Step run peer older) (sym may) (λ numbered. hung_good run peer older p [] t none)
 call_good run peer older (Ends ended) quiet none call may t = absurd may
+call_good run peer older _ quiet none call may t = subst (Step run peer older) (sym may) (λ numbered. t)
 
 -- a call that is due
 due_good : (run : TvRun) (peer : ℕ) (older : History) (call : History) (r : Option TvFault) (owed : List TvOut)
@@ -112,7 +105,7 @@ due_good run peer older call None [] owes may t =
     let live = open_after (addresses_in run.config) p.events in
     call_good run peer older (due_at run live p.turns p.place) (no_text run live p.turns p.place) owes call may t
 
-numbered_rest : (call older : History) → AreNumbered (call ++ older) → AreNumbered older
+pub numbered_rest : (call older : History) → AreNumbered (call ++ older) → AreNumbered older
 numbered_rest [] older n = n
 numbered_rest (Accepted peer k ∷ call) older n = numbered_rest call older n.1
 numbered_rest (_ ∷ call) older n = numbered_rest call older n

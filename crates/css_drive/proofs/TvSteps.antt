@@ -1,17 +1,11 @@
 -- How a television's run comes on by a call of the outside.
-use Rattle.std.proofs.Common.{◌≡◌, ℕ, ◌+◌, ◌≤◌, ◌<◌, Bool, true, false, cond, eqb, List, [], ◌∷◌, ◌++◌, Option, Some}
-use Rattle.std.proofs.Common.{None}
-use Rattle.std.proofs.Common.{refl, sym, ap, ap₂, subst, ◌∙◌, arith, append_assoc, append-nil, Result, Ok, Err}
-use Rattle.std.specs.Prelude.{MatchResult, ◌≢◌, ◌&&◌}
+use Rattle.std.proofs.Common.{◌≡◌, ℕ, ◌+◌, ◌≤◌, ◌<◌, false, cond, eqb, List, [], ◌∷◌, ◌++◌, Option, Some, None, refl}
+use Rattle.std.proofs.Common.{sym, ap, ap₂, subst, ◌∙◌, arith, append_assoc, Result, Ok, Err}
+use Rattle.std.specs.Prelude.{◌≢◌, ◌&&◌}
 use Rattle.std.proofs.lemmas.Bool.Decides.{nat_tests}
-use Rattle.css_model.specs.declared.Kind.{Kind}
-use Rattle.css_model.specs.declared.Why.{Why}
-use Rattle.css_model.specs.History.{Entry, History, Accepted, Clock, Slept, Listening, Dialling, Dialled, NotDialled}
-use Rattle.css_model.specs.History.{NoneCame}
-use Rattle.css_model.specs.History.{Sent, Took, TookNone, Quiet, Heard, Closed, Wrote, Gone, HungUp}
-use Rattle.css_outside.specs.Outsides.{Counts, CountsPlain, with_entries, clock_entries}
+use Rattle.css_model.specs.History.{History, Accepted}
+use Rattle.css_outside.specs.Outsides.{Counts, CountsPlain, with_entries}
 use Rattle.css_outside.specs.declared.fault.OutFault.{OutFault}
-use Rattle.css_outside.specs.declared.calls.Clocked.{Clocked}
 use Rattle.css_sessions.specs.Kept.{Kept}
 use Rattle.css_sessions.specs.Told.{life_of, sessions_of}
 use Rattle.css_player.specs.Player.{Player}
@@ -25,21 +19,20 @@ use Rattle.css_tv.specs.declared.event.TvOut.TheVariants as out
 use Rattle.css_tv.specs.declared.fault.TvFault.{TvFault}
 use Rattle.css_tv.specs.declared.state.Addresses.{Addresses}
 use Rattle.css_schedule.specs.declared.line.ScriptLine.{ScriptLine}
-use Rattle.css_drive.specs.Proper.{Due, SendText, HangUp, Ends, MayAdd, More}
+use Rattle.css_drive.specs.Proper.{Due, SendText, HangUp, MayAdd, More}
 use Rattle.css_drive.specs.Ends.{MayEnd, CountsNetFault}
 use Rattle.css_drive.specs.TvProgress.{Place, Turned, Progress, settled, settled_at, carry, with_line, is_free}
-use Rattle.css_drive.specs.TvProgress.{is_free_of, is_due}
+use Rattle.css_drive.specs.TvProgress.{is_free_of, is_due, open_after, addresses_in, progress_of, after, happened}
+use Rattle.css_drive.specs.TvProgress.{outcome_after, outs_after, outs_in}
 use Rattle.css_drive.specs.TvTurns.{since}
-use Rattle.css_drive.specs.TvProgress.{open_after, addresses_in, progress_of, after, happened, outcome_after}
-use Rattle.css_drive.specs.TvProgress.{outs_after, outs_in}
 use Rattle.css_drive.specs.TvDue.{TvRun, due, due_for, due_at, unless_owed, unless_refused}
-use Rattle.css_drive.specs.TvPeers.{Narrows, Covers}
+use Rattle.css_drive.specs.TvPeers.{Covers}
 use Rattle.css_drive.specs.TvRan.{AreBelow, AreNumbered, MadeTurns}
-use Rattle.css_drive.specs.TvStanding.{HasCause, KeepsCounts, IsFault, Told, Stays, Stands, Stops, Comes, Continues}
-use Rattle.css_drive.specs.TvStanding.{Goes, Closes, IsAccepted}
+use Rattle.css_drive.specs.TvStanding.{HasCause, KeepsCounts, IsFault, Told, Stays, Stops, Comes, Continues, Goes}
+use Rattle.css_drive.specs.TvStanding.{IsAccepted}
 use Rattle.css_drive.specs.declared.driven.Driven.{Driven}
 use Rattle.css_drive.specs.declared.driven.Driven.TheVariants as driven
-use Rattle.css_drive.proofs.TvCalls.{IsOther, IsNoOpening, event_narrows, event_unused}
+use Rattle.css_drive.proofs.TvCalls.{IsOther, event_unused}
 
 -- ---- lines that wait
 pub not_free : (p : Progress) (o : TvOut) (os : List TvOut) → p.owed ≡ o ∷ os → is_free p ≡ false
@@ -125,26 +118,12 @@ told_more {run} {start} {told} {h = h} t d is call may told' e peers' numbered b
 fault_ends : (d : Due) (ended : Driven) → IsFault ended → MayEnd d ended
 fault_ends d (driven.NetFault failure) f = tt
 fault_ends d driven.Memory f = tt
-fault_ends d driven.WriteFault f = absurd f
-fault_ends d driven.Done f = absurd f
-fault_ends d (driven.BadLine line why) f = absurd f
-fault_ends d (driven.BadCii text fault) f = absurd f
-fault_ends d (driven.Moved property old new) f = absurd f
-fault_ends d (driven.Spent n) f = absurd f
-fault_ends d (driven.Unreachable n) f = absurd f
-fault_ends d (driven.BadUrl k) f = absurd f
+fault_ends d _ f = absurd f
 
 fault_whole : (run : TvRun) (h : History) (ended : Driven) → IsFault ended → MadeTurns run h ended
 fault_whole run h (driven.NetFault failure) f = tt
 fault_whole run h driven.Memory f = tt
-fault_whole run h driven.WriteFault f = absurd f
-fault_whole run h driven.Done f = absurd f
-fault_whole run h (driven.BadLine line why) f = absurd f
-fault_whole run h (driven.BadCii text fault) f = absurd f
-fault_whole run h (driven.Moved property old new) f = absurd f
-fault_whole run h (driven.Spent n) f = absurd f
-fault_whole run h (driven.Unreachable n) f = absurd f
-fault_whole run h (driven.BadUrl k) f = absurd f
+fault_whole run h _ f = absurd f
 
 faults_kept : (before now : ℕ) (ended : Driven) → CountsNetFault before now ended → before ≤ now
 faults_kept before now (driven.NetFault failure) c = c.kept
@@ -285,11 +264,7 @@ not_same peer p peers le lt = grind (arith, nat_tests)
 
 other_of : (e : TvEvent) (peers peer : ℕ) → IsAccepted e peers → peers < peer → IsOther peer e
 other_of (event.Opened p kind) peers peer le lt = not_same peer p peers le lt
-other_of (event.Programme id) peers peer le lt = tt
-other_of (event.AddTimeline m selector rate base) peers peer le lt = tt
-other_of (event.Viewer command reading) peers peer le lt = tt
-other_of (event.Heard p bytes) peers peer le lt = tt
-other_of (event.Closed p) peers peer le lt = tt
+other_of _ peers peer le lt = tt
 
 -- an event more
 pub stays_after : {run : TvRun} {tv : Television} {peers : ℕ} {p : Progress} → Stays run tv peers p

@@ -7,8 +7,7 @@ use Rattle.css_model.specs.declared.Kind.{Kind as PeerKind}
 use Rattle.css_model.specs.declared.Kind.TheVariants as peer_kind
 use Rattle.css_model.specs.declared.Why.{Why}
 use Rattle.css_model.specs.History.{Entry, History, Slept, Clock, Accepted, Heard, Closed, Wrote, Gone, HungUp}
-use Rattle.css_outside.specs.Outsides.{opening_entries, datagram_entries, heard_entries, wrote_entries}
-use Rattle.css_outside.specs.Outsides.{sleep_entries}
+use Rattle.css_outside.specs.Outsides.{opening_entries, datagram_entries, heard_entries, wrote_entries, sleep_entries}
 use Rattle.css_outside.specs.declared.calls.Heard.{Heard as SessionHeard}
 use Rattle.css_outside.specs.declared.calls.Heard.TheVariants as heard
 use Rattle.css_outside.specs.declared.calls.Wrote.{Wrote as Outcome}
@@ -37,12 +36,10 @@ abbrev Unused : Addresses → ℕ → List TvEvent → List TvOut → Type 0
 Unused a peer events owed = life_of peer (calls_of a events).sessions ≡ None
 
 played_other : (peer : ℕ) (e : TvEvent) → IsPlayed e → IsOther peer e
-played_other peer (event.Programme id) played = tt
-played_other peer (event.AddTimeline n selector rate base) played = tt
-played_other peer (event.Viewer command reading) played = tt
 played_other peer (event.Opened p k) played = absurd played
 played_other peer (event.Heard p bytes) played = absurd played
 played_other peer (event.Closed p) played = absurd played
+played_other peer _ played = tt
 
 unused_kept : (a : Addresses) (peer : ℕ) → IsKept a (Unused a peer)
 unused_kept a peer e played es owed none q = event_unused a e es peer (played_other peer e played) q
@@ -99,12 +96,10 @@ unused run peer n le (entry ∷ older) below =
 
 -- ---- events
 played_fresh : (e : TvEvent) → IsPlayed e → (h : List Call) → IsFresh e h
-played_fresh (event.Programme id) played h = tt
-played_fresh (event.AddTimeline n selector rate base) played h = tt
-played_fresh (event.Viewer command reading) played h = tt
 played_fresh (event.Opened p k) played h = absurd played
 played_fresh (event.Heard p bytes) played h = absurd played
 played_fresh (event.Closed p) played h = absurd played
+played_fresh _ played h = tt
 
 tells_kept : (a : Addresses) (peer : ℕ) (sent : List (List ℕ)) (gone : Bool) → IsKept a (Telling a peer sent gone)
 tells_kept a peer sent gone e played es owed none t =
@@ -260,12 +255,11 @@ clock_good run peer older w reading true t = plain_good run peer (Slept ∷ olde
 pub opening_good : (run : TvRun) (peer : ℕ) (older : History) (came : Option (ℕ × PeerKind))
     → (progress_of run older).owed ≡ [] → AreNumbered (opening_entries came ++ older)
     → Good run peer older → Good run peer (opening_entries came ++ older)
-opening_good run peer older None none numbered t = t
-opening_good run peer older (Some (p, peer_kind.Wc)) none numbered t = t
 opening_good run peer older (Some (p, peer_kind.Cii)) none numbered t =
     event_good run peer older (event.Opened p kind.Cii) (unused run p p (omega arith) older numbered.0) none t
 opening_good run peer older (Some (p, peer_kind.Ts)) none numbered t =
     event_good run peer older (event.Opened p kind.Ts) (unused run p p (omega arith) older numbered.0) none t
+opening_good run peer older _ none numbered t = t
 
 pub datagram_good : (run : TvRun) (peer : ℕ) (older : History) (room : List ℕ) (came : Option (ℕ × ℕ))
     → Good run peer older → Good run peer (datagram_entries room came ++ older)

@@ -6,13 +6,13 @@ use Rattle.std.proofs.lemmas.List.{length-reverse}
 use Rattle.std.proofs.lemmas.Bool.Decides.{nat_tests}
 use Rattle.css_model.specs.declared.Why.{Why}
 use Rattle.css_model.specs.declared.Why.TheVariants as why
-use Rattle.css_model.specs.History.{Entry, Clock, Accepted, Heard, Closed, Wrote, Gone, HungUp}
+use Rattle.css_model.specs.History.{Entry, Clock, Accepted, Closed, Heard, Wrote, Gone, HungUp}
 use Rattle.css_server.specs.Tickets.{Ticket, received}
 use Rattle.css_server.specs.declared.fault.ServeFault.{ServeFault}
 use Rattle.css_sessions.specs.Kept as calls
 use Rattle.css_sessions.specs.Kept.{Event as Call}
-use Rattle.css_sessions.specs.Told.{Life, Lived, IsLawful, texts_of_lived, life_of, when, born}
-use Rattle.css_sessions.specs.Told.{state_of, ended, living, set_life, grown_life}
+use Rattle.css_sessions.specs.Told.{Life, Lived, IsLawful, texts_of_lived, life_of, when, born, state_of, ended, living}
+use Rattle.css_sessions.specs.Told.{set_life, grown_life}
 use Rattle.css_tv.specs.Outcomes.{Outcome}
 use Rattle.css_tv.specs.Standing.{IsFresh, calls_of, texts_after}
 use Rattle.css_tv.specs.declared.event.TvEvent.{TvEvent}
@@ -71,12 +71,11 @@ over_call peer x (calls.SetUp p u player) h lawful e = by (eqb p peer) where
   by false = e
 over_call peer x (calls.Published state player) h lawful e =
     ap (option_map (living (grown_life state player))) e
-over_call peer x (calls.Presented p q player) h lawful e = e
-over_call peer x calls.Dropped h lawful e = e
 over_call peer x (calls.Closed p) h lawful e = by (eqb p peer) where
   by : (b : Bool) → when b (option_map ended) (life_of peer h) ≡ gone_life x
   by true = ap (option_map ended) e
   by false = e
+over_call peer x _ h lawful e = e
 
 over_calls : (peer : ℕ) (x : Life) (called h : List Call) → IsLawful (called ++ h) → life_of peer h ≡ gone_life x
     → life_of peer (called ++ h) ≡ gone_life x

@@ -1,14 +1,13 @@
 -- Which call a companion's run has to make next: a function of what its calls did so far.
-use Rattle.std.specs.Prelude.{◌≡◌, ℕ, nat_lt, List, [], ◌∷◌, length, Bool, ◌&&◌, if◌then◌else◌, Option, Some, None}
-use Rattle.std.specs.Prelude.{is_some, not}
-use Rattle.std.specs.Prelude.{Result, Ok, Err}
+use Rattle.std.specs.Prelude.{ℕ, nat_lt, List, [], ◌∷◌, length, Bool, ◌&&◌, if◌then◌else◌, Option, Some, None, is_some}
+use Rattle.std.specs.Prelude.{not, Result, Ok, Err}
 use Rattle.std.specs.Option.{option_map}
 use Rattle.css_model.specs.declared.Why.{Why}
 use Rattle.css_model.specs.declared.Why.TheVariants as why
 use Rattle.css_model.specs.declared.Kind.{Kind}
 use Rattle.css_model.specs.declared.Kind.TheVariants as kind
-use Rattle.css_model.specs.History.{Address, Entry, Clock, Dialled, NotDialled, Sent, Took, TookNone, History}
-use Rattle.css_model.specs.History.{Quiet, Heard, Closed, Wrote, Gone, HungUp}
+use Rattle.css_model.specs.History.{Address, Entry, Clock, Dialled, NotDialled, Sent, Took, TookNone, History, Quiet}
+use Rattle.css_model.specs.History.{Heard, Closed, Wrote, Gone, HungUp}
 use Rattle.css_model.specs.Wire.{encoded, request_at}
 use Rattle.css_address.specs.Addresses.{address_of}
 use Rattle.css_address.specs.declared.fault.AddressFault.{AddressFault}

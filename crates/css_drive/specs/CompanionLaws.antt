@@ -1,5 +1,5 @@
 -- What holds of every companion's run, by its calls alone.
-use Rattle.std.specs.Prelude.{◌≡◌, ◌≤◌, ℕ, List, [], ◌∷◌, ◌++◌, length, drop, Bool, false}
+use Rattle.std.specs.Prelude.{◌≡◌, ◌≤◌, ℕ, List, [], ◌∷◌, ◌++◌, length, drop, false}
 use Rattle.css_model.specs.History.{History}
 use Rattle.css_companion.specs.declared.report.Report.{Report}
 use Rattle.css_follow.specs.Following.{Seen}

@@ -1,7 +1,7 @@
 -- The reports that fall due in the history of a companion's run, and what the sink holds of them.
-use Rattle.std.specs.Prelude.{◌≡◌, ℕ, ◌+◌, ◌*◌, nat_le, List, [], ◌∷◌, ◌++◌, length, Bool, false, if◌then◌else◌}
-use Rattle.std.specs.Prelude.{Option, Some, None}
-use Rattle.css_model.specs.History.{Entry, History}
+use Rattle.std.specs.Prelude.{◌≡◌, ℕ, ◌+◌, ◌*◌, nat_le, List, [], ◌∷◌, ◌++◌, length, Bool, false, if◌then◌else◌, Option}
+use Rattle.std.specs.Prelude.{Some, None}
+use Rattle.css_model.specs.History.{History}
 use Rattle.css_outside.specs.Bytes.{IsPrefix}
 use Rattle.css_companion.specs.Headline.{IsPromised}
 use Rattle.css_companion.specs.Meanings.{report_after}
@@ -23,11 +23,6 @@ is_due every reading (Some first) count = nat_le (first + (count + 1) * every) r
 abbrev pub report_at : DriveConfig → History → ℕ → Report
 report_at config history reading =
     report_after config.companion.local config.companion.selector history reading
-
--- whether a report is due with an entry
-abbrev pub falls_due : DriveConfig → Option ℕ → Option ℕ → ℕ → Bool
-falls_due config None first count = false
-falls_due config (Some reading) first count = is_due config.report_every reading first count
 
 -- the reports, with that of a turn that begins with this reading
 abbrev pub with_report : DriveConfig → Option ℕ → History → Option ℕ → List Report → List Report

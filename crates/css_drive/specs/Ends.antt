@@ -2,7 +2,6 @@
 use Rattle.std.specs.Prelude.{◌≡◌, ◌≤◌, ℕ, Option, Some, None, ⊤}
 use Rattle.css_model.specs.History.{History}
 use Rattle.css_outside.specs.Faults.{HasRisen}
-use Rattle.css_outside.specs.Outsides.{Counts}
 use Rattle.css_drive.specs.Proper.{Due, Ends}
 use Rattle.css_drive.specs.declared.driven.Driven.{Driven}
 use Rattle.css_drive.specs.declared.driven.Driven.TheVariants as driven

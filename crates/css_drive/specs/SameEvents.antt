@@ -5,8 +5,7 @@ use Rattle.css_model.specs.declared.Why.{Why}
 use Rattle.css_model.specs.declared.Why.TheVariants as why
 use Rattle.css_model.specs.declared.Kind.{Kind}
 use Rattle.css_model.specs.declared.Kind.TheVariants as kind
-use Rattle.css_model.specs.History.{Entry, History, Slept, Clock, Sent, Dialled, Heard, Closed, Gone}
-use Rattle.css_model.specs.History.{just_taken}
+use Rattle.css_model.specs.History.{Entry, History, Slept, Clock, Sent, Dialled, Heard, Closed, Gone, just_taken}
 use Rattle.css_companion.specs.Meanings.{kind_of, state_of, report_after, assigned_after}
 use Rattle.css_companion.specs.Printed.{line_of}
 use Rattle.css_drive.specs.CompanionReports.{report_at}

@@ -6,11 +6,10 @@ use Rattle.css_tv.specs.declared.event.TvOut.{TvOut}
 use Rattle.css_tv.specs.declared.event.TvOut.TheVariants as out
 use Rattle.css_tv.specs.declared.fault.TvFault.{TvFault}
 use Rattle.css_tv.specs.declared.fault.TvFault.TheVariants as fault
-use Rattle.css_tv.specs.declared.state.Addresses.{Addresses}
 use Rattle.css_schedule.specs.declared.fault.LineWhy.TheVariants as line_why
 use Rattle.css_schedule.specs.declared.line.ScriptLine.{ScriptLine}
-use Rattle.css_drive.specs.Proper.{Due, Listen, Now, Accept, SendDatagram, TakeDatagram}
-use Rattle.css_drive.specs.Proper.{TakeText, SendText, HangUp, Ends}
+use Rattle.css_drive.specs.Proper.{Due, Listen, Now, Accept, SendDatagram, TakeDatagram, TakeText, SendText, HangUp}
+use Rattle.css_drive.specs.Proper.{Ends}
 use Rattle.css_drive.specs.TvProgress.{Place, Begins, Listens, Turned, Taken, Received, Answers, Served, Asked, Over}
 use Rattle.css_drive.specs.TvProgress.{Progress, open_after, addresses_in, progress_of}
 pub use Rattle.css_drive.specs.TvProgress.{TvRun}

@@ -1,6 +1,6 @@
 -- The peers that a television's loop keeps, and the open sessions among them.
-use Rattle.std.specs.Prelude.{◌≡◌, ◌≤◌, ◌+◌, ◌==◌, ◌||◌, ℕ, nat_lt, List, [], ◌∷◌, filter, All, Bool, false, ⊤}
-use Rattle.std.specs.Prelude.{Option, Some, None}
+use Rattle.std.specs.Prelude.{◌≡◌, ◌≤◌, ◌+◌, ◌==◌, ◌||◌, ℕ, nat_lt, List, [], ◌∷◌, filter, All, Bool, false, ⊤, Option}
+use Rattle.std.specs.Prelude.{Some, None}
 
 -- those of the peers that come after the last one
 abbrev pub above : Option ℕ → List ℕ → List ℕ

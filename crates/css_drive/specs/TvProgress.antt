@@ -1,13 +1,13 @@
 -- How far a television's run has come: a function of what its calls did so far.
-use Rattle.std.specs.Prelude.{ℕ, ◌+◌, nat_le, List, [], ◌∷◌, ◌++◌, Bool, true, false, ◌&&◌, if◌then◌else◌}
-use Rattle.std.specs.Prelude.{Option, Some, None, Result, Ok, Err}
+use Rattle.std.specs.Prelude.{ℕ, ◌+◌, nat_le, List, [], ◌∷◌, ◌++◌, Bool, true, false, ◌&&◌, if◌then◌else◌, Option, Some}
+use Rattle.std.specs.Prelude.{None, Result, Ok, Err}
 use Rattle.std.specs.Option.{option_map, option_to_list}
 use Rattle.css_model.specs.declared.Why.{Why}
 use Rattle.css_model.specs.declared.Why.TheVariants as why
 use Rattle.css_model.specs.declared.Kind.{Kind as PeerKind}
 use Rattle.css_model.specs.declared.Kind.TheVariants as peer_kind
-use Rattle.css_model.specs.History.{Entry, History, Listening, Clock, Accepted, NoneCame, Sent, Took, TookNone}
-use Rattle.css_model.specs.History.{Quiet, Heard, Closed, Wrote, Gone, HungUp}
+use Rattle.css_model.specs.History.{Entry, History, Listening, Clock, Accepted, NoneCame, Sent, Took, TookNone, Quiet}
+use Rattle.css_model.specs.History.{Heard, Closed, Wrote, Gone, HungUp}
 use Rattle.css_model.specs.Wire.{encoded}
 use Rattle.css_server.specs.Tickets.{Server, Ticket, received, after_ticket, response_to, follow_up_for}
 use Rattle.css_server.specs.declared.fault.ServeFault.{ServeFault}

@@ -1,6 +1,6 @@
 -- What a television's run did, and how it ended.
-use Rattle.std.specs.Prelude.{◌≡◌, ◌≢◌, ◌<◌, ℕ, List, [], ◌∷◌, false, Option, ⊤}
-use Rattle.css_model.specs.History.{Entry, History, Accepted}
+use Rattle.std.specs.Prelude.{◌≡◌, ◌≢◌, ◌<◌, ℕ, [], ◌∷◌, false, Option, ⊤}
+use Rattle.css_model.specs.History.{History, Accepted}
 use Rattle.css_outside.specs.Outsides.{Counts, with_entries}
 use Rattle.css_drive.specs.Ends.{MayEnd, CountsNetFault}
 use Rattle.css_drive.specs.Proper.{IsProper}

@@ -1,8 +1,8 @@
 -- How the values of a television's loop stand for what its calls did so far.
-use Rattle.std.specs.Prelude.{◌≡◌, ◌≢◌, ◌≤◌, ◌<◌, ◌+◌, ℕ, List, [], ◌∷◌, ◌++◌, drop, filter, ◌==◌, Bool, false, ◌||◌, ⊤}
-use Rattle.std.specs.Prelude.{All, Option, Some, None, Result, MatchResult, IsErrOf, IfErr, OnOk}
+use Rattle.std.specs.Prelude.{◌≡◌, ◌≢◌, ◌≤◌, ◌<◌, ◌+◌, ℕ, List, [], ◌∷◌, drop, filter, Bool, ⊤, Option, None, Result}
+use Rattle.std.specs.Prelude.{MatchResult, IfErr, OnOk}
 use Rattle.css_model.specs.declared.Why.{Why}
-use Rattle.css_model.specs.History.{History, Accepted}
+use Rattle.css_model.specs.History.{History}
 use Rattle.css_outside.specs.Outsides.{Counts, with_entries, clock_entries}
 use Rattle.css_sessions.specs.Kept.{talk_of}
 use Rattle.css_sessions.specs.Told.{life_of}
@@ -13,7 +13,7 @@ use Rattle.css_tv.specs.declared.state.Addresses.{Addresses}
 use Rattle.css_tv.specs.declared.event.TvEvent.{TvEvent}
 use Rattle.css_tv.specs.declared.event.TvEvent.TheVariants as event
 use Rattle.css_schedule.specs.declared.line.ScriptLine.{ScriptLine}
-use Rattle.css_drive.specs.Proper.{Due, IsProper}
+use Rattle.css_drive.specs.Proper.{IsProper}
 use Rattle.css_drive.specs.Ends.{MayEnd, CountsNetFault}
 use Rattle.css_drive.specs.TvProgress.{Place, Turned, Asked, Progress, settled, open_after, addresses_in, progress_of}
 use Rattle.css_drive.specs.TvDue.{TvRun, due, due_at, from_end, from_hang_ups}

@@ -1,7 +1,6 @@
 -- What a television's run sent to a session, beside what the session was to be told by what happened.
 use Rattle.std.specs.Prelude.{◌≡◌, ◌≤◌, ℕ, ◌==◌, ◌||◌, List, [], ◌∷◌, ◌++◌, length, Bool, true, false, Option, Some}
-use Rattle.std.specs.Prelude.{None}
-use Rattle.std.specs.Prelude.{if◌then◌else◌}
+use Rattle.std.specs.Prelude.{None, if◌then◌else◌}
 use Rattle.css_model.specs.History.{Entry, History, Wrote, Gone}
 use Rattle.css_sessions.specs.Told.{with_text}
 use Rattle.css_tv.specs.Standing.{texts_after}

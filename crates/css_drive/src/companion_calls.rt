@@ -1,12 +1,8 @@
 //! Single calls of a companion's run.
-ghost use Rattle.std.specs.Prelude.{◌≡◌, ◌≤◌, [], ◌∷◌, ℕ, List, Option, None, Some};
-ghost use Rattle.std.specs.Prelude.{MatchResult, IfOk, IfErr, OnOk, OnErr};
-ghost use Rattle.css_model.specs.History.{Entry, History};
+ghost use Rattle.std.specs.Prelude.{◌≡◌, ◌≤◌, [], ◌∷◌, ℕ, Option, None, Some, MatchResult, IfOk, IfErr, OnOk};
 ghost use Rattle.css_model.specs.History.{Sent};
 ghost use Rattle.css_outside.specs.Faults.{CountsOutFault, HasRisen};
 ghost use Rattle.css_outside.specs.Outsides.{Counts, heard_entries, wrote_entries};
-ghost use Rattle.css_companion.specs.Steps.{IsEntryOf};
-ghost use Rattle.css_companion.specs.declared.event.CompanionEvent.TheVariants as events;
 ghost use Rattle.css_drive.specs.CompanionDue.{end_by};
 ghost use Rattle.css_drive.specs.CompanionStanding.{shown, IsEarly, IsFault, IsEndBy, Fails, Adds, HasDialled, HasRead};
 ghost use Rattle.css_drive.specs.CompanionStanding.{HasLost, Keeps, Knows, SawMore, final_end};

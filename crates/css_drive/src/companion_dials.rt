@@ -1,13 +1,12 @@
 //! The dials of a turn of a companion, and what the television is told first.
-ghost use Rattle.std.specs.Prelude.{◌≡◌, ◌≤◌, List, OnOk, IfOk, IfErr, IfSome, None, Some};
+ghost use Rattle.std.specs.Prelude.{◌≡◌, OnOk, IfOk, IfErr, IfSome, None, Some};
 ghost use Rattle.css_outside.specs.Faults.{HasRisen};
 ghost use Rattle.css_tsmsg.specs.Setups.{setup_text};
 ghost use Rattle.css_tsmsg.specs.Presentations.{IsPresentation};
 ghost use Rattle.css_companion.specs.Steps.{window};
-ghost use Rattle.css_drive.specs.CompanionDue.{due, from_cii, from_wc, from_ts, from_ask, from_setup};
-ghost use Rattle.css_drive.specs.CompanionDue.{point_of, place, window_text};
+ghost use Rattle.css_drive.specs.CompanionDue.{due, from_cii, from_wc, from_ts, from_ask, from_setup, point_of, place};
+ghost use Rattle.css_drive.specs.CompanionDue.{window_text, Connected, SetUp};
 ghost use Rattle.css_drive.specs.Configs.{IsWindow};
-ghost use Rattle.css_drive.specs.CompanionDue.{Connected, SetUp};
 ghost use Rattle.css_drive.specs.CompanionStanding.{at, Leads, LeadsFrom, Keeps, GivesPlace, IsEarly, HasBegun};
 ghost use Rattle.css_drive.specs.Proper.{SendText};
 

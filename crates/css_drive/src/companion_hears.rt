@@ -1,5 +1,5 @@
 //! What a turn of a companion asks and hears, and the end of its sessions.
-ghost use Rattle.std.specs.Prelude.{◌≡◌, ◌≤◌, ◌<◌, ◌∷◌, ◌⊎◌, ℕ, List, OnOk, IfErr, None, Some, MatchResult};
+ghost use Rattle.std.specs.Prelude.{◌≡◌, ◌≤◌, ◌<◌, ◌∷◌, ◌⊎◌, ℕ, OnOk, IfErr, None, Some, MatchResult};
 ghost use Rattle.std.specs.Option.{ForSome};
 ghost use Rattle.css_model.specs.History as entries;
 ghost use Rattle.css_model.specs.History.{History};
@@ -10,8 +10,7 @@ ghost use Rattle.css_companion.specs.Meanings.{kind_of};
 ghost use Rattle.css_drive.specs.CompanionDue.{due, from_ask, from_take, from_cii_text, from_ts_text, from_end};
 ghost use Rattle.css_drive.specs.CompanionDue.{refusal_of};
 ghost use Rattle.css_drive.specs.CompanionStanding.{Shown, shown, at, Stands, Knows, Leads, LeadsFrom, Goes, Stops};
-ghost use Rattle.css_drive.specs.CompanionStanding.{Keeps, Fails, Adds, IsHangingUp, IsEarly, IsEndBy, IsRefusal};
-ghost use Rattle.css_drive.specs.CompanionStanding.{hung};
+ghost use Rattle.css_drive.specs.CompanionStanding.{Keeps, Fails, Adds, IsHangingUp, IsEarly, IsEndBy, IsRefusal, hung};
 ghost use Rattle.css_drive.specs.CompanionTurns.{is_asking};
 ghost use Rattle.css_drive.specs.Proper.{Now};
 

@@ -1,12 +1,11 @@
-ghost use Rattle.std.specs.Prelude.{◌≡◌, ◌<◌, ◌≤◌, ◌∷◌, [], ℕ, List, Option, Some, None, false, IfOk};
-ghost use Rattle.std.specs.Prelude.{MatchResult};
+ghost use Rattle.std.specs.Prelude.{◌≡◌, ◌<◌, ◌≤◌, ◌∷◌, [], ℕ, List, Option, Some, None, false, IfOk, MatchResult};
 ghost use Rattle.css_model.specs.History.{History, Sent};
 ghost use Rattle.css_sessions.specs.Kept.{talk_of};
 ghost use Rattle.css_tv.specs.declared.event.TvEvent.TheVariants as events;
 ghost use Rattle.css_drive.specs.Proper.{TakeText};
 ghost use Rattle.css_drive.specs.TvDue.{TvRun, due};
-ghost use Rattle.css_drive.specs.TvProgress.{Progress, Place, Turned, Taken, Received, Served, Asked};
-ghost use Rattle.css_drive.specs.TvProgress.{happened, addresses_in};
+ghost use Rattle.css_drive.specs.TvProgress.{Progress, Place, Turned, Taken, Received, Served, Asked, happened};
+ghost use Rattle.css_drive.specs.TvProgress.{addresses_in};
 ghost use Rattle.css_drive.specs.TvTurns.{is_over, goes_on};
 ghost use Rattle.css_drive.specs.TvStanding.{IsFault, HasCause, IsRead, Adds, Told, IsAt, Goes, Airs, Arrives, Keeps};
 ghost use Rattle.css_drive.specs.TvStanding.{Stays, IsUnasked, IsAtEnd, IsUnused, Finishes};

@@ -9,8 +9,8 @@ ghost use Rattle.css_drive.specs.TvDue.{TvRun, run_of};
 ghost use Rattle.css_drive.specs.TvTurns.{IsRanged, IsOneMore, goes_on};
 ghost use Rattle.css_drive.specs.TvProgress.{Progress, Place};
 ghost use Rattle.css_drive.specs.TvRan.{TvRan, CountsTvRun};
-ghost use Rattle.css_drive.specs.TvStanding.{HasCause, Airs, Arrives, Reaches, Stops, Finishes};
-ghost use Rattle.css_drive.specs.TvStanding.{IsTurned, IsAtEnd, IsReady};
+ghost use Rattle.css_drive.specs.TvStanding.{HasCause, Airs, Arrives, Reaches, Stops, Finishes, IsTurned, IsAtEnd};
+ghost use Rattle.css_drive.specs.TvStanding.{IsReady};
 ghost use Rattle.css_drive.specs.declared.driven.Driven.TheVariants as driven;
 
 use crate::driven::Driven;

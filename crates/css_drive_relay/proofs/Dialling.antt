@@ -1,21 +1,20 @@
 -- What the dials of a turn make of a relay's run.
-use Rattle.std.proofs.Common.{◌≡◌, ℕ, ap, sym, ◌∙◌, subst, refl, true, false, inl, inr}
-use Rattle.std.proofs.Common.{[], ◌∷◌, ◌++◌, Option, Some, None, Result, Ok, Err}
+use Rattle.std.proofs.Common.{◌≡◌, ℕ, ap, sym, ◌∙◌, subst, refl, true, false, inl, inr, [], ◌∷◌, ◌++◌, Option, Some}
+use Rattle.std.proofs.Common.{None, Result, Ok, Err}
 use Rattle.std.specs.Prelude.{is_some}
 use Rattle.css_model.specs.declared.Kind.TheVariants as kind
 use Rattle.css_model.specs.History.{Address, Dialling, Dialled, NotDialled, History}
 use Rattle.css_cii.specs.declared.name.CiiName.TheVariants.{WcUrl}
-use Rattle.css_cii.specs.declared.state.State.{State}
 use Rattle.css_address.specs.declared.fault.AddressFault.{AddressFault}
 use Rattle.css_companion.specs.Meanings.{state_of}
 use Rattle.css_relay.specs.Relays.{Relay}
 use Rattle.css_drive.specs.CompanionDue.{dial_first, dial_to, place}
 use Rattle.css_drive.specs.CompanionStanding.{Shown, HasDialled, GivesPlace}
-use Rattle.css_drive.specs.Ends.{MayEnd, IsNetFault}
+use Rattle.css_drive.specs.Ends.{MayEnd}
 use Rattle.css_drive.specs.Proper.{Due, Dial}
 use Rattle.css_drive.specs.declared.driven.Driven.{Driven}
-use Rattle.css_drive.specs.declared.driven.Driven.TheVariants as driven
-use Rattle.css_drive.proofs.CompanionCalls.{bad_place, bad_quiet}
+use Rattle.css_drive.proofs.CompanionCalls.{bad_place, bad_own}
+use Rattle.css_drive.proofs.CompanionSteps.{own_quiet}
 use Rattle.css_drive_relay.specs.Places.{Facts, Place, Begun, Called, Progress, after}
 use Rattle.css_drive_relay.specs.Due.{due_at, from_wc, from_ask}
 use Rattle.css_drive_relay.specs.Standing.{KnowsPeers, Stands, Comes, Stops, facts_in, stood}
@@ -42,16 +41,6 @@ pub wc_made : (o : Option ℕ) (url found : Option (Result Address AddressFault)
     → url ≡ found → dial_to o kind.Wc WcUrl url rest ≡ dial_to None kind.Wc WcUrl found rest
 wc_made None url found rest e f = ap (λ x. dial_to None kind.Wc WcUrl x rest) f
 wc_made (Some p) url found rest e f = absurd (cc)
-
--- no call failed
-place_quiet : (url : Option (Result Address AddressFault)) (ended : Driven) → GivesPlace WcUrl url (Err ended)
-    → IsNetFault ended → ⊥
-place_quiet url (driven.NetFault failure) g failed = bad_quiet WcUrl url g
-place_quiet url ended g failed = failed
-
--- the address of the wall clock in a state
-abbrev pub wc_place : State → Option (Result Address AddressFault)
-wc_place state = place kind.Wc state.wc_url
 
 pub comes : {run : RelayRun} {start now : Shown} {relay : Relay} {live : Live} {history : History} {place : Place}
     → Stands run start now relay (stood live place) history → (to : Facts → History → Due)
@@ -141,6 +130,6 @@ module _ (live : Live) {run : RelayRun} {start now : Shown} {relay : Relay} {his
         → (ended : Driven) → GivesPlace WcUrl url (Err ended) → Stops run start now ended
     wc_ended s is-due none url found ended g =
         let Q : Due → Type 0 = λ x. MayEnd x ended in
-        stops_here s.runs (lawful s.knows) ended (place_quiet url ended g)
+        stops_here s.runs (lawful s.knows) ended (own_quiet ended (bad_own WcUrl url ended g))
         (subst Q (sym (is-due ∙ wc_made live.wc _ _ (from_ask run (facts_in live) history) none found))
         (bad_place WcUrl url kind.Wc (from_ask run (facts_in live) history) ended g))

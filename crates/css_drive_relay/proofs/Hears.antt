@@ -1,6 +1,6 @@
 -- What the texts of sessions make of a relay's run.
-use Rattle.std.proofs.Common.{◌≡◌, ℕ, ◌≤◌, ap, sym, ◌∙◌, subst, refl, cond}
-use Rattle.std.proofs.Common.{List, [], ◌∷◌, Option, Some, None, Result, Ok, Err}
+use Rattle.std.proofs.Common.{◌≡◌, ℕ, ◌≤◌, ap, sym, ◌∙◌, subst, refl, cond, List, [], ◌∷◌, Option, Some, None, Result}
+use Rattle.std.proofs.Common.{Ok, Err}
 use Rattle.std.specs.Prelude.{All, IfSome, MatchResult}
 use Rattle.std.proofs.lemmas.List.Elements.{All-head, All-tail, All-nil}
 use Rattle.css_model.specs.declared.Kind.TheVariants as kind
@@ -15,21 +15,21 @@ use Rattle.css_companion.specs.declared.fault.CompanionFault.{CompanionFault}
 use Rattle.css_relay.specs.Relays.{Relay, wc_url_of, relayed_state}
 use Rattle.css_drive.specs.CompanionDue.{refusal_of, end_by}
 use Rattle.css_drive.specs.CompanionStanding.{Shown, Adds, Failed, IsRefusal}
-use Rattle.css_drive.specs.Ends.{MayEnd, IsNetFault}
+use Rattle.css_drive.specs.Ends.{MayEnd}
 use Rattle.css_drive.specs.Proper.{TakeText, SendText, HangUp, Ends}
 use Rattle.css_drive.specs.declared.driven.Driven.{Driven}
-use Rattle.css_drive.specs.declared.driven.Driven.TheVariants as driven
-use Rattle.css_drive.proofs.CompanionCalls.{refusal_ends, refusal_quiet, lawful_plain}
-use Rattle.css_drive_relay.specs.Places.{Facts, Progress, Asked, Welcomed, Dropping, after}
-use Rattle.css_drive_relay.specs.Places.{lost, next_asked, welcomed, telling, telling_if, published, television_told}
+use Rattle.css_drive.proofs.CompanionCalls.{refusal_ends, refusal_own, lawful_plain, same_peers}
+use Rattle.css_drive.proofs.CompanionSteps.{own_quiet}
+use Rattle.css_drive_relay.specs.Places.{Facts, Progress, Asked, Welcomed, Dropping, after, lost, next_asked, welcomed}
+use Rattle.css_drive_relay.specs.Places.{telling, telling_if, published, television_told}
 use Rattle.css_drive_relay.specs.Due.{due_for}
-use Rattle.css_drive_relay.specs.Standing.{Knows, KnowsPeers, IsAccepted, IsTelevision, Runs, Stands, IsAt, Stops, Arrives}
-use Rattle.css_drive_relay.specs.Standing.{facts_in, stood, named}
+use Rattle.css_drive_relay.specs.Standing.{Knows, KnowsPeers, IsAccepted, IsTelevision, Runs, Stands, IsAt, Stops}
+use Rattle.css_drive_relay.specs.Standing.{Arrives, facts_in, stood, named}
 use Rattle.css_drive_relay.specs.declared.config.RelayRun.{RelayRun}
 use Rattle.css_drive_relay.specs.declared.live.Live.{Live}
 use Rattle.css_drive_relay.proofs.Openings.{peers_lost}
 use Rattle.css_drive_relay.proofs.Peers.{accepted, television, unused, still, all_in, all_without}
-use Rattle.css_drive_relay.proofs.Serves.{same_faults, same_peers}
+use Rattle.css_drive_relay.proofs.Serves.{same_faults}
 use Rattle.css_drive_relay.proofs.Steps.{knows_plain, lawful, runs_more, runs_on, runs_as, stops_here, stops_by_fault}
 
 -- ---- telling
@@ -183,17 +183,13 @@ module _ (live : Live) {run : RelayRun} {start now next : Shown} {history : Hist
       ∙ ap (λ (x : Option CompanionFault). television_told x state (facts_in live)) is)
       (peers refusal))
       (lawful_plain (Heard peer bytes) history (lawful k) refl refl) ended
-      (quiet ended r) (ends refusal r)
+      (own_quiet ended (refusal_own refusal ended r)) (ends refusal r)
     where
       h : History
       h = Heard peer bytes ∷ history
 
       state : State
       state = relayed_state (wc_url_of run.host run.port) (state_of (Heard peer bytes ∷ history))
-
-      quiet : (x : Driven) → IsRefusal refusal x → IsNetFault x → ⊥
-      quiet (driven.NetFault failure) r failed = refusal_quiet refusal failure r
-      quiet x r failed = failed
 
       peers : (x : Option CompanionFault) → KnowsPeers next.counts.peers (television_told x state (facts_in live)) h
       peers None = record {

@@ -1,5 +1,4 @@
 use Rattle.std.proofs.Common.{refl}
-use Rattle.css_drive.proofs.CompanionCalls as calls
 use Rattle.css_drive.proofs.CompanionSteps.{at_err}
 use Rattle.css_drive.proofs.companion_calls.try_dial.Goals as goal
 

@@ -1,14 +1,12 @@
-use Rattle.std.proofs.Common.{refl, sym, ◌∙◌, ap, subst, inl, inr, Some, None}
-use Rattle.std.proofs.Common.{ℕ, ◌∷◌, []}
+use Rattle.std.proofs.Common.{refl, sym, ◌∙◌, ap, subst, inl, inr, Some, None, ℕ, ◌∷◌, []}
 use Rattle.css_model.specs.declared.Kind.TheVariants as kind
 use Rattle.css_model.specs.History.{Dialling, Dialled, NotDialled}
 use Rattle.css_drive.specs.CompanionStanding.{Facts, IsFault}
 use Rattle.css_drive.specs.Notes.{standpoint}
 use Rattle.css_drive.specs.Proper.{Dial, SendText}
 use Rattle.css_tsmsg.specs.Setups.{setup_text}
-use Rattle.css_drive.proofs.CompanionSteps.{none_if, comes, stands_saw, peers_as, peers_ts}
-use Rattle.css_drive.proofs.CompanionSteps.{knows_lawful, stops_by_fault, stops_after, stops_here, ends_by}
-use Rattle.css_drive.proofs.CompanionSteps.{at_err, fault_ends, IsOwn}
+use Rattle.css_drive.proofs.CompanionSteps.{none_if, comes, stands_saw, peers_as, peers_ts, knows_lawful}
+use Rattle.css_drive.proofs.CompanionSteps.{stops_by_fault, stops_after, stops_here, ends_by, at_err, fault_ends, IsOwn}
 use Rattle.css_drive.proofs.CompanionCalls as calls
 use Rattle.css_drive.proofs.companion_dials.dial_ts.Goals as goal
 

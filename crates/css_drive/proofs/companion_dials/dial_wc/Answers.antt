@@ -1,12 +1,11 @@
-use Rattle.std.proofs.Common.{refl, sym, ◌∙◌, ap, inl, inr, Some, None}
-use Rattle.std.proofs.Common.{ℕ, ◌∷◌, []}
+use Rattle.std.proofs.Common.{refl, sym, ◌∙◌, ap, inl, inr, Some, None, ℕ, ◌∷◌, []}
 use Rattle.css_model.specs.declared.Kind.TheVariants as kind
 use Rattle.css_model.specs.History.{Dialling, Dialled, NotDialled}
 use Rattle.css_drive.specs.CompanionStanding.{Facts}
 use Rattle.css_drive.specs.Notes.{standpoint}
 use Rattle.css_drive.specs.Proper.{Dial}
-use Rattle.css_drive.proofs.CompanionSteps.{none_if, comes, stands_saw, peers_as, peers_wc}
-use Rattle.css_drive.proofs.CompanionSteps.{knows_lawful, stops_by_fault, stops_here, ends_by, at_err}
+use Rattle.css_drive.proofs.CompanionSteps.{none_if, comes, stands_saw, peers_as, peers_wc, knows_lawful}
+use Rattle.css_drive.proofs.CompanionSteps.{stops_by_fault, stops_here, ends_by, at_err}
 use Rattle.css_drive.proofs.CompanionCalls as calls
 use Rattle.css_drive.proofs.companion_dials.dial_wc.Goals as goal
 

@@ -1,7 +1,5 @@
-use Rattle.std.proofs.Common.{◌≡◌, refl, sym, ◌∙◌, ap, subst, inl, inr, false, Option, Some, None, ℕ, List, [], ◌++◌}
+use Rattle.std.proofs.Common.{◌≡◌, refl, sym, ◌∙◌, ap, subst, inl, inr, false, Some, ℕ, ◌++◌}
 use Rattle.css_model.specs.declared.Kind.TheVariants as kind
-use Rattle.css_model.specs.History.{History}
-use Rattle.css_outside.specs.Outsides.{with_entries}
 use Rattle.css_drive.specs.CompanionDue.{hang_up, due}
 use Rattle.css_drive.specs.CompanionStanding.{Facts, hung}
 use Rattle.css_drive.specs.CompanionTurns.{opened, is_peer}

@@ -1,93 +1,80 @@
-use Rattle.std.proofs.Common.{◌≡◌, refl, sym, ◌∙◌, ap, subst, inl, inr, arith, true, false, Option, Some, None}
-use Rattle.std.proofs.Common.{Result, Ok, Err, ℕ, List, ◌∷◌, [], ◌++◌, take}
-use Rattle.std.proofs.lemmas.Grind.{common_steps}
-use Rattle.css_model.specs.declared.Kind.TheVariants as kind
-use Rattle.css_model.specs.declared.Why.TheVariants as why
-use Rattle.css_model.specs.History.{Clock, Slept, Sent, Took, TookNone, Quiet, Heard, Closed}
-use Rattle.css_outside.specs.Outsides.{clock_entries, sleep_entries}
-use Rattle.css_outside.specs.declared.calls.Clocked.{Clocked}
+use Rattle.std.proofs.Common.{refl, sym, ◌∙◌, ap, inl, ℕ, List, None}
+use Rattle.css_model.specs.History.{Quiet, Heard, Closed}
 use Rattle.css_outside.specs.declared.calls.Heard.TheVariants as heard
-use Rattle.css_companion.specs.Meanings.{is_ts}
-use Rattle.css_drive.specs.CompanionDue.{send_to, due}
-use Rattle.css_drive.specs.CompanionStanding.{Facts, hung}
-use Rattle.css_drive.specs.Notes.{noted, standpoint}
+use Rattle.css_drive.specs.CompanionStanding.{Facts}
+use Rattle.css_drive.specs.Notes.{standpoint}
 use Rattle.css_drive.specs.declared.session.Session.TheVariants as session
-use Rattle.css_drive.specs.Proper.{Now, TakeDatagram, TakeText, SendDatagram}
-use Rattle.css_drive.proofs.CompanionSteps.{comes, stands_saw, stops_after, stops_by_fault, peers_as, knows_as}
-use Rattle.css_drive.proofs.CompanionSteps.{knows_lawful}
+use Rattle.css_drive.proofs.CompanionSteps.{comes, stops_by_fault, stops_by_memory, knows_lawful}
 use Rattle.css_drive.proofs.CompanionCalls as calls
-use Rattle.css_drive.proofs.CompanionEnds as ends
 use Rattle.css_drive.proofs.companion_hears.hear_ts.Goals as goal
 
 pub returns-in-Ok-Quiet-clause-goes : goal.returns-in-Ok-Quiet-clause-goes
 returns-in-Ok-Quiet-clause-goes g c before started h s k d =
+    let cfg = c.args.config.now in
+    let live = c.args.live.now in
     let p : ℕ = c.in-Some.peer in
-    let t = calls.ts_text_due c.args.config.now before _ _ c.args.live.now h s d _ c.in-Some.is in
-    let is = calls.open_ts c.args.config.now before _ _ c.args.live.now h s p c.in-Some.is in
-    let told = rw c.in-Ok-Quiet.field-0-is at c.in-Ok-Quiet.ensures.told in
-    let after = g.W.Observes.saw started c.hear.new.observer in
-    let more = rw c.in-Ok-Quiet.field-0-is at c.in-Ok-Quiet.ensures.saw (standpoint _ h) k started _ s.saw_so in
-    let saw : after (noted c.args.config.now (Quiet p ∷ h)) = subst after (sym (calls.heard_noted c.args.config.now p (heard.Quiet)
-    session.Ts h (calls.ts_at c.args.config.now before _ _ c.args.live.now h s p c.in-Some.is))) more in
-    comes (stands_saw s (TakeText p) t (Quiet p ∷ []) (heard.Quiet, refl) _ told.told (ap (λ x. x.faults) told.same) after saw _ s.facts
-    (peers_as _ _ _ _ h _ s.peers (calls.same_peers told.same) (λ q. refl)))
-    (calls.knows_plain _ _ (Quiet p) h k refl refl refl refl refl refl refl) _
-    (calls.asked_ts c.args.config.now (Quiet p) p h refl is)
+    let is = calls.open_ts cfg before _ _ live h s p c.in-Some.is in
+    comes (calls.said_stands s session.Ts p (calls.ts_at cfg before _ _ live h s p c.in-Some.is)
+    (calls.ts_text_due cfg before _ _ live h s d _ c.in-Some.is) heard.Quiet
+    (rw c.in-Ok-Quiet.field-0-is at c.in-Ok-Quiet.ensures.told) (g.W.Observes.saw started c.hear.new.observer)
+    (rw c.in-Ok-Quiet.field-0-is at c.in-Ok-Quiet.ensures.saw (standpoint _ h) k started _ s.saw_so) _
+    s.facts refl refl)
+    (calls.knows_plain _ _ (Quiet p) h k refl refl refl refl refl refl refl) _ (calls.asked_ts cfg (Quiet p) p h refl is)
 
 pub returns-in-Ok-clause-goes : goal.returns-in-Ok-clause-goes
 returns-in-Ok-clause-goes g c before started h s k d =
+    let cfg = c.args.config.now in
+    let live = c.args.live.now in
     let p : ℕ = c.in-Some.peer in
-    let t = calls.ts_text_due c.args.config.now before _ _ c.args.live.now h s d _ c.in-Some.is in
-    let is = calls.open_ts c.args.config.now before _ _ c.args.live.now h s p c.in-Some.is in
-    let told = rw c.in-Ok-Closed.field-0-is at c.in-Ok-Closed.ensures.told in
-    let after = g.W.Observes.saw started c.hear.new.observer in
-    let more = rw c.in-Ok-Closed.field-0-is at c.in-Ok-Closed.ensures.saw (standpoint _ h) k started _ s.saw_so in
-    let saw : after (noted c.args.config.now (Closed p ∷ h)) = subst after (sym (calls.heard_noted c.args.config.now p (heard.Closed)
-    session.Ts h (calls.ts_at c.args.config.now before _ _ c.args.live.now h s p c.in-Some.is))) more in
-    calls.over_comes s (TakeText p) t (Closed p) (heard.Closed, refl) _ told.told told.same after saw _ _ _
-    c.in-Ok.ensures.ok
-    (calls.ts_over c.args.config.now before _ _ c.args.live.now h s p c.in-Some.is)
-    (λ q. refl) k (p, inl refl, is) _ (calls.asked_ts c.args.config.now (Closed p) p h refl is)
+    let is = calls.open_ts cfg before _ _ live h s p c.in-Some.is in
+    let lost = c.in-Ok.ensures.ok in
+    comes (calls.said_stands s session.Ts p (calls.ts_at cfg before _ _ live h s p c.in-Some.is)
+    (calls.ts_text_due cfg before _ _ live h s d _ c.in-Some.is) heard.Closed
+    (rw c.in-Ok-Closed.field-0-is at c.in-Ok-Closed.ensures.told) (g.W.Observes.saw started c.hear.new.observer)
+    (rw c.in-Ok-Closed.field-0-is at c.in-Ok-Closed.ensures.saw (standpoint _ h) k started _ s.saw_so) _
+    (calls.ts_over cfg before _ _ live h s p c.in-Some.is ∙ sym lost.only)
+    (ap {A = Facts} (λ x. x.cii) lost.only) (ap {A = Facts} (λ x. x.ts) lost.only))
+    (lost.known cfg h (Closed p) k (p, inl refl, is)) _ (calls.asked_ts cfg (Closed p) p h refl is)
 
 pub returns-in-Err-lose_ts-clause-goes : goal.returns-in-Err-lose_ts-clause-goes
 returns-in-Err-lose_ts-clause-goes g c before started h s k d =
+    let cfg = c.args.config.now in
+    let live = c.args.live.now in
     let p : ℕ = c.in-Some.peer in
-    let t = calls.ts_text_due c.args.config.now before _ _ c.args.live.now h s d _ c.in-Some.is in
-    let told = rw c.in-Ok-Closed.field-0-is at c.in-Ok-Closed.ensures.told in
-    let after = g.W.Observes.saw started c.hear.new.observer in
-    let more = rw c.in-Ok-Closed.field-0-is at c.in-Ok-Closed.ensures.saw (standpoint _ h) k started _ s.saw_so in
-    let saw : after (noted c.args.config.now (Closed p ∷ h)) = subst after (sym (calls.heard_noted c.args.config.now p (heard.Closed)
-    session.Ts h (calls.ts_at c.args.config.now before _ _ c.args.live.now h s p c.in-Some.is))) more in
-    calls.over_stops s (TakeText p) t (Closed p) (heard.Closed, refl) _ told.told told.same after saw (knows_lawful _ _ h k)
-    refl refl _ _ c.in-Err-lose_ts.ensures.err
+    stops_by_memory (calls.said_stands s session.Ts p (calls.ts_at cfg before _ _ live h s p c.in-Some.is)
+    (calls.ts_text_due cfg before _ _ live h s d _ c.in-Some.is) heard.Closed
+    (rw c.in-Ok-Closed.field-0-is at c.in-Ok-Closed.ensures.told) (g.W.Observes.saw started c.hear.new.observer)
+    (rw c.in-Ok-Closed.field-0-is at c.in-Ok-Closed.ensures.saw (standpoint _ h) k started _ s.saw_so)
+    (record live { ts_open = None })
+    (calls.ts_over cfg before _ _ live h s p c.in-Some.is) refl refl)
+    (calls.lawful_plain (Closed p) h (knows_lawful _ _ h k) refl refl) _ _ c.in-Err-lose_ts.ensures.err
 
 pub returns-in-Ok-take_in_ts-clause-goes : goal.returns-in-Ok-take_in_ts-clause-goes
 returns-in-Ok-take_in_ts-clause-goes g c before started h s k d =
+    let cfg = c.args.config.now in
+    let live = c.args.live.now in
     let p : ℕ = c.in-Some.peer in
     let text : List ℕ = c.in-Ok-Text.text in
-    let t = calls.ts_text_due c.args.config.now before _ _ c.args.live.now h s d _ c.in-Some.is in
-    let is = calls.open_ts c.args.config.now before _ _ c.args.live.now h s p c.in-Some.is in
-    let told = rw c.in-Ok-Text.field-0-is at c.in-Ok-Text.ensures.told in
-    let after = g.W.Observes.saw started c.hear.new.observer in
-    let more = rw c.in-Ok-Text.field-0-is at c.in-Ok-Text.ensures.saw (standpoint _ h) k started _ s.saw_so in
-    let saw : after (noted c.args.config.now (Heard p text ∷ h)) = subst after (sym (calls.heard_noted c.args.config.now p (heard.Text text)
-    session.Ts h (calls.ts_at c.args.config.now before _ _ c.args.live.now h s p c.in-Some.is))) more in
-    comes (stands_saw s (TakeText p) t (Heard p text ∷ []) (heard.Text text, refl) _ told.told (ap (λ x. x.faults) told.same) after saw _ s.facts
-    (peers_as _ _ _ _ h _ s.peers (calls.same_peers told.same) (λ q. refl)))
-    (c.in-Ok-take_in_ts.ensures.told c.args.config.now p h is k) _ (calls.heard_ts c.args.config.now p text h is)
+    let is = calls.open_ts cfg before _ _ live h s p c.in-Some.is in
+    comes (calls.said_stands s session.Ts p (calls.ts_at cfg before _ _ live h s p c.in-Some.is)
+    (calls.ts_text_due cfg before _ _ live h s d _ c.in-Some.is) (heard.Text text)
+    (rw c.in-Ok-Text.field-0-is at c.in-Ok-Text.ensures.told) (g.W.Observes.saw started c.hear.new.observer)
+    (rw c.in-Ok-Text.field-0-is at c.in-Ok-Text.ensures.saw (standpoint _ h) k started _ s.saw_so) _
+    s.facts refl refl)
+    (c.in-Ok-take_in_ts.ensures.told cfg p h is k) _ (calls.heard_ts cfg p text h is)
 
 pub returns-in-Err-take_in_ts-clause-goes : goal.returns-in-Err-take_in_ts-clause-goes
 returns-in-Err-take_in_ts-clause-goes g c before started h s k d =
+    let cfg = c.args.config.now in
+    let live = c.args.live.now in
     let p : ℕ = c.in-Some.peer in
     let text : List ℕ = c.in-Ok-Text.text in
-    let t = calls.ts_text_due c.args.config.now before _ _ c.args.live.now h s d _ c.in-Some.is in
-    let told = rw c.in-Ok-Text.field-0-is at c.in-Ok-Text.ensures.told in
-    let after = g.W.Observes.saw started c.hear.new.observer in
-    let more = rw c.in-Ok-Text.field-0-is at c.in-Ok-Text.ensures.saw (standpoint _ h) k started _ s.saw_so in
-    let saw : after (noted c.args.config.now (Heard p text ∷ h)) = subst after (sym (calls.heard_noted c.args.config.now p (heard.Text text)
-    session.Ts h (calls.ts_at c.args.config.now before _ _ c.args.live.now h s p c.in-Some.is))) more in
-    calls.over_stops s (TakeText p) t (Heard p text) (heard.Text text, refl) _ told.told told.same after saw
-    (knows_lawful _ _ h k) refl refl _ _ c.in-Err-take_in_ts.ensures.err
+    stops_by_memory (calls.said_stands s session.Ts p (calls.ts_at cfg before _ _ live h s p c.in-Some.is)
+    (calls.ts_text_due cfg before _ _ live h s d _ c.in-Some.is) (heard.Text text)
+    (rw c.in-Ok-Text.field-0-is at c.in-Ok-Text.ensures.told) (g.W.Observes.saw started c.hear.new.observer)
+    (rw c.in-Ok-Text.field-0-is at c.in-Ok-Text.ensures.saw (standpoint _ h) k started _ s.saw_so) live
+    s.facts refl refl)
+    (calls.lawful_plain (Heard p text) h (knows_lawful _ _ h k) refl refl) _ _ c.in-Err-take_in_ts.ensures.err
 
 pub returns-in-Err-clause-goes : goal.returns-in-Err-clause-goes
 returns-in-Err-clause-goes g c before started h s k d =
@@ -95,8 +82,10 @@ returns-in-Err-clause-goes g c before started h s k d =
     (c.in-Err.ensures.saw (standpoint c.args.config.now h) k started _ s.saw_so)
 
 pub returns-in-Ok-clause-keeps : goal.returns-in-Ok-clause-keeps
-returns-in-Ok-clause-keeps g c = calls.keeps_same (c.in-Ok-Closed.ensures.dials)
-    (c.in-Ok.ensures.keeps (g.O.Outside.counts c.hear.new.outside))
+returns-in-Ok-clause-keeps g c =
+    calls.keeps_same c.in-Ok-Closed.ensures.dials (c.in-Ok.ensures.keeps (g.O.Outside.counts c.hear.new.outside))
 
 pub returns-in-Err-lose_ts-clause-keeps : goal.returns-in-Err-lose_ts-clause-keeps
-returns-in-Err-lose_ts-clause-keeps g c = calls.keeps_same (c.in-Ok-Closed.ensures.dials) (c.in-Err-lose_ts.ensures.keeps (g.O.Outside.counts c.hear.new.outside))
+returns-in-Err-lose_ts-clause-keeps g c =
+    calls.keeps_same c.in-Ok-Closed.ensures.dials
+    (c.in-Err-lose_ts.ensures.keeps (g.O.Outside.counts c.hear.new.outside))

@@ -1,17 +1,3 @@
-use Rattle.std.proofs.Common.{◌≡◌, refl, sym, ◌∙◌, ap, subst, inl, inr, arith, true, false, Option, Some, None}
-use Rattle.std.proofs.Common.{Result, Ok, Err, ℕ, List, ◌∷◌, [], ◌++◌, ◌+◌, add-one, suc, length}
-use Rattle.std.specs.Prelude.{nat_lt, unwrap_or}
-use Rattle.std.proofs.lemmas.Grind.{common_steps}
-use Rattle.css_model.specs.declared.Why.TheVariants as why
-use Rattle.css_outside.specs.Outsides.{clock_entries, sleep_entries}
-use Rattle.css_outside.specs.declared.calls.Clocked.{Clocked}
-use Rattle.css_companion.specs.declared.report.Report.{Report}
-use Rattle.css_drive.specs.CompanionReports.{is_due, report_at}
-use Rattle.css_drive.specs.CompanionStanding.{Facts, facts_in}
-use Rattle.css_drive.specs.Proper.{Now}
-use Rattle.css_drive.proofs.CompanionSteps.{stands_more, knows_lawful}
-use Rattle.css_drive.proofs.CompanionCalls as calls
-use Rattle.css_drive.proofs.CompanionEnds as ends
 use Rattle.css_drive.proofs.companion_turns.calls.Goals as goal
 
 pub returns-in-Err-clause-goes : goal.returns-in-Err-clause-goes

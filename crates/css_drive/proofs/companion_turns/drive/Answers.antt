@@ -52,66 +52,46 @@ turn-requires-clause-reported g c = c.turns.invariant.reported
 pub turn-requires-clause-bounds : goal.turn-requires-clause-bounds
 turn-requires-clause-bounds g c = c.requires.bounds
 
-pub returns-in-Err-clause-made : goal.returns-in-Err-clause-made
-returns-in-Err-clause-made g c =
+pub returns-in-Err : goal.returns-in-Err
+returns-in-Err g c =
     let cfg = c.args.config.now in
     let w = c.turns.invariant.run in
     let more : goes_on cfg.limit c.turns.live.first c.turns.live.turn c.turns.live.made ≡ true = sym c.goes_on.ensures
     ∙ c.turns-test.true in
     let few : nat_lt c.turns.live.reported cfg.reports ≡ true = grind (arith, common_steps) in
     let d = ends.next_turn cfg _ _ _ c.turns.live w.history w.stands w.next few more in
-    runs.made_of cfg _ _ _ _ _ _ c.ended_by.ensures (c.in-Err.ensures.goes _ _ w.history w.stands w.known d)
-
-pub returns-in-Err-clause-net_faults : goal.returns-in-Err-clause-net_faults
-returns-in-Err-clause-net_faults g c =
-    let cfg = c.args.config.now in
-    let w = c.turns.invariant.run in
-    let more : goes_on cfg.limit c.turns.live.first c.turns.live.turn c.turns.live.made ≡ true = sym c.goes_on.ensures
-    ∙ c.turns-test.true in
-    let few : nat_lt c.turns.live.reported cfg.reports ≡ true = grind (arith, common_steps) in
-    let d = ends.next_turn cfg _ _ _ c.turns.live w.history w.stands w.next few more in
-    runs.counted_of cfg _ _ _ _ _ _ c.ended_by.ensures (c.in-Err.ensures.goes _ _ w.history w.stands w.known d)
-
-pub returns-in-Err-clause-dial_faults : goal.returns-in-Err-clause-dial_faults
-returns-in-Err-clause-dial_faults g c =
+    let s = c.in-Err.ensures.goes _ _ w.history w.stands w.known d in
     let le : (g.O.Outside.counts c.args.outside.now).dial_faults ≤ (g.O.Outside.counts c.turn.new.outside).dial_faults =
     omega (arith, c.turns.invariant.dials, c.turn.ensures.dials) in
-    subst (CountsDialFaults _ _) (sym c.ended_by.ensures) (runs.final_dials _ _ _ _ (runs.early_dials _ _ _
-    c.in-Err.ensures.early le) le)
+    record {
+      made = runs.made_of cfg _ _ _ _ _ _ c.ended_by.ensures s;
+      net_faults = runs.counted_of cfg _ _ _ _ _ _ c.ended_by.ensures s;
+      dial_faults =
+          subst (CountsDialFaults _ _) (sym c.ended_by.ensures) (runs.final_dials _ _ _ _ (runs.early_dials _ _ _
+          c.in-Err.ensures.early le) le);
+    }
 
-pub returns-clause-made : goal.returns-clause-made
-returns-clause-made g c =
+pub returns : goal.returns
+returns g c =
     let cfg = c.args.config.now in
-    let w = c.turns.invariant.run in
-    let over : goes_on cfg.limit c.turns.live.first c.turns.live.turn c.turns.live.made ≡ false = sym c.goes_on.ensures
-    ∙ c.turns-test.false in
-    let few : nat_lt c.turns.live.reported cfg.reports ≡ true = grind (arith, common_steps) in
-    let P : Driven → Type 0 = λ x. IsHangingUp cfg x w.history in
-    let hanging = subst P (sym c.ending-end.ensures) (ends.is_over cfg _ _ _ c.turns.live w.history w.stands w.next few
-    over) in
-    let s = c.hang_up-ended.ensures.stops _ _ w.history w.stands (knows_lawful cfg _ _ w.known) hanging in
-    runs.made_of cfg _ _ _ _ _ _ c.ended_by-2.ensures s
-
-pub returns-clause-net_faults : goal.returns-clause-net_faults
-returns-clause-net_faults g c =
-    let cfg = c.args.config.now in
-    let w = c.turns.invariant.run in
-    let over : goes_on cfg.limit c.turns.live.first c.turns.live.turn c.turns.live.made ≡ false = sym c.goes_on.ensures
-    ∙ c.turns-test.false in
-    let few : nat_lt c.turns.live.reported cfg.reports ≡ true = grind (arith, common_steps) in
-    let P : Driven → Type 0 = λ x. IsHangingUp cfg x w.history in
-    let hanging = subst P (sym c.ending-end.ensures) (ends.is_over cfg _ _ _ c.turns.live w.history w.stands w.next few
-    over) in
-    let s = c.hang_up-ended.ensures.stops _ _ w.history w.stands (knows_lawful cfg _ _ w.known) hanging in
-    runs.counted_of cfg _ _ _ _ _ _ c.ended_by-2.ensures s
-
-pub returns-clause-dial_faults : goal.returns-clause-dial_faults
-returns-clause-dial_faults g c =
     let i = c.turns.invariant in
-    let begun = ends.has_begun c.args.config.now _ _ _ c.turns.live i.run.history i.run.stands (sym c.goes_on.ensures
-    ∙ c.turns-test.false) in
+    let w = i.run in
+    let over : goes_on cfg.limit c.turns.live.first c.turns.live.turn c.turns.live.made ≡ false = sym c.goes_on.ensures
+    ∙ c.turns-test.false in
+    let few : nat_lt c.turns.live.reported cfg.reports ≡ true = grind (arith, common_steps) in
+    let P : Driven → Type 0 = λ x. IsHangingUp cfg x w.history in
+    let hanging = subst P (sym c.ending-end.ensures) (ends.is_over cfg _ _ _ c.turns.live w.history w.stands w.next few
+    over) in
+    let s = c.hang_up-ended.ensures.stops _ _ w.history w.stands (knows_lawful cfg _ _ w.known) hanging in
+    let begun = ends.has_begun cfg _ _ _ c.turns.live w.history w.stands over in
     let hung = runs.hung_dials _ _ c.turns.live.made c.turns.live.cii c.turns.live.wc c.turns.live.ts _ _ _ i.dials
     (i.tried begun) c.ending-end.ensures c.hang_up-ended.ensures.kind in
-    let P : ℕ → Type 0 = λ n. CountsDialFaults (g.O.Outside.counts c.args.outside.now).dial_faults n c.ended_by-2.result in
-    subst P (sym c.hang_up-ended.ensures.dials) (subst (CountsDialFaults _ _) (sym c.ended_by-2.ensures) (runs.final_dials
-    (g.W.Observes.over c.turns.observer) _ _ _ hung i.dials))
+    let Q : ℕ → Type 0 = λ n.
+    CountsDialFaults (g.O.Outside.counts c.args.outside.now).dial_faults n c.ended_by-2.result in
+    record {
+      made = runs.made_of cfg _ _ _ _ _ _ c.ended_by-2.ensures s;
+      net_faults = runs.counted_of cfg _ _ _ _ _ _ c.ended_by-2.ensures s;
+      dial_faults =
+          subst Q (sym c.hang_up-ended.ensures.dials) (subst (CountsDialFaults _ _) (sym c.ended_by-2.ensures)
+          (runs.final_dials (g.W.Observes.over c.turns.observer) _ _ _ hung i.dials));
+    }

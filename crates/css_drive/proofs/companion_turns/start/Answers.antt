@@ -1,4 +1,4 @@
-use Rattle.std.proofs.Common.{◌≡◌, refl, sym, ◌∙◌, ap, subst, true, false, Some, ℕ, ◌++◌, ◌∷◌, ◌+◌, add-one, suc, length}
+use Rattle.std.proofs.Common.{◌≡◌, refl, sym, ◌∙◌, ap, subst, true, false, Some, ℕ, ◌++◌, ◌∷◌, ◌+◌, add-one, length}
 use Rattle.std.specs.Prelude.{unwrap_or}
 use Rattle.css_model.specs.declared.Why.TheVariants as why
 use Rattle.css_outside.specs.Outsides.{clock_entries, sleep_entries}

@@ -1,7 +1,6 @@
 use Rattle.std.proofs.Common.{◌≡◌, ◌+◌, ◌∙◌, ◌∷◌, ℕ, List, sym, subst, arith, drop, get_or}
-use Rattle.css_drive.proofs.TvSteps.{cause_later, cause_plain}
+use Rattle.css_drive.proofs.TvSteps.{cause_later, cause_plain, stops_by_fault, peers_kept}
 use Rattle.css_drive.proofs.TvHears.{is_live}
-use Rattle.css_drive.proofs.TvSteps.{stops_by_fault, peers_kept}
 use Rattle.css_drive.proofs.TvLines.{peers_all}
 use Rattle.css_drive.proofs.TvLoops.{hung_next, hung_past, all_hung}
 use Rattle.css_drive.proofs.TvOpens.{not_open, peer_from, counts_kept}

@@ -2,8 +2,7 @@ use Rattle.std.proofs.Common.{refl, [], ◌∷◌, Some, ℕ, List}
 use Rattle.css_model.specs.History.{Heard, Closed}
 use Rattle.css_tv.specs.declared.event.TvEvent.TheVariants as event
 use Rattle.css_drive.specs.TvProgress.{Progress, Asked, addresses_in, happened}
-use Rattle.css_drive.proofs.TvSteps.{cause_plain}
-use Rattle.css_drive.proofs.TvSteps.{goes_on, stays_on, peers_kept}
+use Rattle.css_drive.proofs.TvSteps.{cause_plain, goes_on, stays_on, peers_kept}
 use Rattle.css_drive.proofs.TvHears.{quiet_heard, text_told, closing_told, asked_continues}
 use Rattle.css_drive.proofs.tv_calls.hear.Goals as goal
 

@@ -1,8 +1,7 @@
 use Rattle.std.proofs.Common.{arith, [], refl, ℕ, List, take}
 use Rattle.std.proofs.lemmas.Grind.{common_steps}
 use Rattle.css_drive.specs.TvProgress.{Progress, Taken, Served, addresses_in}
-use Rattle.css_drive.proofs.TvSteps.{cause_plain}
-use Rattle.css_drive.proofs.TvSteps.{peers_kept, goes_on, continues}
+use Rattle.css_drive.proofs.TvSteps.{cause_plain, peers_kept, goes_on, continues}
 use Rattle.css_drive.proofs.TvDatagrams.{took_none, took_one}
 use Rattle.css_drive.proofs.tv_calls.serve.Goals as goal
 

@@ -4,8 +4,7 @@ use Rattle.css_model.specs.History.{Accepted}
 use Rattle.css_num.specs.declared.protocol.Kind.TheVariants as kind
 use Rattle.css_drive.specs.TvProgress.{Progress, Asked}
 use Rattle.css_outside.specs.Outsides.{Counts}
-use Rattle.css_drive.proofs.TvSteps.{cause_by}
-use Rattle.css_drive.proofs.TvSteps.{stays_on}
+use Rattle.css_drive.proofs.TvSteps.{cause_by, stays_on}
 use Rattle.css_drive.proofs.TvHears.{none_came, one_came}
 use Rattle.css_drive.proofs.tv_calls.welcome.Goals as goal
 

@@ -1,7 +1,6 @@
 use Rattle.std.proofs.Common.{◌∷◌, ◌∙◌, ap, sym, ℕ}
 use Rattle.css_tv.specs.declared.event.TvOut.TheVariants as out
-use Rattle.css_drive.proofs.TvSteps.{cause_plain}
-use Rattle.css_drive.proofs.TvSteps.{peers_kept}
+use Rattle.css_drive.proofs.TvSteps.{cause_plain, peers_kept}
 use Rattle.css_drive.proofs.TvPuts.{wrote_one, gone_one, hung_one}
 use Rattle.css_drive.proofs.tv_outputs.put_one.Goals as goal
 

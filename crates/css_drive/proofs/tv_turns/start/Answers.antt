@@ -1,7 +1,6 @@
 use Rattle.std.proofs.Common.{refl}
 use Rattle.css_drive.specs.declared.driven.Driven.TheVariants as driven
-use Rattle.css_drive.proofs.TvSteps.{cause_plain}
-use Rattle.css_drive.proofs.TvSteps.{stops_by_fault}
+use Rattle.css_drive.proofs.TvSteps.{cause_plain, stops_by_fault}
 use Rattle.css_drive.proofs.TvRuns.{at_first, listens, begun, none_ranged}
 use Rattle.css_drive.specs.TvDue.{run_of}
 use Rattle.css_drive.proofs.tv_turns.start.Goals as goal

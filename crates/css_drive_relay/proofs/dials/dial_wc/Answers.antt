@@ -1,4 +1,5 @@
 use Rattle.std.proofs.Common.{refl, sym, ◌∙◌, ap, None}
+use Rattle.css_drive.proofs.CompanionCalls as calls
 use Rattle.css_drive_relay.proofs.Dialling as dials
 use Rattle.css_drive_relay.proofs.dials.dial_wc.Goals as goal
 
@@ -8,20 +9,20 @@ returns-then-is_some-clause-goes g c start h at s d =
 
 pub returns-clause-goes : goal.returns-clause-goes
 returns-clause-goes g c start h at s d =
-    let found = ap (λ x. dials.wc_place x) (sym (c.state.ensures.meaning h s.knows.stands))
+    let found = ap (λ x. calls.wc_place x) (sym (c.state.ensures.meaning h s.knows.stands))
     ∙ (rw c.in-Some.is at c.in_ok-to.ensures.gives) in
     dials.wc_dialled c.args.live.now s d (sym c.is_some.ensures ∙ c.if-is_some.false) c.in-Some.to found _ c.in-Some-2.peer
     (rw c.in-Some-2.is at c.in_ok-peer.ensures.told) _ refl
 
 pub returns-in_default-2-clause-goes : goal.returns-in_default-2-clause-goes
 returns-in_default-2-clause-goes g c start h at s d =
-    let found = ap (λ x. dials.wc_place x) (sym (c.state.ensures.meaning h s.knows.stands))
+    let found = ap (λ x. calls.wc_place x) (sym (c.state.ensures.meaning h s.knows.stands))
     ∙ (rw c.in-Some.is at c.in_ok-to.ensures.gives) in
     dials.wc_not_dialled c.args.live.now s d (sym c.is_some.ensures ∙ c.if-is_some.false) c.in-Some.to found _
     (rw c.in_default-2.is at c.in_ok-peer.ensures.told)
 
 pub returns-in_default-clause-goes : goal.returns-in_default-clause-goes
 returns-in_default-clause-goes g c start h at s d =
-    let found = ap (λ x. dials.wc_place x) (sym (c.state.ensures.meaning h s.knows.stands))
+    let found = ap (λ x. calls.wc_place x) (sym (c.state.ensures.meaning h s.knows.stands))
     ∙ (rw c.in_default.is at c.in_ok-to.ensures.gives) in
     dials.comes s _ (d ∙ dials.wc_made _ _ None _ (sym c.is_some.ensures ∙ c.if-is_some.false) found)

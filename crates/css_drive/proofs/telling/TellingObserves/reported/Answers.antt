@@ -1,4 +1,3 @@
-use Rattle.std.proofs.Common.{refl}
 use Rattle.css_drive.proofs.Reports as reports
 use Rattle.css_drive.proofs.telling.TellingObserves.reported.Goals as goal
 
