@@ -94,12 +94,8 @@ impl Companion {
     }
 
     fn is_asked(&self, originate: u64) -> bool {
-        for request in self.requests.iter().rev().take(64) {
-            if *request == originate {
-                return true;
-            }
-        }
-        false
+        let mut last = self.requests.iter().rev().take(64);
+        last.any(|request| *request == originate)
     }
 
     /// When the first response landed that promised this follow-up.
