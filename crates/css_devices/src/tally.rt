@@ -83,14 +83,10 @@ impl Tally {
         ensures counted { CountsPlain self.old self.new result }
         ensures same { result ≡ outcome }
     {
-        match outcome {
-            Ok(value) => Ok(value),
-            Err(OutFault::Failed(failure)) => {
-                self.fail();
-                Err(OutFault::Failed(failure))
-            }
-            Err(OutFault::Memory) => Err(OutFault::Memory),
+        if let Err(OutFault::Failed(_)) = &outcome {
+            self.fail();
         }
+        outcome
     }
 
     /// Counts a dial that gave no session.

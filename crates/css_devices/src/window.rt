@@ -27,14 +27,25 @@ pub(crate) struct Window {
 }
 
 fn feeds_in(bytes: &[u8]) -> u64 {
-    bytes.iter().filter(|byte| **byte == LINE_FEED).count() as u64
+    let mut feeds = 0u64;
+    for byte in bytes {
+        if *byte == LINE_FEED {
+            feeds = feeds.saturating_add(1);
+        }
+    }
+    feeds
 }
 
 /// Whether the first line of these bytes ends with a carriage return, where it ends.
 fn first_returns(bytes: &[u8]) -> Option<bool> {
-    let feed = bytes.iter().position(|byte| *byte == LINE_FEED)?;
-    let line = bytes.get(..feed)?;
-    Some(line.last() == Some(&CARRIAGE_RETURN))
+    let mut returns = false;
+    for byte in bytes {
+        if *byte == LINE_FEED {
+            return Some(returns);
+        }
+        returns = *byte == CARRIAGE_RETURN;
+    }
+    None
 }
 
 impl Window {
