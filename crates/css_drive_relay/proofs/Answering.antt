@@ -1,10 +1,10 @@
 -- Why what a relay sends in answer answers a request that it took.
-use Rattle.std.proofs.Common.{◌≡◌, ℕ, subst, refl, Bool, true, false, List, [], ◌∷◌, Option, Some, None, inl}
-use Rattle.std.proofs.Common.{inr, cond, Result, Ok, Err}
+use Rattle.std.proofs.Common.{◌≡◌, ℕ, subst, refl, Bool, true, false, List, [], ◌∷◌, Option, Some, None, inl, inr, cond}
+use Rattle.std.proofs.Common.{Result, Ok, Err}
 use Rattle.css_model.specs.declared.Message.{Message}
 use Rattle.css_model.specs.declared.Why.TheVariants as why
-use Rattle.css_model.specs.History.{Entry, History, Once, Listening, Slept, Clock, Dialling, Dialled, NotDialled, Accepted}
-use Rattle.css_model.specs.History.{NoneCame, Sent, Took, TookNone, Quiet, Heard, Closed, Wrote, Gone, HungUp}
+use Rattle.css_model.specs.History.{Entry, History, Once, Slept, Clock, Dialling, Accepted, NoneCame, Sent, Quiet}
+use Rattle.css_model.specs.History.{Heard, Closed, Wrote, Gone, HungUp}
 use Rattle.css_model.specs.WallClock.{Local}
 use Rattle.css_cii.specs.declared.state.State.{State}
 use Rattle.css_companion.specs.declared.fault.CompanionFault.{CompanionFault}
@@ -13,10 +13,10 @@ use Rattle.css_relay.specs.Answers.{Ticket, received_after, answered_after, data
 use Rattle.css_relay.specs.declared.fault.RelayFault.{RelayFault}
 use Rattle.css_relay.proofs.TwoHops as two
 use Rattle.css_drive_relay.specs.Places.{Place, Facts, Received, Answers, Taken, Asking, Welcomed, Greeting, Telling}
-use Rattle.css_drive_relay.specs.Places.{Rejecting, Dropping, Over, progress_of, next_asked, telling, telling_if}
+use Rattle.css_drive_relay.specs.Places.{Dropping, Over, Rejecting, progress_of, next_asked, telling, telling_if}
 use Rattle.css_drive_relay.specs.Places.{opened_if, television_told, sent, hung_up, passed, heard, closed, told, gone}
-use Rattle.css_drive_relay.specs.Places.{received, received_at, answering, answered_at, lost, without_first}
-use Rattle.css_drive_relay.specs.Places.{Asked, Begun, with_turn}
+use Rattle.css_drive_relay.specs.Places.{received, received_at, answering, answered_at, lost, without_first, Asked}
+use Rattle.css_drive_relay.specs.Places.{Begun, with_turn}
 use Rattle.css_drive_relay.specs.Laws.{IsAnswerTo, AnswersAreTrueTo}
 use Rattle.css_drive_relay.specs.declared.config.RelayRun.{RelayRun}
 
@@ -197,29 +197,22 @@ after_give run history reading _ t = tt
 -- ---- each history
 tells : (run : RelayRun) (history : History) → Tells run.companion.local history (progress_of run history).place
 tells run [] = tt
-tells run (Listening host port ∷ older) = tt
 tells run (Slept ∷ older) = later run.companion.local older Slept (progress_of run older).place (tells run older)
 tells run (Clock why.Turn reading ∷ older) =
     let f : Facts = with_turn reading (progress_of run older).facts in
     none_begun run.companion.local (Clock why.Turn reading ∷ older) (is_late run.limit f.first f.turn)
-tells run (Clock why.Ask reading ∷ older) = tt
-tells run (Clock why.Land reading ∷ older) = tt
 tells run (Clock why.Take reading ∷ older) =
     after_take run older reading (progress_of run older).place (tells run older)
 tells run (Clock why.Give reading ∷ older) =
     after_give run older reading (progress_of run older).place (tells run older)
 tells run (Dialling k to ∷ older) =
     later run.companion.local older (Dialling k to) (progress_of run older).place (tells run older)
-tells run (Dialled k peer ∷ older) = tt
-tells run (NotDialled k ∷ older) = tt
 tells run (Accepted peer k ∷ older) = none_opened run.companion.local (Accepted peer k ∷ older) _ peer _
 tells run (NoneCame ∷ older) =
     none_next run.companion.local (NoneCame ∷ older) (progress_of run older).facts.television
     (progress_of run older).facts.peers
 tells run (Sent peer bytes ∷ older) =
     none_sent run.companion.local (Sent peer bytes ∷ older) (progress_of run older).place (progress_of run older).facts
-tells run (Took peer bytes ∷ older) = tt
-tells run (TookNone ∷ older) = tt
 tells run (Quiet peer ∷ older) =
     after_passed run.companion.local older (Quiet peer) (progress_of run older).place (progress_of run older).facts
     (tells run older)
@@ -238,6 +231,7 @@ tells run (Gone peer ∷ older) =
 tells run (HungUp peer ∷ older) =
     none_hung_up run.companion.local (HungUp peer ∷ older) (progress_of run older).place
     (progress_of run older).facts
+tells run (_ ∷ older) = tt
 
 pub answers_are_true : AnswersAreTrueTo
 answers_are_true run history peer bytes e =

@@ -1,6 +1,6 @@
 -- What the places of a relay's run say of its last calls: which clock was read for a datagram.
-use Rattle.std.proofs.Common.{◌≡◌, ℕ, Bool, true, false, List, [], ◌∷◌, ◌++◌, Option, Some, None, length}
-use Rattle.std.proofs.Common.{refl, sym, ap, subst, inl, inr, cond}
+use Rattle.std.proofs.Common.{◌≡◌, ℕ, Bool, true, false, List, [], ◌∷◌, ◌++◌, Option, Some, None, length, refl, sym, ap}
+use Rattle.std.proofs.Common.{subst, inl, inr, cond}
 use Rattle.std.specs.Prelude.{is_some, ⊤, Result, Ok, Err}
 use Rattle.std.specs.Result.{result_ok}
 use Rattle.css_cii.specs.declared.state.State.{State}
@@ -15,10 +15,8 @@ use Rattle.css_model.specs.declared.Message.{Message}
 use Rattle.css_model.specs.declared.Kind.{Kind}
 use Rattle.css_model.specs.declared.Why.{Why}
 use Rattle.css_model.specs.declared.Why.TheVariants as why
-use Rattle.css_model.specs.WallClock.{Local}
-use Rattle.css_model.specs.History.{History}
-use Rattle.css_model.specs.History.{Slept, Clock, Accepted, NoneCame, Sent}
-use Rattle.css_model.specs.History.{Quiet, Heard, Closed, Wrote, Gone, HungUp, request_in}
+use Rattle.css_model.specs.History.{History, Slept, Clock, Accepted, NoneCame, Sent, Quiet, Heard, Closed, Wrote, Gone}
+use Rattle.css_model.specs.History.{HungUp, request_in}
 use Rattle.css_outside.specs.Outsides.{opening_entries, datagram_entries, heard_entries, wrote_entries, sleep_entries}
 use Rattle.css_outside.specs.declared.calls.Heard.{Heard as SessionHeard}
 use Rattle.css_outside.specs.declared.calls.Heard.TheVariants as heard
@@ -27,9 +25,9 @@ use Rattle.css_outside.specs.declared.calls.Wrote.TheVariants as outcome
 use Rattle.css_relay.specs.Answers.{Ticket, received_after, answered_after, datagram_of}
 use Rattle.css_relay.specs.declared.fault.RelayFault.{RelayFault}
 use Rattle.css_drive_relay.specs.Places as places
-use Rattle.css_drive_relay.specs.Places.{Place, Taken, Received, Asking, Answers, Welcomed, Greeting, Telling}
-use Rattle.css_drive_relay.specs.Places.{Asked, Begun, Rejecting}
-use Rattle.css_drive_relay.specs.Places.{Dropping, Over, Facts, progress_of, is_kept, next_asked, telling, telling_if}
+use Rattle.css_drive_relay.specs.Places.{Place, Taken, Received, Asking, Answers, Welcomed, Greeting, Telling, Asked}
+use Rattle.css_drive_relay.specs.Places.{Dropping, Over, Begun, Rejecting, Facts, progress_of, is_kept, next_asked}
+use Rattle.css_drive_relay.specs.Places.{telling, telling_if}
 use Rattle.css_drive_relay.specs.Due.{due_at, from_taken, IsProperRelay}
 use Rattle.css_drive_relay.specs.SecondHop.{given_at, given_by, IsResponse}
 use Rattle.css_drive_relay.specs.Told.{relayed}

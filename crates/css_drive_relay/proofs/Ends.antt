@@ -1,44 +1,40 @@
 -- How a relay's run ends: all open sessions are hung up.
 use Rattle.css_cii.specs.States.{empty}
 use Rattle.css_cii.specs.declared.state.State.{State}
-use Rattle.std.proofs.Common.{◌≡◌, ap₂, ℕ, ◌≤◌, ◌<◌, arith, ap, sym, ◌∙◌, subst, refl, Bool, true, false, cond, inl, inr}
-use Rattle.std.proofs.Common.{List, [], ◌∷◌, ◌++◌, drop, Option, Some, None}
+use Rattle.std.proofs.Common.{◌≡◌, ap₂, ℕ, ◌≤◌, ◌<◌, arith, ap, sym, ◌∙◌, subst, refl, Bool, true, false, cond, inl}
+use Rattle.std.proofs.Common.{inr, List, [], ◌∷◌, ◌++◌, drop, Option, Some, None}
 use Rattle.std.specs.Prelude.{◌⊎◌, ◌||◌, ◌+◌, ◌&&◌, ◌*◌, is_some, nat_lt, nat_le, not, unwrap_or}
 use Rattle.std.specs.Option.{ForSome}
 use Rattle.std.proofs.lemmas.List.Elements.{All-nil}
-use Rattle.css_model.specs.History.{HungUp, History}
+use Rattle.css_model.specs.History.{HungUp, History, Listening}
 use Rattle.css_outside.specs.Faults.{HasRisen}
 use Rattle.css_relay.specs.Relays.{Relay}
 use Rattle.css_drive.specs.CompanionStanding.{Shown, Adds, IsFault, IsCut}
 use Rattle.css_drive.specs.CompanionTurns.{goes_on, is_late}
 use Rattle.css_drive.specs.Ends.{MayEnd, IsNetFault, CountsDialFaults}
-use Rattle.css_drive.specs.Proper.{Due, Now, HangUp, Ends}
+use Rattle.css_drive.specs.Proper.{Due, Now, HangUp, Ends, Listen, Empty}
 use Rattle.css_model.specs.declared.Why.TheVariants as why
 use Rattle.css_drive.specs.declared.driven.Driven.{Driven}
 use Rattle.css_drive.specs.declared.driven.Driven.TheVariants as driven
-use Rattle.css_drive_relay.specs.Places.{Facts, Place, Progress, Asked, Over, after, all_open, without_first}
+use Rattle.css_drive.proofs.CompanionCalls.{same_peers}
+use Rattle.css_drive.proofs.CompanionRuns.{no_entries}
+use Rattle.css_drive_relay.specs.Places.{Facts, Place, Progress, Asked, Over, after, all_open, without_first, Begun}
+use Rattle.css_drive_relay.specs.Places.{beginning, with_turn}
 use Rattle.css_drive_relay.specs.Due.{due_at, final, from_hang_ups}
 use Rattle.css_drive_relay.specs.Standing.{IsAccepted, Runs, Stands, IsAt, Stops, IsHanging, HangsUp, KeepsDials}
-use Rattle.css_drive_relay.specs.Standing.{facts_in, stood}
+use Rattle.css_drive_relay.specs.Standing.{facts_in, stood, Knows, HasRead, listening, named}
 use Rattle.css_outside.specs.Limits.{IsLimit, most_turns}
-use Rattle.css_outside.specs.Outsides.{Counts}
+use Rattle.css_outside.specs.Outsides.{Counts, with_entries, clock_entries}
 use Rattle.css_outside.specs.declared.limit.Limit.{Limit}
 use Rattle.css_outside.specs.declared.limit.Limit.TheVariants.{Turns, Seconds}
 use Rattle.css_drive_relay.specs.declared.config.RelayRun.{RelayRun}
 use Rattle.css_drive_relay.specs.declared.live.Live.{Live}
-use Rattle.css_drive_relay.proofs.Peers.{accepted, television, unused}
-use Rattle.css_drive_relay.proofs.Serves.{same_faults, same_peers}
-use Rattle.css_drive_relay.proofs.Peers.{peers_quiet, still}
+use Rattle.css_drive_relay.proofs.Peers.{accepted, television, unused, peers_quiet, still}
+use Rattle.css_drive_relay.proofs.Serves.{same_faults}
 use Rattle.css_drive_relay.proofs.Steps.{knows_plain, knows_clock, lawful, runs_more, runs_on, runs_read, kinds_read}
-use Rattle.css_drive_relay.proofs.Steps.{numbers_read}
-use Rattle.css_drive_relay.proofs.Steps.{stops_here}
+use Rattle.css_drive_relay.proofs.Steps.{numbers_read, stops_here}
 use Rattle.css_drive_relay.specs.Ran.{RelayRan}
 use Rattle.css_drive_relay.specs.Places as places
-use Rattle.css_drive_relay.specs.Places.{Begun, beginning, with_turn}
-use Rattle.css_drive_relay.specs.Standing.{Knows, HasRead, listening, named}
-use Rattle.css_drive.specs.Proper.{Listen, Empty}
-use Rattle.css_model.specs.History.{Listening}
-use Rattle.css_outside.specs.Outsides.{with_entries, clock_entries}
 use Rattle.css_outside.specs.declared.calls.Clocked.{Clocked}
 use Rattle.std.proofs.lemmas.Bool.Decides.{nat_tests}
 
@@ -148,27 +144,16 @@ ending_counts f before now le tried ended (inl e) =
     by (Some p) b tried = le
 ending_counts f before now le tried (driven.NetFault failure) (inr c) = le
 ending_counts f before now le tried driven.Memory (inr c) = le
-ending_counts f before now le tried driven.WriteFault (inr c) = absurd c
-ending_counts f before now le tried driven.Done (inr c) = absurd c
-ending_counts f before now le tried (driven.BadLine line why) (inr c) = absurd c
-ending_counts f before now le tried (driven.BadCii text fault) (inr c) = absurd c
-ending_counts f before now le tried (driven.Moved property old new) (inr c) = absurd c
-ending_counts f before now le tried (driven.Spent n) (inr c) = absurd c
-ending_counts f before now le tried (driven.Unreachable n) (inr c) = absurd c
-ending_counts f before now le tried (driven.BadUrl property) (inr c) = absurd c
+ending_counts f before now le tried _ (inr c) = absurd c
 
 -- a run that is cut counts no failed dial
 pub cut_counts : (before now : ℕ) → before ≤ now → (ended : Driven) → IsCut ended → CountsDialFaults before now ended
-cut_counts before now le (driven.NetFault failure) c = le
-cut_counts before now le driven.Memory c = le
-cut_counts before now le (driven.BadCii text fault) c = le
-cut_counts before now le (driven.Moved property old new) c = le
-cut_counts before now le (driven.BadUrl property) c = le
 cut_counts before now le driven.WriteFault c = absurd c
 cut_counts before now le driven.Done c = absurd c
 cut_counts before now le (driven.BadLine line why) c = absurd c
 cut_counts before now le (driven.Spent n) c = absurd c
 cut_counts before now le (driven.Unreachable n) c = absurd c
+cut_counts before now le _ c = le
 
 -- nothing is written
 pub cut_writes : (ended : Driven) → IsCut ended → ended ≡ driven.WriteFault → ⊥
@@ -192,10 +177,6 @@ dials_from old new now ended e c =
     subst (λ (n : ℕ). CountsDialFaults n now ended) (ap {A = Counts} (λ x. x.dial_faults) e) c
 
 -- ---- the beginning
-no_entries : (told : Option History) → told ≡ with_entries [] told
-no_entries None = refl
-no_entries (Some h) = refl
-
 pub at_first : (run : RelayRun) (now : Shown) → Runs run now now beginning []
 at_first run now = record {
   told = no_entries now.told;

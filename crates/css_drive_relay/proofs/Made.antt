@@ -19,9 +19,8 @@ use Rattle.css_model.specs.declared.Kind.{Kind}
 use Rattle.css_model.specs.declared.Kind.TheVariants as kind
 use Rattle.css_model.specs.declared.Why.{Why}
 use Rattle.css_model.specs.declared.Why.TheVariants as why
-use Rattle.css_model.specs.History.{History, Address, Listening, Slept, Clock, Dialling, Dialled, NotDialled}
-use Rattle.css_model.specs.History.{NoneCame, Sent, Took, TookNone, Quiet, Heard, Closed, Wrote, Gone, HungUp}
-use Rattle.css_model.specs.History.{request_in}
+use Rattle.css_model.specs.History.{History, Address, Listening, Slept, Clock, Dialling, Dialled, NotDialled, NoneCame}
+use Rattle.css_model.specs.History.{Sent, Took, TookNone, Quiet, Heard, Closed, Wrote, Gone, HungUp, request_in}
 use Rattle.css_model.specs.Wire.{encoded, request_at}
 use Rattle.css_outside.specs.Limits.{most_turns}
 use Rattle.css_outside.specs.Outsides.{opening_entries, datagram_entries, heard_entries, wrote_entries, sleep_entries}
@@ -32,10 +31,9 @@ use Rattle.css_outside.specs.declared.calls.Wrote.TheVariants as outcome
 use Rattle.css_relay.specs.Answers.{Ticket, received_after, answered_after, datagram_of}
 use Rattle.css_relay.specs.declared.fault.RelayFault.{RelayFault}
 use Rattle.css_drive_relay.specs.Places as places
-use Rattle.css_drive_relay.specs.Places.{Place, Begins, Begun, Called, Asking, Requested, Taken, Received, Answers}
-use Rattle.css_drive_relay.specs.Places.{Served, Greeting, Rejecting, Welcomed, Refused, Telling, Asked, Dropping, Over}
-use Rattle.css_drive_relay.specs.Places.{Facts, Progress, progress_of, all_open, is_kept, next_asked, telling}
-use Rattle.css_drive_relay.specs.Places.{telling_if}
+use Rattle.css_drive_relay.specs.Places.{Place, Begun, Called, Asking, Taken, Received, Greeting, Rejecting, Welcomed}
+use Rattle.css_drive_relay.specs.Places.{Refused, Telling, Asked, Dropping, Over, Facts, Progress, progress_of}
+use Rattle.css_drive_relay.specs.Places.{all_open, is_kept, next_asked, telling, telling_if}
 use Rattle.css_drive_relay.specs.Due.{due, due_at, final, from_hang_ups, from_end, from_texts, from_tellings, from_ask}
 use Rattle.css_drive_relay.specs.Due.{from_wc, from_dial, from_taken, IsProperRelay}
 use Rattle.css_drive_relay.specs.Made.{HasMadeAll, MadeTurns, TurnsAreMade}
@@ -206,8 +204,7 @@ module _ (run : RelayRun) (f : Facts) (history : History) (place : Place) where
 
   counts_dialled : (k : Kind) → MayCount run f place (from_dial run k f history)
   counts_dialled kind.Cii = counts_wc
-  counts_dialled kind.Wc = counts_request
-  counts_dialled kind.Ts = counts_request
+  counts_dialled _ = counts_request
 
   counts_sending : (o : Option ℕ) (bytes : List ℕ) → MayCount run f place (send_to o bytes)
   counts_sending None bytes = tt
@@ -219,31 +216,24 @@ module _ (run : RelayRun) (f : Facts) (history : History) (place : Place) where
 
   counts_refused : (x : CompanionFault) → MayCount run f place (Ends (end_by x))
   counts_refused (fault.BadCii number reason) = tt
-  counts_refused (fault.Moved property old new) = tt
-  counts_refused fault.Memory = tt
+  counts_refused _ = tt
 
 counts_due : (run : RelayRun) (f : Facts) (history : History) (place : Place) → (IsOver place → IsMade run f)
     → MayCount run f place (due_at run f history place)
-counts_due run f history Begins over = tt
 counts_due run f history Begun over =
     counts_first run f history Begun f.cii run.cii (from_wc run f history) (counts_wc run f history Begun)
 counts_due run f history (Called k) over = counts_dialled run f history (Called k) k
 counts_due run f history (Asking reading) over =
     counts_sending run f history (Asking reading) f.wc (encoded (request_at reading))
-counts_due run f history Requested over = tt
 counts_due run f history (Taken peer bytes) over =
     counts_taken run f history (Taken peer bytes) (is_some (request_in bytes))
-counts_due run f history (Received peer ticket) over = tt
-counts_due run f history (Answers peer datagram) over = tt
-counts_due run f history Served over = tt
-counts_due run f history (Greeting peer) over = tt
 counts_due run f history (Rejecting peer) over = inl tt
-counts_due run f history (Welcomed peer) over = tt
 counts_due run f history (Refused x) over = counts_refused run f history (Refused x) x
 counts_due run f history (Telling text left) over = counts_telling run f history (Telling text left) text left
 counts_due run f history (Asked left) over = counts_asking run f history (Asked left) left
 counts_due run f history (Dropping peer left) over = inl tt
 counts_due run f history (Over left) over = counts_hanging run f history (Over left) left (over tt)
+counts_due run f history _ over = tt
 
 -- ---- entries
 or_true : (b : Bool) → (b || true) ≡ true

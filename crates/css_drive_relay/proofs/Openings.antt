@@ -1,6 +1,6 @@
 -- What the sessions that others open make of a relay's run.
-use Rattle.std.proofs.Common.{◌≡◌, ℕ, ◌+◌, ◌≤◌, ◌<◌, arith, ap, sym, ◌∙◌, subst, refl, Bool, true, false}
-use Rattle.std.proofs.Common.{List, [], ◌∷◌, ◌++◌, Option, Some, None, Result, Ok, Err}
+use Rattle.std.proofs.Common.{◌≡◌, ℕ, ◌+◌, ◌≤◌, ◌<◌, arith, ap, sym, ◌∙◌, subst, refl, Bool, true, false, List, [], ◌∷◌}
+use Rattle.std.proofs.Common.{◌++◌, Option, Some, None, Result, Ok, Err}
 use Rattle.std.specs.Prelude.{All, length, MatchResult}
 use Rattle.std.proofs.lemmas.List.Elements.{All-head, All-tail, All-nil, All-cons}
 use Rattle.css_model.specs.declared.Kind.{Kind}
@@ -14,14 +14,14 @@ use Rattle.css_drive.specs.declared.driven.Driven.{Driven}
 use Rattle.css_drive.proofs.TvSteps.{below_later}
 use Rattle.css_drive.specs.Proper.{Accept, SendText, HangUp}
 use Rattle.css_outside.specs.declared.calls.Wrote.TheVariants as outcome
-use Rattle.css_drive_relay.specs.Places.{Facts, Progress, Served, after}
-use Rattle.css_drive_relay.specs.Places.{lost, next_asked, welcomed, is_kept, opened_if}
+use Rattle.css_drive_relay.specs.Places.{Facts, Progress, Served, after, lost, next_asked, welcomed, is_kept, opened_if}
 use Rattle.css_drive_relay.specs.Standing.{KnowsPeers, IsAccepted, IsOpen, IsNumbered, Runs, Stands, IsAt, Arrives}
 use Rattle.css_drive_relay.specs.Standing.{facts_in, stood, named}
 use Rattle.css_drive_relay.specs.declared.config.RelayRun.{RelayRun}
 use Rattle.css_drive_relay.specs.declared.live.Live.{Live}
 use Rattle.css_drive_relay.proofs.Peers.{accepted, television, unused, still, all_without}
-use Rattle.css_drive_relay.proofs.Serves.{same_faults, same_peers}
+use Rattle.css_drive.proofs.CompanionCalls.{same_peers}
+use Rattle.css_drive_relay.proofs.Serves.{same_faults}
 use Rattle.css_drive_relay.proofs.Steps.{knows_plain, lawful, runs_more, runs_on, stops_by_fault}
 
 -- the sessions that are asked next were accepted

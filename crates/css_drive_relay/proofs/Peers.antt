@@ -1,6 +1,6 @@
 -- Which sessions were accepted, and which was dialled, as a history goes on.
-use Rattle.std.proofs.Common.{◌≡◌, ℕ, ◌≤◌, ◌<◌, arith, ap, sym, ◌∙◌, refl, subst, Bool, true, false, cond, List, [], ◌∷◌}
-use Rattle.std.proofs.Common.{Option, Some, None, eq-eqb, add-one}
+use Rattle.std.proofs.Common.{◌≡◌, ℕ, ◌≤◌, ◌<◌, arith, ap, sym, ◌∙◌, refl, subst, Bool, true, false, cond, List, []}
+use Rattle.std.proofs.Common.{◌∷◌, Option, Some, None, add-one}
 use Rattle.std.specs.Prelude.{All, IfSome, ◌==◌, ◌+◌, not, nat_lt}
 use Rattle.std.specs.List.{insert}
 use Rattle.std.specs.Option.{option_or}
@@ -11,6 +11,7 @@ use Rattle.css_model.specs.declared.Kind.TheVariants as kind
 use Rattle.css_model.specs.History.{Address, Dialled, Dialling, History}
 use Rattle.css_companion.specs.Meanings.{kind_of}
 use Rattle.css_drive_relay.specs.Places.{Facts, Called, Progress, place, with_peer, without}
+use Rattle.css_drive.proofs.CompanionSteps.{other_kind, own_kind}
 use Rattle.css_drive.proofs.TvSteps.{below_later}
 use Rattle.css_drive_relay.specs.Standing.{IsAccepted, IsTelevision, IsOpen, IsNumbered, AreUnused, KnowsPeers, named}
 
@@ -71,17 +72,6 @@ peers_quiet {m = m} {later = later} k le same numbered peers tv none = record {
   unused = unused k le same numbered;
 }
 
--- at a place that names some
-pub peers_named : {n m : ℕ} {p q : Progress} {history later : History} → KnowsPeers n p history → n ≤ m
-    → ((peer : ℕ) → kind_of peer later ≡ kind_of peer history) → IsNumbered m later → q.facts.peers ≡ p.facts.peers
-    → q.facts.television ≡ p.facts.television → All (IsAccepted n history) (named q.place) → KnowsPeers m q later
-peers_named {m = m} {q = q} {later = later} k le same numbered peers tv some = record {
-  accepted = subst (λ (x : List ℕ). All (IsAccepted m later) x) (sym peers) (accepted k le same);
-  waiting = all_in le same (named q.place) some;
-  television = subst (λ (x : Option ℕ). IsOpen m later x) (sym tv) (television k le same);
-  unused = unused k le same numbered;
-}
-
 -- the accepted sessions without one
 pub all_without : {n : ℕ} {history : History} (peer : ℕ) (peers : List ℕ) → All (IsAccepted n history) peers
     → All (IsAccepted n history) (without peer peers)
@@ -89,15 +79,6 @@ all_without {n} {history} peer peers all =
     All-filter (λ other. not (other == peer)) (IsAccepted n history) peers all
 
 -- ---- dials
-other_kind : (n p q : ℕ) (k : Kind) (to : Address) (history : History) → p ≤ n → n < q
-    → kind_of p (Dialled k q ∷ Dialling k to ∷ history) ≡ kind_of p history
-other_kind n p q k to history le lt =
-    ap (λ b. option_or (cond b (Some k) None) (kind_of p history)) (ne_eqb q p (λ e. omega (arith, le, lt, e)))
-
-own_kind : (q : ℕ) (k : Kind) (to : Address) (history : History)
-    → kind_of q (Dialled k q ∷ Dialling k to ∷ history) ≡ Some k
-own_kind q k to history = ap (λ b. option_or (cond b (Some k) None) (kind_of q history)) (eq-eqb q q refl)
-
 accepted_dialled : (n m q : ℕ) (k : Kind) (to : Address) (history : History) → n < q → q ≤ m → (peers : List ℕ)
     → All (IsAccepted n history) peers → All (IsAccepted m (Dialled k q ∷ Dialling k to ∷ history)) peers
 accepted_dialled n m q k to history lt le [] all = All-nil (IsAccepted m (Dialled k q ∷ Dialling k to ∷ history))

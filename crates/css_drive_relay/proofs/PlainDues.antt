@@ -11,8 +11,7 @@ use Rattle.css_model.specs.declared.Kind.{Kind}
 use Rattle.css_model.specs.declared.Kind.TheVariants as kind
 use Rattle.css_model.specs.declared.Why.TheVariants as why
 use Rattle.css_model.specs.History.{History, Address, request_in}
-use Rattle.css_drive_relay.specs.Places.{Place, Begins, Begun, Called, Asking, Requested, Taken, Received, Answers}
-use Rattle.css_drive_relay.specs.Places.{Served, Greeting, Rejecting, Welcomed, Refused, Telling, Asked, Dropping, Over}
+use Rattle.css_drive_relay.specs.Places.{Place, Begun, Called, Asking, Taken, Answers, Greeting, Telling, Asked, Over}
 use Rattle.css_drive_relay.specs.Places.{Facts, all_open}
 use Rattle.css_drive_relay.specs.Due.{due_at, final, from_hang_ups, from_end, from_texts, from_ask, from_wc, from_dial}
 use Rattle.css_drive_relay.specs.Due.{from_taken}
@@ -71,8 +70,7 @@ plain_first None to rest quiet = tt
 
 plain_dialled : (run : RelayRun) (k : Kind) (f : Facts) (history : History) → IsPlain (from_dial run k f history)
 plain_dialled run kind.Cii f history = plain_wc run f history
-plain_dialled run kind.Wc f history = plain_request run f history
-plain_dialled run kind.Ts f history = plain_request run f history
+plain_dialled run _ f history = plain_request run f history
 
 plain_taken : (b : Bool) → IsPlain (from_taken b)
 plain_taken true = tt
@@ -80,21 +78,14 @@ plain_taken false = tt
 
 pub plain_due : (run : RelayRun) (f : Facts) (history : History) (place : Place) → IsSilent place
     → IsPlain (due_at run f history place)
-plain_due run f history Begins silent = tt
 plain_due run f history Begun silent = plain_first f.cii run.cii (from_wc run f history) (plain_wc run f history)
 plain_due run f history (Called k) silent = plain_dialled run k f history
 plain_due run f history (Asking reading) silent = absurd silent
-plain_due run f history Requested silent = tt
 plain_due run f history (Taken peer bytes) silent = plain_taken (is_some (request_in bytes))
-plain_due run f history (Received peer ticket) silent = tt
 plain_due run f history (Answers peer datagram) silent = absurd silent
-plain_due run f history Served silent = tt
 plain_due run f history (Greeting peer) silent = absurd silent
-plain_due run f history (Rejecting peer) silent = tt
-plain_due run f history (Welcomed peer) silent = tt
-plain_due run f history (Refused fault) silent = tt
 plain_due run f history (Telling text []) silent = plain_asking run f.peers f history
 plain_due run f history (Telling text (peer ∷ left)) silent = absurd silent
 plain_due run f history (Asked left) silent = plain_asking run left f history
-plain_due run f history (Dropping peer left) silent = tt
 plain_due run f history (Over left) silent = plain_hanging (final f) left
+plain_due run f history _ silent = tt

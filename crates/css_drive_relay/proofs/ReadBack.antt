@@ -1,6 +1,6 @@
 -- What is read from the datagram of a relay's response tells the same, whatever the originate value.
-use Rattle.std.proofs.Common.{◌≡◌, ℕ, ◌^◌, ◌≤◌, ◌<◌, arith, ap, ◌∙◌, subst, refl, Bool, true, false, cond, List}
-use Rattle.std.proofs.Common.{[], ◌∷◌, ◌++◌, sym, Option, Some, None, Result, Ok, Err}
+use Rattle.std.proofs.Common.{◌≡◌, ℕ, ◌^◌, ◌≤◌, ◌<◌, arith, ap, ◌∙◌, subst, refl, Bool, true, false, cond, List, []}
+use Rattle.std.proofs.Common.{◌∷◌, ◌++◌, sym, Option, Some, None, Result, Ok, Err}
 use Rattle.std.specs.Prelude.{ℤ, pos, negsuc, neg_ℤ, ◌≤ℤ◌, FitsSigned, max, nat_lt}
 use Rattle.std.specs.Int.{w8}
 use Rattle.std.specs.Option.{option_to_list}
@@ -11,20 +11,18 @@ use Rattle.css_model.specs.declared.Stamp.{Stamp}
 use Rattle.css_model.specs.declared.Message.{Message}
 use Rattle.css_model.specs.declared.WcFault.{WcFault}
 use Rattle.css_model.specs.declared.TheConstants.{LIMIT}
-use Rattle.css_model.specs.Numbers.{precision_ns, max_error}
+use Rattle.css_model.specs.Numbers.{precision_ns, max_error, IsWithin}
 use Rattle.css_model.specs.WallClock.{Local}
-use Rattle.css_model.specs.Wire.{encoded, decoded, fields, fault, unless_fault, stamp_of}
-use Rattle.css_model.specs.Wire.{reading_of}
+use Rattle.css_model.specs.Wire.{encoded, decoded, fields, fault, unless_fault, stamp_of, reading_of}
 use Rattle.css_model.specs.World.{World}
-use Rattle.css_model.specs.Numbers.{IsWithin}
 use Rattle.css_model.specs.History.{History, is_sleep, LandedAnswer, landed_answer, landed_answers, times_of}
 use Rattle.css_model.specs.History.{is_possible, possible_answers, accepted_answers}
 use Rattle.css_model.proofs.Landings.{landed_answer-is}
 use Rattle.css_span.specs.Frontiers.{greatest_error}
 use Rattle.css_span.specs.WallSpans.{wall_span}
 use Rattle.css_wc.proofs.Codec.{IsStamp, IsMessage, fields-encoded}
-use Rattle.css_relay.specs.Answers.{Ticket, requested_by, ticket_at, ticket_by, received_after, response_to}
-use Rattle.css_relay.specs.Answers.{answer_at, answered, answered_after}
+use Rattle.css_relay.specs.Answers.{Ticket, requested_by, ticket_at, ticket_by, received_after, response_to, answer_at}
+use Rattle.css_relay.specs.Answers.{answered, answered_after}
 use Rattle.css_relay.specs.Middles.{cut, between, is_beyond}
 use Rattle.css_relay.specs.TwoHops.{IsTrueResponse}
 use Rattle.css_relay.specs.declared.fault.RelayFault.{RelayFault}

@@ -1,6 +1,6 @@
 -- Why each response of a relay's whole run answers the request that was taken last before it.
-use Rattle.std.proofs.Common.{◌≡◌, ℕ, ◌≤◌, Bool, true, false, List, [], ◌∷◌, ◌++◌, Option, Some, None, length}
-use Rattle.std.proofs.Common.{refl, sym, ap, subst, ◌∙◌, arith, inl, inr, take}
+use Rattle.std.proofs.Common.{◌≡◌, ℕ, ◌≤◌, Bool, true, false, List, [], ◌∷◌, ◌++◌, Option, Some, None, length, refl}
+use Rattle.std.proofs.Common.{sym, ap, subst, ◌∙◌, arith, inl, inr, take}
 use Rattle.std.specs.Prelude.{◌⊎◌, IfSome, IsTrue, Result, Ok, Err}
 use Rattle.std.specs.Result.{result_ok}
 use Rattle.css_drive.specs.Proper.{Due, Listen, Now, Dial, Accept, SendDatagram, TakeDatagram, TakeText, SendText}
@@ -15,9 +15,8 @@ use Rattle.css_model.specs.World.{World, Errors, IsWorldFor, IsInRange}
 use Rattle.css_model.specs.Explains.{IsLawful, IsTruthful, TruthfulAt, Explains}
 use Rattle.css_model.proofs.Wall.{wall_is_true}
 use Rattle.css_model.specs.History.{Entry, History, Each, Once, LandedAnswer, landed_answer, landed_answers}
-use Rattle.css_model.specs.History.{is_possible}
-use Rattle.css_model.specs.History.{Listening, Slept, Clock, Dialling, Dialled, NotDialled, Accepted, NoneCame, Sent}
-use Rattle.css_model.specs.History.{Took, TookNone, Quiet, Heard, Closed, Wrote, Gone, HungUp}
+use Rattle.css_model.specs.History.{is_possible, Listening, Slept, Clock, Dialling, Dialled, NotDialled, Accepted}
+use Rattle.css_model.specs.History.{NoneCame, Sent, Took, TookNone, Quiet, Heard, Closed, Wrote, Gone, HungUp}
 use Rattle.css_outside.specs.Outsides.{opening_entries, datagram_entries, heard_entries, wrote_entries, sleep_entries}
 use Rattle.css_outside.specs.declared.calls.Heard.{Heard as SessionHeard}
 use Rattle.css_outside.specs.declared.calls.Heard.TheVariants as heard
@@ -27,12 +26,10 @@ use Rattle.css_relay.specs.Answers.{answered_after}
 use Rattle.css_relay.specs.TwoHops.{IsAnswerOf, IsTrueResponse}
 use Rattle.css_relay.specs.declared.fault.RelayFault.{RelayFault}
 use Rattle.css_relay.proofs.TwoHops as two
-use Rattle.css_drive_relay.specs.Places.{Place, Received}
-use Rattle.css_drive_relay.specs.Places.{progress_of}
+use Rattle.css_drive_relay.specs.Places.{Place, Received, progress_of}
 use Rattle.css_drive_relay.specs.Due.{due_at, IsProperRelay}
-use Rattle.css_drive_relay.specs.SecondHop.{given_at, given_by, IsGiven, last_take, GivenIsTrue}
-use Rattle.css_drive_relay.specs.SecondHop.{IsTrueAnswer, IsRequest, IsResponse, IsSentAt, IsFromRun, FromRunAt}
-use Rattle.css_drive_relay.specs.SecondHop.{SecondHopsAreTrue}
+use Rattle.css_drive_relay.specs.SecondHop.{given_at, given_by, IsGiven, last_take, GivenIsTrue, IsTrueAnswer}
+use Rattle.css_drive_relay.specs.SecondHop.{IsRequest, IsResponse, IsSentAt, IsFromRun, FromRunAt, SecondHopsAreTrue}
 use Rattle.css_drive_relay.proofs.DatagramPlaces.{Shows, Shape, shape_of}
 use Rattle.css_drive_relay.proofs.ReadBack.{TellSame, reads_back, true_as}
 use Rattle.css_drive_relay.proofs.Sending.{sent_is_known}

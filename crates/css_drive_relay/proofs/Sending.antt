@@ -2,8 +2,8 @@
 use Rattle.std.proofs.Common.{ℕ, Bool, true, false, List, [], ◌∷◌, ◌++◌, Option, Some, None, refl, sym, subst, inl, inr}
 use Rattle.std.specs.Prelude.{⊤}
 use Rattle.css_drive.specs.CompanionDue.{send_to}
-use Rattle.css_drive.specs.Proper.{Due, Listen, Now, Dial, Accept, SendDatagram, TakeDatagram, TakeText, SendText}
-use Rattle.css_drive.specs.Proper.{HangUp, Ends, MayAdd, Empty, More}
+use Rattle.css_drive.specs.Proper.{Due, Now, Dial, Accept, SendDatagram, TakeDatagram, TakeText, SendText, Ends, MayAdd}
+use Rattle.css_drive.specs.Proper.{Empty, More}
 use Rattle.css_model.specs.declared.Kind.{Kind}
 use Rattle.css_model.specs.declared.Why.{Why}
 use Rattle.css_model.specs.History.{History, Each, Clock}
@@ -46,16 +46,13 @@ module _ (run : RelayRun) (older : History) (all : Each (IsSentAt run) older) wh
 
   known_text : (peer : ℕ) (x : SessionHeard) → Each (IsSentAt run) (heard_entries peer x ++ older)
   known_text peer heard.Quiet = (tt, all)
-  known_text peer (heard.Text text) = (tt, all)
-  known_text peer heard.Closed = (tt, all)
+  known_text peer _ = (tt, all)
 
   known_writing : (peer : ℕ) (text : List ℕ) (x : Outcome) → Each (IsSentAt run) (wrote_entries peer text x ++ older)
   known_writing peer text outcome.Sent = (tt, all)
   known_writing peer text outcome.Gone = (tt, all)
 
   known_call : (d : Due) → IsNoDatagram d → (call : History) → MayAdd d call → Each (IsSentAt run) (call ++ older)
-  known_call (Listen host port) quiet call may =
-      subst (λ (x : History). Each (IsSentAt run) (x ++ older)) (sym may) (tt, all)
   known_call (Now w) quiet call may =
       subst (λ (x : History). Each (IsSentAt run) (x ++ older)) (sym may.1)
       (known_reading w may.0.reading may.0.slept)
@@ -72,9 +69,8 @@ module _ (run : RelayRun) (older : History) (all : Each (IsSentAt run) older) wh
       subst (λ (x : History). Each (IsSentAt run) (x ++ older)) (sym may.1) (known_text peer may.0)
   known_call (SendText peer text) quiet call may =
       subst (λ (x : History). Each (IsSentAt run) (x ++ older)) (sym may.1) (known_writing peer text may.0)
-  known_call (HangUp peer) quiet call may =
-      subst (λ (x : History). Each (IsSentAt run) (x ++ older)) (sym may) (tt, all)
   known_call (Ends ended) quiet call may = absurd may
+  known_call _ quiet call may = subst (λ (x : History). Each (IsSentAt run) (x ++ older)) (sym may) (tt, all)
 
 -- ---- a call that is due
 known_more : (run : RelayRun) (older : History) → Each (IsSentAt run) older → (call : History) (place : Place)

@@ -1,6 +1,6 @@
 -- What a relay's requests, landings and answers make of its run.
-use Rattle.std.proofs.Common.{◌≡◌, ℕ, ◌≤◌, arith, ap, sym, ◌∙◌, refl, Bool, true, false, cond}
-use Rattle.std.proofs.Common.{List, [], ◌∷◌, ◌++◌, take, Option, Some, None, Result, Ok, Err}
+use Rattle.std.proofs.Common.{◌≡◌, ℕ, ◌≤◌, arith, ap, sym, ◌∙◌, refl, Bool, true, false, cond, List, [], ◌∷◌, ◌++◌}
+use Rattle.std.proofs.Common.{take, Option, Some, None, Result, Ok, Err}
 use Rattle.std.specs.Prelude.{is_some, ◌&&◌, MatchResult}
 use Rattle.std.specs.Option.{option_map}
 use Rattle.css_model.specs.declared.Message.{Message}
@@ -21,11 +21,12 @@ use Rattle.css_drive.specs.CompanionStanding.{Shown, Adds, Failed}
 use Rattle.css_drive.specs.CompanionTurns.{is_asking}
 use Rattle.css_drive.specs.Proper.{Due, SendDatagram, TakeDatagram}
 use Rattle.css_drive.specs.declared.driven.Driven.{Driven}
-use Rattle.css_drive.proofs.CompanionCalls.{lawful_plain}
-use Rattle.css_drive_relay.specs.Places.{Facts, Place, Asking, Requested, Taken, Received, Answers, Served}
-use Rattle.css_drive_relay.specs.Places.{after, received, answering}
+use Rattle.css_drive.proofs.CompanionCalls.{lawful_plain, same_peers}
+use Rattle.css_drive_relay.specs.Places.{Facts, Place, Asking, Requested, Taken, Received, Answers, Served, after}
+use Rattle.css_drive_relay.specs.Places.{received, answering}
 use Rattle.css_drive_relay.specs.Due.{due_at, from_ask, from_take, from_taken}
-use Rattle.css_drive_relay.specs.Standing.{Knows, KnowsPeers, Runs, Stands, IsAt, Comes, Arrives, HasRead, facts_in, stood, named}
+use Rattle.css_drive_relay.specs.Standing.{Knows, KnowsPeers, Runs, Stands, IsAt, Comes, Arrives, HasRead, facts_in}
+use Rattle.css_drive_relay.specs.Standing.{stood, named}
 use Rattle.css_drive_relay.specs.declared.config.RelayRun.{RelayRun}
 use Rattle.css_drive_relay.specs.declared.live.Live.{Live}
 use Rattle.css_drive_relay.proofs.Dialling.{comes}
@@ -36,9 +37,6 @@ use Rattle.css_drive_relay.proofs.Steps.{stops_by_fault}
 pub same_faults : {old new : Counts} → new ≡ old → new.faults ≡ old.faults
 same_faults e = ap {A = Counts} (λ x. x.faults) e
 
-pub same_peers : {old new : Counts} → new ≡ old → old.peers ≤ new.peers
-same_peers {old} {new} e = let f : new.peers ≡ old.peers = ap {A = Counts} (λ x. x.peers) e in omega (arith, f)
-
 -- ---- what is due
 ask_due : (o : Option ℕ) (b : Bool) (x y : Due) (peer : ℕ) → o ≡ Some peer → b ≡ true → cond (is_some o && b) x y ≡ x
 ask_due None b x y peer e f = absurd (cc)
@@ -48,11 +46,6 @@ ask_due (Some q) false x y peer e f = absurd (cc)
 pub ask_undialled : (o : Option ℕ) (b : Bool) (x y : Due) → o ≡ None → cond (is_some o && b) x y ≡ y
 ask_undialled None b x y e = refl
 ask_undialled (Some q) b x y e = absurd (cc)
-
-pub ask_later : (o : Option ℕ) (b : Bool) (x y : Due) → b ≡ false → cond (is_some o && b) x y ≡ y
-ask_later None b x y e = refl
-ask_later (Some q) true x y e = absurd (cc)
-ask_later (Some q) false x y e = refl
 
 -- the peers that are known stay known as the clock is read, at a place that names none
 peers_read : {now mid : Shown} {live later : Live} {history : History} {was is : Relay} {clocked : Clocked} {w : Why}

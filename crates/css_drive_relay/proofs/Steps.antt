@@ -1,6 +1,5 @@
 -- How a relay's run goes on by a call that is due, and how it ends.
-use Rattle.std.proofs.Common.{◌≡◌, ℕ, ap, sym, ◌∙◌, subst, refl, Bool, true, false}
-use Rattle.std.proofs.Common.{[], ◌∷◌, ◌++◌, None, ◌||◌}
+use Rattle.std.proofs.Common.{◌≡◌, ℕ, ap, sym, ◌∙◌, subst, refl, Bool, true, false, [], ◌∷◌, ◌++◌, None, ◌||◌}
 use Rattle.css_model.specs.declared.Why.{Why}
 use Rattle.css_model.specs.Explains.{IsLawful}
 use Rattle.css_model.specs.History.{Entry, Slept, Clock, History, is_sleep, asking_at, request_by, landed_answer}

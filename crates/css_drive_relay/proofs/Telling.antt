@@ -1,6 +1,6 @@
 -- What a session of a relay was told, and what it is still to be told, as the run goes on.
-use Rattle.std.proofs.Common.{◌≡◌, ℕ, ◌≤◌, Bool, true, false, cond, eqb, List, [], ◌∷◌, ◌++◌, length, Option}
-use Rattle.std.proofs.Common.{Some, None, refl, sym, ap, subst, ◌∙◌, arith, not}
+use Rattle.std.proofs.Common.{◌≡◌, ℕ, ◌≤◌, Bool, true, false, cond, eqb, List, [], ◌∷◌, ◌++◌, length, Option, Some}
+use Rattle.std.proofs.Common.{None, refl, sym, ap, subst, ◌∙◌, arith, not}
 use Rattle.std.specs.Prelude.{◌||◌, ◌&&◌, ⊤}
 use Rattle.std.proofs.lemmas.Bool.Decides.{nat_tests}
 use Rattle.css_cii.specs.declared.state.State.{State}
@@ -8,6 +8,7 @@ use Rattle.css_sessions.specs.Kept.{difference_text, full_text}
 use Rattle.css_sessions.specs.Told.{latest, with_text, cii_texts}
 use Rattle.css_drive.specs.TvPeers.{has}
 use Rattle.css_drive.specs.TvTold.{lost}
+use Rattle.css_drive.proofs.TvPeers.{has-more}
 use Rattle.css_drive.proofs.TvTold.{none_there}
 use Rattle.css_drive_relay.specs.Places.{Place, Greeting, Telling, Facts, Progress, telling, telling_if, without}
 use Rattle.css_drive_relay.specs.Places.{opened_if, published}
@@ -66,10 +67,6 @@ same_without peer other (p ∷ ps) ne = by (eqb p other) (eqb p peer) refl refl 
     by false y s u ih = ap (λ b. b || has peer (without other ps)) u ∙ ap (λ b. y || b) ih
 
 -- with another one at the end
-has_more : (peer other : ℕ) (peers : List ℕ) → eqb other peer ≡ false → has peer (peers ++ other ∷ []) ≡ has peer peers
-has_more peer other [] ne = ap (λ b. b || false) ne
-has_more peer other (p ∷ ps) ne = ap (λ b. eqb p peer || b) (has_more peer other ps ne)
-
 has_last : (peer other : ℕ) (peers : List ℕ) → eqb other peer ≡ true → has peer (peers ++ other ∷ []) ≡ true
 has_last peer other [] e = ap (λ b. b || false) e
 has_last peer other (p ∷ ps) e = ap (λ b. eqb p peer || b) (has_last peer other ps e) ∙ by (eqb p peer)
@@ -98,7 +95,7 @@ once_more peer other (p ∷ ps) fresh o = (
     by : (b : Bool) → eqb other peer ≡ b → eqb p peer ≡ true → has peer (ps ++ other ∷ []) ≡ false
     by true e same =
         absurd (both_ways (eqb p peer || has peer ps) (ap (λ x. x || has peer ps) same) (fresh e))
-    by false e same = has_more peer other ps e ∙ o.0 same
+    by false e same = has-more peer other ps e ∙ o.0 same
 
 -- ---- what is still to be sent
 -- the sessions to which a text is still to be sent, the first of them first
@@ -249,11 +246,11 @@ module _ {peer : ℕ} {states : Option SessionStates} {last : State} {sent : Lis
         (none_owed peer p none ∙ sym (ap (λ b. owed_if (b || false) (full_text p.facts.state)) is));
     few = t.few;
     published = t.published;
-    live = λ e. t.live (sym (has_more peer other p.facts.peers is) ∙ e);
+    live = λ e. t.live (sym (has-more peer other p.facts.peers is) ∙ e);
     waits = λ e. absurd (both_ways (eqb other peer || false) e (ap (λ b. b || false) is));
     once = once_more peer other p.facts.peers (λ e. absurd (both_ways (eqb other peer) e is)) t.once;
     once_left = (λ e. refl, tt);
-    fresh = λ e. let f = t.fresh e in (has_more peer other p.facts.peers is ∙ f.0, f.1, f.2);
+    fresh = λ e. let f = t.fresh e in (has-more peer other p.facts.peers is ∙ f.0, f.1, f.2);
   }
 
   -- a session was accepted, and is kept or not

@@ -17,8 +17,8 @@ use Rattle.css_model.specs.declared.Kind.{Kind}
 use Rattle.css_model.specs.declared.Kind.TheVariants as kind
 use Rattle.css_model.specs.declared.Why.{Why}
 use Rattle.css_model.specs.declared.Why.TheVariants as why
-use Rattle.css_model.specs.History.{History, Address, Listening, Slept, Clock, Dialling, Dialled, NotDialled}
-use Rattle.css_model.specs.History.{Accepted, NoneCame, Sent, Took, TookNone, Quiet, Heard, Closed, HungUp}
+use Rattle.css_model.specs.History.{History, Address, Listening, Slept, Clock, Dialling, Dialled, NotDialled, Accepted}
+use Rattle.css_model.specs.History.{NoneCame, Sent, Took, TookNone, Quiet, Heard, Closed, HungUp}
 use Rattle.css_model.specs.Wire.{encoded, request_at}
 use Rattle.css_outside.specs.Outsides.{opening_entries, datagram_entries, heard_entries, wrote_entries, sleep_entries}
 use Rattle.css_outside.specs.declared.calls.Heard.{Heard as SessionHeard}
@@ -29,12 +29,12 @@ use Rattle.css_sessions.specs.Kept.{full_text}
 use Rattle.css_sessions.specs.Told.{with_text}
 use Rattle.css_relay.specs.Answers.{Ticket, received_after, answered_after, datagram_of}
 use Rattle.css_relay.specs.declared.fault.RelayFault.{RelayFault}
+use Rattle.css_drive.proofs.TvSessions.{numbered_rest}
 use Rattle.css_drive_relay.specs.Places as places
-use Rattle.css_drive_relay.specs.Places.{Place, Begins, Begun, Called, Asking, Requested, Taken, Received, Answers}
-use Rattle.css_drive_relay.specs.Places.{Served, Greeting, Rejecting, Welcomed, Refused, Telling, Asked, Dropping, Over}
-use Rattle.css_drive_relay.specs.Places.{Facts, Progress, progress_of, all_open, is_kept, next_asked, telling, without}
-use Rattle.css_drive_relay.specs.Due.{due_at}
-use Rattle.css_drive_relay.specs.Due.{IsProperRelay}
+use Rattle.css_drive_relay.specs.Places.{Place, Begun, Asking, Taken, Received, Answers, Greeting, Rejecting, Welcomed}
+use Rattle.css_drive_relay.specs.Places.{Dropping, Over, Telling, Asked, Facts, Progress, progress_of, is_kept}
+use Rattle.css_drive_relay.specs.Places.{next_asked, telling}
+use Rattle.css_drive_relay.specs.Due.{due_at, IsProperRelay}
 use Rattle.css_drive_relay.specs.Told.{relayed, published_at, unless_refused, last_published, while_open, with_state}
 use Rattle.css_drive_relay.specs.Told.{states_of, SessionsAreTold}
 use Rattle.css_drive_relay.specs.declared.config.RelayRun.{RelayRun}
@@ -363,11 +363,6 @@ due_good run peer older t call (Telling text (other ∷ left)) e may =
 due_good run peer older t call place e may =
     call_good run peer older t (ap waiting e) (due_at run (progress_of run older).facts older place)
     (no_text run (progress_of run older).facts older place refl) call may
-
-numbered_rest : (call older : History) → AreNumbered (call ++ older) → AreNumbered older
-numbered_rest [] older n = n
-numbered_rest (Accepted peer k ∷ call) older n = numbered_rest call older n.1
-numbered_rest (_ ∷ call) older n = numbered_rest call older n
 
 -- ---- the run
 all_good : (run : RelayRun) (peer : ℕ) (h : History) → IsProperRelay run h → AreNumbered h → Good run peer h

@@ -10,13 +10,13 @@ use Rattle.css_sessions.specs.Kept.{full_text}
 use Rattle.css_companion.specs.Meanings.{state_of}
 use Rattle.css_drive.specs.CompanionDue.{dial_to, dial_first, place, send_to, end_by}
 use Rattle.css_drive.specs.CompanionTurns.{goes_on, is_asking}
-use Rattle.css_drive.specs.Proper.{Due, Listen, Now, Accept, SendDatagram, TakeDatagram}
-use Rattle.css_drive.specs.Proper.{TakeText, SendText, HangUp, Ends, IsProper}
+use Rattle.css_drive.specs.Proper.{Due, Listen, Now, Accept, SendDatagram, TakeDatagram, TakeText, SendText, HangUp}
+use Rattle.css_drive.specs.Proper.{Ends, IsProper}
 use Rattle.css_drive.specs.declared.driven.Driven.{Driven}
 use Rattle.css_drive.specs.declared.driven.Driven.TheVariants as driven
-use Rattle.css_drive_relay.specs.Places.{Place, Begins, Begun, Called, Asking, Requested, Taken, Received}
-use Rattle.css_drive_relay.specs.Places.{Answers, Served, Greeting, Rejecting, Welcomed, Refused, Telling, Asked}
-use Rattle.css_drive_relay.specs.Places.{Dropping, Over, Facts, Progress, progress_of, all_open}
+use Rattle.css_drive_relay.specs.Places.{Place, Begins, Begun, Called, Asking, Requested, Taken, Received, Answers}
+use Rattle.css_drive_relay.specs.Places.{Served, Greeting, Rejecting, Welcomed, Refused, Telling, Asked, Dropping, Over}
+use Rattle.css_drive_relay.specs.Places.{Facts, Progress, progress_of, all_open}
 use Rattle.css_drive_relay.specs.declared.config.RelayRun.{RelayRun}
 
 -- ---- the steps of a turn, the last first: what is due from there on

@@ -17,8 +17,8 @@ use Rattle.css_drive.specs.Ends.{MayEnd, CountsNetFault}
 use Rattle.css_drive.specs.Proper.{Due}
 use Rattle.css_drive.specs.TvRan.{AreBelow, AreNumbered}
 use Rattle.css_drive.specs.declared.driven.Driven.{Driven}
-use Rattle.css_drive_relay.specs.Places.{Place, Greeting, Telling, Asked, Dropping, Over, Facts, Progress}
-use Rattle.css_drive_relay.specs.Places.{beginning, progress_of}
+use Rattle.css_drive_relay.specs.Places.{Place, Greeting, Telling, Asked, Dropping, Over, Facts, Progress, beginning}
+use Rattle.css_drive_relay.specs.Places.{progress_of}
 use Rattle.css_drive_relay.specs.Due.{due, due_at, IsProperRelay}
 use Rattle.css_drive_relay.specs.declared.config.RelayRun.{RelayRun}
 use Rattle.css_drive_relay.specs.declared.live.Live.{Live}

@@ -1,5 +1,5 @@
 //! The dials of a turn of a relay.
-ghost use Rattle.std.specs.Prelude.{◌≡◌, ◌≤◌, OnOk, IfErr, None};
+ghost use Rattle.std.specs.Prelude.{◌≡◌, OnOk, IfErr, None};
 ghost use Rattle.css_model.specs.History.{History};
 ghost use Rattle.css_outside.specs.Faults.{HasRisen};
 ghost use Rattle.css_relay.specs.Relays.{Relay as KnownRelay};

@@ -1,7 +1,6 @@
 //! What a turn of a relay does with sessions: those that were opened, the television's text, and texts of the others.
-ghost use Rattle.std.specs.Prelude.{◌≡◌, ◌≤◌, ◌∷◌, ℕ, List, OnOk, IfOk, length, filter, not, ◌==◌, [], IfErr};
-ghost use Rattle.std.specs.Prelude.{Some, None};
-ghost use Rattle.std.specs.Prelude.{MatchResult, true};
+ghost use Rattle.std.specs.Prelude.{◌≡◌, ◌≤◌, ◌∷◌, ℕ, List, OnOk, IfOk, length, filter, not, ◌==◌, [], IfErr, Some};
+ghost use Rattle.std.specs.Prelude.{None, MatchResult, true};
 ghost use Rattle.css_model.specs.History as entries;
 ghost use Rattle.css_model.specs.History.{History};
 ghost use Rattle.css_model.specs.declared.Kind.TheVariants as kinds;

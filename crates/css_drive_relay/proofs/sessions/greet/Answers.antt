@@ -1,10 +1,8 @@
-use Rattle.std.proofs.Common.{refl, ◌∙◌, ap}
-use Rattle.std.proofs.Common.{ℕ, List}
-use Rattle.css_drive_relay.specs.Places.{Facts}
+use Rattle.std.proofs.Common.{refl, ◌∙◌, ap, ℕ, List}
+use Rattle.css_drive_relay.specs.Places.{Facts, lost}
 use Rattle.css_drive_relay.proofs.Openings as openings
 use Rattle.css_drive_relay.proofs.Steps as steps
 use Rattle.css_sessions.specs.Kept.{full_text}
-use Rattle.css_drive_relay.specs.Places.{lost}
 use Rattle.css_drive_relay.specs.Standing.{facts_in}
 use Rattle.css_drive_relay.proofs.sessions.greet.Goals as goal
 

@@ -1,5 +1,4 @@
-use Rattle.std.proofs.Common.{◌≡◌, refl, sym, ◌∙◌, ap, arith}
-use Rattle.std.proofs.Common.{ℕ, List, ◌∷◌}
+use Rattle.std.proofs.Common.{◌≡◌, refl, sym, ◌∙◌, ap, arith, ℕ, List, ◌∷◌}
 use Rattle.css_drive_relay.proofs.Ends as ends
 use Rattle.css_drive_relay.proofs.Steps as steps
 use Rattle.std.specs.Prelude.{drop, get_or, ◌+◌}

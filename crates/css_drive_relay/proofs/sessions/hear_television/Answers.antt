@@ -1,5 +1,4 @@
-use Rattle.std.proofs.Common.{refl}
-use Rattle.std.proofs.Common.{ℕ, List, ◌∷◌}
+use Rattle.std.proofs.Common.{refl, ℕ, List, ◌∷◌}
 use Rattle.css_model.specs.History.{Heard}
 use Rattle.css_drive_relay.proofs.Serves as serves
 use Rattle.css_drive_relay.proofs.Hears as hears

@@ -1,5 +1,4 @@
-use Rattle.std.proofs.Common.{◌≡◌, refl, arith}
-use Rattle.std.proofs.Common.{ℕ}
+use Rattle.std.proofs.Common.{◌≡◌, refl, arith, ℕ}
 use Rattle.css_drive_relay.proofs.Openings as openings
 use Rattle.css_drive_relay.proofs.Steps as steps
 use Rattle.std.specs.Prelude.{length}
