@@ -53,10 +53,8 @@ impl<'a, R: Processes> ChildSpawner<'a, R> {
 
 /// The word that this program was started by, where it is a path.
 fn own_path<R: Env>(alloc: Global, rt: &R) -> io::Result<Option<String>> {
-    match env::args(&(rt, alloc))?.next() {
-        Some(word) if word.as_str().contains('/') => Ok(Some(word)),
-        _ => Ok(None),
-    }
+    let first = env::args(&(rt, alloc))?.next();
+    Ok(first.filter(|word| word.as_str().contains('/')))
 }
 
 /// Whether a file is the system's loader of programs, by its name.
@@ -181,10 +179,14 @@ impl<'a, R: Processes + Env + Files> ChildSpawner<'a, R> {
         ensures same { result ≡ outcome }
         ensures children { self.new.children ≡ self.old.children }
     {
-        if let Err(OutFault::Failed(_)) = &outcome {
-            self.faults = self.faults.saturating_add(1);
+        match outcome {
+            Ok(value) => Ok(value),
+            Err(OutFault::Failed(failure)) => {
+                self.faults = self.faults.saturating_add(1);
+                Err(OutFault::Failed(failure))
+            }
+            Err(OutFault::Memory) => Err(OutFault::Memory),
         }
-        outcome
     }
 }
 

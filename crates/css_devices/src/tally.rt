@@ -83,10 +83,14 @@ impl Tally {
         ensures counted { CountsPlain self.old self.new result }
         ensures same { result ≡ outcome }
     {
-        if let Err(OutFault::Failed(_)) = &outcome {
-            self.fail();
+        match outcome {
+            Ok(value) => Ok(value),
+            Err(OutFault::Failed(failure)) => {
+                self.fail();
+                Err(OutFault::Failed(failure))
+            }
+            Err(OutFault::Memory) => Err(OutFault::Memory),
         }
-        outcome
     }
 
     /// Counts a dial that gave no session.

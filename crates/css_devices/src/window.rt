@@ -27,25 +27,14 @@ pub(crate) struct Window {
 }
 
 fn feeds_in(bytes: &[u8]) -> u64 {
-    let mut feeds = 0u64;
-    for byte in bytes {
-        if *byte == LINE_FEED {
-            feeds = feeds.saturating_add(1);
-        }
-    }
-    feeds
+    bytes.iter().filter(|byte| **byte == LINE_FEED).count() as u64
 }
 
 /// Whether the first line of these bytes ends with a carriage return, where it ends.
 fn first_returns(bytes: &[u8]) -> Option<bool> {
-    let mut returns = false;
-    for byte in bytes {
-        if *byte == LINE_FEED {
-            return Some(returns);
-        }
-        returns = *byte == CARRIAGE_RETURN;
-    }
-    None
+    let feed = bytes.iter().position(|byte| *byte == LINE_FEED)?;
+    let line = bytes.get(..feed)?;
+    Some(line.last() == Some(&CARRIAGE_RETURN))
 }
 
 impl Window {

@@ -7,9 +7,9 @@ use crate::watch::Watch;
 use css_devices::FIRST_SENDER;
 use css_devices::faults::{fault_of, no_room};
 use css_outside::{Address, Failure, OutFault};
-use mio::Interest;
 use mio::net::UdpSocket;
 use std::alloc::Global;
+use std::io;
 use std::io::ErrorKind;
 use std::net::{IpAddr, Net, SocketAddr};
 use std::time::{Clock, Duration};
@@ -47,20 +47,10 @@ impl Senders {
         }
     }
 
-    /// The number of a sender that is remembered.
-    fn known(&self, address: SocketAddr) -> Option<u32> {
-        for sender in &self.list {
-            if sender.address == address {
-                return Some(sender.peer);
-            }
-        }
-        None
-    }
-
     /// The number of a sender: its own, or the next where it isn't remembered. The oldest one makes room.
     fn peer_of(&mut self, address: SocketAddr) -> Result<u32, OutFault> {
-        if let Some(peer) = self.known(address) {
-            return Ok(peer);
+        if let Some(sender) = self.list.iter().find(|sender| sender.address == address) {
+            return Ok(sender.peer);
         }
         let peer = self.next;
         let sender = Sender { peer, address };
@@ -75,12 +65,8 @@ impl Senders {
     }
 
     fn address_of(&self, peer: u32) -> Option<SocketAddr> {
-        for sender in &self.list {
-            if sender.peer == peer {
-                return Some(sender.address);
-            }
-        }
-        None
+        let sender = self.list.iter().find(|sender| sender.peer == peer)?;
+        Some(sender.address)
     }
 }
 
@@ -160,12 +146,10 @@ impl Listener {
 }
 
 /// A socket for the datagrams of one address.
-fn linked_socket<R: Net>(rt: &R, address: SocketAddr) -> Result<UdpSocket, OutFault> {
-    let socket = UdpSocket::bind(rt, any_port(address)).map_err(fault_of)?;
-    match socket.connect(address) {
-        Ok(()) => Ok(socket),
-        Err(error) => Err(fault_of(error)),
-    }
+fn linked_socket<R: Net>(rt: &R, address: SocketAddr) -> io::Result<UdpSocket> {
+    let socket = UdpSocket::bind(rt, any_port(address))?;
+    socket.connect(address)?;
+    Ok(socket)
 }
 
 /// A socket for the datagrams of one peer, as a companion has.
@@ -194,19 +178,6 @@ impl Link {
     }
 }
 
-/// Puts the address at which a host was reached before the others, where it is among them.
-fn put_first(addresses: &mut [SocketAddr], reached: Option<IpAddr>) {
-    let Some(reached) = reached else {
-        return;
-    };
-    for place in 0..addresses.len() {
-        if addresses[place].ip() == reached {
-            addresses.swap(0, place);
-            return;
-        }
-    }
-}
-
 /// The sockets of datagrams: a television has a listener, a companion a link, a relay both. What the network does to a
 /// datagram, or says of one, is no fault: datagrams may be lost.
 #[derive(Drop)]
@@ -232,14 +203,9 @@ impl Datagrams {
     }
 
     /// A socket that listens at an address. It is heard once it is handed to `listen`.
-    pub(crate) fn listener<R: Net>(
-        &mut self,
-        rt: &R,
-        address: SocketAddr,
-    ) -> Result<Listener, OutFault> {
-        let mut socket = UdpSocket::bind(rt, address).map_err(fault_of)?;
-        self.watch
-            .add(rt, &mut socket, LISTENER, Interest::READABLE)?;
+    pub(crate) fn listener<R: Net>(&mut self, rt: &R, address: SocketAddr) -> io::Result<Listener> {
+        let socket = UdpSocket::bind(rt, address)?;
+        let socket = self.watch.add_reader(rt, socket, LISTENER)?;
         Ok(Listener {
             socket,
             senders: Senders::new(self.alloc),
@@ -252,32 +218,15 @@ impl Datagrams {
     }
 
     /// Opens a socket for the datagrams of one peer, in the place of the last such one.
-    fn link<R: Net>(&mut self, rt: &R, address: SocketAddr, peer: u32) -> Result<(), OutFault> {
-        let mut socket = linked_socket(rt, address)?;
-        self.watch.add(rt, &mut socket, LINK, Interest::READABLE)?;
+    fn link<R: Net>(&mut self, rt: &R, address: SocketAddr, peer: u32) -> io::Result<()> {
+        let socket = linked_socket(rt, address)?;
+        let socket = self.watch.add_reader(rt, socket, LINK)?;
         self.set_link(Link { socket, peer });
         Ok(())
     }
 
     fn set_link(&mut self, link: Link) {
         self.link = Some(link);
-    }
-
-    /// Opens a socket for the datagrams of one peer at the first address that can be used.
-    fn link_first<R: Net>(
-        &mut self,
-        rt: &R,
-        addresses: &[SocketAddr],
-        peer: u32,
-    ) -> Result<(), OutFault> {
-        let mut last = OutFault::Failed(Failure::NoSuchHost);
-        for address in addresses {
-            match self.link(rt, *address, peer) {
-                Ok(()) => return Ok(()),
-                Err(fault) => last = fault,
-            }
-        }
-        Err(last)
     }
 
     /// Opens a socket for the datagrams of one peer: at the address where its sessions were reached, if its host has
@@ -296,14 +245,26 @@ impl Datagrams {
             return Ok(false);
         }
         let mut addresses = look_ups.look_up(rt, &to.host, to.port, now)?;
-        put_first(&mut addresses, reached);
-        self.link_first(rt, &addresses, peer)?;
-        Ok(true)
+        if let Some(place) = addresses
+            .iter()
+            .position(|address| Some(address.ip()) == reached)
+        {
+            addresses.swap(0, place);
+        }
+        let mut last = OutFault::Failed(Failure::NoSuchHost);
+        for address in &addresses {
+            match self.link(rt, *address, peer) {
+                Ok(()) => return Ok(true),
+                Err(error) => last = fault_of(error),
+            }
+        }
+        Err(last)
     }
 
     /// Waits until a datagram comes, or the pause is over.
     pub(crate) fn wait<R: Clock>(&mut self, rt: &R, pause: Duration) -> Result<(), OutFault> {
-        self.watch.wait(rt, pause)
+        self.watch.wait(rt, pause).map_err(fault_of)?;
+        Ok(())
     }
 
     fn take_linked(&mut self, into: &mut [u8; 64]) -> Result<Option<(u32, usize)>, OutFault>

@@ -14,7 +14,6 @@ use css_outside::{Address, Failure, Kind, OutFault};
 use httparse::{EMPTY_HEADER, Header, Response, Status};
 use mio::net::TcpStream;
 use std::alloc::Global;
-use std::io;
 use std::io::Write;
 use std::net::{IpAddr, Net, SocketAddr};
 use std::random::RandomSource;
@@ -25,43 +24,25 @@ use websocket::handshake::derive_accept_key;
 /// The name under which the connections of dials are watched.
 const DIAL: usize = 3;
 
-/// Writes the request that asks for a session. It has an origin, since some servers take no one without.
-fn write_words(
-    output: &mut Vec<u8>,
-    host: &str,
-    origin: &str,
-    path: &Text,
-    key: [u8; 24],
-) -> Result<(), OutFault> {
-    let path = words_of(path)?;
+/// The request that asks for a session. It has an origin, since some servers take no one without.
+fn request_of(alloc: Global, to: &Address, key: [u8; 24]) -> Result<Vec<u8>, OutFault> {
+    let host = authority_of(alloc, &to.host, to.port).map_err(fault_of)?;
+    let origin = format!(in alloc; "http://{host}").map_err(no_memory)?;
     let origin = Header {
         name: "Origin",
         value: origin.as_bytes(),
     };
     let request = ClientRequest {
-        host,
-        path,
+        host: host.as_str(),
+        path: words_of(&to.path).map_err(fault_of)?,
         key,
         subprotocols: &[],
         extra: &[origin],
     };
-    match write_request(&request, output) {
-        Ok(()) => Ok(()),
+    let mut output = Vec::new(alloc);
+    match write_request(&request, &mut output) {
+        Ok(()) => Ok(output),
         Err(_) => Err(OutFault::Failed(Failure::Other)),
-    }
-}
-
-/// Adds the request that asks for a session.
-fn add_request(
-    alloc: Global,
-    output: &mut Vec<u8>,
-    to: &Address,
-    key: [u8; 24],
-) -> Result<(), OutFault> {
-    let host = authority_of(alloc, &to.host, to.port)?;
-    match format!(in alloc; "http://{host}") {
-        Ok(origin) => write_words(output, host.as_str(), origin.as_str(), &to.path, key),
-        Err(error) => Err(no_memory(error)),
     }
 }
 
@@ -102,15 +83,6 @@ enum Turn {
     Opened,
 }
 
-/// What a write that failed leads to.
-fn waits_or_fails(error: io::Error) -> Result<Turn, OutFault> {
-    if would_wait(error.kind()) {
-        Ok(Turn::Waits)
-    } else {
-        Err(fault_of(error))
-    }
-}
-
 /// A connection to one address, and the handshake on it.
 struct Call {
     since: u64,
@@ -140,14 +112,15 @@ impl Drop for Call {
 
 /// Connects to an address.
 fn connect<R: Net>(rt: &R, watch: &mut Watch, address: SocketAddr) -> Result<Metered, OutFault> {
-    let mut stream = TcpStream::connect(rt, address).map_err(fault_of)?;
-    watch.add_stream(rt, &mut stream, DIAL)?;
-    Ok(Metered::new(stream))
+    let stream = TcpStream::connect(rt, address).map_err(fault_of)?;
+    let stream = watch.add(rt, stream, DIAL).map_err(fault_of)?;
+    Metered::new(stream).map_err(fault_of)
 }
 
-/// Draws random bytes from the system.
-fn draw<R: RandomSource>(rt: &R, into: &mut [u8]) -> Result<(), OutFault> {
-    rt.fill_bytes(into).map_err(fault_of)
+fn drawn_key<R: RandomSource>(rt: &R) -> Result<[u8; 24], OutFault> {
+    let mut nonce = [0u8; 16];
+    rt.fill_bytes(&mut nonce).map_err(fault_of)?;
+    Ok(generate_key(nonce))
 }
 
 impl Call {
@@ -160,19 +133,15 @@ impl Call {
         address: SocketAddr,
         since: u64,
     ) -> Result<Call, OutFault> {
-        let mut nonce = [0u8; 16];
-        let mut seed = [0u8; 32];
-        draw(rt, &mut nonce)?;
-        draw(rt, &mut seed)?;
-        let key = generate_key(nonce);
-        let mut request = Vec::new(alloc);
-        add_request(alloc, &mut request, to, key)?;
+        let key = drawn_key(rt)?;
+        let masks = Masks::drawn(rt)?;
+        let request = request_of(alloc, to, key)?;
         let stream = connect(rt, watch, address)?;
         Ok(Call {
             since,
             stream,
             key,
-            masks: Masks::new(seed),
+            masks,
             request,
             written: 0,
             head: Head::new(alloc),
@@ -181,15 +150,22 @@ impl Call {
 
     /// Writes what the stream takes of the request.
     fn write(&mut self) -> Result<Turn, OutFault> {
-        if self.written >= self.request.len() {
+        let rest = self.request.get(self.written..).unwrap_or(&[]);
+        if rest.is_empty() {
             return Ok(Turn::Opened);
         }
-        match self.stream.write(&self.request[self.written..]) {
+        match self.stream.write(rest) {
             Ok(count) => {
                 self.written = self.written.saturating_add(count);
                 Ok(Turn::Waits)
             }
-            Err(error) => waits_or_fails(error),
+            Err(error) => {
+                if would_wait(error.kind()) {
+                    Ok(Turn::Waits)
+                } else {
+                    Err(fault_of(error))
+                }
+            }
         }
     }
 
@@ -232,10 +208,7 @@ impl Call {
             written: _,
             head,
         } = self;
-        match head.rest(alloc) {
-            Ok(rest) => Ok(Line::dialled(alloc, stream, masks, rest)),
-            Err(Memory) => Err(Memory),
-        }
+        Ok(Line::dialled(alloc, stream, masks, head.rest(alloc)?))
     }
 }
 
@@ -278,10 +251,7 @@ impl Dial {
 
     /// The next address, which counts as tried.
     fn next_address(&mut self) -> Option<SocketAddr> {
-        if self.tried >= self.addresses.len() {
-            return None;
-        }
-        let address = self.addresses[self.tried];
+        let address = *self.addresses.get(self.tried)?;
         self.tried += 1;
         Some(address)
     }
@@ -305,77 +275,42 @@ impl Dial {
         Ok(())
     }
 
-    fn go_on(&mut self, now: u64) -> Result<Turn, OutFault> {
-        match &mut self.call {
-            Some(call) => call.turn(now),
-            None => Ok(Turn::Waits),
-        }
-    }
-
-    /// The line of a handshake that is done.
-    fn line(&mut self, alloc: Global) -> Result<Option<Line>, OutFault> {
-        let Some(call) = self.call.take() else {
-            return Ok(None);
-        };
-        match call.line(alloc) {
-            Ok(line) => Ok(Some(line)),
-            Err(Memory) => Err(OutFault::Memory),
-        }
-    }
-
     /// One turn of the handshake, which may be its last. One that fails is dropped.
     fn turn(&mut self, alloc: Global, now: u64) -> Result<Option<Line>, OutFault> {
-        match self.go_on(now) {
-            Ok(Turn::Waits) => Ok(None),
-            Ok(Turn::Opened) => self.line(alloc),
-            Err(fault) => {
-                self.call = None;
-                Err(fault)
+        let Some(mut call) = self.call.take() else {
+            return Ok(None);
+        };
+        match call.turn(now)? {
+            Turn::Waits => {
+                self.call = Some(call);
+                Ok(None)
             }
+            Turn::Opened => Ok(Some(call.line(alloc)?)),
         }
     }
 
     /// The address of the last call.
     fn reached(&self) -> Option<IpAddr> {
-        let last = self.tried.saturating_sub(1);
-        if last < self.addresses.len() {
-            Some(self.addresses[last].ip())
-        } else {
-            None
-        }
+        let address = self.addresses.get(self.tried.saturating_sub(1))?;
+        Some(address.ip())
     }
 
     /// Whether it is to this address, and has something left to be tried.
     fn goes_on_to(&self, to: &Address) -> bool {
-        if self.port != to.port || self.host.bytes() != to.host.bytes() {
-            return false;
-        }
-        if self.call.is_none() && self.tried >= self.addresses.len() {
-            return false;
-        }
-        self.path.bytes() == to.path.bytes()
+        let is_over = self.call.is_none() && self.tried >= self.addresses.len();
+        let is_same = self.host.bytes() == to.host.bytes() && self.path.bytes() == to.path.bytes();
+        is_same && self.port == to.port && !is_over
     }
 }
 
 /// The dials of one kind, of which one stands at most. It is large, and stands on the heap.
+#[derive(Drop)]
 pub(crate) struct Caller {
     alloc: Global,
     pace: Pace,
     dial: Option<Box<Dial>>,
     /// Where the last session was reached.
     reached: Option<IpAddr>,
-}
-
-// One function drops its parts: what holds one needn't see them.
-impl Drop for Caller {
-    fn drop(self) {
-        let Caller {
-            alloc: _,
-            pace: _,
-            dial: _,
-            reached: _,
-        } = self;
-    }
 }
 
 impl Caller {

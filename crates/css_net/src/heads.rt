@@ -13,6 +13,8 @@ const PIECE: usize = 4_096;
 const LONGEST_HEAD: usize = 65_536;
 /// How many fields a head has at most.
 pub(crate) const MOST_FIELDS: usize = 124;
+/// The line that ends a head, after the end of the line before.
+const BLANK_LINE: &[u8] = b"\r\n\r\n";
 
 /// What a read of a head came to.
 #[derive(Clone, Copy)]
@@ -39,16 +41,9 @@ pub(crate) struct Head {
 
 /// Where a head ends that has its blank line at this place or later.
 fn end_of(bytes: &[u8], from: usize) -> Option<usize> {
-    for place in from..bytes.len().saturating_sub(3) {
-        if bytes[place] == b'\r'
-            && bytes[place + 1] == b'\n'
-            && bytes[place + 2] == b'\r'
-            && bytes[place + 3] == b'\n'
-        {
-            return Some(place + 4);
-        }
-    }
-    None
+    let rest = bytes.get(from..)?;
+    let place = rest.windows(4).position(|window| window == BLANK_LINE)?;
+    Some(from.saturating_add(place).saturating_add(4))
 }
 
 impl Head {
@@ -77,8 +72,7 @@ impl Head {
     }
 
     fn add(&mut self, piece: &[u8]) -> Result<Progress, Memory> {
-        // The last three bytes may be the front of a blank line.
-        let from = self.bytes.len().saturating_sub(3);
+        let from = self.bytes.len().saturating_sub(BLANK_LINE.len() - 1);
         self.bytes.extend_from_slice(piece)?;
         match end_of(&self.bytes, from) {
             Some(length) => {
@@ -98,10 +92,7 @@ impl Head {
     /// What came after it.
     pub(crate) fn rest(&self, alloc: Global) -> Result<Vec<u8>, Memory> {
         let rest = self.bytes.get(self.length..).unwrap_or(&[]);
-        match Vec::from_slice(alloc, rest) {
-            Ok(rest) => Ok(rest),
-            Err(_) => Err(Memory),
-        }
+        Ok(Vec::from_slice(alloc, rest)?)
     }
 }
 
@@ -117,15 +108,12 @@ pub(crate) fn value_of<'a>(fields: &[Header<'a>], name: &str) -> Option<&'a [u8]
 
 /// Whether a token stands in a list, in any case.
 fn lists(list: &[u8], token: &str) -> bool {
-    let Ok(list) = str::from_utf8(list) else {
-        return false;
-    };
-    for part in list.split(',') {
-        if part.trim().eq_ignore_ascii_case(token) {
-            return true;
-        }
+    match str::from_utf8(list) {
+        Ok(list) => list
+            .split(',')
+            .any(|part| part.trim().eq_ignore_ascii_case(token)),
+        Err(_) => false,
     }
-    false
 }
 
 /// Whether a token stands in the lists of the fields of a name.

@@ -85,7 +85,7 @@ struct Place(Option<SocketAddr>);
 impl fmt::Display for Place {
     fn fmt<W: fmt::Write>(&self, f: &mut fmt::Formatter<W>) -> fmt::Result {
         match self.0 {
-            Some(address) => address.fmt(f),
+            Some(address) => write!(f, "{address}"),
             None => f.write_str("a peer that has gone"),
         }
     }

@@ -14,14 +14,15 @@ pub(crate) struct Metered {
 }
 
 impl Metered {
-    /// The stream, which never waits.
-    pub(crate) fn new(stream: TcpStream) -> Metered {
-        Metered {
+    /// The stream, which never waits, and sends small texts at once.
+    pub(crate) fn new(stream: TcpStream) -> io::Result<Metered> {
+        stream.set_nodelay(true)?;
+        Ok(Metered {
             stream,
             reads: 0,
             cut: false,
             came: false,
-        }
+        })
     }
 
     /// Begins a turn of so many reads.
@@ -59,21 +60,25 @@ impl Read for Metered {
             return Err(io::Error::from(ErrorKind::WouldBlock));
         }
         self.reads -= 1;
-        let read = self.stream.read(into);
-        if read.is_ok() {
-            self.came = true;
+        match self.stream.read(into) {
+            Ok(count) => {
+                self.came = true;
+                Ok(count)
+            }
+            Err(error) => Err(error),
         }
-        read
     }
 }
 
 impl Write for Metered {
     fn write(&mut self, bytes: &[u8]) -> io::Result<usize> {
-        let written = self.stream.write(bytes);
-        if written.is_ok() {
-            self.came = true;
+        match self.stream.write(bytes) {
+            Ok(count) => {
+                self.came = true;
+                Ok(count)
+            }
+            Err(error) => Err(error),
         }
-        written
     }
 
     fn flush(&mut self) -> io::Result<()> {

@@ -1,36 +1,34 @@
 //! Where a host is reached, and the texts that a dial is made with.
 
-use css_devices::faults::{fault_of, no_memory};
+use css_devices::faults::fault_of;
 use css_num::Text;
 use css_outside::{Failure, OutFault};
 use std::alloc::Global;
+use std::io::ErrorKind;
 use std::net::{Ipv4Addr, Ipv6Addr, Net, SocketAddr, SocketAddrV4, SocketAddrV6, ToSocketAddrs};
-use std::str;
+use std::{io, str};
 
 /// The characters of a text, which must be UTF-8.
-pub(crate) fn words_of(text: &Text) -> Result<&str, OutFault> {
+pub(crate) fn words_of(text: &Text) -> io::Result<&str> {
     match str::from_utf8(text.bytes()) {
         Ok(words) => Ok(words),
-        Err(_) => Err(OutFault::Failed(Failure::Other)),
+        Err(_) => Err(io::Error::from(ErrorKind::InvalidInput)),
     }
 }
 
-fn resolved<R: Net>(alloc: Global, rt: &R, authority: &str) -> Result<Vec<SocketAddr>, OutFault> {
-    match authority.to_socket_addrs(rt) {
-        Ok(addresses) => addresses.collect(alloc).map_err(no_memory),
-        Err(error) => Err(fault_of(error)),
-    }
+fn resolved<R: Net>(alloc: Global, rt: &R, authority: &str) -> io::Result<Vec<SocketAddr>> {
+    Ok(authority.to_socket_addrs(rt)?.collect(alloc)?)
 }
 
 /// A host and its port, as a URL has them.
-pub(crate) fn authority_of(alloc: Global, host: &Text, port: u16) -> Result<String, OutFault> {
+pub(crate) fn authority_of(alloc: Global, host: &Text, port: u16) -> io::Result<String> {
     let host = words_of(host)?;
-    format!(in alloc; "{host}:{port}").map_err(no_memory)
+    Ok(format!(in alloc; "{host}:{port}")?)
 }
 
 /// Why a host's addresses aren't known: its name isn't found, where the system says nothing else.
-fn not_found(fault: OutFault) -> OutFault {
-    match fault {
+fn not_found(error: io::Error) -> OutFault {
+    match fault_of(error) {
         OutFault::Failed(Failure::Other) => OutFault::Failed(Failure::NoSuchHost),
         fault => fault,
     }

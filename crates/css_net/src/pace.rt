@@ -84,12 +84,11 @@ impl LookUps {
 
     /// How a name's last look-up failed, where it did so not long ago.
     fn failure_of(&self, host: &Text, now: u64) -> Option<Failure> {
-        for missing in &self.missing {
-            if missing.is_still(host, now) {
-                return Some(missing.failure);
-            }
-        }
-        None
+        let missing = self
+            .missing
+            .iter()
+            .find(|missing| missing.is_still(host, now))?;
+        Some(missing.failure)
     }
 
     /// Notes that a host wasn't found. The oldest one makes room.

@@ -4,7 +4,7 @@ use crate::masks::Masks;
 use crate::metered::Metered;
 use css_devices::faults::{no_memory, would_wait};
 use css_num::{Memory, Text};
-use css_outside::{Heard, OutFault, Wrote};
+use css_outside::{OutFault, Wrote};
 use mio::net::TcpStream;
 use std::alloc::Global;
 use std::io;
@@ -34,10 +34,12 @@ fn limits() -> WebSocketConfig {
 }
 
 /// What one turn of a session gave.
-#[derive(Clone, Copy)]
+#[derive(Drop)]
 pub(crate) enum Came {
-    /// A text, or a message of another kind, such as a ping, which was answered.
-    Message,
+    /// A text.
+    Text(Text),
+    /// A message of another kind, such as a ping, which was answered.
+    Other,
     /// No whole message.
     Nothing,
     /// The session ended.
@@ -113,8 +115,7 @@ impl Drop for Line {
 impl Line {
     /// A line that a peer dialled, with what came after its handshake.
     pub(crate) fn served(alloc: Global, stream: Metered, rest: Vec<u8>) -> Line {
-        // The end that serves masks nothing.
-        let masks = Masks::new([0u8; 32]);
+        let masks = Masks::unused();
         let limits = Some(limits());
         Line {
             socket: WebSocket::from_partially_read(
@@ -145,11 +146,11 @@ impl Line {
         }
     }
 
-    /// What has come. A text goes into `heard`.
-    pub(crate) fn hear(&mut self, alloc: Global, heard: &mut Heard) -> Result<Came, Memory> {
-        let came = hear(alloc, &mut self.socket, heard)?;
-        if let Came::End(end) = came {
-            self.end = end;
+    /// What has come.
+    pub(crate) fn hear(&mut self, alloc: Global) -> Result<Came, Memory> {
+        let came = hear(alloc, &mut self.socket)?;
+        if let Came::End(end) = &came {
+            self.end = *end;
         }
         Ok(came)
     }
@@ -241,38 +242,29 @@ fn close(socket: &mut Socket, code: CloseCode) {
     let _ = socket.close(Some(frame)).map_err(stop_by);
 }
 
-fn keep_text(alloc: Global, text: &str, heard: &mut Heard) -> Result<Came, Stop> {
-    match Text::of(alloc, text.as_bytes()) {
-        Ok(text) => {
-            *heard = Heard::Text(text);
-            Ok(Came::Message)
-        }
-        Err(Memory) => Err(Stop::Memory),
-    }
-}
-
 /// What a message comes to.
-fn came_by(alloc: Global, message: &Message, heard: &mut Heard) -> Result<Came, Stop> {
+fn came_by(alloc: Global, message: &Message) -> Result<Came, Stop> {
     match message {
-        Message::Text(text) => keep_text(alloc, text.as_str(), heard),
+        Message::Text(text) => match Text::of(alloc, text.as_str().as_bytes()) {
+            Ok(text) => Ok(Came::Text(text)),
+            Err(Memory) => Err(Stop::Memory),
+        },
         Message::Binary(_) => Err(Stop::Refuses(CloseCode::Unsupported)),
         Message::Close(_) => Ok(Came::End(End::ByPeer)),
-        _ => Ok(Came::Message),
+        _ => Ok(Came::Other),
     }
 }
 
 // A peer that doesn't take what it was sent is not read: its pings would have more and more wait for it.
-fn next(alloc: Global, socket: &mut Socket, heard: &mut Heard) -> Result<Came, Stop> {
+fn next(alloc: Global, socket: &mut Socket) -> Result<Came, Stop> {
     flush(socket)?;
-    match read(socket) {
-        Ok(message) => came_by(alloc, &message, heard),
-        Err(stop) => Err(stop),
-    }
+    let message = read(socket)?;
+    came_by(alloc, &message)
 }
 
-fn hear(alloc: Global, socket: &mut Socket, heard: &mut Heard) -> Result<Came, Memory> {
+fn hear(alloc: Global, socket: &mut Socket) -> Result<Came, Memory> {
     socket.get_mut().begin_turn(READS);
-    match next(alloc, socket, heard) {
+    match next(alloc, socket) {
         Ok(Came::End(end)) => {
             // The answer to the peer's close.
             let _ = flush(socket);

@@ -31,26 +31,28 @@ struct Session {
 }
 
 impl Session {
-    /// What has come, where something did. A session on which nothing has come costs no call of the system.
-    fn hear(&mut self, alloc: Global, now: u64, heard: &mut Heard) -> Result<(), OutFault> {
+    /// What has come. A session on which nothing has come costs no call of the system.
+    fn hear(&mut self, alloc: Global, now: u64) -> Result<Heard, OutFault> {
         if self.over {
-            *heard = Heard::Closed;
-            return Ok(());
+            return Ok(Heard::Closed);
         }
         if !self.named {
-            return Ok(());
+            return Ok(Heard::Quiet);
         }
-        let came = self.line.hear(alloc, heard)?;
+        let came = self.line.hear(alloc)?;
         if self.line.has_come() {
             self.heard = now;
             self.asked = false;
         }
         match came {
-            Came::Message => {}
-            Came::Nothing => self.named = self.line.was_cut(),
-            Came::End(_) => *heard = Heard::Closed,
+            Came::Text(text) => Ok(Heard::Text(text)),
+            Came::Other => Ok(Heard::Quiet),
+            Came::Nothing => {
+                self.named = self.line.was_cut();
+                Ok(Heard::Quiet)
+            }
+            Came::End(_) => Ok(Heard::Closed),
         }
-        Ok(())
     }
 
     /// Asks a silent peer whether it is there, and closes the session of one that doesn't answer.
@@ -107,12 +109,7 @@ impl Sessions {
 
     /// Whether as many sessions are open as peers may have opened.
     pub(crate) fn is_full(&self) -> bool {
-        let mut served = 0usize;
-        for session in &self.list {
-            if session.served {
-                served = served.saturating_add(1);
-            }
-        }
+        let served = self.list.iter().filter(|session| session.served).count();
         served >= MOST_SERVED
     }
 
@@ -123,10 +120,8 @@ impl Sessions {
     }
 
     fn session_of(&mut self, peer: u32) -> Option<&mut Session> {
-        match self.place_of(peer) {
-            Some(place) => self.list.get_mut(place),
-            None => None,
-        }
+        let place = self.place_of(peer)?;
+        self.list.get_mut(place)
     }
 
     /// Something has come on a session. False where there is no such session.
@@ -140,15 +135,12 @@ impl Sessions {
         }
     }
 
-    /// What has come on a session, where something did. One that isn't there is closed.
-    pub(crate) fn hear(&mut self, peer: u32, now: u64, heard: &mut Heard) -> Result<(), OutFault> {
+    /// What has come on a session. One that isn't there is closed.
+    pub(crate) fn hear(&mut self, peer: u32, now: u64) -> Result<Heard, OutFault> {
         let alloc = self.alloc;
         match self.session_of(peer) {
-            Some(session) => session.hear(alloc, now, heard),
-            None => {
-                *heard = Heard::Closed;
-                Ok(())
-            }
+            Some(session) => session.hear(alloc, now),
+            None => Ok(Heard::Closed),
         }
     }
 
@@ -174,9 +166,11 @@ impl Sessions {
 
     /// Takes a session out.
     pub(crate) fn part(&mut self, peer: u32) -> Option<Line> {
-        match self.place_of(peer) {
-            Some(place) if place < self.list.len() => Some(self.list.remove(place).line),
-            _ => None,
+        let place = self.place_of(peer)?;
+        if place < self.list.len() {
+            Some(self.list.remove(place).line)
+        } else {
+            None
         }
     }
 

@@ -10,8 +10,9 @@ use crate::pace::{LookUps, time};
 use crate::partings::{LONGEST_PARTING, Partings};
 use crate::session::Line;
 use crate::sessions::Sessions;
-use crate::upgrades::{FIRST_UPGRADE, Refusal, Turn, Upgrade, Upgrades};
+use crate::upgrades::{FIRST_UPGRADE, Service, Upgraded, Upgrades};
 use crate::watch::{NOBODY, Watch};
+use css_devices::faults::fault_of;
 use css_num::Text;
 use css_outside::{Address, Failure, Heard, Kind, OutFault, Wrote};
 use std::alloc::Global;
@@ -19,7 +20,7 @@ use std::env::Env;
 use std::net::{Net, SocketAddr};
 use std::random::RandomSource;
 use std::time::{Clock, Duration};
-use std::{str, thread};
+use std::{io, str, thread};
 use tungstenite::CloseCode;
 
 /// How long a pause is, in nanoseconds. The system may end it a little later.
@@ -111,10 +112,8 @@ impl Sockets {
             return;
         }
         self.partings.name(name);
-        if name < FIRST_SESSION {
-            self.upgrades.name_listener(name);
-        } else if name >= FIRST_UPGRADE {
-            self.upgrades.name_connection(name);
+        if name < FIRST_SESSION || name >= FIRST_UPGRADE {
+            self.upgrades.name(name);
         } else if let Ok(peer) = u32::try_from(name - FIRST_SESSION) {
             self.sessions.name(peer);
         }
@@ -123,10 +122,9 @@ impl Sockets {
     /// Waits until something comes on a session, or the pause is over, and notes where it came.
     fn gather<C: Clock>(&mut self, rt: &C, pause: Duration) -> Result<(), OutFault> {
         self.stale = false;
-        self.watch.wait(rt, pause)?;
-        let named = self.watch.named();
-        for name in &named {
-            self.mark(*name);
+        let named = self.watch.wait(rt, pause).map_err(fault_of)?;
+        for name in named {
+            self.mark(name);
         }
         let now = time(rt);
         self.sessions.mind(now);
@@ -169,7 +167,7 @@ impl Sockets {
         }
         let mut next = address;
         next.set_port(next_port);
-        let listener = self.datagrams.listener(rt, address)?;
+        let listener = self.datagrams.listener(rt, address).map_err(fault_of)?;
         self.upgrades.listen(rt, &mut self.watch, address, next)?;
         self.datagrams.listen(listener);
         Ok(())
@@ -216,52 +214,34 @@ impl Sockets {
         }
     }
 
-    /// Lets a connection part whose handshake was refused.
-    fn refuse<R: Eprint>(
-        &mut self,
-        rt: &R,
-        upgrade: Upgrade,
-        refusal: Refusal,
-        now: u64,
-    ) -> Result<(), OutFault> {
-        let name = upgrade.name();
-        let mut line = upgrade.line(self.alloc, false)?;
-        let event = Event::Refused(line.from(), refusal.words());
-        self.log.write(rt, event);
-        self.partings.add(name, line, now)
+    /// The stream of a session, watched under its peer's name from now on.
+    fn renamed(&mut self, mut line: Line, peer: u32) -> io::Result<Line> {
+        self.watch.rename(line.stream(), name_of(peer))?;
+        Ok(line)
     }
 
     /// The next handshake that a peer began and that stands.
-    fn next_upgrade<R: Eprint>(&mut self, rt: &R, now: u64) -> Result<Option<Upgrade>, OutFault> {
+    fn next_upgrade<R: Eprint>(
+        &mut self,
+        rt: &R,
+        now: u64,
+    ) -> Result<Option<(Service, Line)>, OutFault> {
         for _ in 0..MOST_ENDED {
-            let Some((place, turn)) = self.upgrades.go_on()? else {
-                return Ok(None);
-            };
-            let Some(upgrade) = self.upgrades.take(place) else {
-                return Ok(None);
-            };
-            match turn {
-                Turn::Opened => return Ok(Some(upgrade)),
-                Turn::Refused(refusal) => self.refuse(rt, upgrade, refusal, now)?,
-                Turn::Waits | Turn::Ended => {}
+            match self.upgrades.turn()? {
+                None => return Ok(None),
+                Some(Upgraded::Opened(service, stream, rest)) => {
+                    return Ok(Some((service, Line::served(self.alloc, stream, rest))));
+                }
+                Some(Upgraded::Refused(name, refusal, stream)) => {
+                    let mut line = Line::served(self.alloc, stream, Vec::new(self.alloc));
+                    let event = Event::Refused(line.from(), refusal.words());
+                    self.log.write(rt, event);
+                    self.partings.add(name, line, now)?;
+                }
+                Some(Upgraded::Ended) => {}
             }
         }
         Ok(None)
-    }
-
-    /// Tells a peer that no further session can be opened, and lets it part.
-    fn turn_away<R: Eprint>(
-        &mut self,
-        rt: &R,
-        mut line: Line,
-        peer: u32,
-        now: u64,
-    ) -> Result<bool, OutFault> {
-        let event = Event::Refused(line.from(), "too many sessions are open");
-        self.log.write(rt, event);
-        line.close(CloseCode::Again);
-        self.partings.add(name_of(peer), line, now)?;
-        Ok(false)
     }
 
     /// Opens a session that a peer asked for, where there is room.
@@ -269,17 +249,22 @@ impl Sockets {
         &mut self,
         rt: &R,
         kind: Kind,
-        mut line: Line,
+        line: Line,
         peer: u32,
         now: u64,
     ) -> Result<bool, OutFault> {
-        if self.watch.rename(line.stream(), name_of(peer)).is_err() {
+        let Ok(mut line) = self.renamed(line, peer) else {
+            return Ok(false);
+        };
+        let from = line.from();
+        if self.sessions.is_full() {
+            self.log
+                .write(rt, Event::Refused(from, "too many sessions are open"));
+            line.close(CloseCode::Again);
+            self.partings.add(name_of(peer), line, now)?;
             return Ok(false);
         }
-        if self.sessions.is_full() {
-            return self.turn_away(rt, line, peer, now);
-        }
-        self.log.write(rt, Event::Opened(kind, peer, line.from()));
+        self.log.write(rt, Event::Opened(kind, peer, from));
         self.sessions.open(peer, line, true, now)?;
         Ok(true)
     }
@@ -298,13 +283,11 @@ impl Sockets {
         }
         let now = time(rt);
         self.upgrades.connect(rt, &mut self.watch, now)?;
-        let Some(upgrade) = self.next_upgrade(rt, now)? else {
+        let Some((service, line)) = self.next_upgrade(rt, now)? else {
             return Ok(None);
         };
-        let kind = upgrade.service().kind();
-        let line = upgrade.line(self.alloc, true)?;
-        if self.open(rt, kind, line, peer, now)? {
-            Ok(Some(kind))
+        if self.open(rt, service.kind(), line, peer, now)? {
+            Ok(Some(service.kind()))
         } else {
             Ok(None)
         }
@@ -323,10 +306,10 @@ impl Sockets {
     ) -> Result<bool, OutFault> {
         let caller = self.dials.of(kind);
         let line = caller.go_on(rt, &mut self.watch, &mut self.look_ups, to, now)?;
-        let Some(mut line) = line else {
+        let Some(line) = line else {
             return Ok(false);
         };
-        self.watch.rename(line.stream(), name_of(peer))?;
+        let line = self.renamed(line, peer).map_err(fault_of)?;
         self.sessions.open(peer, line, false, now)?;
         Ok(true)
     }
@@ -440,28 +423,18 @@ impl Sockets {
         }
     }
 
-    fn hear<C: Clock + Eprint>(
-        &mut self,
-        rt: &C,
-        peer: u32,
-        heard: &mut Heard,
-    ) -> Result<(), OutFault> {
-        self.look(rt)?;
-        self.sessions.hear(peer, time(rt), heard)?;
-        if matches!(heard, Heard::Closed) {
-            self.part(rt, peer)?;
-        }
-        Ok(())
-    }
-
     /// What a session has to tell.
     pub(crate) fn take_text<C: Clock + Eprint>(
         &mut self,
         rt: &C,
         peer: u32,
     ) -> Result<Heard, OutFault> {
-        let mut heard = Heard::Quiet;
-        self.hear(rt, peer, &mut heard)?;
+        self.look(rt)?;
+        let now = time(rt);
+        let heard = self.sessions.hear(peer, now)?;
+        if matches!(heard, Heard::Closed) {
+            self.part(rt, peer)?;
+        }
         Ok(heard)
     }
 

@@ -4,14 +4,14 @@ ghost use Rattle.css_outside.specs.Outsides.{IsSession};
 
 use crate::heads::{Head, MOST_FIELDS, Progress, has_token, value_of};
 use crate::metered::Metered;
-use crate::session::Line;
-use crate::watch::{Watch, both_ways};
+use crate::watch::Watch;
 use css_devices::faults::{fault_of, no_room};
 use css_num::Memory;
 use css_outside::{Kind, OutFault};
 use httparse::{EMPTY_HEADER, Error, Header, Request, Status};
 use mio::net::{TcpListener, TcpStream};
 use std::alloc::Global;
+use std::io;
 use std::io::{ErrorKind, Write};
 use std::net::{Net, SocketAddr};
 use websocket::handshake::server::{accept_key, write_response};
@@ -103,32 +103,19 @@ impl Refusal {
     }
 }
 
-/// The path of a target that is a whole URL, without its first slash.
-fn path_of_url(target: &str) -> Option<&str> {
-    match target.split_once("://") {
-        Some((_, after_scheme)) => match after_scheme.split_once('/') {
-            Some((_, path)) => Some(path),
-            None => None,
-        },
-        None => None,
-    }
-}
-
-fn before_query(path: &str) -> &str {
-    match path.split_once('?') {
-        Some((path, _)) => path,
-        None => path,
-    }
-}
-
 /// The path that a request's target names, without its first slash and its query.
 fn path_of(target: &str) -> Option<&str> {
-    if let Some(path) = target.strip_prefix('/') {
-        return Some(before_query(path));
-    }
-    match path_of_url(target) {
-        Some(path) => Some(before_query(path)),
-        None => None,
+    let path = match target.strip_prefix('/') {
+        Some(path) => path,
+        None => {
+            let (_, after_scheme) = target.split_once("://")?;
+            let (_, path) = after_scheme.split_once('/')?;
+            path
+        }
+    };
+    match path.split_once('?') {
+        Some((path, _)) => Some(path),
+        None => Some(path),
     }
 }
 
@@ -186,7 +173,7 @@ fn checked(service: Service, head: &[u8]) -> Result<[u8; 28], Refusal> {
 
 /// What a turn of a handshake came to.
 #[derive(Clone, Copy)]
-pub(crate) enum Turn {
+enum Turn {
     /// It goes on.
     Waits,
     /// The session stands.
@@ -197,8 +184,19 @@ pub(crate) enum Turn {
     Ended,
 }
 
-/// A connection whose handshake isn't done, or has just ended.
-pub(crate) struct Upgrade {
+/// How a handshake ended.
+#[derive(Drop)]
+pub(crate) enum Upgraded {
+    /// The session stands, and this came after its handshake.
+    Opened(Service, Metered, Vec<u8>),
+    /// There is no session. The connection has this name, and its peer was told why.
+    Refused(usize, Refusal, Metered),
+    /// The connection is gone.
+    Ended,
+}
+
+/// A connection whose handshake isn't done.
+struct Upgrade {
     service: Service,
     name: usize,
     since: u64,
@@ -220,6 +218,12 @@ impl Drop for Upgrade {
             head: _,
         } = self;
     }
+}
+
+/// A connection that is watched under a name, where that can be done.
+fn watched<R: Net>(rt: &R, watch: &mut Watch, stream: TcpStream, name: usize) -> Option<Metered> {
+    let stream = watch.add(rt, stream, name).ok()?;
+    Metered::new(stream).ok()
 }
 
 impl Upgrade {
@@ -282,32 +286,20 @@ impl Upgrade {
         now.saturating_sub(self.since) < LONGEST_HANDSHAKE
     }
 
-    /// What the peer asked for.
-    pub(crate) fn service(&self) -> Service {
-        self.service
-    }
-
-    /// The name under which the connection is watched.
-    pub(crate) fn name(&self) -> usize {
-        self.name
-    }
-
-    /// The line of a handshake that is over. Where the session stands, what came after the handshake is the line's.
-    pub(crate) fn line(self, alloc: Global, stands: bool) -> Result<Line, Memory> {
+    /// How it ended.
+    fn ended(self, alloc: Global, turn: Turn) -> Result<Upgraded, Memory> {
         let Upgrade {
-            service: _,
-            name: _,
+            service,
+            name,
             since: _,
             named: _,
             stream,
             head,
         } = self;
-        if !stands {
-            return Ok(Line::served(alloc, stream, Vec::new(alloc)));
-        }
-        match head.rest(alloc) {
-            Ok(rest) => Ok(Line::served(alloc, stream, rest)),
-            Err(Memory) => Err(Memory),
+        match turn {
+            Turn::Opened => Ok(Upgraded::Opened(service, stream, head.rest(alloc)?)),
+            Turn::Refused(refusal) => Ok(Upgraded::Refused(name, refusal, stream)),
+            Turn::Waits | Turn::Ended => Ok(Upgraded::Ended),
         }
     }
 }
@@ -328,9 +320,9 @@ impl Listener {
         watch: &mut Watch,
         service: Service,
         address: SocketAddr,
-    ) -> Result<Listener, OutFault> {
-        let mut socket = TcpListener::bind(rt, address).map_err(fault_of)?;
-        watch.add(rt, &mut socket, service.listener_name(), both_ways())?;
+    ) -> io::Result<Listener> {
+        let socket = TcpListener::bind(rt, address)?;
+        let socket = watch.add(rt, socket, service.listener_name())?;
         Ok(Listener {
             service,
             socket,
@@ -384,23 +376,19 @@ impl Upgrades {
         cii: SocketAddr,
         ts: SocketAddr,
     ) -> Result<(), OutFault> {
-        let cii = Listener::new(rt, watch, Service::Cii, cii)?;
-        let ts = Listener::new(rt, watch, Service::Ts, ts)?;
+        let cii = Listener::new(rt, watch, Service::Cii, cii).map_err(fault_of)?;
+        let ts = Listener::new(rt, watch, Service::Ts, ts).map_err(fault_of)?;
         self.add(cii)?;
         self.add(ts)
     }
 
-    /// A connection waits at the listener of this name.
-    pub(crate) fn name_listener(&mut self, name: usize) {
+    /// Something has come on the socket of this name.
+    pub(crate) fn name(&mut self, name: usize) {
         for listener in self.listeners.iter_mut() {
             if listener.service.listener_name() == name {
                 listener.named = true;
             }
         }
-    }
-
-    /// Something has come on the connection of this name.
-    pub(crate) fn name_connection(&mut self, name: usize) {
         for upgrade in self.list.iter_mut() {
             if upgrade.name == name {
                 upgrade.named = true;
@@ -410,15 +398,7 @@ impl Upgrades {
 
     /// Whether none stands and no connection waits.
     pub(crate) fn is_idle(&self) -> bool {
-        if !self.list.is_empty() {
-            return false;
-        }
-        for listener in &self.listeners {
-            if listener.named {
-                return false;
-            }
-        }
-        true
+        self.list.is_empty() && !self.listeners.iter().any(|listener| listener.named)
     }
 
     /// Drops the oldest handshake, where as many stand as may.
@@ -434,16 +414,16 @@ impl Upgrades {
         rt: &R,
         watch: &mut Watch,
         service: Service,
-        mut stream: TcpStream,
+        stream: TcpStream,
         since: u64,
     ) -> Result<(), OutFault> {
         let name = self.next;
         self.next = name.checked_add(1).unwrap_or(FIRST_UPGRADE);
-        if watch.add_stream(rt, &mut stream, name).is_err() {
+        let Some(stream) = watched(rt, watch, stream, name) else {
             return Ok(());
-        }
+        };
         self.make_room();
-        let upgrade = Upgrade::new(self.alloc, service, name, since, Metered::new(stream));
+        let upgrade = Upgrade::new(self.alloc, service, name, since, stream);
         self.list.push(upgrade).map_err(no_room)
     }
 
@@ -477,7 +457,7 @@ impl Upgrades {
     }
 
     /// The handshakes go on, until one ends: its place, and how it ended.
-    pub(crate) fn go_on(&mut self) -> Result<Option<(usize, Turn)>, Memory> {
+    fn go_on(&mut self) -> Result<Option<(usize, Turn)>, Memory> {
         let alloc = self.alloc;
         for (place, upgrade) in self.list.iter_mut().enumerate() {
             if upgrade.named {
@@ -490,12 +470,15 @@ impl Upgrades {
         Ok(None)
     }
 
-    /// Takes a handshake out.
-    pub(crate) fn take(&mut self, place: usize) -> Option<Upgrade> {
-        if place < self.list.len() {
-            Some(self.list.remove(place))
-        } else {
-            None
+    /// The handshakes go on, until one ends.
+    pub(crate) fn turn(&mut self) -> Result<Option<Upgraded>, Memory> {
+        let Some((place, turn)) = self.go_on()? else {
+            return Ok(None);
+        };
+        if place >= self.list.len() {
+            return Ok(None);
         }
+        let upgrade = self.list.remove(place);
+        Ok(Some(upgrade.ended(self.alloc, turn)?))
     }
 }

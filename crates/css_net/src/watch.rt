@@ -1,12 +1,9 @@
-use css_devices::faults::{fault_of, no_memory};
-use css_outside::{Failure, OutFault};
 use mio::event::Source;
-use mio::net::TcpStream;
 use mio::{Events, Interest, Poll, Token};
 use std::alloc::Global;
 use std::net::Net;
-use std::thread;
 use std::time::{Clock, Duration};
+use std::{io, thread};
 
 /// How many sockets one wait names at most; the next wait names the others.
 const MOST_NAMED: usize = 64;
@@ -16,69 +13,39 @@ pub(crate) const NOBODY: usize = usize::MAX;
 /// The names of sockets on which something has come, or that take more.
 pub(crate) type Named = [usize; MOST_NAMED];
 
-/// Names nobody.
-pub(crate) const NONE_NAMED: Named = [NOBODY; MOST_NAMED];
-
-/// What is watched of a socket that both reads and writes.
-pub(crate) fn both_ways() -> Interest {
-    Interest::READABLE | Interest::WRITABLE
-}
-
 /// The system's set of sockets, and where it says what has come.
+#[derive(Drop)]
 struct Set {
     poll: Poll,
     events: Events<Global>,
 }
 
-// One function drops its parts: what holds one needn't see them.
-impl Drop for Set {
-    fn drop(self) {
-        let Set { poll: _, events: _ } = self;
-    }
-}
-
 impl Set {
-    fn new<R: Net>(alloc: Global, rt: &R) -> Result<Set, OutFault> {
-        let poll = Poll::new(rt).map_err(fault_of)?;
-        match Events::with_capacity(alloc, MOST_NAMED) {
-            Ok(events) => Ok(Set { poll, events }),
-            Err(error) => Err(no_memory(error)),
-        }
+    fn new<R: Net>(alloc: Global, rt: &R) -> io::Result<Set> {
+        Ok(Set {
+            poll: Poll::new(rt)?,
+            events: Events::with_capacity(alloc, MOST_NAMED)?,
+        })
     }
 
-    fn add<S: Source>(
-        &self,
-        socket: &mut S,
-        name: usize,
-        interests: Interest,
-    ) -> Result<(), OutFault> {
+    fn add<S: Source>(&self, socket: &mut S, name: usize, interests: Interest) -> io::Result<()> {
         let registry = self.poll.registry();
-        registry
-            .register(socket, Token(name), interests)
-            .map_err(fault_of)
+        registry.register(socket, Token(name), interests)
     }
 
-    fn rename(&self, stream: &mut TcpStream, name: usize) -> Result<(), OutFault> {
+    fn rename<S: Source>(&self, socket: &mut S, name: usize) -> io::Result<()> {
+        let interests = Interest::READABLE | Interest::WRITABLE;
         let registry = self.poll.registry();
-        registry
-            .reregister(stream, Token(name), both_ways())
-            .map_err(fault_of)
+        registry.reregister(socket, Token(name), interests)
     }
 
-    fn wait(&mut self, pause: Duration) -> Result<(), OutFault> {
-        self.poll
-            .poll(&mut self.events, Some(pause))
-            .map_err(fault_of)
-    }
-
-    fn named(&self, into: &mut Named) {
-        let mut place = 0usize;
-        for event in self.events.iter() {
-            if place < MOST_NAMED {
-                into[place] = event.token().0;
-                place += 1;
-            }
+    fn wait(&mut self, pause: Duration) -> io::Result<Named> {
+        self.poll.poll(&mut self.events, Some(pause))?;
+        let mut named = [NOBODY; MOST_NAMED];
+        for (place, event) in named.iter_mut().zip(self.events.iter()) {
+            *place = event.token().0;
         }
+        Ok(named)
     }
 }
 
@@ -95,65 +62,65 @@ impl Watch {
         Watch { alloc, set: None }
     }
 
-    fn begin<R: Net>(&mut self, rt: &R) -> Result<(), OutFault> {
+    fn begin<R: Net>(&mut self, rt: &R) -> io::Result<()> {
         if self.set.is_none() {
             self.set = Some(Set::new(self.alloc, rt)?);
         }
         Ok(())
     }
 
-    /// Watches a socket under a name. It is named once for each change: until its calls would wait it must be asked.
-    /// What a socket that is watched for what comes alone sends never ends a wait.
-    pub(crate) fn add<R: Net, S: Source>(
+    fn set(&self) -> io::Result<&Set> {
+        match &self.set {
+            Some(set) => Ok(set),
+            None => Err(io::Error::from(io::ErrorKind::NotFound)),
+        }
+    }
+
+    fn watched<R: Net, S: Source + Drop>(
         &mut self,
         rt: &R,
-        socket: &mut S,
+        mut socket: S,
         name: usize,
         interests: Interest,
-    ) -> Result<(), OutFault> {
+    ) -> io::Result<S> {
         self.begin(rt)?;
-        match &self.set {
-            Some(set) => set.add(socket, name, interests),
-            None => Err(OutFault::Failed(Failure::Other)),
-        }
+        self.set()?.add(&mut socket, name, interests)?;
+        Ok(socket)
     }
 
-    /// Watches a stream, which from now on sends small texts at once.
-    pub(crate) fn add_stream<R: Net>(
+    /// Watches a socket under a name. It is named once for each change: until its calls would wait it must be asked.
+    pub(crate) fn add<R: Net, S: Source + Drop>(
         &mut self,
         rt: &R,
-        stream: &mut TcpStream,
+        socket: S,
         name: usize,
-    ) -> Result<(), OutFault> {
-        self.add(rt, stream, name, both_ways())?;
-        stream.set_nodelay(true).map_err(fault_of)
+    ) -> io::Result<S> {
+        self.watched(rt, socket, name, Interest::READABLE | Interest::WRITABLE)
     }
 
-    /// Gives a watched stream another name.
-    pub(crate) fn rename(&self, stream: &mut TcpStream, name: usize) -> Result<(), OutFault> {
-        match &self.set {
-            Some(set) => set.rename(stream, name),
-            None => Err(OutFault::Failed(Failure::Other)),
-        }
+    /// Watches a socket for what comes alone: what it sends never ends a wait.
+    pub(crate) fn add_reader<R: Net, S: Source + Drop>(
+        &mut self,
+        rt: &R,
+        socket: S,
+        name: usize,
+    ) -> io::Result<S> {
+        self.watched(rt, socket, name, Interest::READABLE)
+    }
+
+    /// Gives a watched socket another name.
+    pub(crate) fn rename<S: Source>(&self, socket: &mut S, name: usize) -> io::Result<()> {
+        self.set()?.rename(socket, name)
     }
 
     /// Waits until something comes, or the pause is over.
-    pub(crate) fn wait<R: Clock>(&mut self, rt: &R, pause: Duration) -> Result<(), OutFault> {
+    pub(crate) fn wait<R: Clock>(&mut self, rt: &R, pause: Duration) -> io::Result<Named> {
         match &mut self.set {
             Some(set) => set.wait(pause),
             None => {
                 thread::sleep(rt, pause);
-                Ok(())
+                Ok([NOBODY; MOST_NAMED])
             }
         }
-    }
-
-    /// Where something came in the last wait.
-    pub(crate) fn named(&self) -> Named {
-        let mut named = NONE_NAMED;
-        if let Some(set) = &self.set {
-            set.named(&mut named);
-        }
-        named
     }
 }
