@@ -4,10 +4,10 @@
     bench/companion.py [COUNT]          1,000,000 of each, where no count is given
 
 The companion has an answer of the wall clock, a control timestamp and the rate of its timeline. Printed are nanoseconds
-of processor time each, where that of a start is taken off: of a report, of a text of content identification that changes
-one property, and of a control timestamp. The program that is timed is no part of this repository: it is made, proved and
-built in a folder of its own over copies of the crates, which takes a minute, or some minutes where nothing was proved in
-this checkout before.
+of processor time each, where that of a start is taken off: of a report, of a text of content identification that
+changes one property, and of a control timestamp. The program that is timed is no part of this repository: it is made,
+proved and built in a folder of its own over copies of the crates, which takes a minute, or some minutes where nothing
+was proved in this checkout before.
 """
 
 import sys

@@ -4,12 +4,12 @@ refusal; and counts the allocations of a television's quiet turns.
 
     bench/drives.py
 
-The companion makes two reports, of an answer and a control timestamp; the television serves such a companion, which then
-tells when it can present. Both stand over devices in memory, and write at once what they write or send. Each run with a
-refusal must end with want of memory, and with a front part of what is written without one. Then a television with 256
-quiet sessions makes 300 turns, and 1,300: it must allocate as often in both. The program is no part of this repository:
-it is made, proved and built in a folder of its own over copies of the crates, which takes some minutes where nothing was
-proved in this checkout before.
+The companion makes two reports, of an answer and a control timestamp; the television serves such a companion, which
+then tells when it can present. Both stand over devices in memory, and write at once what they write or send. Each run
+with a refusal must end with want of memory, and with a front part of what is written without one. Then a television
+with 256 quiet sessions makes 300 turns, and 1,300: it must allocate as often in both. The program is no part of this
+repository: it is made, proved and built in a folder of its own over copies of the crates, which takes some minutes
+where nothing was proved in this checkout before.
 """
 
 import os
@@ -20,7 +20,9 @@ import tempfile
 import refusals
 from programs import build
 
-LIBRARIES = ["css_num", "css_outside", "css_memory", "css_client", "css_tsmsg", "css_companion", "css_schedule", "css_tv", "css_drive"]
+LIBRARIES = [
+    "css_num", "css_outside", "css_memory", "css_client", "css_tsmsg", "css_companion", "css_schedule", "css_tv", "css_drive"
+]
 
 PROGRAM = r"""//! Makes the run of its first word: of a companion, of a television, or of one that has quiet sessions alone, in as many
 //! turns as its second word says.

@@ -33,8 +33,8 @@ def crates_below(names, lines):
 
 
 def build(folder, name, libraries, source, proofs=None):
-    """Builds the program of this source in this folder, over these libraries, and gives its path. Its proof files are texts by
-    their paths, if it has any."""
+    """Builds the program of this source in this folder, over these libraries, and gives its path. Its proof files are
+    texts by their paths, if it has any."""
     with open(os.path.join(HERE, "crates.txt"), encoding="utf-8") as file:
         lines = crates_below(libraries, file.readlines())
     for crate in lines:

@@ -1,13 +1,14 @@
 #!/usr/bin/env python3
-"""Times the steps of a television with 1, 16, 64 and 256 open sessions, half of either kind, each TS session with a window.
+"""Times the steps of a television with 1, 16, 64 and 256 open sessions, half of either kind, each TS session with a
+window.
 
     bench/tv.py [COUNT]                 2,000 steps of each kind, where no count is given
 
 Printed are microseconds a step of processor time, where that of a start is taken off: of a presentation, of a text that
-is refused together with the opening and the setup that it costs, of an opening with its closing, and of a viewer's command
-that all sessions are told of. The program that is timed is no part of this repository: it is made, proved and built in a
-folder of its own over copies of the crates, which takes a minute, or some minutes where nothing was proved in this
-checkout before.
+is refused together with the opening and the setup that it costs, of an opening with its closing, and of a viewer's
+command that all sessions are told of. The program that is timed is no part of this repository: it is made, proved and
+built in a folder of its own over copies of the crates, which takes a minute, or some minutes where nothing was proved
+in this checkout before.
 """
 
 import sys

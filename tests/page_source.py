@@ -1,8 +1,8 @@
 """Where the lines come from that tests/page.py feeds to the page: a simulation, `tv` and `watch` of the program, or
 `watch` beside a television that is wrong.
 
-The first two tell the same story by the same times, in seconds: the content is paused and goes on, the programme changes, the
-television is off and on again. The simulation has more, which a television that keeps its word doesn't do.
+The first two tell the same story by the same times, in seconds: the content is paused and goes on, the programme
+changes, the television is off and on again. The simulation has more, which a television that keeps its word doesn't do.
 """
 import pathlib
 import subprocess

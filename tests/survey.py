@@ -3,8 +3,8 @@
 
     tests/survey.py [PROGRAM ..]       the program's words before the command; ./css where there are none
 
-The surveys below come from another program. What is generated must be the same twice, and a replay of it must print what
-its survey counts. Each check prints a line. The exit status is 1 where one failed.
+The surveys below come from another program. What is generated must be the same twice, and a replay of it must print
+what its survey counts. Each check prints a line. The exit status is 1 where one failed.
 """
 import os
 import subprocess

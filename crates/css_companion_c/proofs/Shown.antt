@@ -178,5 +178,6 @@ may_show companion timing tick values readings presented timed met reading above
     (place timing (hi own answer reading)) tick come
     (λ passed. let late = (presented.end (lo own answer reading) (omega (arith, near.low))).1 passed in
     let low = meets.low in omega (arith, ints)) in
-    subst (λ (t : Result Timing Cause). HasTickOf (report_by (Some (span_of own reading answer)) t) (Some tick)) (sym timed)
+    subst (λ (t : Result Timing Cause). HasTickOf (report_by (Some (span_of own reading answer)) t)
+      (Some tick)) (sym timed)
     told

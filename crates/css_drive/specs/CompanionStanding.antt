@@ -89,8 +89,8 @@ pub record KnowsPeers (peers : ℕ) (cii ts : Option ℕ) (history : History) : 
   pub cii_kind : IfSome cii (λ peer. kind_of peer history ≡ Some kind.Cii)
   pub ts_kind : IfSome ts (λ peer. kind_of peer history ≡ Some kind.Ts)
 
--- The run has this history since `before`, and it is proper. The variables say what they have to of it, and the observer
--- saw its notes. No call other than a dial has failed.
+-- The run has this history since `before`, and it is proper. The variables say what they have to of it, and the
+-- observer saw its notes. No call other than a dial has failed.
 pub record Stands (config : DriveConfig) (before now : Shown) (saw : List Note → Type 0) (live : Live)
     (history : History) : Type 0 where
   pub told : now.told ≡ with_entries history before.told

@@ -27,8 +27,8 @@ pub record RelayRan (run : RelayRun) (start told : Option History) (ended : Driv
   pub numbered : AreNumbered history
   pub ends : MayEnd (due run history) ended
 
--- What the run counted: faults of calls other than dials at `NetFault` alone, and a failed dial where every dial failed.
--- A relay writes nothing.
+-- What the run counted: faults of calls other than dials at `NetFault` alone, and a failed dial where every dial
+-- failed. A relay writes nothing.
 pub record CountsRelayRun (before now : Counts) (ended : Driven) : Type 0 where
   pub faults : CountsNetFault before.faults now.faults ended
   pub dials : CountsDialFaults before.dial_faults now.dial_faults ended

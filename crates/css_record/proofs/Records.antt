@@ -85,7 +85,8 @@ notes_on was over a b c f m n newest notes lines are e p q =
 pub writes_nothing : (over : Option OutFault) (held : Option (List ℕ)) (count : ℕ) → over ≡ None
     → Writes over held held count count []
 writes_nothing over held count e =
-    let P : Option OutFault → Type 0 = λ x. Writes x held held count count [] in subst P (sym e) (Appends-nil held, refl)
+    let P : Option OutFault → Type 0 = λ x. Writes x held held count count [] in subst P (sym e)
+      (Appends-nil held, refl)
 
 pub writes_counts : (over : Option OutFault) (held holds : Option (List ℕ)) (before now : ℕ) (bytes : List ℕ)
     → Writes over held holds before now bytes → CountsOver over before now

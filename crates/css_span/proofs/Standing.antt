@@ -34,7 +34,8 @@ keeps-joined own r b kept possible fresh = record {
     errors = λ e. ap (λ t. (b.error == e) || t) (stands.errors e);
     different = (fresh, stands.different);
     possible =
-        All-cons (IsPossible own r) b accepted possible (possible-later own floor r accepted local later stands.possible);
+        All-cons (IsPossible own r) b accepted possible (possible-later own floor r accepted local later
+          stands.possible);
   };
 }
 
@@ -52,7 +53,8 @@ keeps-ignored own r a b newer older possible same wide = record {
         among = among-skipped (newer ++ a ∷ older) accepted b stands.among;
         errors =
             λ e.
-            sym (declares_already e b.error (newer ++ a ∷ older) (declares_itself b.error newer older a same)) ∙ ap (λ t.
+            sym (declares_already e b.error (newer ++ a ∷ older) (declares_itself b.error newer older a
+              same)) ∙ ap (λ t.
             (b.error == e) || t) (stands.errors e);
         different = stands.different;
         possible =
@@ -79,7 +81,8 @@ keeps-replaced own r a b newer older possible same less = record {
         among = inl (refl, among-dropped newer older accepted a stands.among);
         errors =
             λ e.
-            moved e ∙ sym (declares_already e b.error (newer ++ a ∷ older) (declares_itself b.error newer older a same)) ∙
+            moved e ∙ sym (declares_already e b.error (newer ++ a ∷ older) (declares_itself b.error newer
+              older a same)) ∙
             ap (λ t. (b.error == e) || t) (stands.errors e);
         different = (ap (λ n. declares n (newer ++ older)) (sym same) ∙ different.0, different.1);
         possible =

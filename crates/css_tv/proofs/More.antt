@@ -60,7 +60,8 @@ stands_now e old new before after h (Ok o) is done grows stands fresh =
     ap (λ s. calls_of s.addresses (e ∷ h)) done.stage ∙ more_calls e old h o is stands in
     record {
       player =
-          subst (λ (x : Calls). PlayerStandsFor new.player x.player) (sym same) (grows.player calls.player stands.player);
+          subst (λ (x : Calls). PlayerStandsFor new.player x.player) (sym same) (grows.player calls.player
+            stands.player);
       sessions =
           subst (λ (x : Calls). SessionsStandFor new.sessions x.sessions) (sym same)
           (grows.sessions calls.sessions stands.sessions fresh);

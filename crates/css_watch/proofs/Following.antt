@@ -21,7 +21,8 @@ use Rattle.css_watch.specs.Following.{BreaksOff, CountsWrites, GoesOn, IsRun, Is
 use Rattle.css_watch.specs.Following.{IsQuiet, LeavesAll, Parts, Saw, Stage}
 use Rattle.css_watch.specs.Progress.{fresh, told_number, with_visit}
 use Rattle.css_watch.specs.Telling.{Told, told_of, text_of}
-use Rattle.css_watch.specs.Visits.{CountsNetFault, CountsWriteFault, Hangs, HoldsAll, IsFault, IsVisit, Visit, end_of, end_text}
+use Rattle.css_watch.specs.Visits.{CountsNetFault, CountsWriteFault, Hangs, HoldsAll, IsFault, IsVisit, Visit, end_of}
+use Rattle.css_watch.specs.Visits.{end_text}
 use Rattle.css_watch.specs.Visits.{by_reports, fault_of, unwritten, hang_ups, last_end, told_in, visit_text, why}
 use Rattle.css_watch.specs.declared.ending.Watched.{Watched}
 use Rattle.css_watch.specs.declared.ending.Watched.TheVariants as watched
@@ -111,7 +112,8 @@ visit_of history hung ended = record { history = history; hung = hung; ended = e
 
 visit_as : (plan : Plan) (begun : Begun) (history hung : History) (ended : Driven)
     → IsVisit plan begun (visit_of history [] ended) → IsVisit plan begun (visit_of history hung ended)
-visit_as plan begun history hung ended v = record { proper = v.proper; ends = v.ends; promised = v.promised; at_cause = v.at_cause }
+visit_as plan begun history hung ended v = record { proper = v.proper; ends = v.ends; promised = v.promised;
+  at_cause = v.at_cause }
 
 -- the text of a visit that another one follows
 text_so : (told : Told) (parting : Option Parting) (ended : Driven) (progress : Progress) (words : List ℕ)
@@ -223,7 +225,8 @@ holds_last held holds bytes (driven.BadUrl property) begun p = holds_reports hel
 -- what the sink holds where nothing is said of the visit's end
 unsaid : (plan : Plan) (begun : Begun) (history hung : History) (ended : Driven)
     → why ended (told_in plan begun (visit_of history hung ended)).parting ≡ None
-    → visit_text plan begun (visit_of history hung ended) ≡ text_of (told_in plan begun (visit_of history hung ended)).lines
+    → visit_text plan begun (visit_of history hung ended) ≡ text_of (told_in plan begun (visit_of history
+      hung ended)).lines
 unsaid plan begun history hung ended e =
     let told = told_in plan begun (visit_of history hung ended) in
     ap (λ x. text_of told.lines ++ end_text told.progress.begun x) e ∙ append-nil (text_of told.lines)

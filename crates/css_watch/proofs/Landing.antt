@@ -27,7 +27,8 @@ use Rattle.css_watch.specs.declared.progress.Progress.{Progress}
 use Rattle.css_watch.proofs.Telling.{no_prefix}
 
 -- ---- what is judged possible is possible
-answer_possible : (own : Local) (reading : ℕ) (answer : Answer) → IsPossibleAt own reading (judged_answer own reading answer)
+answer_possible : (own : Local) (reading : ℕ) (answer : Answer) → IsPossibleAt own reading (judged_answer own
+  reading answer)
 answer_possible own reading answer = by (int_lt (scaled_width own answer reading) (pos 0)) refl
   where
     by : (b : Bool) → int_lt (scaled_width own answer reading) (pos 0) ≡ b → IsPossibleAt own reading (cond b (Err
@@ -61,7 +62,8 @@ pub step_of : (plan : Plan) (reading : ℕ) (bytes : List ℕ) (history : Histor
     (wanted : Option Parting) (accepted : Kept) → Knows plan.run companion history → IsOf plan old answers
     → ((history : History) → companions.StandsFor companion history
     → result ≡ judged_of (own_of companion) history reading bytes)
-    → IfOk text (λ x. x ≡ text_of (landing_line plan.run.companion.local reading bytes result ∷ slept_lines reading was))
+    → IfOk text (λ x. x ≡ text_of (landing_line plan.run.companion.local reading bytes result ∷
+      slept_lines reading was))
     → ((answers : Answers) → StandsFor old answers → IsPossibleAt old.local reading result
     → Accepts old.local reading result answers accepted wanted)
     → is ≡ after_landing result was → new ≡ accepted
@@ -112,6 +114,7 @@ failed_of plan reading bytes history companion answers was is new over parting h
         parting_so = p;
         wrote = (subst P (sym h) (no_prefix held _), n);
       };
-      progress_so = went ∙ ap (λ x. after_landing x was) (judged_so plan reading bytes history companion result k judges);
+      progress_so = went ∙ ap (λ x. after_landing x was) (judged_so plan reading bytes history companion
+        result k judges);
       agree_so = λ none. absurd (cc);
     }

@@ -13,7 +13,8 @@ use Rattle.css_watch_lines.specs.Lines.{line_text, Ended}
 use Rattle.css_watch.specs.Progress.{fresh, told_number, with_visit}
 use Rattle.css_watch.specs.Telling.{Told, told_of, text_of}
 use Rattle.css_watch.specs.Visits.{Visit, IsVisit, IsFollowed, IsLast, IsFault, HoldsAll, told_in, visit_text, hang_ups}
-use Rattle.css_watch.specs.Visits.{AreFollowed, CountsDialFaults, CountsNetFault, CountsWriteFault, begun_after, entries_of, written}
+use Rattle.css_watch.specs.Visits.{AreFollowed, CountsDialFaults, CountsNetFault, CountsWriteFault, begun_after}
+use Rattle.css_watch.specs.Visits.{entries_of, written}
 use Rattle.css_watch.specs.declared.ending.Watched.{Watched}
 use Rattle.css_watch.specs.declared.ending.Watched.TheVariants as watched
 use Rattle.css_watch.specs.declared.parting.Parting.{Parting}

@@ -195,8 +195,8 @@ answers_after plan (Landed reading bytes) history answers = with_judged (judged 
 answers_after plan _ history answers = answers
 
 -- ---- when the observer ends a visit
--- The turn is the last of the watch, by its time since the watch's first turn. The first visit's own run has that limit,
--- and needs no observer to end.
+-- The turn is the last of the watch, by its time since the watch's first turn. The first visit's own run has that
+-- limit, and needs no observer to end.
 abbrev pub late : Plan → ℕ → Begun → Option Parting
 late plan reading begun =
     if nat_lt 1 begun.visits && is_over plan.run.limit (unwrap_or begun.first reading) reading then Some parting.Late

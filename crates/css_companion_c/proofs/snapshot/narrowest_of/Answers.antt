@@ -10,6 +10,7 @@ pub loop-answer-preserved : goal.loop-answer-preserved
 loop-answer-preserved c = record {
   best = first_of (search rules, grind (arith, common_steps));
   range =
-      All-more (λ (k : SnapshotAnswer). IsAnswer (times_of k)) c.args.kept.now c.loop-answer.answer-index _ (omega arith)
+      All-more (λ (k : SnapshotAnswer). IsAnswer (times_of k)) c.args.kept.now c.loop-answer.answer-index
+        _ (omega arith)
       c.loop-answer.invariant.range c.in_ok-answer_of.ensures.range;
 }

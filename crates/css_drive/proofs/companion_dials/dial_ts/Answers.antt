@@ -75,4 +75,5 @@ returns-in_err-to-clause-goes g c before started h s k d =
     calls.ts_place x) (sym (c.state.ensures.meaning h k.stands))) in
     let gives = c.in_err-to.ensures.gives in
     at_err _ _ _ c.from_residual.result c.from_residual.ensures.1
-    (stops_here s (knows_lawful _ _ h k) _ _ (calls.bad_own _ _ _ gives) (ends_by _ _ _ t (calls.bad_place _ _ _ _ _ gives)))
+    (stops_here s (knows_lawful _ _ h k) _ _ (calls.bad_own _ _ _ gives) (ends_by _ _ _ t (calls.bad_place _
+      _ _ _ _ gives)))

@@ -15,7 +15,8 @@ returns-in-Err-clause-goes g c start relay h s =
 pub loop-peer-init : goal.loop-peer-init
 loop-peer-init g c = record {
   goes = λ start relay h s.
-      ends.is_at_as c.args.live.now (record { history = h; stands = s }) (ap (λ xs. telling c.args.text.now xs (facts_in c.args.live.now))
+      ends.is_at_as c.args.live.now (record { history = h; stands = s }) (ap (λ xs. telling c.args.text.now xs
+        (facts_in c.args.live.now))
       (sym (c.deref-peer-items.ensures.value ∙ c.in-Ok.ensures.ok)));
   last = refl;
   keeps = record { made = refl; dials = refl; cii = refl };
@@ -31,7 +32,8 @@ loop-peer-preserved g c =
       goes = λ start relay h s.
           let x = c.loop-peer.invariant.goes start relay h s in
           c.in-Ok-tell_one.ensures.goes start relay x.history (drop (i + 1) items)
-          (ends.at_left c.loop-peer.live x.stands (ap (λ xs. telling c.args.text.now xs (facts_in c.loop-peer.live)) e));
+          (ends.at_left c.loop-peer.live x.stands (ap (λ xs. telling c.args.text.now xs
+            (facts_in c.loop-peer.live)) e));
       last = c.tell_one.ensures.last ∙ c.loop-peer.invariant.last;
       keeps = ends.keeps_on c.loop-peer.invariant.keeps c.tell_one.ensures.keeps;
     }

@@ -11,7 +11,8 @@ pub returns-clause-ran : goal.returns-clause-ran
 returns-clause-ran g c =
     ends.ran_by (steps.stops_by_fault (ends.at_first c.args.config
     (shown (g.O.Outside.told c.args.outside.now) (g.O.Outside.counts c.args.outside.now)))
-    (steps.lawful c.in-Ok.ensures.known) (shown (g.O.Outside.told c.listen.new.self) (g.O.Outside.counts c.listen.new.self))
+    (steps.lawful c.in-Ok.ensures.known) (shown (g.O.Outside.told c.listen.new.self) (g.O.Outside.counts
+      c.listen.new.self))
     c.end_of.result (record {
       told = c.in-Err-listen.ensures.told;
       counted = c.end_of.ensures.counted _ _ c.in-Err-listen.ensures.counted.faults;
@@ -37,6 +38,7 @@ returns-in-Ok-listen-clause-counted g c = record {
   faults = (c.make_turns.ensures.ends _ _
       (ends.listens c.args.config _ _ _ c.in-Ok.ensures.known c.in-Ok-listen.ensures.told
       c.in-Ok-listen.ensures.counted.faults c.in-Ok-listen.ensures.counted.same)).counted;
-  dials = ends.dials_from (g.O.Outside.counts c.args.outside.now) (g.O.Outside.counts c.listen.new.self) _ _ c.in-Ok-listen.ensures.counted.same c.make_turns.ensures.dials;
+  dials = ends.dials_from (g.O.Outside.counts c.args.outside.now) (g.O.Outside.counts c.listen.new.self) _ _
+    c.in-Ok-listen.ensures.counted.same c.make_turns.ensures.dials;
   no_writes = c.make_turns.ensures.no_writes;
 }
