@@ -13,43 +13,10 @@ import sys
 import tempfile
 from pathlib import Path
 
-from build import alone, closure, fill, graph, prove, room_in_git
+from build import TOP, Prover, alone
 
-TOP = Path(__file__).resolve().parent.parent
 NAME = "css_companion_c"
 VERSION = "1.0"
-
-
-def kit():
-    """The folder of the kit, which has the three functions over malloc that the library calls."""
-    page = subprocess.run(["rt", "doc"], cwd=TOP, capture_output=True, text=True, check=True).stdout.strip()
-    return Path(page).parent
-
-
-def build(folder):
-    """Proves the crates below the library, and then the library, whose archive this makes in a folder."""
-    below = graph()
-    crates = closure(NAME, below) - {NAME}
-    room, archive = Path(folder) / "room", Path(folder) / f"lib{NAME}.a"
-    print(f"css: proving the library and the {len(crates)} crates below it", file=sys.stderr, flush=True)
-    fill(room, crates)
-    prove(room, crates)
-    places = {crate: room / "crates" / crate / "out" / "rlib" for crate in crates}
-    rows = (TOP / "crates.txt").read_text().splitlines()
-    uses = next(row for row in rows if row.split(" ")[0] == NAME).partition(":")[2].split()
-    words = [f"--crate-name={NAME}", "src/lib.rt", "--crate-type=staticlib", f"--links={NAME}="]
-    for crate in ["std", *uses]:
-        words += ["--extern", f"{crate}={places.get(crate, kit() / 'rlibs') / f'{crate}.rlib'}"]
-    for place in [kit() / "rlibs", *places.values()]:
-        words += ["-L", f"dependency={place}"]
-    words += ["--antt-project", kit() / "rattle/logic/antt-project.json", "--logic-built", kit() / "logic_built"]
-    words += ["--toolchain", kit() / "toolchain", "--jobs", str(len(os.sched_getaffinity(0))), "-o", archive]
-    how = {"cwd": TOP / "crates" / NAME, "stdout": subprocess.PIPE, "stderr": subprocess.STDOUT, "text": True}
-    made = subprocess.run([kit() / "bin/rattle", "build", *words], **how, check=False)
-    if made.returncode:
-        print(made.stdout[-4000:], file=sys.stderr)
-        sys.exit("tools/library.py: the library can't be built")
-    return archive
 
 
 def joined(archives, target):
@@ -81,8 +48,12 @@ def main(words):
         print(__doc__)
         return 2
     folder = Path(os.path.abspath(words[0]))
-    with alone(), room_in_git() as made:
-        joined([build(made), kit() / "c" / "liblibc_c.a"], folder / "lib" / "libcss_companion.a")
+    with alone(), tempfile.TemporaryDirectory(prefix="css-room-") as room:
+        archive = Path(room) / f"lib{NAME}.a"
+        prover = Prover(room, NAME, ["src/lib.rt", "--crate-type=staticlib"], archive)
+        print(f"css: proving the library and the {len(prover.crates) - 1} crates below it", file=sys.stderr, flush=True)
+        prover.prove()
+        joined([archive, prover.kit / "c" / "liblibc_c.a"], folder / "lib" / "libcss_companion.a")
     (folder / "include").mkdir(parents=True, exist_ok=True)
     shutil.copy(TOP / "crates" / NAME / "include" / "css_companion.h", folder / "include")
     package(folder)

@@ -1,7 +1,7 @@
 -- The map of what is remembered, as the list of its promises.
 use Rattle.std.proofs.Common.{◌≡◌, ℕ, ◌<◌, ◌≤◌, arith, ap, sym, ◌∙◌, subst, Bool}
 use Rattle.std.proofs.Common.{true, false, cond, ◌&&◌, List, [], ◌∷◌, refl}
-use Rattle.std.specs.Prelude.{map, not, nat_lt, ◌==◌, Option, Some, None, is_some}
+use Rattle.std.specs.Prelude.{map, length, not, nat_lt, ◌==◌, Option, Some, None, is_some}
 use Rattle.std.specs.Prelude.{IfSome, All, IsTrue, Result, Ok, Err, IfOk, OnErr}
 use Rattle.std.specs.List.{filter, AllByRecursion}
 use Rattle.std.specs.List.Sorted.{IsStrictlySortedBy}
@@ -28,6 +28,11 @@ use Rattle.css_client.proofs.Rings.{same_originate}
 -- what the map has is seen as
 abbrev pub seen : List (Exchange × ℕ) → List Promise
 seen entries = map promise_of entries
+
+-- an empty map is seen as no promises
+pub none_seen : (entries : List (Exchange × ℕ)) → length entries ≡ 0 → seen entries ≡ []
+none_seen [] e = refl
+none_seen (entry ∷ entries) e = absurd (cc)
 
 -- ---- what exchanges are told apart by
 -- two readings have one time on the wire where they are equal

@@ -162,6 +162,15 @@ remembers_all n request oldest asked promises last h o r current =
         let below : oldest ≤ request = All-head (λ x. oldest ≤ x) request (take n asked) least in
         omega arith
 
+-- where nothing is remembered, nothing is to be forgotten
+pub none_remembered : (asked kept : List ℕ) (promises : List Promise) → promises ≡ [] → RemembersOnly asked promises
+    → RemembersOnly kept promises
+none_remembered asked kept promises none only = record {
+  of_asked = subst (λ (ps : List Promise). All (λ promise. IsTrue (is_among promise.originate kept)) ps) (sym none)
+      (All-nil (λ (promise : Promise). IsTrue (is_among promise.originate kept)));
+  once = only.once;
+}
+
 -- ---- nothing else is remembered
 -- what holds of those that a filter keeps
 kept-all : (P Q : Promise → Type 0) (test : Promise → Bool) → ((p : Promise) → P p → test p ≡ true → Q p)

@@ -65,6 +65,13 @@ impl Promises {
         }
     }
 
+    /// Whether there is none: so it mostly is, where the television sends no follow-ups.
+    pub(crate) fn are_none(&self) -> bool
+        ensures { result ≡ true → self.now ≡ [] }
+    {
+        self.landings.is_empty()
+    }
+
     /// When the first response with these values landed.
     pub(crate) fn first(&self, originate: Stamp, receive: Stamp) -> Option<u64>
         requires originate { originate.nanoseconds < wire.second }

@@ -24,6 +24,9 @@ pub(crate) fn note_request(asked: &mut Asked, promises: &mut Promises, request: 
         → RemembersOnly asked.new promises.new }
 {
     asked.note(request);
+    if promises.are_none() {
+        return;
+    }
     if let Some(oldest) = asked.oldest() {
         promises.forget_before(oldest);
     }

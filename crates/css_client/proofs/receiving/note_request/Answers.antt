@@ -4,12 +4,17 @@ use Rattle.std.specs.Prelude.{Option, None}
 use Rattle.std.specs.List.{last_or}
 use Rattle.css_client.specs.declared.promises.Promise.{Promise}
 use Rattle.css_client.specs.Clients.{RemembersAll, RemembersOnly}
-use Rattle.css_client.proofs.Forgetting.{remembers_all, remembers_only, last_or-none}
+use Rattle.css_client.proofs.Forgetting.{remembers_all, remembers_only, none_remembered, last_or-none}
 use Rattle.css_client.proofs.receiving.note_request.Goals as goal
 
 oldest : (kept asked : List ℕ) (result found : Option ℕ) → asked ≡ kept → result ≡ last_or None asked → result ≡ found
     → last_or None kept ≡ found
 oldest kept asked result found same is e = ap (λ (xs : List ℕ). last_or None xs) (sym same) ∙ sym is ∙ e
+
+pub returns-then-are_none-clause-only : goal.returns-then-are_none-clause-only
+returns-then-are_none-clause-only c = λ rising only.
+    let old = c.args.promises.now in
+    none_remembered _ _ old (c.are_none.ensures c.if-are_none.true) only
 
 pub returns-in-Some-clause-all : goal.returns-in-Some-clause-all
 returns-in-Some-clause-all c = λ rising.
