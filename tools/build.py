@@ -198,7 +198,7 @@ class Progress:
 
 def refuse(crate, said):
     """Ends with the crate that isn't proved and the prover's first words on it."""
-    lines = [line for line in said.splitlines() if not re.match("statements |library |checked |fn .*: proved", line)]
+    lines = [line for line in said.splitlines() if not re.match("(statements|library|checked) |.*: proved$", line)]
     print(*lines[-40:], sep="\n", file=sys.stderr)
     words = (": error|error\\[", "not proved|no proof", "")
     why = next((line for it in words for line in lines if re.search(it, line)), "it said nothing")

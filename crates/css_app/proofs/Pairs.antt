@@ -67,7 +67,7 @@ module _ (config : DriveConfig) (plans : List Plan) (before now : Stage) (compan
   pub keeps_writes : (w w' : ℕ) → CountsWrites w w' companion → CountsWrites w w' (with_child companion finished)
   keeps_writes w w' counted =
       keeps (CountsWrites w w') (λ same. of_child (CountsWrites w w') finished same (λ e. same)
-        (λ f. same) same) counted
+      (λ f. same) same) counted
 
   pub keeps_calls : (c c' : ℕ) → CountsCalls c c' companion → CountsCalls c c' (with_child companion finished)
   keeps_calls c c' counted =

@@ -179,5 +179,5 @@ may_show companion timing tick values readings presented timed met reading above
     (λ passed. let late = (presented.end (lo own answer reading) (omega (arith, near.low))).1 passed in
     let low = meets.low in omega (arith, ints)) in
     subst (λ (t : Result Timing Cause). HasTickOf (report_by (Some (span_of own reading answer)) t)
-      (Some tick)) (sym timed)
+    (Some tick)) (sym timed)
     told

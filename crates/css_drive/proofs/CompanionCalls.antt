@@ -154,13 +154,13 @@ module _ (config : DriveConfig) (before now : Shown) (saw : List Note → Type 0
       ∙ ap (λ d. over false d) (same_open p live.ts_open e)
 
   pub cii_over : (p : ℕ) → live.cii_open ≡ Some p → closed p (facts_of config history) ≡ record (facts_in live)
-    { cii_open = None }
+      { cii_open = None }
   unfolding over
   cii_over p e =
       ap {A = Facts} (closed p) s.facts
       ∙ ap (λ b. over b (is_peer live.ts_open p)) (same_open p live.cii_open e)
       ∙ ap (λ d. over true d) (other_open history live.ts_open kind.Ts kind.Cii p (open_ts config before now saw live
-        history s) (open_cii config before now saw live history s p e) (λ x. cc))
+      history s) (open_cii config before now saw live history s p e) (λ x. cc))
 
   -- ---- which session it is
   pub cii_at : (p : ℕ) → live.cii_open ≡ Some p → session_at p history ≡ Some session.Cii

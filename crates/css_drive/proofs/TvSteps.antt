@@ -227,7 +227,7 @@ stays_on {run} {tv} s q e sv r peers' le = record {
   unused =
       λ peer lt.
       ap (λ es. life_of peer (calls_of (addresses_in run.config) es).sessions) e ∙ s.unused peer
-        (omega (arith, le, lt));
+      (omega (arith, le, lt));
 }
 
 -- what an event does by the history it does at the television

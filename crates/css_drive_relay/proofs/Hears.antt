@@ -269,7 +269,7 @@ module _ (live : Live) {run : RelayRun} {start now next : Shown} {history : Hist
             (All-tail (IsAccepted next.counts.peers (Heard peer bytes ∷ history)) peer left waits)));
         knows = knows_plain s.knows (Heard peer bytes) refl refl refl refl
             (ap (λ o. cond (is_cii o) (Some bytes) None) first.undialled) (ap (λ o. cond (is_ts o) (Some bytes) None)
-              first.undialled)
+            first.undialled)
             refl;
       }
 

@@ -86,7 +86,7 @@ pub writes_nothing : (over : Option OutFault) (held : Option (List ℕ)) (count 
     → Writes over held held count count []
 writes_nothing over held count e =
     let P : Option OutFault → Type 0 = λ x. Writes x held held count count [] in subst P (sym e)
-      (Appends-nil held, refl)
+    (Appends-nil held, refl)
 
 pub writes_counts : (over : Option OutFault) (held holds : Option (List ℕ)) (before now : ℕ) (bytes : List ℕ)
     → Writes over held holds before now bytes → CountsOver over before now

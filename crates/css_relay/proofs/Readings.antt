@@ -43,7 +43,7 @@ middle_reads span middle wall low high range is = by (is_beyond span) is
     by false is =
         subst (λ (m : Middle). IsWithin m.half m.value wall) (same_ok (between (cut span.lo) (cut span.hi)) middle is)
         (between_reads (cut span.lo) (cut span.hi) wall (cut_below span.lo wall low) (cut_above span.hi
-          wall high range))
+        wall high range))
 
 pub known_reads : (span : Option Interval) (middle : Middle) (wall : ℕ) → SpanHolds span wall → wall < LIMIT
     → middle_known span ≡ Ok middle → IsWithin middle.half middle.value wall

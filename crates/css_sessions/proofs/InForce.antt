@@ -138,7 +138,7 @@ presented_has true q p w None h = h
 presented_has true q p w (Some l) h = go l.life l.over h where
   go : (life : Life) (over : Bool) → LifeHas life w
       → Has (Some (record { life = life; over = over })) (presented_in q p
-        (Some (record { life = life; over = over })) w)
+      (Some (record { life = life; over = over })) w)
   go (CiiLife t ss) over h = h
   go Unset over h = h
   go (TsLife u v ps) over h = tt

@@ -186,7 +186,7 @@ texts_read s (state ∷ ss) h = go (is_empty (difference (latest s ss) state)) (
   go true ih = ih
   go false ih =
       ap (λ (r : Result Change CiiFault). r ∷ map message_of (cii_texts s ss)) (difference_reads
-        (latest s ss) state h.1)
+      (latest s ss) state h.1)
       ∙ ap (λ rs. Ok (difference (latest s ss) state) ∷ rs) ih
 
 pub reads_as_states : (s : State) (ss : List State) → AreReadable s ss → ReadsAsStates s ss
@@ -222,12 +222,12 @@ controls_read u p (player ∷ ps) h =
     go (same_control (control_for u (latest p ps)) (control_for u player)) (controls_read u p ps h.0) where
       go : (e : Bool) → map control_of (ts_texts u p ps) ≡ map Ok (ts_controls u p ps)
           → map control_of (with_text (cond e None (Some (control_text (control_for u player))))
-            (ts_texts u p ps)) ≡ map Ok
+          (ts_texts u p ps)) ≡ map Ok
           (cond e (ts_controls u p ps) (control_for u player ∷ ts_controls u p ps))
       go true ih = ih
       go false ih =
           ap (λ (r : Result Control TsFault). r ∷ map control_of (ts_texts u p ps))
-            (control_reads (control_for u player) h.1)
+          (control_reads (control_for u player) h.1)
           ∙ ap (λ rs. Ok (control_for u player) ∷ rs) ih
 
 newest_control : (u : Setup) (p : Player) (ps : List Player) (other : Control)
@@ -238,7 +238,7 @@ newest_control u p (player ∷ ps) other =
       go : (e : Bool) → same_control (control_for u (latest p ps)) (control_for u player) ≡ e
           → latest other (ts_controls u p ps) ≡ control_for u (latest p ps)
           → latest other (cond e (ts_controls u p ps) (control_for u player ∷ ts_controls u p ps)) ≡
-            control_for u player
+          control_for u player
       go true is ih = ih ∙ same_is (control_for u (latest p ps)) (control_for u player) is
       go false is ih = refl
 

@@ -35,7 +35,7 @@ keeps-joined own r b kept possible fresh = record {
     different = (fresh, stands.different);
     possible =
         All-cons (IsPossible own r) b accepted possible (possible-later own floor r accepted local later
-          stands.possible);
+        stands.possible);
   };
 }
 
@@ -54,7 +54,7 @@ keeps-ignored own r a b newer older possible same wide = record {
         errors =
             λ e.
             sym (declares_already e b.error (newer ++ a ∷ older) (declares_itself b.error newer older a
-              same)) ∙ ap (λ t.
+            same)) ∙ ap (λ t.
             (b.error == e) || t) (stands.errors e);
         different = stands.different;
         possible =
@@ -82,7 +82,7 @@ keeps-replaced own r a b newer older possible same less = record {
         errors =
             λ e.
             moved e ∙ sym (declares_already e b.error (newer ++ a ∷ older) (declares_itself b.error newer
-              older a same)) ∙
+            older a same)) ∙
             ap (λ t. (b.error == e) || t) (stands.errors e);
         different = (ap (λ n. declares n (newer ++ older)) (sym same) ∙ different.0, different.1);
         possible =

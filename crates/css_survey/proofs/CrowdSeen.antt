@@ -188,7 +188,7 @@ pub all-after : (mine : Bool) (tv_fast : Bool) (fast : Oscillators) (time number
     → AllSeen tv_fast fast t (number + 1) (whose_line mine number t w who l verb ∷ lines)
 all-after mine tv_fast fast time number lines t w who l verb h later shown = record {
   tv = seen_next tv_fast time number (seen_of_tv lines) (tv_seen (whose_line mine number t w who l verb))
-    h.tv later refl
+      h.tv later refl
       (tv-seen mine tv_fast (fast who) number t w who l verb shown);
   own = λ other some. own-after mine tv_fast fast time number lines t w who l verb other h later some shown;
 }

@@ -61,7 +61,7 @@ stands_now e old new before after h (Ok o) is done grows stands fresh =
     record {
       player =
           subst (λ (x : Calls). PlayerStandsFor new.player x.player) (sym same) (grows.player calls.player
-            stands.player);
+          stands.player);
       sessions =
           subst (λ (x : Calls). SessionsStandFor new.sessions x.sessions) (sym same)
           (grows.sessions calls.sessions stands.sessions fresh);

@@ -112,8 +112,12 @@ visit_of history hung ended = record { history = history; hung = hung; ended = e
 
 visit_as : (plan : Plan) (begun : Begun) (history hung : History) (ended : Driven)
     → IsVisit plan begun (visit_of history [] ended) → IsVisit plan begun (visit_of history hung ended)
-visit_as plan begun history hung ended v = record { proper = v.proper; ends = v.ends; promised = v.promised;
-  at_cause = v.at_cause }
+visit_as plan begun history hung ended v = record {
+  proper = v.proper;
+  ends = v.ends;
+  promised = v.promised;
+  at_cause = v.at_cause;
+}
 
 -- the text of a visit that another one follows
 text_so : (told : Told) (parting : Option Parting) (ended : Driven) (progress : Progress) (words : List ℕ)
@@ -226,7 +230,7 @@ holds_last held holds bytes (driven.BadUrl property) begun p = holds_reports hel
 unsaid : (plan : Plan) (begun : Begun) (history hung : History) (ended : Driven)
     → why ended (told_in plan begun (visit_of history hung ended)).parting ≡ None
     → visit_text plan begun (visit_of history hung ended) ≡ text_of (told_in plan begun (visit_of history
-      hung ended)).lines
+    hung ended)).lines
 unsaid plan begun history hung ended e =
     let told = told_in plan begun (visit_of history hung ended) in
     ap (λ x. text_of told.lines ++ end_text told.progress.begun x) e ∙ append-nil (text_of told.lines)

@@ -28,7 +28,7 @@ use Rattle.css_watch.proofs.Telling.{no_prefix}
 
 -- ---- what is judged possible is possible
 answer_possible : (own : Local) (reading : ℕ) (answer : Answer) → IsPossibleAt own reading (judged_answer own
-  reading answer)
+    reading answer)
 answer_possible own reading answer = by (int_lt (scaled_width own answer reading) (pos 0)) refl
   where
     by : (b : Bool) → int_lt (scaled_width own answer reading) (pos 0) ≡ b → IsPossibleAt own reading (cond b (Err
@@ -63,7 +63,7 @@ pub step_of : (plan : Plan) (reading : ℕ) (bytes : List ℕ) (history : Histor
     → ((history : History) → companions.StandsFor companion history
     → result ≡ judged_of (own_of companion) history reading bytes)
     → IfOk text (λ x. x ≡ text_of (landing_line plan.run.companion.local reading bytes result ∷
-      slept_lines reading was))
+    slept_lines reading was))
     → ((answers : Answers) → StandsFor old answers → IsPossibleAt old.local reading result
     → Accepts old.local reading result answers accepted wanted)
     → is ≡ after_landing result was → new ≡ accepted
@@ -115,6 +115,6 @@ failed_of plan reading bytes history companion answers was is new over parting h
         wrote = (subst P (sym h) (no_prefix held _), n);
       };
       progress_so = went ∙ ap (λ x. after_landing x was) (judged_so plan reading bytes history companion
-        result k judges);
+          result k judges);
       agree_so = λ none. absurd (cc);
     }

@@ -125,9 +125,9 @@ at_cause told None progress held holds driven.Memory s = by told.parting
 at_cause told None progress held holds (driven.NetFault failure) s = none told (driven.NetFault failure) s.parting_so
 at_cause told None progress held holds driven.Done s = none told driven.Done s.parting_so
 at_cause told None progress held holds (driven.BadLine line cause) s =
-  none told (driven.BadLine line cause) s.parting_so
+    none told (driven.BadLine line cause) s.parting_so
 at_cause told None progress held holds (driven.BadCii text reason) s =
-  none told (driven.BadCii text reason) s.parting_so
+    none told (driven.BadCii text reason) s.parting_so
 at_cause told None progress held holds (driven.Moved property old new) s =
     none told (driven.Moved property old new) s.parting_so
 at_cause told None progress held holds (driven.Spent turns) s = none told (driven.Spent turns) s.parting_so

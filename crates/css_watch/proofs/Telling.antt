@@ -167,7 +167,7 @@ step_on plan start from event notes was is old new over parting held mid holds b
         let Q : Option Parting → Type 0 = λ x. IsToldBy plan (told_of plan start (Happened from event ∷ notes)) (Some
         cause) x is new held holds before now in
         subst P (sym o) (subst Q (sym p) (lines_on (Some cause) held mid holds before m now (lines_by plan event
-          from.history (told_of plan
+        from.history (told_of plan
         start notes).progress) (told_of plan start notes).lines g.wrote wrote))
 
 -- ---- notes of one run

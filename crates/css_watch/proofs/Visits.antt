@@ -45,7 +45,7 @@ so_far_next plan begun next start mid now count s f =
       followed = (subst P s.begun_so f.is_followed, s.followed);
       begun_so = f.next_so ∙ ap (λ x. (told_in plan x f.visit).progress.begun) s.begun_so;
       told = told_more start.told mid.told now.told (f.visit.hung ++ f.visit.history)
-        (entries_of s.visits) s.told f.told;
+          (entries_of s.visits) s.told f.told;
       wrote = subst T (ap (λ x. written plan s.visits ++ visit_text plan x f.visit) s.begun_so)
           (Appends-trans start.holds mid.holds now.holds _ _ s.wrote f.wrote);
       faults = f.faults ∙ s.faults;
@@ -66,7 +66,7 @@ so_far_ends plan begun start mid now count result s e =
       last = Some e.visit;
       is_end = subst P s.begun_so e.is_last;
       told = told_more start.told mid.told now.told (e.visit.hung ++ e.visit.history)
-        (entries_of s.visits) s.told e.told;
+          (entries_of s.visits) s.told e.told;
       wrote = subst T (ap (λ x. written plan s.visits ++ visit_text plan x e.visit) s.begun_so)
           (holds_on start.holds mid.holds now.holds _ _ result s.wrote e.wrote);
     }

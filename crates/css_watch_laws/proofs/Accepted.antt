@@ -35,7 +35,7 @@ answers_by plan (Some event) history answers = answers_after plan event history 
 -- nothing is asked any more
 unasked : (own : Local) (history : History) (reading : ℕ) (read : Result Message WcFault) (answers : Answers)
     → with_judged (judged_by own (Slept ∷ history) reading (awaited_if (λ originate. is_asked originate
-      (Slept ∷ history))
+    (Slept ∷ history))
     read)) answers ≡ answers
 unasked own history reading (Err fault) answers = refl
 unasked own history reading (Ok message) answers = by (message.message_type == 0)
@@ -147,7 +147,7 @@ pub answers_of : (plan : Plan) (start : Progress) (history : History)
 answers_of plan start [] = refl
 answers_of plan start (entry ∷ older) =
     report_answers plan start older (turn_at entry) (with_event (standpoint plan.run older)
-      (event_of entry older) (noted
+    (event_of entry older) (noted
     plan.run older))
     ∙ event_answers plan start older (event_of entry older) (noted plan.run older)
     ∙ ap (answers_by plan (event_of entry older) older) (answers_of plan start older)

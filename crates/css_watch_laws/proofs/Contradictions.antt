@@ -39,7 +39,7 @@ all_landed : (history : History) → All IsDeclared (landed_answers history)
 all_landed [] = All-nil IsDeclared
 all_landed (entry ∷ older) =
     by (is_sleep entry) (landed_in entry older (landed_answer entry older) (landed_answers older) refl
-      (all_landed older))
+    (all_landed older))
   where
     by : (b : Bool) → All IsDeclared (option_to_list (landed_answer entry older) ++ landed_answers older)
         → All IsDeclared (cond b [] (option_to_list (landed_answer entry older) ++ landed_answers older))

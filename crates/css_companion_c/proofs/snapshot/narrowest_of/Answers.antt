@@ -11,6 +11,6 @@ loop-answer-preserved c = record {
   best = first_of (search rules, grind (arith, common_steps));
   range =
       All-more (λ (k : SnapshotAnswer). IsAnswer (times_of k)) c.args.kept.now c.loop-answer.answer-index
-        _ (omega arith)
+      _ (omega arith)
       c.loop-answer.invariant.range c.in_ok-answer_of.ensures.range;
 }

@@ -14,7 +14,7 @@ use Rattle.css_drive.proofs.companion_dials.present.Goals as goal
 
 -- the presentation of these bounds is due
 is_sent : (config : DriveConfig) (p : ℕ) (h : History) (earliest latest : Bound) → config.present ≡ Some
-  (earliest, latest)
+    (earliest, latest)
     → due config h ≡ from_setup config p h → due config h ≡ SendText p (window_text (earliest, latest))
 is_sent config p h earliest latest some d =
     d ∙ ap (λ o. sending p (option_map window_text o) (from_ask config h)) some

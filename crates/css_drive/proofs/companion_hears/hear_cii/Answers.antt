@@ -18,9 +18,9 @@ returns-in-Ok-Quiet-clause-goes g c before started h s k d =
     (calls.cii_text_due cfg before _ _ live h s d _ c.in-Some.is) heard.Quiet
     (rw c.in-Ok-Quiet.field-0-is at c.in-Ok-Quiet.ensures.told) (g.W.Observes.saw started c.hear.new.observer)
     (rw c.in-Ok-Quiet.field-0-is at c.in-Ok-Quiet.ensures.saw (standpoint _ h) k started _ s.saw_so) _
-      s.facts refl refl)
+    s.facts refl refl)
     (calls.knows_plain _ _ (Quiet p) h k refl refl refl refl refl refl refl) _ (calls.asked_cii cfg
-      (Quiet p) p h refl is)
+    (Quiet p) p h refl is)
 
 pub returns-in-Ok-Closed-clause-goes : goal.returns-in-Ok-Closed-clause-goes
 returns-in-Ok-Closed-clause-goes g c before started h s k d =

@@ -20,7 +20,7 @@ returns-in-Ok-Quiet-clause-goes g c before started h s k d =
     (rw c.in-Ok-Quiet.field-0-is at c.in-Ok-Quiet.ensures.saw (standpoint _ h) k started _ s.saw_so) _
     s.facts refl refl)
     (calls.knows_plain _ _ (Quiet p) h k refl refl refl refl refl refl refl) _ (calls.asked_ts cfg
-      (Quiet p) p h refl is)
+    (Quiet p) p h refl is)
 
 pub returns-in-Ok-clause-goes : goal.returns-in-Ok-clause-goes
 returns-in-Ok-clause-goes g c before started h s k d =

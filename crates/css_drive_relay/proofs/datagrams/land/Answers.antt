@@ -45,4 +45,4 @@ returns-in-Err-clause-goes g c start h peer taken s k same none =
     let clocked : Clocked = c.in_ok-clocked.clocked in
     steps.stops_by_memory (serves.lands {clocked = clocked} s.runs none read)
     (serves.lawful_landing clocked (Took peer taken ∷ h) (read.known c.args.run.now (Took peer taken ∷ h)
-      s.knows)) _ refl
+    s.knows)) _ refl

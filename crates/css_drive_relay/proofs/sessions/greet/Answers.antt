@@ -19,7 +19,7 @@ returns-in-Err-tell-clause-goes g c start relay h s =
 pub returns-in-Ok-Sent-clause-goes : goal.returns-in-Ok-Sent-clause-goes
 returns-in-Ok-Sent-clause-goes g c start relay h s =
     openings.greeted c.args.live.now c.args.peer s _ (c.bytes.ensures ∙ c.in-Ok.ensures ∙ ap full_text
-      c.state.ensures.value)
+    c.state.ensures.value)
     (rw c.in-Ok-Sent.field-0-is at c.in-Ok-Sent.ensures.told) _
     (ap {A = List ℕ} {B = Facts} (λ xs. record (facts_in c.args.live.now) { peers = xs }) c.in-Ok-push.ensures.items)
 

@@ -50,4 +50,4 @@ returns-clause-goes g c start relay h s =
     let x = c.loop-peer.invariant.goes start relay h s in
     let over = c.loop-peer-test.false in
     ends.is_at_as c.loop-peer.live x (ap Asked (peers_all c.deref-peer-items.result.now c.loop-peer.peer-index
-      (omega (arith, over))))
+    (omega (arith, over))))

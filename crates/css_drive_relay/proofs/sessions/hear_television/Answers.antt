@@ -37,11 +37,11 @@ returns-in-Ok-clause-goes g c start h s =
     let text : List ℕ = c.in-Ok-Text.text in
     let r = hears.is_open c.args.live.now s p c.in-Some.is in
     let taken = c.in-Ok.ensures.told c.args.run.now p h (hears.its_kind c.args.live.now _ h p c.in-Some.is
-      r.peers) s.knows in
+    r.peers) s.knows in
     c.publish.ensures.goes start (Heard p text ∷ h)
     (hears.taken_in c.args.live.now p text r (rw c.in-Ok-Text.field-0-is at c.in-Ok-Text.ensures.told)
     c.in-Ok-Text.ensures.counted.faults (serves.after_call (g.O.Outside.counts c.args.outside.now) _
-      c.in-Ok-Text.ensures.counted.same) taken.0
+    c.in-Ok-Text.ensures.counted.same) taken.0
     c.take_in.new.relay taken.1)
 
 pub returns-in-Err-take_in-clause-goes : goal.returns-in-Err-take_in-clause-goes
@@ -50,7 +50,7 @@ returns-in-Err-take_in-clause-goes g c start h s =
     let text : List ℕ = c.in-Ok-Text.text in
     let r = hears.is_open c.args.live.now s p c.in-Some.is in
     let refused = c.in-Err-take_in.ensures.told c.args.run.now p h (hears.its_kind c.args.live.now _ h p c.in-Some.is
-      r.peers) s.knows in
+    r.peers) s.knows in
     hears.refused c.args.live.now p text r s.knows (rw c.in-Ok-Text.field-0-is at c.in-Ok-Text.ensures.told)
     c.in-Ok-Text.ensures.counted.faults (serves.after_call (g.O.Outside.counts c.args.outside.now) _
-      c.in-Ok-Text.ensures.counted.same) _ refl _ refused
+    c.in-Ok-Text.ensures.counted.same) _ refl _ refused

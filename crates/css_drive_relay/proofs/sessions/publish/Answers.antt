@@ -27,7 +27,7 @@ returns-in-Some-clause-goes g c start h s =
     c.tell_all.ensures.goes start _ h
     (hears.publishes c.args.live.now _ s _
     (ap (λ x. record (facts_in c.args.live.now) { state = x }) (c.new.ensures ∙ c.in-Ok.ensures.value))
-      (Some c.in-Some.text)
+    (Some c.in-Some.text)
     (sym c.in-Some.is ∙ c.in-Ok-difference_text.ensures
     ∙ ap (λ x. difference_text x c.in-Ok.state) c.state.ensures.value
     ∙ ap (λ x. difference_text c.args.live.now.state x) c.in-Ok.ensures.value))

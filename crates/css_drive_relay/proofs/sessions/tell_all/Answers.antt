@@ -16,7 +16,7 @@ pub loop-peer-init : goal.loop-peer-init
 loop-peer-init g c = record {
   goes = λ start relay h s.
       ends.is_at_as c.args.live.now (record { history = h; stands = s }) (ap (λ xs. telling c.args.text.now xs
-        (facts_in c.args.live.now))
+      (facts_in c.args.live.now))
       (sym (c.deref-peer-items.ensures.value ∙ c.in-Ok.ensures.ok)));
   last = refl;
   keeps = record { made = refl; dials = refl; cii = refl };
@@ -33,7 +33,7 @@ loop-peer-preserved g c =
           let x = c.loop-peer.invariant.goes start relay h s in
           c.in-Ok-tell_one.ensures.goes start relay x.history (drop (i + 1) items)
           (ends.at_left c.loop-peer.live x.stands (ap (λ xs. telling c.args.text.now xs
-            (facts_in c.loop-peer.live)) e));
+          (facts_in c.loop-peer.live)) e));
       last = c.tell_one.ensures.last ∙ c.loop-peer.invariant.last;
       keeps = ends.keeps_on c.loop-peer.invariant.keeps c.tell_one.ensures.keeps;
     }

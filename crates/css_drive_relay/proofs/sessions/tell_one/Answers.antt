@@ -14,5 +14,5 @@ returns-in-Ok-Sent-clause-goes g c start relay h left s =
 pub returns-in-Ok-Gone-clause-goes : goal.returns-in-Ok-Gone-clause-goes
 returns-in-Ok-Gone-clause-goes g c start relay h left s =
     hears.one_gone c.args.live.now c.args.text.now c.args.peer left s (rw c.in-Ok-Gone.field-0-is at
-      c.in-Ok-Gone.ensures.told) _
+    c.in-Ok-Gone.ensures.told) _
     c.forget.ensures

@@ -12,7 +12,7 @@ returns-clause-ran g c =
     ends.ran_by (steps.stops_by_fault (ends.at_first c.args.config
     (shown (g.O.Outside.told c.args.outside.now) (g.O.Outside.counts c.args.outside.now)))
     (steps.lawful c.in-Ok.ensures.known) (shown (g.O.Outside.told c.listen.new.self) (g.O.Outside.counts
-      c.listen.new.self))
+    c.listen.new.self))
     c.end_of.result (record {
       told = c.in-Err-listen.ensures.told;
       counted = c.end_of.ensures.counted _ _ c.in-Err-listen.ensures.counted.faults;
@@ -39,6 +39,6 @@ returns-in-Ok-listen-clause-counted g c = record {
       (ends.listens c.args.config _ _ _ c.in-Ok.ensures.known c.in-Ok-listen.ensures.told
       c.in-Ok-listen.ensures.counted.faults c.in-Ok-listen.ensures.counted.same)).counted;
   dials = ends.dials_from (g.O.Outside.counts c.args.outside.now) (g.O.Outside.counts c.listen.new.self) _ _
-    c.in-Ok-listen.ensures.counted.same c.make_turns.ensures.dials;
+      c.in-Ok-listen.ensures.counted.same c.make_turns.ensures.dials;
   no_writes = c.make_turns.ensures.no_writes;
 }

@@ -15,7 +15,7 @@ loop-i-preserved c = elim c.if-not-is_in_run.branch [
             (settles _ _ _ _ _ _ _ _ _ _ (sym c.is_in_run.ensures ∙ w.if-not-is_in_run.true) refl c.loop-i-test.true
             v.in_ok-more.ensures.0
             (v.saturating_add-odd.ensures ∙ ap (λ n. min (c.loop-i.odd + n) top) v.in_ok-more.ensures.1)
-              c.loop-i.invariant)
+            c.loop-i.invariant)
         | else-start-i v ↦
             rw (v.copied-is, v.odd-is, v.text-is)
             (passes _ _ _ _ _ _ _ _ (sym c.is_in_run.ensures ∙ w.if-not-is_in_run.true) refl c.loop-i-test.true

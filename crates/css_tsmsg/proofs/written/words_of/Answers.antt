@@ -14,4 +14,4 @@ returns-in-Available c =
 pub returns-in-Unavailable : goal.returns-in-Unavailable
 returns-in-Unavailable c =
     IfOk-weaker c.from_str.result _ _ (λ words is. is ∙ unavailable_text ∙ ap control_text (sym c.in-Unavailable.is))
-      c.from_str.ensures.ok
+    c.from_str.ensures.ok

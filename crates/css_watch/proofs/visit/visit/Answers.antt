@@ -7,7 +7,7 @@ returns-in-Err-clause-makes g c = following.unbegun c.args.plan.now c.args.begun
 
 pub returns-clause-makes : goal.returns-clause-makes
 returns-clause-makes g c = let run = c.make_run-run.ensures.run in c.after.ensures.makes c.args.plan.now c.args.begun _
-  run.history run.run
+    run.history run.run
 
 pub returns-clause-dials : goal.returns-clause-dials
 returns-clause-dials g c =

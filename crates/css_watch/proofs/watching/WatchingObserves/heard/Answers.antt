@@ -10,7 +10,7 @@ returns g c from k started older on s = (
   c.say.ensures.sink_name ∙ s.0,
   c.say.ensures.plan ∙ s.1,
   telling.told_on started.plan.now started.progress from (notes.Heard c.args.session c.args.text.now) older _ _ _ _ _ _
-    _ _ _ _ _ _ _ _ on s.2
+      _ _ _ _ _ _ _ _ on s.2
       (λ e answers of. let P : Kept → Type 0 = λ x. IsOf started.plan.now x answers in record {
         says = c.say.ensures.said _ (c.heard_text-line.ensures from.history k.stands);
         progress_so = c.say.ensures.progress;

@@ -12,9 +12,9 @@ returns g c from k started older on s = (
   λ a. let P : Plan → Type 0 = λ x. Wakes x c.args.clocked.now.slept c.args.self.now.progress c.wake.new.progress
       c.args.self.now.agree.now c.wake.new.agree in
       telling.woke_on started.plan.now started.progress from c.args.clocked.now.slept
-        (notes.Landed c.args.clocked.now.reading c.args.bytes.now) older _ _ _ _ _ _ _ _ _
+      (notes.Landed c.args.clocked.now.reading c.args.bytes.now) older _ _ _ _ _ _ _ _ _
       _ _ _ _ _ _ _ on s.2 (subst P s.1 c.wake.ensures)
       (λ e. telling.steps_as _ started.plan.now from.config c.args.companion.now
-        (notes.Landed c.args.clocked.now.reading c.args.bytes.now) _ _ _ _ _ _ _ _ _ _ _ s.1 e k
+      (notes.Landed c.args.clocked.now.reading c.args.bytes.now) _ _ _ _ _ _ _ _ _ _ _ s.1 e k
       c.land.ensures.steps) a,
 )
