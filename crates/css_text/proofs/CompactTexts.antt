@@ -82,94 +82,26 @@ each_sound P (suc n) h x lt = go (each_sound P n h.1 x) (cases_eq x n)
     go below (inl e) = subst P (sym e) h.0
     go below (inr ne) = below (omega arith)
 
+-- both hold by computing
+same : {A B : Type 0} {a : A} {b : B} → (a ≡ a) × (b ≡ b)
+same = (refl, refl)
+
 -- the escapes of control characters
+below_8 : Each Passes 8
+unfolding escape_byte
+below_8 = (same, (same, (same, (same, (same, (same, (same, (same, tt))))))))
+
+below_16 : Each Passes 16
+unfolding escape_byte
+below_16 = (same, (same, (same, (same, (same, (same, (same, (same, below_8))))))))
+
+below_24 : Each Passes 24
+unfolding escape_byte
+below_24 = (same, (same, (same, (same, (same, (same, (same, (same, below_16))))))))
+
 controls : Each Passes 32
 unfolding escape_byte
-controls = (
-  (refl, refl),
-  (
-    (refl, refl),
-    (
-      (refl, refl),
-      (
-        (refl, refl),
-        (
-          (refl, refl),
-          (
-            (refl, refl),
-            (
-              (refl, refl),
-              (
-                (refl, refl),
-                (
-                  (refl, refl),
-                  (
-                    (refl, refl),
-                    (
-                      (refl, refl),
-                      (
-                        (refl, refl),
-                        (
-                          (refl, refl),
-                          (
-                            (refl, refl),
-                            (
-                              (refl, refl),
-                              (
-                                (refl, refl),
-                                (
-                                  (refl, refl),
-                                  (
-                                    (refl, refl),
-                                    (
-                                      (refl, refl),
-                                      (
-                                        (refl, refl),
-                                        (
-                                          (refl, refl),
-                                          (
-                                            (refl, refl),
-                                            (
-                                              (refl, refl),
-                                              (
-                                                (refl, refl),
-                                                (
-                                                  (refl, refl),
-                                                  (
-                                                    (refl, refl),
-                                                    (
-                                                      (refl, refl),
-                                                      (
-                                                        (refl, refl),
-                                                        ((refl, refl), ((refl, refl), ((refl, refl), ((refl, refl), tt)))),
-                                                      ),
-                                                    ),
-                                                  ),
-                                                ),
-                                              ),
-                                            ),
-                                          ),
-                                        ),
-                                      ),
-                                    ),
-                                  ),
-                                ),
-                              ),
-                            ),
-                          ),
-                        ),
-                      ),
-                    ),
-                  ),
-                ),
-              ),
-            ),
-          ),
-        ),
-      ),
-    ),
-  ),
-)
+controls = (same, (same, (same, (same, (same, (same, (same, (same, below_24))))))))
 
 -- the escape of a quote
 quote_passes : Passes 34
