@@ -21,11 +21,12 @@ import refusals
 from programs import build
 
 LIBRARIES = [
-    "css_num", "css_outside", "css_memory", "css_client", "css_tsmsg", "css_companion", "css_schedule", "css_tv", "css_drive"
+    "css_num", "css_outside", "css_memory", "css_client", "css_tsmsg", "css_companion", "css_schedule", "css_tv",
+    "css_drive",
 ]
 
-PROGRAM = r"""//! Makes the run of its first word: of a companion, of a television, or of one that has quiet sessions alone, in as many
-//! turns as its second word says.
+PROGRAM = r"""//! Makes the run of its first word: of a companion, of a television, or of one that has quiet sessions alone, in as
+//! many turns as its second word says.
 #![tactic(auto)]
 
 ghost use Rattle.std.specs.Prelude.{◌≡◌, ◌≤◌, IfOk, IsTrue, All, negsuc, false, true, [], None};

@@ -50,7 +50,8 @@ def build(folder, name, libraries, source, proofs=None):
         with open(os.path.join(crate, "proofs", path), "w", encoding="utf-8") as file:
             file.write(text)
     subprocess.run(["git", "init", "-q"], cwd=folder, check=True)
-    run = subprocess.run(["rt", "run"], cwd=crate, stdin=subprocess.DEVNULL, capture_output=True, text=True, check=False)
+    how = {"stdin": subprocess.DEVNULL, "capture_output": True, "text": True, "check": False}
+    run = subprocess.run(["rt", "run"], cwd=crate, **how)
     program = os.path.join(crate, "out", name)
     if not os.path.exists(program):
         sys.exit(run.stdout + run.stderr)

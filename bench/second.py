@@ -411,7 +411,8 @@ def replay(schedule):
 
 # What most schedules begin with.
 BEGINNING = (
-    "programme", "timeline", "change", "open cii", "open ts", "text cii", "up ts", "text ts", "ask", "take", "give", "land",
+    "programme", "timeline", "change", "open cii", "open ts", "text cii", "up ts", "text ts", "ask", "take", "give",
+    "land",
 )
 # What a line is drawn from.
 VERBS = (
@@ -546,7 +547,8 @@ def compare(count, seed):
         printed += wanted[0].count("\n")
         intervals += wanted[0].count("ticks") + wanted[0].count("wall")
         ends[wanted[1]] = ends.get(wanted[1], 0) + 1
-    print(f"{count} schedules, {lines} lines, {printed} printed, {intervals} intervals: no difference; by status {ends}")
+    print(f"{count} schedules, {lines} lines, {printed} printed, {intervals} intervals: no difference")
+    print(f"by status {ends}")
 
 
 def main():

@@ -85,7 +85,8 @@ def tell(program, name, readers, text, count):
         readings = spent(program, reader, text, count) - spent(program, reader, text, 0)
         readings = max(readings, 1e-6)
         each = readings / count * 1e9 / len(text)
-        print(f"{name:10} {len(text):8} bytes  {reader:8} {count / readings:12,.0f} texts a second  {each:7.1f} ns a byte")
+        often = f"{count / readings:12,.0f} texts a second"
+        print(f"{name:10} {len(text):8} bytes  {reader:8} {often}  {each:7.1f} ns a byte")
 
 
 def main():

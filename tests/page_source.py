@@ -89,8 +89,10 @@ class Wrong:
     def lines(self):
         tv = subprocess.Popen([sys.executable, self.TOOL, "--port", str(self.port), "--every", str(self.EVERY)],
                               text=True, stdout=subprocess.PIPE)
-        watch = subprocess.Popen([*self.words, "watch", "--cii", f"ws://127.0.0.1:{self.port}/cii", "--report-every",
-                                  str(EVERY), "--ask-every", str(EVERY), "--seconds", str(self.EVERY * self.WAYS * 3 // 2 + 1)],
+        often = ["--report-every", str(EVERY), "--ask-every", str(EVERY)]
+        seconds = str(self.EVERY * self.WAYS * 3 // 2 + 1)
+        cii = f"ws://127.0.0.1:{self.port}/cii"
+        watch = subprocess.Popen([*self.words, "watch", "--cii", cii, *often, "--seconds", seconds],
                                  text=True, stdout=subprocess.PIPE)
         STARTED.extend((tv, watch))
         for line in watch.stdout:
