@@ -25,8 +25,8 @@ LIBRARIES = [
     "css_drive",
 ]
 
-PROGRAM = r"""//! Makes the run of its first word: of a companion, of a television, or of one that has quiet sessions alone, in as
-//! many turns as its second word says.
+PROGRAM = r"""//! Makes the run of its first word: of a companion, of a television, or of one that has quiet sessions alone, in
+//! as many turns as its second word says.
 #![tactic(auto)]
 
 ghost use Rattle.std.specs.Prelude.{◌≡◌, ◌≤◌, IfOk, IsTrue, All, negsuc, false, true, [], None};

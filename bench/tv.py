@@ -20,8 +20,8 @@ LIBRARIES = ["css_num", "css_player", "css_sessions", "css_tv"]
 SESSIONS = [1, 16, 64, 256]
 KINDS = ["present", "refuse", "open", "change"]
 
-PROGRAM = """//! Opens as many sessions as its first word says, and does steps of the kind of its second word as often as its third
-//! says.
+PROGRAM = """//! Opens as many sessions as its first word says, and does steps of the kind of its second word as often as its
+//! third says.
 #![tactic(auto)]
 
 use css_num::{Rate, Text};
