@@ -1,8 +1,9 @@
 -- What is due at each stage of a turn, and what its calls make of the facts.
 use Rattle.std.proofs.Common.{◌≡◌, ℕ, ◌+◌, arith, ap, sym, ◌∙◌, subst, refl, Bool, true, false, cond, List, ◌∷◌, ◌++◌}
-use Rattle.std.proofs.Common.{Option, Some, None, Result, Err, eq-eqb, inl, inr}
+use Rattle.std.proofs.Common.{Option, Some, None, Result, Ok, Err, eq-eqb, inl, inr}
 use Rattle.std.proofs.lemmas.Bool.{ne_eqb, or_from}
-use Rattle.std.specs.Prelude.{is_some, ◌&&◌, ◌||◌, IfSome, ◌⊎◌, ◌<◌, ◌≤◌}
+use Rattle.std.proofs.lemmas.Result.{on_ok_weaker}
+use Rattle.std.specs.Prelude.{is_some, ◌&&◌, ◌||◌, IfSome, OnOk, IfErr, ◌⊎◌, ◌<◌, ◌≤◌}
 use Rattle.css_model.specs.declared.Kind.{Kind}
 use Rattle.css_model.specs.declared.Kind.TheVariants as kind
 use Rattle.css_model.specs.declared.Why.{Why}
@@ -36,7 +37,7 @@ use Rattle.css_drive.specs.CompanionDue.{from_ts, from_ask, from_take, from_cii_
 use Rattle.css_drive.specs.CompanionDue.{unless_refused, refusal_of, end_by}
 use Rattle.css_drive.specs.CompanionStanding.{Shown, Facts, facts_of, facts_in, KnowsPeers, Stands, Knows, GivesPlace}
 use Rattle.css_drive.specs.CompanionStanding.{asked_after, IsRefusal, HasRead, Keeps, Stops, dial_entries, IsFault}
-use Rattle.css_drive.specs.CompanionStanding.{IsEndBy, Adds}
+use Rattle.css_drive.specs.CompanionStanding.{IsEndBy, Adds, HasLost, Goes}
 use Rattle.css_drive.specs.CompanionTurns.{dialled, is_peer, unless, is_asking}
 use Rattle.css_drive.specs.Ends.{MayEnd}
 use Rattle.css_drive.specs.Notes as notes
@@ -50,7 +51,7 @@ use Rattle.css_drive.specs.declared.config.DriveConfig.{DriveConfig}
 use Rattle.css_drive.specs.declared.driven.Driven.{Driven}
 use Rattle.css_drive.specs.declared.driven.Driven.TheVariants as driven
 use Rattle.css_drive.proofs.CompanionSteps.{opened_dialled, peers_as, knows_aside, stands_saw, stops_here, ends_by}
-use Rattle.css_drive.proofs.CompanionSteps.{IsOwn}
+use Rattle.css_drive.proofs.CompanionSteps.{IsOwn, comes, stops_by_memory, knows_lawful}
 
 module _ (config : DriveConfig) (before now : Shown) (saw : List Note → Type 0) (live : Live)
     (history : History) (s : Stands config before now saw live history) where
@@ -154,13 +155,13 @@ module _ (config : DriveConfig) (before now : Shown) (saw : List Note → Type 0
       ∙ ap (λ d. over false d) (same_open p live.ts_open e)
 
   pub cii_over : (p : ℕ) → live.cii_open ≡ Some p → closed p (facts_of config history) ≡ record (facts_in live)
-    { cii_open = None }
+      { cii_open = None }
   unfolding over
   cii_over p e =
       ap {A = Facts} (closed p) s.facts
       ∙ ap (λ b. over b (is_peer live.ts_open p)) (same_open p live.cii_open e)
       ∙ ap (λ d. over true d) (other_open history live.ts_open kind.Ts kind.Cii p (open_ts config before now saw live
-        history s) (open_cii config before now saw live history s p e) (λ x. cc))
+      history s) (open_cii config before now saw live history s p e) (λ x. cc))
 
   -- ---- which session it is
   pub cii_at : (p : ℕ) → live.cii_open ≡ Some p → session_at p history ≡ Some session.Cii
@@ -508,6 +509,44 @@ sent_stands {config} {before} {now} {saw} {live} {history} s p at text is-due se
     kinds : (o : Outcome) (q : ℕ) → kind_of q (wrote_entries p text o ++ history) ≡ kind_of q history
     kinds outcome.Sent q = refl
     kinds outcome.Gone q = refl
+
+-- ---- the companion is told
+-- it was told of what is added, or memory ran out
+pub told_goes : {T : Type 0} {config : DriveConfig} {before now : Shown} {saw : List Note → Type 0} {live : Live}
+    {history : History} → Stands config before now saw live history → IsLawful history → (over : Option OutFault)
+    → (later : Live) (is : Companion) (to : History → Due) → due config history ≡ to history
+    → (result : Result T Driven) → OnOk result (Knows config is history × (facts_in later ≡ facts_in live))
+    → IfErr result (λ ended. ended ≡ driven.Memory) → Goes config before now saw over later is to result
+told_goes {live = live} {history = history} s lawful over later is to next (Ok value) told memory = comes (record {
+  told = s.told;
+  faults = s.faults;
+  proper = s.proper;
+  facts = s.facts ∙ sym told.1;
+  peers = live_peers _ _ live later history refl (ap {A = Facts} (λ x. x.cii) told.1)
+      (ap {A = Facts} (λ x. x.ts) told.1) s.peers;
+  saw_so = s.saw_so;
+}) told.0 to next
+told_goes s lawful over later is to next (Err ended) told memory = stops_by_memory s lawful over ended memory
+
+-- a text was told as gone, so the TS session is over
+pub gone_goes : {T : Type 0} {config : DriveConfig} {before now : Shown} {saw : List Note → Type 0} {live : Live}
+    {companion : Companion} {history : History} → Stands config before now saw live history
+    → Knows config companion history → (p : ℕ) → live.ts_open ≡ Some p → (text : List ℕ)
+    → due config history ≡ SendText p text → {next : Shown} → Adds now next (wrote_entries p text outcome.Gone)
+    → (after : List Note → Type 0)
+    → after (wrote_notes (standpoint config history) outcome.Gone ++ noted config history)
+    → (over : Option OutFault) (later : Live) (is : Companion) (to : History → Due)
+    → due config (Gone p ∷ history) ≡ to (Gone p ∷ history) → (result : Result T Driven)
+    → OnOk result (HasLost live later companion is) → IfErr result (λ ended. ended ≡ driven.Memory)
+    → Goes config before next after over later is to result
+gone_goes {config = config} {before = before} {live = live} {companion = companion} {history = history} s k p at text
+    is-due adds after notes over later is to next result lost memory =
+    let own = open_ts config before _ _ live history s p at in
+    let P : Type 0 = HasLost live later companion is in
+    told_goes (sent_stands s p (ts_at config before _ _ live history s p at) text is-due outcome.Gone adds after notes
+    (record live { ts_open = None }) (ts_over config before _ _ live history s p at) refl refl)
+    (lawful_plain (Gone p) history (knows_lawful config companion history k) refl refl) over later is to next result
+    (on_ok_weaker result (λ (x : P). (x.known config history (Gone p) k (p, inr refl, own), x.only)) lost) memory
 
 -- ---- addresses
 -- a bad address ends the run
