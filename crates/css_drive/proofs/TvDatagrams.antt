@@ -120,7 +120,7 @@ dropped {run} {start} {told} {tv = tv} {p = p} {h = h} {peer} {bytes} s reading 
         history =
             told_as q
             (clock_told s.history why.Take (due_free run p (Taken peer bytes) s.stays.accepted s.owes
-              s.at) reading told'
+            s.at) reading told'
             read.0 read.1 peers' le)
             (received_now (addresses_in run.config) p peer bytes reading (Err f) s.at
             (e ∙ ap (λ x. received x bytes reading) s.stays.server));

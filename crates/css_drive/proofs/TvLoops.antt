@@ -155,7 +155,7 @@ hung_next {run} {air = air} {at} x peer e there told' grew peers' le =
       left =
           ap from_hang_ups
           (lists.above_passed at peer air.peers.items _ (drop (at + 1) air.peers.items) k.knows.rising
-            k.knows.covers e);
+          k.knows.covers e);
     }
 
 pub hung_past : {run : TvRun} {start told : Option History} {peers : ℕ} {air : OnAir} {at : ℕ}

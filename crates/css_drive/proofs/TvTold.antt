@@ -36,7 +36,7 @@ use Rattle.css_drive.proofs.TvNews.{news_of, sessions-after, event-lawful, event
 adds_nothing : {X : Type 0} (xs ys : List X) → ys ≡ reverse xs ++ ys → xs ≡ []
 adds_nothing {X} xs ys e =
     by xs (let n = ap length e ∙ length-append (reverse xs) ys in let m = length-reverse xs in omega
-      (arith, n, m)) where
+    (arith, n, m)) where
       by : (zs : List X) → length zs ≡ 0 → zs ≡ []
       by [] f = refl
       by (z ∷ zs) f = absurd (let g : suc (length zs) ≡ 0 = f in omega (arith, g))

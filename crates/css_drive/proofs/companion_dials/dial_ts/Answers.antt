@@ -76,4 +76,4 @@ returns-in_err-to-clause-goes g c before started h s k d =
     let gives = c.in_err-to.ensures.gives in
     at_err _ _ _ c.from_residual.result c.from_residual.ensures.1
     (stops_here s (knows_lawful _ _ h k) _ _ (calls.bad_own _ _ _ gives) (ends_by _ _ _ t (calls.bad_place _
-      _ _ _ _ gives)))
+    _ _ _ _ gives)))

@@ -5,4 +5,4 @@ use Rattle.css_drive.proofs.companion_hears.ask.Goals as goal
 pub returns-clause-goes : goal.returns-clause-goes
 returns-clause-goes g c before started h s k d =
     c.request.ensures.goes c.in-Some.is before started h s k (calls.ask_due c.args.config.now before _ _ c.args.live.now
-      h s d _ c.in-Some.is true (sym c.if-not-is_time.ensures))
+    h s d _ c.in-Some.is true (sym c.if-not-is_time.ensures))

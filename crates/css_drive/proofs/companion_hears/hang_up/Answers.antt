@@ -28,7 +28,7 @@ returns-in-Ok-hang_up_one-clause-stops g c before started h s l i =
     let end = c.args.end in
     let apart : (q : ℕ) → o ≡ Some q → is_peer t q ≡ false = λ q x. calls.other_open h t kind.Ts kind.Cii q
     (calls.open_ts cfg before _ _ c.args.live.now h s) (calls.open_cii cfg before _ _ c.args.live.now h s q
-      x) (λ y. cc) in
+    x) (λ y. cc) in
     let a = ends.cii_hung cfg h t end i.final_so (ap {A = Facts} (λ x. x.ts_open) s.facts) o (ap {A = Facts} (λ x.
     x.cii_open) s.facts) apart i.first in
     let d0 = i.first ∙ ap (λ x. hang_up x (hang_up (opened kind.Ts h) (Ends end))) (ap {A = Facts} (λ x. x.cii_open)

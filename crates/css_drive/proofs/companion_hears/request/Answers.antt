@@ -20,7 +20,7 @@ returns-clause-goes g c some before started h s k d =
     let cfg = c.args.config.now in
     let slept = g.W.Observes.saw started c.note_sleep.new.observer in
     let saw : slept (noted cfg (clock_entries why.Ask clocked ++ h)) = subst slept
-      (sym (calls.asked_notes cfg clocked h))
+    (sym (calls.asked_notes cfg clocked h))
     (c.note_sleep.ensures (standpoint cfg h) started _ c.in_ok-clocked.ensures.on s.saw_so) in
     let s1 = calls.stands_read s why.Ask (inl refl) d _ _ _ _ clocked read slept saw in
     let k1 = read.known cfg h k in
@@ -46,7 +46,7 @@ returns-in_err-send_request-clause-goes g c some before started h s k d =
     let cfg = c.args.config.now in
     let slept = g.W.Observes.saw started c.note_sleep.new.observer in
     let saw : slept (noted cfg (clock_entries why.Ask clocked ++ h)) = subst slept
-      (sym (calls.asked_notes cfg clocked h))
+    (sym (calls.asked_notes cfg clocked h))
     (c.note_sleep.ensures (standpoint cfg h) started _ c.in_ok-clocked.ensures.on s.saw_so) in
     let s1 = calls.stands_read s why.Ask (inl refl) d _ _ _ _ clocked read slept saw in
     let k1 = read.known cfg h k in

@@ -10,7 +10,7 @@ returns-in-Ok-None-clause-goes g c before started h s k d =
     let t = calls.take_due c.args.config.now before _ _ c.args.live.now h s d _ c.in-Some.is in
     let told = rw c.in-Ok-None.field-0-is at c.in-Ok-None.ensures.told in
     comes (stands_more s TakeDatagram t (TookNone ∷ []) ([], None, refl) _ told
-      c.in-Ok-None.ensures.counted.faults _ refl s.facts
+    c.in-Ok-None.ensures.counted.faults _ refl s.facts
     (peers_as _ _ _ _ h _ s.peers (calls.same_peers (calls.unchanged c.in-Ok-None.ensures.counted.same
     c.in-Ok-None.ensures.counted.faults)) (λ q. refl)))
     (calls.knows_plain _ _ TookNone h k refl refl refl refl refl refl refl) _ refl

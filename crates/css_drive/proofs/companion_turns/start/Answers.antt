@@ -40,7 +40,7 @@ returns-then-due-clause-goes g c before started h s k d =
     ∙ ap {A = ℕ} {B = Facts} (λ n. record (F was) { reported = n }) (sym (add-one live.reported))
     ∙ sym (ap {A = Facts} F read.only)
     ∙ ap {A = ℕ} {B = Facts} (λ u. record (F (facts_in c.read.new.live)) { first = Some u })
-      (sym c.unwrap_or.ensures) in
+    (sym c.unwrap_or.ensures) in
     let report = c.report-report.result in
     let so = runs.reports_so cfg _ (sleep_entries clocked.slept ++ h) r report known
     (c.report-report.ensures.report _ known.stands) in
@@ -75,7 +75,7 @@ returns-clause-goes g c before started h s k d =
     let facts = ends.begun_facts cfg live h clocked false s.facts is
     ∙ sym (ap {A = Facts} F read.only)
     ∙ ap {A = ℕ} {B = Facts} (λ u. record (F (facts_in c.read.new.live)) { first = Some u })
-      (sym c.unwrap_or.ensures) in
+    (sym c.unwrap_or.ensures) in
     let after = g.W.Observes.saw started c.turned.new.self in
     let saw : after (noted cfg history) = subst after (sym (ends.turned_notes cfg clocked h live.first live.reported
     first count is)) (c.turned.ensures (standpoint cfg h) known started _ c.in_ok-clocked.ensures.on s.saw_so) in

@@ -19,7 +19,7 @@ returns-in-Ok-clause-goes g c run start p h t s owes fresh accepted =
       history = t;
       stays =
           stays_after s e c.step.new.self c.step.new.out.items done c.in-Ok.ensures.stands
-            c.in-Ok.ensures.server fresh _
+          c.in-Ok.ensures.server fresh _
           (omega arith) accepted;
     })
     (ap (λ outs. outs ++ outs_after a p.events e) owes ∙ outs_same s e c.step.new.self.stage c.step.new.out.items done)
