@@ -3,7 +3,7 @@ use Rattle.std.proofs.Common.{◌≡◌, ℕ, ◌+◌, arith, ap, sym, ◌∙◌
 use Rattle.std.proofs.Common.{Option, Some, None, Result, Ok, Err, eq-eqb, inl, inr}
 use Rattle.std.proofs.lemmas.Bool.{ne_eqb, or_from}
 use Rattle.std.proofs.lemmas.Result.{on_ok_weaker}
-use Rattle.std.specs.Prelude.{is_some, ◌&&◌, ◌||◌, IfSome, OnOk, IfErr, ◌⊎◌, ◌<◌, ◌≤◌}
+use Rattle.std.specs.Prelude.{is_some, ◌&&◌, ◌||◌, IfSome, OnOk, IfErr, IsErrAnd, MatchResult, ◌⊎◌, ◌<◌, ◌≤◌}
 use Rattle.css_model.specs.declared.Kind.{Kind}
 use Rattle.css_model.specs.declared.Kind.TheVariants as kind
 use Rattle.css_model.specs.declared.Why.{Why}
@@ -37,9 +37,9 @@ use Rattle.css_drive.specs.CompanionDue.{from_ts, from_ask, from_take, from_cii_
 use Rattle.css_drive.specs.CompanionDue.{unless_refused, refusal_of, end_by}
 use Rattle.css_drive.specs.CompanionStanding.{Shown, Facts, facts_of, facts_in, KnowsPeers, Stands, Knows, GivesPlace}
 use Rattle.css_drive.specs.CompanionStanding.{asked_after, IsRefusal, HasRead, Keeps, Stops, dial_entries, IsFault}
-use Rattle.css_drive.specs.CompanionStanding.{IsEndBy, Adds, HasLost, Goes}
+use Rattle.css_drive.specs.CompanionStanding.{IsEndBy, Fails, Adds, HasLost, Goes}
 use Rattle.css_drive.specs.CompanionTurns.{dialled, is_peer, unless, is_asking}
-use Rattle.css_drive.specs.Ends.{MayEnd}
+use Rattle.css_drive.specs.Ends.{MayEnd, CountsNetFault}
 use Rattle.css_drive.specs.Notes as notes
 use Rattle.css_drive.specs.Notes.{Note, noted, session_at, session_with, with_event, slept_notes, landing_notes}
 use Rattle.css_drive.specs.Notes.{heard_notes, wrote_notes, standpoint}
@@ -51,7 +51,7 @@ use Rattle.css_drive.specs.declared.config.DriveConfig.{DriveConfig}
 use Rattle.css_drive.specs.declared.driven.Driven.{Driven}
 use Rattle.css_drive.specs.declared.driven.Driven.TheVariants as driven
 use Rattle.css_drive.proofs.CompanionSteps.{opened_dialled, peers_as, knows_aside, stands_saw, stops_here, ends_by}
-use Rattle.css_drive.proofs.CompanionSteps.{IsOwn, comes, stops_by_memory, knows_lawful}
+use Rattle.css_drive.proofs.CompanionSteps.{IsOwn, at_err, comes, stops_by_memory, knows_lawful}
 
 module _ (config : DriveConfig) (before now : Shown) (saw : List Note → Type 0) (live : Live)
     (history : History) (s : Stands config before now saw live history) where
@@ -229,9 +229,20 @@ stands_read {config} {before} {now} {saw} {live} {history} s w is d next later w
     Facts} (λ x. x.cii) r.only) (ap {A = Facts} (λ x. x.ts) r.only)
     (peers_clock now.counts.peers live.cii live.ts w clocked history s.peers))
 
--- a fault of the outside ends the run of an observer that isn't over
-pub fault_now : (over : Option OutFault) (ended : Driven) → over ≡ None → IsFault ended → IsEndBy over ended
-fault_now over ended e f = let P : Option OutFault → Type 0 = λ x. IsEndBy x ended in subst P (sym e) f
+-- a call failed, of an observer that isn't over
+pub call_failed : {old new : Shown} {over : Option OutFault} {ended : Driven} → new.told ≡ old.told
+    → CountsNetFault old.counts.faults new.counts.faults ended → over ≡ None → IsFault ended
+    → Fails old new over ended
+call_failed {ended = ended} told counted on fails =
+    let P : Option OutFault → Type 0 = λ x. IsEndBy x ended in
+    record { told = told; counted = counted; end = subst P (sym on) fails }
+
+-- none was made, since the observer is over
+pub not_made : {T : Type 0} (old : Shown) (over : Option OutFault) (ended : Driven) (P : T → Type 0)
+    (result : Result T Driven) → IsErrAnd result (λ x. x ≡ ended) → ((count : ℕ) → CountsNetFault count count ended)
+    → IsEndBy over ended → MatchResult result P (Fails old old over)
+not_made old over ended P result is counted ends =
+    at_err P (Fails old old over) ended result is (record { told = refl; counted = counted _; end = ends })
 
 -- ---- notes
 pub asked_notes : (config : DriveConfig) (clocked : Clocked) (history : History)
