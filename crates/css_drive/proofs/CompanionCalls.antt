@@ -1,5 +1,5 @@
 -- What is due at each stage of a turn, and what its calls make of the facts.
-use Rattle.std.proofs.Common.{◌≡◌, ℕ, ◌+◌, arith, ap, sym, ◌∙◌, subst, refl, Bool, true, false, cond, List, ◌∷◌, ◌++◌}
+use Rattle.std.proofs.Common.{◌≡◌, ℕ, arith, ap, sym, ◌∙◌, subst, refl, Bool, true, false, cond, List, ◌∷◌, ◌++◌}
 use Rattle.std.proofs.Common.{Option, Some, None, Result, Ok, Err, eq-eqb, inl, inr}
 use Rattle.std.proofs.lemmas.Bool.{ne_eqb, or_from}
 use Rattle.std.proofs.lemmas.Result.{on_ok_weaker}
@@ -10,8 +10,8 @@ use Rattle.css_model.specs.declared.Why.{Why}
 use Rattle.css_model.specs.declared.Why.TheVariants as why
 use Rattle.css_model.specs.Wire.{encoded, request_at}
 use Rattle.css_companion.specs.Aside.{IsAside}
-use Rattle.css_model.specs.History.{Address, Entry, Slept, Clock, Dialling, Dialled, NotDialled, Sent, Took, Quiet}
-use Rattle.css_model.specs.History.{Heard, Closed, Gone, History, is_sleep, asking_at, request_by, landed_answer}
+use Rattle.css_model.specs.History.{Address, Entry, Slept, Clock, Dialling, Dialled, NotDialled, Took}
+use Rattle.css_model.specs.History.{Heard, Gone, History, is_sleep, asking_at, request_by, landed_answer}
 use Rattle.css_model.specs.History.{sleeps, Each}
 use Rattle.css_address.specs.declared.fault.AddressFault.{AddressFault}
 use Rattle.css_cii.specs.declared.name.CiiName.{CiiName}
