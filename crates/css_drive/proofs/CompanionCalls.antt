@@ -1,16 +1,17 @@
 -- What is due at each stage of a turn, and what its calls make of the facts.
-use Rattle.std.proofs.Common.{◌≡◌, ℕ, ◌+◌, arith, ap, sym, ◌∙◌, subst, refl, Bool, true, false, cond, List, ◌∷◌, ◌++◌}
-use Rattle.std.proofs.Common.{Option, Some, None, Result, Err, eq-eqb, inl, inr}
+use Rattle.std.proofs.Common.{◌≡◌, ℕ, arith, ap, sym, ◌∙◌, subst, refl, Bool, true, false, cond, List, ◌∷◌, ◌++◌}
+use Rattle.std.proofs.Common.{Option, Some, None, Result, Ok, Err, eq-eqb, inl, inr}
 use Rattle.std.proofs.lemmas.Bool.{ne_eqb, or_from}
-use Rattle.std.specs.Prelude.{is_some, ◌&&◌, ◌||◌, IfSome, ◌⊎◌, ◌<◌, ◌≤◌}
+use Rattle.std.proofs.lemmas.Result.{on_ok_weaker}
+use Rattle.std.specs.Prelude.{is_some, ◌&&◌, ◌||◌, IfSome, OnOk, IfErr, IsErrAnd, MatchResult, ◌⊎◌, ◌<◌, ◌≤◌}
 use Rattle.css_model.specs.declared.Kind.{Kind}
 use Rattle.css_model.specs.declared.Kind.TheVariants as kind
 use Rattle.css_model.specs.declared.Why.{Why}
 use Rattle.css_model.specs.declared.Why.TheVariants as why
 use Rattle.css_model.specs.Wire.{encoded, request_at}
 use Rattle.css_companion.specs.Aside.{IsAside}
-use Rattle.css_model.specs.History.{Address, Entry, Slept, Clock, Dialling, Dialled, NotDialled, Sent, Took, Quiet}
-use Rattle.css_model.specs.History.{Heard, Closed, Gone, History, is_sleep, asking_at, request_by, landed_answer}
+use Rattle.css_model.specs.History.{Address, Entry, Slept, Clock, Dialling, Dialled, NotDialled, Took}
+use Rattle.css_model.specs.History.{Heard, Gone, History, is_sleep, asking_at, request_by, landed_answer}
 use Rattle.css_model.specs.History.{sleeps, Each}
 use Rattle.css_address.specs.declared.fault.AddressFault.{AddressFault}
 use Rattle.css_cii.specs.declared.name.CiiName.{CiiName}
@@ -36,9 +37,9 @@ use Rattle.css_drive.specs.CompanionDue.{from_ts, from_ask, from_take, from_cii_
 use Rattle.css_drive.specs.CompanionDue.{unless_refused, refusal_of, end_by}
 use Rattle.css_drive.specs.CompanionStanding.{Shown, Facts, facts_of, facts_in, KnowsPeers, Stands, Knows, GivesPlace}
 use Rattle.css_drive.specs.CompanionStanding.{asked_after, IsRefusal, HasRead, Keeps, Stops, dial_entries, IsFault}
-use Rattle.css_drive.specs.CompanionStanding.{IsEndBy, Adds}
+use Rattle.css_drive.specs.CompanionStanding.{IsEndBy, Fails, Adds, HasLost, Goes}
 use Rattle.css_drive.specs.CompanionTurns.{dialled, is_peer, unless, is_asking}
-use Rattle.css_drive.specs.Ends.{MayEnd}
+use Rattle.css_drive.specs.Ends.{MayEnd, CountsNetFault}
 use Rattle.css_drive.specs.Notes as notes
 use Rattle.css_drive.specs.Notes.{Note, noted, session_at, session_with, with_event, slept_notes, landing_notes}
 use Rattle.css_drive.specs.Notes.{heard_notes, wrote_notes, standpoint}
@@ -50,7 +51,7 @@ use Rattle.css_drive.specs.declared.config.DriveConfig.{DriveConfig}
 use Rattle.css_drive.specs.declared.driven.Driven.{Driven}
 use Rattle.css_drive.specs.declared.driven.Driven.TheVariants as driven
 use Rattle.css_drive.proofs.CompanionSteps.{opened_dialled, peers_as, knows_aside, stands_saw, stops_here, ends_by}
-use Rattle.css_drive.proofs.CompanionSteps.{IsOwn}
+use Rattle.css_drive.proofs.CompanionSteps.{IsOwn, at_err, comes, stops_by_memory, knows_lawful}
 
 module _ (config : DriveConfig) (before now : Shown) (saw : List Note → Type 0) (live : Live)
     (history : History) (s : Stands config before now saw live history) where
@@ -228,9 +229,20 @@ stands_read {config} {before} {now} {saw} {live} {history} s w is d next later w
     Facts} (λ x. x.cii) r.only) (ap {A = Facts} (λ x. x.ts) r.only)
     (peers_clock now.counts.peers live.cii live.ts w clocked history s.peers))
 
--- a fault of the outside ends the run of an observer that isn't over
-pub fault_now : (over : Option OutFault) (ended : Driven) → over ≡ None → IsFault ended → IsEndBy over ended
-fault_now over ended e f = let P : Option OutFault → Type 0 = λ x. IsEndBy x ended in subst P (sym e) f
+-- a call failed, of an observer that isn't over
+pub call_failed : {old new : Shown} {over : Option OutFault} {ended : Driven} → new.told ≡ old.told
+    → CountsNetFault old.counts.faults new.counts.faults ended → over ≡ None → IsFault ended
+    → Fails old new over ended
+call_failed {ended = ended} told counted on fails =
+    let P : Option OutFault → Type 0 = λ x. IsEndBy x ended in
+    record { told = told; counted = counted; end = subst P (sym on) fails }
+
+-- none was made, since the observer is over
+pub not_made : {T : Type 0} (old : Shown) (over : Option OutFault) (ended : Driven) (P : T → Type 0)
+    (result : Result T Driven) → IsErrAnd result (λ x. x ≡ ended) → ((count : ℕ) → CountsNetFault count count ended)
+    → IsEndBy over ended → MatchResult result P (Fails old old over)
+not_made old over ended P result is counted ends =
+    at_err P (Fails old old over) ended result is (record { told = refl; counted = counted _; end = ends })
 
 -- ---- notes
 pub asked_notes : (config : DriveConfig) (clocked : Clocked) (history : History)
@@ -508,6 +520,44 @@ sent_stands {config} {before} {now} {saw} {live} {history} s p at text is-due se
     kinds : (o : Outcome) (q : ℕ) → kind_of q (wrote_entries p text o ++ history) ≡ kind_of q history
     kinds outcome.Sent q = refl
     kinds outcome.Gone q = refl
+
+-- ---- the companion is told
+-- it was told of what is added, or memory ran out
+pub told_goes : {T : Type 0} {config : DriveConfig} {before now : Shown} {saw : List Note → Type 0} {live : Live}
+    {history : History} → Stands config before now saw live history → IsLawful history → (over : Option OutFault)
+    → (later : Live) (is : Companion) (to : History → Due) → due config history ≡ to history
+    → (result : Result T Driven) → OnOk result (Knows config is history × (facts_in later ≡ facts_in live))
+    → IfErr result (λ ended. ended ≡ driven.Memory) → Goes config before now saw over later is to result
+told_goes {live = live} {history = history} s lawful over later is to next (Ok value) told memory = comes (record {
+  told = s.told;
+  faults = s.faults;
+  proper = s.proper;
+  facts = s.facts ∙ sym told.1;
+  peers = live_peers _ _ live later history refl (ap {A = Facts} (λ x. x.cii) told.1)
+      (ap {A = Facts} (λ x. x.ts) told.1) s.peers;
+  saw_so = s.saw_so;
+}) told.0 to next
+told_goes s lawful over later is to next (Err ended) told memory = stops_by_memory s lawful over ended memory
+
+-- a text was told as gone, so the TS session is over
+pub gone_goes : {T : Type 0} {config : DriveConfig} {before now : Shown} {saw : List Note → Type 0} {live : Live}
+    {companion : Companion} {history : History} → Stands config before now saw live history
+    → Knows config companion history → (p : ℕ) → live.ts_open ≡ Some p → (text : List ℕ)
+    → due config history ≡ SendText p text → {next : Shown} → Adds now next (wrote_entries p text outcome.Gone)
+    → (after : List Note → Type 0)
+    → after (wrote_notes (standpoint config history) outcome.Gone ++ noted config history)
+    → (over : Option OutFault) (later : Live) (is : Companion) (to : History → Due)
+    → due config (Gone p ∷ history) ≡ to (Gone p ∷ history) → (result : Result T Driven)
+    → OnOk result (HasLost live later companion is) → IfErr result (λ ended. ended ≡ driven.Memory)
+    → Goes config before next after over later is to result
+gone_goes {config = config} {before = before} {live = live} {companion = companion} {history = history} s k p at text
+    is-due adds after notes over later is to next result lost memory =
+    let own = open_ts config before _ _ live history s p at in
+    let P : Type 0 = HasLost live later companion is in
+    told_goes (sent_stands s p (ts_at config before _ _ live history s p at) text is-due outcome.Gone adds after notes
+    (record live { ts_open = None }) (ts_over config before _ _ live history s p at) refl refl)
+    (lawful_plain (Gone p) history (knows_lawful config companion history k) refl refl) over later is to next result
+    (on_ok_weaker result (λ (x : P). (x.known config history (Gone p) k (p, inr refl, own), x.only)) lost) memory
 
 -- ---- addresses
 -- a bad address ends the run

@@ -1,5 +1,5 @@
 -- The laws of companions' runs.
-use Rattle.std.proofs.Common.{◌≡◌, ℕ, ◌+◌, ◌≤◌, ◌<◌, arith, suc, ap, sym, ◌∙◌, subst, refl, Bool, true, false, cond}
+use Rattle.std.proofs.Common.{◌≡◌, ℕ, ◌≤◌, ◌<◌, arith, suc, ap, sym, ◌∙◌, subst, refl, Bool, true, false, cond}
 use Rattle.std.proofs.Common.{inl, inr, map, List, [], ◌∷◌, ◌++◌, length, drop, Option, Some, None, Result, Ok, Err}
 use Rattle.std.proofs.lemmas.Bool.{ltb-true, ltb-false}
 use Rattle.std.specs.Prelude.{◌&&◌, not, is_some, if◌then◌else◌}
@@ -7,7 +7,7 @@ use Rattle.css_model.specs.declared.Kind.{Kind}
 use Rattle.css_model.specs.declared.Kind.TheVariants as kind
 use Rattle.css_model.specs.declared.Why.{Why}
 use Rattle.css_model.specs.declared.Why.TheVariants as why
-use Rattle.css_model.specs.History.{Address, History, Clock, Slept, Sent}
+use Rattle.css_model.specs.History.{Address, History, Clock, Slept}
 use Rattle.css_address.specs.declared.fault.AddressFault.{AddressFault}
 use Rattle.css_cii.specs.declared.name.CiiName.{CiiName}
 use Rattle.css_cii.specs.declared.name.CiiName.TheVariants.{WcUrl, TsUrl}

@@ -312,5 +312,32 @@ stops_by_memory {config} {before} {now} {saw} s lawful over ended e =
     let P : Driven → Type 0 = λ x. Stops config before now saw over x in
     subst P (sym e) (stops_here s lawful over driven.Memory tt tt)
 
+-- ---- steps of a turn
+-- a second step goes on from where the first came
+infixl 10 ◌>=>◌
+pub ◌>=>◌ : {W : Type 0} {config : DriveConfig} {old mid : Shown} {saw after : W → List Note → Type 0}
+    {live later : Live} {companion told : Companion} {when : History → Type 0} {to : History → Due}
+    {P : Shown → W → Type 0}
+    → ((before : Shown) (started : W) (history : History) → Stands config before old (saw started) live history
+    → Knows config companion history → when history → Comes config before mid (after started) later told to)
+    → ((before : Shown) (started : W) (history : History) → Stands config before mid (after started) later history
+    → Knows config told history → due config history ≡ to history → P before started)
+    → (before : Shown) (started : W) (history : History) → Stands config before old (saw started) live history
+    → Knows config companion history → when history → P before started
+first >=> second = λ before started history s k w.
+    let x = first before started history s k w in second before started x.history x.stands x.known x.next
+
+-- a step that ended with Err leads anywhere
+pub leads_err : {W T : Type 0} {config : DriveConfig} {old now : Shown} {saw after : W → List Note → Type 0}
+    {live : Live} {companion : Companion} {when : History → Type 0} {over : Option OutFault} {ended : Driven}
+    (P : Shown → W → T → Type 0) (result : Result T Driven) → IsErrAnd result (λ x. x ≡ ended)
+    → ((before : Shown) (started : W) (history : History) → Stands config before old (saw started) live history
+    → Knows config companion history → when history → Stops config before now (after started) over ended)
+    → (before : Shown) (started : W) (history : History) → Stands config before old (saw started) live history
+    → Knows config companion history → when history
+    → MatchResult result (P before started) (Stops config before now (after started) over)
+leads_err P result is step = λ before started history s k w.
+    at_err _ _ _ result is (step before started history s k w)
+
 pub ends_by : (d e : Due) (ended : Driven) → d ≡ e → MayEnd e ended → MayEnd d ended
 ends_by d e ended is m = let P : Due → Type 0 = λ x. MayEnd x ended in subst P (sym is) m

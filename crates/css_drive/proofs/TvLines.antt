@@ -25,7 +25,7 @@ use Rattle.css_drive.specs.TvProgress.{Place, Turned, Progress, settled, settled
 use Rattle.css_drive.specs.TvProgress.{played, played_if, event_of, happened, addresses_in, is_free, is_free_of, is_due}
 use Rattle.css_drive.specs.TvProgress.{open_after}
 use Rattle.css_drive.specs.TvTurns.{since}
-use Rattle.css_drive.specs.TvDue.{TvRun, due, due_for}
+use Rattle.css_drive.specs.TvDue.{TvRun, due_for}
 use Rattle.css_drive.specs.TvPeers.{Covers, AreRising}
 use Rattle.css_drive.specs.TvStanding.{Told, Stays, Comes, Stops, IsAccepted, Keeps, Airs}
 use Rattle.css_drive.specs.declared.driven.Driven.TheVariants as driven

@@ -161,6 +161,15 @@ cause_later before mid now ended kept k = record {
   no_writes = k.no_writes;
 }
 
+-- nor has one in a part that went well
+pub counts_on : {T : Type 0} {before mid now : Counts} {value : T} → KeepsCounts before mid
+    → HasCause mid now (Ok value) → KeepsCounts before now
+counts_on kept cause = record {
+  dials = cause.dials ∙ kept.dials;
+  peers = omega (arith, cause.peers, kept.peers);
+  faults = cause.ok ∙ kept.faults;
+}
+
 -- nothing was told, and the run ends by a fault
 pub stops_by_fault : {run : TvRun} {start told : Option History} {peers : ℕ} {p : Progress} {h : History}
     → Told run start told peers p h → (told' : Option History) → told' ≡ told → (ended : Driven) → IsFault ended

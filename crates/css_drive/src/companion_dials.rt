@@ -138,13 +138,9 @@ fn present<O: Outside, W: Observes>(
         return Ok(());
     };
     let text = window_of(companion, earliest, latest)?;
-    match send(outside, observer, peer, text.bytes()) {
-        Err(ended) => Err(ended),
-        Ok(Wrote::Sent) => Ok(()),
-        Ok(Wrote::Gone) => match lose_ts(live, companion) {
-            Ok(()) => Ok(()),
-            Err(ended) => Err(ended),
-        },
+    match send(outside, observer, peer, text.bytes())? {
+        Wrote::Sent => Ok(()),
+        Wrote::Gone => lose_ts(live, companion),
     }
 }
 
@@ -183,13 +179,9 @@ fn introduce<O: Outside, W: Observes>(
     ensures keeps { Keeps (O.counts outside.old) (O.counts outside.new) live.old live.new }
     ensures early { IfErr result IsEarly }
 {
-    match send(outside, observer, peer, setup.bytes()) {
-        Err(ended) => Err(ended),
-        Ok(Wrote::Gone) => match lose_ts(live, companion) {
-            Ok(()) => Ok(()),
-            Err(ended) => Err(ended),
-        },
-        Ok(Wrote::Sent) => present(config, live, companion, outside, observer, peer),
+    match send(outside, observer, peer, setup.bytes())? {
+        Wrote::Sent => present(config, live, companion, outside, observer, peer),
+        Wrote::Gone => lose_ts(live, companion),
     }
 }
 

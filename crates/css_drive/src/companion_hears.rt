@@ -185,17 +185,13 @@ pub fn hear_cii<O: Outside, W: Observes>(
     let Some(peer) = live.cii_open else {
         return Ok(());
     };
-    match hear(outside, observer, companion, Session::Cii, peer) {
-        Err(ended) => Err(ended),
-        Ok(Heard::Quiet) => Ok(()),
-        Ok(Heard::Closed) => {
+    match hear(outside, observer, companion, Session::Cii, peer)? {
+        Heard::Quiet => Ok(()),
+        Heard::Closed => {
             live.cii_open = None;
             Ok(())
         }
-        Ok(Heard::Text(text)) => match take_in(companion, text) {
-            Ok(()) => Ok(()),
-            Err(ended) => Err(ended),
-        },
+        Heard::Text(text) => take_in(companion, text),
     }
 }
 
@@ -234,17 +230,10 @@ pub fn hear_ts<O: Outside, W: Observes>(
     let Some(peer) = live.ts_open else {
         return Ok(());
     };
-    match hear(outside, observer, companion, Session::Ts, peer) {
-        Err(ended) => Err(ended),
-        Ok(Heard::Quiet) => Ok(()),
-        Ok(Heard::Closed) => match lose_ts(live, companion) {
-            Ok(()) => Ok(()),
-            Err(ended) => Err(ended),
-        },
-        Ok(Heard::Text(text)) => match take_in_ts(companion, text) {
-            Ok(()) => Ok(()),
-            Err(ended) => Err(ended),
-        },
+    match hear(outside, observer, companion, Session::Ts, peer)? {
+        Heard::Quiet => Ok(()),
+        Heard::Closed => lose_ts(live, companion),
+        Heard::Text(text) => take_in_ts(companion, text),
     }
 }
 

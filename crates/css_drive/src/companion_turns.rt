@@ -111,30 +111,12 @@ pub fn calls<O: Outside, W: Observes>(
     ensures tried { OnOk result (live.new.cii ≡ None
         → HasRisen (O.counts outside.old).dial_faults (O.counts outside.new).dial_faults) }
 {
-    match dial_cii(config, live, companion, outside, observer) {
-        Ok(()) => {}
-        Err(ended) => return Err(ended),
-    }
-    match dial_wc(alloc, config, live, companion, outside, observer) {
-        Ok(()) => {}
-        Err(ended) => return Err(ended),
-    }
-    match dial_ts(alloc, config, live, companion, outside, observer) {
-        Ok(()) => {}
-        Err(ended) => return Err(ended),
-    }
-    match ask(config, live, companion, outside, observer) {
-        Ok(()) => {}
-        Err(ended) => return Err(ended),
-    }
-    match take(config, live, companion, outside, observer) {
-        Ok(()) => {}
-        Err(ended) => return Err(ended),
-    }
-    match hear_cii(config, live, companion, outside, observer) {
-        Ok(()) => {}
-        Err(ended) => return Err(ended),
-    }
+    dial_cii(config, live, companion, outside, observer)?;
+    dial_wc(alloc, config, live, companion, outside, observer)?;
+    dial_ts(alloc, config, live, companion, outside, observer)?;
+    ask(config, live, companion, outside, observer)?;
+    take(config, live, companion, outside, observer)?;
+    hear_cii(config, live, companion, outside, observer)?;
     hear_ts(config, live, companion, outside, observer)
 }
 
@@ -166,10 +148,7 @@ fn turn<O: Outside, W: Observes>(
         → HasTried started (O.counts outside.old).dial_faults live.old
         → OnOk result (HasTried started (O.counts outside.new).dial_faults live.new) }
 {
-    match start(config, live, companion, outside, observer) {
-        Ok(()) => {}
-        Err(ended) => return Err(ended),
-    }
+    start(config, live, companion, outside, observer)?;
     if live.reported >= config.reports {
         return Err(hang_up(config, live, outside, observer, Driven::Done));
     }

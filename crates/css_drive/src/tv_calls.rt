@@ -54,10 +54,7 @@ fn answer<O: Outside>(tv: &Tv, outside: &mut O, peer: u32, ticket: Ticket) -> Re
 {
     let reading = read(outside, Why::Give)?;
     let answered = tv.answer(ticket, reading);
-    match send(outside, peer, &answered.response) {
-        Ok(()) => {}
-        Err(ended) => return Err(ended),
-    }
+    send(outside, peer, &answered.response)?;
     match answered.follow_up {
         None => Ok(()),
         Some(bytes) => send(outside, peer, &bytes),
@@ -174,10 +171,7 @@ pub(crate) fn hear_all<O: Outside>(
     'peers: while at < air.peers.len() {
         let peer = air.peers[at];
         if air.tv.is_open(peer) {
-            match hear(alloc, &mut air.tv, outside, peer) {
-                Ok(()) => {}
-                Err(ended) => return Err(ended),
-            }
+            hear(alloc, &mut air.tv, outside, peer)?;
             at += 1;
         } else {
             let _ = air.peers.remove(at);

@@ -110,10 +110,7 @@ pub(crate) fn carry_lines<O: Outside>(
         if reading < from + line.due {
             return Ok(());
         }
-        match carry_out(alloc, &mut air.tv, outside, line, air.lines, reading) {
-            Ok(()) => {}
-            Err(ended) => return Err(ended),
-        }
+        carry_out(alloc, &mut air.tv, outside, line, air.lines, reading)?;
         air.lines += 1;
     }
     Ok(())

@@ -77,10 +77,7 @@ pub(crate) fn put_all<O: Outside>(
 {
     outs.reverse();
     'outs: while let Some(out) = outs.pop() {
-        match put_one(alloc, tv, outside, &out) {
-            Ok(()) => {}
-            Err(ended) => return Err(ended),
-        }
+        put_one(alloc, tv, outside, &out)?;
     }
     Ok(())
 }

@@ -65,21 +65,12 @@ fn turn<O: Outside>(
     ensures turns { OnOk result (IsOneMore air.old.turns air.new.turns) }
     ensures cause { HasCause (O.counts outside.old) (O.counts outside.new) result }
 {
-    match begin(alloc, air, outside, script) {
-        Ok(()) => {}
-        Err(ended) => return Err(ended),
-    }
+    begin(alloc, air, outside, script)?;
     if air.turns.is_over() {
         return Ok(());
     }
-    match serve(&mut air.tv, outside) {
-        Ok(()) => {}
-        Err(ended) => return Err(ended),
-    }
-    match welcome(alloc, air, outside) {
-        Ok(()) => {}
-        Err(ended) => return Err(ended),
-    }
+    serve(&mut air.tv, outside)?;
+    welcome(alloc, air, outside)?;
     hear_all(alloc, air, outside)
 }
 
@@ -99,10 +90,7 @@ fn make_turns<O: Outside>(
     ensures cause { HasCause (O.counts outside.old) (O.counts outside.new) result }
 {
     'turns: while air.turns.goes_on() {
-        match turn(alloc, air, outside, script) {
-            Ok(()) => {}
-            Err(ended) => return Err(ended),
-        }
+        turn(alloc, air, outside, script)?;
     }
     hang_up_all(air, outside)
 }

@@ -1,10 +1,9 @@
-use Rattle.std.proofs.Common.{◌≡◌, refl, sym, ◌∙◌, ap, inr, Some, None, ℕ, ◌∷◌}
+use Rattle.std.proofs.Common.{◌≡◌, refl, sym, ◌∙◌, ap, Some, ℕ, ◌∷◌}
 use Rattle.std.specs.Option.{option_map}
 use Rattle.css_model.specs.History.{History, Wrote, Gone}
 use Rattle.css_outside.specs.declared.calls.Wrote.TheVariants as outcome
 use Rattle.css_tsmsg.specs.declared.bound.Bound.{Bound}
 use Rattle.css_drive.specs.CompanionDue.{due, due_at, from_setup, text_sent, text_gone, sending, window_text, from_ask}
-use Rattle.css_drive.specs.CompanionStanding.{Facts}
 use Rattle.css_drive.specs.Notes.{standpoint}
 use Rattle.css_drive.specs.Proper.{SendText}
 use Rattle.css_drive.specs.declared.config.DriveConfig.{DriveConfig}
@@ -19,64 +18,41 @@ is_sent : (config : DriveConfig) (p : ℕ) (h : History) (earliest latest : Boun
 is_sent config p h earliest latest some d =
     d ∙ ap (λ o. sending p (option_map window_text o) (from_ask config h)) some
 
-pub returns-in-Ok-Sent-clause-goes : goal.returns-in-Ok-Sent-clause-goes
-returns-in-Ok-Sent-clause-goes g c ts at_ts before started h s k when =
+pub returns-in-Sent-clause-goes : goal.returns-in-Sent-clause-goes
+returns-in-Sent-clause-goes g c ts at_ts before started h s k when =
     let cfg = c.args.config.now in
     let p : ℕ = c.args.peer in
     let text = c.bytes.result.now in
     comes (calls.sent_stands s p (calls.ts_at cfg before _ _ c.args.live.now h s p at_ts) text
     (is_sent cfg p h c.in-Some.earliest c.in-Some.latest (cc) when.1 ∙ ap (λ b. SendText p b) (sym (c.bytes.ensures
     ∙ c.in_ok-text.ensures.text))) outcome.Sent
-    (rw c.in-Ok-Sent.field-0-is at c.in-Ok-Sent.ensures.told) (g.W.Observes.saw started c.send.new.observer)
-    (rw c.in-Ok-Sent.field-0-is at c.in-Ok-Sent.ensures.saw (standpoint cfg h) started _ s.saw_so) _ s.facts refl refl)
+    (rw c.in-Sent.is at c.in_ok-send.ensures.told) (g.W.Observes.saw started c.send.new.observer)
+    (rw c.in-Sent.is at c.in_ok-send.ensures.saw (standpoint cfg h) started _ s.saw_so) _ s.facts refl refl)
     (calls.knows_plain _ _ (Wrote p text) h (knows_as _ _ _ h c.in_ok-text.ensures.same k) refl refl refl refl refl
     refl refl) _ (ap (λ x. due_at cfg (text_sent x) (Wrote p text ∷ h)) when.0)
-
-pub returns-in-Ok-clause-goes : goal.returns-in-Ok-clause-goes
-returns-in-Ok-clause-goes g c ts at_ts before started h s k when =
-    let cfg = c.args.config.now in
-    let live = c.args.live.now in
-    let p : ℕ = c.args.peer in
-    let lost = c.in-Ok.ensures.ok in
-    comes (calls.sent_stands s p (calls.ts_at cfg before _ _ live h s p at_ts) c.bytes.result.now
-    (is_sent cfg p h c.in-Some.earliest c.in-Some.latest (cc) when.1 ∙ ap (λ b. SendText p b) (sym (c.bytes.ensures
-    ∙ c.in_ok-text.ensures.text))) outcome.Gone
-    (rw c.in-Ok-Gone.field-0-is at c.in-Ok-Gone.ensures.told) (g.W.Observes.saw started c.send.new.observer)
-    (rw c.in-Ok-Gone.field-0-is at c.in-Ok-Gone.ensures.saw (standpoint _ h) started _ s.saw_so) _
-    (calls.ts_over cfg before _ _ live h s p at_ts ∙ sym lost.only) (ap {A = Facts} (λ x. x.cii) lost.only)
-    (ap {A = Facts} (λ x. x.ts) lost.only))
-    (lost.known cfg h (Gone p) (knows_as _ _ _ h c.in_ok-text.ensures.same k) (
-      p,
-      inr refl,
-      calls.open_ts cfg before _ _
-          live h s p at_ts,
-    )) _ (ap (λ x. due_at cfg (text_gone x) (Gone p ∷ h)) when.0)
 
 pub returns-clause-goes : goal.returns-clause-goes
 returns-clause-goes g c ts at_ts before started h s k when =
     let cfg = c.args.config.now in
-    let live = c.args.live.now in
     let p : ℕ = c.args.peer in
-    stops_by_memory (calls.sent_stands s p (calls.ts_at cfg before _ _ live h s p at_ts) c.bytes.result.now
+    calls.gone_goes s (knows_as _ _ _ h c.in_ok-text.ensures.same k) p at_ts c.bytes.result.now
     (is_sent cfg p h c.in-Some.earliest c.in-Some.latest (cc) when.1 ∙ ap (λ b. SendText p b) (sym (c.bytes.ensures
-    ∙ c.in_ok-text.ensures.text))) outcome.Gone
-    (rw c.in-Ok-Gone.field-0-is at c.in-Ok-Gone.ensures.told) (g.W.Observes.saw started c.send.new.observer)
-    (rw c.in-Ok-Gone.field-0-is at c.in-Ok-Gone.ensures.saw (standpoint _ h) started _ s.saw_so)
-    (record live { ts_open = None }) (calls.ts_over cfg before _ _ live h s p at_ts) refl refl)
-    (calls.lawful_plain (Gone p) h (knows_lawful _ _ h k) refl refl) _ _ c.in-Err-lose_ts.ensures.err
+    ∙ c.in_ok-text.ensures.text)))
+    (rw c.in-Gone.is at c.in_ok-send.ensures.told) (g.W.Observes.saw started c.send.new.observer)
+    (rw c.in-Gone.is at c.in_ok-send.ensures.saw (standpoint _ h) started _ s.saw_so) _ _ _ _
+    (ap (λ x. due_at cfg (text_gone x) (Gone p ∷ h)) when.0) c.lose_ts.result c.lose_ts.ensures.ok
+    c.lose_ts.ensures.err
 
-pub returns-in-Err-clause-goes : goal.returns-in-Err-clause-goes
-returns-in-Err-clause-goes g c ts at_ts before started h s k when =
-    stops_by_fault s (knows_lawful _ _ h k) _ _ _ c.in-Err.ensures.told (g.W.Observes.saw started c.send.new.observer)
-    (c.in-Err.ensures.saw (standpoint c.args.config.now h) started _ s.saw_so)
-
-pub returns-in-Ok-clause-keeps : goal.returns-in-Ok-clause-keeps
-returns-in-Ok-clause-keeps g c =
-    calls.keeps_same c.in-Ok-Gone.ensures.dials (c.in-Ok.ensures.keeps (g.O.Outside.counts c.send.new.outside))
+pub returns-in_err-send-clause-goes : goal.returns-in_err-send-clause-goes
+returns-in_err-send-clause-goes g c ts at_ts before started h s k when =
+    at_err _ _ _ _ c.from_residual-in_err-send.ensures.1
+    (stops_by_fault s (knows_lawful _ _ h k) _ _ _ c.in_err-send.ensures.told
+    (g.W.Observes.saw started c.send.new.observer)
+    (c.in_err-send.ensures.saw (standpoint c.args.config.now h) started _ s.saw_so))
 
 pub returns-clause-keeps : goal.returns-clause-keeps
 returns-clause-keeps g c =
-    calls.keeps_same c.in-Ok-Gone.ensures.dials (c.in-Err-lose_ts.ensures.keeps (g.O.Outside.counts c.send.new.outside))
+    calls.keeps_same c.in_ok-send.ensures.dials (c.lose_ts.ensures.keeps (g.O.Outside.counts c.send.new.outside))
 
 pub returns-in_err-text-clause-goes : goal.returns-in_err-text-clause-goes
 returns-in_err-text-clause-goes g c ts at_ts before started h s k when =

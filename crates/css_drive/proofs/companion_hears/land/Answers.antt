@@ -1,4 +1,4 @@
-use Rattle.std.proofs.Common.{refl, sym, ◌∙◌, ap, subst, inr, true, false, ◌∷◌, ◌++◌}
+use Rattle.std.proofs.Common.{refl, sym, ◌∙◌, ap, subst, inr, ◌∷◌, ◌++◌}
 use Rattle.css_model.specs.declared.Why.TheVariants as why
 use Rattle.css_model.specs.History.{Clock, Took}
 use Rattle.css_outside.specs.Outsides.{clock_entries, sleep_entries}

@@ -31,11 +31,9 @@ returns-in-Ok-Some-clause-goes g c before started h s k d =
 
 pub returns-in-Err-clause-goes : goal.returns-in-Err-clause-goes
 returns-in-Err-clause-goes g c before started h s k d =
-    stops_by_fault s (knows_lawful _ _ h k) _ _ _ (record {
-      told = c.in-Err.ensures.told;
-      counted = c.end_of.ensures.counted _ _ c.in-Err.ensures.counted.faults;
-      end = calls.fault_now _ _ c.in_ok-check.ensures.on c.end_of.ensures.fault;
-    }) (g.W.Observes.saw started c.args.observer.now) s.saw_so
+    stops_by_fault s (knows_lawful _ _ h k) _ _ _ (calls.call_failed c.in-Err.ensures.told
+    (c.end_of.ensures.counted _ _ c.in-Err.ensures.counted.faults) c.in_ok-check.ensures.on c.end_of.ensures.fault)
+    (g.W.Observes.saw started c.args.observer.now) s.saw_so
 
 pub returns-in_err-check-clause-goes : goal.returns-in_err-check-clause-goes
 returns-in_err-check-clause-goes g c before started h s k d =

@@ -1,4 +1,5 @@
 use Rattle.std.proofs.Common.{◌∙◌, sym}
+use Rattle.css_drive.proofs.CompanionSteps.{at_err}
 use Rattle.css_drive.proofs.tv_turns.make_turns.Goals as goal
 
 pub turn-requires-clause-ready : goal.turn-requires-clause-ready
@@ -11,10 +12,10 @@ turn-requires-clause-ready g c =
       script_so = r.script_so;
     }
 
-pub returns-in-Err-clause-ends : goal.returns-in-Err-clause-ends
-returns-in-Err-clause-ends g c run start script reaches =
+pub returns-in_err-turn-clause-ends : goal.returns-in_err-turn-clause-ends
+returns-in_err-turn-clause-ends g c run start script reaches =
     let x = c.turns.invariant.goes run start script reaches in
-    c.in-Err.ensures.goes run start x.p x.h x.place script x.fits x.airs
+    at_err _ _ _ _ c.from_residual.ensures.1 (c.in_err-turn.ensures.goes run start x.p x.h x.place script x.fits x.airs)
 
 pub returns-clause-ends : goal.returns-clause-ends
 returns-clause-ends g c run start script reaches =
