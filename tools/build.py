@@ -76,7 +76,9 @@ def is_old(program):
 
 @contextlib.contextmanager
 def alone():
-    """One build at a time: the lock ends with its holder."""
+    """One build at a time: the lock ends with its holder. A signal ends a build as an error does, with its provers."""
+    for number in (signal.SIGTERM, signal.SIGHUP):
+        signal.signal(number, lambda number, _: sys.exit(128 + number))
     OUT.mkdir(exist_ok=True)
     with open(OUT / "build.lock", "w") as lock:
         fcntl.flock(lock, fcntl.LOCK_EX)
@@ -236,8 +238,6 @@ def since(begun):
 
 
 def main(words):
-    for number in (signal.SIGTERM, signal.SIGHUP):
-        signal.signal(number, lambda number, _: sys.exit(128 + number))
     begun = time.time()
     try:
         with alone():
