@@ -29,7 +29,7 @@ first_skipped None to rest e = absurd (cc)
 first_skipped (Some p) to rest e = refl
 
 pub first_made : (o : Option ℕ) (to : Address) (rest : Due) → is_some o ≡ false → dial_first o to rest ≡
-  Dial kind.Cii to
+    Dial kind.Cii to
 first_made None to rest e = refl
 first_made (Some p) to rest e = absurd (cc)
 

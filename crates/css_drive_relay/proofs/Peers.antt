@@ -86,8 +86,11 @@ accepted_dialled n m q k to history lt le (p ∷ ps) all =
     let first = All-head (IsAccepted n history) p ps all in
     let known : p ≤ n = first.used in
     All-cons (IsAccepted m (Dialled k q ∷ Dialling k to ∷ history)) p ps
-    (record { used = omega (arith, le, lt, known); undialled = other_kind n p q k to history known lt ∙
-      first.undialled })
+    (record {
+      used = omega (arith, le, lt, known);
+      undialled = other_kind n p q k to history known lt ∙
+          first.undialled;
+    })
     (accepted_dialled n m q k to history lt le ps (All-tail (IsAccepted n history) p ps all))
 
 television_dialled : (n m q : ℕ) (k : Kind) (to : Address) (history : History) → n < q → q ≤ m → (o : Option ℕ)

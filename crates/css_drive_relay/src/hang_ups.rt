@@ -11,7 +11,7 @@ ghost use Rattle.css_drive_relay.specs.Standing.{facts_in, stood, Stands, Stops,
 
 use crate::calls::hang_up;
 use crate::config::RelayRun;
-use crate::live::Live;
+use crate::live::{Live, accepted};
 use css_drive::Driven;
 use css_num::Memory;
 use css_outside::Outside;
@@ -36,13 +36,6 @@ fn insert(peers: &mut Vec<u32>, peer: u32) -> Result<(), Memory>
     let at = place(peers.as_slice(), peer);
     peers.insert(at, peer)?;
     Ok(())
-}
-
-/// The accepted sessions that are open.
-fn accepted(live: &Live) -> Result<Vec<u32>, Memory>
-    ensures { IfOk result (λ peers. peers.items ≡ live.now.peers.items) }
-{
-    Ok(live.peers.clone()?)
 }
 
 /// All open sessions in order of peer, the television's among them.
@@ -76,10 +69,7 @@ fn hang_up_each<O: Outside>(
     ensures fault { IfErr result IsFault }
 {
     for peer in peers {
-        match hang_up(outside, *peer) {
-            Ok(()) => {}
-            Err(ended) => return Err(ended),
-        }
+        hang_up(outside, *peer)?;
     }
     Ok(())
 }
