@@ -43,13 +43,10 @@ fn all_open(live: &Live) -> Result<Vec<u32>, Memory>
     ensures { IfOk result (λ peers. peers.items ≡ places.all_open (facts_in live.now)) }
 {
     let mut peers = accepted(live)?;
-    match live.television {
-        None => Ok(peers),
-        Some(television) => {
-            insert(&mut peers, television)?;
-            Ok(peers)
-        }
+    if let Some(television) = live.television {
+        insert(&mut peers, television)?;
     }
+    Ok(peers)
 }
 
 /// Hangs up these sessions.
@@ -94,13 +91,11 @@ pub(crate) fn finish<O: Outside>(run: &RelayRun, live: &Live, outside: &mut O) -
     ensures dials { (O.counts outside.new).dial_faults ≡ (O.counts outside.old).dial_faults }
     ensures kind { (result ≡ final (facts_in live.now)) ⊎ IsFault result }
 {
-    let peers = match all_open(live) {
-        Ok(peers) => peers,
-        Err(Memory) => return Driven::Memory,
+    let Ok(peers) = all_open(live) else {
+        return Driven::Memory;
     };
     match hang_up_each(run, live, outside, &peers) {
-        Ok(()) => {}
-        Err(ended) => return ended,
+        Ok(()) => ending(live),
+        Err(ended) => ended,
     }
-    ending(live)
 }

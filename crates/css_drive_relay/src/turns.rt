@@ -194,9 +194,8 @@ fn make_turns<O: Outside>(
         peers: Vec::new(alloc),
     };
     'turns: while goes_on(run, &live) {
-        match turn(alloc, run, &mut live, relay, outside) {
-            Ok(()) => {}
-            Err(ended) => return ended,
+        if let Err(ended) = turn(alloc, run, &mut live, relay, outside) {
+            return ended;
         }
     }
     finish(run, &live, outside)

@@ -20,10 +20,10 @@ turns-preserved g c =
     record {
       goes = λ start h s.
           let x = i.goes start h s in
-          c.in-Ok.ensures.goes start x.history x.stands (sym c.goes_on.ensures ∙ c.turns-test.true);
-      floor = c.in-Ok.ensures.floor;
+          c.in_default.ensures.goes start x.history x.stands (sym c.goes_on.ensures ∙ c.turns-test.true);
+      floor = c.in_default.ensures.floor;
       dials = omega (arith, c.turn.ensures.dials, i.dials);
-      tried = c.in-Ok.ensures.tried (g.O.Outside.counts c.args.outside.now) i.dials i.tried;
+      tried = c.in_default.ensures.tried (g.O.Outside.counts c.args.outside.now) i.dials i.tried;
     }
 
 pub turn-requires-clause-floor : goal.turn-requires-clause-floor
