@@ -24,7 +24,7 @@ pub(crate) fn end_of(fault: OutFault) -> Driven
     }
 }
 
-/// What was made. Where memory was wanting for it, the run ends.
+/// What was made, whose only error is want of memory: that ends the run.
 pub(crate) fn or_memory<T, E: Drop>(made: Result<T, E>) -> Result<T, Driven>
     ensures ok { IfOk result (λ value. made ≡ Ok value) }
     ensures err { IfErr result (λ ended. ended ≡ Driven.Memory) }

@@ -1,13 +1,6 @@
-use Rattle.std.proofs.Common.{refl}
 use Rattle.css_drive_relay.proofs.Steps as steps
 use Rattle.css_drive_relay.proofs.hang_ups.finish.Goals as goal
-
-pub returns-in_default-clause-ends : goal.returns-in_default-clause-ends
-returns-in_default-clause-ends g c start relay h s enough = steps.stops_by_memory s.runs (steps.lawful s.knows) _ refl
 
 pub returns-in-Ok-hang_up_each-clause-ends : goal.returns-in-Ok-hang_up_each-clause-ends
 returns-in-Ok-hang_up_each-clause-ends g c start relay h s enough =
     steps.stops_as (c.in-Ok-hang_up_each.ensures.ends start relay h s enough) _ c.ending.ensures
-
-pub returns-clause-ends : goal.returns-clause-ends
-returns-clause-ends g c start relay h s enough = c.in-Err.ensures.ends start relay h s enough
