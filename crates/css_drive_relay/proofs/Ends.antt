@@ -2,7 +2,7 @@
 use Rattle.css_cii.specs.States.{empty}
 use Rattle.css_cii.specs.declared.state.State.{State}
 use Rattle.std.proofs.Common.{◌≡◌, ap₂, ℕ, ◌≤◌, ◌<◌, arith, ap, sym, ◌∙◌, subst, refl, Bool, true, false, cond, inl}
-use Rattle.std.proofs.Common.{inr, List, [], ◌∷◌, ◌++◌, drop, Option, Some, None}
+use Rattle.std.proofs.Common.{inr, List, [], ◌∷◌, ◌++◌, drop, get_or, length, Option, Some, None}
 use Rattle.std.specs.Prelude.{◌⊎◌, ◌||◌, ◌+◌, ◌&&◌, ◌*◌, is_some, nat_lt, nat_le, not, unwrap_or}
 use Rattle.std.specs.Option.{ForSome}
 use Rattle.std.proofs.lemmas.List.Elements.{All-nil}
@@ -18,6 +18,8 @@ use Rattle.css_drive.specs.declared.driven.Driven.{Driven}
 use Rattle.css_drive.specs.declared.driven.Driven.TheVariants as driven
 use Rattle.css_drive.proofs.CompanionCalls.{same_peers}
 use Rattle.css_drive.proofs.CompanionRuns.{no_entries}
+use Rattle.css_drive.proofs.TvLines.{peers_all}
+use Rattle.css_drive.proofs.TvOpens.{peer_from}
 use Rattle.css_drive_relay.specs.Places.{Facts, Place, Progress, Asked, Over, after, all_open, without_first, Begun}
 use Rattle.css_drive_relay.specs.Places.{beginning, with_turn}
 use Rattle.css_drive_relay.specs.Due.{due_at, final, from_hang_ups}
@@ -113,16 +115,21 @@ module _ {run : RelayRun} {start now : Shown} {live : Live} {relay : Relay} wher
       ends false d e = e
 
 -- ---- loops
--- a place in another form
-pub at_left : (live : Live) {run : RelayRun} {start now : Shown} {relay : Relay} {history : History}
-    {place other : Place} → Stands run start now relay (stood live place) history → place ≡ other
-    → Stands run start now relay (stood live other) history
-at_left live {run} {start} {now} {relay} {history} s e =
-    subst (λ (x : Place). Stands run start now relay (stood live x) history) e s
+module _ {run : RelayRun} {start now : Shown} {relay : Relay} (live : Live) where
+  -- a place in another form
+  pub is_at_as : {place other : Place} → IsAt run start now relay live place → place ≡ other
+      → IsAt run start now relay live other
+  is_at_as x e = subst (λ (p : Place). IsAt run start now relay live p) e x
 
-pub is_at_as : {run : RelayRun} {start now : Shown} {relay : Relay} (live : Live) {place other : Place}
-    → IsAt run start now relay live place → place ≡ other → IsAt run start now relay live other
-is_at_as live x e = record { history = x.history; stands = at_left live x.stands e }
+  -- where so many of these sessions were seen to, the next one follows, or none is left
+  module _ (to : List ℕ → Place) (peers : List ℕ) (index : ℕ) where
+    pub next_left : index < length peers → IsAt run start now relay live (to (drop index peers))
+        → IsAt run start now relay live (to (get_or peers index 0 ∷ drop (index + 1) peers))
+    next_left lt x = is_at_as x (ap to (peer_from peers index lt))
+
+    pub none_left : length peers ≤ index → IsAt run start now relay live (to (drop index peers))
+        → IsAt run start now relay live (to [])
+    none_left le x = is_at_as x (ap to (peers_all peers index le))
 
 pub keeps_on : {old mid new : Counts} {before between now : Live} → KeepsDials old mid before between
     → KeepsDials mid new between now → KeepsDials old new before now
@@ -314,9 +321,10 @@ was_second (Seconds seconds) range None made reading none last =
     absurd (grind (arith, nat_tests, over, some))
 
 -- where the turn is the last by its time, and where it isn't
-pub begun_at : (run : RelayRun) (f : Facts) (last : Bool) → last ≡ is_late run.limit f.first f.turn
-    → places.begun run f ≡ cond last (Asked []) Begun
-begun_at run f last e = ap (λ b. cond b (Asked []) Begun) (sym e)
+pub begun_at : {run : RelayRun} {start now : Shown} {relay : Relay} (live : Live) {late last : Bool}
+    → IsAt run start now relay live (places.begun run (facts_in live)) → late ≡ is_late run.limit live.first live.turn
+    → late ≡ last → IsAt run start now relay live (cond last (Asked []) Begun)
+begun_at live x is e = is_at_as live x (ap (λ b. cond b (Asked []) Begun) (sym is ∙ e))
 
 none_named : (b : Bool) → named (cond b (Asked []) Begun) ≡ []
 none_named true = refl

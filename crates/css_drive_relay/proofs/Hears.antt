@@ -48,19 +48,25 @@ named_telling_if (Some text) f peers = named_telling text f.peers f peers peers
 module _ (live : Live) {run : RelayRun} {start now : Shown} {history : History} {relay : Relay} where
   -- ---- publishing
   -- what is published is the state and the change that the variables have
-  pub publishes : (state : State) → Stands run start now relay (published state (facts_in live)) history
-      → (f : Facts) → f ≡ record (facts_in live) { state = state } → (change : Option (List ℕ))
-      → change ≡ difference_text live.state state
-      → Stands run start now relay (record { facts = f; place = telling_if change f }) history
-  publishes state s f e change is = record {
-    runs = runs_as s.runs (record { facts = f; place = telling_if change f })
-        (ap (λ (x : Option (List ℕ)). record {
-          facts = record (facts_in live) { state = state };
-          place = telling_if x (record (facts_in live) { state = state });
-        }) (sym is)
-        ∙ ap (λ (x : Facts). record { facts = x; place = telling_if change x }) (sym e));
-    knows = s.knows;
-  }
+  pub publishes : {state found kept was : State} → Stands run start now relay (published state (facts_in live)) history
+      → found ≡ state → kept ≡ found → was ≡ live.state → (change : Option (List ℕ))
+      → change ≡ difference_text was found
+      → Stands run start now relay (record {
+        facts = record (facts_in live) { state = kept };
+        place = telling_if change (record (facts_in live) { state = kept });
+      }) history
+  publishes {state} {found} s e k w change is =
+      let at : Option (List ℕ) → State → Progress = λ o x. record {
+        facts = record (facts_in live) { state = x };
+        place = telling_if o (record (facts_in live) { state = x });
+      } in
+      record {
+        runs = runs_as s.runs (at change _)
+            (ap (λ (o : Option (List ℕ)). at o state)
+            (sym (is ∙ ap (λ x. difference_text x found) w ∙ ap (λ x. difference_text live.state x) e))
+            ∙ ap (λ (x : State). at change x) (sym (k ∙ e)));
+        knows = s.knows;
+      }
 
   -- ---- the television's session
   pub not_open : Stands run start now relay (stood live (welcomed (facts_in live))) history → live.television ≡ None

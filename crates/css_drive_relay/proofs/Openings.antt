@@ -187,9 +187,12 @@ pub rejects : (live : Live) {run : RelayRun} {start now : Shown} {history : Hist
 rejects live next peer s (Ok done) a = rejected live peer s a
 rejects live next peer s (Err ended) f = stops_by_fault s.runs (lawful s.knows) next ended f
 
--- whether it is kept, in another form
+-- whether it is kept, where so many are open
 pub kept_so : (live : Live) {run : RelayRun} {start now : Shown} {history : History} {relay : Relay} (peer : ℕ)
-    (kept other : Bool) → kept ≡ other → Stands run start now relay (opened_if kept peer (facts_in live)) history
+    (which : Kind) {count : ℕ} {kept other : Bool}
+    → Stands run start now relay (opened_if (is_kept which (length live.peers.items)) peer (facts_in live)) history
+    → count ≡ length live.peers.items → kept ≡ is_kept which count → kept ≡ other
     → Stands run start now relay (opened_if other peer (facts_in live)) history
-kept_so live {run} {start} {now} {history} {relay} peer kept other e s =
-    subst (λ (b : Bool). Stands run start now relay (opened_if b peer (facts_in live)) history) e s
+kept_so live {run} {start} {now} {history} {relay} peer which s n is e =
+    subst (λ (b : Bool). Stands run start now relay (opened_if b peer (facts_in live)) history)
+    (ap (is_kept which) (sym n) ∙ sym is ∙ e) s

@@ -31,8 +31,8 @@ use Rattle.css_drive_relay.specs.declared.config.RelayRun.{RelayRun}
 use Rattle.css_drive_relay.specs.declared.live.Live.{Live}
 use Rattle.css_drive_relay.proofs.Dialling.{comes}
 use Rattle.css_drive_relay.proofs.Peers.{peers_quiet, still}
-use Rattle.css_drive_relay.proofs.Steps.{knows_plain, lawful, runs_more, runs_on, runs_read, kinds_read, numbers_read}
-use Rattle.css_drive_relay.proofs.Steps.{stops_by_fault}
+use Rattle.css_drive_relay.proofs.Steps.{knows_plain, knows_clock, lawful, runs_more, runs_on, runs_read, kinds_read}
+use Rattle.css_drive_relay.proofs.Steps.{numbers_read, stops_by_fault}
 
 pub same_faults : {old new : Counts} → new ≡ old → new.faults ≡ old.faults
 same_faults e = ap {A = Counts} (λ x. x.faults) e
@@ -79,43 +79,45 @@ module _ {run : RelayRun} {start now : Shown} {live later : Live} {history : His
       runs_read s why.Land (ap from_taken none) clocked mid r (stood later Served) refl (peers_read _ _ s.peers r refl)
 
   -- ---- requests of others
-  pub receives : {peer : ℕ} {taken : List ℕ} → Runs run start now (stood live (Taken peer taken)) history
-      → is_some (request_in taken) ≡ true → HasRead now mid live later was is why.Take clocked
-      → Knows run is (sleep_entries clocked.slept ++ history) → (bytes : List ℕ) → taken ≡ bytes
+  pub receives : {peer : ℕ} {taken bytes : List ℕ} → Stands run start now was (stood live (Taken peer taken)) history
+      → is_some (request_in taken) ≡ true → HasRead now mid live later was is why.Take clocked → taken ≡ bytes
       → (result : Result Ticket RelayFault)
       → ((history : History) → StandsFor is.companion history
       → result ≡ received_after (own_of is.companion) history clocked.reading bytes)
-      → Runs run start mid (stood later (received peer result)) (clock_entries why.Take clocked ++ history)
-  receives {peer} {taken} s some r k bytes same result value =
-      runs_read s why.Take (ap from_taken some) clocked mid r (stood later (received peer result))
-      (ap (λ (x : Result Ticket RelayFault). stood later (received peer x))
-      (ap (λ (own : Local). received_after own (sleep_entries clocked.slept ++ history) clocked.reading taken)
-      (sym k.own)
-      ∙ ap (λ (x : List ℕ). received_after (own_of is.companion) (sleep_entries clocked.slept ++ history)
-      clocked.reading x) same
-      ∙ sym (value (sleep_entries clocked.slept ++ history) k.stands)))
-      (peers_read _ _ s.peers r (by result))
+      → Stands run start mid is (stood later (received peer result)) (clock_entries why.Take clocked ++ history)
+  receives {peer} {taken} s some r same result value = let k = r.known run history s.knows in record {
+    runs = runs_read s.runs why.Take (ap from_taken some) clocked mid r (stood later (received peer result))
+        (ap (λ (x : Result Ticket RelayFault). stood later (received peer x))
+        (ap (λ (own : Local). received_after own (sleep_entries clocked.slept ++ history) clocked.reading taken)
+        (sym k.own)
+        ∙ ap (λ (x : List ℕ). received_after (own_of is.companion) (sleep_entries clocked.slept ++ history)
+        clocked.reading x) same
+        ∙ sym (value (sleep_entries clocked.slept ++ history) k.stands)))
+        (peers_read _ _ s.runs.peers r (by result));
+    knows = knows_clock clocked history why.Take refl (λ older. refl) k;
+  }
     where
       by : (x : Result Ticket RelayFault) → named (received peer x) ≡ []
       by (Err fault) = refl
       by (Ok ticket) = refl
 
-  pub answers : {peer : ℕ} {ticket : Ticket} → Runs run start now (stood live (Received peer ticket)) history
-      → HasRead now mid live later was is why.Give clocked
-      → Knows run is (sleep_entries clocked.slept ++ history) → (spent : Ticket) → ticket ≡ spent
-      → (result : Result (List ℕ) RelayFault)
+  pub answers : {peer : ℕ} {ticket spent : Ticket}
+      → Stands run start now was (stood live (Received peer ticket)) history
+      → HasRead now mid live later was is why.Give clocked → ticket ≡ spent → (result : Result (List ℕ) RelayFault)
       → ((history : History) → StandsFor is.companion history
       → result ≡ datagram_of (answered_after (own_of is.companion) history clocked.reading spent))
-      → Runs run start mid (stood later (answering peer result)) (clock_entries why.Give clocked ++ history)
-  answers {peer} {ticket} s r k spent same result value =
-      runs_read s why.Give refl clocked mid r (stood later (answering peer result))
-      (ap (λ (x : Result (List ℕ) RelayFault). stood later (answering peer x))
-      (ap (λ (own : Local). datagram_of (answered_after own (sleep_entries clocked.slept ++ history) clocked.reading
-      ticket)) (sym k.own)
-      ∙ ap (λ (x : Ticket). datagram_of (answered_after (own_of is.companion) (sleep_entries clocked.slept ++ history)
-      clocked.reading x)) same
-      ∙ sym (value (sleep_entries clocked.slept ++ history) k.stands)))
-      (peers_read _ _ s.peers r (by result))
+      → Stands run start mid is (stood later (answering peer result)) (clock_entries why.Give clocked ++ history)
+  answers {peer} {ticket} s r same result value = let k = r.known run history s.knows in record {
+    runs = runs_read s.runs why.Give refl clocked mid r (stood later (answering peer result))
+        (ap (λ (x : Result (List ℕ) RelayFault). stood later (answering peer x))
+        (ap (λ (own : Local). datagram_of (answered_after own (sleep_entries clocked.slept ++ history)
+        clocked.reading ticket)) (sym k.own)
+        ∙ ap (λ (x : Ticket). datagram_of (answered_after (own_of is.companion) (sleep_entries clocked.slept
+        ++ history) clocked.reading x)) same
+        ∙ sym (value (sleep_entries clocked.slept ++ history) k.stands)))
+        (peers_read _ _ s.runs.peers r (by result));
+    knows = knows_clock clocked history why.Give refl (λ older. refl) k;
+  }
     where
       by : (x : Result (List ℕ) RelayFault) → named (answering peer x) ≡ []
       by (Err fault) = refl
@@ -143,20 +145,21 @@ requested {run} {start} {now} {next} {later} {history = history} live reading pe
 
 -- an answer was sent, or the outside failed
 pub answer_sent : {run : RelayRun} {start now : Shown} {relay : Relay} {history : History} (live : Live) (next : Shown)
-    (peer : ℕ) (bytes : List ℕ) → Runs run start now (stood live (Answers peer bytes)) history
-    → Knows run relay history → request_in bytes ≡ None → (result : Result (Unit {0}) Driven)
+    (peer : ℕ) (bytes : List ℕ) → Stands run start now relay (stood live (Answers peer bytes)) history
+    → request_in bytes ≡ None → (result : Result (Unit {0}) Driven)
     → MatchResult result (λ _. Adds now next (Sent peer bytes ∷ [])) (Failed now next)
     → Arrives run start next relay live Served result
-answer_sent {run} {history = history} live next peer bytes s k none (Ok done) a = record {
+answer_sent {run} {history = history} live next peer bytes s none (Ok done) a = record {
   history = Sent peer bytes ∷ history;
   stands = record {
-    runs = runs_on s (SendDatagram peer bytes) refl (Sent peer bytes) refl next a.told (same_faults a.same)
-        (peers_quiet s.peers (same_peers a.same) (λ q. refl) (still s.peers (same_peers a.same)) refl refl refl);
-    knows = knows_plain k (Sent peer bytes) refl refl
+    runs = runs_on s.runs (SendDatagram peer bytes) refl (Sent peer bytes) refl next a.told (same_faults a.same)
+        (peers_quiet s.runs.peers (same_peers a.same) (λ q. refl) (still s.runs.peers (same_peers a.same)) refl refl
+        refl);
+    knows = knows_plain s.knows (Sent peer bytes) refl refl
         (ap (λ (o : Option Message). option_map (λ message. message.originate) o) none) refl refl refl refl;
   };
 }
-answer_sent live next peer bytes s k none (Err ended) a = stops_by_fault s (lawful k) next ended a
+answer_sent live next peer bytes s none (Err ended) a = stops_by_fault s.runs (lawful s.knows) next ended a
 
 -- ---- datagrams that come
 pub after_call : (old new : Counts) → new ≡ record old { faults = new.faults } → old.peers ≤ new.peers

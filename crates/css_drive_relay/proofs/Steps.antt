@@ -8,7 +8,7 @@ use Rattle.css_outside.specs.declared.calls.Clocked.{Clocked}
 use Rattle.css_companion.specs.Meanings.{kind_of, cii_text, ts_text, opens_ts, closes_ts}
 use Rattle.css_companion.proofs.Telling as telling
 use Rattle.css_relay.specs.Relays.{Relay}
-use Rattle.css_drive.specs.CompanionStanding.{Shown, Failed, asked_after}
+use Rattle.css_drive.specs.CompanionStanding.{Shown, Failed, IsFault, asked_after}
 use Rattle.css_drive.specs.Ends.{MayEnd, IsNetFault, CountsNetFault}
 use Rattle.css_drive.specs.Proper.{Due, Now, MayAdd, More}
 use Rattle.css_drive.specs.declared.driven.Driven.{Driven}
@@ -17,6 +17,7 @@ use Rattle.css_drive.proofs.CompanionSteps.{told_more, counts_same, fault_ends}
 use Rattle.css_drive_relay.specs.Places.{Facts, Place, Progress, after, progress_of}
 use Rattle.css_drive_relay.specs.Due.{due, due_at, due_for}
 use Rattle.css_drive_relay.specs.Standing.{Knows, KnowsPeers, IsNumbered, Runs, Stops, HasRead, facts_in, stood}
+use Rattle.css_drive_relay.specs.Standing.{Stands, IsAt, Comes}
 use Rattle.css_drive_relay.specs.declared.live.Live.{Live}
 use Rattle.css_drive_relay.specs.declared.config.RelayRun.{RelayRun}
 
@@ -47,6 +48,18 @@ pub knows_clock : {run : RelayRun} {relay : Relay} (clocked : Clocked) (history 
     → Knows run relay (sleep_entries clocked.slept ++ history) → Knows run relay (clock_entries w clocked ++ history)
 knows_clock clocked history w asks lands k =
     knows_plain k (Clock w clocked.reading) refl asks refl (lands _) refl refl refl
+
+-- ---- steps, one after another
+-- a step begins where the one before it came to, at a place or where this is due
+module _ {run : RelayRun} {start now : Shown} {relay : Relay} {live : Live} {Next : Type 0} where
+  pub on_at : {place : Place} → IsAt run start now relay live place
+      → ((history : History) → Stands run start now relay (stood live place) history → Next) → Next
+  on_at x next = next x.history x.stands
+
+  pub on_from : {to : Facts → History → Due} → Comes run start now relay live to
+      → ((history : History) (place : Place) → Stands run start now relay (stood live place) history
+      → due_at run (facts_in live) history place ≡ to (facts_in live) history → Next) → Next
+  on_from x next = next x.history x.place x.stands x.next
 
 -- ---- a call that is due
 pub due_now : {run : RelayRun} {start now : Shown} {p : Progress} {history : History}
@@ -130,7 +143,12 @@ runs_read {run} {start} {now} {live} {later} {place} {history} s w is-due clocke
     (record { facts = f; place = place })) (sym r.only) ∙ goes) peers
 
 -- ---- ends
--- a call failed
+-- a call of the outside failed
+pub failed : {old new : Shown} {ended : Driven} → new.told ≡ old.told
+    → CountsNetFault old.counts.faults new.counts.faults ended → IsFault ended → Failed old new ended
+failed told counted fault = record { told = told; counted = counted; fault = fault }
+
+-- so the run ends
 pub stops_by_fault : {run : RelayRun} {start now : Shown} {p : Progress} {history : History}
     → Runs run start now p history → IsLawful history → (next : Shown) (ended : Driven) → Failed now next ended
     → Stops run start next ended

@@ -24,6 +24,17 @@ pub(crate) fn end_of(fault: OutFault) -> Driven
     }
 }
 
+/// What was made, whose only error is want of memory: that ends the run.
+pub(crate) fn or_memory<T, E: Drop>(made: Result<T, E>) -> Result<T, Driven>
+    ensures ok { IfOk result (λ value. made ≡ Ok value) }
+    ensures err { IfErr result (λ ended. ended ≡ Driven.Memory) }
+{
+    match made {
+        Ok(value) => Ok(value),
+        Err(_) => Err(Driven::Memory),
+    }
+}
+
 /// Tries a dial. One that fails ends nothing.
 pub(crate) fn try_dial<O: Outside>(
     outside: &mut O,

@@ -10,7 +10,7 @@ ghost use Rattle.css_drive_relay.specs.Places.{Place, Taken, Received, Served};
 ghost use Rattle.css_drive_relay.specs.Due.{due_at, from_ask, from_take};
 ghost use Rattle.css_drive_relay.specs.Standing.{facts_in, stood, Stands, Knows, Goes, Arrives, KeepsDials};
 
-use crate::calls::{end_of, read, send};
+use crate::calls::{end_of, or_memory, read, send};
 use crate::config::RelayRun;
 use crate::live::Live;
 use css_drive::Driven;
@@ -49,13 +49,9 @@ fn request<O: Outside>(
 {
     let clocked = read(outside, relay, live, Why::Ask)?;
     let bytes = relay.ask(clocked.reading);
-    match send(outside, peer, &bytes) {
-        Ok(()) => {
-            live.asked = live.turn;
-            Ok(())
-        }
-        Err(ended) => Err(ended),
-    }
+    send(outside, peer, &bytes)?;
+    live.asked = live.turn;
+    Ok(())
 }
 
 /// Asks the television's wall clock, where it was dialled and it is time.
@@ -106,10 +102,8 @@ fn land<O: Outside>(
         // No request from before the sleep is asked any more, so nothing lands.
         return Ok(());
     }
-    match relay.land(bytes, clocked.reading) {
-        Ok(_) => Ok(()),
-        Err(_) => Err(Driven::Memory),
-    }
+    or_memory(relay.land(bytes, clocked.reading))?;
+    Ok(())
 }
 
 /// Answers a request that was received, unless its answer has a fault.

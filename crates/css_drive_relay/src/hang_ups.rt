@@ -11,7 +11,7 @@ ghost use Rattle.css_drive_relay.specs.Standing.{facts_in, stood, Stands, Stops,
 
 use crate::calls::hang_up;
 use crate::config::RelayRun;
-use crate::live::Live;
+use crate::live::{Live, accepted};
 use css_drive::Driven;
 use css_num::Memory;
 use css_outside::Outside;
@@ -38,25 +38,15 @@ fn insert(peers: &mut Vec<u32>, peer: u32) -> Result<(), Memory>
     Ok(())
 }
 
-/// The accepted sessions that are open.
-fn accepted(live: &Live) -> Result<Vec<u32>, Memory>
-    ensures { IfOk result (λ peers. peers.items ≡ live.now.peers.items) }
-{
-    Ok(live.peers.clone()?)
-}
-
 /// All open sessions in order of peer, the television's among them.
 fn all_open(live: &Live) -> Result<Vec<u32>, Memory>
     ensures { IfOk result (λ peers. peers.items ≡ places.all_open (facts_in live.now)) }
 {
     let mut peers = accepted(live)?;
-    match live.television {
-        None => Ok(peers),
-        Some(television) => {
-            insert(&mut peers, television)?;
-            Ok(peers)
-        }
+    if let Some(television) = live.television {
+        insert(&mut peers, television)?;
     }
+    Ok(peers)
 }
 
 /// Hangs up these sessions.
@@ -76,10 +66,7 @@ fn hang_up_each<O: Outside>(
     ensures fault { IfErr result IsFault }
 {
     for peer in peers {
-        match hang_up(outside, *peer) {
-            Ok(()) => {}
-            Err(ended) => return Err(ended),
-        }
+        hang_up(outside, *peer)?;
     }
     Ok(())
 }
@@ -104,13 +91,11 @@ pub(crate) fn finish<O: Outside>(run: &RelayRun, live: &Live, outside: &mut O) -
     ensures dials { (O.counts outside.new).dial_faults ≡ (O.counts outside.old).dial_faults }
     ensures kind { (result ≡ final (facts_in live.now)) ⊎ IsFault result }
 {
-    let peers = match all_open(live) {
-        Ok(peers) => peers,
-        Err(Memory) => return Driven::Memory,
+    let Ok(peers) = all_open(live) else {
+        return Driven::Memory;
     };
     match hang_up_each(run, live, outside, &peers) {
-        Ok(()) => {}
-        Err(ended) => return ended,
+        Ok(()) => ending(live),
+        Err(ended) => ended,
     }
-    ending(live)
 }

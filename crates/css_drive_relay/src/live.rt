@@ -1,7 +1,8 @@
-ghost use Rattle.std.specs.Prelude.{◌≤◌, ◌<◌};
+ghost use Rattle.std.specs.Prelude.{◌≡◌, ◌≤◌, ◌<◌, IfOk};
 ghost use Rattle.std.specs.Option.{ForSome};
 
 use crate::published::Published;
+use css_num::Memory;
 
 /// What a relay's run keeps from call to call.
 pub struct Live {
@@ -43,4 +44,11 @@ impl Drop for Live {
             peers: _,
         } = self;
     }
+}
+
+/// The accepted sessions that are open.
+pub(crate) fn accepted(live: &Live) -> Result<Vec<u32>, Memory>
+    ensures { IfOk result (λ peers. peers.items ≡ live.now.peers.items) }
+{
+    Ok(live.peers.clone()?)
 }

@@ -1,5 +1,5 @@
 //! What a turn of a relay does with sessions: those that were opened, the television's text, and texts of the others.
-ghost use Rattle.std.specs.Prelude.{◌≡◌, ◌≤◌, ◌∷◌, ℕ, List, OnOk, IfOk, length, filter, not, ◌==◌, [], IfErr, Some};
+ghost use Rattle.std.specs.Prelude.{◌≡◌, ◌≤◌, ◌∷◌, ℕ, List, OnOk, [], IfErr, Some};
 ghost use Rattle.std.specs.Prelude.{None, MatchResult, true};
 ghost use Rattle.css_model.specs.History as entries;
 ghost use Rattle.css_model.specs.History.{History};
@@ -12,9 +12,9 @@ ghost use Rattle.css_drive_relay.specs.Places as places;
 ghost use Rattle.css_drive_relay.specs.Places.{Served, Asked, welcomed, telling, published};
 ghost use Rattle.css_drive_relay.specs.Standing.{facts_in, stood, Stands, Knows, Arrives, KeepsDials};
 
-use crate::calls::{end_of, hang_up, tell};
+use crate::calls::{end_of, hang_up, or_memory, tell};
 use crate::config::RelayRun;
-use crate::live::Live;
+use crate::live::{Live, accepted};
 use crate::published::Published;
 use crate::texts::{difference_text, full_text};
 use css_drive::Driven;
@@ -23,18 +23,11 @@ use css_outside::{Heard, Kind, Outside, Wrote};
 use css_relay::{CompanionEvent, CompanionFault, Relay};
 use std::alloc::Global;
 
-/// Removes a peer.
-fn remove(peers: &mut Vec<u32>, peer: u32)
-    ensures { peers.new.items ≡ filter (λ other. not (other == peer)) peers.old.items }
-{
-    peers.retain(|other| *other != peer);
-}
-
 /// An accepted session is over.
 fn forget(live: &mut Live, peer: u32)
     ensures { facts_in live.new ≡ places.lost peer (facts_in live.old) }
 {
-    remove(&mut live.peers, peer);
+    live.peers.retain(|other| *other != peer);
 }
 
 /// Whether a session is kept that was opened, where so many are.
@@ -64,29 +57,13 @@ fn greet<O: Outside>(
     ensures keeps { KeepsDials (O.counts outside.old) (O.counts outside.new) live.old live.new }
     ensures cut { IfErr result IsCut }
 {
-    let text = match full_text(alloc, live.state.state()) {
-        Ok(text) => text,
-        Err(_) => return Err(Driven::Memory),
-    };
-    match live.peers.push(peer) {
-        Ok(()) => {}
-        Err(_) => return Err(Driven::Memory),
+    let text = or_memory(full_text(alloc, live.state.state()))?;
+    or_memory(live.peers.push(peer))?;
+    match tell(outside, peer, text.bytes())? {
+        Wrote::Sent => {}
+        Wrote::Gone => forget(live, peer),
     }
-    match tell(outside, peer, text.bytes()) {
-        Err(ended) => Err(ended),
-        Ok(Wrote::Sent) => Ok(()),
-        Ok(Wrote::Gone) => {
-            forget(live, peer);
-            Ok(())
-        }
-    }
-}
-
-/// How many accepted sessions are open.
-fn count(live: &Live) -> usize
-    ensures { result ≡ length live.now.peers.items }
-{
-    live.peers.len()
+    Ok(())
 }
 
 /// Greets a session that was opened, or hangs it up.
@@ -107,7 +84,7 @@ fn admit<O: Outside>(
     ensures keeps { KeepsDials (O.counts outside.old) (O.counts outside.new) live.old live.new }
     ensures cut { IfErr result IsCut }
 {
-    if is_kept(kind, count(live)) {
+    if is_kept(kind, live.peers.len()) {
         return greet(alloc, run, live, outside, peer);
     }
     hang_up(outside, peer)
@@ -135,17 +112,6 @@ pub(crate) fn welcome<O: Outside>(
     }
 }
 
-/// The accepted sessions that are open.
-fn peers_of(live: &Live) -> Result<Vec<u32>, Driven>
-    ensures ok { IfOk result (λ peers. peers.items ≡ live.now.peers.items) }
-    ensures err { IfErr result (λ ended. ended ≡ Driven.Memory) }
-{
-    match live.peers.clone() {
-        Ok(peers) => Ok(peers),
-        Err(_) => Err(Driven::Memory),
-    }
-}
-
 /// Tells one session a text.
 fn tell_one<O: Outside>(
     run: &RelayRun,
@@ -163,14 +129,11 @@ fn tell_one<O: Outside>(
     ensures keeps { KeepsDials (O.counts outside.old) (O.counts outside.new) live.old live.new }
     ensures cut { IfErr result IsCut }
 {
-    match tell(outside, peer, text.bytes()) {
-        Err(ended) => Err(ended),
-        Ok(Wrote::Sent) => Ok(()),
-        Ok(Wrote::Gone) => {
-            forget(live, peer);
-            Ok(())
-        }
+    match tell(outside, peer, text.bytes())? {
+        Wrote::Sent => {}
+        Wrote::Gone => forget(live, peer),
     }
+    Ok(())
 }
 
 /// Tells each accepted session a text.
@@ -189,15 +152,9 @@ fn tell_all<O: Outside>(
     ensures keeps { KeepsDials (O.counts outside.old) (O.counts outside.new) live.old live.new }
     ensures cut { IfErr result IsCut }
 {
-    let left = match peers_of(live) {
-        Ok(left) => left,
-        Err(ended) => return Err(ended),
-    };
+    let left = or_memory(accepted(live))?;
     for peer in &left {
-        match tell_one(run, live, outside, *peer, text) {
-            Ok(()) => {}
-            Err(ended) => return Err(ended),
-        }
+        tell_one(run, live, outside, *peer, text)?;
     }
     Ok(())
 }
@@ -219,14 +176,8 @@ fn publish<O: Outside>(
     ensures keeps { KeepsDials (O.counts outside.old) (O.counts outside.new) live.old live.new }
     ensures cut { IfErr result IsCut }
 {
-    let state = match relay.relayed() {
-        Ok(state) => state,
-        Err(_) => return Err(Driven::Memory),
-    };
-    let change = match difference_text(alloc, live.state.state(), &state) {
-        Ok(change) => change,
-        Err(_) => return Err(Driven::Memory),
-    };
+    let state = or_memory(relay.relayed())?;
+    let change = or_memory(difference_text(alloc, live.state.state(), &state))?;
     live.state = Published::new(state);
     match change {
         None => Ok(()),
@@ -290,10 +241,10 @@ pub(crate) fn hear_television<O: Outside>(
             live.television = None;
             Ok(())
         }
-        Ok(Heard::Text(text)) => match take_in(relay, text) {
-            Ok(()) => publish(alloc, run, live, relay, outside),
-            Err(ended) => Err(ended),
-        },
+        Ok(Heard::Text(text)) => {
+            take_in(relay, text)?;
+            publish(alloc, run, live, relay, outside)
+        }
     }
 }
 
@@ -341,15 +292,9 @@ pub(crate) fn hear_all<O: Outside>(
     ensures keeps { KeepsDials (O.counts outside.old) (O.counts outside.new) live.old live.new }
     ensures cut { IfErr result IsCut }
 {
-    let left = match peers_of(live) {
-        Ok(left) => left,
-        Err(ended) => return Err(ended),
-    };
+    let left = or_memory(accepted(live))?;
     for peer in &left {
-        match hear_one(run, live, outside, *peer) {
-            Ok(()) => {}
-            Err(ended) => return Err(ended),
-        }
+        hear_one(run, live, outside, *peer)?;
     }
     Ok(())
 }

@@ -94,14 +94,8 @@ fn call<O: Outside>(
         → HasRisen (O.counts outside.old).dial_faults (O.counts outside.new).dial_faults) }
     ensures cut { IfErr result IsCut }
 {
-    match dial_cii(run, live, outside) {
-        Ok(()) => {}
-        Err(ended) => return Err(ended),
-    }
-    match dial_wc(alloc, run, live, relay, outside) {
-        Ok(()) => {}
-        Err(ended) => return Err(ended),
-    }
+    dial_cii(run, live, outside)?;
+    dial_wc(alloc, run, live, relay, outside)?;
     ask(run, live, relay, outside)
 }
 
@@ -123,18 +117,9 @@ fn attend<O: Outside>(
     ensures keeps { KeepsDials (O.counts outside.old) (O.counts outside.new) live.old live.new }
     ensures cut { IfErr result IsCut }
 {
-    match serve(run, live, relay, outside) {
-        Ok(()) => {}
-        Err(ended) => return Err(ended),
-    }
-    match welcome(alloc, run, live, outside) {
-        Ok(()) => {}
-        Err(ended) => return Err(ended),
-    }
-    match hear_television(alloc, run, live, relay, outside) {
-        Ok(()) => {}
-        Err(ended) => return Err(ended),
-    }
+    serve(run, live, relay, outside)?;
+    welcome(alloc, run, live, outside)?;
+    hear_television(alloc, run, live, relay, outside)?;
     hear_all(run, live, outside)
 }
 
@@ -161,17 +146,11 @@ fn turn<O: Outside>(
         → OnOk result (HasTried before (O.counts outside.new) live.new) }
     ensures cut { IfErr result IsCut }
 {
-    match begin(run, live, relay, outside) {
-        Ok(()) => {}
-        Err(ended) => return Err(ended),
-    }
+    begin(run, live, relay, outside)?;
     if is_late(run, live) {
         return Ok(());
     }
-    match call(alloc, run, live, relay, outside) {
-        Ok(()) => {}
-        Err(ended) => return Err(ended),
-    }
+    call(alloc, run, live, relay, outside)?;
     attend(alloc, run, live, relay, outside)
 }
 
@@ -215,9 +194,8 @@ fn make_turns<O: Outside>(
         peers: Vec::new(alloc),
     };
     'turns: while goes_on(run, &live) {
-        match turn(alloc, run, &mut live, relay, outside) {
-            Ok(()) => {}
-            Err(ended) => return ended,
+        if let Err(ended) = turn(alloc, run, &mut live, relay, outside) {
+            return ended;
         }
     }
     finish(run, &live, outside)
@@ -240,9 +218,8 @@ pub fn drive_relay<O: Outside>(alloc: Global, config: RelayRun, outside: &mut O)
     ensures ran { RelayRan config (O.told outside.old) (O.told outside.new) result }
     ensures counted { CountsRelayRun (O.counts outside.old) (O.counts outside.new) result }
 {
-    let mut relay = match relay_of(alloc, &config) {
-        Err(Memory) => return Driven::Memory,
-        Ok(relay) => relay,
+    let Ok(mut relay) = relay_of(alloc, &config) else {
+        return Driven::Memory;
     };
     match outside.listen(&config.host, config.port) {
         Ok(()) => make_turns(alloc, &config, &mut relay, outside),

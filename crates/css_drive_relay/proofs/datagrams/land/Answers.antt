@@ -1,8 +1,9 @@
-use Rattle.std.proofs.Common.{refl, sym, ◌∙◌, subst, ℕ, List, ◌∷◌, ◌++◌}
+use Rattle.std.proofs.Common.{sym, ◌∙◌, subst, ℕ, List, ◌∷◌, ◌++◌}
 use Rattle.css_model.specs.declared.Why.TheVariants as why
 use Rattle.css_model.specs.History.{Clock, Took}
 use Rattle.css_outside.specs.Outsides.{clock_entries}
 use Rattle.css_outside.specs.declared.calls.Clocked.{Clocked}
+use Rattle.css_drive.proofs.CompanionSteps.{at_err}
 use Rattle.css_drive_relay.proofs.Serves as serves
 use Rattle.css_drive_relay.proofs.Steps as steps
 use Rattle.css_companion.specs.Standing.{StandsFor}
@@ -21,8 +22,8 @@ returns-then-clocked-clause-goes g c start h peer taken s k same none =
       };
     }
 
-pub returns-in-Ok-clause-goes : goal.returns-in-Ok-clause-goes
-returns-in-Ok-clause-goes g c start h peer taken s k same none =
+pub returns-clause-goes : goal.returns-clause-goes
+returns-clause-goes g c start h peer taken s k same none =
     let read = c.in_ok-clocked.ensures.told in
     let clocked : Clocked = c.in_ok-clocked.clocked in
     record {
@@ -32,17 +33,19 @@ returns-in-Ok-clause-goes g c start h peer taken s k same none =
         knows = serves.awake_landing clocked peer taken h c.if-clocked.false (read.known c.args.run.now h k)
             (λ k1. record {
               stands = subst (λ (x : List ℕ). StandsFor c.land.new.self.companion (Clock why.Land clocked.reading
-                  ∷ Took peer x ∷ h)) (sym same) (c.in-Ok.ensures.stands h peer k1.stands);
-              own = c.in-Ok.ensures.own ∙ k1.own;
-              wc_url = c.in-Ok.ensures.wc_url ∙ k1.wc_url;
+                  ∷ Took peer x ∷ h)) (sym same)
+                  (rw c.in_ok-or_memory.ensures.ok at c.land.ensures.stands h peer k1.stands);
+              own = c.land.ensures.own ∙ k1.own;
+              wc_url = c.land.ensures.wc_url ∙ k1.wc_url;
             });
       };
     }
 
-pub returns-in-Err-clause-goes : goal.returns-in-Err-clause-goes
-returns-in-Err-clause-goes g c start h peer taken s k same none =
+pub returns-in_err-or_memory-clause-goes : goal.returns-in_err-or_memory-clause-goes
+returns-in_err-or_memory-clause-goes g c start h peer taken s k same none =
     let read = c.in_ok-clocked.ensures.told in
     let clocked : Clocked = c.in_ok-clocked.clocked in
-    steps.stops_by_memory (serves.lands {clocked = clocked} s.runs none read)
+    at_err _ _ _ _ c.from_residual-in_err-or_memory.ensures.1
+    (steps.stops_by_memory (serves.lands {clocked = clocked} s.runs none read)
     (serves.lawful_landing clocked (Took peer taken ∷ h) (read.known c.args.run.now (Took peer taken ∷ h)
-    s.knows)) _ refl
+    s.knows)) _ c.in_err-or_memory.ensures.err)

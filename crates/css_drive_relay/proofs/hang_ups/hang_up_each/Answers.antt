@@ -1,4 +1,5 @@
 use Rattle.std.proofs.Common.{◌≡◌, refl, ◌∙◌, subst, inl, arith, ℕ, List, ◌∷◌, []}
+use Rattle.css_drive.proofs.CompanionSteps.{at_err}
 use Rattle.css_drive_relay.proofs.Ends as ends
 use Rattle.css_drive_relay.proofs.Steps as steps
 use Rattle.std.specs.Prelude.{drop, get_or, ◌+◌}
@@ -25,14 +26,10 @@ loop-peer-preserved g c =
     (peer_from c.deref-peer-items.result.now i c.loop-peer-test.true) in
     record {
       goes = λ start relay h s enough.
-          ends.hung _ (c.loop-peer.invariant.goes start relay h s enough) enough peer (i + 1) e c.in-Ok.ensures.told;
+          ends.hung _ (c.loop-peer.invariant.goes start relay h s enough) enough peer (i + 1) e
+          c.in_ok-hang_up.ensures.told;
       dials = c.hang_up.ensures.dials ∙ c.loop-peer.invariant.dials;
     }
-
-pub returns-in-Err-clause-ends : goal.returns-in-Err-clause-ends
-returns-in-Err-clause-ends g c start relay h s enough =
-    let x = c.loop-peer.invariant.goes start relay h s enough in
-    steps.stops_by_fault x.stands.runs (steps.lawful x.stands.knows) _ _ c.in-Err.ensures.told
 
 pub returns-clause-ends : goal.returns-clause-ends
 returns-clause-ends g c start relay h s enough =
@@ -41,3 +38,9 @@ returns-clause-ends g c start relay h s enough =
     ends.all_hung x enough
     (subst (λ (xs : List ℕ). drop c.loop-peer.peer-index xs ≡ []) c.requires
     (peers_all c.args.peers.now.items c.loop-peer.peer-index (omega (arith, over))))
+
+pub returns-in_err-hang_up-clause-ends : goal.returns-in_err-hang_up-clause-ends
+returns-in_err-hang_up-clause-ends g c start relay h s enough =
+    at_err _ _ _ _ c.from_residual.ensures.1
+    (let x = c.loop-peer.invariant.goes start relay h s enough in
+    steps.stops_by_fault x.stands.runs (steps.lawful x.stands.knows) _ _ c.in_err-hang_up.ensures.told)

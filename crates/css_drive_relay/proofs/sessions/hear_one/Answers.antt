@@ -5,11 +5,8 @@ use Rattle.css_drive_relay.proofs.sessions.hear_one.Goals as goal
 
 pub returns-in-Err-clause-goes : goal.returns-in-Err-clause-goes
 returns-in-Err-clause-goes g c start relay h left s =
-    steps.stops_by_fault s.runs (steps.lawful s.knows) _ _ (record {
-      told = c.in-Err.ensures.told;
-      counted = c.end_of.ensures.counted _ _ c.in-Err.ensures.counted.faults;
-      fault = c.end_of.ensures.fault;
-    })
+    steps.stops_by_fault s.runs (steps.lawful s.knows) _ _ (steps.failed c.in-Err.ensures.told
+    (c.end_of.ensures.counted _ _ c.in-Err.ensures.counted.faults) c.end_of.ensures.fault)
 
 pub returns-in-Ok-Quiet-clause-goes : goal.returns-in-Ok-Quiet-clause-goes
 returns-in-Ok-Quiet-clause-goes g c start relay h left s =

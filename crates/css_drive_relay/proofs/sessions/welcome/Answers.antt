@@ -7,11 +7,8 @@ use Rattle.css_drive_relay.proofs.sessions.welcome.Goals as goal
 
 pub returns-in-Err-clause-goes : goal.returns-in-Err-clause-goes
 returns-in-Err-clause-goes g c start relay h s =
-    steps.stops_by_fault s.runs (steps.lawful s.knows) _ _ (record {
-      told = c.in-Err.ensures.told;
-      counted = c.end_of.ensures.counted _ _ c.in-Err.ensures.counted.faults;
-      fault = c.end_of.ensures.fault;
-    })
+    steps.stops_by_fault s.runs (steps.lawful s.knows) _ _ (steps.failed c.in-Err.ensures.told
+    (c.end_of.ensures.counted _ _ c.in-Err.ensures.counted.faults) c.end_of.ensures.fault)
 
 pub returns-in-Ok-None-clause-goes : goal.returns-in-Ok-None-clause-goes
 returns-in-Ok-None-clause-goes g c start relay h s =

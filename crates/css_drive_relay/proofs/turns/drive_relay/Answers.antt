@@ -4,8 +4,8 @@ use Rattle.css_drive_relay.proofs.Steps as steps
 use Rattle.css_drive.specs.CompanionStanding.{shown}
 use Rattle.css_drive_relay.proofs.turns.drive_relay.Goals as goal
 
-pub returns-in-Err-clause-ran : goal.returns-in-Err-clause-ran
-returns-in-Err-clause-ran g c = ends.ran_none c.args.config _
+pub returns-in_default-clause-ran : goal.returns-in_default-clause-ran
+returns-in_default-clause-ran g c = ends.ran_none c.args.config _
 
 pub returns-clause-ran : goal.returns-clause-ran
 returns-clause-ran g c =
@@ -13,11 +13,8 @@ returns-clause-ran g c =
     (shown (g.O.Outside.told c.args.outside.now) (g.O.Outside.counts c.args.outside.now)))
     (steps.lawful c.in-Ok.ensures.known) (shown (g.O.Outside.told c.listen.new.self) (g.O.Outside.counts
     c.listen.new.self))
-    c.end_of.result (record {
-      told = c.in-Err-listen.ensures.told;
-      counted = c.end_of.ensures.counted _ _ c.in-Err-listen.ensures.counted.faults;
-      fault = c.end_of.ensures.fault;
-    }))
+    c.end_of.result (steps.failed c.in-Err.ensures.told
+    (c.end_of.ensures.counted _ _ c.in-Err.ensures.counted.faults) c.end_of.ensures.fault))
 
 pub returns-in-Ok-listen-clause-ran : goal.returns-in-Ok-listen-clause-ran
 returns-in-Ok-listen-clause-ran g c =
@@ -27,9 +24,9 @@ returns-in-Ok-listen-clause-ran g c =
 
 pub returns-clause-counted : goal.returns-clause-counted
 returns-clause-counted g c = record {
-  faults = c.end_of.ensures.counted _ _ c.in-Err-listen.ensures.counted.faults;
+  faults = c.end_of.ensures.counted _ _ c.in-Err.ensures.counted.faults;
   dials = ends.dials_from (g.O.Outside.counts c.args.outside.now) (g.O.Outside.counts c.listen.new.self) _ _
-      c.in-Err-listen.ensures.counted.same (ends.cut_counts _ _ (omega arith) _ c.end_of.ensures.cut);
+      c.in-Err.ensures.counted.same (ends.cut_counts _ _ (omega arith) _ c.end_of.ensures.cut);
   no_writes = ends.cut_writes _ c.end_of.ensures.cut;
 }
 

@@ -20,23 +20,15 @@ turns-preserved g c =
     record {
       goes = λ start h s.
           let x = i.goes start h s in
-          c.in-Ok.ensures.goes start x.history x.stands (sym c.goes_on.ensures ∙ c.turns-test.true);
-      floor = c.in-Ok.ensures.floor;
+          c.in_default.ensures.goes start x.history x.stands (sym c.goes_on.ensures ∙ c.turns-test.true);
+      floor = c.in_default.ensures.floor;
       dials = omega (arith, c.turn.ensures.dials, i.dials);
-      tried = c.in-Ok.ensures.tried (g.O.Outside.counts c.args.outside.now) i.dials i.tried;
+      tried = c.in_default.ensures.tried (g.O.Outside.counts c.args.outside.now) i.dials i.tried;
     }
-
-pub turn-requires-clause-floor : goal.turn-requires-clause-floor
-turn-requires-clause-floor g c = c.turns.invariant.floor
 
 pub turn-requires-clause-few : goal.turn-requires-clause-few
 turn-requires-clause-few g c =
     ends.few_turns c.args.run.now (facts_in c.turns.live) (sym c.goes_on.ensures ∙ c.turns-test.true)
-
-pub returns-in-Err-clause-ends : goal.returns-in-Err-clause-ends
-returns-in-Err-clause-ends g c start h s =
-    let x = c.turns.invariant.goes start h s in
-    c.in-Err.ensures.goes start x.history x.stands (sym c.goes_on.ensures ∙ c.turns-test.true)
 
 pub returns-in-Err-clause-dials : goal.returns-in-Err-clause-dials
 returns-in-Err-clause-dials g c =
