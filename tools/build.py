@@ -213,7 +213,7 @@ def build(program):
     begun = time.time()
     with tempfile.TemporaryDirectory(prefix="css-room-") as room:
         made, linked = Path(room) / "made.o", Path(room) / "linked"
-        # the kit's own compiler is quicker than LLVM, and css_first is for one day
+        # the kit's own compiler is done sooner than LLVM, and css_first is wanted soon
         backend = "llvm" if program.name == "css" else "rattle"
         prover = Prover(room, program.name, ["src/main.rt", "--backend", backend], made)
         why = "the sources have changed since the last build" if program.is_file() else "this is the first build"
