@@ -10,14 +10,15 @@ use Rattle.css_model.specs.declared.Why.{Why}
 use Rattle.css_model.specs.declared.Why.TheVariants as why
 use Rattle.css_model.specs.Wire.{encoded, request_at}
 use Rattle.css_companion.specs.Aside.{IsAside}
-use Rattle.css_model.specs.History.{Address, Entry, Slept, Clock, Dialling, Dialled, NotDialled, Took}
+use Rattle.css_model.specs.History.{Address, Entry, Clock, Dialling, Dialled, NotDialled, Took}
 use Rattle.css_model.specs.History.{Heard, Gone, History, is_sleep, asking_at, request_by, landed_answer}
 use Rattle.css_model.specs.History.{sleeps, Each}
 use Rattle.css_address.specs.declared.fault.AddressFault.{AddressFault}
 use Rattle.css_cii.specs.declared.name.CiiName.{CiiName}
 use Rattle.css_cii.specs.declared.name.CiiName.TheVariants.{WcUrl, TsUrl}
 use Rattle.css_cii.specs.declared.state.State.{State}
-use Rattle.css_outside.specs.Outsides.{Counts, clock_entries, sleep_entries, heard_entries, wrote_entries}
+use Rattle.css_outside.specs.Outsides.{Counts, with_entries, clock_entries, sleep_entries}
+use Rattle.css_outside.specs.Outsides.{heard_entries, wrote_entries}
 use Rattle.css_outside.specs.declared.calls.Heard.{Heard as Answer}
 use Rattle.css_outside.specs.declared.calls.Heard.TheVariants as answer
 use Rattle.css_outside.specs.declared.fault.OutFault.{OutFault}
@@ -36,89 +37,152 @@ use Rattle.css_drive.specs.CompanionDue.{due, dial_to, dial_first, take_text, se
 use Rattle.css_drive.specs.CompanionDue.{from_ts, from_ask, from_take, from_cii_text, from_ts_text, from_end}
 use Rattle.css_drive.specs.CompanionDue.{unless_refused, refusal_of, end_by}
 use Rattle.css_drive.specs.CompanionStanding.{Shown, Facts, facts_of, facts_in, KnowsPeers, Stands, Knows, GivesPlace}
-use Rattle.css_drive.specs.CompanionStanding.{asked_after, IsRefusal, HasRead, Keeps, Stops, dial_entries, IsFault}
-use Rattle.css_drive.specs.CompanionStanding.{IsEndBy, Fails, Adds, HasLost, Goes}
-use Rattle.css_drive.specs.CompanionTurns.{dialled, is_peer, unless, is_asking}
+use Rattle.css_drive.specs.CompanionStanding.{asked_after, IsRefusal, HasRead, Comes, Stops, dial_entries, IsFault}
+use Rattle.css_drive.specs.CompanionStanding.{IsEndBy, IsEarly, Fails, Adds, HasDialled, HasLost, Goes}
+use Rattle.css_drive.specs.CompanionTurns.{dialled, opened, is_peer, unless, is_asking}
 use Rattle.css_drive.specs.Ends.{MayEnd, CountsNetFault}
 use Rattle.css_drive.specs.Notes as notes
 use Rattle.css_drive.specs.Notes.{Note, noted, session_at, session_with, with_event, slept_notes, landing_notes}
-use Rattle.css_drive.specs.Notes.{heard_notes, wrote_notes, standpoint}
+use Rattle.css_drive.specs.Notes.{dial_notes, heard_notes, wrote_notes, standpoint}
 use Rattle.css_drive.specs.declared.session.Session.{Session}
 use Rattle.css_drive.specs.declared.session.Session.TheVariants as session
-use Rattle.css_drive.specs.Proper.{Due, MayAdd, Now, TakeDatagram, TakeText, SendText, Ends}
+use Rattle.css_drive.specs.Proper.{Due, Now, Dial, TakeDatagram, TakeText, SendText, Ends}
 use Rattle.css_drive.specs.declared.companion_live.Live.{Live}
 use Rattle.css_drive.specs.declared.config.DriveConfig.{DriveConfig}
 use Rattle.css_drive.specs.declared.driven.Driven.{Driven}
 use Rattle.css_drive.specs.declared.driven.Driven.TheVariants as driven
-use Rattle.css_drive.proofs.CompanionSteps.{opened_dialled, peers_as, knows_aside, stands_saw, stops_here, ends_by}
-use Rattle.css_drive.proofs.CompanionSteps.{IsOwn, at_err, comes, stops_by_memory, knows_lawful}
+use Rattle.css_drive.proofs.CompanionSteps.{opened_dialled, peers_later, knows_aside, stands_saw, stands_adds}
+use Rattle.css_drive.proofs.CompanionSteps.{stands_tried, stops_here, ends_by, IsOwn, at_err, comes, stops_by_memory}
+use Rattle.css_drive.proofs.CompanionSteps.{knows_lawful}
 
-module _ (config : DriveConfig) (before now : Shown) (saw : List Note → Type 0) (live : Live)
-    (history : History) (s : Stands config before now saw live history) where
+-- ---- the addresses that are told
+abbrev pub wc_place : State → Option (Result Address AddressFault)
+wc_place state = place kind.Wc state.wc_url
+
+abbrev pub ts_place : State → Option (Result Address AddressFault)
+ts_place state = place kind.Ts state.ts_url
+
+-- ---- entries that tell a companion nothing
+pub lawful_plain : (entry : Entry) (history : History) → IsLawful history → asking_at entry ≡ None
+    → request_by entry ≡ None → IsLawful (entry ∷ history)
+lawful_plain entry history l asks sends =
+    record {
+      rises = (
+        subst (λ (o : Option ℕ). IfSome o (λ reading. Each (λ earlier older. IfSome (asking_at earlier) (λ
+            asked. sleeps older < sleeps history → asked < reading)) history)) (sym asks) tt,
+        l.rises,
+      );
+      asks = (
+        subst (λ (o : Option Stamp). IfSome o (λ originate. IsJustAsked originate history)) (sym sends) tt,
+        l.asks,
+      );
+    }
+
+-- an entry that tells a companion nothing
+pub knows_plain : {config : DriveConfig} {companion : Companion} (entry : Entry) {history : History}
+    → Knows config companion history → is_sleep entry ≡ false → asking_at entry ≡ None
+    → request_by entry ≡ None → landed_answer entry history ≡ None → cii_text entry history ≡ None
+    → ts_text entry history ≡ None → (opens_ts entry || closes_ts entry history) ≡ false
+    → Knows config companion (entry ∷ history)
+knows_plain entry k awake asks sends lands cii ts end =
+    knows_aside _ _ entry _ k (record {
+      client = record {
+        awake = awake;
+        asks_none = asks;
+        sends_none = sends;
+        lands_none = lands;
+      };
+      no_cii = cii;
+      no_ts = ts;
+      no_edge = end;
+    })
+
+-- nor does a dial that fails or begins, or a session that isn't one of CSS-TS
+pub knows_dialling : {config : DriveConfig} {companion : Companion} (k : Kind) (to : Address) {history : History}
+    → Knows config companion history → Knows config companion (Dialling k to ∷ history)
+knows_dialling k to knows = knows_plain (Dialling k to) knows refl refl refl refl refl refl refl
+
+pub knows_tried : {config : DriveConfig} {companion : Companion} (k : Kind) (to : Address) (tried : Option ℕ)
+    {history : History} → IfSome tried (λ p. opens_ts (Dialled k p) ≡ false) → Knows config companion history
+    → Knows config companion (dial_entries k to tried ++ history)
+knows_tried k to None other knows =
+    knows_plain (NotDialled k) (knows_dialling k to knows) refl refl refl refl refl refl refl
+knows_tried k to (Some p) other knows =
+    knows_plain (Dialled k p) (knows_dialling k to knows) refl refl refl refl refl refl (or_from _ _ other refl)
+
+-- ---- what is due
+module _ {config : DriveConfig} {before now : Shown} {saw : List Note → Type 0} {live : Live} {history : History}
+    (s : Stands config before now saw live history) where
   -- ---- dials
-  pub cii_due : due config history ≡ from_cii config history → (o : Option ℕ) → live.cii ≡ o
-      → due config history ≡ dial_first o config.cii (from_wc config history)
-  cii_due d o e = d ∙ ap (λ x. dial_first x config.cii (from_wc config history)) (ap {A = Facts} (λ x. x.cii) s.facts
-      ∙ e)
+  pub cii_due : due config history ≡ from_cii config history → live.cii ≡ None
+      → due config history ≡ Dial kind.Cii config.cii
+  cii_due d none = d ∙ ap (λ x. dial_first x config.cii (from_wc config history))
+      (ap {A = Facts} (λ x. x.cii) s.facts ∙ none)
 
-  pub wc_due : due config history ≡ from_wc config history → (o : Option ℕ) → live.wc ≡ o
-      → (p : Option (Result Address AddressFault)) → place kind.Wc (state_of history).wc_url ≡ p
-      → due config history ≡ dial_to o kind.Wc WcUrl p (from_ts config history)
-  wc_due d o e p at =
-      d ∙ ap (λ x. dial_to x kind.Wc WcUrl (place kind.Wc (state_of history).wc_url) (from_ts config history))
-      (ap {A = Facts} (λ x. x.wc) s.facts ∙ e)
-      ∙ ap (λ x. dial_to o kind.Wc WcUrl x (from_ts config history)) at
+  pub wc_due : due config history ≡ from_wc config history → live.wc ≡ None
+      → {p : Option (Result Address AddressFault)} → wc_place (state_of history) ≡ p
+      → due config history ≡ dial_to None kind.Wc WcUrl p (from_ts config history)
+  wc_due d none at =
+      d ∙ ap (λ x. dial_to x kind.Wc WcUrl (wc_place (state_of history)) (from_ts config history))
+      (ap {A = Facts} (λ x. x.wc) s.facts ∙ none)
+      ∙ ap (λ x. dial_to None kind.Wc WcUrl x (from_ts config history)) at
 
-  pub ts_due : due config history ≡ from_ts config history → (o : Option ℕ) → live.ts ≡ o
-      → (p : Option (Result Address AddressFault)) → place kind.Ts (state_of history).ts_url ≡ p
-      → due config history ≡ dial_to o kind.Ts TsUrl p (from_ask config history)
-  ts_due d o e p at =
-      d ∙ ap (λ x. dial_to x kind.Ts TsUrl (place kind.Ts (state_of history).ts_url) (from_ask config history))
-      (ap {A = Facts} (λ x. x.ts) s.facts ∙ e)
-      ∙ ap (λ x. dial_to o kind.Ts TsUrl x (from_ask config history)) at
+  pub ts_due : due config history ≡ from_ts config history → live.ts ≡ None
+      → {p : Option (Result Address AddressFault)} → ts_place (state_of history) ≡ p
+      → due config history ≡ dial_to None kind.Ts TsUrl p (from_ask config history)
+  ts_due d none at =
+      d ∙ ap (λ x. dial_to x kind.Ts TsUrl (ts_place (state_of history)) (from_ask config history))
+      (ap {A = Facts} (λ x. x.ts) s.facts ∙ none)
+      ∙ ap (λ x. dial_to None kind.Ts TsUrl x (from_ask config history)) at
 
   -- ---- requests and datagrams
-  pub ask_due : due config history ≡ from_ask config history → (o : Option ℕ) → live.wc ≡ o → (b : Bool)
-      → is_asking config.ask_every live.turn live.asked ≡ b
-      → due config history ≡ cond (is_some o && b) (Now why.Ask) (from_take config history)
-  ask_due d o e b is =
+  pub ask_due : due config history ≡ from_ask config history → {p : ℕ} → live.wc ≡ Some p
+      → is_asking config.ask_every live.turn live.asked ≡ true → due config history ≡ Now why.Ask
+  ask_due d e is =
       d ∙ ap {A = Facts} (λ x. cond (is_some x.wc && is_asking config.ask_every x.turn x.asked) (Now why.Ask)
       (from_take config history)) s.facts
       ∙ ap (λ x. cond (is_some x && is_asking config.ask_every live.turn live.asked) (Now why.Ask) (from_take config
       history)) e
-      ∙ ap (λ x. cond (is_some o && x) (Now why.Ask) (from_take config history)) is
+      ∙ ap (λ x. cond x (Now why.Ask) (from_take config history)) is
 
-  pub take_due : due config history ≡ from_take config history → (o : Option ℕ) → live.wc ≡ o
-      → due config history ≡ cond (is_some o) TakeDatagram (from_cii_text config history)
-  take_due d o e =
-      d ∙ ap {A = Facts} (λ x. cond (is_some x.wc) TakeDatagram (from_cii_text config history)) s.facts
-      ∙ ap (λ x. cond (is_some x) TakeDatagram (from_cii_text config history)) e
+  pub take_due : due config history ≡ from_take config history → {p : ℕ} → live.wc ≡ Some p
+      → due config history ≡ TakeDatagram
+  take_due d e =
+      d ∙ ap (λ x. cond (is_some x) TakeDatagram (from_cii_text config history))
+      (ap {A = Facts} (λ x. x.wc) s.facts ∙ e)
 
   -- ---- texts
-  pub cii_text_due : due config history ≡ from_cii_text config history → (o : Option ℕ) → live.cii_open ≡ o
-      → due config history ≡ take_text o (from_ts_text config history)
-  cii_text_due d o e =
+  pub cii_text_due : due config history ≡ from_cii_text config history → {p : ℕ} → live.cii_open ≡ Some p
+      → due config history ≡ TakeText p
+  cii_text_due d e =
       d ∙ ap (λ x. take_text x (from_ts_text config history)) (ap {A = Facts} (λ x. x.cii_open) s.facts ∙ e)
 
-  pub ts_text_due : due config history ≡ from_ts_text config history → (o : Option ℕ) → live.ts_open ≡ o
-      → due config history ≡ take_text o (from_end config history)
-  ts_text_due d o e =
+  pub ts_text_due : due config history ≡ from_ts_text config history → {p : ℕ} → live.ts_open ≡ Some p
+      → due config history ≡ TakeText p
+  ts_text_due d e =
       d ∙ ap (λ x. take_text x (from_end config history)) (ap {A = Facts} (λ x. x.ts_open) s.facts ∙ e)
 
   -- ---- whose session it is
-  kind_at : (o : Option ℕ) (is : Kind) (p : ℕ) → IfSome o (λ peer. kind_of peer history ≡ Some is) → o ≡ Some p
-      → kind_of p history ≡ Some is
-  kind_at o is p k e = let P : Option ℕ → Type 0 = λ x. IfSome x (λ peer. kind_of peer history ≡ Some is) in subst P e k
+  cii_last : {p : ℕ} → live.cii_open ≡ Some p → dialled kind.Cii history ≡ Some p
+  cii_last {p} e = opened_dialled kind.Cii history p (ap {A = Facts} (λ x. x.cii_open) s.facts ∙ e)
 
-  pub open_cii : (p : ℕ) → live.cii_open ≡ Some p → kind_of p history ≡ Some kind.Cii
-  open_cii p e =
-      kind_at live.cii kind.Cii p s.peers.cii_kind (sym (ap {A = Facts} (λ x. x.cii) s.facts)
-      ∙ opened_dialled kind.Cii history p (ap {A = Facts} (λ x. x.cii_open) s.facts ∙ e))
+  ts_last : {p : ℕ} → live.ts_open ≡ Some p → dialled kind.Ts history ≡ Some p
+  ts_last {p} e = opened_dialled kind.Ts history p (ap {A = Facts} (λ x. x.ts_open) s.facts ∙ e)
 
-  pub open_ts : (p : ℕ) → live.ts_open ≡ Some p → kind_of p history ≡ Some kind.Ts
-  open_ts p e =
-      kind_at live.ts kind.Ts p s.peers.ts_kind (sym (ap {A = Facts} (λ x. x.ts) s.facts)
-      ∙ opened_dialled kind.Ts history p (ap {A = Facts} (λ x. x.ts_open) s.facts ∙ e))
+  pub open_cii : {p : ℕ} → live.cii_open ≡ Some p → kind_of p history ≡ Some kind.Cii
+  open_cii {p} e = (s.peers kind.Cii p (cii_last e)).1
+
+  pub open_ts : {p : ℕ} → live.ts_open ≡ Some p → kind_of p history ≡ Some kind.Ts
+  open_ts {p} e = (s.peers kind.Ts p (ts_last e)).1
+
+pub peers_clock : {old new : Shown} {before later : Live} {was is : Companion} (w : Why) (clocked : Clocked)
+    (history : History) → HasRead old new before later was is w clocked → KnowsPeers old.counts.peers history
+    → KnowsPeers new.counts.peers (clock_entries w clocked ++ history)
+peers_clock {old = old} w clocked history r k = peers_later _ _ (clock_entries w clocked ++ history) (omega (arith, r.peers)) (by clocked.slept)
+  where
+    by : (b : Bool) → KnowsPeers old.counts.peers (clock_entries w (record clocked { slept = b }) ++ history)
+    by true = k
+    by false = k
 
 -- ---- sessions that end
 -- a session of another kind has another peer
@@ -140,46 +204,81 @@ closed p x = record x {
       x.ts_open;
 }
 
-module _ (config : DriveConfig) (before now : Shown) (saw : List Note → Type 0) (live : Live)
-    (history : History) (s : Stands config before now saw live history) where
-  over : (b d : Bool) → Facts
-  over b d = record (facts_in live) { cii_open = unless b live.cii_open; ts_open = unless d live.ts_open }
+module _ {config : DriveConfig} {before now : Shown} {saw : List Note → Type 0} {live : Live} {history : History}
+    (s : Stands config before now saw live history) where
+  shut : (b d : Bool) → Facts
+  shut b d = record (facts_in live) { cii_open = unless b live.cii_open; ts_open = unless d live.ts_open }
 
-  pub ts_over : (p : ℕ) → live.ts_open ≡ Some p → closed p (facts_of config history) ≡ record (facts_in live)
+  pub ts_over : {p : ℕ} → live.ts_open ≡ Some p → closed p (facts_of config history) ≡ record (facts_in live)
       { ts_open = None }
-  unfolding over
-  ts_over p e =
+  unfolding shut
+  ts_over {p} e =
       ap {A = Facts} (closed p) s.facts
-      ∙ ap (λ b. over b (is_peer live.ts_open p)) (other_open history live.cii_open kind.Cii kind.Ts p (open_cii
-      config before now saw live history s) (open_ts config before now saw live history s p e) (λ x. cc))
-      ∙ ap (λ d. over false d) (same_open p live.ts_open e)
+      ∙ ap (λ b. shut b (is_peer live.ts_open p))
+      (other_open history live.cii_open kind.Cii kind.Ts p (λ q x. open_cii s x) (open_ts s e) (λ x. cc))
+      ∙ ap (λ d. shut false d) (same_open p live.ts_open e)
 
-  pub cii_over : (p : ℕ) → live.cii_open ≡ Some p → closed p (facts_of config history) ≡ record (facts_in live)
+  pub cii_over : {p : ℕ} → live.cii_open ≡ Some p → closed p (facts_of config history) ≡ record (facts_in live)
       { cii_open = None }
-  unfolding over
-  cii_over p e =
+  unfolding shut
+  cii_over {p} e =
       ap {A = Facts} (closed p) s.facts
-      ∙ ap (λ b. over b (is_peer live.ts_open p)) (same_open p live.cii_open e)
-      ∙ ap (λ d. over true d) (other_open history live.ts_open kind.Ts kind.Cii p (open_ts config before now saw live
-      history s) (open_cii config before now saw live history s p e) (λ x. cc))
+      ∙ ap (λ b. shut b (is_peer live.ts_open p)) (same_open p live.cii_open e)
+      ∙ ap (λ d. shut true d)
+      (other_open history live.ts_open kind.Ts kind.Cii p (λ q x. open_ts s x) (open_cii s e) (λ x. cc))
 
   -- ---- which session it is
-  pub cii_at : (p : ℕ) → live.cii_open ≡ Some p → session_at p history ≡ Some session.Cii
-  cii_at p e =
-      ap (λ o. session_with o (dialled kind.Ts history) p)
-      (opened_dialled kind.Cii history p (ap {A = Facts} (λ x. x.cii_open) s.facts ∙ e))
+  pub cii_at : {p : ℕ} → live.cii_open ≡ Some p → session_at p history ≡ Some session.Cii
+  cii_at {p} e =
+      ap (λ o. session_with o (dialled kind.Ts history) p) (cii_last s e)
       ∙ ap (λ b. cond b (Some session.Cii) (cond (is_peer (dialled kind.Ts history) p) (Some session.Ts) None))
       (eq-eqb p p refl)
 
-  pub ts_at : (p : ℕ) → live.ts_open ≡ Some p → session_at p history ≡ Some session.Ts
-  ts_at p e =
+  pub ts_at : {p : ℕ} → live.ts_open ≡ Some p → session_at p history ≡ Some session.Ts
+  ts_at {p} e =
       ap (λ b. cond b (Some session.Cii) (cond (is_peer (dialled kind.Ts history) p) (Some session.Ts) None))
-      (other_open history (dialled kind.Cii history) kind.Cii kind.Ts p
-      (λ q x. kind_at config before now saw live history s live.cii kind.Cii q s.peers.cii_kind (sym (ap {A = Facts} (λ
-      x. x.cii) s.facts) ∙ x)) (open_ts config before now saw live history s p e) (λ x. cc))
-      ∙ ap (λ o. cond (is_peer o p) (Some session.Ts) None)
-      (opened_dialled kind.Ts history p (ap {A = Facts} (λ x. x.ts_open) s.facts ∙ e))
+      (other_open history (dialled kind.Cii history) kind.Cii kind.Ts p (λ q x. (s.peers kind.Cii q x).1)
+      (open_ts s e) (λ x. cc))
+      ∙ ap (λ o. cond (is_peer o p) (Some session.Ts) None) (ts_last s e)
       ∙ ap (λ b. cond b (Some session.Ts) None) (eq-eqb p p refl)
+
+  -- ---- dials that went so
+  none_open : (o : Option ℕ) → opened kind.Cii history ≡ o → dialled kind.Cii history ≡ None → o ≡ None
+  none_open None e none = refl
+  none_open (Some p) e none = let was = opened_dialled kind.Cii history p e in cc
+
+  pub cii_dialled : due config history ≡ from_cii config history → live.cii ≡ None → {companion : Companion}
+      → Knows config companion history → (tried : Option ℕ) → {next : Shown}
+      → HasDialled now next kind.Cii config.cii tried → {after : List Note → Type 0}
+      → after (dial_notes (standpoint config (Dialling kind.Cii config.cii ∷ history)) kind.Cii tried
+      ++ noted config history)
+      → (later : Live) → facts_in later ≡ record (facts_in live) { cii = tried; cii_open = tried }
+      → Comes config before next after later companion (from_wc config)
+  cii_dialled d none k None t notes later is =
+      let no : dialled kind.Cii history ≡ None = ap {A = Facts} (λ x. x.cii) s.facts ∙ none in
+      let shut : live.cii_open ≡ None = sym (ap {A = Facts} (λ x. x.cii_open) s.facts) ∙ none_open _ refl no in
+      comes (stands_tried s kind.Cii config.cii (cii_due s d none) None t notes later (s.facts
+      ∙ ap {A = Option ℕ} {B = Facts} (λ o. record (facts_in live) { cii = o }) none
+      ∙ ap {A = Option ℕ} {B = Facts} (λ o. record (facts_in live) { cii = None; cii_open = o }) shut ∙ sym is))
+      (knows_tried kind.Cii config.cii None tt k) _ refl
+  cii_dialled d none k (Some p) t notes later is =
+      comes (stands_tried s kind.Cii config.cii (cii_due s d none) (Some p) t notes later
+      (ap {A = Facts} (λ x. record x { cii = Some p; cii_open = Some p }) s.facts ∙ sym is))
+      (knows_tried kind.Cii config.cii (Some p) refl k) _ refl
+
+  pub wc_dialled : {to : Address} → due config history ≡ Dial kind.Wc to → live.wc ≡ None → {companion : Companion}
+      → Knows config companion history → (tried : Option ℕ) → {next : Shown}
+      → HasDialled now next kind.Wc to tried → {after : List Note → Type 0}
+      → after (dial_notes (standpoint config (Dialling kind.Wc to ∷ history)) kind.Wc tried ++ noted config history)
+      → (later : Live) → facts_in later ≡ record (facts_in live) { wc = tried }
+      → Comes config before next after later companion (from_ts config)
+  wc_dialled {to} d none k None t notes later is =
+      comes (stands_tried s kind.Wc to d None t notes later (s.facts
+      ∙ ap {A = Option ℕ} {B = Facts} (λ o. record (facts_in live) { wc = o }) none ∙ sym is))
+      (knows_tried kind.Wc to None tt k) _ refl
+  wc_dialled {to} d none k (Some p) t notes later is =
+      comes (stands_tried s kind.Wc to d (Some p) t notes later
+      (ap {A = Facts} (λ x. record x { wc = Some p }) s.facts ∙ sym is)) (knows_tried kind.Wc to (Some p) refl k) _ refl
 
   -- ---- readings
   pub read_facts : (w : Why) (clocked : Clocked) → (w ≡ why.Ask) ⊎ (w ≡ why.Land)
@@ -198,51 +297,34 @@ module _ (config : DriveConfig) (before now : Shown) (saw : List Note → Type 0
       by b _ (inl e) = absurd (cc)
       by b _ (inr e) = absurd (cc)
 
-pub peers_clock : (n : ℕ) (cii ts : Option ℕ) (w : Why) (clocked : Clocked) (history : History)
-    → KnowsPeers n cii ts history → KnowsPeers n cii ts (clock_entries w clocked ++ history)
-peers_clock n cii ts w clocked history k = by clocked.slept
-  where
-    by : (b : Bool) → KnowsPeers n cii ts (clock_entries w (record clocked { slept = b }) ++ history)
-    by true = record { cii_used = k.cii_used; ts_used = k.ts_used; cii_kind = k.cii_kind; ts_kind = k.ts_kind }
-    by false = record { cii_used = k.cii_used; ts_used = k.ts_used; cii_kind = k.cii_kind; ts_kind = k.ts_kind }
-
-pub live_peers : (n m : ℕ) (live later : Live) (history : History) → m ≡ n → later.cii ≡ live.cii
-    → later.ts ≡ live.ts → KnowsPeers n live.cii live.ts history → KnowsPeers m later.cii later.ts history
-live_peers n m live later history e cii ts k =
-    let P : ℕ → Type 0 = λ x. KnowsPeers x later.cii later.ts history in
-    let Q : Option ℕ → Type 0 = λ x. KnowsPeers n x later.ts history in
-    let R : Option ℕ → Type 0 = λ x. KnowsPeers n live.cii x history in
-    subst P (sym e) (subst Q (sym cii) (subst R (sym ts) k))
-
--- after a reading the run stands
-pub stands_read : {config : DriveConfig} {before now : Shown} {saw : List Note → Type 0} {live : Live}
-    {history : History} → (s : Stands config before now saw live history) → (w : Why)
-    → (w ≡ why.Ask) ⊎ (w ≡ why.Land) → due config history ≡ Now w
-    → (next : Shown) (later : Live) (was is : Companion) (clocked : Clocked)
-    → HasRead now next live later was is w clocked → (after : List Note → Type 0)
-    → after (noted config (clock_entries w clocked ++ history))
-    → Stands config before next after later (clock_entries w clocked ++ history)
-stands_read {config} {before} {now} {saw} {live} {history} s w is d next later was is-now clocked r after notes =
-    stands_saw s (Now w) d (clock_entries w clocked) (clocked, refl) next r.told r.faults after notes later
-    (read_facts config before now saw live history s w clocked is ∙ sym r.only)
-    (live_peers now.counts.peers next.counts.peers live later (clock_entries w clocked ++ history) r.peers (ap {A =
-    Facts} (λ x. x.cii) r.only) (ap {A = Facts} (λ x. x.ts) r.only)
-    (peers_clock now.counts.peers live.cii live.ts w clocked history s.peers))
+  -- after a reading the run stands
+  pub stands_read : (w : Why) → (w ≡ why.Ask) ⊎ (w ≡ why.Land) → due config history ≡ Now w → (clocked : Clocked)
+      → {next : Shown} {later : Live} {was is : Companion} → HasRead now next live later was is w clocked
+      → {after : List Note → Type 0} → after (noted config (clock_entries w clocked ++ history))
+      → Stands config before next after later (clock_entries w clocked ++ history)
+  stands_read w is d clocked {later = later} r {after} notes =
+      stands_saw s (Now w) d (clock_entries w clocked) (clocked, refl) _ r.told r.faults (peers_clock w clocked history r s.peers)
+      after notes later (read_facts w clocked is ∙ sym r.only)
 
 -- a call failed, of an observer that isn't over
 pub call_failed : {old new : Shown} {over : Option OutFault} {ended : Driven} → new.told ≡ old.told
-    → CountsNetFault old.counts.faults new.counts.faults ended → over ≡ None → IsFault ended
-    → Fails old new over ended
-call_failed {ended = ended} told counted on fails =
+    → CountsNetFault old.counts.faults new.counts.faults ended → new.counts.dial_faults ≡ old.counts.dial_faults
+    → over ≡ None → IsFault ended → IsEarly ended → Fails old new over ended
+call_failed {ended = ended} told counted dials on fails early =
     let P : Option OutFault → Type 0 = λ x. IsEndBy x ended in
-    record { told = told; counted = counted; end = subst P (sym on) fails }
+    record { told = told; counted = counted; dials = omega (arith, dials); end = subst P (sym on) fails; early = early }
 
 -- none was made, since the observer is over
+pub unmade : {old : Shown} {over : Option OutFault} {ended : Driven} → ((count : ℕ) → CountsNetFault count count ended)
+    → IsEndBy over ended → IsEarly ended → Fails old old over ended
+unmade counted ends early =
+    record { told = refl; counted = counted _; dials = omega arith; end = ends; early = early }
+
 pub not_made : {T : Type 0} (old : Shown) (over : Option OutFault) (ended : Driven) (P : T → Type 0)
     (result : Result T Driven) → IsErrAnd result (λ x. x ≡ ended) → ((count : ℕ) → CountsNetFault count count ended)
-    → IsEndBy over ended → MatchResult result P (Fails old old over)
-not_made old over ended P result is counted ends =
-    at_err P (Fails old old over) ended result is (record { told = refl; counted = counted _; end = ends })
+    → IsEndBy over ended → IsEarly ended → MatchResult result P (Fails old old over)
+not_made old over ended P result is counted ends early =
+    at_err P (Fails old old over) ended result is (unmade counted ends early)
 
 -- ---- notes
 pub asked_notes : (config : DriveConfig) (clocked : Clocked) (history : History)
@@ -265,6 +347,25 @@ landed_notes config clocked p bytes history = by clocked.slept
         ++ noted config history
     by true = refl
     by false = refl
+
+-- the run stands after a reading for a request, and after one for a landing
+pub stands_asked : {config : DriveConfig} {before now next : Shown} {saw after : List Note → Type 0} {live later : Live}
+    {was is : Companion} {history : History} → Stands config before now saw live history
+    → due config history ≡ Now why.Ask → (clocked : Clocked) → HasRead now next live later was is why.Ask clocked
+    → after (slept_notes (standpoint config history) clocked.slept ++ noted config history)
+    → Stands config before next after later (clock_entries why.Ask clocked ++ history)
+stands_asked {config} {after = after} {history = history} s d clocked r notes =
+    stands_read s why.Ask (inl refl) d clocked r (subst after (sym (asked_notes config clocked history)) notes)
+
+pub stands_landed : {config : DriveConfig} {before now next : Shown} {saw after : List Note → Type 0}
+    {live later : Live} {was is : Companion} {history : History} {p : ℕ} {bytes : List ℕ}
+    → Stands config before now saw live (Took p bytes ∷ history) → (clocked : Clocked)
+    → HasRead now next live later was is why.Land clocked
+    → after (landing_notes (standpoint config (Took p bytes ∷ history)) clocked bytes ++ noted config history)
+    → Stands config before next after later (clock_entries why.Land clocked ++ (Took p bytes ∷ history))
+stands_landed {config} {after = after} {history = history} {p = p} {bytes = bytes} s clocked r notes =
+    stands_read s why.Land (inr refl) refl clocked r
+    (subst after (sym (landed_notes config clocked p bytes history)) notes)
 
 pub heard_noted : (config : DriveConfig) (p : ℕ) (answer : Answer) (which : Session) (history : History)
     → session_at p history ≡ Some which
@@ -320,56 +421,6 @@ landed_next config clocked history = by clocked.slept
     by true = refl
     by false = refl
 
-pub lawful_plain : (entry : Entry) (history : History) → IsLawful history → asking_at entry ≡ None
-    → request_by entry ≡ None → IsLawful (entry ∷ history)
-lawful_plain entry history l asks sends =
-    record {
-      rises = (
-        subst (λ (o : Option ℕ). IfSome o (λ reading. Each (λ earlier older. IfSome (asking_at earlier) (λ
-            asked. sleeps older < sleeps history → asked < reading)) history)) (sym asks) tt,
-        l.rises,
-      );
-      asks = (
-        subst (λ (o : Option Stamp). IfSome o (λ originate. IsJustAsked originate history)) (sym sends) tt,
-        l.asks,
-      );
-    }
-
--- an entry that tells a companion nothing
-pub knows_plain : (config : DriveConfig) (companion : Companion) (entry : Entry) (history : History)
-    → Knows config companion history → is_sleep entry ≡ false → asking_at entry ≡ None
-    → request_by entry ≡ None → landed_answer entry history ≡ None → cii_text entry history ≡ None
-    → ts_text entry history ≡ None → (opens_ts entry || closes_ts entry history) ≡ false
-    → Knows config companion (entry ∷ history)
-knows_plain config companion entry history k awake asks sends lands cii ts end =
-    knows_aside config companion entry history k (record {
-      client = record {
-        awake = awake;
-        asks_none = asks;
-        sends_none = sends;
-        lands_none = lands;
-      };
-      no_cii = cii;
-      no_ts = ts;
-      no_edge = end;
-    })
-
--- nor does a dial that fails or begins, or a session that isn't one of CSS-TS
-pub knows_dialling : (config : DriveConfig) (companion : Companion) (k : Kind) (to : Address) (history : History)
-    → Knows config companion history → Knows config companion (Dialling k to ∷ history)
-knows_dialling config companion k to history knows =
-    knows_plain config companion (Dialling k to) history knows refl refl refl refl refl refl refl
-
-pub knows_tried : (config : DriveConfig) (companion : Companion) (k : Kind) (to : Address) (tried : Option ℕ)
-    (history : History) → IfSome tried (λ p. opens_ts (Dialled k p) ≡ false) → Knows config companion history
-    → Knows config companion (dial_entries k to tried ++ history)
-knows_tried config companion k to None history other knows =
-    knows_plain config companion (NotDialled k) (Dialling k to ∷ history)
-    (knows_dialling config companion k to history knows) refl refl refl refl refl refl refl
-knows_tried config companion k to (Some p) history other knows =
-    knows_plain config companion (Dialled k p) (Dialling k to ∷ history)
-    (knows_dialling config companion k to history knows) refl refl refl refl refl refl (or_from _ _ other refl)
-
 -- after a sleep nothing lands
 pub slept_landing : (config : DriveConfig) (companion : Companion) (clocked : Clocked) (history : History)
     → clocked.slept ≡ true → Knows config companion (sleep_entries clocked.slept ++ history)
@@ -378,8 +429,7 @@ slept_landing config companion clocked history e k = by clocked.slept e k
   where
     by : (b : Bool) → b ≡ true → Knows config companion (sleep_entries b ++ history)
         → Knows config companion (clock_entries why.Land (record { reading = clocked.reading; slept = b }) ++ history)
-    by true e k = knows_plain config companion (Clock why.Land clocked.reading) (Slept ∷ history) k refl refl refl
-        refl refl refl refl
+    by true e k = knows_plain (Clock why.Land clocked.reading) k refl refl refl refl refl refl refl
     by false e k = absurd (cc)
 
 -- without one the datagram taken just before does
@@ -457,69 +507,60 @@ refused_stops {config} {p = p} {bytes = bytes} {history = history} s lawful k ov
     (ends_by _ _ ended (heard_cii config p bytes history (refusal_of (Some bytes) history) k refl)
     (refusal_ends (refusal_of (Some bytes) history) (from_ts_text config (Heard p bytes ∷ history)) ended r))
 
--- ---- the addresses that are told
-abbrev pub wc_place : State → Option (Result Address AddressFault)
-wc_place state = place kind.Wc state.wc_url
-
-abbrev pub ts_place : State → Option (Result Address AddressFault)
-ts_place state = place kind.Ts state.ts_url
-
+-- ---- counts
 pub same_peers : {old new : Counts} → new ≡ old → old.peers ≤ new.peers
 same_peers {old} {new} e = let f : new.peers ≡ old.peers = ap (λ x. x.peers) e in omega (arith, f)
 
-pub unchanged : {old new : Counts} → new ≡ record old { faults = new.faults } → new.faults ≡ old.faults → new ≡ old
-unchanged {old} {new} e f = e ∙ ap {A = ℕ} {B = Counts} (λ n. record old { faults = n }) f
-
-pub keeps_same : {old new : Counts} {before now : Live} → new.dial_faults ≡ old.dial_faults
-    → Keeps new new before now → Keeps old new before now
-keeps_same e k = record { made = k.made; reported = k.reported; dials = omega (arith, e); dialled = k.dialled }
+-- a call that went well and is no dial
+pub plain_adds : {old new : Shown} {call : History} → new.told ≡ with_entries call old.told
+    → new.counts ≡ record old.counts { faults = new.counts.faults } → new.counts.faults ≡ old.counts.faults
+    → Adds old new call
+plain_adds {old} told same faults =
+    record { told = told; same = same ∙ ap {A = ℕ} {B = Counts} (λ n. record old.counts { faults = n }) faults }
 
 -- ---- a session is asked for a text, or sent one
--- a call that dials none is added, and the variables say what it did
-pub call_stands : {config : DriveConfig} {before now : Shown} {saw : List Note → Type 0} {live : Live}
-    {history : History} → Stands config before now saw live history → (d : Due) → due config history ≡ d
-    → (call : History) → MayAdd d call → ((q : ℕ) → kind_of q (call ++ history) ≡ kind_of q history)
-    → {next : Shown} → Adds now next call → (after : List Note → Type 0) → after (noted config (call ++ history))
-    → (later : Live) → facts_of config (call ++ history) ≡ facts_in later → later.cii ≡ live.cii → later.ts ≡ live.ts
-    → Stands config before next after later (call ++ history)
-call_stands {config} {before} {now} {saw} {live} {history} s d is-due call may kinds {next} adds after notes later facts
-    cii ts =
-    stands_saw s d is-due call may next adds.told (ap (λ x. x.faults) adds.same) after notes later facts
-    (live_peers now.counts.peers next.counts.peers live later (call ++ history) (ap (λ x. x.peers) adds.same) cii ts
-    (peers_as now.counts.peers now.counts.peers live.cii live.ts history (call ++ history) s.peers (omega arith) kinds))
+module _ {config : DriveConfig} {before now : Shown} {saw : List Note → Type 0} {live : Live} {history : History}
+    (s : Stands config before now saw live history) where
+  said_stands : (which : Session) (p : ℕ) → session_at p history ≡ Some which → due config history ≡ TakeText p
+      → (said : Answer) → {next : Shown} → Adds now next (heard_entries p said) → {after : List Note → Type 0}
+      → after (heard_notes which (standpoint config history) said ++ noted config history) → (later : Live)
+      → facts_of config (heard_entries p said ++ history) ≡ facts_in later
+      → Stands config before next after later (heard_entries p said ++ history)
+  said_stands which p at is-due said adds {after} notes later facts =
+      stands_adds s (TakeText p) is-due (heard_entries p said) (said, refl) (peers said) adds
+      (subst after (sym (heard_noted config p said which history at)) notes) later facts
+    where
+      peers : (a : Answer) → KnowsPeers now.counts.peers (heard_entries p a ++ history)
+      peers answer.Quiet = s.peers
+      peers (answer.Text text) = s.peers
+      peers answer.Closed = s.peers
 
-pub said_stands : {config : DriveConfig} {before now : Shown} {saw : List Note → Type 0} {live : Live}
-    {history : History} → Stands config before now saw live history → (which : Session) → (p : ℕ)
-    → session_at p history ≡ Some which → due config history ≡ TakeText p → (said : Answer) → {next : Shown}
-    → Adds now next (heard_entries p said) → (after : List Note → Type 0)
-    → after (heard_notes which (standpoint config history) said ++ noted config history) → (later : Live)
-    → facts_of config (heard_entries p said ++ history) ≡ facts_in later → later.cii ≡ live.cii → later.ts ≡ live.ts
-    → Stands config before next after later (heard_entries p said ++ history)
-said_stands {config} {before} {now} {saw} {live} {history} s which p at is-due said {next} adds after notes later facts
-    cii ts =
-    call_stands s (TakeText p) is-due (heard_entries p said) (said, refl) (kinds said) adds after
-    (subst after (sym (heard_noted config p said which history at)) notes) later facts cii ts
-  where
-    kinds : (a : Answer) (q : ℕ) → kind_of q (heard_entries p a ++ history) ≡ kind_of q history
-    kinds answer.Quiet q = refl
-    kinds (answer.Text text) q = refl
-    kinds answer.Closed q = refl
+  pub cii_said : due config history ≡ from_cii_text config history → {p : ℕ} → live.cii_open ≡ Some p
+      → (said : Answer) → {next : Shown} → Adds now next (heard_entries p said) → {after : List Note → Type 0}
+      → after (heard_notes session.Cii (standpoint config history) said ++ noted config history) → (later : Live)
+      → facts_of config (heard_entries p said ++ history) ≡ facts_in later
+      → Stands config before next after later (heard_entries p said ++ history)
+  cii_said d {p} at = said_stands session.Cii p (cii_at s at) (cii_text_due s d at)
 
-pub sent_stands : {config : DriveConfig} {before now : Shown} {saw : List Note → Type 0} {live : Live}
-    {history : History} → Stands config before now saw live history → (p : ℕ) → session_at p history ≡ Some session.Ts
-    → (text : List ℕ) → due config history ≡ SendText p text → (sent : Outcome) → {next : Shown}
-    → Adds now next (wrote_entries p text sent) → (after : List Note → Type 0)
-    → after (wrote_notes (standpoint config history) sent ++ noted config history) → (later : Live)
-    → facts_of config (wrote_entries p text sent ++ history) ≡ facts_in later → later.cii ≡ live.cii
-    → later.ts ≡ live.ts → Stands config before next after later (wrote_entries p text sent ++ history)
-sent_stands {config} {before} {now} {saw} {live} {history} s p at text is-due sent {next} adds after notes later facts
-    cii ts =
-    call_stands s (SendText p text) is-due (wrote_entries p text sent) (sent, refl) (kinds sent) adds after
-    (subst after (sym (wrote_noted config p text sent history at)) notes) later facts cii ts
-  where
-    kinds : (o : Outcome) (q : ℕ) → kind_of q (wrote_entries p text o ++ history) ≡ kind_of q history
-    kinds outcome.Sent q = refl
-    kinds outcome.Gone q = refl
+  pub ts_said : due config history ≡ from_ts_text config history → {p : ℕ} → live.ts_open ≡ Some p
+      → (said : Answer) → {next : Shown} → Adds now next (heard_entries p said) → {after : List Note → Type 0}
+      → after (heard_notes session.Ts (standpoint config history) said ++ noted config history) → (later : Live)
+      → facts_of config (heard_entries p said ++ history) ≡ facts_in later
+      → Stands config before next after later (heard_entries p said ++ history)
+  ts_said d {p} at = said_stands session.Ts p (ts_at s at) (ts_text_due s d at)
+
+  pub ts_sent : {p : ℕ} → live.ts_open ≡ Some p → {text : List ℕ} → due config history ≡ SendText p text
+      → (sent : Outcome) → {next : Shown} → Adds now next (wrote_entries p text sent) → {after : List Note → Type 0}
+      → after (wrote_notes (standpoint config history) sent ++ noted config history) → (later : Live)
+      → facts_of config (wrote_entries p text sent ++ history) ≡ facts_in later
+      → Stands config before next after later (wrote_entries p text sent ++ history)
+  ts_sent {p} at {text} is-due sent adds {after} notes later facts =
+      stands_adds s (SendText p text) is-due (wrote_entries p text sent) (sent, refl) (peers sent) adds
+      (subst after (sym (wrote_noted config p text sent history (ts_at s at))) notes) later facts
+    where
+      peers : (o : Outcome) → KnowsPeers now.counts.peers (wrote_entries p text o ++ history)
+      peers outcome.Sent = s.peers
+      peers outcome.Gone = s.peers
 
 -- ---- the companion is told
 -- it was told of what is added, or memory ran out
@@ -528,13 +569,12 @@ pub told_goes : {T : Type 0} {config : DriveConfig} {before now : Shown} {saw : 
     → (later : Live) (is : Companion) (to : History → Due) → due config history ≡ to history
     → (result : Result T Driven) → OnOk result (Knows config is history × (facts_in later ≡ facts_in live))
     → IfErr result (λ ended. ended ≡ driven.Memory) → Goes config before now saw over later is to result
-told_goes {live = live} {history = history} s lawful over later is to next (Ok value) told memory = comes (record {
+told_goes s lawful over later is to next (Ok value) told memory = comes (record {
   told = s.told;
   faults = s.faults;
   proper = s.proper;
   facts = s.facts ∙ sym told.1;
-  peers = live_peers _ _ live later history refl (ap {A = Facts} (λ x. x.cii) told.1)
-      (ap {A = Facts} (λ x. x.ts) told.1) s.peers;
+  peers = s.peers;
   saw_so = s.saw_so;
 }) told.0 to next
 told_goes s lawful over later is to next (Err ended) told memory = stops_by_memory s lawful over ended memory
@@ -542,7 +582,7 @@ told_goes s lawful over later is to next (Err ended) told memory = stops_by_memo
 -- a text was told as gone, so the TS session is over
 pub gone_goes : {T : Type 0} {config : DriveConfig} {before now : Shown} {saw : List Note → Type 0} {live : Live}
     {companion : Companion} {history : History} → Stands config before now saw live history
-    → Knows config companion history → (p : ℕ) → live.ts_open ≡ Some p → (text : List ℕ)
+    → Knows config companion history → {p : ℕ} → live.ts_open ≡ Some p → {text : List ℕ}
     → due config history ≡ SendText p text → {next : Shown} → Adds now next (wrote_entries p text outcome.Gone)
     → (after : List Note → Type 0)
     → after (wrote_notes (standpoint config history) outcome.Gone ++ noted config history)
@@ -550,14 +590,13 @@ pub gone_goes : {T : Type 0} {config : DriveConfig} {before now : Shown} {saw : 
     → due config (Gone p ∷ history) ≡ to (Gone p ∷ history) → (result : Result T Driven)
     → OnOk result (HasLost live later companion is) → IfErr result (λ ended. ended ≡ driven.Memory)
     → Goes config before next after over later is to result
-gone_goes {config = config} {before = before} {live = live} {companion = companion} {history = history} s k p at text
-    is-due adds after notes over later is to next result lost memory =
-    let own = open_ts config before _ _ live history s p at in
+gone_goes {config = config} {live = live} {companion = companion} {history = history} s k {p} at is-due adds after notes
+    over later is to next result lost memory =
     let P : Type 0 = HasLost live later companion is in
-    told_goes (sent_stands s p (ts_at config before _ _ live history s p at) text is-due outcome.Gone adds after notes
-    (record live { ts_open = None }) (ts_over config before _ _ live history s p at) refl refl)
+    told_goes (ts_sent s at is-due outcome.Gone adds notes (record live { ts_open = None }) (ts_over s at))
     (lawful_plain (Gone p) history (knows_lawful config companion history k) refl refl) over later is to next result
-    (on_ok_weaker result (λ (x : P). (x.known config history (Gone p) k (p, inr refl, own), x.only)) lost) memory
+    (on_ok_weaker result (λ (x : P). (x.known config history (Gone p) k (p, inr refl, open_ts s at), x.only)) lost)
+    memory
 
 -- ---- addresses
 -- a bad address ends the run

@@ -199,8 +199,8 @@ never_late l (Some reading) turn r e late = by l r (ap (λ o. is_late l (Some re
     by (limit.Seconds n) r e = grind (arith, common_steps, r.0, e)
 
 -- ---- whether the run goes on
-module _ (config : DriveConfig) (before now : Shown) (saw : List Note → Type 0) (live : Live)
-    (history : History) (s : Stands config before now saw live history) where
+module _ {config : DriveConfig} {before now : Shown} {saw : List Note → Type 0} {live : Live} {history : History}
+    (s : Stands config before now saw live history) where
   short_so : (b : Bool) → nat_lt live.reported config.reports ≡ b → is_short config history ≡ b
   short_so b e = ap (λ n. nat_lt n config.reports) (ap {A = Facts} (λ x. x.reported) s.facts) ∙ e
 

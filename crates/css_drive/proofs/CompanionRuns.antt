@@ -14,7 +14,7 @@ use Rattle.css_companion.specs.declared.report.Report.{Report}
 use Rattle.css_drive.specs.CompanionDue.{due, from_end}
 use Rattle.css_drive.specs.CompanionReports.{report_at}
 use Rattle.css_drive.specs.CompanionStanding.{Shown, Knows, Comes, Stops, Made, IsFault, IsEarly, IsSo, IsEndBy}
-use Rattle.css_drive.specs.CompanionStanding.{IsEndOf, final_end, ending_of, facts_of, facts_in, KnowsPeers, HasTried}
+use Rattle.css_drive.specs.CompanionStanding.{IsEndOf, final_end, ending_of, facts_of, facts_in, HasTried}
 use Rattle.css_drive.specs.Ends.{MayEnd, CountsNetFault, CountsDialFaults}
 use Rattle.css_drive.specs.Notes.{Note}
 use Rattle.css_drive.specs.Proper.{Empty}
@@ -156,10 +156,9 @@ no_entries None = refl
 no_entries (Some h) = refl
 
 pub comes_first : (config : DriveConfig) (before : Shown) (saw : List Note → Type 0) (live : Live)
-    (companion : Companion) → Knows config companion [] → facts_of config [] ≡ facts_in live
-    → KnowsPeers before.counts.peers live.cii live.ts [] → saw []
+    (companion : Companion) → Knows config companion [] → facts_of config [] ≡ facts_in live → saw []
     → Comes config before before saw live companion (from_end config)
-comes_first config before saw live companion k facts peers begun = record {
+comes_first config before saw live companion k facts begun = record {
   history = [];
   known = k;
   stands = record {
@@ -167,7 +166,7 @@ comes_first config before saw live companion k facts peers begun = record {
     faults = refl;
     proper = Empty;
     facts = facts;
-    peers = peers;
+    peers = λ wanted peer none. absurd (cc);
     saw_so = begun;
   };
   next = refl;

@@ -1,6 +1,6 @@
 -- How a run's history goes on by a call.
 use Rattle.std.proofs.Common.{◌≡◌, ℕ, ◌≤◌, ◌<◌, arith, ap, sym, ◌∙◌, subst, refl, Bool, true, false, cond, List, []}
-use Rattle.std.proofs.Common.{◌∷◌, ◌++◌, append_assoc, Option, Some, None, eq-eqb, Result, Ok, Err}
+use Rattle.std.proofs.Common.{◌∷◌, ◌++◌, append_assoc, Option, Some, None, eq-eqb, inl, inr, Result, Ok, Err}
 use Rattle.std.specs.Prelude.{is_some, IfSome, MatchResult, IsErrAnd}
 use Rattle.std.specs.Option.{option_or}
 use Rattle.std.proofs.lemmas.Bool.{ne_eqb}
@@ -17,11 +17,12 @@ use Rattle.css_companion.specs.Standing.{Companion}
 use Rattle.css_companion.proofs.Telling as telling
 use Rattle.css_drive.specs.CompanionDue.{due}
 use Rattle.css_drive.specs.CompanionStanding.{Shown, facts_of, facts_in, KnowsPeers, Stands, Knows, Comes, Stops}
-use Rattle.css_drive.specs.CompanionStanding.{IsFault, IsEndBy, IsSo, Fails}
+use Rattle.css_drive.specs.CompanionStanding.{IsFault, IsEndBy, IsSo, Fails, Adds, HasDialled, dial_entries}
 use Rattle.css_drive.specs.CompanionTurns.{dialled, dialled_by, opened, ended_by, open_after, unless, newest, is_peer}
+use Rattle.css_drive.specs.CompanionTurns.{is_kind}
 use Rattle.css_drive.specs.Ends.{MayEnd, IsNetFault, CountsNetFault}
-use Rattle.css_drive.specs.Notes.{Note, noted}
-use Rattle.css_drive.specs.Proper.{Due, MayAdd, More}
+use Rattle.css_drive.specs.Notes.{Note, noted, dial_notes, standpoint}
+use Rattle.css_drive.specs.Proper.{Due, Dial, MayAdd, More}
 use Rattle.css_drive.specs.declared.companion_live.Live.{Live}
 use Rattle.css_drive.specs.declared.config.DriveConfig.{DriveConfig}
 use Rattle.css_drive.specs.declared.driven.Driven.{Driven}
@@ -43,29 +44,8 @@ pub told_more : (before old new : Option History) (call history : History) → o
 told_more before old new call history e f = f ∙ ap (λ o. with_entries call o) e ∙ join before call history
 
 -- ---- peers
-pub peers_later : (n m : ℕ) (cii ts : Option ℕ) (history : History) → KnowsPeers n cii ts history → n ≤ m
-    → KnowsPeers m cii ts history
-peers_later n m cii ts history k le =
-    record { cii_used = by cii k.cii_used; ts_used = by ts k.ts_used; cii_kind = k.cii_kind; ts_kind = k.ts_kind }
-  where
-    by : (o : Option ℕ) → IfSome o (λ peer. peer ≤ n) → IfSome o (λ peer. peer ≤ m)
-    by None u = tt
-    by (Some p) u = omega (arith, u, le)
-
--- the peers are those of before
-pub peers_as : (n m : ℕ) (cii ts : Option ℕ) (history later : History) → KnowsPeers n cii ts history → n ≤ m
-    → ((q : ℕ) → kind_of q later ≡ kind_of q history) → KnowsPeers m cii ts later
-peers_as n m cii ts history later k le same = record {
-  cii_used = (peers_later n m cii ts history k le).cii_used;
-  ts_used = (peers_later n m cii ts history k le).ts_used;
-  cii_kind = by cii kind.Cii k.cii_kind;
-  ts_kind = by ts kind.Ts k.ts_kind;
-}
-  where
-    by : (o : Option ℕ) (is : Kind) → IfSome o (λ peer. kind_of peer history ≡ Some is)
-        → IfSome o (λ peer. kind_of peer later ≡ Some is)
-    by None is e = tt
-    by (Some p) is e = same p ∙ e
+pub peers_later : (n m : ℕ) (history : History) → n ≤ m → KnowsPeers n history → KnowsPeers m history
+peers_later n m history le k = λ wanted peer e. (omega (arith, le, (k wanted peer e).0), (k wanted peer e).1)
 
 pub other_kind : (n p q : ℕ) (k : Kind) (to : Address) (history : History) → p ≤ n → n < q
     → kind_of p (Dialled k q ∷ Dialling k to ∷ history) ≡ kind_of p history
@@ -76,38 +56,31 @@ pub own_kind : (q : ℕ) (k : Kind) (to : Address) (history : History)
     → kind_of q (Dialled k q ∷ Dialling k to ∷ history) ≡ Some k
 own_kind q k to history = ap (λ b. option_or (cond b (Some k) None) (kind_of q history)) (eq-eqb q q refl)
 
-kind_kept : (n q : ℕ) (k : Kind) (to : Address) (history : History) (o : Option ℕ) (is : Kind) → n < q
-    → IfSome o (λ peer. peer ≤ n) → IfSome o (λ peer. kind_of peer history ≡ Some is)
-    → IfSome o (λ peer. kind_of peer (Dialled k q ∷ Dialling k to ∷ history) ≡ Some is)
-kind_kept n q k to history None is lt u e = tt
-kind_kept n q k to history (Some p) is lt u e = other_kind n p q k to history u lt ∙ e
+same_kind : (wanted k : Kind) → is_kind wanted k ≡ true → k ≡ wanted
+same_kind kind.Wc kind.Wc e = refl
+same_kind kind.Cii kind.Cii e = refl
+same_kind kind.Ts kind.Ts e = refl
+same_kind _ _ e = absurd (cc)
 
-pub peers_cii : (n m q : ℕ) (to : Address) (cii ts : Option ℕ) (history : History) → KnowsPeers n cii ts history
-    → n < q → q ≤ m → KnowsPeers m (Some q) ts (Dialled kind.Cii q ∷ Dialling kind.Cii to ∷ history)
-peers_cii n m q to cii ts history k lt le = record {
-  cii_used = le;
-  ts_used = (peers_later n m cii ts history k (omega (arith, lt, le))).ts_used;
-  cii_kind = own_kind q kind.Cii to history;
-  ts_kind = kind_kept n q kind.Cii to history ts kind.Ts lt k.ts_used k.ts_kind;
-}
+peers_dialled : (n q : ℕ) (k : Kind) (to : Address) (history : History) → KnowsPeers n history → n < q
+    → KnowsPeers q (Dialled k q ∷ Dialling k to ∷ history)
+peers_dialled n q k to history known lt wanted peer e = by (is_kind wanted k) refl e
+  where
+    by : (b : Bool) → is_kind wanted k ≡ b → newest (cond b (Some q) None) (dialled wanted history) ≡ Some peer
+        → (peer ≤ q) × (kind_of peer (Dialled k q ∷ Dialling k to ∷ history) ≡ Some wanted)
+    by true is e =
+        let same : q ≡ peer = cc in
+        let P : ℕ → Type 0 = λ x. kind_of x (Dialled k q ∷ Dialling k to ∷ history) ≡ Some wanted in
+        (omega (arith, same), subst P same (own_kind q k to history ∙ ap Some (same_kind wanted k is)))
+    by false is e =
+        let was = known wanted peer e in
+        (omega (arith, was.0, lt), other_kind n peer q k to history was.0 lt ∙ was.1)
 
-pub peers_ts : (n m q : ℕ) (to : Address) (cii ts : Option ℕ) (history : History) → KnowsPeers n cii ts history
-    → n < q → q ≤ m → KnowsPeers m cii (Some q) (Dialled kind.Ts q ∷ Dialling kind.Ts to ∷ history)
-peers_ts n m q to cii ts history k lt le = record {
-  cii_used = (peers_later n m cii ts history k (omega (arith, lt, le))).cii_used;
-  ts_used = le;
-  cii_kind = kind_kept n q kind.Ts to history cii kind.Cii lt k.cii_used k.cii_kind;
-  ts_kind = own_kind q kind.Ts to history;
-}
-
-pub peers_wc : (n m q : ℕ) (to : Address) (cii ts : Option ℕ) (history : History) → KnowsPeers n cii ts history
-    → n < q → q ≤ m → KnowsPeers m cii ts (Dialled kind.Wc q ∷ Dialling kind.Wc to ∷ history)
-peers_wc n m q to cii ts history k lt le = record {
-  cii_used = (peers_later n m cii ts history k (omega (arith, lt, le))).cii_used;
-  ts_used = (peers_later n m cii ts history k (omega (arith, lt, le))).ts_used;
-  cii_kind = kind_kept n q kind.Wc to history cii kind.Cii lt k.cii_used k.cii_kind;
-  ts_kind = kind_kept n q kind.Wc to history ts kind.Ts lt k.ts_used k.ts_kind;
-}
+peers_tried : (n m : ℕ) (k : Kind) (to : Address) (tried : Option ℕ) (history : History) → KnowsPeers n history
+    → n ≤ m → IfSome tried (λ peer. (n < peer) × (peer ≤ m)) → KnowsPeers m (dial_entries k to tried ++ history)
+peers_tried n m k to None history known le t = peers_later n m history le known
+peers_tried n m k to (Some q) history known le t =
+    peers_later q m (Dialled k q ∷ Dialling k to ∷ history) t.1 (peers_dialled n q k to history known t.0)
 
 -- a session that is opens was dialled
 pub opened_dialled : (wanted : Kind) (history : History) (p : ℕ) → opened wanted history ≡ Some p
@@ -169,9 +142,6 @@ pub own_quiet : (ended : Driven) → IsOwn ended → IsNetFault ended → ⊥
 own_quiet (driven.NetFault failure) own n = own
 own_quiet _ own n = n
 
-own_counts : (before now : ℕ) (ended : Driven) → IsOwn ended → now ≡ before → CountsNetFault before now ended
-own_counts before now ended own e = counts_same before now ended (own_quiet ended own) e
-
 -- a call that was not made or failed
 pub fails_so : (over : Option OutFault) (ended : Driven) → IsEndBy over ended → IsSo over ended
 fails_so None ended f = by ended f
@@ -211,106 +181,105 @@ at_err P Q e (Ok v) h q = absurd h
 at_err P Q e (Err x) h q = subst Q (sym h) q
 
 -- ---- steps
--- a call that is due is added, and the observer saw its notes
-pub stands_saw : {config : DriveConfig} {before now : Shown} {saw : List Note → Type 0} {live : Live}
-    {history : History} → Stands config before now saw live history → (d : Due) → due config history ≡ d
-    → (call : History) → MayAdd d call → (next : Shown) → next.told ≡ with_entries call now.told
-    → next.counts.faults ≡ now.counts.faults → (after : List Note → Type 0)
-    → after (noted config (call ++ history)) → (later : Live)
-    → facts_of config (call ++ history) ≡ facts_in later
-    → KnowsPeers next.counts.peers later.cii later.ts (call ++ history)
-    → Stands config before next after later (call ++ history)
-stands_saw {before} {now} {history} s d is-due call may next told faults after notes later facts peers =
-    let P : Due → Type 0 = λ x. MayAdd x call in
-    record {
-      told = told_more before.told now.told next.told call history s.told told;
-      faults = faults ∙ s.faults;
-      proper = More call (subst P (sym is-due) may) s.proper;
-      facts = facts;
-      peers = peers;
-      saw_so = notes;
-    }
+dial_may : (k : Kind) (to : Address) (tried : Option ℕ) → MayAdd (Dial k to) (dial_entries k to tried)
+dial_may k to None = inr refl
+dial_may k to (Some p) = inl (p, refl)
 
--- a call that is due is added, of which the observer is told nothing
-pub stands_more : {config : DriveConfig} {before now : Shown} {saw : List Note → Type 0} {live : Live}
-    {history : History} → Stands config before now saw live history → (d : Due) → due config history ≡ d
-    → (call : History) → MayAdd d call → (next : Shown) → next.told ≡ with_entries call now.told
-    → next.counts.faults ≡ now.counts.faults → (later : Live)
-    → noted config (call ++ history) ≡ noted config history
-    → facts_of config (call ++ history) ≡ facts_in later
-    → KnowsPeers next.counts.peers later.cii later.ts (call ++ history)
-    → Stands config before next saw later (call ++ history)
-stands_more {saw} s d is-due call may next told faults later same facts peers =
-    stands_saw s d is-due call may next told faults saw (subst saw (sym same) s.saw_so) later facts peers
+dial_noted : (config : DriveConfig) (k : Kind) (to : Address) (tried : Option ℕ) (history : History)
+    → noted config (dial_entries k to tried ++ history)
+    ≡ dial_notes (standpoint config (Dialling k to ∷ history)) k tried ++ noted config history
+dial_noted config k to None history = refl
+dial_noted config k to (Some p) history = refl
 
--- after the call that is due the run is where `to` goes on
-pub comes : {config : DriveConfig} {before now : Shown} {saw : List Note → Type 0} {live : Live}
-    {companion : Companion} {history : History} → Stands config before now saw live history
-    → Knows config companion history → (to : History → Due) → due config history ≡ to history
-    → Comes config before now saw live companion to
-comes {history} s k to next = record { history = history; known = k; stands = s; next = next }
+module _ {config : DriveConfig} {before now : Shown} {saw : List Note → Type 0} {live : Live} {history : History}
+    (s : Stands config before now saw live history) where
+  -- a call that is due is added, and the observer saw its notes
+  pub stands_saw : (d : Due) → due config history ≡ d → (call : History) → MayAdd d call → (next : Shown)
+      → next.told ≡ with_entries call now.told → next.counts.faults ≡ now.counts.faults
+      → KnowsPeers next.counts.peers (call ++ history) → (after : List Note → Type 0)
+      → after (noted config (call ++ history)) → (later : Live) → facts_of config (call ++ history) ≡ facts_in later
+      → Stands config before next after later (call ++ history)
+  stands_saw d is-due call may next told faults peers after notes later facts =
+      let P : Due → Type 0 = λ x. MayAdd x call in
+      record {
+        told = told_more before.told now.told next.told call history s.told told;
+        faults = faults ∙ s.faults;
+        proper = More call (subst P (sym is-due) may) s.proper;
+        facts = facts;
+        peers = peers;
+        saw_so = notes;
+      }
 
--- after the call that is due the run ends
-pub stops_after : {config : DriveConfig} {before now : Shown} {saw : List Note → Type 0} {live : Live}
-    {history : History} → Stands config before now saw live history → (d : Due) → due config history ≡ d
-    → (call : History) → MayAdd d call → (next : Shown) → next.told ≡ with_entries call now.told
-    → next.counts.faults ≡ now.counts.faults → (after : List Note → Type 0)
-    → after (noted config (call ++ history)) → IsLawful (call ++ history) → (over : Option OutFault)
-    → (ended : Driven) → IsOwn ended → MayEnd (due config (call ++ history)) ended
-    → Stops config before next after over ended
-stops_after {before} {now} {history} s d is-due call may next told faults after notes lawful over ended own ends =
-    let P : Due → Type 0 = λ x. MayAdd x call in
-    record {
-      history = call ++ history;
-      told = told_more before.told now.told next.told call history s.told told;
-      counted = own_counts before.counts.faults next.counts.faults ended own (faults ∙ s.faults);
-      proper = More call (subst P (sym is-due) may) s.proper;
-      lawful = lawful;
-      ends = ends;
-      saw_so = notes;
-      so = own_so over ended own;
-    }
+  -- one that opens no session
+  pub stands_adds : (d : Due) → due config history ≡ d → (call : History) → MayAdd d call
+      → KnowsPeers now.counts.peers (call ++ history) → {next : Shown} → Adds now next call
+      → {after : List Note → Type 0} → after (noted config (call ++ history)) → (later : Live)
+      → facts_of config (call ++ history) ≡ facts_in later → Stands config before next after later (call ++ history)
+  stands_adds d is-due call may peers {next} adds {after} notes later facts =
+      let same : next.counts.peers ≡ now.counts.peers = ap (λ x. x.peers) adds.same in
+      stands_saw d is-due call may next adds.told (ap (λ x. x.faults) adds.same)
+      (peers_later _ _ (call ++ history) (omega (arith, same)) peers) after notes later facts
 
--- the run ends, with nothing more told
-pub stops_here : {config : DriveConfig} {before now : Shown} {saw : List Note → Type 0} {live : Live}
-    {history : History} → Stands config before now saw live history → IsLawful history → (over : Option OutFault)
-    → (ended : Driven) → IsOwn ended → MayEnd (due config history) ended → Stops config before now saw over ended
-stops_here {before} {now} {history} s lawful over ended own ends = record {
-  history = history;
-  told = s.told;
-  counted = own_counts before.counts.faults now.counts.faults ended own s.faults;
-  proper = s.proper;
-  lawful = lawful;
-  ends = ends;
-  saw_so = s.saw_so;
-  so = own_so over ended own;
-}
+  -- a dial
+  pub stands_tried : (k : Kind) (to : Address) → due config history ≡ Dial k to → (tried : Option ℕ)
+      → {next : Shown} → HasDialled now next k to tried → {after : List Note → Type 0}
+      → after (dial_notes (standpoint config (Dialling k to ∷ history)) k tried ++ noted config history)
+      → (later : Live) → facts_of config (dial_entries k to tried ++ history) ≡ facts_in later
+      → Stands config before next after later (dial_entries k to tried ++ history)
+  stands_tried k to d tried {next} t {after} notes later facts =
+      stands_saw (Dial k to) d (dial_entries k to tried) (dial_may k to tried) next t.told t.faults
+      (peers_tried _ _ k to tried history s.peers t.later t.peer) after
+      (subst after (sym (dial_noted config k to tried history)) notes) later facts
 
--- a call was not made, or failed
-pub stops_by_fault : {config : DriveConfig} {before now : Shown} {saw : List Note → Type 0} {live : Live}
-    {history : History} → Stands config before now saw live history → IsLawful history → (next : Shown)
-    → (over : Option OutFault) → (ended : Driven) → Fails now next over ended → (after : List Note → Type 0)
-    → after (noted config history) → Stops config before next after over ended
-stops_by_fault {config} {before} {now} {history} s lawful next over ended f after notes =
-    let P : ℕ → Type 0 = λ n. CountsNetFault n next.counts.faults ended in
-    record {
-      history = history;
-      told = f.told ∙ s.told;
-      counted = subst P s.faults f.counted;
-      proper = s.proper;
-      lawful = lawful;
-      ends = fails_end (due config history) over ended f.end;
-      saw_so = notes;
-      so = fails_so over ended f.end;
-    }
+  -- after the call that is due the run is where `to` goes on
+  pub comes : {companion : Companion} → Knows config companion history → (to : History → Due)
+      → due config history ≡ to history → Comes config before now saw live companion to
+  comes k to next = record { history = history; known = k; stands = s; next = next }
 
--- for want of memory
-pub stops_by_memory : {config : DriveConfig} {before now : Shown} {saw : List Note → Type 0} {live : Live}
-    {history : History} → Stands config before now saw live history → IsLawful history → (over : Option OutFault)
-    → (ended : Driven) → ended ≡ driven.Memory → Stops config before now saw over ended
-stops_by_memory {config} {before} {now} {saw} s lawful over ended e =
-    let P : Driven → Type 0 = λ x. Stops config before now saw over x in
-    subst P (sym e) (stops_here s lawful over driven.Memory tt tt)
+  -- the run ends, with nothing more told
+  pub stops_here : IsLawful history → (over : Option OutFault) → (ended : Driven) → IsOwn ended
+      → MayEnd (due config history) ended → Stops config before now saw over ended
+  stops_here lawful over ended own ends = record {
+    history = history;
+    told = s.told;
+    counted = counts_same before.counts.faults now.counts.faults ended (own_quiet ended own) s.faults;
+    proper = s.proper;
+    lawful = lawful;
+    ends = ends;
+    saw_so = s.saw_so;
+    so = own_so over ended own;
+  }
+
+  -- for want of memory
+  pub stops_by_memory : IsLawful history → (over : Option OutFault) → (ended : Driven) → ended ≡ driven.Memory
+      → Stops config before now saw over ended
+  stops_by_memory lawful over ended e =
+      let P : Driven → Type 0 = λ x. Stops config before now saw over x in
+      subst P (sym e) (stops_here lawful over driven.Memory tt tt)
+
+  -- a call was not made, or failed
+  pub stops_by_fault : IsLawful history → {next : Shown} {over : Option OutFault} {ended : Driven}
+      → Fails now next over ended → {after : List Note → Type 0} → after (noted config history)
+      → Stops config before next after over ended
+  stops_by_fault lawful {next} {over} {ended} f notes =
+      let P : ℕ → Type 0 = λ n. CountsNetFault n next.counts.faults ended in
+      record {
+        history = history;
+        told = f.told ∙ s.told;
+        counted = subst P s.faults f.counted;
+        proper = s.proper;
+        lawful = lawful;
+        ends = fails_end (due config history) over ended f.end;
+        saw_so = notes;
+        so = fails_so over ended f.end;
+      }
+
+  -- and a `?` ends the function
+  pub failed : {T : Type 0} (P : T → Type 0) (result : Result T Driven) → {companion : Companion}
+      → Knows config companion history → {next : Shown} {over : Option OutFault} {ended : Driven}
+      → IsErrAnd result (λ x. x ≡ ended) → Fails now next over ended → (after : List Note → Type 0)
+      → after (noted config history) → MatchResult result P (Stops config before next after over)
+  failed P result k is f after notes = at_err P _ _ result is (stops_by_fault k.stands.client.lawful f notes)
 
 -- ---- steps of a turn
 -- a second step goes on from where the first came

@@ -1,6 +1,6 @@
 -- How the variables of a companion's run stand for its history.
 use Rattle.std.specs.Prelude.{◌≡◌, ◌≤◌, ◌<◌, ℕ, List, Bool, true, false, [], ◌∷◌, ◌++◌, Option, Some, None, Result, Ok}
-use Rattle.std.specs.Prelude.{Err, MatchResult, IfSome, is_some, ◌||◌, if◌then◌else◌, length, ⊤}
+use Rattle.std.specs.Prelude.{Err, MatchResult, OnOk, IfErr, IfSome, is_some, ◌||◌, if◌then◌else◌, length, ⊤}
 use Rattle.css_model.specs.declared.TheConstants.{LIMIT}
 use Rattle.css_model.specs.declared.Why.{Why}
 use Rattle.css_model.specs.declared.Why.TheVariants as whys
@@ -82,12 +82,11 @@ facts_in live = record {
   ts_open = live.ts_open;
 }
 
--- the peers of the two sessions were dialled as such, by numbers up to this one
-pub record KnowsPeers (peers : ℕ) (cii ts : Option ℕ) (history : History) : Type 0 where
-  pub cii_used : IfSome cii (λ peer. peer ≤ peers)
-  pub ts_used : IfSome ts (λ peer. peer ≤ peers)
-  pub cii_kind : IfSome cii (λ peer. kind_of peer history ≡ Some kind.Cii)
-  pub ts_kind : IfSome ts (λ peer. kind_of peer history ≡ Some kind.Ts)
+-- the peer of the last dial of a kind is known as such, and has a number up to this one
+abbrev pub KnowsPeers : ℕ → History → Type 0
+KnowsPeers peers history =
+    (wanted : Kind) (peer : ℕ) → dialled wanted history ≡ Some peer
+    → (peer ≤ peers) × (kind_of peer history ≡ Some wanted)
 
 -- The run has this history since `before`, and it is proper. The variables say what they have to of it, and the
 -- observer saw its notes. No call other than a dial has failed.
@@ -97,7 +96,7 @@ pub record Stands (config : DriveConfig) (before now : Shown) (saw : List Note �
   pub faults : now.counts.faults ≡ before.counts.faults
   pub proper : IsProperRun config history
   pub facts : facts_of config history ≡ facts_in live
-  pub peers : KnowsPeers now.counts.peers live.cii live.ts history
+  pub peers : KnowsPeers now.counts.peers history
   pub saw_so : saw (noted config history)
 
 -- the companion is the configuration's, and stands for the history
@@ -215,7 +214,14 @@ final_end (Some fault.Memory) ended = driven.Memory
 pub record Fails (old new : Shown) (over : Option OutFault) (ended : Driven) : Type 0 where
   pub told : new.told ≡ old.told
   pub counted : CountsNetFault old.counts.faults new.counts.faults ended
+  pub dials : old.counts.dial_faults ≤ new.counts.dial_faults
   pub end : IsEndBy over ended
+  pub early : IsEarly ended
+
+-- a call went as it is said of one that goes well, or was not made or failed
+abbrev pub Calls : {T : Type 0} → Shown → Shown → Option OutFault → (Shown → Shown → T → Type 0) → Result T Driven
+    → Type 0
+Calls old new over well result = MatchResult result (well old new) (Fails old new over)
 
 -- a call failed, and told nothing
 pub record Failed (old new : Shown) (ended : Driven) : Type 0 where
@@ -318,12 +324,19 @@ pub record Made (config : DriveConfig) (before now : Option History) (saw : List
   pub so : IsEndOf over ended
 
 -- ---- counts
--- what the stages of a turn leave as it is, and that failed dials are counted
-pub record Keeps (old new : Counts) (before now : Live) : Type 0 where
+-- what the stages of a turn leave as it is
+pub record Keeps (before now : Live) : Type 0 where
   pub made : now.made ≡ before.made
   pub reported : now.reported ≡ before.reported
-  pub dials : old.dial_faults ≤ new.dial_faults
   pub dialled : now.cii ≡ None → before.cii ≡ None
+
+-- What every stage of a turn does. Failed dials are counted, and the companion knows no reading above the last one.
+pub record Stays {T : Type 0} (old new : Counts) (before now : Live) (was is : Companion) (result : Result T Driven)
+    : Type 0 where
+  pub keeps : Keeps before now
+  pub dials : old.dial_faults ≤ new.dial_faults
+  pub floor : was.client.floor ≤ old.last → OnOk result (is.client.floor ≤ new.last)
+  pub early : IfErr result IsEarly
 
 -- where a turn was begun, and no dial of CSS-CII succeeded, one has failed since
 abbrev pub HasTried : ℕ → ℕ → Live → Type 0

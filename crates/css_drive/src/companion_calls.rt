@@ -1,11 +1,11 @@
 //! Single calls of a companion's run.
-ghost use Rattle.std.specs.Prelude.{◌≡◌, ◌≤◌, [], ◌∷◌, ℕ, Option, None, Some, MatchResult, IfOk, IfErr, OnOk};
+ghost use Rattle.std.specs.Prelude.{◌≡◌, ◌≤◌, [], ◌∷◌, ℕ, Option, None, Some, IfOk, IfErr, OnOk};
 ghost use Rattle.css_model.specs.History.{Sent};
 ghost use Rattle.css_outside.specs.Faults.{CountsOutFault, HasRisen};
-ghost use Rattle.css_outside.specs.Outsides.{Counts, heard_entries, wrote_entries};
+ghost use Rattle.css_outside.specs.Outsides.{heard_entries, wrote_entries};
 ghost use Rattle.css_drive.specs.CompanionDue.{end_by};
-ghost use Rattle.css_drive.specs.CompanionStanding.{shown, IsEarly, IsFault, IsEndBy, Fails, Adds, HasDialled, HasRead};
-ghost use Rattle.css_drive.specs.CompanionStanding.{HasLost, Keeps, Knows, SawMore, final_end};
+ghost use Rattle.css_drive.specs.CompanionStanding.{shown, IsEarly, IsFault, IsEndBy, Calls, Adds, HasDialled, HasRead};
+ghost use Rattle.css_drive.specs.CompanionStanding.{HasLost, Keeps, Stays, Knows, SawMore, final_end};
 ghost use Rattle.css_drive.specs.Ends.{CountsNetFault};
 ghost use Rattle.css_drive.specs.Notes.{Standpoint, Happened, Asked, Sees, dial_notes, heard_notes, slept_notes};
 ghost use Rattle.css_drive.specs.Notes.{wrote_notes};
@@ -84,15 +84,12 @@ pub fn try_dial<O: Outside, W: Observes>(
     kind: Kind,
     to: &Address,
 ) -> Result<Option<u32>, Driven>
-    ensures told { MatchResult result
-        (HasDialled (shown (O.told outside.old) (O.counts outside.old))
-        (shown (O.told outside.new) (O.counts outside.new)) kind to.now)
-        (Fails (shown (O.told outside.old) (O.counts outside.old))
-        (shown (O.told outside.new) (O.counts outside.new)) (W.over observer.new)) }
+    ensures told { Calls (shown (O.told outside.old) (O.counts outside.old))
+        (shown (O.told outside.new) (O.counts outside.new)) (W.over observer.new)
+        (λ old new. HasDialled old new kind to.now) result }
     ensures saw { (from : Standpoint) → SawMore W.saw observer.old observer.new (dial_notes from kind) result }
     ensures last { (O.counts outside.new).last ≡ (O.counts outside.old).last }
     ensures dials { (O.counts outside.old).dial_faults ≤ (O.counts outside.new).dial_faults }
-    ensures early { IfErr result IsEarly }
     ensures tried { IfOk result (λ tried. tried ≡ None
         → HasRisen (O.counts outside.old).dial_faults (O.counts outside.new).dial_faults) }
 {
@@ -119,14 +116,12 @@ pub fn read<O: Outside, W: Observes>(
     why: Why,
 ) -> Result<Clocked, Driven>
     requires { companion.old.client.floor ≤ (O.counts outside.old).last }
-    ensures told { MatchResult result
-        (HasRead (shown (O.told outside.old) (O.counts outside.old)) (shown (O.told outside.new) (O.counts outside.new))
-        live.old live.new companion.old companion.new why)
-        (Fails (shown (O.told outside.old) (O.counts outside.old))
-        (shown (O.told outside.new) (O.counts outside.new)) (W.over observer.now)) }
+    ensures told { Calls (shown (O.told outside.old) (O.counts outside.old))
+        (shown (O.told outside.new) (O.counts outside.new)) (W.over observer.now)
+        (λ old new. HasRead old new live.old live.new companion.old companion.new why) result }
     ensures on { OnOk result (W.over observer.now ≡ None) }
-    ensures keeps { Keeps (O.counts outside.old) (O.counts outside.new) live.old live.new }
-    ensures early { IfErr result IsEarly }
+    ensures stays { Stays (O.counts outside.old) (O.counts outside.new) live.old live.new companion.old companion.new
+        result }
 {
     check(observer)?;
     match outside.now(why) {
@@ -158,15 +153,10 @@ pub fn send<O: Outside, W: Observes>(
     peer: u32,
     text: &[u8],
 ) -> Result<Wrote, Driven>
-    ensures told { MatchResult result
-        (λ sent. Adds (shown (O.told outside.old) (O.counts outside.old))
-        (shown (O.told outside.new) (O.counts outside.new)) (wrote_entries peer text.now sent))
-        (Fails (shown (O.told outside.old) (O.counts outside.old))
-        (shown (O.told outside.new) (O.counts outside.new)) (W.over observer.new)) }
+    ensures told { Calls (shown (O.told outside.old) (O.counts outside.old))
+        (shown (O.told outside.new) (O.counts outside.new)) (W.over observer.new)
+        (λ old new sent. Adds old new (wrote_entries peer text.now sent)) result }
     ensures saw { (from : Standpoint) → SawMore W.saw observer.old observer.new (wrote_notes from) result }
-    ensures last { (O.counts outside.new).last ≡ (O.counts outside.old).last }
-    ensures dials { (O.counts outside.new).dial_faults ≡ (O.counts outside.old).dial_faults }
-    ensures early { IfErr result IsEarly }
 {
     check(observer)?;
     match outside.send_text(peer, text) {
@@ -198,16 +188,11 @@ pub fn hear<O: Outside, W: Observes>(
     session: Session,
     peer: u32,
 ) -> Result<Heard, Driven>
-    ensures told { MatchResult result
-        (λ heard. Adds (shown (O.told outside.old) (O.counts outside.old))
-        (shown (O.told outside.new) (O.counts outside.new)) (heard_entries peer heard))
-        (Fails (shown (O.told outside.old) (O.counts outside.old))
-        (shown (O.told outside.new) (O.counts outside.new)) (W.over observer.new)) }
+    ensures told { Calls (shown (O.told outside.old) (O.counts outside.old))
+        (shown (O.told outside.new) (O.counts outside.new)) (W.over observer.new)
+        (λ old new heard. Adds old new (heard_entries peer heard)) result }
     ensures saw { (from : Standpoint) → Knows from.config companion.now from.history
         → SawMore W.saw observer.old observer.new (heard_notes session from) result }
-    ensures last { (O.counts outside.new).last ≡ (O.counts outside.old).last }
-    ensures dials { (O.counts outside.new).dial_faults ≡ (O.counts outside.old).dial_faults }
-    ensures early { IfErr result IsEarly }
 {
     check(observer)?;
     match outside.take_text(peer) {
@@ -237,16 +222,11 @@ pub fn send_request<O: Outside, W: Observes>(
     bytes: &[u8; 32],
     reading: u64,
 ) -> Result<(), Driven>
-    ensures told { MatchResult result
-        (λ _. Adds (shown (O.told outside.old) (O.counts outside.old))
-        (shown (O.told outside.new) (O.counts outside.new)) (Sent peer bytes.now ∷ []))
-        (Fails (shown (O.told outside.old) (O.counts outside.old))
-        (shown (O.told outside.new) (O.counts outside.new)) (W.over observer.new)) }
+    ensures told { Calls (shown (O.told outside.old) (O.counts outside.old))
+        (shown (O.told outside.new) (O.counts outside.new)) (W.over observer.new)
+        (λ old new _. Adds old new (Sent peer bytes.now ∷ [])) result }
     ensures saw { (from : Standpoint)
         → SawMore W.saw observer.old observer.new (λ _. Happened from (Asked reading) ∷ []) result }
-    ensures last { (O.counts outside.new).last ≡ (O.counts outside.old).last }
-    ensures dials { (O.counts outside.new).dial_faults ≡ (O.counts outside.old).dial_faults }
-    ensures early { IfErr result IsEarly }
 {
     check(observer)?;
     match outside.send_datagram(peer, bytes) {
@@ -263,7 +243,7 @@ pub fn lose_ts(live: &mut Live, companion: &mut Companion) -> Result<(), Driven>
     ensures ok { OnOk result (HasLost live.old live.new companion.old companion.new) }
     ensures err { IfErr result (λ ended. ended ≡ Driven.Memory) }
     ensures floor { companion.new.client ≡ companion.old.client }
-    ensures keeps { (counts : Counts) → Keeps counts counts live.old live.new }
+    ensures keeps { Keeps live.old live.new }
 {
     match companion.step(CompanionEvent::TsClosed) {
         Ok(_) => {

@@ -7,7 +7,7 @@ ghost use Rattle.css_companion.specs.Steps.{window};
 ghost use Rattle.css_drive.specs.CompanionDue.{due, from_cii, from_wc, from_ts, from_ask, from_setup, point_of, place};
 ghost use Rattle.css_drive.specs.CompanionDue.{window_text, Connected, SetUp};
 ghost use Rattle.css_drive.specs.Configs.{IsWindow};
-ghost use Rattle.css_drive.specs.CompanionStanding.{at, Leads, LeadsFrom, Keeps, GivesPlace, IsEarly, HasBegun};
+ghost use Rattle.css_drive.specs.CompanionStanding.{at, Leads, LeadsFrom, Stays, GivesPlace, IsEarly, HasBegun};
 ghost use Rattle.css_drive.specs.Proper.{SendText};
 
 use crate::companion_calls::{lose_ts, send, try_dial};
@@ -34,20 +34,16 @@ pub fn dial_cii<O: Outside, W: Observes>(
     ensures goes { Leads W.saw W.over config.now
         (at (O.told outside.old) (O.counts outside.old) live.old companion.now observer.old)
         (at (O.told outside.new) (O.counts outside.new) live.new companion.now observer.new) from_cii from_wc result }
-    ensures last { (O.counts outside.new).last ≡ (O.counts outside.old).last }
-    ensures keeps { Keeps (O.counts outside.old) (O.counts outside.new) live.old live.new }
-    ensures early { IfErr result IsEarly }
+    ensures stays { Stays (O.counts outside.old) (O.counts outside.new) live.old live.new companion.now companion.now
+        result }
     ensures tried { OnOk result (live.new.cii ≡ None
         → HasRisen (O.counts outside.old).dial_faults (O.counts outside.new).dial_faults) }
 {
     if live.cii.is_some() {
         return Ok(());
     }
-    let Some(peer) = try_dial(outside, observer, Kind::Cii, &config.cii)? else {
-        return Ok(());
-    };
-    live.cii = Some(peer);
-    live.cii_open = Some(peer);
+    live.cii = try_dial(outside, observer, Kind::Cii, &config.cii)?;
+    live.cii_open = live.cii;
     Ok(())
 }
 
@@ -83,9 +79,8 @@ pub fn dial_wc<O: Outside, W: Observes>(
     ensures goes { Leads W.saw W.over config.now
         (at (O.told outside.old) (O.counts outside.old) live.old companion.now observer.old)
         (at (O.told outside.new) (O.counts outside.new) live.new companion.now observer.new) from_wc from_ts result }
-    ensures last { (O.counts outside.new).last ≡ (O.counts outside.old).last }
-    ensures keeps { Keeps (O.counts outside.old) (O.counts outside.new) live.old live.new }
-    ensures early { IfErr result IsEarly }
+    ensures stays { Stays (O.counts outside.old) (O.counts outside.new) live.old live.new companion.now companion.now
+        result }
 {
     if live.wc.is_some() {
         return Ok(());
@@ -93,10 +88,7 @@ pub fn dial_wc<O: Outside, W: Observes>(
     let Some(to) = place(alloc, Kind::Wc, CiiName::WcUrl, &companion.state().wc_url)? else {
         return Ok(());
     };
-    let Some(peer) = try_dial(outside, observer, Kind::Wc, &to)? else {
-        return Ok(());
-    };
-    live.wc = Some(peer);
+    live.wc = try_dial(outside, observer, Kind::Wc, &to)?;
     Ok(())
 }
 
@@ -129,10 +121,8 @@ fn present<O: Outside, W: Observes>(
         (at (O.told outside.new) (O.counts outside.new) live.new companion.new observer.new)
         (λ history. (point_of history ≡ SetUp peer)
         × (due config.now history ≡ from_setup config.now peer history)) from_ask result }
-    ensures floor { companion.new.client.floor ≡ companion.old.client.floor }
-    ensures last { (O.counts outside.new).last ≡ (O.counts outside.old).last }
-    ensures keeps { Keeps (O.counts outside.old) (O.counts outside.new) live.old live.new }
-    ensures early { IfErr result IsEarly }
+    ensures stays { Stays (O.counts outside.old) (O.counts outside.new) live.old live.new companion.old companion.new
+        result }
 {
     let Some((earliest, latest)) = config.present else {
         return Ok(());
@@ -174,10 +164,8 @@ fn introduce<O: Outside, W: Observes>(
         (at (O.told outside.new) (O.counts outside.new) live.new companion.new observer.new)
         (λ history. (point_of history ≡ Connected peer)
         × (due config.now history ≡ SendText peer setup.now)) from_ask result }
-    ensures floor { companion.new.client.floor ≡ companion.old.client.floor }
-    ensures last { (O.counts outside.new).last ≡ (O.counts outside.old).last }
-    ensures keeps { Keeps (O.counts outside.old) (O.counts outside.new) live.old live.new }
-    ensures early { IfErr result IsEarly }
+    ensures stays { Stays (O.counts outside.old) (O.counts outside.new) live.old live.new companion.old companion.new
+        result }
 {
     match send(outside, observer, peer, setup.bytes())? {
         Wrote::Sent => present(config, live, companion, outside, observer, peer),
@@ -198,10 +186,8 @@ pub fn dial_ts<O: Outside, W: Observes>(
     ensures goes { Leads W.saw W.over config.now
         (at (O.told outside.old) (O.counts outside.old) live.old companion.old observer.old)
         (at (O.told outside.new) (O.counts outside.new) live.new companion.new observer.new) from_ts from_ask result }
-    ensures floor { companion.new.client.floor ≡ companion.old.client.floor }
-    ensures last { (O.counts outside.new).last ≡ (O.counts outside.old).last }
-    ensures keeps { Keeps (O.counts outside.old) (O.counts outside.new) live.old live.new }
-    ensures early { IfErr result IsEarly }
+    ensures stays { Stays (O.counts outside.old) (O.counts outside.new) live.old live.new companion.old companion.new
+        result }
 {
     if live.ts.is_some() {
         return Ok(());

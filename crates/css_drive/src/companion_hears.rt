@@ -10,7 +10,7 @@ ghost use Rattle.css_companion.specs.Meanings.{kind_of};
 ghost use Rattle.css_drive.specs.CompanionDue.{due, from_ask, from_take, from_cii_text, from_ts_text, from_end};
 ghost use Rattle.css_drive.specs.CompanionDue.{refusal_of};
 ghost use Rattle.css_drive.specs.CompanionStanding.{Shown, shown, at, Stands, Knows, Leads, LeadsFrom, Goes, Stops};
-ghost use Rattle.css_drive.specs.CompanionStanding.{Keeps, Fails, Adds, IsHangingUp, IsEarly, IsEndBy, IsRefusal, hung};
+ghost use Rattle.css_drive.specs.CompanionStanding.{Stays, Calls, Adds, IsHangingUp, IsEarly, IsEndBy, IsRefusal, hung};
 ghost use Rattle.css_drive.specs.CompanionTurns.{is_asking};
 ghost use Rattle.css_drive.specs.Proper.{Now};
 
@@ -51,9 +51,8 @@ fn request<O: Outside, W: Observes>(
         (at (O.told outside.old) (O.counts outside.old) live.old companion.old observer.old)
         (at (O.told outside.new) (O.counts outside.new) live.new companion.new observer.new)
         (λ history. due config.now history ≡ Now whys.Ask) from_take result }
-    ensures floor { OnOk result (companion.new.client.floor ≤ (O.counts outside.new).last) }
-    ensures keeps { Keeps (O.counts outside.old) (O.counts outside.new) live.old live.new }
-    ensures early { IfErr result IsEarly }
+    ensures stays { Stays (O.counts outside.old) (O.counts outside.new) live.old live.new companion.old companion.new
+        result }
 {
     let clocked = read(outside, observer, companion, live, Why::Ask)?;
     note_sleep(observer, &clocked);
@@ -75,9 +74,8 @@ pub fn ask<O: Outside, W: Observes>(
     ensures goes { Leads W.saw W.over config.now
         (at (O.told outside.old) (O.counts outside.old) live.old companion.old observer.old)
         (at (O.told outside.new) (O.counts outside.new) live.new companion.new observer.new) from_ask from_take result }
-    ensures floor { OnOk result (companion.new.client.floor ≤ (O.counts outside.new).last) }
-    ensures keeps { Keeps (O.counts outside.old) (O.counts outside.new) live.old live.new }
-    ensures early { IfErr result IsEarly }
+    ensures stays { Stays (O.counts outside.old) (O.counts outside.new) live.old live.new companion.old companion.new
+        result }
 {
     let Some(peer) = live.wc else {
         return Ok(());
@@ -104,9 +102,8 @@ fn land<O: Outside, W: Observes>(
         → Knows config.now companion.old history
         → Goes config.now before (shown (O.told outside.new) (O.counts outside.new)) (W.saw started observer.new)
         (W.over observer.new) live.new companion.new (from_cii_text config.now) result }
-    ensures floor { OnOk result (companion.new.client.floor ≤ (O.counts outside.new).last) }
-    ensures keeps { Keeps (O.counts outside.old) (O.counts outside.new) live.old live.new }
-    ensures early { IfErr result IsEarly }
+    ensures stays { Stays (O.counts outside.old) (O.counts outside.new) live.old live.new companion.old companion.new
+        result }
 {
     let clocked = read(outside, observer, companion, live, Why::Land)?;
     observer.landed(&clocked, bytes, companion);
@@ -133,9 +130,8 @@ pub fn take<O: Outside, W: Observes>(
         (at (O.told outside.old) (O.counts outside.old) live.old companion.old observer.old)
         (at (O.told outside.new) (O.counts outside.new) live.new companion.new observer.new)
         from_take from_cii_text result }
-    ensures floor { OnOk result (companion.new.client.floor ≤ (O.counts outside.new).last) }
-    ensures keeps { Keeps (O.counts outside.old) (O.counts outside.new) live.old live.new }
-    ensures early { IfErr result IsEarly }
+    ensures stays { Stays (O.counts outside.old) (O.counts outside.new) live.old live.new companion.old companion.new
+        result }
 {
     let Some(_) = live.wc else {
         return Ok(());
@@ -178,9 +174,8 @@ pub fn hear_cii<O: Outside, W: Observes>(
         (at (O.told outside.old) (O.counts outside.old) live.old companion.old observer.old)
         (at (O.told outside.new) (O.counts outside.new) live.new companion.new observer.new)
         from_cii_text from_ts_text result }
-    ensures floor { OnOk result (companion.new.client.floor ≤ (O.counts outside.new).last) }
-    ensures keeps { Keeps (O.counts outside.old) (O.counts outside.new) live.old live.new }
-    ensures early { IfErr result IsEarly }
+    ensures stays { Stays (O.counts outside.old) (O.counts outside.new) live.old live.new companion.old companion.new
+        result }
 {
     let Some(peer) = live.cii_open else {
         return Ok(());
@@ -223,9 +218,8 @@ pub fn hear_ts<O: Outside, W: Observes>(
         (at (O.told outside.old) (O.counts outside.old) live.old companion.old observer.old)
         (at (O.told outside.new) (O.counts outside.new) live.new companion.new observer.new)
         from_ts_text from_end result }
-    ensures floor { OnOk result (companion.new.client.floor ≤ (O.counts outside.new).last) }
-    ensures keeps { Keeps (O.counts outside.old) (O.counts outside.new) live.old live.new }
-    ensures early { IfErr result IsEarly }
+    ensures stays { Stays (O.counts outside.old) (O.counts outside.new) live.old live.new companion.old companion.new
+        result }
 {
     let Some(peer) = live.ts_open else {
         return Ok(());
@@ -243,12 +237,9 @@ fn hang_up_one<O: Outside, W: Observes>(
     observer: &W,
     session: Option<u32>,
 ) -> Result<(), Driven>
-    ensures told { MatchResult result
-        (λ _. Adds (shown (O.told outside.old) (O.counts outside.old))
-        (shown (O.told outside.new) (O.counts outside.new)) (hung session))
-        (Fails (shown (O.told outside.old) (O.counts outside.old))
-        (shown (O.told outside.new) (O.counts outside.new)) (W.over observer.now)) }
-    ensures dials { (O.counts outside.new).dial_faults ≡ (O.counts outside.old).dial_faults }
+    ensures { Calls (shown (O.told outside.old) (O.counts outside.old))
+        (shown (O.told outside.new) (O.counts outside.new)) (W.over observer.now)
+        (λ old new _. Adds old new (hung session)) result }
 {
     let Some(peer) = session else {
         return Ok(());
@@ -276,7 +267,7 @@ pub fn hang_up<O: Outside, W: Observes>(
         → IsLawful history → IsHangingUp config.now end history
         → Stops config.now before (shown (O.told outside.new) (O.counts outside.new)) (W.saw started observer.now)
         (W.over observer.now) result }
-    ensures dials { (O.counts outside.new).dial_faults ≡ (O.counts outside.old).dial_faults }
+    ensures dials { (O.counts outside.old).dial_faults ≤ (O.counts outside.new).dial_faults }
     ensures kind { (result ≡ end) ⊎ IsEndBy (W.over observer.now) result }
 {
     match hang_up_one(outside, observer, live.cii_open) {

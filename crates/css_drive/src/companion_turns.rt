@@ -6,7 +6,7 @@ ghost use Rattle.css_outside.specs.Limits.{IsLimit};
 ghost use Rattle.css_drive.specs.Configs.{IsWindow};
 ghost use Rattle.css_drive.specs.CompanionDue.{from_turn, from_cii, from_end};
 ghost use Rattle.css_drive.specs.CompanionReports.{is_due};
-ghost use Rattle.css_drive.specs.CompanionStanding.{Knows, at, a_turn, Leads, Keeps, IsEarly, Made, HasTried};
+ghost use Rattle.css_drive.specs.CompanionStanding.{Knows, at, a_turn, Leads, Stays, IsEarly, Made, HasTried};
 ghost use Rattle.css_drive.specs.CompanionStanding.{ending_of};
 ghost use Rattle.css_drive.specs.CompanionTurns as turns;
 ghost use Rattle.css_drive.specs.Ends.{CountsNetFault, CountsDialFaults};
@@ -105,9 +105,8 @@ pub fn calls<O: Outside, W: Observes>(
     ensures goes { Leads W.saw W.over config.now
         (at (O.told outside.old) (O.counts outside.old) live.old companion.old observer.old)
         (at (O.told outside.new) (O.counts outside.new) live.new companion.new observer.new) from_cii from_end result }
-    ensures floor { OnOk result (companion.new.client.floor ≤ (O.counts outside.new).last) }
-    ensures keeps { Keeps (O.counts outside.old) (O.counts outside.new) live.old live.new }
-    ensures early { IfErr result IsEarly }
+    ensures stays { Stays (O.counts outside.old) (O.counts outside.new) live.old live.new companion.old companion.new
+        result }
     ensures tried { OnOk result (live.new.cii ≡ None
         → HasRisen (O.counts outside.old).dial_faults (O.counts outside.new).dial_faults) }
 {

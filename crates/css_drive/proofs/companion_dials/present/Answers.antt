@@ -7,7 +7,7 @@ use Rattle.css_drive.specs.CompanionDue.{due, due_at, from_setup, text_sent, tex
 use Rattle.css_drive.specs.Notes.{standpoint}
 use Rattle.css_drive.specs.Proper.{SendText}
 use Rattle.css_drive.specs.declared.config.DriveConfig.{DriveConfig}
-use Rattle.css_drive.proofs.CompanionSteps.{comes, knows_as, knows_lawful, stops_by_fault, stops_by_memory, at_err}
+use Rattle.css_drive.proofs.CompanionSteps.{comes, failed, knows_as, knows_lawful, stops_by_memory, at_err}
 use Rattle.css_drive.proofs.CompanionCalls as calls
 use Rattle.css_drive.proofs.companion_dials.present.Goals as goal
 
@@ -19,42 +19,35 @@ is_sent config p h earliest latest some d =
     d ∙ ap (λ o. sending p (option_map window_text o) (from_ask config h)) some
 
 pub returns-in-Sent-clause-goes : goal.returns-in-Sent-clause-goes
-returns-in-Sent-clause-goes g c ts at_ts before started h s k when =
+returns-in-Sent-clause-goes g c ts at before started h s k when =
     let cfg = c.args.config.now in
     let p : ℕ = c.args.peer in
     let text = c.bytes.result.now in
-    comes (calls.sent_stands s p (calls.ts_at cfg before _ _ c.args.live.now h s p at_ts) text
-    (is_sent cfg p h c.in-Some.earliest c.in-Some.latest (cc) when.1 ∙ ap (λ b. SendText p b) (sym (c.bytes.ensures
-    ∙ c.in_ok-text.ensures.text))) outcome.Sent
-    (rw c.in-Sent.is at c.in_ok-send.ensures.told) (g.W.Observes.saw started c.send.new.observer)
-    (rw c.in-Sent.is at c.in_ok-send.ensures.saw (standpoint cfg h) started _ s.saw_so) _ s.facts refl refl)
-    (calls.knows_plain _ _ (Wrote p text) h (knows_as _ _ _ h c.in_ok-text.ensures.same k) refl refl refl refl refl
-    refl refl) _ (ap (λ x. due_at cfg (text_sent x) (Wrote p text ∷ h)) when.0)
+    let call = rw c.in-Sent.is at c.in_ok-send.ensures in
+    comes (calls.ts_sent s at (is_sent cfg p h c.in-Some.earliest c.in-Some.latest (cc) when.1
+    ∙ ap (λ b. SendText p b) (sym (c.bytes.ensures ∙ c.in_ok-text.ensures.text))) outcome.Sent call.told
+    (call.saw (standpoint cfg h) started _ s.saw_so) _ s.facts)
+    (calls.knows_plain (Wrote p text) (knows_as _ _ _ h c.in_ok-text.ensures.same k) refl refl refl refl refl refl
+    refl) _ (ap (λ x. due_at cfg (text_sent x) (Wrote p text ∷ h)) when.0)
 
 pub returns-clause-goes : goal.returns-clause-goes
-returns-clause-goes g c ts at_ts before started h s k when =
+returns-clause-goes g c ts at before started h s k when =
     let cfg = c.args.config.now in
     let p : ℕ = c.args.peer in
-    calls.gone_goes s (knows_as _ _ _ h c.in_ok-text.ensures.same k) p at_ts c.bytes.result.now
-    (is_sent cfg p h c.in-Some.earliest c.in-Some.latest (cc) when.1 ∙ ap (λ b. SendText p b) (sym (c.bytes.ensures
-    ∙ c.in_ok-text.ensures.text)))
-    (rw c.in-Gone.is at c.in_ok-send.ensures.told) (g.W.Observes.saw started c.send.new.observer)
-    (rw c.in-Gone.is at c.in_ok-send.ensures.saw (standpoint _ h) started _ s.saw_so) _ _ _ _
+    let call = rw c.in-Gone.is at c.in_ok-send.ensures in
+    calls.gone_goes s (knows_as _ _ _ h c.in_ok-text.ensures.same k) at
+    (is_sent cfg p h c.in-Some.earliest c.in-Some.latest (cc) when.1
+    ∙ ap (λ b. SendText p b) (sym (c.bytes.ensures ∙ c.in_ok-text.ensures.text))) call.told _
+    (call.saw (standpoint cfg h) started _ s.saw_so) _ _ _ _
     (ap (λ x. due_at cfg (text_gone x) (Gone p ∷ h)) when.0) c.lose_ts.result c.lose_ts.ensures.ok
     c.lose_ts.ensures.err
 
 pub returns-in_err-send-clause-goes : goal.returns-in_err-send-clause-goes
-returns-in_err-send-clause-goes g c ts at_ts before started h s k when =
-    at_err _ _ _ _ c.from_residual-in_err-send.ensures.1
-    (stops_by_fault s (knows_lawful _ _ h k) _ _ _ c.in_err-send.ensures.told
-    (g.W.Observes.saw started c.send.new.observer)
-    (c.in_err-send.ensures.saw (standpoint c.args.config.now h) started _ s.saw_so))
-
-pub returns-clause-keeps : goal.returns-clause-keeps
-returns-clause-keeps g c =
-    calls.keeps_same c.in_ok-send.ensures.dials (c.lose_ts.ensures.keeps (g.O.Outside.counts c.send.new.outside))
+returns-in_err-send-clause-goes g c ts at before started h s k when =
+    failed s _ _ k c.from_residual-in_err-send.ensures.1 c.in_err-send.ensures.told _
+    (c.in_err-send.ensures.saw (standpoint c.args.config.now h) started _ s.saw_so)
 
 pub returns-in_err-text-clause-goes : goal.returns-in_err-text-clause-goes
-returns-in_err-text-clause-goes g c ts at_ts before started h s k when =
+returns-in_err-text-clause-goes g c ts at before started h s k when =
     at_err _ _ _ c.from_residual.result c.from_residual.ensures.1
     (stops_by_memory s (knows_lawful _ _ h k) _ _ c.in_err-text.ensures.err)

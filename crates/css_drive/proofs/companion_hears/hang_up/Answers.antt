@@ -1,4 +1,4 @@
-use Rattle.std.proofs.Common.{◌≡◌, refl, sym, ◌∙◌, ap, subst, inl, inr, false, Some, ℕ, ◌++◌}
+use Rattle.std.proofs.Common.{◌≡◌, refl, sym, ◌∙◌, ap, subst, inl, inr, false, Some, ℕ, ◌++◌, arith}
 use Rattle.css_model.specs.declared.Kind.TheVariants as kind
 use Rattle.css_drive.specs.CompanionDue.{hang_up, due}
 use Rattle.css_drive.specs.CompanionStanding.{Facts, hung}
@@ -13,9 +13,9 @@ use Rattle.css_drive.proofs.companion_hears.hang_up.Goals as goal
 pub returns-in-Err : goal.returns-in-Err
 returns-in-Err g c = record {
   stops = λ before started h s l i.
-      stops_by_fault s l _ _ _ c.in-Err.ensures.told (g.W.Observes.saw started c.args.observer.now) s.saw_so;
+      stops_by_fault s l c.in-Err.ensures s.saw_so;
   dials = c.in-Err.ensures.dials;
-  kind = inr c.in-Err.ensures.told.end;
+  kind = inr c.in-Err.ensures.end;
 }
 
 pub returns-in-Ok-hang_up_one : goal.returns-in-Ok-hang_up_one
@@ -26,15 +26,14 @@ returns-in-Ok-hang_up_one g c = record {
       let t = c.args.live.now.ts_open in
       let end = c.args.end in
       let apart : (q : ℕ) → o ≡ Some q → is_peer t q ≡ false = λ q x. calls.other_open h t kind.Ts kind.Cii q
-      (calls.open_ts cfg before _ _ c.args.live.now h s) (calls.open_cii cfg before _ _ c.args.live.now h s q
-      x) (λ y. cc) in
+      (λ p y. calls.open_ts s y) (calls.open_cii s x) (λ y. cc) in
       let a = ends.cii_hung cfg h t end i.final_so (ap {A = Facts} (λ x. x.ts_open) s.facts) o (ap {A = Facts} (λ x.
       x.cii_open) s.facts) apart i.first in
       let d0 = i.first ∙ ap (λ x. hang_up x (hang_up (opened kind.Ts h) (Ends end))) (ap {A = Facts} (λ x. x.cii_open)
       s.facts) in
       let p = ends.hung_proper cfg h o _ s.proper d0 in
-      let first = c.in-Ok.ensures.told in
-      let second = c.in-Ok-hang_up_one.ensures.told in
+      let first = c.in-Ok.ensures in
+      let second = c.in-Ok-hang_up_one.ensures in
       let P : Due → Type 0 = λ x. MayEnd x end in
       record {
         history = hung t ++ (hung o ++ h);
@@ -49,7 +48,11 @@ returns-in-Ok-hang_up_one g c = record {
             ∙ ends.hung_noted cfg h o)) s.saw_so;
         so = ends.over_so _ end i.over;
       };
-  dials = c.in-Ok-hang_up_one.ensures.dials ∙ c.in-Ok.ensures.dials;
+  dials = omega (
+    arith,
+    ap (λ x. x.dial_faults) c.in-Ok.ensures.same,
+    ap (λ x. x.dial_faults) c.in-Ok-hang_up_one.ensures.same,
+  );
   kind = inl refl;
 }
 
@@ -61,8 +64,8 @@ returns-in-Err-hang_up_one g c = record {
       let end = c.args.end in
       let d0 = i.first ∙ ap (λ x. hang_up x (hang_up (opened kind.Ts h) (Ends end))) (ap {A = Facts} (λ x. x.cii_open)
       s.facts) in
-      let first = c.in-Ok.ensures.told in
-      let second = c.in-Err-hang_up_one.ensures.told in
+      let first = c.in-Ok.ensures in
+      let second = c.in-Err-hang_up_one.ensures in
       let ended = c.in-Err-hang_up_one.ended in
       record {
         history = hung o ++ h;
@@ -74,6 +77,6 @@ returns-in-Err-hang_up_one g c = record {
         saw_so = subst (g.W.Observes.saw started c.args.observer.now) (sym (ends.hung_noted cfg h o)) s.saw_so;
         so = fails_so _ ended second.end;
       };
-  dials = c.in-Err-hang_up_one.ensures.dials ∙ c.in-Ok.ensures.dials;
-  kind = inr c.in-Err-hang_up_one.ensures.told.end;
+  dials = omega (arith, ap (λ x. x.dial_faults) c.in-Ok.ensures.same, c.in-Err-hang_up_one.ensures.dials);
+  kind = inr c.in-Err-hang_up_one.ensures.end;
 }

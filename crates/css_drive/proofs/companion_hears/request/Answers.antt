@@ -1,4 +1,4 @@
-use Rattle.std.proofs.Common.{refl, sym, ◌∙◌, ap, subst, inl, ℕ, ◌∷◌, [], ◌++◌}
+use Rattle.std.proofs.Common.{refl, sym, ◌∙◌, ap, ℕ, ◌∷◌, [], ◌++◌}
 use Rattle.css_model.specs.declared.Why.TheVariants as why
 use Rattle.css_model.specs.History.{Sent}
 use Rattle.css_outside.specs.Outsides.{clock_entries}
@@ -6,9 +6,9 @@ use Rattle.css_outside.specs.declared.calls.Clocked.{Clocked}
 use Rattle.css_model.specs.Wire.{encoded, request_at}
 use Rattle.css_drive.specs.CompanionDue.{send_to}
 use Rattle.css_drive.specs.CompanionStanding.{Facts}
-use Rattle.css_drive.specs.Notes.{noted, standpoint}
+use Rattle.css_drive.specs.Notes.{standpoint}
 use Rattle.css_drive.specs.Proper.{SendDatagram}
-use Rattle.css_drive.proofs.CompanionSteps.{comes, stands_saw, stops_by_fault, peers_as, at_err, knows_lawful}
+use Rattle.css_drive.proofs.CompanionSteps.{comes, stands_adds, stops_by_fault, failed, at_err}
 use Rattle.css_drive.proofs.CompanionCalls as calls
 use Rattle.css_drive.proofs.companion_hears.request.Goals as goal
 
@@ -18,20 +18,16 @@ returns-clause-goes g c some before started h s k d =
     let clocked : Clocked = c.in_ok-clocked.clocked in
     let p : ℕ = c.args.peer in
     let cfg = c.args.config.now in
-    let slept = g.W.Observes.saw started c.note_sleep.new.observer in
-    let saw : slept (noted cfg (clock_entries why.Ask clocked ++ h)) = subst slept
-    (sym (calls.asked_notes cfg clocked h))
+    let asked = clock_entries why.Ask clocked ++ h in
+    let s1 = calls.stands_asked {after = g.W.Observes.saw started c.note_sleep.new.observer} s d clocked read
     (c.note_sleep.ensures (standpoint cfg h) started _ c.in_ok-clocked.ensures.on s.saw_so) in
-    let s1 = calls.stands_read s why.Ask (inl refl) d _ _ _ _ clocked read slept saw in
     let k1 = read.known cfg h k in
     let e1 = calls.asked_to cfg clocked h ∙ ap (λ o. send_to o (encoded (request_at clocked.reading)))
     (ap {A = Facts} (λ x. x.wc) s.facts ∙ some) ∙ ap (λ b. SendDatagram p b) (sym c.ask-bytes.ensures.request) in
-    let sent = c.in_ok-send_request.ensures.told in
-    comes (stands_saw s1 (SendDatagram p c.ask-bytes.result) e1 (Sent p c.ask-bytes.result ∷ []) refl _
-    sent.told (ap (λ x. x.faults) sent.same) (g.W.Observes.saw started c.send_request.new.observer)
-    (c.in_ok-send_request.ensures.saw (standpoint cfg (clock_entries why.Ask clocked ++ h)) started _ s1.saw_so) _
-    (ap {A = Facts} (λ x. record x { asked = x.turn }) s1.facts)
-    (peers_as _ _ _ _ _ _ s1.peers (calls.same_peers sent.same) (λ q. refl)))
+    comes (stands_adds s1 (SendDatagram p c.ask-bytes.result) e1 (Sent p c.ask-bytes.result ∷ []) refl s1.peers
+    c.in_ok-send_request.ensures.told
+    (c.in_ok-send_request.ensures.saw (standpoint cfg asked) started _ s1.saw_so) _
+    (ap {A = Facts} (λ x. record x { asked = x.turn }) s1.facts))
     (record {
       stands = c.ask-bytes.ensures.stands _ p k1.stands;
       setup = ap (λ x. x.setup) c.ask-bytes.ensures.keeps
@@ -44,20 +40,13 @@ returns-in_err-send_request-clause-goes g c some before started h s k d =
     let read = c.in_ok-clocked.ensures.told in
     let clocked : Clocked = c.in_ok-clocked.clocked in
     let cfg = c.args.config.now in
-    let slept = g.W.Observes.saw started c.note_sleep.new.observer in
-    let saw : slept (noted cfg (clock_entries why.Ask clocked ++ h)) = subst slept
-    (sym (calls.asked_notes cfg clocked h))
+    let s1 = calls.stands_asked {after = g.W.Observes.saw started c.note_sleep.new.observer} s d clocked read
     (c.note_sleep.ensures (standpoint cfg h) started _ c.in_ok-clocked.ensures.on s.saw_so) in
-    let s1 = calls.stands_read s why.Ask (inl refl) d _ _ _ _ clocked read slept saw in
-    let k1 = read.known cfg h k in
-    let l = (c.ask-bytes.ensures.stands _ c.args.peer k1.stands).client.lawful in
+    let l = (c.ask-bytes.ensures.stands _ c.args.peer (read.known cfg h k).stands).client.lawful in
     at_err _ _ _ _ c.from_residual-in_err-send_request.ensures.1
-    (stops_by_fault s1 (record { rises = l.rises.1; asks = l.asks.1 }) _ _ _ c.in_err-send_request.ensures.told
-    (g.W.Observes.saw started c.send_request.new.observer) (c.in_err-send_request.ensures.saw (standpoint cfg h)
-    started _ s1.saw_so))
+    (stops_by_fault s1 (record { rises = l.rises.1; asks = l.asks.1 }) c.in_err-send_request.ensures.told
+    (c.in_err-send_request.ensures.saw (standpoint cfg h) started _ s1.saw_so))
 
 pub returns-in_err-clocked-clause-goes : goal.returns-in_err-clocked-clause-goes
 returns-in_err-clocked-clause-goes g c some before started h s k d =
-    at_err _ _ _ c.from_residual.result c.from_residual.ensures.1
-    (stops_by_fault s (knows_lawful _ _ h k) _ _ _ c.in_err-clocked.ensures.told
-    (g.W.Observes.saw started c.args.observer.now) s.saw_so)
+    failed s _ _ k c.from_residual.ensures.1 c.in_err-clocked.ensures.told _ s.saw_so

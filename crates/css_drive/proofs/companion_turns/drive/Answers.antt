@@ -1,4 +1,4 @@
-use Rattle.std.proofs.Common.{◌≡◌, ℕ, ◌≤◌, refl, sym, ◌∙◌, subst, arith, true, false}
+use Rattle.std.proofs.Common.{◌≡◌, ◌≤◌, refl, sym, ◌∙◌, subst, arith, true, false}
 use Rattle.std.specs.Prelude.{nat_lt}
 use Rattle.std.proofs.lemmas.Grind.{common_steps}
 use Rattle.css_drive.specs.CompanionStanding.{IsHangingUp}
@@ -12,8 +12,7 @@ use Rattle.css_drive.proofs.companion_turns.drive.Goals as goal
 
 pub turns-init : goal.turns-init
 turns-init g c = record {
-  run = runs.comes_first c.args.config.now _ _ _ c.args.companion.now c.requires.known refl
-      (record { cii_used = tt; ts_used = tt; cii_kind = tt; ts_kind = tt }) c.requires.begun;
+  run = runs.comes_first c.args.config.now _ _ _ c.args.companion.now c.requires.known refl c.requires.begun;
   floor = omega (arith, c.requires.floor);
   reported = omega arith;
   dials = omega arith;
@@ -30,7 +29,7 @@ turns-preserved g c =
     let more : goes_on cfg.limit c.turns.live.first c.turns.live.turn c.turns.live.made ≡ true = sym c.goes_on.ensures
     ∙ c.turns-test.true in
     let few : nat_lt c.turns.live.reported cfg.reports ≡ true = grind (arith, common_steps) in
-    let d = ends.next_turn cfg _ _ _ c.turns.live w.history w.stands w.next few more in
+    let d = ends.next_turn w.stands w.next few more in
     record {
       run = c.in-Ok.ensures.goes _ _ w.history w.stands w.known d;
       floor = c.in-Ok.ensures.floor;
@@ -59,7 +58,7 @@ returns-in-Err g c =
     let more : goes_on cfg.limit c.turns.live.first c.turns.live.turn c.turns.live.made ≡ true = sym c.goes_on.ensures
     ∙ c.turns-test.true in
     let few : nat_lt c.turns.live.reported cfg.reports ≡ true = grind (arith, common_steps) in
-    let d = ends.next_turn cfg _ _ _ c.turns.live w.history w.stands w.next few more in
+    let d = ends.next_turn w.stands w.next few more in
     let s = c.in-Err.ensures.goes _ _ w.history w.stands w.known d in
     let le : (g.O.Outside.counts c.args.outside.now).dial_faults ≤ (g.O.Outside.counts c.turn.new.outside).dial_faults =
     omega (arith, c.turns.invariant.dials, c.turn.ensures.dials) in
@@ -80,18 +79,18 @@ returns g c =
     ∙ c.turns-test.false in
     let few : nat_lt c.turns.live.reported cfg.reports ≡ true = grind (arith, common_steps) in
     let P : Driven → Type 0 = λ x. IsHangingUp cfg x w.history in
-    let hanging = subst P (sym c.ending-end.ensures) (ends.is_over cfg _ _ _ c.turns.live w.history w.stands w.next few
-    over) in
+    let hanging = subst P (sym c.ending-end.ensures) (ends.is_over w.stands w.next few over) in
     let s = c.hang_up-ended.ensures.stops _ _ w.history w.stands (knows_lawful cfg _ _ w.known) hanging in
-    let begun = ends.has_begun cfg _ _ _ c.turns.live w.history w.stands over in
-    let hung = runs.hung_dials _ _ c.turns.live.made c.turns.live.cii c.turns.live.wc c.turns.live.ts _ _ _ i.dials
-    (i.tried begun) c.ending-end.ensures c.hang_up-ended.ensures.kind in
-    let Q : ℕ → Type 0 = λ n.
-    CountsDialFaults (g.O.Outside.counts c.args.outside.now).dial_faults n c.ended_by-2.result in
+    let begun = ends.has_begun w.stands over in
+    let le : (g.O.Outside.counts c.args.outside.now).dial_faults ≤ (g.O.Outside.counts c.hang_up-ended.new.outside).dial_faults
+    = omega (arith, i.dials, c.hang_up-ended.ensures.dials) in
+    let hung = runs.hung_dials _ _ c.turns.live.made c.turns.live.cii c.turns.live.wc c.turns.live.ts _ _ _ le
+    (λ none. runs.risen_to _ _ _ c.hang_up-ended.ensures.dials (i.tried begun none)) c.ending-end.ensures
+    c.hang_up-ended.ensures.kind in
     record {
       made = runs.made_of cfg _ _ _ _ _ _ c.ended_by-2.ensures s;
       net_faults = runs.counted_of cfg _ _ _ _ _ _ c.ended_by-2.ensures s;
       dial_faults =
-          subst Q (sym c.hang_up-ended.ensures.dials) (subst (CountsDialFaults _ _) (sym c.ended_by-2.ensures)
-          (runs.final_dials (g.W.Observes.over c.turns.observer) _ _ _ hung i.dials));
+          subst (CountsDialFaults _ _) (sym c.ended_by-2.ensures)
+          (runs.final_dials (g.W.Observes.over c.turns.observer) _ _ _ hung le);
     }

@@ -8,7 +8,7 @@ use Rattle.css_drive.specs.CompanionStanding.{Facts, facts_in, asked_after}
 use Rattle.css_drive.specs.CompanionTurns.{first_turn}
 use Rattle.css_drive.specs.Notes.{Reported, noted, turn_notes, standpoint, slept_from}
 use Rattle.css_drive.specs.Proper.{Now}
-use Rattle.css_drive.proofs.CompanionSteps.{comes, stands_saw, stops_by_fault, knows_lawful, at_err}
+use Rattle.css_drive.proofs.CompanionSteps.{comes, stands_saw, failed}
 use Rattle.css_drive.proofs.CompanionCalls as calls
 use Rattle.css_drive.proofs.CompanionEnds as ends
 use Rattle.css_drive.proofs.CompanionRuns as runs
@@ -28,8 +28,6 @@ returns-then-due-clause-goes g c before started h s k d =
     let first : first_turn h ≡ live.first = ap {A = Facts} (λ x. x.first) s.facts in
     let count : length (due_reports cfg h) ≡ live.reported = ap {A = Facts} (λ x. x.reported) s.facts in
     let was = record (facts_in live) { asked = asked_after clocked.slept live.asked } in
-    let peers = calls.live_peers _ _ live c.read.new.live history read.peers (ap {A = Facts} (λ x. x.cii) read.only)
-    (ap {A = Facts} (λ x. x.ts) read.only) (calls.peers_clock _ _ _ why.Turn clocked h s.peers) in
     let F : Facts → Facts = λ x. record x {
       first = Some (unwrap_or x.first r);
       turn = Some r;
@@ -52,8 +50,8 @@ returns-then-due-clause-goes g c before started h s k d =
     (c.reported.ensures from known started _ c.in_ok-clocked.ensures.on s.saw_so) in
     let saw : after (noted cfg history) = subst after (sym (ends.reported_notes cfg clocked h live.first live.reported
     report first count is so)) told in
-    comes (stands_saw s (Now why.Turn) d (clock_entries why.Turn clocked) (clocked, refl) _ read.told read.faults after
-    saw _ facts peers) (calls.knows_read cfg _ clocked h known) _ (ends.begun_next cfg clocked h)
+    comes (stands_saw s (Now why.Turn) d (clock_entries why.Turn clocked) (clocked, refl) _ read.told read.faults
+    (calls.peers_clock why.Turn clocked h read s.peers) after saw _ facts) (calls.knows_read cfg _ clocked h known) _ (ends.begun_next cfg clocked h)
 
 pub returns-clause-goes : goal.returns-clause-goes
 returns-clause-goes g c before started h s k d =
@@ -69,8 +67,6 @@ returns-clause-goes g c before started h s k d =
     let first : first_turn h ≡ live.first = ap {A = Facts} (λ x. x.first) s.facts in
     let count : length (due_reports cfg h) ≡ live.reported = ap {A = Facts} (λ x. x.reported) s.facts in
     let was = record (facts_in live) { asked = asked_after clocked.slept live.asked } in
-    let peers = calls.live_peers _ _ live c.read.new.live history read.peers (ap {A = Facts} (λ x. x.cii) read.only)
-    (ap {A = Facts} (λ x. x.ts) read.only) (calls.peers_clock _ _ _ why.Turn clocked h s.peers) in
     let F : Facts → Facts = λ x. record x { first = Some (unwrap_or x.first r); turn = Some r; made = x.made + 1 } in
     let facts = ends.begun_facts cfg live h clocked false s.facts is
     ∙ sym (ap {A = Facts} F read.only)
@@ -79,11 +75,9 @@ returns-clause-goes g c before started h s k d =
     let after = g.W.Observes.saw started c.turned.new.self in
     let saw : after (noted cfg history) = subst after (sym (ends.turned_notes cfg clocked h live.first live.reported
     first count is)) (c.turned.ensures (standpoint cfg h) known started _ c.in_ok-clocked.ensures.on s.saw_so) in
-    comes (stands_saw s (Now why.Turn) d (clock_entries why.Turn clocked) (clocked, refl) _ read.told read.faults after
-    saw _ facts peers) (calls.knows_read cfg _ clocked h known) _ (ends.begun_next cfg clocked h)
+    comes (stands_saw s (Now why.Turn) d (clock_entries why.Turn clocked) (clocked, refl) _ read.told read.faults
+    (calls.peers_clock why.Turn clocked h read s.peers) after saw _ facts) (calls.knows_read cfg _ clocked h known) _ (ends.begun_next cfg clocked h)
 
 pub returns-in_err-clocked-clause-goes : goal.returns-in_err-clocked-clause-goes
 returns-in_err-clocked-clause-goes g c before started h s k d =
-    at_err _ _ _ c.from_residual.result c.from_residual.ensures.1
-    (stops_by_fault s (knows_lawful _ _ h k) _ _ _ c.in_err-clocked.ensures.told
-    (g.W.Observes.saw started c.args.observer.now) s.saw_so)
+    failed s _ _ k c.from_residual.ensures.1 c.in_err-clocked.ensures.told _ s.saw_so

@@ -30,7 +30,7 @@ returns-then-live-config g c = record {
       let a = c.in_ok-start.ensures.goes before started h s k d in
       let few : nat_lt c.start.new.live.reported cfg.reports ≡ false = grind (arith, common_steps) in
       c.hang_up.ensures.stops before started a.history a.stands (knows_lawful cfg _ a.history a.known)
-      (ends.is_done cfg before _ _ _ a.history a.stands a.next few);
+      (ends.is_done a.stands a.next few);
   floor = tt;
   made = tt;
   reported = tt;
@@ -50,7 +50,7 @@ returns-then-is_late g c =
     record {
       goes = λ before started h s k d.
           let a = c.in_ok-start.ensures.goes before started h s k d in
-          comes a.stands a.known _ (ends.is_last c.args.config.now before _ _ _ a.history a.stands a.next late);
+          comes a.stands a.known _ (ends.is_last a.stands a.next late);
       floor = c.in_ok-start.ensures.floor;
       made = c.in_ok-start.ensures.made;
       reported = grind (arith, common_steps);
@@ -68,17 +68,17 @@ calls-requires g c = record { floor = c.in_ok-start.ensures.floor; bounds = c.re
 pub returns : goal.returns
 returns g c =
     let less : c.calls.new.live.reported < c.args.config.now.reports =
-    grind (arith, common_steps, c.calls.ensures.keeps.reported) in
+    grind (arith, common_steps, c.calls.ensures.stays.keeps.reported) in
     record {
       goes = c.in_ok-start.ensures.goes >=> (λ before started h s k d.
           let few : nat_lt c.start.new.live.reported c.args.config.now.reports ≡ true = grind (arith, common_steps) in
           c.calls.ensures.goes before started h s k
-          (ends.makes_calls c.args.config.now before _ _ _ h s d few (sym c.is_late.ensures ∙ c.if-is_late.false)));
-      floor = c.calls.ensures.floor;
-      made = runs.on_ok c.calls.result (c.calls.ensures.keeps.made ∙ c.in_ok-start.ensures.made);
+          (ends.makes_calls s d few (sym c.is_late.ensures ∙ c.if-is_late.false)));
+      floor = c.calls.ensures.stays.floor c.in_ok-start.ensures.floor;
+      made = runs.on_ok c.calls.result (c.calls.ensures.stays.keeps.made ∙ c.in_ok-start.ensures.made);
       reported = runs.on_ok c.calls.result less;
-      dials = omega (arith, c.start.ensures.dials, c.calls.ensures.keeps.dials);
-      early = c.calls.ensures.early;
+      dials = omega (arith, c.start.ensures.dials, c.calls.ensures.stays.dials);
+      early = c.calls.ensures.stays.early;
       tried = λ started le tried. runs.tried_from c.calls.result c.calls.new.live _ _ _
           (omega (arith, le, c.start.ensures.dials)) c.calls.ensures.tried;
     }
