@@ -14,7 +14,7 @@ use Rattle.css_cii.specs.declared.name.CiiName.TheVariants.{WcUrl, TsUrl}
 use Rattle.css_model.specs.Wire.{encoded, request_at}
 use Rattle.css_companion.specs.Meanings.{kind_of, is_ts, state_of}
 use Rattle.std.specs.Option.{option_map}
-use Rattle.css_outside.specs.Outsides.{clock_entries, opening_entries, datagram_entries, heard_entries, wrote_entries}
+use Rattle.css_outside.specs.Outsides.{sleep_entries, opening_entries, datagram_entries, heard_entries, wrote_entries}
 use Rattle.css_outside.specs.declared.calls.Clocked.{Clocked}
 use Rattle.css_outside.specs.declared.calls.Heard.{Heard as SessionHeard}
 use Rattle.css_outside.specs.declared.calls.Heard.TheVariants as heard
@@ -118,148 +118,119 @@ followers_hear reports said before now f =
     subst P (sym f.heard) (each_hears reports before)
 
 -- ---- reports
--- another turn, or the end with all reports made
-abbrev IsFinal : Due → Type 0
-IsFinal (Now why.Turn) = Unit {0}
-IsFinal (Ends driven.Done) = Unit {0}
-IsFinal _ = ⊥
-
--- what is known there of whether reports are still to be made
+-- where another turn is due reports are still to be made, and where the run ends with all made none is
 abbrev Verdict : Bool → Due → Type 0
 Verdict short (Now why.Turn) = short ≡ true
 Verdict short (Ends driven.Done) = short ≡ false
 Verdict short _ = Unit {0}
 
-not_final : (x d : Due) → (IsFinal x → ⊥) → x ≡ d → IsFinal d → ⊥
-not_final x d never e t = never (subst IsFinal (sym e) t)
+module _ (short : Bool) where
+  either : (b : Bool) (x y : Due) → Verdict short x → Verdict short y → Verdict short (cond b x y)
+  either true x y v w = v
+  either false x y v w = w
 
--- a step that is left out
-after_text : (o : Option ℕ) (rest d : Due) → IsFinal d → take_text o rest ≡ d → rest ≡ d
-after_text None rest d t e = e
-after_text (Some p) rest d t e = absurd (not_final (TakeText p) d (λ x. x) e t)
+  after_text : (o : Option ℕ) (rest : Due) → Verdict short rest → Verdict short (take_text o rest)
+  after_text None rest v = v
+  after_text (Some p) rest v = tt
 
-after_take : (b : Bool) (rest d : Due) → IsFinal d → cond b TakeDatagram rest ≡ d → rest ≡ d
-after_take true rest d t e = absurd (not_final TakeDatagram d (λ x. x) e t)
-after_take false rest d t e = e
+  after_dial : (o : Option ℕ) (k : Kind) (property : CiiName) (told : Option (Result Address AddressFault))
+      (rest : Due) → Verdict short rest → Verdict short (dial_to o k property told rest)
+  after_dial (Some p) k property told rest v = v
+  after_dial None k property None rest v = v
+  after_dial None k property (Some (Err bad)) rest v = tt
+  after_dial None k property (Some (Ok to)) rest v = tt
 
-after_ask : (b : Bool) (rest d : Due) → IsFinal d → cond b (Now why.Ask) rest ≡ d → rest ≡ d
-after_ask true rest d t e = absurd (not_final (Now why.Ask) d (λ x. x) e t)
-after_ask false rest d t e = e
+  after_first : (o : Option ℕ) (to : Address) (rest : Due) → Verdict short rest → Verdict short (dial_first o to rest)
+  after_first (Some p) to rest v = v
+  after_first None to rest v = tt
 
-after_dial : (o : Option ℕ) (k : Kind) (property : CiiName) (told : Option (Result Address AddressFault)) (rest d :
-    Due) → IsFinal d
-    → dial_to o k property told rest ≡ d → rest ≡ d
-after_dial (Some p) k property told rest d t e = e
-after_dial None k property None rest d t e = e
-after_dial None k property (Some (Err bad)) rest d t e = absurd (not_final (Ends (driven.BadUrl property)) d (λ x. x)
-    e t)
-after_dial None k property (Some (Ok to)) rest d t e = absurd (not_final (Dial k to) d (λ x. x) e t)
+  after_sending : (peer : ℕ) (o : Option (List ℕ)) (rest : Due) → Verdict short rest
+      → Verdict short (sending peer o rest)
+  after_sending peer None rest v = v
+  after_sending peer (Some text) rest v = tt
 
-after_first : (o : Option ℕ) (to : Address) (rest d : Due) → IsFinal d → dial_first o to rest ≡ d → rest ≡ d
-after_first (Some p) to rest d t e = e
-after_first None to rest d t e = absurd (not_final (Dial kind.Cii to) d (λ x. x) e t)
+  asks : (o : Option ℕ) (bytes : List ℕ) → Verdict short (send_to o bytes)
+  asks None bytes = tt
+  asks (Some p) bytes = tt
 
-after_sending : (peer : ℕ) (o : Option (List ℕ)) (rest d : Due) → IsFinal d → sending peer o rest ≡ d → rest ≡ d
-after_sending peer None rest d t e = e
-after_sending peer (Some text) rest d t e = absurd (not_final (SendText peer text) d (λ x. x) e t)
-
-not_send : (o : Option ℕ) (bytes : List ℕ) (d : Due) → IsFinal d → send_to o bytes ≡ d → ⊥
-not_send None bytes d t e = not_final TakeDatagram d (λ x. x) e t
-not_send (Some p) bytes d t e = not_final (SendDatagram p bytes) d (λ x. x) e t
-
-either : (b : Bool) (x y d : Due) (P : Type 0) → (x ≡ d → P) → (y ≡ d → P) → cond b x y ≡ d → P
-either true x y d P f g e = f e
-either false x y d P f g e = g e
+  refused : (f : CompanionFault) → Verdict short (Ends (end_by f))
+  refused (fault.BadCii number reason) = tt
+  refused (fault.Moved property old new) = tt
+  refused fault.Memory = tt
 
 -- the end of a run is `Done` only where no reports are to be made
-over : (short any : Bool) (n : ℕ) (d : Due) → IsFinal d → Ends (cond short (cond any (driven.Spent n)
-    (driven.Unreachable n)) driven.Done) ≡ d → Verdict short d
-over true true n d t e = absurd (not_final (Ends (driven.Spent n)) d (λ x. x) e t)
-over true false n d t e = absurd (not_final (Ends (driven.Unreachable n)) d (λ x. x) e t)
-over false any n d t e = let P : Due → Type 0 = λ x. Verdict false x in subst P e refl
-
-hangs : (a b : Option ℕ) (short any : Bool) (n : ℕ) (d : Due) → IsFinal d
-    → hang_up a (hang_up b (Ends (cond short (cond any (driven.Spent n) (driven.Unreachable n)) driven.Done))) ≡ d
-    → Verdict short d
-hangs None None short any n d t e = over short any n d t e
-hangs None (Some q) short any n d t e = absurd (not_final (HangUp q) d (λ x. x) e t)
-hangs (Some p) b short any n d t e = absurd (not_final (HangUp p) d (λ x. x) e t)
+hangs : (short any : Bool) (n : ℕ) (a b : Option ℕ)
+    → Verdict short (hang_up a (hang_up b (Ends (cond short (cond any (driven.Spent n) (driven.Unreachable n))
+    driven.Done))))
+hangs short any n (Some p) b = tt
+hangs short any n None (Some q) = tt
+hangs true true n None None = tt
+hangs true false n None None = tt
+hangs false any n None None = refl
 
 -- after the end of a turn
-again : (short left : Bool) (rest d : Due) → (rest ≡ d → Verdict short d)
-    → cond (short && left) (Now why.Turn) rest ≡ d → Verdict short d
-again true true rest d f e = let P : Due → Type 0 = λ x. Verdict true x in subst P e refl
-again true false rest d f e = f e
-again false left rest d f e = f e
+again : (short left : Bool) (rest : Due) → Verdict short rest → Verdict short (cond (short && left) (Now why.Turn) rest)
+again true true rest v = refl
+again true false rest v = v
+again false left rest v = v
 
-module _ (config : DriveConfig) (h : History) (d : Due) (t : IsFinal d) where
-  hang_ups : from_hang_ups (final config h) h ≡ d → Verdict (is_short config h) d
-  hang_ups e = hangs (opened kind.Cii h) (opened kind.Ts h) (is_short config h) (any_dialled h) (turns h) d t e
+module _ (config : DriveConfig) (h : History) where
+  hang_ups : Verdict (is_short config h) (from_hang_ups (final config h) h)
+  hang_ups = hangs (is_short config h) (any_dialled h) (turns h) (opened kind.Cii h) (opened kind.Ts h)
 
-  end_turn : from_end config h ≡ d → Verdict (is_short config h) d
-  end_turn e = again (is_short config h) (goes_on config.limit (first_turn h) (this_turn h) (turns h)) (from_hang_ups
-      (final config h) h) d hang_ups e
+  end_turn : Verdict (is_short config h) (from_end config h)
+  end_turn = again (is_short config h) (goes_on config.limit (first_turn h) (this_turn h) (turns h)) _ hang_ups
 
-  ts_turn : from_ts_text config h ≡ d → Verdict (is_short config h) d
-  ts_turn e = end_turn (after_text (opened kind.Ts h) (from_end config h) d t e)
+  ts_turn : Verdict (is_short config h) (from_ts_text config h)
+  ts_turn = after_text (is_short config h) (opened kind.Ts h) (from_end config h) end_turn
 
-  cii_turn : from_cii_text config h ≡ d → Verdict (is_short config h) d
-  cii_turn e = ts_turn (after_text (opened kind.Cii h) (from_ts_text config h) d t e)
+  cii_turn : Verdict (is_short config h) (from_cii_text config h)
+  cii_turn = after_text (is_short config h) (opened kind.Cii h) (from_ts_text config h) ts_turn
 
-  take_turn : from_take config h ≡ d → Verdict (is_short config h) d
-  take_turn e = cii_turn (after_take (is_some (dialled kind.Wc h)) (from_cii_text config h) d t e)
+  take_turn : Verdict (is_short config h) (from_take config h)
+  take_turn = either (is_short config h) (is_some (dialled kind.Wc h)) TakeDatagram (from_cii_text config h) tt cii_turn
 
-  ask_turn : from_ask config h ≡ d → Verdict (is_short config h) d
-  ask_turn e = take_turn (after_ask (is_some (dialled kind.Wc h) && is_asking config.ask_every (this_turn h)
-      (asked_turn h)) (from_take config h) d t e)
+  ask_turn : Verdict (is_short config h) (from_ask config h)
+  ask_turn = either (is_short config h) (is_some (dialled kind.Wc h) && is_asking config.ask_every (this_turn h)
+      (asked_turn h)) (Now why.Ask) (from_take config h) tt take_turn
 
-  dial_ts_turn : from_ts config h ≡ d → Verdict (is_short config h) d
-  dial_ts_turn e = ask_turn (after_dial (dialled kind.Ts h) kind.Ts TsUrl (place kind.Ts (state_of h).ts_url)
-      (from_ask config h) d t e)
+  dial_ts_turn : Verdict (is_short config h) (from_ts config h)
+  dial_ts_turn = after_dial (is_short config h) (dialled kind.Ts h) kind.Ts TsUrl (place kind.Ts (state_of h).ts_url)
+      (from_ask config h) ask_turn
 
-  dial_wc_turn : from_wc config h ≡ d → Verdict (is_short config h) d
-  dial_wc_turn e = dial_ts_turn (after_dial (dialled kind.Wc h) kind.Wc WcUrl (place kind.Wc (state_of h).wc_url)
-      (from_ts config h) d t e)
+  dial_wc_turn : Verdict (is_short config h) (from_wc config h)
+  dial_wc_turn = after_dial (is_short config h) (dialled kind.Wc h) kind.Wc WcUrl (place kind.Wc (state_of h).wc_url)
+      (from_ts config h) dial_ts_turn
 
-  dial_cii_turn : from_cii config h ≡ d → Verdict (is_short config h) d
-  dial_cii_turn e = dial_wc_turn (after_first (dialled kind.Cii h) config.cii (from_wc config h) d t e)
+  dial_cii_turn : Verdict (is_short config h) (from_cii config h)
+  dial_cii_turn = after_first (is_short config h) (dialled kind.Cii h) config.cii (from_wc config h) dial_wc_turn
 
-  point_turn : (p : Point) → due_at config p h ≡ d → Verdict (is_short config h) d
-  point_turn dues.Start e = end_turn e
-  point_turn dues.Begun e = either (is_short config h && not (is_late config.limit (first_turn h) (this_turn h)))
-      (from_cii config h) (from_end config h) d (Verdict (is_short config h) d) dial_cii_turn end_turn e
-  point_turn (dues.Called kind.Cii) e = dial_wc_turn e
-  point_turn (dues.Called kind.Wc) e = dial_ts_turn e
-  point_turn (dues.Called kind.Ts) e = ask_turn e
-  point_turn (dues.Connected peer) e = absurd (not_final (SendText peer (setup_text (wanted_by config.companion))) d
-      (λ x. x) e t)
-  point_turn (dues.SetUp peer) e = ask_turn (after_sending peer (option_map window_text config.present) (from_ask
-      config h) d t e)
-  point_turn (dues.Asking reading) e = absurd (not_send (dialled kind.Wc h) (encoded (request_at reading)) d t e)
-  point_turn dues.Requested e = take_turn e
-  point_turn dues.Arrived e = absurd (not_final (Now why.Land) d (λ x. x) e t)
-  point_turn dues.Received e = cii_turn e
-  point_turn (dues.HeardFrom peer) e = either (is_ts (kind_of peer h)) (from_end config h) (from_ts_text config h) d
-      (Verdict (is_short config h) d) end_turn ts_turn e
-  point_turn dues.Over e = hang_ups e
+  point_turn : (p : Point) → Verdict (is_short config h) (due_at config p h)
+  point_turn dues.Start = end_turn
+  point_turn dues.Begun =
+      either (is_short config h) (is_short config h && not (is_late config.limit (first_turn h) (this_turn h)))
+      (from_cii config h) (from_end config h) dial_cii_turn end_turn
+  point_turn (dues.Called kind.Cii) = dial_wc_turn
+  point_turn (dues.Called kind.Wc) = dial_ts_turn
+  point_turn (dues.Called kind.Ts) = ask_turn
+  point_turn (dues.Connected peer) = tt
+  point_turn (dues.SetUp peer) =
+      after_sending (is_short config h) peer (option_map window_text config.present) (from_ask config h) ask_turn
+  point_turn (dues.Asking reading) =
+      asks (is_short config h) (dialled kind.Wc h) (encoded (request_at reading))
+  point_turn dues.Requested = take_turn
+  point_turn dues.Arrived = tt
+  point_turn dues.Received = cii_turn
+  point_turn (dues.HeardFrom peer) =
+      either (is_short config h) (is_ts (kind_of peer h)) (from_end config h) (from_ts_text config h) end_turn ts_turn
+  point_turn dues.Over = hang_ups
 
-  settled : due config h ≡ d → Verdict (is_short config h) d
-  settled e = by (refusal h) e
+  settled : Verdict (is_short config h) (due config h)
+  settled = by (refusal h)
     where
-      by : (r : Option CompanionFault) → unless_refused r (due_at config (point_of h) h) ≡ d
-          → Verdict (is_short config h) d
-      by None e = point_turn (point_of h) e
-      by (Some f) e = absurd (not_final (Ends (end_by f)) d (refused f) e t)
-        where
-          refused : (f : CompanionFault) → IsFinal (Ends (end_by f)) → ⊥
-          refused (fault.BadCii number reason) x = x
-          refused _ x = x
-
-turn_due : (config : DriveConfig) (h : History) → due config h ≡ Now why.Turn → is_short config h ≡ true
-turn_due config h e = settled config h (Now why.Turn) tt e
-
-done_due : (config : DriveConfig) (h : History) → due config h ≡ Ends driven.Done → is_short config h ≡ false
-done_due config h e = settled config h (Ends driven.Done) tt e
+      by : (r : Option CompanionFault) → Verdict (is_short config h) (unless_refused r (due_at config (point_of h) h))
+      by None = point_turn (point_of h)
+      by (Some f) = refused (is_short config h) f
 
 -- one report more at most, and that in a turn
 with_one : (b : Bool) (report : Report) (reports : List Report) (n : ℕ) → length reports < n
@@ -267,104 +238,74 @@ with_one : (b : Bool) (report : Report) (reports : List Report) (n : ℕ) → le
 with_one true report reports n lt = omega (arith, lt)
 with_one false report reports n lt = omega (arith, lt)
 
-within_same : (config : DriveConfig) (older call : History) → due_reports config (call ++ older) ≡ due_reports config
-    older
-    → length (due_reports config older) ≤ config.reports → length (due_reports config (call ++ older)) ≤ config.reports
-within_same config older call e w = let P : List Report → Type 0 = λ x. length x ≤ config.reports in subst P (sym e) w
+abbrev Within : DriveConfig → History → Type 0
+Within config h = length (due_reports config h) ≤ config.reports
 
--- a reading that begins no turn
-no_turn : (config : DriveConfig) (older : History) (w : Why) (clocked : Clocked)
-    → turn_at (Clock w clocked.reading) ≡ None
-    → due_reports config (clock_entries w clocked ++ older) ≡ due_reports config older
-no_turn config older w clocked e = by clocked.slept
-  where
-    by : (b : Bool) → due_reports config (clock_entries w (record { reading = clocked.reading; slept = b }) ++ older)
-        ≡ due_reports config older
-    by true = ap (λ o. with_report config o (Slept ∷ older) (first_turn older) (due_reports config older)) e
-    by false = ap (λ o. with_report config o older (first_turn older) (due_reports config older)) e
+turn_within : (config : DriveConfig) (h : History) (reading : ℕ) → length (due_reports config h) < config.reports
+    → Within config (Clock why.Turn reading ∷ h)
+turn_within config h reading lt = with_one (is_due config.report_every reading (first_turn h) (length (due_reports
+    config h))) (report_at config h reading) (due_reports config h) config.reports lt
 
-quiet : (config : DriveConfig) (older call : History) (w : Why) (clocked : Clocked)
-    → call ≡ clock_entries w clocked → turn_at (Clock w clocked.reading) ≡ None
-    → due_reports config (call ++ older) ≡ due_reports config older
-quiet config older call w clocked is e = ap (λ c. due_reports config (c ++ older)) is ∙ no_turn config older w clocked e
+module _ (config : DriveConfig) (older : History) (w : Within config older) where
+  put : (call entries : History) → call ≡ entries → Within config (entries ++ older) → Within config (call ++ older)
+  put call entries is v = subst (λ (c : History). Within config (c ++ older)) (sym is) v
 
-at_turn : (config : DriveConfig) (older call : History) (clocked : Clocked) → call ≡ clock_entries why.Turn clocked
-    → length (due_reports config older) < config.reports
-    → length (due_reports config (call ++ older)) ≤ config.reports
-at_turn config older call clocked is lt =
-    let P : History → Type 0 = λ c. length (due_reports config (c ++ older)) ≤ config.reports in subst P (sym is) (by
-    clocked.slept)
-  where
-    by : (b : Bool) → length (due_reports config (clock_entries why.Turn (record {
-      reading = clocked.reading;
-      slept =
-          b;
-    }) ++ older)) ≤ config.reports
-    by true = with_one (is_due config.report_every clocked.reading (first_turn older) (length (due_reports config
-        older))) (report_at config (Slept ∷ older) clocked.reading) (due_reports config older) config.reports lt
-    by false = with_one (is_due config.report_every clocked.reading (first_turn older) (length (due_reports config
-        older))) (report_at config older clocked.reading) (due_reports config older) config.reports lt
+  read : (y : Why) (reading : ℕ) (slept : Bool) → due config older ≡ Now y
+      → Within config (Clock y reading ∷ (sleep_entries slept ++ older))
+  read why.Turn reading slept e = by slept
+    where
+      less : length (due_reports config older) < config.reports
+      less = ltb-true _ _ (subst (Verdict (is_short config older)) e (settled config older))
 
-call_within : (config : DriveConfig) (older : History) (d : Due) → due config older ≡ d → (call : History)
-    → MayAdd d call → length (due_reports config older) ≤ config.reports
-    → length (due_reports config (call ++ older)) ≤ config.reports
-call_within config older (Now why.Turn) e call m w = at_turn config older call m.0 m.1 (ltb-true (length (due_reports
-    config older)) config.reports (turn_due config older e))
-call_within config older (Now why.Ask) e call m w = within_same config older call (quiet config older call why.Ask
-    m.0 m.1 refl) w
-call_within config older (Now why.Land) e call m w = within_same config older call (quiet config older call why.Land
-    m.0 m.1 refl) w
-call_within config older (Now why.Take) e call m w = within_same config older call (quiet config older call why.Take
-    m.0 m.1 refl) w
-call_within config older (Now why.Give) e call m w = within_same config older call (quiet config older call why.Give
-    m.0 m.1 refl) w
-call_within config older (Dial k to) e call (inl m) w = within_same config older call (ap (λ c. due_reports config (c
-    ++ older)) m.1) w
-call_within config older (Dial k to) e call (inr m) w = within_same config older call (ap (λ c. due_reports config (c
-    ++ older)) m) w
-call_within config older Accept e call m w = within_same config older call (ap (λ c. due_reports config (c ++ older))
-    m.1 ∙ by m.0) w
-  where
-    by : (came : Option (ℕ × Kind)) → due_reports config (opening_entries came ++ older) ≡ due_reports config older
-    by None = refl
-    by (Some (peer, k)) = refl
-call_within config older TakeDatagram e call m w = within_same config older call (ap (λ c. due_reports config (c ++
-    older)) m.2 ∙ by m.1) w
-  where
-    by : (came : Option (ℕ × ℕ)) → due_reports config (datagram_entries m.0 came ++ older) ≡ due_reports config older
-    by None = refl
-    by (Some (peer, count)) = refl
-call_within config older (TakeText peer) e call m w = within_same config older call (ap (λ c. due_reports config (c
-    ++ older)) m.1 ∙ by m.0) w
-  where
-    by : (said : SessionHeard) → due_reports config (heard_entries peer said ++ older) ≡ due_reports config older
-    by heard.Quiet = refl
-    by (heard.Text text) = refl
-    by heard.Closed = refl
-call_within config older (SendText peer bytes) e call m w = within_same config older call (ap (λ c. due_reports
-    config (c ++ older)) m.1 ∙ by m.0) w
-  where
-    by : (sent : Outcome) → due_reports config (wrote_entries peer bytes sent ++ older) ≡ due_reports config older
-    by outcome.Sent = refl
-    by outcome.Gone = refl
-call_within config older (Ends end) e call m w = absurd m
-call_within config older _ e call m w = within_same config older call (ap (λ c. due_reports config (c ++ older)) m) w
+      by : (b : Bool) → Within config (Clock why.Turn reading ∷ (sleep_entries b ++ older))
+      by true = turn_within config (Slept ∷ older) reading less
+      by false = turn_within config older reading less
+  read _ reading true e = w
+  read _ reading false e = w
+
+  opening : (came : Option (ℕ × Kind)) → Within config (opening_entries came ++ older)
+  opening None = w
+  opening (Some (peer, k)) = w
+
+  taking : (room : List ℕ) (came : Option (ℕ × ℕ)) → Within config (datagram_entries room came ++ older)
+  taking room None = w
+  taking room (Some (peer, count)) = w
+
+  hearing_text : (peer : ℕ) (said : SessionHeard) → Within config (heard_entries peer said ++ older)
+  hearing_text peer heard.Quiet = w
+  hearing_text peer (heard.Text text) = w
+  hearing_text peer heard.Closed = w
+
+  sending_text : (peer : ℕ) (bytes : List ℕ) (sent : Outcome) → Within config (wrote_entries peer bytes sent ++ older)
+  sending_text peer bytes outcome.Sent = w
+  sending_text peer bytes outcome.Gone = w
+
+  call_within : (d : Due) → due config older ≡ d → (call : History) → MayAdd d call → Within config (call ++ older)
+  call_within (Now y) e call m = put call _ m.1 (read y m.0.reading m.0.slept e)
+  call_within (Dial k to) e call (inl m) = put call _ m.1 w
+  call_within (Dial k to) e call (inr m) = put call _ m w
+  call_within Accept e call m = put call _ m.1 (opening m.0)
+  call_within TakeDatagram e call m = put call _ m.2 (taking m.0 m.1)
+  call_within (TakeText peer) e call m = put call _ m.1 (hearing_text peer m.0)
+  call_within (SendText peer bytes) e call m = put call _ m.1 (sending_text peer bytes m.0)
+  call_within (Ends end) e call m = absurd m
+  call_within _ e call m = put call _ m w
 
 never_more : (config : DriveConfig) (history : History) → 1 ≤ config.reports → IsProperRun config history
-    → length (due_reports config history) ≤ config.reports
+    → Within config history
 never_more config [] some Empty = omega (arith, some)
-never_more config history some (More {older} call may p) = call_within config older (due config older) refl call may
-    (never_more config older some p)
+never_more config history some (More {older} call may p) =
+    call_within config older (never_more config older some p) (due config older) refl call may
 
 pub reports_as_asked : ReportsAreAsAsked
 reports_as_asked config history some p =
-    let within : length (due_reports config history) ≤ config.reports = never_more config history some p in
+    let within : Within config history = never_more config history some p in
     record {
       within = within;
       done = λ e. omega (
         arith,
         within,
-        ltb-false (length (due_reports config history)) config.reports (done_due
-            config history e),
+        ltb-false (length (due_reports config history)) config.reports (subst (Verdict (is_short config history)) e
+            (settled config history)),
       );
     }
