@@ -65,15 +65,6 @@ tells_on (Err e) report b n bs ns old mid new h m s = record {
 }
 
 -- ---- all reports
--- a sleep is no report
-pub tells_slept : (over : Option OutFault) (started now : Audience) (was is : ℕ) (from : Standpoint) (slept : Bool)
-    (notes : List Note) → Tells over started now was is notes
-    → Tells over started now was is (slept_notes from slept ++ notes)
-tells_slept None started now was is from true notes t = t
-tells_slept None started now was is from false notes t = t
-tells_slept (Some cause) started now was is from true notes t = t
-tells_slept (Some cause) started now was is from false notes t = t
-
 -- the newest report is written
 told_newest : (started old new : Audience) (number : ℕ) (report : Report) (reports : List Report)
     (said : List (List ℕ)) → HasTold started old reports said → number ≡ length reports + 1
@@ -139,8 +130,12 @@ pub tells_turn : (over : Option OutFault) (started now : Audience) (was is : ℕ
     (notes : List Note) → over ≡ None → Tells over started now was is notes
     → Tells None started now was is (turn_notes from clocked ++ notes)
 tells_turn over started now was is from clocked notes e t =
-    let P : Option OutFault → Type 0 = λ x. Tells x started now was is notes in
-    tells_slept None started now was is from clocked.slept notes (subst P e t)
+    let P : Option OutFault → Type 0 = λ x. Tells x started now was is notes in by clocked.slept (subst P e t)
+  where
+    by : (slept : Bool) → Tells None started now was is notes
+        → Tells None started now was is (slept_notes from slept ++ notes)
+    by true t = t
+    by false t = t
 
 -- nothing is told yet
 pub tells_nothing : (over : Option OutFault) (now : Audience) (is : ℕ) → over ≡ None → Tells over now now is is []
@@ -156,51 +151,31 @@ tells_nothing over now is e =
     subst P (sym e) nothing
 
 -- ---- the reports of a run
-event_reports : (from : Standpoint) (o : Option Event) (notes : List Note)
-    → reports_in (with_event from o notes) ≡ reports_in notes
-event_reports from None notes = refl
-event_reports from (Some event) notes = refl
+-- the reports among these notes are these, and have their numbers
+abbrev Are : List Report → List Note → Type 0
+Are reports notes = (reports_in notes ≡ reports) × AreNumbered notes
 
-event_numbered : (from : Standpoint) (o : Option Event) (notes : List Note) → AreNumbered notes
-    → AreNumbered (with_event from o notes)
-event_numbered from None notes n = n
-event_numbered from (Some event) notes n = n
+event_so : (reports : List Report) (from : Standpoint) (o : Option Event) (notes : List Note) → Are reports notes
+    → Are reports (with_event from o notes)
+event_so reports from None notes a = a
+event_so reports from (Some event) notes a = a
 
-pub reports_noted : (config : DriveConfig) (history : History)
-    → reports_in (noted config history) ≡ due_reports config history
-reports_noted config [] = refl
-reports_noted config (entry ∷ older) =
-    by (turn_at entry) (with_event (standpoint config older) (event_of entry older) (noted config older))
-    (event_reports (standpoint config older) (event_of entry older) (noted config older) ∙ reports_noted config older)
+noted_so : (config : DriveConfig) (history : History) → Are (due_reports config history) (noted config history)
+noted_so config [] = (refl, tt)
+noted_so config (entry ∷ older) =
+    by (turn_at entry) _ (event_so _ (standpoint config older) (event_of entry older) _ (noted_so config older))
   where
-    by : (o : Option ℕ) (notes : List Note) → reports_in notes ≡ due_reports config older
-        → reports_in (with_report config o older notes)
-        ≡ reports.with_report config o older (first_turn older) (due_reports config older)
-    by None notes e = e
-    by (Some r) notes e = at (is_due config.report_every r (first_turn older) (length (due_reports config older)))
+    by : (o : Option ℕ) (notes : List Note) → Are (due_reports config older) notes
+        → Are (reports.with_report config o older (first_turn older) (due_reports config older))
+        (with_report config o older notes)
+    by None notes a = a
+    by (Some r) notes a = at (is_due config.report_every r (first_turn older) (length (due_reports config older)))
       where
-        at : (b : Bool) → reports_in (cond b (Reported (standpoint config older) (length (due_reports config older) + 1)
+        at : (b : Bool) → Are (cond b (report_at config older r ∷ due_reports config older) (due_reports config older))
+            (cond b (Reported (standpoint config older) (length (due_reports config older) + 1)
             (report_at config older r) ∷ notes) notes)
-            ≡ cond b (report_at config older r ∷ due_reports config older) (due_reports config older)
-        at true = ap (λ x. report_at config older r ∷ x) e
-        at false = e
-
-pub are_numbered : (config : DriveConfig) (history : History) → AreNumbered (noted config history)
-are_numbered config [] = tt
-are_numbered config (entry ∷ older) =
-    by (turn_at entry) (with_event (standpoint config older) (event_of entry older) (noted config older))
-    (event_reports (standpoint config older) (event_of entry older) (noted config older) ∙ reports_noted config older)
-    (event_numbered (standpoint config older) (event_of entry older) (noted config older) (are_numbered config older))
-  where
-    by : (o : Option ℕ) (notes : List Note) → reports_in notes ≡ due_reports config older → AreNumbered notes
-        → AreNumbered (with_report config o older notes)
-    by None notes e n = n
-    by (Some r) notes e n = at (is_due config.report_every r (first_turn older) (length (due_reports config older)))
-      where
-        at : (b : Bool) → AreNumbered (cond b (Reported (standpoint config older) (length (due_reports config older) +
-            1) (report_at config older r) ∷ notes) notes)
-        at true = (ap (λ x. length x + 1) (sym e), n)
-        at false = n
+        at true = (ap (λ x. report_at config older r ∷ x) a.0, (ap (λ x. length x + 1) (sym a.0), a.1))
+        at false = a
 
 -- ---- what the run comes to
 part_whole : (reports : List Report) (said : List (List ℕ)) → length said ≡ length reports
@@ -218,13 +193,6 @@ wrote_whole reports said driven.WriteFault e = part_whole reports said e
 wrote_whole reports said driven.Memory e = part_whole reports said e
 wrote_whole reports said _ e = refl
 
--- the first of two lists that are alike, and the rest
-same_head : {A : Type 0} (x y : A) (xs ys : List A) → x ∷ xs ≡ y ∷ ys → x ≡ y
-same_head x y xs ys e = cc
-
-same_tail : {A : Type 0} (x y : A) (xs ys : List A) → x ∷ xs ≡ y ∷ ys → xs ≡ ys
-same_tail x y xs ys e = cc
-
 followed_part : (reports : List Report) (said : List (List ℕ)) (before now : List Listener)
     → Followed reports said before now → FollowedInPart reports said before now
 followed_part [] said before now f = record {
@@ -234,9 +202,8 @@ followed_part [] said before now f = record {
 }
 followed_part (r ∷ rs) (w ∷ ws) before now f = record {
   between = after_all rs before;
-  earlier = record { heard = refl; words = same_tail w _ ws (said_of rs before) f.words };
-  newest =
-      inl (record { heard = f.heard; said = same_head w _ ws (said_of rs before) f.words });
+  earlier = record { heard = refl; words = let e = f.words in cc };
+  newest = inl (record { heard = f.heard; said = let e = f.words in cc });
 }
 followed_part (r ∷ rs) [] before now f = absurd (let e = f.words in cc)
 
@@ -246,80 +213,54 @@ followed_whole reports said before now driven.WriteFault f = followed_part repor
 followed_whole reports said before now driven.Memory f = followed_part reports said before now f
 followed_whole reports said before now _ f = f
 
--- all reports are written
-ran_whole : (config : DriveConfig) (before now : Option History) (started audience : Audience) (was is : ℕ)
-    (saw : List Note → Type 0) (over : Option OutFault) (ended : Driven) → (m : Made config before now saw over ended)
-    → Tells None started audience was is (noted config m.history)
-    → Ran config before now started.holds audience.holds started.heard audience.heard ended
-ran_whole config before now started audience was is saw over ended m t =
-    let told = t.0 (are_numbered config m.history) in
-    let reports = reports_in (noted config m.history) in
-    let e = reports_noted config m.history in
-    let P : List Report → Type 0 = λ x. HasWritten x told.0 (written reports told.0) ended in
-    let Q : List Report → Type 0 = λ x. HasFollowed x told.0 started.heard audience.heard ended in
-    record {
-      history = m.history;
-      told = m.told;
-      proper = m.proper;
-      ends = m.ends;
-      promised = m.promised;
-      said = told.0;
-      bytes = written reports told.0;
-      grew = told.1.grew;
-      wrote = subst P e (wrote_whole reports told.0 ended told.1.each);
-      listened = subst Q e (followed_whole reports told.0 started.heard audience.heard ended told.1.followed);
-    }
+-- these reports were written and heard, or a part of them where the run ended so
+record Came (started audience : Audience) (ended : Driven) (reports : List Report) : Type 0 where
+  said : List (List ℕ)
+  bytes : List ℕ
+  grew : Appends started.holds audience.holds bytes
+  wrote : HasWritten reports said bytes ended
+  listened : HasFollowed reports said started.heard audience.heard ended
 
--- the newest report is written in part
-ran_part : (config : DriveConfig) (before now : Option History) (started audience : Audience) (ended : Driven)
-    (history : History) (said : List (List ℕ)) (bytes : List ℕ)
-    → HasWritten (due_reports config history) said bytes ended
-    → HasFollowed (due_reports config history) said started.heard audience.heard ended
-    → Appends started.holds audience.holds bytes → (saw : List Note → Type 0) (over : Option OutFault)
-    → (m : Made config before now saw over ended) → m.history ≡ history
-    → Ran config before now started.holds audience.holds started.heard audience.heard ended
-ran_part config before now started audience ended history said bytes w f grew saw over m e =
-    let P : History → Type 0 = λ x. HasWritten (due_reports config x) said bytes ended in
-    let Q : History → Type 0 = λ x. HasFollowed (due_reports config x) said started.heard audience.heard ended in
+came : (over : Option OutFault) (started audience : Audience) (was is : ℕ) (ended : Driven) (notes : List Note)
+    → IsEndOf over ended → AreNumbered notes → Tells over started audience was is notes
+    → Came started audience ended (reports_in notes)
+came None started audience was is ended notes so n t =
+    let told = t.0 n in
     record {
-      history = m.history;
-      told = m.told;
-      proper = m.proper;
-      ends = m.ends;
-      promised = m.promised;
-      said = said;
-      bytes = bytes;
-      grew = grew;
-      wrote = subst P (sym e) w;
-      listened = subst Q (sym e) f;
+      said = told.0;
+      bytes = written (reports_in notes) told.0;
+      grew = told.1.grew;
+      wrote = wrote_whole (reports_in notes) told.0 ended told.1.each;
+      listened = followed_whole (reports_in notes) told.0 started.heard audience.heard ended told.1.followed;
     }
+came (Some (fault.Failed failure)) started audience was is ended notes so n t =
+    let p = t.0 n in
+    let P : Driven → Type 0 = λ x. Came started audience x (reports_in notes) in
+    subst P (sym so) (record { said = p.said; bytes = p.bytes; grew = p.grew; wrote = p.wrote; listened = p.followed })
+came (Some fault.Memory) started audience was is ended notes so n t =
+    let p = t.0 n in
+    let P : Driven → Type 0 = λ x. Came started audience x (reports_in notes) in
+    subst P (sym so) (record { said = p.said; bytes = p.bytes; grew = p.grew; wrote = p.wrote; listened = p.followed })
 
 pub ran_by : (config : DriveConfig) (before now : Option History) (started audience : Audience) (was is : ℕ)
     (saw : List Note → Type 0) (over : Option OutFault) (ended : Driven) → (m : Made config before now saw over ended)
     → Tells over started audience was is (noted config m.history)
     → Ran config before now started.holds audience.holds started.heard audience.heard ended
-ran_by config before now started audience was is saw None ended m t =
-    ran_whole config before now started audience was is saw None ended m t
-ran_by config before now started audience was is saw (Some (fault.Failed failure)) ended m t =
-    let part = t.0 (are_numbered config m.history) in
-    let e = reports_noted config m.history in
-    let P : List Report → Type 0 = λ x. IsPart x part.said part.bytes in
-    let Q : List Report → Type 0 = λ x. FollowedInPart x part.said started.heard audience.heard in
-    let W : Driven → Type 0 = λ x. HasWritten (due_reports config m.history) part.said part.bytes x in
-    let F : Driven → Type 0 = λ x. HasFollowed (due_reports config m.history) part.said started.heard audience.heard
-    x in
-    ran_part config before now started audience ended m.history part.said part.bytes
-    (subst W (sym m.so) (subst P e part.wrote)) (subst F (sym m.so) (subst Q e part.followed)) part.grew saw _ m refl
-ran_by config before now started audience was is saw (Some fault.Memory) ended m t =
-    let part = t.0 (are_numbered config m.history) in
-    let e = reports_noted config m.history in
-    let P : List Report → Type 0 = λ x. IsPart x part.said part.bytes in
-    let Q : List Report → Type 0 = λ x. FollowedInPart x part.said started.heard audience.heard in
-    let W : Driven → Type 0 = λ x. HasWritten (due_reports config m.history) part.said part.bytes x in
-    let F : Driven → Type 0 = λ x. HasFollowed (due_reports config m.history) part.said started.heard audience.heard
-    x in
-    ran_part config before now started audience ended m.history part.said part.bytes
-    (subst W (sym m.so) (subst P e part.wrote)) (subst F (sym m.so) (subst Q e part.followed)) part.grew saw _ m refl
+ran_by config before now started audience was is saw over ended m t =
+    let are = noted_so config m.history in
+    let c = subst (Came started audience ended) are.0 (came over started audience was is ended _ m.so are.1 t) in
+    record {
+      history = m.history;
+      told = m.told;
+      proper = m.proper;
+      ends = m.ends;
+      promised = m.promised;
+      said = c.said;
+      bytes = c.bytes;
+      grew = c.grew;
+      wrote = c.wrote;
+      listened = c.listened;
+    }
 
 -- no write failed
 pub writes_same : (before now : ℕ) (ended : Driven) → (ended ≡ driven.WriteFault → ⊥) → now ≡ before
