@@ -1,15 +1,13 @@
 -- What is due at each stage of a turn, and what its calls make of the facts.
 use Rattle.std.proofs.Common.{◌≡◌, ℕ, arith, ap, sym, ◌∙◌, subst, refl, Bool, true, false, cond, List, ◌∷◌, ◌++◌}
-use Rattle.std.proofs.Common.{Option, Some, None, Result, Ok, Err, eq-eqb, inl, inr}
+use Rattle.std.proofs.Common.{Option, Some, None, Result, Ok, Err, eq-eqb, inr}
 use Rattle.std.proofs.lemmas.Bool.{ne_eqb, or_from}
 use Rattle.std.proofs.lemmas.Result.{on_ok_weaker}
-use Rattle.std.specs.Prelude.{is_some, ◌&&◌, ◌||◌, IfSome, OnOk, IfErr, IsErrAnd, MatchResult, ◌⊎◌, ◌<◌, ◌≤◌}
+use Rattle.std.specs.Prelude.{is_some, ◌&&◌, ◌||◌, IfSome, OnOk, IfErr, ◌<◌, ◌≤◌}
 use Rattle.css_model.specs.declared.Kind.{Kind}
 use Rattle.css_model.specs.declared.Kind.TheVariants as kind
 use Rattle.css_model.specs.declared.Why.{Why}
 use Rattle.css_model.specs.declared.Why.TheVariants as why
-use Rattle.css_model.specs.Wire.{encoded, request_at}
-use Rattle.css_companion.specs.Aside.{IsAside}
 use Rattle.css_model.specs.History.{Address, Entry, Clock, Dialling, Dialled, NotDialled, Took}
 use Rattle.css_model.specs.History.{Heard, Gone, History, is_sleep, asking_at, request_by, landed_answer}
 use Rattle.css_model.specs.History.{sleeps, Each}
@@ -33,14 +31,14 @@ use Rattle.css_model.specs.declared.Stamp.{Stamp}
 use Rattle.css_model.specs.Explains.{IsLawful, IsJustAsked}
 use Rattle.css_companion.specs.declared.fault.CompanionFault.{CompanionFault}
 use Rattle.css_companion.specs.declared.fault.CompanionFault.TheVariants as fault
-use Rattle.css_drive.specs.CompanionDue.{due, dial_to, dial_first, take_text, send_to, place, from_cii, from_wc}
+use Rattle.css_drive.specs.CompanionDue.{due, dial_to, dial_first, take_text, place, from_cii, from_wc}
 use Rattle.css_drive.specs.CompanionDue.{from_ts, from_ask, from_take, from_cii_text, from_ts_text, from_end}
 use Rattle.css_drive.specs.CompanionDue.{unless_refused, refusal_of, end_by}
 use Rattle.css_drive.specs.CompanionStanding.{Shown, Facts, facts_of, facts_in, KnowsPeers, Stands, Knows, GivesPlace}
-use Rattle.css_drive.specs.CompanionStanding.{asked_after, IsRefusal, HasRead, Comes, Stops, dial_entries, IsFault}
-use Rattle.css_drive.specs.CompanionStanding.{IsEndBy, IsEarly, Fails, Adds, HasDialled, HasLost, Goes}
-use Rattle.css_drive.specs.CompanionTurns.{dialled, opened, is_peer, unless, is_asking}
-use Rattle.css_drive.specs.Ends.{MayEnd, CountsNetFault}
+use Rattle.css_drive.specs.CompanionStanding.{asked_after, IsRefusal, HasRead, Comes, Stops, dial_entries}
+use Rattle.css_drive.specs.CompanionStanding.{Adds, HasDialled, HasLost, Goes}
+use Rattle.css_drive.specs.CompanionTurns.{dialled, opened, asked_turn, is_peer, unless, is_asking}
+use Rattle.css_drive.specs.Ends.{MayEnd}
 use Rattle.css_drive.specs.Notes as notes
 use Rattle.css_drive.specs.Notes.{Note, noted, session_at, session_with, with_event, slept_notes, landing_notes}
 use Rattle.css_drive.specs.Notes.{dial_notes, heard_notes, wrote_notes, standpoint}
@@ -52,7 +50,7 @@ use Rattle.css_drive.specs.declared.config.DriveConfig.{DriveConfig}
 use Rattle.css_drive.specs.declared.driven.Driven.{Driven}
 use Rattle.css_drive.specs.declared.driven.Driven.TheVariants as driven
 use Rattle.css_drive.proofs.CompanionSteps.{opened_dialled, peers_later, knows_aside, stands_saw, stands_adds}
-use Rattle.css_drive.proofs.CompanionSteps.{stands_tried, stops_here, ends_by, IsOwn, at_err, comes, stops_by_memory}
+use Rattle.css_drive.proofs.CompanionSteps.{stands_tried, stops_here, ends_by, IsOwn, comes, stops_by_memory}
 use Rattle.css_drive.proofs.CompanionSteps.{knows_lawful}
 
 -- ---- the addresses that are told
@@ -175,14 +173,71 @@ module _ {config : DriveConfig} {before now : Shown} {saw : List Note → Type 0
   pub open_ts : {p : ℕ} → live.ts_open ≡ Some p → kind_of p history ≡ Some kind.Ts
   open_ts {p} e = (s.peers kind.Ts p (ts_last e)).1
 
-pub peers_clock : {old new : Shown} {before later : Live} {was is : Companion} (w : Why) (clocked : Clocked)
-    (history : History) → HasRead old new before later was is w clocked → KnowsPeers old.counts.peers history
-    → KnowsPeers new.counts.peers (clock_entries w clocked ++ history)
-peers_clock {old = old} w clocked history r k = peers_later _ _ (clock_entries w clocked ++ history) (omega (arith, r.peers)) (by clocked.slept)
+-- ---- readings
+-- a sleep that a reading told
+slept_facts : (config : DriveConfig) (history : History) (slept : Bool)
+    → facts_of config (sleep_entries slept ++ history)
+    ≡ record (facts_of config history) { asked = asked_after slept (asked_turn history) }
+slept_facts config history true = refl
+slept_facts config history false = refl
+
+slept_peers : (peers : ℕ) (history : History) (slept : Bool) → KnowsPeers peers history
+    → KnowsPeers peers (sleep_entries slept ++ history)
+slept_peers peers history true k = k
+slept_peers peers history false k = k
+
+pub slept_noted : (config : DriveConfig) (history : History) (slept : Bool)
+    → noted config (sleep_entries slept ++ history)
+    ≡ slept_notes (standpoint config history) slept ++ noted config history
+slept_noted config history true = refl
+slept_noted config history false = refl
+
+-- after a reading the run stands
+module _ {config : DriveConfig} {before now next : Shown} {saw : List Note → Type 0} {live later : Live}
+    {was is : Companion} {w : Why} {clocked : Clocked} {history : History}
+    (s : Stands config before now saw live history) (r : HasRead now next live later was is w clocked) where
+  pub read_facts : facts_of config (sleep_entries clocked.slept ++ history) ≡ facts_in later
+  read_facts =
+      slept_facts config history clocked.slept
+      ∙ ap {A = Facts} (λ x. record x { asked = asked_after clocked.slept x.asked }) s.facts ∙ sym r.only
+
+  pub stands_read : due config history ≡ Now w → {after : List Note → Type 0}
+      → after (noted config (clock_entries w clocked ++ history)) → (last : Live)
+      → facts_of config (clock_entries w clocked ++ history) ≡ facts_in last
+      → Stands config before next after last (clock_entries w clocked ++ history)
+  stands_read d {after} notes last facts =
+      stands_saw s (Now w) d (clock_entries w clocked) (clocked, refl) next r.told r.faults
+      (peers_later _ _ (clock_entries w clocked ++ history) (omega (arith, r.peers))
+      (slept_peers _ history clocked.slept s.peers)) after notes last facts
+
+-- after one for a request, and after one for a landing
+pub stands_asked : {config : DriveConfig} {before now next : Shown} {saw after : List Note → Type 0} {live later : Live}
+    {was is : Companion} {history : History} → Stands config before now saw live history
+    → due config history ≡ Now why.Ask → (clocked : Clocked) → HasRead now next live later was is why.Ask clocked
+    → after (slept_notes (standpoint config history) clocked.slept ++ noted config history)
+    → Stands config before next after later (clock_entries why.Ask clocked ++ history)
+stands_asked {config} {after = after} {history = history} s d clocked r notes =
+    stands_read s r d (subst after (sym (slept_noted config history clocked.slept)) notes) _ (read_facts s r)
+
+landed_notes : (config : DriveConfig) (clocked : Clocked) (p : ℕ) (bytes : List ℕ) (history : History)
+    → noted config (clock_entries why.Land clocked ++ (Took p bytes ∷ history))
+    ≡ landing_notes (standpoint config (Took p bytes ∷ history)) clocked bytes ++ noted config history
+landed_notes config clocked p bytes history = by clocked.slept
   where
-    by : (b : Bool) → KnowsPeers old.counts.peers (clock_entries w (record clocked { slept = b }) ++ history)
-    by true = k
-    by false = k
+    by : (b : Bool) → noted config (clock_entries why.Land (record clocked { slept = b }) ++ (Took p bytes ∷ history))
+        ≡ landing_notes (standpoint config (Took p bytes ∷ history)) (record clocked { slept = b }) bytes
+        ++ noted config history
+    by true = refl
+    by false = refl
+
+pub stands_landed : {config : DriveConfig} {before now next : Shown} {saw after : List Note → Type 0}
+    {live later : Live} {was is : Companion} {history : History} {p : ℕ} {bytes : List ℕ}
+    → Stands config before now saw live (Took p bytes ∷ history) → (clocked : Clocked)
+    → HasRead now next live later was is why.Land clocked
+    → after (landing_notes (standpoint config (Took p bytes ∷ history)) clocked bytes ++ noted config history)
+    → Stands config before next after later (clock_entries why.Land clocked ++ (Took p bytes ∷ history))
+stands_landed {config} {after = after} {history = history} {p = p} {bytes = bytes} s clocked r notes =
+    stands_read s r refl (subst after (sym (landed_notes config clocked p bytes history)) notes) _ (read_facts s r)
 
 -- ---- sessions that end
 -- a session of another kind has another peer
@@ -280,93 +335,7 @@ module _ {config : DriveConfig} {before now : Shown} {saw : List Note → Type 0
       comes (stands_tried s kind.Wc to d (Some p) t notes later
       (ap {A = Facts} (λ x. record x { wc = Some p }) s.facts ∙ sym is)) (knows_tried kind.Wc to (Some p) refl k) _ refl
 
-  -- ---- readings
-  pub read_facts : (w : Why) (clocked : Clocked) → (w ≡ why.Ask) ⊎ (w ≡ why.Land)
-      → facts_of config (clock_entries w clocked ++ history)
-      ≡ record (facts_in live) { asked = asked_after clocked.slept live.asked }
-  read_facts w clocked is = by clocked.slept w is
-    where
-      by : (b : Bool) (w : Why) → (w ≡ why.Ask) ⊎ (w ≡ why.Land) → facts_of config (clock_entries w (record clocked {
-        slept = b;
-      }) ++ history)
-          ≡ record (facts_in live) { asked = asked_after b live.asked }
-      by true why.Ask is = ap {A = Facts} (λ x. record x { asked = None }) s.facts
-      by false why.Ask is = s.facts
-      by true why.Land is = ap {A = Facts} (λ x. record x { asked = None }) s.facts
-      by false why.Land is = s.facts
-      by b _ (inl e) = absurd (cc)
-      by b _ (inr e) = absurd (cc)
-
-  -- after a reading the run stands
-  pub stands_read : (w : Why) → (w ≡ why.Ask) ⊎ (w ≡ why.Land) → due config history ≡ Now w → (clocked : Clocked)
-      → {next : Shown} {later : Live} {was is : Companion} → HasRead now next live later was is w clocked
-      → {after : List Note → Type 0} → after (noted config (clock_entries w clocked ++ history))
-      → Stands config before next after later (clock_entries w clocked ++ history)
-  stands_read w is d clocked {later = later} r {after} notes =
-      stands_saw s (Now w) d (clock_entries w clocked) (clocked, refl) _ r.told r.faults (peers_clock w clocked history r s.peers)
-      after notes later (read_facts w clocked is ∙ sym r.only)
-
--- a call failed, of an observer that isn't over
-pub call_failed : {old new : Shown} {over : Option OutFault} {ended : Driven} → new.told ≡ old.told
-    → CountsNetFault old.counts.faults new.counts.faults ended → new.counts.dial_faults ≡ old.counts.dial_faults
-    → over ≡ None → IsFault ended → IsEarly ended → Fails old new over ended
-call_failed {ended = ended} told counted dials on fails early =
-    let P : Option OutFault → Type 0 = λ x. IsEndBy x ended in
-    record { told = told; counted = counted; dials = omega (arith, dials); end = subst P (sym on) fails; early = early }
-
--- none was made, since the observer is over
-pub unmade : {old : Shown} {over : Option OutFault} {ended : Driven} → ((count : ℕ) → CountsNetFault count count ended)
-    → IsEndBy over ended → IsEarly ended → Fails old old over ended
-unmade counted ends early =
-    record { told = refl; counted = counted _; dials = omega arith; end = ends; early = early }
-
-pub not_made : {T : Type 0} (old : Shown) (over : Option OutFault) (ended : Driven) (P : T → Type 0)
-    (result : Result T Driven) → IsErrAnd result (λ x. x ≡ ended) → ((count : ℕ) → CountsNetFault count count ended)
-    → IsEndBy over ended → IsEarly ended → MatchResult result P (Fails old old over)
-not_made old over ended P result is counted ends early =
-    at_err P (Fails old old over) ended result is (unmade counted ends early)
-
 -- ---- notes
-pub asked_notes : (config : DriveConfig) (clocked : Clocked) (history : History)
-    → noted config (clock_entries why.Ask clocked ++ history)
-    ≡ slept_notes (standpoint config history) clocked.slept ++ noted config history
-asked_notes config clocked history = by clocked.slept
-  where
-    by : (b : Bool) → noted config (clock_entries why.Ask (record clocked { slept = b }) ++ history)
-        ≡ slept_notes (standpoint config history) b ++ noted config history
-    by true = refl
-    by false = refl
-
-pub landed_notes : (config : DriveConfig) (clocked : Clocked) (p : ℕ) (bytes : List ℕ) (history : History)
-    → noted config (clock_entries why.Land clocked ++ (Took p bytes ∷ history))
-    ≡ landing_notes (standpoint config (Took p bytes ∷ history)) clocked bytes ++ noted config history
-landed_notes config clocked p bytes history = by clocked.slept
-  where
-    by : (b : Bool) → noted config (clock_entries why.Land (record clocked { slept = b }) ++ (Took p bytes ∷ history))
-        ≡ landing_notes (standpoint config (Took p bytes ∷ history)) (record clocked { slept = b }) bytes
-        ++ noted config history
-    by true = refl
-    by false = refl
-
--- the run stands after a reading for a request, and after one for a landing
-pub stands_asked : {config : DriveConfig} {before now next : Shown} {saw after : List Note → Type 0} {live later : Live}
-    {was is : Companion} {history : History} → Stands config before now saw live history
-    → due config history ≡ Now why.Ask → (clocked : Clocked) → HasRead now next live later was is why.Ask clocked
-    → after (slept_notes (standpoint config history) clocked.slept ++ noted config history)
-    → Stands config before next after later (clock_entries why.Ask clocked ++ history)
-stands_asked {config} {after = after} {history = history} s d clocked r notes =
-    stands_read s why.Ask (inl refl) d clocked r (subst after (sym (asked_notes config clocked history)) notes)
-
-pub stands_landed : {config : DriveConfig} {before now next : Shown} {saw after : List Note → Type 0}
-    {live later : Live} {was is : Companion} {history : History} {p : ℕ} {bytes : List ℕ}
-    → Stands config before now saw live (Took p bytes ∷ history) → (clocked : Clocked)
-    → HasRead now next live later was is why.Land clocked
-    → after (landing_notes (standpoint config (Took p bytes ∷ history)) clocked bytes ++ noted config history)
-    → Stands config before next after later (clock_entries why.Land clocked ++ (Took p bytes ∷ history))
-stands_landed {config} {after = after} {history = history} {p = p} {bytes = bytes} s clocked r notes =
-    stands_read s why.Land (inr refl) refl clocked r
-    (subst after (sym (landed_notes config clocked p bytes history)) notes)
-
 pub heard_noted : (config : DriveConfig) (p : ℕ) (answer : Answer) (which : Session) (history : History)
     → session_at p history ≡ Some which
     → noted config (heard_entries p answer ++ history)
@@ -384,42 +353,6 @@ pub wrote_noted : (config : DriveConfig) (p : ℕ) (text : List ℕ) (wrote : Ou
 wrote_noted config p text outcome.Sent history e = refl
 wrote_noted config p text outcome.Gone history e =
     ap (λ o. with_event (standpoint config history) (option_map notes.Closed o) (noted config history)) e
-
--- the clock that is read tells a companion nothing but the sleep, unless an answer lands
-pub knows_read : (config : DriveConfig) (companion : Companion) (clocked : Clocked) (history : History)
-    → Knows config companion (sleep_entries clocked.slept ++ history)
-    → Knows config companion (clock_entries why.Turn clocked ++ history)
-knows_read config companion clocked history k = knows_aside config companion (Clock why.Turn clocked.reading)
-    (sleep_entries clocked.slept ++ history) k aside
-  where
-    aside : IsAside (Clock why.Turn clocked.reading) (sleep_entries clocked.slept ++ history)
-    aside = record {
-      client = record { awake = refl; asks_none = refl; sends_none = refl; lands_none = refl };
-      no_cii
-          = refl;
-      no_ts = refl;
-      no_edge = refl;
-    }
-
-pub asked_to : (config : DriveConfig) (clocked : Clocked) (history : History)
-    → due config (clock_entries why.Ask clocked ++ history) ≡ send_to (dialled kind.Wc history) (encoded (request_at
-    clocked.reading))
-asked_to config clocked history = by clocked.slept
-  where
-    by : (b : Bool) → due config (clock_entries why.Ask (record clocked { slept = b }) ++ history) ≡ send_to (dialled
-        kind.Wc history) (encoded (request_at clocked.reading))
-    by true = refl
-    by false = refl
-
-pub landed_next : (config : DriveConfig) (clocked : Clocked) (history : History)
-    → due config (clock_entries why.Land clocked ++ history) ≡ from_cii_text config (clock_entries why.Land clocked
-    ++ history)
-landed_next config clocked history = by clocked.slept
-  where
-    by : (b : Bool) → due config (clock_entries why.Land (record clocked { slept = b }) ++ history) ≡ from_cii_text
-        config (clock_entries why.Land (record clocked { slept = b }) ++ history)
-    by true = refl
-    by false = refl
 
 -- after a sleep nothing lands
 pub slept_landing : (config : DriveConfig) (companion : Companion) (clocked : Clocked) (history : History)

@@ -1,127 +1,122 @@
 -- How a turn begins, and how a run ends.
-use Rattle.std.proofs.Common.{◌≡◌, ℕ, ◌+◌, ◌<◌, suc, arith, ap, sym, ◌∙◌, subst, refl, Bool, true, false, cond, List}
-use Rattle.std.proofs.Common.{[], ◌∷◌, ◌++◌, length, Option, Some, None, eq-eqb}
+use Rattle.std.proofs.Common.{◌≡◌, ℕ, ◌+◌, ◌<◌, arith, ap, sym, ◌∙◌, refl, Bool, true, false, cond, List}
+use Rattle.std.proofs.Common.{[], ◌∷◌, ◌++◌, length, Option, Some, None, add-one}
 use Rattle.std.proofs.lemmas.Bool.{ltb-true}
 use Rattle.std.proofs.lemmas.Grind.{common_steps}
 use Rattle.std.specs.Prelude.{is_some, nat_lt, not, ◌||◌, ◌&&◌, unwrap_or}
 use Rattle.css_model.specs.declared.Kind.TheVariants as kind
 use Rattle.css_model.specs.declared.Why.TheVariants as why
 use Rattle.css_model.specs.Explains.{IsLawful}
-use Rattle.css_model.specs.History.{Slept, Dialled, HungUp, History}
+use Rattle.css_model.specs.History.{Clock, Dialled, HungUp, History}
 use Rattle.css_outside.specs.Limits as limits
 use Rattle.css_outside.specs.Limits.{most_turns, IsLimit}
-use Rattle.css_outside.specs.Outsides.{clock_entries, sleep_entries}
-use Rattle.css_outside.specs.declared.calls.Clocked.{Clocked}
-use Rattle.css_outside.specs.declared.fault.OutFault.{OutFault}
 use Rattle.css_outside.specs.declared.limit.Limit.{Limit}
 use Rattle.css_outside.specs.declared.limit.Limit.TheVariants as limit
 use Rattle.css_companion.specs.declared.report.Report.{Report}
 use Rattle.css_companion.proofs.Headline as headline
 use Rattle.css_drive.specs.CompanionDue.{due, hang_up, from_hang_ups, from_turn, from_cii, from_end, final, is_short}
-use Rattle.css_drive.specs.CompanionDue.{IsProperRun}
 use Rattle.css_drive.specs.CompanionReports.{due_reports, report_at, is_due, IsPromisedAt, KeepsPromises}
-use Rattle.css_drive.specs.CompanionStanding.{Shown, Facts, facts_of, facts_in, Stands, asked_after, IsOver}
-use Rattle.css_drive.specs.CompanionStanding.{IsHangingUp, IsSo, hung, ending_of}
+use Rattle.css_drive.specs.CompanionStanding.{Shown, Facts, facts_of, facts_in, Stands, IsOver}
+use Rattle.css_drive.specs.CompanionStanding.{IsHangingUp, Adds, ending_of}
+use Rattle.css_drive.specs.CompanionStanding.{hung as closing}
 use Rattle.css_drive.specs.CompanionTurns.{turn_at, first_turn, this_turn, turns, first_of, counted, is_late, goes_on}
-use Rattle.css_drive.specs.CompanionTurns.{dialled, opened, any_dialled, is_peer, unless}
-use Rattle.css_drive.specs.Ends.{MayEnd, IsNetFault}
-use Rattle.css_drive.specs.Notes.{Note, Reported, noted, turn_notes, standpoint, slept_from}
-use Rattle.css_drive.specs.Proper.{Due, Now, Ends, MayAdd, More}
+use Rattle.css_drive.specs.CompanionTurns.{dialled, any_dialled}
+use Rattle.css_drive.specs.Ends.{MayEnd}
+use Rattle.css_drive.specs.Notes.{Note, Happened, Reported, Turn, noted, standpoint}
+use Rattle.css_drive.specs.Proper.{Due, Now, HangUp, Ends}
 use Rattle.css_drive.specs.declared.companion_live.Live.{Live}
 use Rattle.css_drive.specs.declared.config.DriveConfig.{DriveConfig}
 use Rattle.css_drive.specs.declared.driven.Driven.{Driven}
 use Rattle.css_drive.specs.declared.driven.Driven.TheVariants as driven
+use Rattle.css_drive.proofs.CompanionSteps.{IsOwn, told_more, peers_later, stands_adds}
+use Rattle.css_drive.proofs.CompanionCalls as calls
 
 -- ---- a turn
-abbrev pub begun : ℕ → Bool → Bool → Facts → Facts
-begun r slept now x = record x {
-  first = Some (unwrap_or x.first r);
-  turn = Some r;
-  asked = asked_after slept x.asked;
-  made = x.made + 1;
-  reported = cond now (suc x.reported) x.reported;
-}
+-- what a turn's reading makes of the facts, and its notes, where no report is due and where one is
+module _ (config : DriveConfig) (history : History) (live : Live) (reading : ℕ)
+    (f : facts_of config history ≡ facts_in live) where
+  begun : ℕ → List Report → Facts
+  begun first reports = record (facts_of config history) {
+    first = Some first;
+    turn = Some reading;
+    made = turns history + 1;
+    reported = length reports;
+  }
 
-abbrev begun_as : DriveConfig → History → ℕ → History → Bool → Bool → Facts
-begun_as config history r older slept now = record (begun r slept now (facts_of config history)) {
-  reported = length (cond now (report_at config older r ∷ due_reports config history) (due_reports config history));
-}
+  abbrev made : Bool → List Report
+  made now = cond now (report_at config history reading ∷ due_reports config history) (due_reports config history)
 
-pub begun_facts : (config : DriveConfig) (live : Live) (history : History) (clocked : Clocked) (now : Bool)
-    → facts_of config history ≡ facts_in live
-    → is_due config.report_every clocked.reading live.first live.reported ≡ now
-    → facts_of config (clock_entries why.Turn clocked ++ history)
-    ≡ begun clocked.reading clocked.slept now (facts_in live)
-begun_facts config live history clocked now f e = by clocked.slept now is
-  where
-    is : is_due config.report_every clocked.reading (first_turn history) (length (due_reports config history)) ≡ now
-    is = ap {A = Facts} (λ x. is_due config.report_every clocked.reading x.first x.reported) f ∙ e
+  abbrev told : Bool → List Note
+  told now =
+      let turn = Happened (standpoint config history) (Turn reading) ∷ noted config history in
+      cond now (Reported (standpoint config history) (length (due_reports config history) + 1)
+      (report_at config history reading) ∷ turn) turn
 
-    by : (b d : Bool) → is_due config.report_every clocked.reading (first_turn history) (length (due_reports config
-        history)) ≡ d
-        → facts_of config (clock_entries why.Turn (record clocked { slept = b }) ++ history)
-        ≡ begun clocked.reading b d (facts_in live)
-    by true true e1 = ap (begun_as config history clocked.reading (Slept ∷ history) true) e1
-        ∙ ap {A = Facts} (begun clocked.reading true true) f
-    by true false e1 = ap (begun_as config history clocked.reading (Slept ∷ history) true) e1
-        ∙ ap {A = Facts} (begun clocked.reading true false) f
-    by false true e1 = ap (begun_as config history clocked.reading history false) e1
-        ∙ ap {A = Facts} (begun clocked.reading false true) f
-    by false false e1 = ap (begun_as config history clocked.reading history false) e1
-        ∙ ap {A = Facts} (begun clocked.reading false false) f
+  is : (now : Bool) → is_due config.report_every reading live.first live.reported ≡ now
+      → is_due config.report_every reading (first_turn history) (length (due_reports config history)) ≡ now
+  is now e = ap {A = Facts} (λ x. is_due config.report_every reading x.first x.reported) f ∙ e
 
--- the notes of a turn at which no report is due, and of one at which one is
-module _ (config : DriveConfig) (clocked : Clocked) (history : History) (first : Option ℕ) (count : ℕ) (now : Bool)
-    (e1 : first_turn history ≡ first) (e2 : length (due_reports config history) ≡ count)
-    (e : is_due config.report_every clocked.reading first count ≡ now) where
-  abbrev turned : Bool → List Note
-  turned b = turn_notes (standpoint config history) (record clocked { slept = b }) ++ noted config history
+  facts_so : (now : Bool) → is_due config.report_every reading live.first live.reported ≡ now → (first : ℕ)
+      → first ≡ unwrap_or live.first reading
+      → facts_of config (Clock why.Turn reading ∷ history) ≡ begun first (made now)
+  unfolding begun
+  facts_so now e first same =
+      ap (λ b. begun (unwrap_or (first_turn history) reading) (made b)) (is now e)
+      ∙ ap (λ u. begun u (made now)) (ap {A = Facts} (λ x. unwrap_or x.first reading) f ∙ sym same)
 
-  abbrev told : Bool → ℕ → Report → List Note
-  told b n report = Reported (standpoint config (sleep_entries b ++ history)) (n + 1) report ∷ turned b
+  pub turned_facts : is_due config.report_every reading live.first live.reported ≡ false → (first : ℕ)
+      → first ≡ unwrap_or live.first reading
+      → facts_of config (Clock why.Turn reading ∷ history)
+      ≡ record (facts_in live) { first = Some first; turn = Some reading; made = live.made + 1 }
+  unfolding begun
+  turned_facts e first same =
+      facts_so false e first same
+      ∙ ap {A = Facts} (λ x. record x { first = Some first; turn = Some reading; made = x.made + 1 }) f
 
-  is : is_due config.report_every clocked.reading (first_turn history) (length (due_reports config history)) ≡ now
-  is = ap (λ x. is_due config.report_every clocked.reading x (length (due_reports config history))) e1
-      ∙ ap (λ x. is_due config.report_every clocked.reading first x) e2 ∙ e
+  pub reported_facts : is_due config.report_every reading live.first live.reported ≡ true → (first : ℕ)
+      → first ≡ unwrap_or live.first reading
+      → facts_of config (Clock why.Turn reading ∷ history) ≡ record (facts_in live) {
+        first = Some first;
+        turn = Some reading;
+        made = live.made + 1;
+        reported = live.reported + 1;
+      }
+  unfolding begun
+  reported_facts e first same =
+      facts_so true e first same
+      ∙ ap (λ n. record (facts_of config history) {
+        first = Some first;
+        turn = Some reading;
+        made = turns history + 1;
+        reported = n;
+      }) (sym (add-one (length (due_reports config history))))
+      ∙ ap {A = Facts} (λ x. record x {
+        first = Some first;
+        turn = Some reading;
+        made = x.made + 1;
+        reported = x.reported + 1;
+      }) f
 
-  begun_notes : (b : Bool) → noted config (clock_entries why.Turn (record clocked { slept = b }) ++ history)
-      ≡ cond now (told b count (report_at config (sleep_entries b ++ history) clocked.reading)) (turned b)
-  begun_notes true = ap (λ d. cond d (told true (length (due_reports config history)) (report_at config (Slept ∷
-      history) clocked.reading)) (turned true)) is
-      ∙ ap (λ n. cond now (told true n (report_at config (Slept ∷ history) clocked.reading)) (turned true)) e2
-  begun_notes false = ap (λ d. cond d (told false (length (due_reports config history)) (report_at config history
-      clocked.reading)) (turned false)) is
-      ∙ ap (λ n. cond now (told false n (report_at config history clocked.reading)) (turned false)) e2
+  pub turned_notes : is_due config.report_every reading live.first live.reported ≡ false → (notes : List Note)
+      → noted config history ≡ notes
+      → noted config (Clock why.Turn reading ∷ history)
+      ≡ Happened (standpoint config history) (Turn reading) ∷ notes
+  turned_notes e notes m = ap told (is false e) ∙ ap (λ x. Happened (standpoint config history) (Turn reading) ∷ x) m
 
-pub turned_notes : (config : DriveConfig) (clocked : Clocked) (history : History) (first : Option ℕ) (count : ℕ)
-    → first_turn history ≡ first → length (due_reports config history) ≡ count
-    → is_due config.report_every clocked.reading first count ≡ false
-    → noted config (clock_entries why.Turn clocked ++ history)
-    ≡ turn_notes (standpoint config history) clocked ++ noted config history
-turned_notes config clocked history first count e1 e2 e =
-    begun_notes config clocked history first count false e1 e2 e clocked.slept
-
-pub reported_notes : (config : DriveConfig) (clocked : Clocked) (history : History) (first : Option ℕ) (count : ℕ)
-    (report : Report) → first_turn history ≡ first → length (due_reports config history) ≡ count
-    → is_due config.report_every clocked.reading first count ≡ true
-    → report ≡ report_at config (sleep_entries clocked.slept ++ history) clocked.reading
-    → noted config (clock_entries why.Turn clocked ++ history)
-    ≡ Reported (slept_from (standpoint config history) clocked.slept) (count + 1) report
-    ∷ (turn_notes (standpoint config history) clocked ++ noted config history)
-reported_notes config clocked history first count report e1 e2 e so =
-    begun_notes config clocked history first count true e1 e2 e clocked.slept
-    ∙ ap (λ x. Reported (slept_from (standpoint config history) clocked.slept) (count + 1) x
-    ∷ (turn_notes (standpoint config history) clocked ++ noted config history)) (sym so)
-
-pub begun_next : (config : DriveConfig) (clocked : Clocked) (history : History)
-    → due config (clock_entries why.Turn clocked ++ history) ≡ from_turn config (clock_entries why.Turn clocked ++
-    history)
-begun_next config clocked history = by clocked.slept
-  where
-    by : (b : Bool) → due config (clock_entries why.Turn (record clocked { slept = b }) ++ history) ≡ from_turn
-        config (clock_entries why.Turn (record clocked { slept = b }) ++ history)
-    by true = refl
-    by false = refl
+  pub reported_notes : is_due config.report_every reading live.first live.reported ≡ true → (notes : List Note)
+      → noted config history ≡ notes → (report : Report) → report ≡ report_at config history reading
+      → noted config (Clock why.Turn reading ∷ history)
+      ≡ Reported (standpoint config history) (live.reported + 1) report
+      ∷ (Happened (standpoint config history) (Turn reading) ∷ notes)
+  reported_notes e notes m report so =
+      ap told (is true e)
+      ∙ ap (λ n. Reported (standpoint config history) (n + 1) (report_at config history reading)
+      ∷ (Happened (standpoint config history) (Turn reading) ∷ noted config history))
+      (ap {A = Facts} (λ x. x.reported) f)
+      ∙ ap (λ x. Reported (standpoint config history) (live.reported + 1) x
+      ∷ (Happened (standpoint config history) (Turn reading) ∷ noted config history)) (sym so)
+      ∙ ap (λ x. Reported (standpoint config history) (live.reported + 1) report
+      ∷ (Happened (standpoint config history) (Turn reading) ∷ x)) m
 
 -- ---- the headline
 pub keeps_promises : (config : DriveConfig) (history : History) → IsLawful history → KeepsPromises config history
@@ -293,69 +288,69 @@ over_ends driven.WriteFault o = tt
 over_ends driven.Memory o = tt
 over_ends _ o = refl
 
-pub over_quiet : (end : Driven) → IsOver end → IsNetFault end → ⊥
-over_quiet (driven.NetFault failure) o e = o
-over_quiet _ o e = e
+pub over_own : (end : Driven) → IsOver end → IsOwn end
+over_own (driven.NetFault failure) o = o
+over_own driven.WriteFault o = o
+over_own _ o = tt
 
-pub over_so : (over : Option OutFault) (end : Driven) → IsOver end → IsSo over end
-over_so over (driven.NetFault failure) o = absurd o
-over_so over driven.WriteFault o = absurd o
-over_so over _ o = tt
+-- the run hangs up the sessions that are open, to end so
+pub record Hangs (config : DriveConfig) (before now : Shown) (saw : List Note → Type 0) (live : Live) (end : Driven)
+    : Type 0 where
+  pub history : History
+  pub stands : Stands config before now saw live history
+  pub lawful : IsLawful history
+  pub hanging : IsHangingUp config end history
 
-pub hung_lawful : (history : History) (o : Option ℕ) → IsLawful history → IsLawful (hung o ++ history)
-hung_lawful history None l = l
-hung_lawful history (Some q) l = record { rises = (tt, l.rises); asks = (tt, l.asks) }
-
-pub hung_proper : (config : DriveConfig) (history : History) (o : Option ℕ) (rest : Due)
-    → IsProperRun config history → due config history ≡ hang_up o rest → IsProperRun config (hung o ++ history)
-hung_proper config history None rest p d = p
-hung_proper config history (Some q) rest p d = let P : Due → Type 0 = λ x. MayAdd x (HungUp q ∷ []) in More (HungUp q
-    ∷ []) (subst P (sym d) refl) p
-
-pub hung_noted : (config : DriveConfig) (history : History) (o : Option ℕ)
-    → noted config (hung o ++ history) ≡ noted config history
-hung_noted config history None = refl
-hung_noted config history (Some q) = refl
-
-module _ (config : DriveConfig) (history : History) (t : Option ℕ) (end : Driven) (f : final config history ≡ end)
-    (ts : opened kind.Ts history ≡ t) where
-  pub record AfterCii (x : History) : Type 0 where
-    pub next : due config x ≡ hang_up t (Ends end)
-    pub none : opened kind.Cii x ≡ None
-    pub still : opened kind.Ts x ≡ t
-    pub final_so : final config x ≡ end
-
-  pub cii_hung : (o : Option ℕ) → opened kind.Cii history ≡ o → ((q : ℕ) → o ≡ Some q → is_peer t q ≡ false)
-      → due config history ≡ from_hang_ups end history → AfterCii (hung o ++ history)
-  cii_hung None e apart d = record {
-    next = d ∙ ap (λ x. hang_up x (hang_up (opened kind.Ts history) (Ends end))) e
-        ∙ ap (λ x. hang_up x (Ends end)) ts;
-    none = e;
-    still = ts;
-    final_so = f;
+module _ {config : DriveConfig} {before now : Shown} {saw : List Note → Type 0} {live : Live} {end : Driven}
+    (x : Hangs config before now saw live end) where
+  hung : {next : Shown} → (o : Option ℕ) (rest : Due) → due config x.history ≡ hang_up o rest
+      → Adds now next (closing o) → (later : Live) → facts_of config (closing o ++ x.history) ≡ facts_in later
+      → Hangs config before next saw later end
+  hung None rest d adds later facts = record {
+    history = x.history;
+    stands = record {
+      told = told_more _ _ _ [] x.history x.stands.told adds.told;
+      faults = ap (λ y. y.faults) adds.same ∙ x.stands.faults;
+      proper = x.stands.proper;
+      facts = facts;
+      peers = let same = ap (λ y. y.peers) adds.same in peers_later _ _ x.history (omega (arith, same)) x.stands.peers;
+      saw_so = x.stands.saw_so;
+    };
+    lawful = x.lawful;
+    hanging = x.hanging;
   }
-  cii_hung (Some q) e apart d =
-      let gone : unless (is_peer (opened kind.Cii history) q) (opened kind.Cii history) ≡ None = ap (λ x. unless
-      (is_peer x q) x) e ∙ ap (λ b. unless b (Some q)) (eq-eqb q q refl) in
-      let still : unless (is_peer (opened kind.Ts history) q) (opened kind.Ts history) ≡ t = ap (λ x. unless (is_peer
-      x q) x) ts ∙ ap (λ b. unless b t) (apart q refl) in
-      record {
-        next = ap (λ x. hang_up x (hang_up (unless (is_peer (opened kind.Ts history) q) (opened kind.Ts history))
-            (Ends (final config history)))) gone ∙ ap (λ x. hang_up x (Ends (final config history))) still
-            ∙ ap (λ x. hang_up t (Ends x)) f;
-        none = gone;
-        still = still;
-        final_so = f;
-      }
+  hung (Some q) rest d adds later facts = record {
+    history = HungUp q ∷ x.history;
+    stands =
+        stands_adds x.stands (HangUp q) d (HungUp q ∷ []) refl x.stands.peers adds x.stands.saw_so later facts;
+    lawful = record { rises = (tt, x.lawful.rises); asks = (tt, x.lawful.asks) };
+    hanging = record {
+      over = x.hanging.over;
+      first = ap (λ y. from_hang_ups y (HungUp q ∷ x.history)) x.hanging.final_so;
+      final_so = x.hanging.final_so;
+    };
+  }
 
-  pub ts_hung : (x : History) → AfterCii x → due config (hung t ++ x) ≡ Ends end
-  ts_hung x a = by t a.next a.still
+  -- what is left to do
+  pub left : due config x.history ≡ hang_up live.cii_open (hang_up live.ts_open (Ends end))
+  left = x.hanging.first ∙ ap {A = Facts} (λ y. hang_up y.cii_open (hang_up y.ts_open (Ends end))) x.stands.facts
+
+  pub hung_cii : {next : Shown} → Adds now next (closing live.cii_open)
+      → Hangs config before next saw (record live { cii_open = None }) end
+  hung_cii adds = hung live.cii_open _ left adds _ (by live.cii_open refl)
     where
-      by : (o : Option ℕ) → due config x ≡ hang_up o (Ends end) → opened kind.Ts x ≡ o
-          → due config (hung o ++ x) ≡ Ends end
-      by None d e = d
-      by (Some q) d e =
-          ap (λ y. hang_up (unless (is_peer y q) y) (hang_up (unless (is_peer (opened kind.Ts x) q) (opened kind.Ts
-          x)) (Ends (final config x)))) a.none
-          ∙ ap (λ y. hang_up (unless (is_peer y q) y) (Ends (final config x))) e
-          ∙ ap (λ b. hang_up (unless b (Some q)) (Ends (final config x))) (eq-eqb q q refl) ∙ ap Ends a.final_so
+      by : (o : Option ℕ) → live.cii_open ≡ o
+          → facts_of config (closing o ++ x.history) ≡ record (facts_in live) { cii_open = None }
+      by None e = x.stands.facts ∙ ap {A = Option ℕ} {B = Facts} (λ y. record (facts_in live) { cii_open = y }) e
+      by (Some q) e = calls.cii_over x.stands e
+
+  pub hung_ts : {next : Shown} → live.cii_open ≡ None → Adds now next (closing live.ts_open)
+      → Hangs config before next saw (record live { ts_open = None }) end
+  hung_ts none adds =
+      hung live.ts_open (Ends end) (left ∙ ap (λ o. hang_up o (hang_up live.ts_open (Ends end))) none) adds _
+      (by live.ts_open refl)
+    where
+      by : (o : Option ℕ) → live.ts_open ≡ o
+          → facts_of config (closing o ++ x.history) ≡ record (facts_in live) { ts_open = None }
+      by None e = x.stands.facts ∙ ap {A = Option ℕ} {B = Facts} (λ y. record (facts_in live) { ts_open = y }) e
+      by (Some q) e = calls.ts_over x.stands e

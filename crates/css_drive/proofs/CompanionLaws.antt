@@ -15,15 +15,12 @@ use Rattle.css_model.specs.Wire.{encoded, request_at}
 use Rattle.css_companion.specs.Meanings.{kind_of, is_ts, state_of}
 use Rattle.std.specs.Option.{option_map}
 use Rattle.css_outside.specs.Outsides.{sleep_entries, opening_entries, datagram_entries, heard_entries, wrote_entries}
-use Rattle.css_outside.specs.declared.calls.Clocked.{Clocked}
 use Rattle.css_outside.specs.declared.calls.Heard.{Heard as SessionHeard}
 use Rattle.css_outside.specs.declared.calls.Heard.TheVariants as heard
 use Rattle.css_outside.specs.declared.calls.Wrote.{Wrote as Outcome}
 use Rattle.css_outside.specs.declared.calls.Wrote.TheVariants as outcome
 use Rattle.css_companion.specs.declared.fault.CompanionFault.{CompanionFault}
 use Rattle.css_companion.specs.declared.fault.CompanionFault.TheVariants as fault
-use Rattle.css_companion.specs.Standing.{wanted_by}
-use Rattle.css_tsmsg.specs.Setups.{setup_text}
 use Rattle.css_companion.specs.declared.report.Report.{Report}
 use Rattle.css_follow.specs.Following.{Seen, Hears, told_unless, after, ends_by}
 use Rattle.css_drive.specs.CompanionDue as dues
@@ -32,12 +29,12 @@ use Rattle.css_drive.specs.CompanionDue.{from_hang_ups, from_cii, from_wc, from_
 use Rattle.css_drive.specs.CompanionDue.{from_ts_text, from_end, final, is_short, refusal, place, window_text}
 use Rattle.css_drive.specs.CompanionDue.{unless_refused, point_of, end_by, IsProperRun}
 use Rattle.css_drive.specs.CompanionLaws.{ReportsAreAsAsked, FollowersHear, HasHeard, EachHasHeard}
-use Rattle.css_drive.specs.CompanionReports.{due_reports, is_due, report_at, with_report}
-use Rattle.css_drive.specs.CompanionTurns.{turn_at, first_turn, this_turn, turns, dialled, opened, any_dialled}
+use Rattle.css_drive.specs.CompanionReports.{due_reports, is_due, report_at}
+use Rattle.css_drive.specs.CompanionTurns.{first_turn, this_turn, turns, dialled, opened, any_dialled}
 use Rattle.css_drive.specs.CompanionTurns.{asked_turn, is_asking, is_late, goes_on}
 use Rattle.css_drive.specs.CompanionRun.{after_all}
 use Rattle.css_drive.specs.Listening.{Listener, hearing, words_of}
-use Rattle.css_drive.specs.Proper.{Due, Now, Dial, Accept, SendDatagram, TakeDatagram, TakeText, SendText, HangUp, Ends}
+use Rattle.css_drive.specs.Proper.{Due, Now, Dial, Accept, TakeDatagram, TakeText, SendText, Ends}
 use Rattle.css_drive.specs.Proper.{MayAdd, Empty, More}
 use Rattle.css_drive.specs.declared.config.DriveConfig.{DriveConfig}
 use Rattle.css_drive.specs.declared.driven.Driven.TheVariants as driven

@@ -123,9 +123,6 @@ pub counts_same : (before now : ℕ) (ended : Driven) → (IsNetFault ended → 
 counts_same before now (driven.NetFault failure) never e = absurd (never tt)
 counts_same before now _ never e = e
 
-pub counts_from : (a b n : ℕ) (ended : Driven) → a ≡ b → CountsNetFault a n ended → CountsNetFault b n ended
-counts_from a b n ended e c = let P : ℕ → Type 0 = λ x. CountsNetFault x n ended in subst P e c
-
 -- ---- ends
 -- an end that neither the outside nor an observer makes, or want of memory
 abbrev pub IsOwn : Driven → Type 0

@@ -14,7 +14,7 @@ use Rattle.css_companion.specs.declared.report.Report.{Report}
 use Rattle.css_follow.specs.Following.{Seen, Plan, told, says_by, ends_by}
 use Rattle.css_drive.specs.CompanionReports.{due_reports, report_at, is_due, written, all_but_newest, IsPart}
 use Rattle.css_drive.specs.CompanionReports.{HasWritten}
-use Rattle.css_drive.specs.CompanionRun.{Followed, FollowedInPart, HasFollowed, Ran, after_all, said_of}
+use Rattle.css_drive.specs.CompanionRun.{Followed, FollowedInPart, HasFollowed, Ran, after_all}
 use Rattle.css_drive.specs.CompanionReports as reports
 use Rattle.css_drive.specs.CompanionStanding.{Made, IsEndOf}
 use Rattle.css_drive.specs.CompanionTurns.{turn_at, first_turn}

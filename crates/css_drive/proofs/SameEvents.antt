@@ -1,5 +1,5 @@
 -- What a companion reports depends on what it was told alone.
-use Rattle.std.proofs.Common.{◌≡◌, ℕ, Bool, true, false, List, [], ◌∷◌, ◌++◌, refl, sym, ap, ap₂, ◌∙◌, take}
+use Rattle.std.proofs.Common.{◌≡◌, ℕ, Bool, true, false, List, [], ◌∷◌, ◌++◌, refl, sym, ap, ◌∙◌, take}
 use Rattle.std.specs.Prelude.{Option, Some, None, if◌then◌else◌, ◌||◌, Result}
 use Rattle.std.specs.List.{list_any}
 use Rattle.std.specs.Option.{option_and_then, option_map, option_or, option_to_list}
@@ -9,10 +9,9 @@ use Rattle.css_model.specs.declared.Message.{Message}
 use Rattle.css_model.specs.declared.Why.TheVariants as why
 use Rattle.css_model.specs.declared.Kind.{Kind}
 use Rattle.css_model.specs.declared.Kind.TheVariants as kind
-use Rattle.css_model.specs.WallClock.{Local}
 use Rattle.css_model.specs.Wire.{is_same_stamp}
 use Rattle.css_model.specs.History.{History, Slept, Clock, Sent, Dialled, Heard, Closed, Gone, LandedAnswer, just_taken}
-use Rattle.css_model.specs.History.{request_by, request_in, answer_in, requests, landed_answers, possible_answers}
+use Rattle.css_model.specs.History.{request_in, answer_in, requests, landed_answers, possible_answers}
 use Rattle.css_span.specs.WallSpans.{wall_span}
 use Rattle.css_cii.specs.States.{empty}
 use Rattle.css_cii.specs.declared.state.State.{State}
@@ -20,7 +19,7 @@ use Rattle.css_tsmsg.specs.Controls.{control_of}
 use Rattle.css_tsmsg.specs.declared.fault.TsFault.{TsFault}
 use Rattle.css_companion.specs.Contents.{next_number, state_after}
 use Rattle.css_companion.specs.Meanings.{kind_of, is_cii, is_ts, counted, merged_with, texts_of, state_of, control_by}
-use Rattle.css_companion.specs.Meanings.{is_closed, rate_after, timing_after, report_after}
+use Rattle.css_companion.specs.Meanings.{is_closed}
 use Rattle.css_companion.specs.Printed.{line_of}
 use Rattle.css_companion.specs.Reports.{timing_of, report_by, assigned_by}
 use Rattle.css_companion.specs.TimelineRates.{rate_of}

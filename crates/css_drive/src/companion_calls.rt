@@ -2,11 +2,11 @@
 ghost use Rattle.std.specs.Prelude.{◌≡◌, ◌≤◌, [], ◌∷◌, ℕ, Option, None, Some, IfOk, IfErr, OnOk};
 ghost use Rattle.css_model.specs.History.{Sent};
 ghost use Rattle.css_outside.specs.Faults.{CountsOutFault, HasRisen};
+ghost use Rattle.css_outside.specs.declared.fault.OutFault.{OutFault as Fault};
 ghost use Rattle.css_outside.specs.Outsides.{heard_entries, wrote_entries};
 ghost use Rattle.css_drive.specs.CompanionDue.{end_by};
-ghost use Rattle.css_drive.specs.CompanionStanding.{shown, IsEarly, IsFault, IsEndBy, Calls, Adds, HasDialled, HasRead};
+ghost use Rattle.css_drive.specs.CompanionStanding.{Shown, shown, IsEarly, Fails, Calls, Adds, HasDialled, HasRead};
 ghost use Rattle.css_drive.specs.CompanionStanding.{HasLost, Keeps, Stays, Knows, SawMore, final_end};
-ghost use Rattle.css_drive.specs.Ends.{CountsNetFault};
 ghost use Rattle.css_drive.specs.Notes.{Standpoint, Happened, Asked, Sees, dial_notes, heard_notes, slept_notes};
 ghost use Rattle.css_drive.specs.Notes.{wrote_notes};
 
@@ -17,11 +17,12 @@ use crate::session::Session;
 use css_companion::{Companion, CompanionEvent, CompanionFault};
 use css_outside::{Address, Clocked, Heard, Kind, OutFault, Outside, Why, Wrote};
 
-/// How a run ends with a fault of the outside.
+/// How a run ends with a fault of the outside, of an observer that isn't over.
 pub fn end_of(fault: OutFault) -> Driven
-    ensures fault { IsFault result }
     ensures early { IsEarly result }
-    ensures counted { (before : ℕ) → (now : ℕ) → CountsOutFault before now fault → CountsNetFault before now result }
+    ensures failed { (old : Shown) → (new : Shown) → (over : Option Fault) → over ≡ None → new.told ≡ old.told
+        → CountsOutFault old.counts.faults new.counts.faults fault → new.counts.dial_faults ≡ old.counts.dial_faults
+        → Fails old new over result }
 {
     match fault {
         OutFault::Failed(failure) => Driven::NetFault(failure),
@@ -43,9 +44,8 @@ pub fn refused(fault: CompanionFault) -> Driven
 
 /// How a run ends that its observer ends.
 fn unseen(fault: OutFault) -> Driven
-    ensures end { IsEndBy (Some fault) result }
     ensures early { IsEarly result }
-    ensures counted { (count : ℕ) → CountsNetFault count count result }
+    ensures unmade { (at : Shown) → (over : Option Fault) → over ≡ Some fault → Fails at at over result }
 {
     match fault {
         OutFault::Failed(_) => Driven::WriteFault,
@@ -56,9 +56,8 @@ fn unseen(fault: OutFault) -> Driven
 /// Whether the run may go on. It is asked before each call of the outside.
 pub fn check<W: Observes>(observer: &W) -> Result<(), Driven>
     ensures on { OnOk result (W.over observer.now ≡ None) }
-    ensures end { IfErr result (IsEndBy (W.over observer.now)) }
     ensures early { IfErr result IsEarly }
-    ensures counted { (count : ℕ) → IfErr result (CountsNetFault count count) }
+    ensures unmade { IfErr result (λ ended. (at : Shown) → Fails at at (W.over observer.now) ended) }
 {
     match observer.check() {
         Ok(()) => Ok(()),

@@ -17,8 +17,7 @@ returns-then-clocked-clause-goes g c before started h p s k =
     let taken = read.known cfg _ (calls.knows_plain (Took p bytes) k refl refl refl refl refl refl refl) in
     comes (calls.stands_landed s clocked read
     (c.landed.ensures (standpoint cfg (Took p bytes ∷ h)) taken started _ c.in_ok-clocked.ensures.on s.saw_so))
-    (calls.slept_landing _ _ clocked (Took p bytes ∷ h) c.if-clocked.true taken) _
-    (calls.landed_next cfg clocked (Took p bytes ∷ h))
+    (calls.slept_landing _ _ clocked (Took p bytes ∷ h) c.if-clocked.true taken) _ refl
 
 pub returns-in-Ok-clause-goes : goal.returns-in-Ok-clause-goes
 returns-in-Ok-clause-goes g c before started h p s k =
@@ -35,8 +34,7 @@ returns-in-Ok-clause-goes g c before started h p s k =
       setup = ap (λ x. x.setup) c.in-Ok.ensures.keeps
           ∙ k2.setup;
       own = c.in-Ok.ensures.own ∙ k2.own;
-    })) _
-    (calls.landed_next cfg clocked (Took p bytes ∷ h))
+    })) _ refl
 
 pub returns-in-Err-clause-goes : goal.returns-in-Err-clause-goes
 returns-in-Err-clause-goes g c before started h p s k =

@@ -22,8 +22,9 @@ returns-clause-goes g c some before started h s k d =
     let s1 = calls.stands_asked {after = g.W.Observes.saw started c.note_sleep.new.observer} s d clocked read
     (c.note_sleep.ensures (standpoint cfg h) started _ c.in_ok-clocked.ensures.on s.saw_so) in
     let k1 = read.known cfg h k in
-    let e1 = calls.asked_to cfg clocked h ∙ ap (λ o. send_to o (encoded (request_at clocked.reading)))
-    (ap {A = Facts} (λ x. x.wc) s.facts ∙ some) ∙ ap (λ b. SendDatagram p b) (sym c.ask-bytes.ensures.request) in
+    let wc = ap {A = Facts} (λ x. x.wc) s1.facts ∙ ap {A = Facts} (λ x. x.wc) read.only ∙ some in
+    let e1 = ap (λ o. send_to o (encoded (request_at clocked.reading))) wc
+    ∙ ap (λ b. SendDatagram p b) (sym c.ask-bytes.ensures.request) in
     comes (stands_adds s1 (SendDatagram p c.ask-bytes.result) e1 (Sent p c.ask-bytes.result ∷ []) refl s1.peers
     c.in_ok-send_request.ensures.told
     (c.in_ok-send_request.ensures.saw (standpoint cfg asked) started _ s1.saw_so) _

@@ -26,12 +26,10 @@ returns-in-Ok-Some-clause-goes g c before started h s k d =
 
 pub returns-in-Err-clause-goes : goal.returns-in-Err-clause-goes
 returns-in-Err-clause-goes g c before started h s k d =
-    stops_by_fault s (knows_lawful _ _ h k) (calls.call_failed c.in-Err.ensures.told
-    (c.end_of.ensures.counted _ _ c.in-Err.ensures.counted.faults)
-    (ap (λ x. x.dial_faults) c.in-Err.ensures.counted.same) c.in_ok-check.ensures.on c.end_of.ensures.fault
-    c.end_of.ensures.early) s.saw_so
+    stops_by_fault s (knows_lawful _ _ h k) (c.end_of.ensures.failed _ _ _ c.in_ok-check.ensures.on
+    c.in-Err.ensures.told c.in-Err.ensures.counted.faults (ap (λ x. x.dial_faults) c.in-Err.ensures.counted.same))
+    s.saw_so
 
 pub returns-in_err-check-clause-goes : goal.returns-in_err-check-clause-goes
 returns-in_err-check-clause-goes g c before started h s k d =
-    failed s _ _ k c.from_residual.ensures.1
-    (calls.unmade c.in_err-check.ensures.counted c.in_err-check.ensures.end c.in_err-check.ensures.early) _ s.saw_so
+    failed s _ _ k c.from_residual.ensures.1 (c.in_err-check.ensures.unmade _) _ s.saw_so
