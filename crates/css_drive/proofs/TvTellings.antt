@@ -61,7 +61,7 @@ unused_more run peer older e other none =
     event_unused (addresses_in run.config) e (progress_of run older).events peer other none
 
 -- a peer whose number is above those of all that came has no session
-unused : (run : TvRun) (peer n : ℕ) → n ≤ peer → (h : History) → AreBelow n h
+pub unused : (run : TvRun) (peer n : ℕ) → n ≤ peer → (h : History) → AreBelow n h
     → At (Unused (addresses_in run.config) peer) (progress_of run h)
 unused run peer n le [] below = refl
 unused run peer n le (Accepted p peer_kind.Wc ∷ older) below = unused run peer n le older below.1
