@@ -1,19 +1,16 @@
 -- How a run comes on by a line of the script.
 use Rattle.std.proofs.Common.{◌≡◌, ℕ, ◌+◌, ◌≤◌, ◌<◌, true, false, cond, List, [], ◌∷◌, Option, Some, None, refl, sym}
-use Rattle.std.proofs.Common.{ap, subst, ◌∙◌, arith, Result, Ok, Err, drop, length, get_or, inl, inr, ◌⊎◌}
+use Rattle.std.proofs.Common.{ap, ◌∙◌, arith, Result, Ok, Err, drop, length, get_or, inl, inr, ◌⊎◌}
 use Rattle.std.proofs.lemmas.Bool.Decides.{nat_tests}
 use Rattle.std.proofs.lemmas.Grind.{common_steps}
 use Rattle.css_model.specs.History.{History}
 use Rattle.css_player.specs.declared.command.PlayerFault.{PlayerFault}
 use Rattle.css_schedule.specs.declared.fault.LineWhy.TheVariants as line_why
 use Rattle.css_schedule.specs.declared.line.ScriptLine.{ScriptLine}
-use Rattle.css_schedule.specs.declared.line.Verb.{Verb}
-use Rattle.css_schedule.specs.declared.line.Verb.TheVariants as verb
 use Rattle.css_tv.specs.Stages.{Stage}
 use Rattle.css_tv.specs.Outcomes.{Outcome, outcome_at}
 use Rattle.css_tv.specs.Standing.{IsAfterBy}
 use Rattle.css_tv.specs.declared.event.TvEvent.{TvEvent}
-use Rattle.css_tv.specs.declared.event.TvEvent.TheVariants as event
 use Rattle.css_tv.specs.declared.event.TvOut.{TvOut}
 use Rattle.css_tv.specs.declared.fault.TvFault.{TvFault}
 use Rattle.css_tv.specs.declared.fault.TvFault.TheVariants as fault
@@ -25,7 +22,7 @@ use Rattle.css_drive.specs.TvRan.{TvRan}
 use Rattle.css_drive.specs.TvStanding.{Told, Settles, Happens, Carries, IsTurned, progress_at, past_line}
 use Rattle.css_drive.specs.declared.driven.Driven.TheVariants as driven
 use Rattle.css_drive.specs.declared.on_air.OnAir.{OnAir}
-use Rattle.css_drive.proofs.TvCalls.{IsNoOpening}
+use Rattle.css_drive.proofs.TvCalls.{opens_none}
 use Rattle.css_drive.proofs.TvSteps.{told_as, airs_as, airs_on, happens, outcome_same, carry_stops}
 
 -- ---- a line that is due
@@ -55,16 +52,6 @@ passed_over {run} {air = air} {r} x e =
     let p = progress_at run air (Turned r) [] x.settles.events in
     airs_on x.settles (omega arith) refl refl
     (told_as _ (carried x) (ap (λ o. carry a (since air.turns) r left (played_if a left p o)) (sym e)))
-
--- an event of a line opens no session
-pub opens_none : (r : ℕ) (v : Verb) (e : TvEvent) → Some e ≡ event_of r v → IsNoOpening e
-opens_none r (verb.Programme id) e is =
-    subst IsNoOpening (let same : event.Programme id ≡ e = cc in same) tt
-opens_none r (verb.Timeline m selector rate base) e is =
-    subst IsNoOpening (let same : event.AddTimeline m selector rate base ≡ e = cc in same) tt
-opens_none r (verb.Viewer unused command) e is =
-    subst IsNoOpening (let same : event.Viewer command r ≡ e = cc in same) tt
-opens_none r _ e is = absurd (cc)
 
 -- it is one, and the player accepts it
 pub line_happens : {run : TvRun} {start told : Option History} {peers : ℕ} {air : OnAir} {r : ℕ} {line : ScriptLine}

@@ -64,7 +64,7 @@ peer_removed {run} {peers = peers} {air} {at} x peer rest e lacks now items =
         stage = x.is_at.stage;
         knows = subst (λ ys. Knows ys peers live) (sym items) (record {
           rising = lists.rising_removed 0 at peer xs rest e k.rising;
-          below = lists.below_removed (λ other. other ≤ peers) at peer xs rest e k.below;
+          below = lists.below_removed (λ other. other ≤ peers) at xs k.below;
           covers = lists.covers_removed at peer xs live rest e lacks k.covers;
         });
       };

@@ -2,6 +2,7 @@
 use Rattle.std.proofs.Common.{◌≡◌, ℕ, ◌+◌, ◌≤◌, ◌<◌, Bool, true, false, cond, List, [], ◌∷◌, ◌++◌, Option, Some, None}
 use Rattle.std.proofs.Common.{refl, sym, ap, ap₂, subst, ◌∙◌, arith, Result, Ok, Err}
 use Rattle.std.specs.Prelude.{◌==◌, nat_lt, not, ◌&&◌, is_some, OnOk, ◌↔◌}
+use Rattle.std.proofs.lemmas.List.Elements.{All-push}
 use Rattle.std.specs.Option.{option_map, option_to_list}
 use Rattle.css_model.specs.Wire.{encoded}
 use Rattle.css_model.specs.declared.TheConstants.{LIMIT}
@@ -159,7 +160,7 @@ one_came {run} {peers = peers} {peers'} {air} x peer k e lt is now items =
       knows = subst (λ ys. Knows ys peers' (open_after (addresses_in run.config) (event.Opened peer k ∷ x.events)))
           (sym items) (record {
             rising = lists.rising_last 0 peer xs x.knows.rising before (omega arith);
-            below = lists.below_last peers' peer xs
+            below = All-push (λ other. other ≤ peers') xs peer
                 (lists.below_later peers peers' xs (omega (arith, lt, is)) x.knows.below) (omega (arith, is));
             covers = event_covers (addresses_in run.config) peer k x.events xs before x.knows.covers;
           });

@@ -12,7 +12,7 @@ use Rattle.css_drive.specs.Proper.{Due, Now, Dial, Accept, TakeDatagram, TakeTex
 use Rattle.css_drive.specs.Proper.{IsProper, Empty, More}
 use Rattle.css_drive.specs.TvProgress.{Place, Listens, Turned, Answers, Asked, Over, addresses_in, progress_of}
 use Rattle.css_drive.specs.TvProgress.{open_after}
-use Rattle.css_drive.specs.TvDue.{TvRun, due, due_at, from_end, from_hang_ups, from_texts, from_turn, from_answers}
+use Rattle.css_drive.specs.TvDue.{TvRun, due, due_at, from_end, from_hang_ups, from_texts, from_answers}
 use Rattle.css_drive.specs.TvDue.{unless_owed, unless_refused}
 use Rattle.css_drive.specs.TvTurns.{goes_on, is_over}
 use Rattle.css_drive.specs.declared.turns.Turns.{Turns}
@@ -21,8 +21,9 @@ use Rattle.css_drive.specs.TvRan.{AreNumbered}
 use Rattle.css_drive.specs.TvTold.{sent_to, is_gone, lost, SessionsAreTold}
 use Rattle.css_drive.specs.declared.driven.Driven.TheVariants as driven
 use Rattle.css_drive.proofs.TvNews.{news_of}
-use Rattle.css_drive.proofs.TvTellings.{Good, clock_good, opening_good, datagram_good, heard_good, wrote_good}
-use Rattle.css_drive.proofs.TvTellings.{hung_good, hung_due}
+use Rattle.css_drive.proofs.TvTold.{Tells}
+use Rattle.css_drive.proofs.TvTellings.{Good, read_good, opening_good, datagram_good, heard_good, wrote_good}
+use Rattle.css_drive.proofs.TvTellings.{hung_good}
 
 -- ---- what is due where nothing is owed
 -- it is no text
@@ -30,25 +31,20 @@ abbrev IsNoText : Due → Type 0
 IsNoText (SendText peer text) = ⊥
 IsNoText _ = ⊤
 
+no_text_if : (b : Bool) (d e : Due) → IsNoText d → IsNoText e → IsNoText (cond b d e)
+no_text_if true d e x y = x
+no_text_if false d e x y = y
+
 no_text_hanging : (live : List ℕ) → IsNoText (from_hang_ups live)
 no_text_hanging [] = tt
 no_text_hanging (peer ∷ peers) = tt
 
 no_text_ending : (turns : Turns) (live : List ℕ) → IsNoText (from_end turns live)
-no_text_ending turns live = by (goes_on turns) where
-  by : (b : Bool) → IsNoText (cond b (Now why.Turn) (from_hang_ups live))
-  by true = tt
-  by false = no_text_hanging live
+no_text_ending turns live = no_text_if (goes_on turns) (Now why.Turn) _ tt (no_text_hanging live)
 
 no_text_asking : (turns : Turns) (live peers : List ℕ) → IsNoText (from_texts turns live peers)
 no_text_asking turns live [] = no_text_ending turns live
 no_text_asking turns live (peer ∷ peers) = tt
-
-no_text_taking : (turns : Turns) (live : List ℕ) → IsNoText (from_turn turns live)
-no_text_taking turns live = by (is_over turns) where
-  by : (b : Bool) → IsNoText (cond b (from_hang_ups live) TakeDatagram)
-  by true = no_text_hanging live
-  by false = tt
 
 no_text_answering : (peer : ℕ) (datagrams : List (List ℕ)) → IsNoText (from_answers peer datagrams)
 no_text_answering peer [] = tt
@@ -56,7 +52,8 @@ no_text_answering peer (datagram ∷ datagrams) = tt
 
 no_text : (run : TvRun) (live : List ℕ) (turns : Turns) (place : Place) → IsNoText (due_at run live turns place)
 no_text run live turns Listens = no_text_ending turns live
-no_text run live turns (Turned reading) = no_text_taking turns live
+no_text run live turns (Turned reading) =
+    no_text_if (is_over turns) _ TakeDatagram (no_text_hanging live) tt
 no_text run live turns (Answers peer datagrams) = no_text_answering peer datagrams
 no_text run live turns (Asked last) = no_text_asking turns live (above last live)
 no_text run live turns (Over last) = no_text_hanging (above (Some last) live)
@@ -72,7 +69,7 @@ call_good : (run : TvRun) (peer : ℕ) (older : History) (d : Due) → IsNoText 
     → Step run peer older call
 call_good run peer older (Now w) quiet none call may t =
     subst (Step run peer older) (sym may.1)
-    (λ numbered. clock_good run peer older w may.0.reading may.0.slept t)
+    (λ numbered. read_good run peer older w may.0.reading may.0.slept t)
 call_good run peer older (Dial k to) quiet none call (inl may) t =
     subst (Step run peer older) (sym may.1) (λ numbered. t)
 call_good run peer older (Dial k to) quiet none call (inr may) t = subst (Step run peer older) (sym may) (λ numbered. t)
@@ -84,7 +81,7 @@ call_good run peer older (TakeText p) quiet none call may t =
     subst (Step run peer older) (sym may.1) (λ numbered. heard_good run peer older p may.0 none t)
 call_good run peer older (SendText p text) quiet none call may t = absurd quiet
 call_good run peer older (HangUp p) quiet none call may t =
-    subst (Step run peer older) (sym may) (λ numbered. hung_good run peer older p [] t none)
+    subst (Step run peer older) (sym may) (λ numbered. hung_good run peer older p [] none t)
 call_good run peer older (Ends ended) quiet none call may t = absurd may
 call_good run peer older _ quiet none call may t = subst (Step run peer older) (sym may) (λ numbered. t)
 
@@ -99,7 +96,9 @@ due_good run peer older call (Some fault.Memory) owed owes may t = absurd may
 due_good run peer older call None (out.Say p text ∷ os) owes may t =
     subst (Step run peer older) (sym may.1) (λ numbered. wrote_good run peer older p text os may.0 owes t)
 due_good run peer older call None (out.HangUp p ∷ os) owes may t =
-    subst (Step run peer older) (sym may) (λ numbered. hung_due run peer older p os owes t)
+    subst (Step run peer older) (sym may) (λ numbered. hung_good run peer older p (out.HangUp p ∷ os) owes
+    (subst (λ (xs : List TvOut). Tells (addresses_in run.config) peer (sent_to peer older) (is_gone peer older)
+    (progress_of run older).events xs) owes t))
 due_good run peer older call None [] owes may t =
     let p = progress_of run older in
     let live = open_after (addresses_in run.config) p.events in
@@ -117,7 +116,7 @@ all_good run peer [] Empty numbered = record {
   missing = [];
   front = refl;
   few_missing = omega arith;
-  few_owed = omega arith;
+  few_news = omega arith;
   over = λ e. absurd (cc);
 }
 all_good run peer h (More {older} call may proper) numbered =

@@ -7,14 +7,13 @@ use Rattle.css_model.specs.History.{History, Accepted, Clock}
 use Rattle.css_outside.specs.Outsides.{Counts, CountsPlain, with_entries, clock_entries}
 use Rattle.css_outside.specs.declared.calls.Clocked.{Clocked}
 use Rattle.css_outside.specs.declared.fault.OutFault.{OutFault}
-use Rattle.css_sessions.specs.Kept.{Kept, Event as Call}
+use Rattle.css_sessions.specs.Kept.{Kept}
 use Rattle.css_sessions.specs.Told.{sessions_of}
 use Rattle.css_player.specs.Player.{Player}
 use Rattle.css_tv.specs.Stages.{Stage, Television}
 use Rattle.css_tv.specs.Outcomes.{Outcome, outcome, outcome_at, outs}
 use Rattle.css_tv.specs.Standing.{StandsFor, IsFresh, IsAfterBy, calls_of, player_after}
 use Rattle.css_tv.specs.declared.event.TvEvent.{TvEvent}
-use Rattle.css_tv.specs.declared.event.TvEvent.TheVariants as event
 use Rattle.css_tv.specs.declared.event.TvOut.{TvOut}
 use Rattle.css_tv.specs.declared.fault.TvFault.{TvFault}
 use Rattle.css_tv.specs.declared.state.Addresses.{Addresses}
@@ -33,7 +32,7 @@ use Rattle.css_drive.specs.TvStanding.{with_tv}
 use Rattle.css_drive.specs.declared.driven.Driven.{Driven}
 use Rattle.css_drive.specs.declared.driven.Driven.TheVariants as driven
 use Rattle.css_drive.specs.declared.on_air.OnAir.{OnAir}
-use Rattle.css_drive.proofs.TvCalls.{IsNoOpening, event_narrows}
+use Rattle.css_drive.proofs.TvCalls.{IsNoOpening, is_fresh, event_narrows}
 use Rattle.css_drive.proofs.TvPeers as lists
 
 -- ---- lines that wait
@@ -154,14 +153,10 @@ pub cause_by : {T : Type 0} (before now : Counts) (ended : Driven) → now.dial_
 cause_by before now ended dials peers counted none = record {
   dials = dials;
   peers = omega (arith, peers);
-  kept = faults_kept ended counted;
   ok = tt;
   failed = counted;
   no_writes = none;
-} where
-  faults_kept : (ended : Driven) → CountsNetFault before.faults now.faults ended → before.faults ≤ now.faults
-  faults_kept (driven.NetFault failure) c = c.kept
-  faults_kept _ c = omega (arith, c)
+}
 
 -- so did one that does nothing else
 pub cause_plain : {T : Type 0} {U : Type 0} {result : Result U OutFault} (before now : Counts) (ended : Driven)
@@ -176,7 +171,6 @@ pub cause_later : {T : Type 0} (before mid now : Counts) (ended : Driven) → Ke
 cause_later before mid now ended kept k = record {
   dials = k.dials ∙ kept.dials;
   peers = omega (arith, k.peers, kept.peers);
-  kept = omega (arith, k.kept, kept.faults);
   ok = tt;
   failed = subst (λ n. CountsNetFault n now.faults ended) kept.faults k.failed;
   no_writes = k.no_writes;
@@ -267,17 +261,13 @@ happens {run} {peers' = peers'} {h = h} x e n le air' stage items t =
       history = t;
       addresses = ap (λ s. s.addresses) stage ∙ x.addresses;
       stage = subst (λ s. StandsFor s x.events) (sym stage) x.stage;
-      fresh = fresh e n (calls_of a x.events).sessions;
+      fresh = is_fresh e n (calls_of a x.events).sessions;
       knows = subst (λ xs. Knows xs peers' (open_after a (e ∷ x.events))) (sym items) (record {
         rising = k.rising;
         below = k.below;
         covers = event_narrows a e x.events n _ k.covers;
       });
     }
-  where
-    fresh : (e : TvEvent) → IsNoOpening e → (calls : List Call) → IsFresh e calls
-    fresh (event.Opened peer kind) n calls = absurd n
-    fresh _ n calls = tt
 
 -- what an event does by the events before it is what it does at the television
 pub outcome_same : {a : Addresses} {stage : Stage} {events : List TvEvent} → stage.addresses ≡ a

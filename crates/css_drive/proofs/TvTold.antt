@@ -16,20 +16,17 @@ use Rattle.css_sessions.specs.Told.{set_life, grown_life}
 use Rattle.css_tv.specs.Outcomes.{Outcome}
 use Rattle.css_tv.specs.Standing.{IsFresh, calls_of, texts_after}
 use Rattle.css_tv.specs.declared.event.TvEvent.{TvEvent}
-use Rattle.css_tv.specs.declared.event.TvEvent.TheVariants as event
 use Rattle.css_tv.specs.declared.event.TvOut.{TvOut}
 use Rattle.css_tv.specs.declared.fault.TvFault.{TvFault}
 use Rattle.css_tv.specs.declared.state.Addresses.{Addresses}
 use Rattle.css_schedule.specs.declared.line.ScriptLine.{ScriptLine}
-use Rattle.css_schedule.specs.declared.line.Verb.{Verb}
-use Rattle.css_schedule.specs.declared.line.Verb.TheVariants.{Programme, Timeline, Viewer}
 use Rattle.css_drive.specs.TvProgress.{Place, Turned, Taken, Received, Progress, outcome_after, outs_after, happened}
 use Rattle.css_drive.specs.TvProgress.{event_of, played, played_if, with_line, is_free, is_free_of, is_due, carry}
 use Rattle.css_drive.specs.TvProgress.{settled_at, settled, ticketed, received_at, answered_at, after}
 use Rattle.css_drive.specs.TvTold.{lost}
 use Rattle.css_drive.specs.TvTurns.{begun, since}
-use Rattle.css_drive.proofs.TvCalls.{called_in}
-use Rattle.css_drive.proofs.TvNews.{news_of, sessions-after, event-lawful, event-texts, event-few}
+use Rattle.css_drive.proofs.TvCalls.{IsNoOpening, opens_none, called_in, sessions_after}
+use Rattle.css_drive.proofs.TvNews.{news_of, event-lawful, event-texts, event-few}
 
 -- ---- lists
 -- what adds nothing is nothing
@@ -87,14 +84,16 @@ over_calls peer x (call ∷ called) h lawful e =
 -- ---- what stands as the run goes on
 -- What a session was told and what is owed to it are together what it was to be told, but for what is lost.
 pub record Telling (a : Addresses) (peer : ℕ) (sent : List (List ℕ)) (gone : Bool) (events : List TvEvent)
-    (owed : List TvOut) : Type 0 where
+    (news : List (List ℕ)) : Type 0 where
   pub lawful : IsLawful (calls_of a events).sessions
   pub missing : List (List ℕ)
-  pub front : texts_after a peer events ≡ reverse (news_of peer owed) ++ (missing ++ sent)
+  pub front : texts_after a peer events ≡ reverse news ++ (missing ++ sent)
   pub few_missing : length missing ≤ lost gone
-  pub few_owed : length (news_of peer owed) ≤ 1
-  pub over : gone ≡ true
-      → (life : Life) × (life_of peer (calls_of a events).sessions ≡ gone_life life) × (news_of peer owed ≡ [])
+  pub few_news : length news ≤ 1
+  pub over : gone ≡ true → (life : Life) × (life_of peer (calls_of a events).sessions ≡ gone_life life) × (news ≡ [])
+
+abbrev pub Tells : Addresses → ℕ → List (List ℕ) → Bool → List TvEvent → List TvOut → Type 0
+Tells a peer sent gone events owed = Telling a peer sent gone events (news_of peer owed)
 
 -- what an event tells a session that is over
 quiet_when_over : (a : Addresses) (peer : ℕ) (e : TvEvent) (es : List TvEvent) (life : Life)
@@ -103,7 +102,7 @@ quiet_when_over : (a : Addresses) (peer : ℕ) (e : TvEvent) (es : List TvEvent)
     → (life_of peer (calls_of a (e ∷ es)).sessions ≡ gone_life life) × (news_of peer (outs_after a es e) ≡ [])
 quiet_when_over a peer e es life lawful fresh is =
     let older = calls_of a es in
-    let same = sessions-after (outcome_after a es e) older in
+    let same = sessions_after (outcome_after a es e) older in
     let now : life_of peer (calls_of a (e ∷ es)).sessions ≡ gone_life life =
     ap (λ h. life_of peer h) same
     ∙ over_calls peer life (called_in (outcome_after a es e)) older.sessions
@@ -115,37 +114,27 @@ quiet_when_over a peer e es life lawful fresh is =
 -- one event more, with nothing owed before it
 pub tells_event : (a : Addresses) (peer : ℕ) (sent : List (List ℕ)) (gone : Bool) (e : TvEvent) (es : List TvEvent)
     (owed : List TvOut)
-    → Telling a peer sent gone es owed → owed ≡ [] → IsFresh e (calls_of a es).sessions
-    → Telling a peer sent gone (e ∷ es) (owed ++ outs_after a es e)
+    → Tells a peer sent gone es owed → owed ≡ [] → IsFresh e (calls_of a es).sessions
+    → Tells a peer sent gone (e ∷ es) (owed ++ outs_after a es e)
 tells_event a peer sent gone e es owed t none fresh =
-    subst (λ (os : List TvOut). Telling a peer sent gone (e ∷ es) os)
-    (sym (ap (λ os. os ++ outs_after a es e) none)) (record {
+    let now = outs_after a es e in
+    subst (λ (os : List TvOut). Tells a peer sent gone (e ∷ es) (os ++ now)) (sym none) (record {
       lawful = event-lawful a e es t.lawful fresh;
       missing = t.missing;
-      front =
-          event-texts a e es t.lawful fresh peer
-          ∙ ap (λ texts. reverse (news_of peer (outs_after a es e)) ++ texts)
+      front = event-texts a e es t.lawful fresh peer ∙ ap (λ texts. reverse (news_of peer now) ++ texts)
           (t.front ∙ ap (λ os. reverse (news_of peer os) ++ (t.missing ++ sent)) none);
       few_missing = t.few_missing;
-      few_owed = event-few a e es t.lawful peer;
-      over =
-          λ is.
+      few_news = event-few a e es t.lawful peer;
+      over = λ is.
           let o = t.over is in
           let q = quiet_when_over a peer e es o.0 t.lawful fresh o.1 in
           (o.0, q.0, q.1);
     })
 
 -- ---- what holds at each place
--- what a line of the script is at the television
-abbrev pub IsPlayed : TvEvent → Type 0
-IsPlayed (event.Programme id) = ⊤
-IsPlayed (event.AddTimeline n selector rate base) = ⊤
-IsPlayed (event.Viewer command reading) = ⊤
-IsPlayed _ = ⊥
-
--- A property of a run that lines of the script keep, and that says nothing of places.
+-- A property of a run that events other than openings keep, and that says nothing of places.
 abbrev pub IsKept : Addresses → (List TvEvent → List TvOut → Type 0) → Type 0
-IsKept a Q = (e : TvEvent) → IsPlayed e → (es : List TvEvent) (owed : List TvOut) → owed ≡ [] → Q es owed
+IsKept a Q = (e : TvEvent) → IsNoOpening e → (es : List TvEvent) (owed : List TvOut) → owed ≡ [] → Q es owed
     → Q (e ∷ es) (owed ++ outs_after a es e)
 
 abbrev pub At : (List TvEvent → List TvOut → Type 0) → Progress → Type 0
@@ -162,21 +151,12 @@ kept_played : (a : Addresses) (Q : List TvEvent → List TvOut → Type 0) (e : 
 kept_played a Q e left p (Err f) q h = q
 kept_played a Q e left p (Ok o) q h = h
 
-kept_verb : (a : Addresses) (Q : List TvEvent → List TvOut → Type 0) → IsKept a Q → (reading : ℕ) (verb : Verb)
-    (left : List ScriptLine) (p : Progress)
-    → p.owed ≡ [] → At Q p → At Q (played_if a left p (event_of reading verb))
-kept_verb a Q k reading (Programme id) left p none q =
-    kept_played a Q (event.Programme id) left p (outcome_after a p.events (event.Programme id)) q
-    (k (event.Programme id) tt p.events p.owed none q)
-kept_verb a Q k reading (Timeline n selector rate base) left p none q =
-    kept_played a Q (event.AddTimeline n selector rate base) left p
-    (outcome_after a p.events (event.AddTimeline n selector rate base)) q
-    (k (event.AddTimeline n selector rate base) tt p.events p.owed none q)
-kept_verb a Q k reading (Viewer unused command) left p none q =
-    kept_played a Q (event.Viewer command reading) left p
-    (outcome_after a p.events (event.Viewer command reading)) q
-    (k (event.Viewer command reading) tt p.events p.owed none q)
-kept_verb a Q k reading _ left p none q = q
+kept_if : (a : Addresses) (Q : List TvEvent → List TvOut → Type 0) → IsKept a Q → (left : List ScriptLine)
+    (p : Progress) (o : Option TvEvent) → ((e : TvEvent) → Some e ≡ o → IsNoOpening e)
+    → p.owed ≡ [] → At Q p → At Q (played_if a left p o)
+kept_if a Q k left p None n none q = q
+kept_if a Q k left p (Some e) n none q =
+    kept_played a Q e left p (outcome_after a p.events e) q (k e (n e refl) p.events p.owed none q)
 
 kept_carry : (a : Addresses) (Q : List TvEvent → List TvOut → Type 0) → IsKept a Q → (from reading : ℕ)
     (lines : List ScriptLine) (p : Progress) → At Q p → At Q (carry a from reading lines p)
@@ -188,7 +168,7 @@ kept_carry a Q k from reading (line ∷ left) p q =
     by : (free due : Bool) → is_free p ≡ free
         → (At Q (with_line a reading line left p) → At Q (carry a from reading left (with_line a reading line left p)))
         → At Q (cond (free && due) (carry a from reading left (with_line a reading line left p)) p)
-    by true true e on = on (kept_verb a Q k reading line.verb left p (free_owes p.refused p.owed e) q)
+    by true true e on = on (kept_if a Q k left p (event_of reading line.verb) (opens_none reading line.verb) (free_owes p.refused p.owed e) q)
     by true false e on = q
     by false due e on = q
 

@@ -44,7 +44,6 @@ IsRead why before now reading =
 pub record HasCause {T : Type 0} (before now : Counts) (result : Result T Driven) : Type 0 where
   pub dials : now.dial_faults ≡ before.dial_faults
   pub peers : before.peers ≤ now.peers
-  pub kept : before.faults ≤ now.faults
   pub ok : OnOk result (now.faults ≡ before.faults)
   pub failed : IfErr result (λ ended. CountsNetFault before.faults now.faults ended)
   pub no_writes : IfErr result (λ ended. ended ≢ driven.WriteFault)
