@@ -18,7 +18,7 @@ use Rattle.css_sessions.specs.declared.session.Talk.{Talk}
 use Rattle.css_sessions.specs.declared.session.Talk.TheVariants as talk
 use Rattle.css_num.specs.declared.protocol.Kind.{Kind}
 use Rattle.css_sessions.specs.declared.session.Session.{Session}
-use Rattle.css_sessions.specs.Told.{Lived, life_of, born, state_of, ended, living, set_life, grown_life, when, peers_of}
+use Rattle.css_sessions.specs.Told.{Life, Lived, life_of, born, state_of, ended, living, set_life, grown_life, when, peers_of}
 use Rattle.css_sessions.specs.Told.{IsAccepted, sessions_of}
 use Rattle.css_tv.specs.Stages.{max_sessions}
 use Rattle.css_tv.specs.Outcomes as outcomes
@@ -30,7 +30,7 @@ use Rattle.css_tv.specs.declared.event.TvEvent.{TvEvent}
 use Rattle.css_tv.specs.declared.event.TvEvent.TheVariants as event
 use Rattle.css_tv.specs.declared.fault.TvFault.{TvFault}
 use Rattle.css_tv.specs.declared.state.Addresses.{Addresses}
-use Rattle.css_drive.specs.TvPeers.{Narrows, Covers, has}
+use Rattle.css_drive.specs.TvPeers.{Covers, has}
 use Rattle.css_schedule.specs.declared.line.Verb.{Verb}
 use Rattle.css_schedule.specs.declared.line.Verb.TheVariants as verb
 use Rattle.css_drive.specs.TvProgress.{open_after, outcome_after, event_of}
@@ -128,34 +128,46 @@ module _ (h : List Event) (a : Addresses) (p : Player) where
   is_called (event.Closed peer) n = Once (Closed peer) tt tt
 
 -- ---- open sessions
-narrow_calls : {called h : List Event} → IsCalled h called → Narrows (peers_of h) (peers_of (called ++ h))
-narrow_calls (Once (Opened p k) quiet accepted) = absurd quiet
-narrow_calls {h = h} (Once (Closed p) quiet accepted) = λ peers covers.
+calls_cover : {called h : List Event} (peers : List ℕ) → IsCalled h called → Covers peers (peers_of h)
+    → Covers peers (peers_of (called ++ h))
+calls_cover peers (Once (Opened p k) quiet accepted) covers = absurd quiet
+calls_cover {h = h} peers (Once (Closed p) quiet accepted) covers =
     covers_filtered (λ x. not (x == p)) peers (peers_of h) covers
-narrow_calls _ = λ peers covers. covers
+calls_cover peers _ covers = covers
 
-pub event_narrows : (a : Addresses) (e : TvEvent) (es : List TvEvent) → IsNoOpening e
-    → Narrows (open_after a es) (open_after a (e ∷ es))
-event_narrows a e es n = λ peers covers.
+-- no session more is open, so what covered the open ones still does
+pub event_narrows : (a : Addresses) (e : TvEvent) (es : List TvEvent) → IsNoOpening e → (peers : List ℕ)
+    → Covers peers (open_after a es) → Covers peers (open_after a (e ∷ es))
+event_narrows a e es n peers covers =
     subst (λ h. Covers peers (peers_of h)) (sym (sessions_after (outcome_after a es e) (calls_of a es)))
-    (narrow_calls (is_called (calls_of a es).sessions a (player_after a es) e n) peers covers)
+    (calls_cover peers (is_called (calls_of a es).sessions a (player_after a es) e n) covers)
 
 -- ---- lives
-when_none : (b : Bool) (f : Lived → Lived) → when b (option_map f) None ≡ None
-when_none true f = refl
-when_none false f = refl
+-- what no call changes but an opening: no session, or one that is over
+pub record IsOver (life : Option Lived) : Type 0 where
+  pub lives : (f : Life → Life) → option_map (living f) life ≡ life
+  pub ends : option_map ended life ≡ life
 
-quiet_life : (peer : ℕ) {called h : List Event} → IsCalled h called → life_of peer h ≡ None
-    → life_of peer (called ++ h) ≡ None
-quiet_life peer (Once (Opened p k) quiet accepted) none = absurd quiet
-quiet_life peer (Once (SetUp p u player) quiet accepted) none =
-    ap (when (p == peer) (option_map (living (set_life u player)))) none ∙ when_none (p == peer) (living (set_life u player))
-quiet_life peer (Once (Published s player) quiet accepted) none = ap (option_map (living (grown_life s player))) none
-quiet_life peer (Once (Closed p) quiet accepted) none =
-    ap (when (p == peer) (option_map ended)) none ∙ when_none (p == peer) ended
-quiet_life peer (Shows s player) none = ap (option_map (living (grown_life s player))) none
-quiet_life peer (Places p q before s player) none = ap (option_map (living (grown_life s player))) none
-quiet_life peer _ none = none
+pub none_over : IsOver None
+none_over = record { lives = λ f. refl; ends = refl }
+
+same_when : (b : Bool) (f : Option Lived → Option Lived) {o life : Option Lived} → o ≡ life → f life ≡ life
+    → when b f o ≡ life
+same_when true f e same = ap f e ∙ same
+same_when false f e same = e
+
+calls_keep : (peer : ℕ) {called h : List Event} {life : Option Lived} → IsOver life → IsCalled h called
+    → life_of peer h ≡ life → life_of peer (called ++ h) ≡ life
+calls_keep peer o (Once (Opened p k) quiet accepted) e = absurd quiet
+calls_keep peer o (Once (SetUp p u player) quiet accepted) e =
+    same_when (p == peer) (option_map (living (set_life u player))) e (o.lives (set_life u player))
+calls_keep peer o (Once (Published s player) quiet accepted) e =
+    ap (option_map (living (grown_life s player))) e ∙ o.lives (grown_life s player)
+calls_keep peer o (Once (Closed p) quiet accepted) e = same_when (p == peer) (option_map ended) e o.ends
+calls_keep peer o (Shows s player) e = ap (option_map (living (grown_life s player))) e ∙ o.lives (grown_life s player)
+calls_keep peer o (Places p q before s player) e =
+    ap (option_map (living (grown_life s player))) e ∙ o.lives (grown_life s player)
+calls_keep peer o _ e = e
 
 -- an event that opens no session of this peer
 abbrev pub IsOther : ℕ → TvEvent → Type 0
@@ -166,26 +178,26 @@ pub is_other : (peer : ℕ) (e : TvEvent) → IsNoOpening e → IsOther peer e
 is_other peer (event.Opened p kind) n = absurd n
 is_other peer _ n = tt
 
-opened_life : (peer p : ℕ) (kind : Kind) (room : Bool) (pl : Player) (h : List Event) → eqb p peer ≡ false
-    → life_of peer h ≡ None
-    → life_of peer ((outcomes.opened (Opened p kind) p room pl).called ++ h) ≡ None
-opened_life peer p kind true pl h other none =
-    ap (λ b. when b (λ _. Some (born kind (state_of h))) (life_of peer h)) other ∙ none
-opened_life peer p kind false pl h other none =
-    ap (when (p == peer) (option_map ended)) none ∙ when_none (p == peer) ended
+opened_life : (peer p : ℕ) (kind : Kind) (room : Bool) (pl : Player) (h : List Event) {life : Option Lived}
+    → IsOver life → eqb p peer ≡ false → life_of peer h ≡ life
+    → life_of peer ((outcomes.opened (Opened p kind) p room pl).called ++ h) ≡ life
+opened_life peer p kind true pl h o other e =
+    ap (λ b. when b (λ _. Some (born kind (state_of h))) (life_of peer h)) other ∙ e
+opened_life peer p kind false pl h o other e = same_when (p == peer) (option_map ended) e o.ends
 
-event_life : (a : Addresses) (e : TvEvent) (pl : Player) (h : List Event) (peer : ℕ) → IsOther peer e
-    → life_of peer h ≡ None → life_of peer (called_in (outcome a e pl (sessions_of h)) ++ h) ≡ None
-event_life a (event.Opened p kind) pl h peer other none =
-    opened_life peer p kind (nat_lt (length (sessions_of h).list) max_sessions) pl h other none
-event_life a e pl h peer other none = quiet_life peer (is_called h a pl e tt) none
+event_life : (a : Addresses) (e : TvEvent) (pl : Player) (h : List Event) (peer : ℕ) {life : Option Lived}
+    → IsOver life → IsOther peer e → life_of peer h ≡ life
+    → life_of peer (called_in (outcome a e pl (sessions_of h)) ++ h) ≡ life
+event_life a (event.Opened p kind) pl h peer o other is =
+    opened_life peer p kind (nat_lt (length (sessions_of h).list) max_sessions) pl h o other is
+event_life a e pl h peer o other is = calls_keep peer o (is_called h a pl e tt) is
 
-pub event_unused : (a : Addresses) (e : TvEvent) (es : List TvEvent) (peer : ℕ) → IsOther peer e
-    → life_of peer (calls_of a es).sessions ≡ None
-    → life_of peer (calls_of a (e ∷ es)).sessions ≡ None
-event_unused a e es peer other none =
+pub event_keeps : (a : Addresses) (e : TvEvent) (es : List TvEvent) (peer : ℕ) {life : Option Lived} → IsOver life
+    → IsOther peer e → life_of peer (calls_of a es).sessions ≡ life
+    → life_of peer (calls_of a (e ∷ es)).sessions ≡ life
+event_keeps a e es peer o other is =
     ap (λ h. life_of peer h) (sessions_after (outcome_after a es e) (calls_of a es))
-    ∙ event_life a e (player_after a es) (calls_of a es).sessions peer other none
+    ∙ event_life a e (player_after a es) (calls_of a es).sessions peer o other is
 
 -- ---- a session that opens, or is hung up at once
 opened_covers : (peer : ℕ) (kind : Kind) (room : Bool) (pl : Player) (h : List Event) (peers : List ℕ)

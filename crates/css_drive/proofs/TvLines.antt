@@ -103,7 +103,34 @@ line_refused {run} {start} {told} {peers} {air} {r} x e is f (inl refused) =
       whole = tt;
     }
 
+-- ---- places in lists
+pub left_at : {X : Type 0} (xs : List X) (i : ℕ) (x : X) → i < length xs → x ≡ get_or xs i x
+    → drop i xs ≡ x ∷ drop (i + 1) xs
+left_at xs i x lt is = grind (arith, common_steps)
+
+pub peers_all : {X : Type 0} (xs : List X) (i : ℕ) → length xs ≤ i → drop i xs ≡ []
+peers_all xs i le = grind (arith, common_steps)
+
 -- ---- which line is next
+-- whether a line is due, by the number from which its time counts
+due_by : (from r : ℕ) (line : ScriptLine) (n : ℕ) → from ≡ n → n + line.due ≤ r → is_due from r line ≡ true
+due_by from r line n e le = ap (λ m. is_due m r line) e ∙ grind (arith, nat_tests)
+
+pub waits_by : (from r : ℕ) (line : ScriptLine) (n : ℕ) → from ≡ n → r < n + line.due → is_due from r line ≡ false
+waits_by from r line n e lt = ap (λ m. is_due m r line) e ∙ grind (arith, nat_tests)
+
+-- one that is due, where the run's script is this one and its times count from this reading
+pub carries : {run : TvRun} {start told : Option History} {peers : ℕ} {air : OnAir} (r : ℕ)
+    → Settles run start told peers air (Turned r) [] → (script : List ScriptLine) → run.script ≡ script
+    → (line : ScriptLine) → air.lines < length script → line ≡ get_or script air.lines line
+    → (from : ℕ) → since air.turns ≡ from → from + line.due ≤ r → Carries run start told peers air r line
+carries {air = air} r x script e line lt is from since_is le = record {
+  settles = x;
+  next = ap (drop air.lines) e ∙ left_at script air.lines line lt is
+      ∙ ap (λ ls. line ∷ drop (air.lines + 1) ls) (sym e);
+  is_due = due_by (since air.turns) r line from since_is le;
+}
+
 -- a line that isn't due waits, and so do those after it
 pub line_waits : {run : TvRun} {start told : Option History} {peers : ℕ} {air : OnAir} (r : ℕ)
     → Settles run start told peers air (Turned r) [] → (line : ScriptLine) (left : List ScriptLine)
@@ -125,24 +152,3 @@ no_line {run} {air = air} r x none = (
   airs_as x (ap (λ ls. carry (addresses_in run.config) (since air.turns) r ls
       (progress_at run air (Turned r) [] x.events)) none),
 )
-
--- whether a line is due, by the number from which its time counts
-pub due_by : (from r : ℕ) (line : ScriptLine) (n : ℕ) → from ≡ n → n + line.due ≤ r → is_due from r line ≡ true
-due_by from r line n e le = ap (λ m. is_due m r line) e ∙ grind (arith, nat_tests)
-
-pub waits_by : (from r : ℕ) (line : ScriptLine) (n : ℕ) → from ≡ n → r < n + line.due → is_due from r line ≡ false
-waits_by from r line n e lt = ap (λ m. is_due m r line) e ∙ grind (arith, nat_tests)
-
--- ---- places in lists
-pub dropped_at : (xs : List ScriptLine) (i : ℕ) (x : ScriptLine) → i < length xs → x ≡ get_or xs i x
-    → drop i xs ≡ x ∷ drop (i + 1) xs
-dropped_at xs i x lt is = grind (arith, common_steps)
-
-pub dropped_all : (xs : List ScriptLine) (i : ℕ) → length xs ≤ i → drop i xs ≡ []
-dropped_all xs i le = grind (arith, common_steps)
-
-pub peer_at : (xs : List ℕ) (i x : ℕ) → i < length xs → x ≡ get_or xs i x → drop i xs ≡ x ∷ drop (i + 1) xs
-peer_at xs i x lt is = grind (arith, common_steps)
-
-pub peers_all : (xs : List ℕ) (i : ℕ) → length xs ≤ i → drop i xs ≡ []
-peers_all xs i le = grind (arith, common_steps)

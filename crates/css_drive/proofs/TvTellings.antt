@@ -24,10 +24,10 @@ use Rattle.css_drive.specs.TvProgress.{Progress, happened, settled, one_done, wi
 use Rattle.css_drive.specs.TvDue.{TvRun}
 use Rattle.css_drive.specs.TvRan.{AreBelow, AreNumbered}
 use Rattle.css_drive.specs.TvTold.{sent_by, sent_to, is_gone, lost}
-use Rattle.css_drive.proofs.TvCalls.{IsOther, is_fresh, is_other, event_unused}
+use Rattle.css_drive.proofs.TvCalls.{IsOther, is_fresh, is_other, none_over, event_keeps}
 use Rattle.css_drive.proofs.TvNews.{news_of}
 use Rattle.css_drive.proofs.TvTold.{Telling, Tells, IsKept, At, gone_life, none_there, none_more}
-use Rattle.css_drive.proofs.TvTold.{tells_event, kept_settled, kept_plain}
+use Rattle.css_drive.proofs.TvTold.{tells_event, kept_settled, kept_clock}
 
 -- ---- peers that never came
 -- no session of this peer was opened
@@ -35,7 +35,7 @@ abbrev Unused : Addresses → ℕ → List TvEvent → List TvOut → Type 0
 Unused a peer events owed = life_of peer (calls_of a events).sessions ≡ None
 
 unused_kept : (a : Addresses) (peer : ℕ) → IsKept a (Unused a peer)
-unused_kept a peer e n es owed none q = event_unused a e es peer (is_other peer e n) q
+unused_kept a peer e n es owed none q = event_keeps a e es peer none_over (is_other peer e n) q
 
 hung_up_owed : (Q : List TvEvent → List TvOut → Type 0) (peer : ℕ) (p : Progress) (owed : List TvOut)
     → ((os : List TvOut) → Q p.events os) → At Q (hung_up peer owed p)
@@ -50,7 +50,8 @@ module _ (run : TvRun) (peer n : ℕ) (le : n ≤ peer) where
   more : (older : History) (e : TvEvent) → IsOther peer e
       → At (Unused (addresses_in run.config) peer) (progress_of run older)
       → Unused (addresses_in run.config) peer (e ∷ (progress_of run older).events) []
-  more older e other none = event_unused (addresses_in run.config) e (progress_of run older).events peer other none
+  more older e other none =
+      event_keeps (addresses_in run.config) e (progress_of run older).events peer none_over other none
 
   settles : (p : Progress) → At (Unused (addresses_in run.config) peer) p
       → At (Unused (addresses_in run.config) peer) (settled (addresses_in run.config) p)
@@ -74,9 +75,10 @@ module _ (run : TvRun) (peer n : ℕ) (le : n ≤ peer) where
       let before = progress_of run older in
       settles (hung_up p before.owed before)
       (hung_up_owed (Unused (addresses_in run.config) peer) p before before.owed (λ os. unused older below))
-  unused (entry ∷ older) below =
+  unused (Clock w reading ∷ older) below =
       let a = addresses_in run.config in
-      kept_plain a (Unused a peer) (unused_kept a peer) entry tt (progress_of run older) (unused older below)
+      kept_clock a (Unused a peer) (unused_kept a peer) w reading (progress_of run older) (unused older below)
+  unused (_ ∷ older) below = unused older below
 
 -- ---- what is owed first
 say_mine : (peer other : ℕ) (text : List ℕ) (os : List TvOut) → eqb other peer ≡ true
@@ -190,7 +192,7 @@ module _ (run : TvRun) (peer : ℕ) (older : History) where
       let a = addresses_in run.config in
       let sent = sent_to peer older in
       let gone = is_gone peer older in
-      kept_plain a (Tells a peer sent gone) (tells_kept a peer sent gone) (Clock w reading) tt (progress_of run older) t
+      kept_clock a (Tells a peer sent gone) (tells_kept a peer sent gone) w reading (progress_of run older) t
 
   pub read_good : (w : Why) (reading : ℕ) (slept : Bool) → Good run peer older
       → Good run peer (Clock w reading ∷ (sleep_entries slept ++ older))

@@ -1,7 +1,7 @@
 use Rattle.std.proofs.Common.{rules, ◌≡◌, ◌+◌, ◌∙◌, ◌∷◌, ℕ, List, arith, drop}
 use Rattle.css_drive.specs.declared.on_air.OnAir.{OnAir}
 use Rattle.css_drive.proofs.CompanionSteps.{at_err}
-use Rattle.css_drive.proofs.TvLines.{peer_at, peers_all}
+use Rattle.css_drive.proofs.TvLines.{left_at, peers_all}
 use Rattle.css_drive.proofs.TvLoops.{all_to_hear, text_due, text_heard, peer_removed, all_heard}
 use Rattle.css_drive.proofs.TvMoves.{is_live, not_open}
 use Rattle.css_drive.proofs.TvSteps.{counts_on}
@@ -18,7 +18,7 @@ returns-in_err-hear-clause-goes g c run start s =
     let test = c.peers-test.true in
     let x = c.peers.invariant.goes run start s in
     at_err _ _ _ _ c.from_residual.ensures.1 (c.in_err-hear.ensures.goes run start c.peers.air
-    (text_due x peer (drop (i + 1) items) (peer_at items i peer (omega (arith, test)) c.index-peer.ensures)
+    (text_due x peer (drop (i + 1) items) (left_at items i peer (omega (arith, test)) c.index-peer.ensures)
     (is_live x.is_at peer ∙ c.is_open.ensures.0 c.if-is_open.true)))
 
 pub peers-preserved-then-is_open : goal.peers-preserved-then-is_open
@@ -28,7 +28,7 @@ peers-preserved-then-is_open g c =
     let peer : ℕ = c.index-peer.result.now in
     let test = c.peers-test.true in
     let e : drop i items ≡ peer ∷ drop (i + 1) items =
-    peer_at items i peer (omega (arith, test)) c.index-peer.ensures in
+    left_at items i peer (omega (arith, test)) c.index-peer.ensures in
     record {
       goes = λ run start s.
           let x = c.peers.invariant.goes run start s in
@@ -53,7 +53,7 @@ peers-preserved g c =
     record {
       goes = λ run start s.
           let x = c.peers.invariant.goes run start s in
-          peer_removed x peer (drop (i + 1) items) (peer_at items i peer (omega (arith, test)) c.index-peer.ensures)
+          peer_removed x peer (drop (i + 1) items) (left_at items i peer (omega (arith, test)) c.index-peer.ensures)
           (is_live x.is_at peer ∙ not_open _ _ c.is_open.ensures c.if-is_open.false) now c.remove.ensures.items;
       counts = c.peers.invariant.counts;
       turns = c.peers.invariant.turns;

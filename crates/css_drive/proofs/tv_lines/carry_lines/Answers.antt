@@ -1,9 +1,9 @@
-use Rattle.std.proofs.Common.{◌∙◌, ◌+◌, ◌∷◌, arith, ap, sym, refl, List, ℕ, drop}
+use Rattle.std.proofs.Common.{◌∙◌, ◌+◌, arith, ap, sym, refl, List, ℕ, drop}
 use Rattle.css_schedule.specs.declared.line.ScriptLine.{ScriptLine}
 use Rattle.css_drive.proofs.CompanionSteps.{at_err}
 use Rattle.css_drive.proofs.TvSteps.{counts_on}
 use Rattle.css_drive.specs.TvTurns.{since}
-use Rattle.css_drive.proofs.TvLines.{line_waits, no_line, due_by, waits_by, dropped_at, dropped_all}
+use Rattle.css_drive.proofs.TvLines.{carries, line_waits, no_line, waits_by, left_at, peers_all}
 use Rattle.css_drive.proofs.tv_lines.carry_lines.Goals as goal
 
 pub returns-then-reading-from-clause-goes : goal.returns-then-reading-from-clause-goes
@@ -12,38 +12,26 @@ returns-then-reading-from-clause-goes g c run start script s =
     let line : ScriptLine = c.index-script-air.result in
     let i : ℕ = c.lines.air.lines in
     line_waits c.args.reading (c.lines.invariant.goes run start script s) line (drop (i + 1) xs)
-    (ap (drop i) script ∙ dropped_at xs i line c.lines-test.true c.index-script-air.is)
+    (ap (drop i) script ∙ left_at xs i line c.lines-test.true c.index-script-air.is)
     (waits_by (since c.lines.air.turns) c.args.reading line c.since-from.result
     (ap since c.lines.invariant.turns ∙ sym c.since-from.ensures.value) c.if-reading-from.true)
 
 pub returns-in_err-carry_out-clause-goes : goal.returns-in_err-carry_out-clause-goes
 returns-in_err-carry_out-clause-goes g c run start script s =
-    let xs : List ScriptLine = c.args.script.now in
-    let line : ScriptLine = c.index-script-air.result in
-    let i : ℕ = c.lines.air.lines in
     let later = c.if-reading-from.false in
-    at_err _ _ _ _ c.from_residual.ensures.1 (c.in_err-carry_out.ensures.goes run start c.lines.air refl (record {
-      settles = c.lines.invariant.goes run start script s;
-      next = ap (drop i) script ∙ dropped_at xs i line c.lines-test.true c.index-script-air.is
-          ∙ ap (λ (ls : List ScriptLine). line ∷ drop (i + 1) ls) (sym script);
-      is_due = due_by (since c.lines.air.turns) c.args.reading line c.since-from.result
-          (ap since c.lines.invariant.turns ∙ sym c.since-from.ensures.value) (omega (arith, later));
-    }))
+    at_err _ _ _ _ c.from_residual.ensures.1 (c.in_err-carry_out.ensures.goes run start c.lines.air refl
+    (carries c.args.reading (c.lines.invariant.goes run start script s) c.args.script.now script
+    c.index-script-air.result c.lines-test.true c.index-script-air.is c.since-from.result
+    (ap since c.lines.invariant.turns ∙ sym c.since-from.ensures.value) (omega (arith, later))))
 
 pub lines-preserved : goal.lines-preserved
 lines-preserved g c = record {
   goes = λ run start script s.
-      let xs : List ScriptLine = c.args.script.now in
-      let line : ScriptLine = c.index-script-air.result in
-      let i : ℕ = c.lines.air.lines in
       let later = c.if-reading-from.false in
-      c.in_ok-carry_out.ensures.goes run start c.lines.air refl (record {
-        settles = c.lines.invariant.goes run start script s;
-        next = ap (drop i) script ∙ dropped_at xs i line c.lines-test.true c.index-script-air.is
-            ∙ ap (λ (ls : List ScriptLine). line ∷ drop (i + 1) ls) (sym script);
-        is_due = due_by (since c.lines.air.turns) c.args.reading line c.since-from.result
-            (ap since c.lines.invariant.turns ∙ sym c.since-from.ensures.value) (omega (arith, later));
-      });
+      c.in_ok-carry_out.ensures.goes run start c.lines.air refl
+      (carries c.args.reading (c.lines.invariant.goes run start script s) c.args.script.now script
+      c.index-script-air.result c.lines-test.true c.index-script-air.is c.since-from.result
+      (ap since c.lines.invariant.turns ∙ sym c.since-from.ensures.value) (omega (arith, later)));
   counts = counts_on c.lines.invariant.counts c.in_ok-carry_out.ensures.cause;
   turns = c.lines.invariant.turns;
 }
@@ -52,4 +40,4 @@ pub returns-clause-goes : goal.returns-clause-goes
 returns-clause-goes g c run start script s =
     let over = c.lines-test.false in
     no_line c.args.reading (c.lines.invariant.goes run start script s)
-    (ap (drop c.lines.air.lines) script ∙ dropped_all c.args.script.now c.lines.air.lines (omega (arith, over)))
+    (ap (drop c.lines.air.lines) script ∙ peers_all c.args.script.now c.lines.air.lines (omega (arith, over)))
