@@ -8,16 +8,11 @@ pub mod SameEvents
 pub mod TvPeers
 pub mod TvCalls
 pub mod TvSteps
-pub mod TvComes
-pub mod TvPuts
-pub mod TvDatagrams
-pub mod TvHears
+pub mod TvMoves
 pub mod TvLines
-pub mod TvCarries
 pub mod TvLoops
 pub mod TvOpens
 pub mod TvRuns
-pub mod TvAnswers
 pub mod TvNews
 pub mod TvTold
 pub mod TvTellings

@@ -3,7 +3,8 @@ use Rattle.std.proofs.Common.{◌≡◌, ℕ, ◌<◌, Bool, true, false, cond, 
 use Rattle.std.proofs.Common.{sym, ap, subst, ◌∙◌, Result, Ok, Err}
 use Rattle.std.specs.Prelude.{⊤, not, ◌==◌, ◌||◌, nat_lt, length, option_map, All, is_some}
 use Rattle.css_player.specs.Player.{Player}
-use Rattle.css_player.specs.Segments.{with_programme, with_timeline, commanded}
+use Rattle.css_cii.specs.declared.state.State.{State}
+use Rattle.css_player.specs.Segments.{with_programme, with_timeline, with_delay, commanded}
 use Rattle.css_player.specs.Events.{TimelineAdded, Commanded, Event as PlayerCall}
 use Rattle.css_player.specs.declared.command.PlayerFault.{PlayerFault}
 use Rattle.css_tsmsg.specs.Setups.{setup_of}
@@ -11,39 +12,37 @@ use Rattle.css_tsmsg.specs.Presentations.{presentation_of}
 use Rattle.css_tsmsg.specs.declared.bound.Presentation.{Presentation}
 use Rattle.css_tsmsg.specs.declared.setup.Setup.{Setup}
 use Rattle.css_tsmsg.specs.declared.fault.TsFault.{TsFault}
-use Rattle.css_sessions.specs.Kept.{Event, Opened, SetUp, Published, Closed, Kept, talk_of, set_up_in}
+use Rattle.css_sessions.specs.Kept.{Event, Opened, SetUp, Published, Presented, Dropped, Closed, Kept, talk_of}
+use Rattle.css_sessions.specs.Kept.{set_up_in}
+use Rattle.css_sessions.specs.declared.session.Talk.{Talk}
+use Rattle.css_sessions.specs.declared.session.Talk.TheVariants as talk
 use Rattle.css_num.specs.declared.protocol.Kind.{Kind}
 use Rattle.css_sessions.specs.declared.session.Session.{Session}
-use Rattle.css_sessions.specs.Told.{Lived, life_of, born, state_of, ended, living, set_life, grown_life, when, peers_of}
-use Rattle.css_sessions.specs.Told.{sessions_of}
+use Rattle.css_sessions.specs.Told.{Life, Lived, life_of, born, state_of, ended, living, set_life, grown_life, when, peers_of}
+use Rattle.css_sessions.specs.Told.{IsAccepted, sessions_of}
 use Rattle.css_tv.specs.Stages.{max_sessions}
 use Rattle.css_tv.specs.Outcomes as outcomes
 use Rattle.css_tv.specs.Outcomes.{Outcome, outcome, by_player, programme_added, timeline_added, viewed, choice}
-use Rattle.css_tv.specs.Outcomes.{windows_after}
-use Rattle.css_tv.specs.Standing.{Calls, calls_of, with_outcome, player_after}
+use Rattle.css_tv.specs.Outcomes.{published, windows_after}
+use Rattle.css_tv.specs.States.{published_state}
+use Rattle.css_tv.specs.Standing.{Calls, IsFresh, calls_of, with_outcome, player_after}
 use Rattle.css_tv.specs.declared.event.TvEvent.{TvEvent}
 use Rattle.css_tv.specs.declared.event.TvEvent.TheVariants as event
 use Rattle.css_tv.specs.declared.fault.TvFault.{TvFault}
 use Rattle.css_tv.specs.declared.state.Addresses.{Addresses}
-use Rattle.css_drive.specs.TvPeers.{Narrows, Covers, has}
-use Rattle.css_drive.specs.TvProgress.{open_after, outcome_after}
+use Rattle.css_drive.specs.TvPeers.{Covers, has}
+use Rattle.css_schedule.specs.declared.line.Verb.{Verb}
+use Rattle.css_schedule.specs.declared.line.Verb.TheVariants as verb
+use Rattle.css_drive.specs.TvProgress.{open_after, outcome_after, event_of}
 use Rattle.css_sessions.proofs.InForce.{peers, peers_are}
 use Rattle.css_drive.proofs.TvPeers.{covers_filtered, covers_more, covers_unopened}
 
--- ---- calls that open no session
-abbrev pub IsQuiet : Event → Type 0
-IsQuiet (Opened peer kind) = ⊥
-IsQuiet _ = ⊤
-
-abbrev pub AreQuiet : List Event → Type 0
-AreQuiet [] = ⊤
-AreQuiet (call ∷ calls) = IsQuiet call × AreQuiet calls
-
+-- ---- the calls of an event
 abbrev pub called_in : Result Outcome TvFault → List Event
 called_in (Err fault) = []
 called_in (Ok o) = o.called
 
-sessions_after : (r : Result Outcome TvFault) (calls : Calls)
+pub sessions_after : (r : Result Outcome TvFault) (calls : Calls)
     → (with_outcome r calls).sessions ≡ called_in r ++ calls.sessions
 sessions_after (Err fault) calls = refl
 sessions_after (Ok o) calls = refl
@@ -53,119 +52,152 @@ abbrev pub IsNoOpening : TvEvent → Type 0
 IsNoOpening (event.Opened peer kind) = ⊥
 IsNoOpening _ = ⊤
 
-by_programme : (id : List ℕ) (r : Result Player PlayerFault) → AreQuiet (called_in (by_player (programme_added id) r))
-by_programme id (Err fault) = tt
-by_programme id (Ok q) = tt
+-- an event of a line opens no session
+pub opens_none : (r : ℕ) (v : Verb) (e : TvEvent) → Some e ≡ event_of r v → IsNoOpening e
+opens_none r (verb.Programme id) e is =
+    subst IsNoOpening (let same : event.Programme id ≡ e = cc in same) tt
+opens_none r (verb.Timeline m selector rate base) e is =
+    subst IsNoOpening (let same : event.AddTimeline m selector rate base ≡ e = cc in same) tt
+opens_none r (verb.Viewer unused command) e is =
+    subst IsNoOpening (let same : event.Viewer command r ≡ e = cc in same) tt
+opens_none r _ e is = absurd (cc)
 
-by_timeline : (a : Addresses) (call : PlayerCall) (r : Result Player PlayerFault)
-    → AreQuiet (called_in (by_player (timeline_added a call) r))
-by_timeline a call (Err fault) = tt
-by_timeline a call (Ok q) = (tt, tt)
+pub is_fresh : (e : TvEvent) → IsNoOpening e → (h : List Event) → IsFresh e h
+is_fresh (event.Opened peer kind) n h = absurd n
+is_fresh _ n h = tt
 
-by_viewer : (a : Addresses) (call : PlayerCall) (r : Result Player PlayerFault)
-    → AreQuiet (called_in (by_player (viewed a call) r))
-by_viewer a call (Err fault) = tt
-by_viewer a call (Ok q) = (tt, (tt, tt))
+-- a call that opens no session
+abbrev pub IsQuiet : Event → Type 0
+IsQuiet (Opened peer kind) = ⊥
+IsQuiet _ = ⊤
 
-by_setup : (peer : ℕ) (p : Player) (r : Result Setup TsFault) → AreQuiet (outcomes.by_setup peer p r).called
-by_setup peer p (Err fault) = (tt, tt)
-by_setup peer p (Ok u) = (tt, tt)
+-- What such an event calls after these calls: nothing; one call; or what is shown is published, and then all windows
+-- are dropped, or a window is put in its place.
+pub data IsCalled (h : List Event) : List Event → Type 0 where
+  Nothing : IsCalled h []
+  Once : (call : Event) → IsQuiet call → IsAccepted call h → IsCalled h (call ∷ [])
+  Shows : (state : State) (p : Player) → IsCalled h (Dropped ∷ Published state p ∷ [])
+  Places : (peer : ℕ) (q : Presentation) (before : Player) (state : State) (p : Player)
+      → IsCalled h (Presented peer q before ∷ Published state p ∷ [])
 
-by_choice : (a : Addresses) (peer : ℕ) (q : Presentation) (p : Player) (o : Option ℕ)
-    → AreQuiet (outcomes.presented a peer q p o).called
-by_choice a peer q p None = (tt, tt)
-by_choice a peer q p (Some delay) = (tt, (tt, tt))
+waits : (t : Option Talk) → set_up_in t ≡ Some false → t ≡ Some talk.Waiting
+waits (Some talk.Waiting) e = refl
+waits _ e = absurd (cc)
 
-by_presentation : (a : Addresses) (peer : ℕ) (p : Player) (k : Kept) (r : Result Presentation TsFault)
-    → AreQuiet (outcomes.by_presentation a peer p k r).called
-by_presentation a peer p k (Err fault) = (tt, tt)
-by_presentation a peer p k (Ok q) = by_choice a peer q p (choice p.segment (windows_after peer q p k))
+module _ (h : List Event) (a : Addresses) (p : Player) where
+  by_programme : (id : List ℕ) (r : Result Player PlayerFault) → IsCalled h (called_in (by_player (programme_added id) r))
+  by_programme id (Err fault) = Nothing
+  by_programme id (Ok q) = Nothing
 
-by_text : (a : Addresses) (peer : ℕ) (bytes : List ℕ) (p : Player) (k : Kept) (o : Option Bool)
-    → AreQuiet (outcomes.heard a peer bytes p k o).called
-by_text a peer bytes p k None = (tt, tt)
-by_text a peer bytes p k (Some false) = by_setup peer p (setup_of bytes)
-by_text a peer bytes p k (Some true) = by_presentation a peer p k (presentation_of bytes)
+  by_timeline : (call : PlayerCall) (r : Result Player PlayerFault)
+      → IsCalled h (called_in (by_player (timeline_added a call) r))
+  by_timeline call (Err fault) = Nothing
+  by_timeline call (Ok q) = Once (published a q) tt tt
 
-quiet : (a : Addresses) (e : TvEvent) (p : Player) (k : Kept) → IsNoOpening e → AreQuiet (called_in (outcome a e p k))
-quiet a (event.Programme id) p k n = by_programme id (with_programme id p)
-quiet a (event.AddTimeline m selector rate base) p k n =
-    by_timeline a (TimelineAdded m selector rate base) (with_timeline m selector rate base p)
-quiet a (event.Viewer command reading) p k n = by_viewer a (Commanded command reading) (commanded command reading p)
-quiet a (event.Opened peer kind) p k n = absurd n
-quiet a (event.Heard peer bytes) p k n = by_text a peer bytes p k (set_up_in (talk_of peer k.list))
-quiet a (event.Closed peer) p k n = (tt, tt)
+  by_viewer : (call : PlayerCall) (r : Result Player PlayerFault) → IsCalled h (called_in (by_player (viewed a call) r))
+  by_viewer call (Err fault) = Nothing
+  by_viewer call (Ok q) = Shows (published_state a q) q
+
+  by_setup : (peer : ℕ) (r : Result Setup TsFault) → talk_of peer (sessions_of h).list ≡ Some talk.Waiting
+      → IsCalled h (outcomes.by_setup peer p r).called
+  by_setup peer (Err fault) waiting = Once (Closed peer) tt tt
+  by_setup peer (Ok u) waiting = Once (SetUp peer u p) tt waiting
+
+  by_choice : (peer : ℕ) (q : Presentation) (o : Option ℕ) → IsCalled h (outcomes.presented a peer q p o).called
+  by_choice peer q None = Once (Presented peer q p) tt tt
+  by_choice peer q (Some delay) = let shown = with_delay delay p in Places peer q p (published_state a shown) shown
+
+  by_presentation : (peer : ℕ) (k : Kept) (r : Result Presentation TsFault)
+      → IsCalled h (outcomes.by_presentation a peer p k r).called
+  by_presentation peer k (Err fault) = Once (Closed peer) tt tt
+  by_presentation peer k (Ok q) = by_choice peer q (choice p.segment (windows_after peer q p k))
+
+  by_text : (peer : ℕ) (bytes : List ℕ) (o : Option Bool) → set_up_in (talk_of peer (sessions_of h).list) ≡ o
+      → IsCalled h (outcomes.heard a peer bytes p (sessions_of h) o).called
+  by_text peer bytes None e = Once (Closed peer) tt tt
+  by_text peer bytes (Some false) e = by_setup peer (setup_of bytes) (waits (talk_of peer (sessions_of h).list) e)
+  by_text peer bytes (Some true) e = by_presentation peer (sessions_of h) (presentation_of bytes)
+
+  pub is_called : (e : TvEvent) → IsNoOpening e → IsCalled h (called_in (outcome a e p (sessions_of h)))
+  is_called (event.Programme id) n = by_programme id (with_programme id p)
+  is_called (event.AddTimeline m selector rate base) n =
+      by_timeline (TimelineAdded m selector rate base) (with_timeline m selector rate base p)
+  is_called (event.Viewer command reading) n = by_viewer (Commanded command reading) (commanded command reading p)
+  is_called (event.Opened peer kind) n = absurd n
+  is_called (event.Heard peer bytes) n = by_text peer bytes (set_up_in (talk_of peer (sessions_of h).list)) refl
+  is_called (event.Closed peer) n = Once (Closed peer) tt tt
 
 -- ---- open sessions
-narrow_calls : (called h : List Event) → AreQuiet called → Narrows (peers_of h) (peers_of (called ++ h))
-narrow_calls [] h q = λ peers covers. covers
-narrow_calls (Opened p k ∷ called) h q = absurd q.0
-narrow_calls (Closed p ∷ called) h q = λ peers covers.
-    covers_filtered (λ x. not (x == p)) peers (peers_of (called ++ h)) (narrow_calls called h q.1 peers covers)
-narrow_calls (_ ∷ called) h q = narrow_calls called h q.1
+calls_cover : {called h : List Event} (peers : List ℕ) → IsCalled h called → Covers peers (peers_of h)
+    → Covers peers (peers_of (called ++ h))
+calls_cover peers (Once (Opened p k) quiet accepted) covers = absurd quiet
+calls_cover {h = h} peers (Once (Closed p) quiet accepted) covers =
+    covers_filtered (λ x. not (x == p)) peers (peers_of h) covers
+calls_cover peers _ covers = covers
 
-pub event_narrows : (a : Addresses) (e : TvEvent) (es : List TvEvent) → IsNoOpening e
-    → Narrows (open_after a es) (open_after a (e ∷ es))
-event_narrows a e es n = λ peers covers.
+-- no session more is open, so what covered the open ones still does
+pub event_narrows : (a : Addresses) (e : TvEvent) (es : List TvEvent) → IsNoOpening e → (peers : List ℕ)
+    → Covers peers (open_after a es) → Covers peers (open_after a (e ∷ es))
+event_narrows a e es n peers covers =
     subst (λ h. Covers peers (peers_of h)) (sym (sessions_after (outcome_after a es e) (calls_of a es)))
-    (narrow_calls (called_in (outcome_after a es e)) (calls_of a es).sessions
-    (quiet a e (player_after a es) (sessions_of (calls_of a es).sessions) n) peers covers)
+    (calls_cover peers (is_called (calls_of a es).sessions a (player_after a es) e n) covers)
 
 -- ---- lives
-when_none : (b : Bool) (f : Lived → Lived) → when b (option_map f) None ≡ None
-when_none true f = refl
-when_none false f = refl
+-- what no call changes but an opening: no session, or one that is over
+pub record IsOver (life : Option Lived) : Type 0 where
+  pub lives : (f : Life → Life) → option_map (living f) life ≡ life
+  pub ends : option_map ended life ≡ life
 
-quiet_life : (peer : ℕ) (called h : List Event) → AreQuiet called → life_of peer h ≡ None
-    → life_of peer (called ++ h) ≡ None
-quiet_life peer [] h q none = none
-quiet_life peer (Opened p k ∷ called) h q none = absurd q.0
-quiet_life peer (SetUp p u player ∷ called) h q none =
-    ap (when (p == peer) (option_map (living (set_life u player)))) (quiet_life peer called h q.1 none) ∙ when_none
-    (p == peer) (living (set_life u player))
-quiet_life peer (Published s player ∷ called) h q none =
-    ap (option_map (living (grown_life s player))) (quiet_life peer called h q.1 none)
-quiet_life peer (Closed p ∷ called) h q none =
-    ap (when (p == peer) (option_map ended)) (quiet_life peer called h q.1 none) ∙ when_none (p == peer) ended
-quiet_life peer (_ ∷ called) h q none = quiet_life peer called h q.1 none
+pub none_over : IsOver None
+none_over = record { lives = λ f. refl; ends = refl }
+
+same_when : (b : Bool) (f : Option Lived → Option Lived) {o life : Option Lived} → o ≡ life → f life ≡ life
+    → when b f o ≡ life
+same_when true f e same = ap f e ∙ same
+same_when false f e same = e
+
+calls_keep : (peer : ℕ) {called h : List Event} {life : Option Lived} → IsOver life → IsCalled h called
+    → life_of peer h ≡ life → life_of peer (called ++ h) ≡ life
+calls_keep peer o (Once (Opened p k) quiet accepted) e = absurd quiet
+calls_keep peer o (Once (SetUp p u player) quiet accepted) e =
+    same_when (p == peer) (option_map (living (set_life u player))) e (o.lives (set_life u player))
+calls_keep peer o (Once (Published s player) quiet accepted) e =
+    ap (option_map (living (grown_life s player))) e ∙ o.lives (grown_life s player)
+calls_keep peer o (Once (Closed p) quiet accepted) e = same_when (p == peer) (option_map ended) e o.ends
+calls_keep peer o (Shows s player) e = ap (option_map (living (grown_life s player))) e ∙ o.lives (grown_life s player)
+calls_keep peer o (Places p q before s player) e =
+    ap (option_map (living (grown_life s player))) e ∙ o.lives (grown_life s player)
+calls_keep peer o _ e = e
 
 -- an event that opens no session of this peer
 abbrev pub IsOther : ℕ → TvEvent → Type 0
 IsOther peer (event.Opened p kind) = eqb p peer ≡ false
 IsOther peer _ = ⊤
 
-opened_life : (peer p : ℕ) (kind : Kind) (room : Bool) (pl : Player) (h : List Event) → eqb p peer ≡ false
-    → life_of peer h ≡ None
-    → life_of peer ((outcomes.opened (Opened p kind) p room pl).called ++ h) ≡ None
-opened_life peer p kind true pl h other none =
-    ap (λ b. when b (λ _. Some (born kind (state_of h))) (life_of peer h)) other ∙ none
-opened_life peer p kind false pl h other none =
-    ap (when (p == peer) (option_map ended)) none ∙ when_none (p == peer) ended
+pub is_other : (peer : ℕ) (e : TvEvent) → IsNoOpening e → IsOther peer e
+is_other peer (event.Opened p kind) n = absurd n
+is_other peer _ n = tt
 
-event_life : (a : Addresses) (e : TvEvent) (pl : Player) (k : Kept) (h : List Event) (peer : ℕ) → IsOther peer e
-    → life_of peer h ≡ None
-    → life_of peer (called_in (outcome a e pl k) ++ h) ≡ None
-event_life a (event.Opened p kind) pl k h peer other none =
-    opened_life peer p kind (nat_lt (length k.list) max_sessions) pl h other none
-event_life a (event.Programme id) pl k h peer other none =
-    quiet_life peer (called_in (outcome a (event.Programme id) pl k)) h (quiet a (event.Programme id) pl k tt) none
-event_life a (event.AddTimeline m selector rate base) pl k h peer other none =
-    quiet_life peer (called_in (outcome a (event.AddTimeline m selector rate base) pl k)) h
-    (quiet a (event.AddTimeline m selector rate base) pl k tt) none
-event_life a (event.Viewer command reading) pl k h peer other none =
-    quiet_life peer (called_in (outcome a (event.Viewer command reading) pl k)) h
-    (quiet a (event.Viewer command reading) pl k tt) none
-event_life a (event.Heard p bytes) pl k h peer other none =
-    quiet_life peer (called_in (outcome a (event.Heard p bytes) pl k)) h (quiet a (event.Heard p bytes) pl k tt) none
-event_life a (event.Closed p) pl k h peer other none =
-    quiet_life peer (called_in (outcome a (event.Closed p) pl k)) h (quiet a (event.Closed p) pl k tt) none
+opened_life : (peer p : ℕ) (kind : Kind) (room : Bool) (pl : Player) (h : List Event) {life : Option Lived}
+    → IsOver life → eqb p peer ≡ false → life_of peer h ≡ life
+    → life_of peer ((outcomes.opened (Opened p kind) p room pl).called ++ h) ≡ life
+opened_life peer p kind true pl h o other e =
+    ap (λ b. when b (λ _. Some (born kind (state_of h))) (life_of peer h)) other ∙ e
+opened_life peer p kind false pl h o other e = same_when (p == peer) (option_map ended) e o.ends
 
-pub event_unused : (a : Addresses) (e : TvEvent) (es : List TvEvent) (peer : ℕ) → IsOther peer e
-    → life_of peer (calls_of a es).sessions ≡ None
-    → life_of peer (calls_of a (e ∷ es)).sessions ≡ None
-event_unused a e es peer other none =
+event_life : (a : Addresses) (e : TvEvent) (pl : Player) (h : List Event) (peer : ℕ) {life : Option Lived}
+    → IsOver life → IsOther peer e → life_of peer h ≡ life
+    → life_of peer (called_in (outcome a e pl (sessions_of h)) ++ h) ≡ life
+event_life a (event.Opened p kind) pl h peer o other is =
+    opened_life peer p kind (nat_lt (length (sessions_of h).list) max_sessions) pl h o other is
+event_life a e pl h peer o other is = calls_keep peer o (is_called h a pl e tt) is
+
+pub event_keeps : (a : Addresses) (e : TvEvent) (es : List TvEvent) (peer : ℕ) {life : Option Lived} → IsOver life
+    → IsOther peer e → life_of peer (calls_of a es).sessions ≡ life
+    → life_of peer (calls_of a (e ∷ es)).sessions ≡ life
+event_keeps a e es peer o other is =
     ap (λ h. life_of peer h) (sessions_after (outcome_after a es e) (calls_of a es))
-    ∙ event_life a e (player_after a es) (sessions_of (calls_of a es).sessions) (calls_of a es).sessions peer other none
+    ∙ event_life a e (player_after a es) (calls_of a es).sessions peer o other is
 
 -- ---- a session that opens, or is hung up at once
 opened_covers : (peer : ℕ) (kind : Kind) (room : Bool) (pl : Player) (h : List Event) (peers : List ℕ)

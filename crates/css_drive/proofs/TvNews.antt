@@ -6,19 +6,9 @@ use Rattle.std.specs.List.{filter_map}
 use Rattle.std.proofs.lemmas.List.{reverse-append, map-append}
 use Rattle.std.proofs.lemmas.List.Elements.{filter-append}
 use Rattle.css_player.specs.Player.{Player}
-use Rattle.css_player.specs.Segments.{with_programme, with_timeline, with_delay, commanded}
-use Rattle.css_player.specs.Events.{TimelineAdded, Commanded, Event as PlayerCall}
-use Rattle.css_player.specs.declared.command.PlayerFault.{PlayerFault}
-use Rattle.css_tsmsg.specs.Setups.{setup_of}
-use Rattle.css_tsmsg.specs.Presentations.{presentation_of}
-use Rattle.css_tsmsg.specs.declared.bound.Presentation.{Presentation}
-use Rattle.css_tsmsg.specs.declared.setup.Setup.{Setup}
-use Rattle.css_tsmsg.specs.declared.fault.TsFault.{TsFault}
 use Rattle.css_num.specs.declared.protocol.Kind.{Kind}
 use Rattle.css_num.specs.declared.protocol.Kind.TheVariants as kind
 use Rattle.css_sessions.specs.declared.session.Said.{Said}
-use Rattle.css_sessions.specs.declared.session.Talk.{Talk}
-use Rattle.css_sessions.specs.declared.session.Talk.TheVariants as talk
 use Rattle.css_sessions.specs.Kept as calls
 use Rattle.css_sessions.specs.Kept.{Event as Call, Kept, Rising, step_of, talk_of, set_up_in, news_of_talk}
 use Rattle.css_sessions.specs.Kept.{difference_text}
@@ -37,7 +27,7 @@ use Rattle.css_tv.specs.declared.event.TvOut.TheVariants as out
 use Rattle.css_tv.specs.declared.fault.TvFault.{TvFault}
 use Rattle.css_tv.specs.declared.state.Addresses.{Addresses}
 use Rattle.css_drive.specs.TvProgress.{outcome_after, outs_in, outs_after}
-use Rattle.css_drive.proofs.TvCalls.{called_in}
+use Rattle.css_drive.proofs.TvCalls.{IsCalled, Nothing, Once, Shows, Places, called_in, sessions_after, is_called}
 
 -- ---- what outputs tell a peer
 abbrev pub news_of : ℕ → List TvOut → List (List ℕ)
@@ -91,74 +81,23 @@ texts-by peer (Ok o) before lawful =
     ∙ ap (λ texts. reverse texts ++ texts_of peer before.sessions)
     (sym (news-of-outcome peer o (sessions_of before.sessions)))
 
-pub sessions-after : (r : Result Outcome TvFault) (before : Calls)
-    → (with_outcome r before).sessions ≡ called_in r ++ before.sessions
-sessions-after (Err f) before = refl
-sessions-after (Ok o) before = refl
-
 -- ---- events keep the sessions' calls lawful
-waits : (t : Option Talk) → set_up_in t ≡ Some false → t ≡ Some talk.Waiting
-waits (Some talk.Waiting) e = refl
-waits _ e = absurd (cc)
-
-lawful-programme : (id : List ℕ) (r : Result Player PlayerFault) (h : List Call) → IsLawful h
-    → IsLawful (called_in (by_player (programme_added id) r) ++ h)
-lawful-programme id (Err f) h lawful = lawful
-lawful-programme id (Ok q) h lawful = lawful
-
-lawful-timeline : (a : Addresses) (call : PlayerCall) (r : Result Player PlayerFault) (h : List Call) → IsLawful h
-    → IsLawful (called_in (by_player (timeline_added a call) r) ++ h)
-lawful-timeline a call (Err f) h lawful = lawful
-lawful-timeline a call (Ok q) h lawful = (lawful, tt)
-
-lawful-viewer : (a : Addresses) (call : PlayerCall) (r : Result Player PlayerFault) (h : List Call) → IsLawful h
-    → IsLawful (called_in (by_player (viewed a call) r) ++ h)
-lawful-viewer a call (Err f) h lawful = lawful
-lawful-viewer a call (Ok q) h lawful = ((lawful, tt), tt)
-
 lawful-opened : (peer : ℕ) (k : Kind) (room : Bool) (p : Player) (h : List Call) → IsLawful h → life_of peer h ≡ None
     → IsLawful ((outcomes.opened (calls.Opened peer k) peer room p).called ++ h)
 lawful-opened peer k true p h lawful fresh = (lawful, fresh)
 lawful-opened peer k false p h lawful fresh = (lawful, tt)
 
-lawful-setup : (peer : ℕ) (p : Player) (r : Result Setup TsFault) (h : List Call) → IsLawful h
-    → talk_of peer (sessions_of h).list ≡ Some talk.Waiting
-    → IsLawful ((outcomes.by_setup peer p r).called ++ h)
-lawful-setup peer p (Err f) h lawful waiting = (lawful, tt)
-lawful-setup peer p (Ok u) h lawful waiting = (lawful, waiting)
-
-lawful-choice : (a : Addresses) (peer : ℕ) (q : Presentation) (p : Player) (o : Option ℕ) (h : List Call) → IsLawful h
-    → IsLawful ((outcomes.presented a peer q p o).called ++ h)
-lawful-choice a peer q p None h lawful = (lawful, tt)
-lawful-choice a peer q p (Some delay) h lawful = ((lawful, tt), tt)
-
-lawful-presented : (a : Addresses) (peer : ℕ) (p : Player) (k : Kept) (r : Result Presentation TsFault) (h : List Call)
-    → IsLawful h → IsLawful ((outcomes.by_presentation a peer p k r).called ++ h)
-lawful-presented a peer p k (Err f) h lawful = (lawful, tt)
-lawful-presented a peer p k (Ok q) h lawful =
-    lawful-choice a peer q p (choice p.segment (windows_after peer q p k)) h lawful
-
-lawful-heard : (a : Addresses) (peer : ℕ) (bytes : List ℕ) (p : Player) (o : Option Bool) (h : List Call)
-    → IsLawful h → set_up_in (talk_of peer (sessions_of h).list) ≡ o
-    → IsLawful ((outcomes.heard a peer bytes p (sessions_of h) o).called ++ h)
-lawful-heard a peer bytes p None h lawful e = (lawful, tt)
-lawful-heard a peer bytes p (Some false) h lawful e =
-    lawful-setup peer p (setup_of bytes) h lawful (waits (talk_of peer (sessions_of h).list) e)
-lawful-heard a peer bytes p (Some true) h lawful e =
-    lawful-presented a peer p (sessions_of h) (presentation_of bytes) h lawful
+lawful-called : {called h : List Call} → IsCalled h called → IsLawful h → IsLawful (called ++ h)
+lawful-called Nothing lawful = lawful
+lawful-called (Once call quiet accepted) lawful = (lawful, accepted)
+lawful-called (Shows state p) lawful = ((lawful, tt), tt)
+lawful-called (Places peer q before state p) lawful = ((lawful, tt), tt)
 
 lawful-event : (a : Addresses) (e : TvEvent) (p : Player) (h : List Call) → IsLawful h → IsFresh e h
     → IsLawful (called_in (outcome a e p (sessions_of h)) ++ h)
-lawful-event a (event.Programme id) p h lawful fresh = lawful-programme id (with_programme id p) h lawful
-lawful-event a (event.AddTimeline n selector rate base) p h lawful fresh =
-    lawful-timeline a (TimelineAdded n selector rate base) (with_timeline n selector rate base p) h lawful
-lawful-event a (event.Viewer command reading) p h lawful fresh =
-    lawful-viewer a (Commanded command reading) (commanded command reading p) h lawful
 lawful-event a (event.Opened peer k) p h lawful fresh =
     lawful-opened peer k (nat_lt (length (sessions_of h).list) max_sessions) p h lawful fresh
-lawful-event a (event.Heard peer bytes) p h lawful fresh =
-    lawful-heard a peer bytes p (set_up_in (talk_of peer (sessions_of h).list)) h lawful refl
-lawful-event a (event.Closed peer) p h lawful fresh = (lawful, tt)
+lawful-event a e p h lawful fresh = lawful-called (is_called h a p e tt) lawful
 
 -- ---- an event tells a session one text at most
 abbrev Few : ℕ → List Said → Type 0
@@ -186,83 +125,36 @@ few-call peer _ k rising = omega arith
 few-more : (peer : ℕ) (said : List Said) → Few peer said → Few peer (said ++ [])
 few-more peer said few = subst (Few peer) (sym (append-nil said)) few
 
-few-outcome : (peer : ℕ) (o : Outcome) (k : Kept) → Few peer (said_after o.called k)
-    → length (news_of peer (outs o k)) ≤ 1
-few-outcome peer o k few =
-    subst (λ (texts : List (List ℕ)). length texts ≤ 1) (sym (news-of-outcome peer o k)) few
-
-abbrev FewIn : ℕ → Kept → Result Outcome TvFault → Type 0
-FewIn peer k r = length (news_of peer (outs_in k r)) ≤ 1
-
-few-programme : (peer : ℕ) (k : Kept) (id : List ℕ) (r : Result Player PlayerFault)
-    → FewIn peer k (by_player (programme_added id) r)
-few-programme peer k id (Err f) = omega arith
-few-programme peer k id (Ok q) = omega arith
-
-few-timeline : (peer : ℕ) (k : Kept) (a : Addresses) (call : PlayerCall) (r : Result Player PlayerFault)
-    → Rising 0 k.list → FewIn peer k (by_player (timeline_added a call) r)
-few-timeline peer k a call (Err f) rising = omega arith
-few-timeline peer k a call (Ok q) rising =
-    few-outcome peer (timeline_added a call q) k (few-call peer (outcomes.published a q) k rising)
-
-few-viewer : (peer : ℕ) (k : Kept) (a : Addresses) (call : PlayerCall) (r : Result Player PlayerFault)
-    → Rising 0 k.list → FewIn peer k (by_player (viewed a call) r)
-few-viewer peer k a call (Err f) rising = omega arith
-few-viewer peer k a call (Ok q) rising =
-    few-outcome peer (viewed a call q) k
-    (few-more peer (step_of (outcomes.published a q) k).said (few-call peer (outcomes.published a q) k rising))
+few-called : (peer : ℕ) {called h : List Call} (k : Kept) → IsCalled h called → Rising 0 k.list
+    → Few peer (said_after called k)
+few-called peer k Nothing rising = omega arith
+few-called peer k (Once call quiet accepted) rising = few-call peer call k rising
+few-called peer k (Shows state p) rising = few-more peer _ (few-call peer (calls.Published state p) k rising)
+few-called peer k (Places other q before state p) rising =
+    few-more peer _ (few-call peer (calls.Published state p) k rising)
 
 few-opened : (peer : ℕ) (k : Kept) (p : ℕ) (kind : Kind) (room : Bool) (player : Player) → Rising 0 k.list
-    → FewIn peer k (Ok (outcomes.opened (calls.Opened p kind) p room player))
-few-opened peer k p kind true player rising =
-    few-outcome peer (outcomes.only (calls.Opened p kind) player) k (few-call peer (calls.Opened p kind) k rising)
+    → Few peer (said_after (outcomes.opened (calls.Opened p kind) p room player).called k)
+few-opened peer k p kind true player rising = few-call peer (calls.Opened p kind) k rising
 few-opened peer k p kind false player rising = omega arith
 
-few-setup : (peer : ℕ) (k : Kept) (p : ℕ) (player : Player) (r : Result Setup TsFault) → Rising 0 k.list
-    → FewIn peer k (Ok (outcomes.by_setup p player r))
-few-setup peer k p player (Err f) rising = omega arith
-few-setup peer k p player (Ok u) rising =
-    few-outcome peer (outcomes.only (calls.SetUp p u player) player) k
-    (few-call peer (calls.SetUp p u player) k rising)
+few-event : (a : Addresses) (e : TvEvent) (p : Player) (h : List Call) (peer : ℕ) → Rising 0 (sessions_of h).list
+    → Few peer (said_after (called_in (outcome a e p (sessions_of h))) (sessions_of h))
+few-event a (event.Opened other kind) p h peer rising =
+    let k = sessions_of h in few-opened peer k other kind (nat_lt (length k.list) max_sessions) p rising
+few-event a e p h peer rising = few-called peer (sessions_of h) (is_called h a p e tt) rising
 
-few-choice : (peer : ℕ) (k : Kept) (a : Addresses) (p : ℕ) (q : Presentation) (player : Player) (o : Option ℕ)
-    → Rising 0 k.list → FewIn peer k (Ok (outcomes.presented a p q player o))
-few-choice peer k a p q player None rising = omega arith
-few-choice peer k a p q player (Some delay) rising =
-    let shown = outcomes.published a (with_delay delay player) in
-    few-outcome peer (outcomes.presented a p q player (Some delay)) k
-    (few-more peer (step_of shown k).said (few-call peer shown k rising))
-
-few-presented : (peer : ℕ) (k : Kept) (a : Addresses) (p : ℕ) (player : Player) (r : Result Presentation TsFault)
-    → Rising 0 k.list → FewIn peer k (Ok (outcomes.by_presentation a p player k r))
-few-presented peer k a p player (Err f) rising = omega arith
-few-presented peer k a p player (Ok q) rising =
-    few-choice peer k a p q player (choice player.segment (windows_after p q player k)) rising
-
-few-heard : (peer : ℕ) (k : Kept) (a : Addresses) (p : ℕ) (bytes : List ℕ) (player : Player) (o : Option Bool)
-    → Rising 0 k.list → FewIn peer k (Ok (outcomes.heard a p bytes player k o))
-few-heard peer k a p bytes player None rising = omega arith
-few-heard peer k a p bytes player (Some false) rising = few-setup peer k p player (setup_of bytes) rising
-few-heard peer k a p bytes player (Some true) rising = few-presented peer k a p player (presentation_of bytes) rising
-
-few-event : (peer : ℕ) (k : Kept) (a : Addresses) (e : TvEvent) (player : Player) → Rising 0 k.list
-    → FewIn peer k (outcome a e player k)
-few-event peer k a (event.Programme id) player rising = few-programme peer k id (with_programme id player)
-few-event peer k a (event.AddTimeline n selector rate base) player rising =
-    few-timeline peer k a (TimelineAdded n selector rate base) (with_timeline n selector rate base player) rising
-few-event peer k a (event.Viewer command reading) player rising =
-    few-viewer peer k a (Commanded command reading) (commanded command reading player) rising
-few-event peer k a (event.Opened p kind) player rising =
-    few-opened peer k p kind (nat_lt (length k.list) max_sessions) player rising
-few-event peer k a (event.Heard p bytes) player rising =
-    few-heard peer k a p bytes player (set_up_in (talk_of p k.list)) rising
-few-event peer k a (event.Closed p) player rising = omega arith
+few-outs : (peer : ℕ) (r : Result Outcome TvFault) (k : Kept) → Few peer (said_after (called_in r) k)
+    → length (news_of peer (outs_in k r)) ≤ 1
+few-outs peer (Err f) k few = omega arith
+few-outs peer (Ok o) k few =
+    subst (λ (texts : List (List ℕ)). length texts ≤ 1) (sym (news-of-outcome peer o k)) few
 
 -- ---- an event at a television
 pub event-lawful : (a : Addresses) (e : TvEvent) (es : List TvEvent) → IsLawful (calls_of a es).sessions
     → IsFresh e (calls_of a es).sessions → IsLawful (calls_of a (e ∷ es)).sessions
 event-lawful a e es lawful fresh =
-    subst IsLawful (sym (sessions-after (outcome_after a es e) (calls_of a es)))
+    subst IsLawful (sym (sessions_after (outcome_after a es e) (calls_of a es)))
     (lawful-event a e (player_after a es) (calls_of a es).sessions lawful fresh)
 
 pub event-texts : (a : Addresses) (e : TvEvent) (es : List TvEvent) → IsLawful (calls_of a es).sessions
@@ -276,4 +168,5 @@ pub event-few : (a : Addresses) (e : TvEvent) (es : List TvEvent) → IsLawful (
     → length (news_of peer (outs_after a es e)) ≤ 1
 event-few a e es lawful peer =
     let h = (calls_of a es).sessions in
-    few-event peer (sessions_of h) a e (player_after a es) (is_kept h lawful).rising
+    few-outs peer (outcome_after a es e) (sessions_of h)
+    (few-event a e (player_after a es) h peer (is_kept h lawful).rising)

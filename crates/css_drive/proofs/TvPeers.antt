@@ -1,12 +1,13 @@
 -- What is known of the peers that a television's loop keeps.
 use Rattle.std.proofs.Common.{◌≡◌, ℕ, ◌+◌, ◌<◌, ◌≤◌, Bool, true, false, cond, eqb, ltb, List, [], ◌∷◌, ◌++◌, refl, sym}
-use Rattle.std.proofs.Common.{ap, subst, ◌∙◌, arith, drop, zero, suc}
+use Rattle.std.proofs.Common.{ap, subst, ◌∙◌, arith, drop, take, zero, suc}
 use Rattle.std.specs.Prelude.{◌||◌, ◌&&◌, nat_lt, filter, All, Some}
 use Rattle.std.specs.List.{remove}
 use Rattle.std.proofs.lemmas.Bool.{eq-eqb, eqb-true}
 use Rattle.std.proofs.lemmas.Bool.Decides.{nat_tests}
 use Rattle.std.proofs.lemmas.List.{append-nil}
-use Rattle.std.proofs.lemmas.List.Elements.{filter-append, All-filter, All-head, All-tail, All-nil, All-cons}
+use Rattle.std.proofs.lemmas.List.Elements.{filter-append, filter_agree, All-filter, All-head, All-tail, All-nil}
+use Rattle.std.proofs.lemmas.List.Elements.{All-cons, All-append, All-drop, All-take, All-weaker}
 use Rattle.css_sessions.specs.Told.{with_peer}
 use Rattle.css_drive.specs.TvPeers.{above, has, Covers, AreRising, Knows}
 
@@ -31,15 +32,9 @@ filter-alike f g [] h = refl
 filter-alike f g (x ∷ xs) h = ap (λ b. cond b (x ∷ filter f xs) (filter f xs)) (All-head (λ x. f x ≡ g x) x xs h)
     ∙ ap (λ ys. cond (g x) (x ∷ ys) ys) (filter-alike f g xs (All-tail (λ x. f x ≡ g x) x xs h))
 
-all-of : (P : ℕ → Type 0) (xs : List ℕ) → ((x : ℕ) → P x) → All P xs
-all-of P [] h = All-nil P
-all-of P (x ∷ xs) h = All-cons P x xs (h x) (all-of P xs h)
-
 filter-comm : (f g : ℕ → Bool) (xs : List ℕ) → filter f (filter g xs) ≡ filter g (filter f xs)
 filter-comm f g xs = filter-both f g xs
-    ∙ filter-alike (λ x. g x && f x) (λ x. f x && g x) xs
-    (all-of (λ x. (g x && f x) ≡ (f x && g x)) xs (λ x. and-comm (g x) (f x)))
-    ∙ sym (filter-both g f xs)
+    ∙ filter_agree (λ x. g x && f x) (λ x. f x && g x) (λ x. and-comm (g x) (f x)) xs ∙ sym (filter-both g f xs)
 
 -- ---- elements
 has-filter : (f : ℕ → Bool) (q : ℕ) (xs : List ℕ) → has q (filter f xs) ≡ (f q && has q xs)
@@ -53,19 +48,15 @@ has-filter f q (x ∷ xs) = go (f x) (eqb x q) (f q) (λ e. ap f (eqb-true x q e
       → has q (cond passes (x ∷ filter f xs) (filter f xs)) ≡ (also && (same || has q xs))
   go true true true alike e ih = ap (λ b. b || has q (filter f xs)) e
   go true true false alike e ih = absurd (let t : true ≡ false = alike refl in cc)
-  go true false true alike e ih = ap (λ b. b || has q (filter f xs)) e ∙ ih
-  go true false false alike e ih = ap (λ b. b || has q (filter f xs)) e ∙ ih
+  go true false also alike e ih = ap (λ b. b || has q (filter f xs)) e ∙ ih
   go false true true alike e ih = absurd (let t : false ≡ true = alike refl in cc)
-  go false true false alike e ih = ih
-  go false false true alike e ih = ih
-  go false false false alike e ih = ih
+  go false _ _ alike e ih = ih
 
 -- ---- closing
 pub covers_filtered : (f : ℕ → Bool) (peers live : List ℕ) → Covers peers live → Covers peers (filter f live)
 covers_filtered f peers live covers =
-    filter-alike (λ x. has x (filter f live)) (λ x. has x live && f x) peers
-    (all-of (λ x. has x (filter f live) ≡ (has x live && f x)) peers (λ x.
-    has-filter f x live ∙ and-comm (f x) (has x live)))
+    filter_agree (λ x. has x (filter f live)) (λ x. has x live && f x)
+    (λ x. has-filter f x live ∙ and-comm (f x) (has x live)) peers
     ∙ sym (filter-both f (λ x. has x live) peers)
     ∙ ap (filter f) covers
 
@@ -82,12 +73,7 @@ has-last q (y ∷ live) = ap (λ b. eqb y q || b) (has-last q live) ∙ or-true 
   or-true false = refl
 
 apart : (q : ℕ) (xs live : List ℕ) → All (λ x. x < q) xs → All (λ x. has x (live ++ q ∷ []) ≡ has x live) xs
-apart q [] live h = All-nil _
-apart q (x ∷ xs) live h =
-    let lt : x < q = All-head (λ x. x < q) x xs h in
-    let no : eqb q x ≡ false = grind (arith, nat_tests) in
-    All-cons (λ x. has x (live ++ q ∷ []) ≡ has x live) x xs (has-more x q live no)
-    (apart q xs live (All-tail (λ x. x < q) x xs h))
+apart q xs live h = All-weaker (λ x. x < q) (λ x. has x (live ++ q ∷ []) ≡ has x live) (λ x lt. has-more x q live (grind (arith, nat_tests))) xs h
 
 covers_opened : (q : ℕ) (peers live : List ℕ) → All (λ x. x < q) peers → Covers peers live
     → Covers (peers ++ q ∷ []) (live ++ q ∷ [])
@@ -119,12 +105,8 @@ covers_more q peers live below covers =
 rises : (from : ℕ) (xs : List ℕ) → AreRising from xs → All (λ x. from ≤ x) xs
 rises from [] h = All-nil _
 rises from (x ∷ xs) h =
-    All-cons (λ x. from ≤ x) x xs h.0 (lower from (x + 1) xs (omega (arith, h.0)) (rises (x + 1) xs h.1)) where
-      lower : (a b : ℕ) (xs : List ℕ) → a ≤ b → All (λ x. b ≤ x) xs → All (λ x. a ≤ x) xs
-      lower a b [] le h = All-nil _
-      lower a b (x ∷ xs) le h =
-          let here : b ≤ x = All-head (λ x. b ≤ x) x xs h in
-          All-cons (λ x. a ≤ x) x xs (omega (arith, here, le)) (lower a b xs le (All-tail (λ x. b ≤ x) x xs h))
+    All-cons (λ x. from ≤ x) x xs h.0
+    (All-weaker (λ y. x + 1 ≤ y) (λ y. from ≤ y) (λ y le. omega (arith, h.0, le)) xs (rises (x + 1) xs h.1))
 
 rising-later : (a b : ℕ) (xs : List ℕ) → b ≤ a → AreRising a xs → AreRising b xs
 rising-later a b [] le h = tt
@@ -146,11 +128,6 @@ pass-all p (x ∷ xs) h =
     (pass-all p xs (All-tail (λ x. p + 1 ≤ x) x xs h))
 
 -- ---- the place of a peer
-All-drop : (i : ℕ) (P : ℕ → Type 0) (xs : List ℕ) → All P xs → All P (drop i xs)
-All-drop zero P xs h = h
-All-drop (suc i) P [] h = h
-All-drop (suc i) P (x ∷ xs) h = All-drop i P xs (All-tail P x xs h)
-
 drops-none : (i p : ℕ) (rest : List ℕ) → drop i [] ≡ p ∷ rest → ⊥
 drops-none zero p rest e = absurd (let t : [] ≡ p ∷ rest = e in cc)
 drops-none (suc i) p rest e = absurd (let t : [] ≡ p ∷ rest = e in cc)
@@ -168,7 +145,7 @@ passed from zero p (x ∷ xs) rest h e =
 passed from (suc i) p (x ∷ xs) rest h e =
     let lt : x + 1 ≤ p =
     All-head (λ y. x + 1 ≤ y) p rest
-    (subst (All (λ y. x + 1 ≤ y)) e (All-drop i (λ y. x + 1 ≤ y) xs (rises (x + 1) xs h.1))) in
+    (subst (All (λ y. x + 1 ≤ y)) e (All-drop (λ y. x + 1 ≤ y) i xs (rises (x + 1) xs h.1))) in
     let no : ltb p x ≡ false = grind (arith, nat_tests) in
     ap (λ b. cond b (x ∷ filter (λ x. nat_lt p x) xs) (filter (λ x. nat_lt p x) xs)) no ∙ passed (x + 1) i p xs rest h.1
     e
@@ -204,12 +181,9 @@ rising_removed from i p [] rest e h = absurd (drops-none i p rest e)
 rising_removed from zero p (x ∷ xs) rest e h = rising-later (x + 1) from xs (omega (arith, h.0)) h.1
 rising_removed from (suc i) p (x ∷ xs) rest e h = (h.0, rising_removed (x + 1) i p xs rest e h.1)
 
-pub below_removed : (P : ℕ → Type 0) (i p : ℕ) (xs rest : List ℕ) → drop i xs ≡ p ∷ rest → All P xs
-    → All P (remove xs i)
-below_removed P i p [] rest e h = absurd (drops-none i p rest e)
-below_removed P zero p (x ∷ xs) rest e h = All-tail P x xs h
-below_removed P (suc i) p (x ∷ xs) rest e h =
-    All-cons P x (remove xs i) (All-head P x xs h) (below_removed P i p xs rest e (All-tail P x xs h))
+pub below_removed : (P : ℕ → Type 0) (i : ℕ) (xs : List ℕ) → All P xs → All P (remove xs i)
+below_removed P i xs h =
+    All-append P (take i xs) (drop (suc i) xs) (All-take P i xs h) (All-drop P (suc i) xs h)
 
 -- the first of what is left to be asked
 pub next_has : (p : ℕ) (live rest : List ℕ) → has p live ≡ true
@@ -237,22 +211,10 @@ covers_unopened q peers live below covers =
     ∙ append-nil (filter (λ x. has x live) peers) ∙ covers
 
 pub below_later : (a b : ℕ) (xs : List ℕ) → a ≤ b → All (λ x. x ≤ a) xs → All (λ x. x ≤ b) xs
-below_later a b [] le h = All-nil (λ x. x ≤ b)
-below_later a b (x ∷ xs) le h =
-    let here : x ≤ a = All-head (λ x. x ≤ a) x xs h in
-    All-cons (λ x. x ≤ b) x xs (omega (arith, here, le)) (below_later a b xs le (All-tail (λ x. x ≤ a) x xs h))
+below_later a b xs le h = All-weaker (λ x. x ≤ a) (λ x. x ≤ b) (λ x here. omega (arith, here, le)) xs h
 
 pub below_next : (a b : ℕ) (xs : List ℕ) → a < b → All (λ x. x ≤ a) xs → All (λ x. x < b) xs
-below_next a b [] lt h = All-nil (λ x. x < b)
-below_next a b (x ∷ xs) lt h =
-    let here : x ≤ a = All-head (λ x. x ≤ a) x xs h in
-    All-cons (λ x. x < b) x xs (omega (arith, here, lt)) (below_next a b xs lt (All-tail (λ x. x ≤ a) x xs h))
-
-pub below_last : (a q : ℕ) (xs : List ℕ) → All (λ x. x ≤ a) xs → q ≤ a → All (λ x. x ≤ a) (xs ++ q ∷ [])
-below_last a q [] h le = All-cons (λ x. x ≤ a) q [] le (All-nil (λ x. x ≤ a))
-below_last a q (x ∷ xs) h le =
-    All-cons (λ x. x ≤ a) x (xs ++ q ∷ []) (All-head (λ x. x ≤ a) x xs h)
-    (below_last a q xs (All-tail (λ x. x ≤ a) x xs h) le)
+below_next a b xs lt h = All-weaker (λ x. x ≤ a) (λ x. x < b) (λ x here. omega (arith, here, lt)) xs h
 
 -- the loop knows its peers, and one more
 pub knows_later : (peers : List ℕ) (a b : ℕ) (live : List ℕ) → Knows peers a live → a ≤ b → Knows peers b live

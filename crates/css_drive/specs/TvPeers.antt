@@ -25,7 +25,3 @@ pub record Knows (peers : List ℕ) (greatest : ℕ) (live : List ℕ) : Type 0 
   pub rising : AreRising 0 peers
   pub below : All (λ peer. peer ≤ greatest) peers
   pub covers : Covers peers live
-
--- no session was opened by these events, so what covered the open ones still does
-abbrev pub Narrows : List ℕ → List ℕ → Type 0
-Narrows before now = (peers : List ℕ) → Covers peers before → Covers peers now

@@ -1,15 +1,14 @@
-ghost use Rattle.std.specs.Prelude.{◌≡◌, ◌<◌, ◌≤◌, ◌∷◌, [], ℕ, List, Option, Some, None, false, IfOk, MatchResult};
+ghost use Rattle.std.specs.Prelude.{◌≡◌, ◌<◌, ◌∷◌, ◌++◌, [], ℕ, List, Option, Some, None, false, IfOk, MatchResult};
 ghost use Rattle.css_model.specs.History.{History, Sent};
 ghost use Rattle.css_sessions.specs.Kept.{talk_of};
 ghost use Rattle.css_tv.specs.declared.event.TvEvent.TheVariants as events;
-ghost use Rattle.css_drive.specs.Proper.{TakeText};
-ghost use Rattle.css_drive.specs.TvDue.{TvRun, due};
-ghost use Rattle.css_drive.specs.TvProgress.{Progress, Place, Turned, Taken, Received, Served, Asked, happened};
-ghost use Rattle.css_drive.specs.TvProgress.{addresses_in};
+ghost use Rattle.css_drive.specs.TvDue.{TvRun};
+ghost use Rattle.css_drive.specs.TvProgress.{Progress, Turned, Taken, Received, Served, Asked};
 ghost use Rattle.css_drive.specs.TvTurns.{is_over, goes_on};
-ghost use Rattle.css_drive.specs.TvStanding.{IsFault, HasCause, IsRead, Adds, Told, IsAt, Goes, Airs, Arrives, Keeps};
-ghost use Rattle.css_drive.specs.TvStanding.{Stays, IsUnasked, IsAtEnd, IsUnused, Finishes};
+ghost use Rattle.css_drive.specs.TvStanding.{IsFault, HasCause, IsRead, Adds, Told, IsAt, Happens, Asks, IsAtEnd, Goes};
+ghost use Rattle.css_drive.specs.TvStanding.{Arrives, Finishes, IsUnused, with_tv, with_peers};
 ghost use Rattle.css_drive.specs.declared.driven.Driven.TheVariants as driven;
+ghost use Rattle.css_drive.specs.declared.on_air.OnAir.{OnAir as Loop};
 
 use crate::driven::Driven;
 use crate::on_air::OnAir;
@@ -47,9 +46,9 @@ fn send<O: Outside>(outside: &mut O, peer: u32, bytes: &[u8; 32]) -> Result<(), 
 
 /// Answers a request: the response first.
 fn answer<O: Outside>(tv: &Tv, outside: &mut O, peer: u32, ticket: Ticket) -> Result<(), Driven>
-    ensures goes { (run : TvRun) (start : Option History) (p : Progress) (h : History)
-        → IsAt run start (O.told outside.old) (O.counts outside.old).peers tv.now (Received peer ticket) p p h
-        → Goes run start (O.told outside.new) (O.counts outside.new).peers tv.now p Served [] result }
+    ensures goes { (run : TvRun) (start : Option History) (air : Loop)
+        → IsAt run start (O.told outside.old) (O.counts outside.old).peers (with_tv air tv.now) (Received peer ticket)
+        → Goes run start (O.told outside.new) (O.counts outside.new).peers (with_tv air tv.now) Served [] result }
     ensures cause { HasCause (O.counts outside.old) (O.counts outside.new) result }
 {
     let reading = read(outside, Why::Give)?;
@@ -63,10 +62,9 @@ fn answer<O: Outside>(tv: &Tv, outside: &mut O, peer: u32, ticket: Ticket) -> Re
 
 /// Receives a datagram, and drops it unless it is a request.
 fn receive<O: Outside>(tv: &mut Tv, outside: &mut O, peer: u32, bytes: &[u8]) -> Result<(), Driven>
-    ensures goes { (run : TvRun) (start : Option History) (p : Progress) (h : History) (taken : List ℕ)
-        → IsAt run start (O.told outside.old) (O.counts outside.old).peers tv.old (Taken peer taken) p p h
-        → taken ≡ bytes.now
-        → Goes run start (O.told outside.new) (O.counts outside.new).peers tv.new p Served [] result }
+    ensures goes { (run : TvRun) (start : Option History) (air : Loop) (taken : List ℕ) → taken ≡ bytes.now
+        → IsAt run start (O.told outside.old) (O.counts outside.old).peers (with_tv air tv.old) (Taken peer taken)
+        → Goes run start (O.told outside.new) (O.counts outside.new).peers (with_tv air tv.new) Served [] result }
     ensures cause { HasCause (O.counts outside.old) (O.counts outside.new) result }
 {
     let reading = read(outside, Why::Take)?;
@@ -78,10 +76,9 @@ fn receive<O: Outside>(tv: &mut Tv, outside: &mut O, peer: u32, bytes: &[u8]) ->
 
 /// Takes a datagram, if there is one.
 pub(crate) fn serve<O: Outside>(tv: &mut Tv, outside: &mut O) -> Result<(), Driven>
-    ensures goes { (run : TvRun) (start : Option History) (p : Progress) (h : History) (reading : ℕ)
-        → IsAt run start (O.told outside.old) (O.counts outside.old).peers tv.old (Turned reading) p p h
-        → is_over p.turns ≡ false
-        → Goes run start (O.told outside.new) (O.counts outside.new).peers tv.new p Served [] result }
+    ensures goes { (run : TvRun) (start : Option History) (air : Loop) (reading : ℕ) → is_over air.turns ≡ false
+        → IsAt run start (O.told outside.old) (O.counts outside.old).peers (with_tv air tv.old) (Turned reading)
+        → Goes run start (O.told outside.new) (O.counts outside.new).peers (with_tv air tv.new) Served [] result }
     ensures cause { HasCause (O.counts outside.old) (O.counts outside.new) result }
 {
     let mut into = [0u8; 64];
@@ -101,12 +98,12 @@ fn open<O: Outside>(
     kind: SessionKind,
 ) -> Result<(), Driven>
     requires { talk_of peer air.old.tv.stage.sessions.list ≡ None }
-    ensures goes { (run : TvRun) (start : Option History) (p : Progress) (h : History) (greatest : ℕ)
-        → Told run start (O.told outside.old) (O.counts outside.old).peers
-        (happened (addresses_in run.config) (events.Opened peer kind) p) h
-        → Stays run air.old.tv greatest p → p.place ≡ Asked None → p.owed ≡ [] → Keeps run greatest air.old p
-        → greatest < peer → peer ≤ (O.counts outside.old).peers
-        → Arrives run start (O.told outside.new) (O.counts outside.new).peers air.new IsUnasked result }
+    ensures goes { (run : TvRun) (start : Option History) (p : Progress) (h : History)
+        → Told run start (O.told outside.old) (O.counts outside.old).peers p h
+        → ((now : Loop) → now.peers.items ≡ air.old.peers.items ++ peer ∷ []
+        → Happens run start (O.told outside.old) (O.counts outside.old).peers (with_peers air.old now) (Asked None) []
+        (events.Opened peer kind))
+        → Goes run start (O.told outside.new) (O.counts outside.new).peers air.new (Asked None) [] result }
     ensures turns { air.new.turns ≡ air.old.turns }
     ensures cause { HasCause (O.counts outside.old) (O.counts outside.new) result }
 {
@@ -124,9 +121,9 @@ pub(crate) fn welcome<O: Outside>(
     outside: &mut O,
 ) -> Result<(), Driven>
     requires { IsUnused (O.counts outside.old).peers air.old.tv }
-    ensures goes { (run : TvRun) (start : Option History) (p : Progress) (h : History)
-        → Airs run start (O.told outside.old) (O.counts outside.old).peers air.old Served p p h
-        → Arrives run start (O.told outside.new) (O.counts outside.new).peers air.new IsUnasked result }
+    ensures goes { (run : TvRun) (start : Option History)
+        → IsAt run start (O.told outside.old) (O.counts outside.old).peers air.old Served
+        → Goes run start (O.told outside.new) (O.counts outside.new).peers air.new (Asked None) [] result }
     ensures turns { air.new.turns ≡ air.old.turns }
     ensures cause { HasCause (O.counts outside.old) (O.counts outside.new) result }
 {
@@ -141,10 +138,10 @@ pub(crate) fn welcome<O: Outside>(
 
 /// Asks a session for a text.
 fn hear<O: Outside>(alloc: Global, tv: &mut Tv, outside: &mut O, peer: u32) -> Result<(), Driven>
-    ensures goes { (run : TvRun) (start : Option History) (p : Progress) (h : History) (last : Option ℕ)
-        → IsAt run start (O.told outside.old) (O.counts outside.old).peers tv.old (Asked last) p p h
-        → due run h ≡ TakeText peer
-        → Goes run start (O.told outside.new) (O.counts outside.new).peers tv.new p (Asked (Some peer)) [] result }
+    ensures goes { (run : TvRun) (start : Option History) (air : Loop)
+        → Asks run start (O.told outside.old) (O.counts outside.old).peers (with_tv air tv.old) peer
+        → Goes run start (O.told outside.new) (O.counts outside.new).peers (with_tv air tv.new) (Asked (Some peer)) []
+        result }
     ensures cause { HasCause (O.counts outside.old) (O.counts outside.new) result }
 {
     match outside.take_text(peer) {
@@ -161,9 +158,10 @@ pub(crate) fn hear_all<O: Outside>(
     air: &mut OnAir,
     outside: &mut O,
 ) -> Result<(), Driven>
-    ensures goes { (run : TvRun) (start : Option History) (p : Progress) (h : History)
-        → Airs run start (O.told outside.old) (O.counts outside.old).peers air.old (Asked None) p p h
-        → Arrives run start (O.told outside.new) (O.counts outside.new).peers air.new (IsAtEnd run) result }
+    ensures goes { (run : TvRun) (start : Option History)
+        → IsAt run start (O.told outside.old) (O.counts outside.old).peers air.old (Asked None)
+        → Arrives run start (O.told outside.new)
+        (IsAtEnd run start (O.told outside.new) (O.counts outside.new).peers air.new) result }
     ensures turns { air.new.turns ≡ air.old.turns }
     ensures cause { HasCause (O.counts outside.old) (O.counts outside.new) result }
 {
@@ -182,9 +180,8 @@ pub(crate) fn hear_all<O: Outside>(
 
 /// Hangs up each open session, in order of peer.
 pub(crate) fn hang_up_all<O: Outside>(air: &OnAir, outside: &mut O) -> Result<(), Driven>
-    ensures ends { (run : TvRun) (start : Option History) (p : Progress) (h : History) (place : Place)
-        → Airs run start (O.told outside.old) (O.counts outside.old).peers air.now place p p h
-        → IsAtEnd run place p → goes_on air.now.turns ≡ false
+    ensures ends { (run : TvRun) (start : Option History) → goes_on air.now.turns ≡ false
+        → IsAtEnd run start (O.told outside.old) (O.counts outside.old).peers air.now
         → Finishes run start (O.told outside.new) driven.Done result }
     ensures cause { HasCause (O.counts outside.old) (O.counts outside.new) result }
 {

@@ -1,14 +1,14 @@
-ghost use Rattle.std.specs.Prelude.{◌≡◌, ◌<◌, [], List, All, Option, IfOk, IfSome};
+ghost use Rattle.std.specs.Prelude.{◌≡◌, ◌<◌, [], All, Option, IfOk, IfSome};
 ghost use Rattle.css_model.specs.History.{History};
 ghost use Rattle.css_schedule.specs.Ranges.{IsVerb, IsScriptLine};
-ghost use Rattle.css_schedule.specs.declared.line.ScriptLine.{ScriptLine as Line};
 ghost use Rattle.css_tv.specs.Stages.{Stage};
 ghost use Rattle.css_tv.specs.Standing.{IsEvent};
 ghost use Rattle.css_drive.specs.TvDue.{TvRun};
-ghost use Rattle.css_drive.specs.TvProgress.{Progress, Turned, carry, with_line, past_line, settled, addresses_in};
-ghost use Rattle.css_drive.specs.TvTurns.{IsRanged, since};
+ghost use Rattle.css_drive.specs.TvProgress.{Turned};
+ghost use Rattle.css_drive.specs.TvTurns.{IsRanged};
 ghost use Rattle.css_drive.specs.TvProgress as spec;
-ghost use Rattle.css_drive.specs.TvStanding.{HasCause, Told, Stays, Goes, Airs, Arrives, IsTurned};
+ghost use Rattle.css_drive.specs.TvStanding.{HasCause, Carries, Settles, Goes, Arrives, IsTurned, with_tv, past_line};
+ghost use Rattle.css_drive.specs.declared.on_air.OnAir.{OnAir as Loop};
 
 use crate::driven::Driven;
 use crate::on_air::OnAir;
@@ -60,14 +60,10 @@ fn carry_out<O: Outside>(
     requires verb { IsVerb line.now.verb }
     requires reading { reading < LIMIT }
     requires before { before < 18446744073709551615 }
-    ensures goes { (run : TvRun) (start : Option History) (p : Progress) (h : History) (left : List Line)
-        → Told run start (O.told outside.old) (O.counts outside.old).peers
-        (carry (addresses_in run.config) (since p.turns) reading left
-        (with_line (addresses_in run.config) reading line.now left p)) h
-        → Stays run tv.old (O.counts outside.old).peers p → p.place ≡ Turned reading → p.owed ≡ []
-        → p.carried ≡ before
-        → Goes run start (O.told outside.new) (O.counts outside.new).peers tv.new
-        (past_line left p) (Turned reading) [] result }
+    ensures goes { (run : TvRun) (start : Option History) (air : Loop) → air.lines ≡ before
+        → Carries run start (O.told outside.old) (O.counts outside.old).peers (with_tv air tv.old) reading line.now
+        → Goes run start (O.told outside.new) (O.counts outside.new).peers (past_line (with_tv air tv.new))
+        (Turned reading) [] result }
     ensures cause { HasCause (O.counts outside.old) (O.counts outside.new) result }
 {
     let event = match event_of(&line.verb, reading) {
@@ -97,10 +93,10 @@ pub(crate) fn carry_lines<O: Outside>(
     requires script { All IsScriptLine script.now }
     requires reading { reading < LIMIT }
     requires ranged { IsRanged air.old.turns }
-    ensures goes { (run : TvRun) (start : Option History) (p : Progress) (h : History) → run.script ≡ script.now
-        → Airs run start (O.told outside.old) (O.counts outside.old).peers air.old (Turned reading) p
-        (settled (addresses_in run.config) p) h
-        → Arrives run start (O.told outside.new) (O.counts outside.new).peers air.new IsTurned result }
+    ensures goes { (run : TvRun) (start : Option History) → run.script ≡ script.now
+        → Settles run start (O.told outside.old) (O.counts outside.old).peers air.old (Turned reading) []
+        → Arrives run start (O.told outside.new)
+        (IsTurned run start (O.told outside.new) (O.counts outside.new).peers air.new) result }
     ensures turns { air.new.turns ≡ air.old.turns }
     ensures cause { HasCause (O.counts outside.old) (O.counts outside.new) result }
 {

@@ -1,13 +1,15 @@
-ghost use Rattle.std.specs.Prelude.{◌≡◌, ◌≢◌, ◌∷◌, [], ℕ, List, Option, OnOk, IfErr};
+ghost use Rattle.std.specs.Prelude.{◌≡◌, ◌≢◌, ◌∷◌, [], ℕ, List, Option, IfErr};
 ghost use Rattle.css_model.specs.History.{History};
-ghost use Rattle.css_tv.specs.Standing.{IsEvent, IsFresh, calls_of};
+ghost use Rattle.css_tv.specs.Standing.{IsEvent};
+ghost use Rattle.css_tv.specs.declared.event.TvEvent.TheVariants as events;
 ghost use Rattle.css_tv.specs.declared.event.TvOut.{TvOut as Output};
 ghost use Rattle.css_outside.specs.Faults.{CountsOutFault};
 ghost use Rattle.css_drive.specs.Ends.{CountsNetFault};
 ghost use Rattle.css_drive.specs.TvDue.{TvRun};
-ghost use Rattle.css_drive.specs.TvProgress.{Progress, happened, settled, addresses_in};
-ghost use Rattle.css_drive.specs.TvStanding.{IsFault, HasCause, Closes, Told, Stays, Stands, Goes, IsAccepted};
+ghost use Rattle.css_drive.specs.TvProgress.{Place};
+ghost use Rattle.css_drive.specs.TvStanding.{IsFault, HasCause, Happens, Settles, Goes, with_tv};
 ghost use Rattle.css_drive.specs.declared.driven.Driven.TheVariants as driven;
+ghost use Rattle.css_drive.specs.declared.on_air.OnAir.{OnAir as Loop};
 
 use crate::driven::Driven;
 use css_outside::{OutFault, Outside, Wrote};
@@ -28,7 +30,9 @@ pub(crate) fn fault_of(fault: OutFault) -> Driven
 
 /// Tells the television that a session closed.
 fn close(alloc: Global, tv: &mut Tv, peer: u32) -> Result<(), Driven>
-    ensures closes { OnOk result (Closes peer tv.old tv.new) }
+    ensures goes { (run : TvRun) (start told : Option History) (peers : ℕ) (air : Loop) (place : Place)
+        (rest : List Output) → Happens run start told peers (with_tv air tv.old) place rest (events.Closed peer)
+        → Goes run start told peers (with_tv air tv.new) place rest result }
     ensures fault { IfErr result (λ ended. ended ≡ driven.Memory) }
 {
     let mut none = Vec::new(alloc);
@@ -45,9 +49,10 @@ fn put_one<O: Outside>(
     outside: &mut O,
     out: &TvOut,
 ) -> Result<(), Driven>
-    ensures goes { (run : TvRun) (start : Option History) (p : Progress) (h : History) (rest : List Output)
-        → Stands run start (O.told outside.old) (O.counts outside.old).peers tv.old p h → p.owed ≡ out.now ∷ rest
-        → Goes run start (O.told outside.new) (O.counts outside.new).peers tv.new p p.place rest result }
+    ensures goes { (run : TvRun) (start : Option History) (air : Loop) (place : Place) (rest : List Output)
+        → Settles run start (O.told outside.old) (O.counts outside.old).peers (with_tv air tv.old) place
+        (out.now ∷ rest)
+        → Goes run start (O.told outside.new) (O.counts outside.new).peers (with_tv air tv.new) place rest result }
     ensures cause { HasCause (O.counts outside.old) (O.counts outside.new) result }
 {
     match out {
@@ -70,9 +75,9 @@ pub(crate) fn put_all<O: Outside>(
     outside: &mut O,
     outs: &mut Vec<TvOut>,
 ) -> Result<(), Driven>
-    ensures goes { (run : TvRun) (start : Option History) (p : Progress) (h : History)
-        → Stands run start (O.told outside.old) (O.counts outside.old).peers tv.old p h → p.owed ≡ outs.old.items
-        → Goes run start (O.told outside.new) (O.counts outside.new).peers tv.new p p.place [] result }
+    ensures goes { (run : TvRun) (start : Option History) (air : Loop) (place : Place)
+        → Settles run start (O.told outside.old) (O.counts outside.old).peers (with_tv air tv.old) place outs.old.items
+        → Goes run start (O.told outside.new) (O.counts outside.new).peers (with_tv air tv.new) place [] result }
     ensures cause { HasCause (O.counts outside.old) (O.counts outside.new) result }
 {
     outs.reverse();
@@ -90,14 +95,9 @@ pub(crate) fn play<O: Outside>(
     event: TvEvent,
 ) -> Result<(), Driven>
     requires { IsEvent event tv.old.stage }
-    ensures goes { (run : TvRun) (start : Option History) (p : Progress) (h : History)
-        → Told run start (O.told outside.old) (O.counts outside.old).peers
-        (settled (addresses_in run.config) (happened (addresses_in run.config) event p)) h
-        → Stays run tv.old (O.counts outside.old).peers p → p.owed ≡ []
-        → IsFresh event (calls_of (addresses_in run.config) p.events).sessions
-        → IsAccepted event (O.counts outside.old).peers
-        → Goes run start (O.told outside.new) (O.counts outside.new).peers tv.new
-        (happened (addresses_in run.config) event p) p.place [] result }
+    ensures goes { (run : TvRun) (start : Option History) (air : Loop) (place : Place)
+        → Happens run start (O.told outside.old) (O.counts outside.old).peers (with_tv air tv.old) place [] event
+        → Goes run start (O.told outside.new) (O.counts outside.new).peers (with_tv air tv.new) place [] result }
     ensures cause { HasCause (O.counts outside.old) (O.counts outside.new) result }
 {
     let mut outs = Vec::new(alloc);

@@ -7,10 +7,8 @@ ghost use Rattle.css_schedule.specs.Ranges.{IsScriptLine};
 ghost use Rattle.css_schedule.specs.declared.line.ScriptLine.{ScriptLine as Line};
 ghost use Rattle.css_drive.specs.TvDue.{TvRun, run_of};
 ghost use Rattle.css_drive.specs.TvTurns.{IsRanged, IsOneMore, goes_on};
-ghost use Rattle.css_drive.specs.TvProgress.{Progress, Place};
 ghost use Rattle.css_drive.specs.TvRan.{TvRan, CountsTvRun};
-ghost use Rattle.css_drive.specs.TvStanding.{HasCause, Airs, Arrives, Reaches, Stops, Finishes, IsTurned, IsAtEnd};
-ghost use Rattle.css_drive.specs.TvStanding.{IsReady};
+ghost use Rattle.css_drive.specs.TvStanding.{HasCause, Arrives, Finishes, IsTurned, IsAtEnd, IsReady};
 ghost use Rattle.css_drive.specs.declared.driven.Driven.TheVariants as driven;
 
 use crate::driven::Driven;
@@ -35,10 +33,10 @@ fn begin<O: Outside>(
     requires script { All IsScriptLine script.now }
     requires ranged { IsRanged air.old.turns }
     requires more { goes_on air.old.turns ≡ true }
-    ensures goes { (run : TvRun) (start : Option History) (p : Progress) (h : History) (place : Place)
-        → run.script ≡ script.now → IsAtEnd run place p
-        → Airs run start (O.told outside.old) (O.counts outside.old).peers air.old place p p h
-        → Arrives run start (O.told outside.new) (O.counts outside.new).peers air.new IsTurned result }
+    ensures goes { (run : TvRun) (start : Option History) → run.script ≡ script.now
+        → IsAtEnd run start (O.told outside.old) (O.counts outside.old).peers air.old
+        → Arrives run start (O.told outside.new)
+        (IsTurned run start (O.told outside.new) (O.counts outside.new).peers air.new) result }
     ensures turns { OnOk result (IsOneMore air.old.turns air.new.turns) }
     ensures cause { HasCause (O.counts outside.old) (O.counts outside.new) result }
 {
@@ -58,10 +56,10 @@ fn turn<O: Outside>(
     requires ranged { IsRanged air.old.turns }
     requires more { goes_on air.old.turns ≡ true }
     requires ready { IsReady (O.told outside.old) (O.counts outside.old).peers air.old script.now }
-    ensures goes { (run : TvRun) (start : Option History) (p : Progress) (h : History) (place : Place)
-        → run.script ≡ script.now → IsAtEnd run place p
-        → Airs run start (O.told outside.old) (O.counts outside.old).peers air.old place p p h
-        → Arrives run start (O.told outside.new) (O.counts outside.new).peers air.new (IsAtEnd run) result }
+    ensures goes { (run : TvRun) (start : Option History) → run.script ≡ script.now
+        → IsAtEnd run start (O.told outside.old) (O.counts outside.old).peers air.old
+        → Arrives run start (O.told outside.new)
+        (IsAtEnd run start (O.told outside.new) (O.counts outside.new).peers air.new) result }
     ensures turns { OnOk result (IsOneMore air.old.turns air.new.turns) }
     ensures cause { HasCause (O.counts outside.old) (O.counts outside.new) result }
 {
@@ -85,7 +83,7 @@ fn make_turns<O: Outside>(
     requires ranged { IsRanged air.old.turns }
     requires ready { IsReady (O.told outside.old) (O.counts outside.old).peers air.old script.now }
     ensures ends { (run : TvRun) (start : Option History) → run.script ≡ script.now
-        → Reaches run start (O.told outside.old) (O.counts outside.old).peers air.old (IsAtEnd run)
+        → IsAtEnd run start (O.told outside.old) (O.counts outside.old).peers air.old
         → Finishes run start (O.told outside.new) driven.Done result }
     ensures cause { HasCause (O.counts outside.old) (O.counts outside.new) result }
 {
@@ -103,9 +101,8 @@ fn start<O: Outside>(alloc: Global, run: TvDrive, outside: &mut O) -> Result<OnA
     requires port { run.tv.port ≤ 65534 }
     requires limit { IsLimit run.limit }
     ensures goes { (script : List Line) → MatchResult result
-        (λ air. Reaches (run_of run script) (O.told outside.old) (O.told outside.new) (O.counts outside.new).peers air
-        (IsAtEnd (run_of run script)))
-        (Stops (run_of run script) (O.told outside.old) (O.told outside.new)) }
+        (λ air. IsAtEnd (run_of run script) (O.told outside.old) (O.told outside.new) (O.counts outside.new).peers air)
+        (TvRan (run_of run script) (O.told outside.old) (O.told outside.new)) }
     ensures ranged { IfOk result (λ air. IsRanged air.turns) }
     ensures cause { HasCause (O.counts outside.old) (O.counts outside.new) result }
 {

@@ -1,17 +1,20 @@
-use Rattle.std.proofs.Common.{◌≡◌, ◌+◌, ◌∙◌, ◌∷◌, ℕ, List, sym, subst, arith, drop, get_or}
-use Rattle.css_drive.proofs.TvSteps.{cause_later, cause_plain, stops_by_fault, peers_kept}
-use Rattle.css_drive.proofs.TvHears.{is_live}
+use Rattle.std.proofs.Common.{rules, ◌≡◌, ◌+◌, ◌∙◌, ◌∷◌, ℕ, List, sym, subst, arith, drop, get_or}
+use Rattle.css_drive.proofs.TvSteps.{cause_later, cause_plain, counts_kept, stops_by_fault, peers_kept}
+use Rattle.css_drive.proofs.TvMoves.{is_live, not_open}
 use Rattle.css_drive.proofs.TvLines.{peers_all}
-use Rattle.css_drive.proofs.TvLoops.{hung_next, hung_past, all_hung}
-use Rattle.css_drive.proofs.TvOpens.{not_open, peer_from, counts_kept}
+use Rattle.css_drive.proofs.TvLoops.{all_to_hang_up, hung_next, hung_past, all_hung}
+use Rattle.css_drive.proofs.TvOpens.{peer_from}
 use Rattle.css_drive.specs.TvStanding.{HangsUp, KeepsCounts}
 use Rattle.css_drive.proofs.tv_calls.hang_up_all.Goals.{then-is_open+in-Ok, else-is_open}
 use Rattle.css_drive.proofs.tv_calls.hang_up_all.Goals as goal
 
+pub loop-peer-init : goal.loop-peer-init
+loop-peer-init g c = record { goes = λ run start enough s. all_to_hang_up s enough; counts = search rules }
+
 pub returns-in-Err-clause-ends : goal.returns-in-Err-clause-ends
-returns-in-Err-clause-ends g c run start p h place s fits enough =
-    let x = c.loop-peer.invariant.goes run start p h place s fits enough in
-    stops_by_fault x.airs.is_at.history (g.O.Outside.told c.hang_up.new.self) c.in-Err.ensures.told c.fault_of.result
+returns-in-Err-clause-ends g c run start enough s =
+    let x = c.loop-peer.invariant.goes run start enough s in
+    stops_by_fault x.is_at.history (g.O.Outside.told c.hang_up.new.self) c.in-Err.ensures.told c.fault_of.result
     c.fault_of.ensures.fault
 
 pub loop-peer-preserved : goal.loop-peer-preserved
@@ -23,19 +26,19 @@ loop-peer-preserved g c =
     subst (λ (xs : List ℕ). drop i xs ≡ peer ∷ drop (i + 1) xs) c.deref-peer-items.ensures.value
     (peer_from c.deref-peer-items.result.now i c.loop-peer-test.true) in
     record {
-      goes = λ run start p h place s fits enough.
-          let x = c.loop-peer.invariant.goes run start p h place s fits enough in
+      goes = λ run start enough s.
+          let x = c.loop-peer.invariant.goes run start enough s in
           elim c.if-is_open.branch [
             | then-is_open+in-Ok w ↦
                 subst (λ o. HangsUp run start (g.O.Outside.told o) (g.O.Outside.counts o).peers c.args.air.now (i + 1))
                 (sym w.outside-is)
-                (hung_next x peer e (is_live x.airs.is_at.stays peer ∙ c.is_open.ensures.0 w.if-is_open.true) _
-                w.in-Ok.ensures.told _ (peers_kept w.in-Ok.ensures.counted))
+                (hung_next x peer e (is_live x.is_at peer ∙ c.is_open.ensures.0 w.if-is_open.true)
+                w.in-Ok.ensures.told (peers_kept w.in-Ok.ensures.counted))
             | else-is_open w ↦
                 subst (λ o. HangsUp run start (g.O.Outside.told o) (g.O.Outside.counts o).peers c.args.air.now (i + 1))
                 (sym w.outside-is)
                 (hung_past x peer e
-                (is_live x.airs.is_at.stays peer ∙ not_open _ _ c.is_open.ensures w.if-is_open.false))
+                (is_live x.is_at peer ∙ not_open _ _ c.is_open.ensures w.if-is_open.false))
           ];
       counts = elim c.if-is_open.branch [
         | then-is_open+in-Ok w ↦
@@ -48,16 +51,13 @@ loop-peer-preserved g c =
     }
 
 pub returns-clause-ends : goal.returns-clause-ends
-returns-clause-ends g c run start p h place s fits enough =
-    let x = c.loop-peer.invariant.goes run start p h place s fits enough in
+returns-clause-ends g c run start enough s =
+    let x = c.loop-peer.invariant.goes run start enough s in
     let over = c.loop-peer-test.false in
     all_hung x (peers_all c.args.air.now.peers.items c.loop-peer.peer-index (omega (arith, over))) enough
 
 pub returns-in-Err-clause-cause : goal.returns-in-Err-clause-cause
 returns-in-Err-clause-cause g c =
-    let mid = g.O.Outside.counts c.loop-peer.outside in
-    cause_later (g.O.Outside.counts c.args.outside.now) mid (g.O.Outside.counts c.hang_up.new.self) c.fault_of.result
-    c.loop-peer.invariant.counts
-    (cause_plain mid (g.O.Outside.counts c.hang_up.new.self) c.fault_of.result
-    c.in-Err.ensures.counted (c.fault_of.ensures.counted _ _ c.in-Err.ensures.counted.faults)
+    cause_later _ _ _ _ c.loop-peer.invariant.counts
+    (cause_plain _ _ _ c.in-Err.ensures.counted (c.fault_of.ensures.counted _ _ c.in-Err.ensures.counted.faults)
     c.fault_of.ensures.no_writes)

@@ -1,43 +1,40 @@
-use Rattle.std.proofs.Common.{refl, [], ◌∷◌, Some, ℕ, List}
-use Rattle.css_model.specs.History.{Heard, Closed}
+use Rattle.std.proofs.Common.{refl, sym, subst, [], ◌∷◌, Some, ℕ, List}
+use Rattle.css_model.specs.History.{Quiet, Heard, Closed}
+use Rattle.css_outside.specs.declared.calls.Heard.TheVariants as heard
 use Rattle.css_tv.specs.declared.event.TvEvent.TheVariants as event
-use Rattle.css_drive.specs.TvProgress.{Progress, Asked, addresses_in, happened}
-use Rattle.css_drive.proofs.TvSteps.{cause_plain, goes_on, stays_on, peers_kept}
-use Rattle.css_drive.proofs.TvHears.{quiet_heard, text_told, closing_told, asked_continues}
+use Rattle.css_drive.specs.Proper.{MayAdd}
+use Rattle.css_drive.specs.TvProgress.{Asked}
+use Rattle.css_drive.proofs.TvSteps.{cause_plain, peers_kept, moved, happens, told_plain}
 use Rattle.css_drive.proofs.tv_calls.hear.Goals as goal
 
 pub returns-in-Ok-Quiet-clause-goes : goal.returns-in-Ok-Quiet-clause-goes
-returns-in-Ok-Quiet-clause-goes g c run start p h last s d =
-    quiet_heard s c.args.peer d _ (rw c.in-Ok-Quiet.field-0-is at c.in-Ok-Quiet.ensures.told) _
-    (peers_kept c.in-Ok-Quiet.ensures.counted)
+returns-in-Ok-Quiet-clause-goes g c run start air s =
+    let call = Quiet c.args.peer ∷ [] in
+    moved s.is_at call tt (subst (λ d. MayAdd d call) (sym s.asks) (heard.Quiet, refl))
+    (rw c.in-Ok-Quiet.field-0-is at c.in-Ok-Quiet.ensures.told) (peers_kept c.in-Ok-Quiet.ensures.counted) _ refl refl _
+    refl
 
 pub returns-in-Ok-Text-clause-goes : goal.returns-in-Ok-Text-clause-goes
-returns-in-Ok-Text-clause-goes g c run start p h last s d =
+returns-in-Ok-Text-clause-goes g c run start air s =
     let peer : ℕ = c.args.peer in
     let text : List ℕ = c.in-Ok-Text.text in
-    let q : Progress = record p { place = Asked (Some peer) } in
+    let call = Heard peer text ∷ [] in
     let le = peers_kept c.in-Ok-Text.ensures.counted in
-    let t = text_told s peer d text _ (rw c.in-Ok-Text.field-0-is at c.in-Ok-Text.ensures.told) _ le in
-    goes_on run start (g.O.Outside.told c.play.new.outside) (g.O.Outside.counts c.play.new.outside).peers c.play.new.tv
-    p (happened (addresses_in run.config) (event.Heard peer text) q) (Asked (Some peer)) [] c.play.result
-    (asked_continues run p (Asked (Some peer)) (event.Heard peer text) tt)
-    (c.play.ensures.goes run start q (Heard peer text ∷ h) t (stays_on s.stays q refl refl refl _ le) s.owes tt tt)
+    c.play.ensures.goes run start air (Asked (Some peer)) (happens s.is_at (event.Heard peer text) tt le _ refl refl
+    (told_plain s.is_at.history call tt (subst (λ d. MayAdd d call) (sym s.asks) (heard.Text text, refl))
+    (rw c.in-Ok-Text.field-0-is at c.in-Ok-Text.ensures.told) le))
 
 pub returns-in-Ok-Closed-clause-goes : goal.returns-in-Ok-Closed-clause-goes
-returns-in-Ok-Closed-clause-goes g c run start p h last s d =
+returns-in-Ok-Closed-clause-goes g c run start air s =
     let peer : ℕ = c.args.peer in
-    let q : Progress = record p { place = Asked (Some peer) } in
+    let call = Closed peer ∷ [] in
     let le = peers_kept c.in-Ok-Closed.ensures.counted in
-    let t = closing_told s peer d _ (rw c.in-Ok-Closed.field-0-is at c.in-Ok-Closed.ensures.told) _ le in
-    goes_on run start (g.O.Outside.told c.play-in-Ok-Closed.new.outside)
-    (g.O.Outside.counts c.play-in-Ok-Closed.new.outside).peers c.play-in-Ok-Closed.new.tv
-    p (happened (addresses_in run.config) (event.Closed peer) q) (Asked (Some peer)) [] c.play-in-Ok-Closed.result
-    (asked_continues run p (Asked (Some peer)) (event.Closed peer) tt)
-    (c.play-in-Ok-Closed.ensures.goes run start q (Closed peer ∷ h) t (stays_on s.stays q refl refl refl _ le) s.owes tt
-    tt)
+    c.play-in-Ok-Closed.ensures.goes run start air (Asked (Some peer))
+    (happens s.is_at (event.Closed peer) tt le _ refl refl
+    (told_plain s.is_at.history call tt (subst (λ d. MayAdd d call) (sym s.asks) (heard.Closed, refl))
+    (rw c.in-Ok-Closed.field-0-is at c.in-Ok-Closed.ensures.told) le))
 
 pub returns-in-Err-clause-cause : goal.returns-in-Err-clause-cause
 returns-in-Err-clause-cause g c =
-    cause_plain (g.O.Outside.counts c.args.outside.now) (g.O.Outside.counts c.take_text.new.self)
-    c.fault_of.result c.in-Err.ensures.counted (c.fault_of.ensures.counted _ _ c.in-Err.ensures.counted.faults)
+    cause_plain _ _ _ c.in-Err.ensures.counted (c.fault_of.ensures.counted _ _ c.in-Err.ensures.counted.faults)
     c.fault_of.ensures.no_writes

@@ -3,6 +3,5 @@ use Rattle.css_drive.proofs.tv_calls.send.Goals as goal
 
 pub returns-in-Err-clause-cause : goal.returns-in-Err-clause-cause
 returns-in-Err-clause-cause g c =
-    cause_plain (g.O.Outside.counts c.args.outside.now) (g.O.Outside.counts c.send_datagram.new.self)
-    c.fault_of.result c.in-Err.ensures.counted (c.fault_of.ensures.counted _ _ c.in-Err.ensures.counted.faults)
+    cause_plain _ _ _ c.in-Err.ensures.counted (c.fault_of.ensures.counted _ _ c.in-Err.ensures.counted.faults)
     c.fault_of.ensures.no_writes

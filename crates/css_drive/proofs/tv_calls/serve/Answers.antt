@@ -1,31 +1,31 @@
-use Rattle.std.proofs.Common.{arith, [], refl, ℕ, List, take}
+use Rattle.std.proofs.Common.{arith, [], ◌∷◌, refl, ℕ, List, take, Some, None}
 use Rattle.std.proofs.lemmas.Grind.{common_steps}
-use Rattle.css_drive.specs.TvProgress.{Progress, Taken, Served, addresses_in}
-use Rattle.css_drive.proofs.TvSteps.{cause_plain, peers_kept, goes_on, continues}
-use Rattle.css_drive.proofs.TvDatagrams.{took_none, took_one}
+use Rattle.css_model.specs.History.{Took, TookNone}
+use Rattle.css_drive.specs.TvStanding.{with_tv}
+use Rattle.css_drive.proofs.TvSteps.{cause_plain, peers_kept, moved}
+use Rattle.css_drive.proofs.TvMoves.{may_take}
 use Rattle.css_drive.proofs.tv_calls.serve.Goals as goal
 
 pub returns-in-Ok-None-clause-goes : goal.returns-in-Ok-None-clause-goes
-returns-in-Ok-None-clause-goes g c run start p h reading s on =
-    took_none s on [] _ (rw c.in-Ok-None.field-0-is at c.in-Ok-None.ensures.told) _
-    (peers_kept c.in-Ok-None.ensures.counted)
+returns-in-Ok-None-clause-goes g c run start air reading on s =
+    moved s (TookNone ∷ []) tt
+    (may_take run (with_tv air c.args.tv.now) reading s.events on (TookNone ∷ []) ([], None, refl))
+    (rw c.in-Ok-None.field-0-is at c.in-Ok-None.ensures.told) (peers_kept c.in-Ok-None.ensures.counted) _ refl refl _
+    refl
 
 pub returns-in-Ok-Some-clause-goes : goal.returns-in-Ok-Some-clause-goes
-returns-in-Ok-Some-clause-goes g c run start p h reading s on =
+returns-in-Ok-Some-clause-goes g c run start air reading on s =
     let peer : ℕ = c.in-Ok-Some.peer in
     let count : ℕ = c.in-Ok-Some.count in
     let bytes : List ℕ = c.take_datagram.new.into in
-    let q : Progress = record p { place = Taken peer (take count bytes) } in
-    let x =
-    took_one s on bytes peer count _ (rw c.in-Ok-Some.field-0-is at c.in-Ok-Some.ensures.told) _
-    (peers_kept c.in-Ok-Some.ensures.counted) in
-    goes_on run start (g.O.Outside.told c.receive.new.outside) (g.O.Outside.counts c.receive.new.outside).peers
-    c.receive.new.tv
-    p q Served [] c.receive.result (continues (addresses_in run.config) p q refl refl refl refl)
-    (c.receive.ensures.goes run start q _ (take count bytes) x (grind (arith, common_steps)))
+    let call = Took peer (take count bytes) ∷ [] in
+    c.receive.ensures.goes run start air (take count bytes) (grind (arith, common_steps))
+    (moved s call tt
+    (may_take run (with_tv air c.args.tv.now) reading s.events on call (bytes, Some (peer, count), refl))
+    (rw c.in-Ok-Some.field-0-is at c.in-Ok-Some.ensures.told) (peers_kept c.in-Ok-Some.ensures.counted) _ refl refl _
+    refl)
 
 pub returns-in-Err-clause-cause : goal.returns-in-Err-clause-cause
 returns-in-Err-clause-cause g c =
-    cause_plain (g.O.Outside.counts c.args.outside.now) (g.O.Outside.counts c.take_datagram.new.self)
-    c.fault_of.result c.in-Err.ensures.counted (c.fault_of.ensures.counted _ _ c.in-Err.ensures.counted.faults)
+    cause_plain _ _ _ c.in-Err.ensures.counted (c.fault_of.ensures.counted _ _ c.in-Err.ensures.counted.faults)
     c.fault_of.ensures.no_writes

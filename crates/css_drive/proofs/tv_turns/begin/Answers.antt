@@ -1,16 +1,12 @@
-use Rattle.std.proofs.Common.{◌∙◌, ℕ}
-use Rattle.css_drive.specs.TvProgress.{Progress, Turned}
-use Rattle.css_drive.specs.TvTurns.{begun}
-use Rattle.css_drive.proofs.TvCarries.{turn_begins, ranged_on, on_ok}
+use Rattle.std.proofs.Common.{◌∙◌}
+use Rattle.css_drive.proofs.TvMoves.{turn_begins, ranged_on, on_ok}
 use Rattle.css_drive.proofs.tv_turns.begin.Goals as goal
 
 pub returns-clause-goes : goal.returns-clause-goes
-returns-clause-goes g c run start p h place script fits s =
-    let r : ℕ = c.in_ok-reading.reading in
-    let q : Progress = record p { turns = begun r p.turns; place = Turned r } in
-    c.carry_lines.ensures.goes run start q _ script
-    (turn_begins s fits c.requires.more r _ c.in_ok-reading.ensures.told _ c.in_ok-reading.ensures.cause.peers
-    c.begin.new.self c.begin.ensures)
+returns-clause-goes g c run start script s =
+    c.carry_lines.ensures.goes run start script
+    (turn_begins s c.requires.more c.in_ok-reading.reading c.in_ok-reading.ensures.told
+    c.in_ok-reading.ensures.cause.peers c.begin.new.self c.begin.ensures)
 
 pub carry_lines-requires-clause-ranged : goal.carry_lines-requires-clause-ranged
 carry_lines-requires-clause-ranged g c =

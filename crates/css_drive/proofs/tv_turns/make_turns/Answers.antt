@@ -8,16 +8,16 @@ turn-requires-clause-ready g c =
     record {
       run = r.run;
       start = r.start;
-      reaches = c.turns.invariant.goes r.run r.start r.script_so r.reaches;
+      at_end = c.turns.invariant.goes r.run r.start r.script_so r.at_end;
       script_so = r.script_so;
     }
 
 pub returns-in_err-turn-clause-ends : goal.returns-in_err-turn-clause-ends
-returns-in_err-turn-clause-ends g c run start script reaches =
-    let x = c.turns.invariant.goes run start script reaches in
-    at_err _ _ _ _ c.from_residual.ensures.1 (c.in_err-turn.ensures.goes run start x.p x.h x.place script x.fits x.airs)
+returns-in_err-turn-clause-ends g c run start script s =
+    at_err _ _ _ _ c.from_residual.ensures.1
+    (c.in_err-turn.ensures.goes run start script (c.turns.invariant.goes run start script s))
 
 pub returns-clause-ends : goal.returns-clause-ends
-returns-clause-ends g c run start script reaches =
-    let x = c.turns.invariant.goes run start script reaches in
-    c.hang_up_all.ensures.ends run start x.p x.h x.place x.airs x.fits (sym c.goes_on.ensures ∙ c.turns-test.false)
+returns-clause-ends g c run start script s =
+    c.hang_up_all.ensures.ends run start (sym c.goes_on.ensures ∙ c.turns-test.false)
+    (c.turns.invariant.goes run start script s)

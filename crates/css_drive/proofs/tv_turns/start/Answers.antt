@@ -24,7 +24,7 @@ returns-in-Ok-new-clause-goes g c script =
     begun (run_of c.args.run script) (g.O.Outside.told c.args.outside.now) (g.O.Outside.told c.listen.new.self)
     (g.O.Outside.counts c.listen.new.self).peers
     c.in-Ok.ensures.told _ c.in-Ok-new.ensures.addresses c.in-Ok-new.ensures.stands c.in-Ok-new.ensures.server
-    c.new-in-Ok-new.ensures.items refl c.new-turns.ensures
+    c.new-in-Ok-new.ensures.items c.new-turns.ensures refl
 
 pub returns-in-Ok-new-clause-ranged : goal.returns-in-Ok-new-clause-ranged
 returns-in-Ok-new-clause-ranged g c =
@@ -32,6 +32,5 @@ returns-in-Ok-new-clause-ranged g c =
 
 pub returns-in-Err-clause-cause : goal.returns-in-Err-clause-cause
 returns-in-Err-clause-cause g c =
-    cause_plain (g.O.Outside.counts c.args.outside.now) (g.O.Outside.counts c.listen.new.self)
-    c.fault_of.result c.in-Err.ensures.counted (c.fault_of.ensures.counted _ _ c.in-Err.ensures.counted.faults)
+    cause_plain _ _ _ c.in-Err.ensures.counted (c.fault_of.ensures.counted _ _ c.in-Err.ensures.counted.faults)
     c.fault_of.ensures.no_writes
