@@ -3,7 +3,7 @@ use Rattle.css_cii.specs.States.{empty}
 use Rattle.css_cii.specs.declared.state.State.{State}
 use Rattle.std.proofs.Common.{◌≡◌, ap₂, ℕ, ◌≤◌, ◌<◌, arith, ap, sym, ◌∙◌, subst, refl, Bool, true, false, cond, inl}
 use Rattle.std.proofs.Common.{inr, List, [], ◌∷◌, ◌++◌, drop, get_or, length, Option, Some, None}
-use Rattle.std.specs.Prelude.{◌⊎◌, ◌||◌, ◌+◌, ◌&&◌, ◌*◌, is_some, nat_lt, nat_le, not, unwrap_or}
+use Rattle.std.specs.Prelude.{◌⊎◌, ◌||◌, ◌+◌, ◌&&◌, ◌*◌, is_some, nat_lt, nat_le, unwrap_or}
 use Rattle.std.specs.Option.{ForSome}
 use Rattle.std.proofs.lemmas.List.Elements.{All-nil}
 use Rattle.css_model.specs.History.{HungUp, History, Listening}
@@ -32,6 +32,7 @@ use Rattle.css_outside.specs.declared.limit.Limit.TheVariants.{Turns, Seconds}
 use Rattle.css_drive_relay.specs.declared.config.RelayRun.{RelayRun}
 use Rattle.css_drive_relay.specs.declared.live.Live.{Live}
 use Rattle.css_drive_relay.proofs.Peers.{accepted, television, unused, peers_quiet, still}
+use Rattle.css_drive_relay.proofs.Follows.{one_more}
 use Rattle.css_drive_relay.proofs.Serves.{same_faults}
 use Rattle.css_drive_relay.proofs.Steps.{knows_plain, knows_clock, lawful, runs_more, runs_on, runs_read, kinds_read}
 use Rattle.css_drive_relay.proofs.Steps.{numbers_read, stops_here}
@@ -283,15 +284,6 @@ most_few (Seconds seconds) range = omega arith
 some_turns : (limit : Limit) → IsLimit limit → 1 ≤ most_turns limit
 some_turns (Turns turns) range = range.0
 some_turns (Seconds seconds) range = omega arith
-
-pub one_more : (run : RelayRun) (f : Facts) → goes_on run.limit f.first f.turn f.turns ≡ true
-    → f.turns < most_turns run.limit
-one_more run f on = by (nat_lt f.turns (most_turns run.limit)) refl on
-  where
-    by : (b : Bool) → nat_lt f.turns (most_turns run.limit) ≡ b
-        → (b && not (is_late run.limit f.first f.turn)) ≡ true → f.turns < most_turns run.limit
-    by true e on = grind (arith, nat_tests, e)
-    by false e on = absurd cc
 
 pub few_turns : (run : RelayRun) (f : Facts) → goes_on run.limit f.first f.turn f.turns ≡ true
     → f.turns < 1099511627776
