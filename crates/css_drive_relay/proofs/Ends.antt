@@ -2,7 +2,7 @@
 use Rattle.css_cii.specs.States.{empty}
 use Rattle.css_cii.specs.declared.state.State.{State}
 use Rattle.std.proofs.Common.{◌≡◌, ap₂, ℕ, ◌≤◌, ◌<◌, arith, ap, sym, ◌∙◌, subst, refl, Bool, true, false, cond, inl}
-use Rattle.std.proofs.Common.{inr, List, [], ◌∷◌, ◌++◌, drop, get_or, length, Option, Some, None}
+use Rattle.std.proofs.Common.{inr, List, [], ◌∷◌, drop, get_or, length, Option, Some, None}
 use Rattle.std.specs.Prelude.{◌⊎◌, ◌||◌, ◌+◌, ◌&&◌, ◌*◌, is_some, nat_lt, nat_le, unwrap_or}
 use Rattle.std.specs.Option.{ForSome}
 use Rattle.std.proofs.lemmas.List.Elements.{All-nil}
@@ -16,26 +16,23 @@ use Rattle.css_drive.specs.Proper.{Due, Now, HangUp, Ends, Listen, Empty}
 use Rattle.css_model.specs.declared.Why.TheVariants as why
 use Rattle.css_drive.specs.declared.driven.Driven.{Driven}
 use Rattle.css_drive.specs.declared.driven.Driven.TheVariants as driven
-use Rattle.css_drive.proofs.CompanionCalls.{same_peers}
 use Rattle.css_drive.proofs.CompanionRuns.{no_entries}
 use Rattle.css_drive.proofs.TvLines.{peers_all}
 use Rattle.css_drive.proofs.TvOpens.{peer_from}
 use Rattle.css_drive_relay.specs.Places.{Facts, Place, Progress, Asked, Over, after, all_open, without_first, Begun}
 use Rattle.css_drive_relay.specs.Places.{beginning, with_turn}
 use Rattle.css_drive_relay.specs.Due.{due_at, final, from_hang_ups}
-use Rattle.css_drive_relay.specs.Standing.{IsAccepted, Runs, Stands, IsAt, Stops, IsHanging, HangsUp, KeepsDials}
+use Rattle.css_drive_relay.specs.Standing.{IsPeer, KnowsPeers, Runs, Stands, IsAt, Stops, IsHanging, HangsUp, KeepsDials}
 use Rattle.css_drive_relay.specs.Standing.{facts_in, stood, Knows, HasRead, listening, named}
 use Rattle.css_outside.specs.Limits.{IsLimit, most_turns}
-use Rattle.css_outside.specs.Outsides.{Counts, with_entries, clock_entries}
+use Rattle.css_outside.specs.Outsides.{Counts}
 use Rattle.css_outside.specs.declared.limit.Limit.{Limit}
 use Rattle.css_outside.specs.declared.limit.Limit.TheVariants.{Turns, Seconds}
 use Rattle.css_drive_relay.specs.declared.config.RelayRun.{RelayRun}
 use Rattle.css_drive_relay.specs.declared.live.Live.{Live}
-use Rattle.css_drive_relay.proofs.Peers.{accepted, television, unused, peers_quiet, still}
 use Rattle.css_drive_relay.proofs.Follows.{one_more}
-use Rattle.css_drive_relay.proofs.Serves.{same_faults}
-use Rattle.css_drive_relay.proofs.Steps.{knows_plain, knows_clock, lawful, runs_more, runs_on, runs_read, kinds_read}
-use Rattle.css_drive_relay.proofs.Steps.{numbers_read, stops_here}
+use Rattle.css_drive_relay.proofs.Steps.{knows_plain, knows_clock, lawful, runs_read, stands_on, stands_as, here}
+use Rattle.css_drive_relay.proofs.Steps.{stops_here}
 use Rattle.css_drive_relay.specs.Ran.{RelayRan}
 use Rattle.css_drive_relay.specs.Places as places
 use Rattle.css_outside.specs.declared.calls.Clocked.{Clocked}
@@ -73,27 +70,20 @@ module _ {run : RelayRun} {start now : Shown} {live : Live} {relay : Relay} wher
       → Adds now next (HungUp peer ∷ [])
       → HangsUp run start next relay live (all_open (facts_in live)) later
   hung {index} next x enough peer later is a =
-      let le = same_peers a.same in
       let rest : List ℕ = drop later (all_open (facts_in live)) in
+      let goes : after run (HungUp peer) x.history (stood live x.place) ≡ stood live (Over rest) =
+      after_hanging run live x.history peer index rest x.place x.hanging is in
       record {
         history = HungUp peer ∷ x.history;
         place = Over rest;
         hanging = inr refl;
-        stands = record {
-          runs = runs_more x.stands.runs (HangUp peer)
-              (due_hanging run live x.history enough index x.place x.hanging
-              ∙ ap (from_hang_ups (final (facts_in live))) is) (HungUp peer ∷ []) refl next a.told
-              (same_faults a.same) (stood live (Over rest))
-              (ap (λ (p : Progress). after run (HungUp peer) x.history p) x.stands.runs.progress
-              ∙ after_hanging run live x.history peer index rest x.place x.hanging is)
-              (record {
-                accepted = accepted x.stands.runs.peers le (λ q. refl);
-                waiting = All-nil (IsAccepted next.counts.peers (HungUp peer ∷ x.history));
-                television = television x.stands.runs.peers le (λ q. refl);
-                unused = unused x.stands.runs.peers le (λ q. refl) (still x.stands.runs.peers le);
-              });
-          knows = knows_plain x.stands.knows (HungUp peer) refl refl refl refl refl refl refl;
-        };
+        stands = stands_as (stands_on x.stands (HangUp peer)
+            (due_hanging run live x.history enough index x.place x.hanging ∙ ap (from_hang_ups (final (facts_in live))) is)
+            (HungUp peer) refl a (λ k. knows_plain k (HungUp peer) refl refl refl refl refl refl refl)
+            (λ n y.
+            subst (λ (q : Progress). KnowsPeers n q x.history) (sym goes)
+            (y.0, All-nil (IsPeer n x.history None), y.2, y.3)))
+            (stood live (Over rest)) goes;
       }
 
   -- all of them were
@@ -191,30 +181,18 @@ at_first run now = record {
   faults = refl;
   proper = Empty;
   progress = refl;
-  peers = record {
-    accepted = All-nil (IsAccepted now.counts.peers []);
-    waiting = All-nil (IsAccepted now.counts.peers []);
-    television = record { is = tt };
-    unused = record { none = λ peer lt. refl; numbered = (tt, tt) };
-  };
+  peers = (All-nil (IsPeer (now.counts.peers + 1) [] None), All-nil (IsPeer (now.counts.peers + 1) [] None), tt, tt);
+  numbered = tt;
 }
 
 -- the relay listens
 pub listens : (run : RelayRun) (now next : Shown) (relay : Relay) → Knows run relay []
-    → next.told ≡ with_entries (Listening run.host run.port ∷ []) now.told
-    → next.counts.faults ≡ now.counts.faults → next.counts ≡ record now.counts { faults = next.counts.faults }
+    → Adds now next (Listening run.host run.port ∷ [])
     → Stands run now next relay listening (Listening run.host run.port ∷ [])
-listens run now next relay k told faults same = record {
-  runs = runs_on (at_first run now) (Listen run.host run.port) refl (Listening run.host run.port) refl next told
-      faults
-      (record {
-        accepted = All-nil (IsAccepted next.counts.peers (Listening run.host run.port ∷ []));
-        waiting = All-nil (IsAccepted next.counts.peers (Listening run.host run.port ∷ []));
-        television = record { is = tt };
-        unused = record { none = λ peer lt. refl; numbered = (tt, tt) };
-      });
-  knows = knows_plain k (Listening run.host run.port) refl refl refl refl refl refl refl;
-}
+listens run now next relay k a =
+    stands_on (record { runs = at_first run now; knows = k }) (Listen run.host run.port) refl
+    (Listening run.host run.port) refl a
+    (λ known. knows_plain known (Listening run.host run.port) refl refl refl refl refl refl refl) (λ n x. x)
 
 pub ran_by : {run : RelayRun} {start now : Shown} {ended : Driven} → Stops run start now ended
     → RelayRan run start.told now.told ended
@@ -328,18 +306,11 @@ pub begun : {run : RelayRun} {start now next : Shown} {was is : Relay} {live lat
     → HasRead now next live later was is why.Turn clocked
     → facts_in last ≡ with_turn clocked.reading (facts_in later)
     → IsAt run start next is last (places.begun run (facts_in last))
-begun {run} {next = next} {is = relay} {live} {later} {last} {history} s d clocked r e =
-    let n = r.peers in
-    record {
-      history = clock_entries why.Turn clocked ++ history;
-      stands = record {
-        runs = runs_read s.runs why.Turn d clocked next r (stood last (places.begun run (facts_in last)))
-            (ap (λ (f : Facts). record { facts = f; place = places.begun run f }) (sym e))
-            (peers_quiet s.runs.peers (omega (arith, n)) (kinds_read why.Turn clocked history)
-            (numbers_read next.counts.peers why.Turn clocked history (still s.runs.peers (omega (arith, n))))
-            (ap {A = Facts} (λ x. x.peers) e ∙ ap {A = Facts} (λ x. x.peers) r.only)
-            (ap {A = Facts} (λ x. x.television) e ∙ ap {A = Facts} (λ x. x.television) r.only)
-            (none_named (is_late run.limit last.first last.turn)));
-        knows = knows_clock clocked history why.Turn refl (λ older. refl) (r.known run history s.knows);
-      };
-    }
+begun {run} {last = last} {history} s d clocked r e =
+    here (record {
+      runs = runs_read s.runs why.Turn d clocked r (stood last (places.begun run (facts_in last)))
+          (ap (λ (f : Facts). record { facts = f; place = places.begun run f }) (sym e))
+          (ap {A = Facts} (λ x. x.peers) e) (ap {A = Facts} (λ x. x.television) e)
+          (none_named (is_late run.limit last.first last.turn));
+      knows = knows_clock clocked history why.Turn refl (λ older. refl) (r.known run history s.knows);
+    })

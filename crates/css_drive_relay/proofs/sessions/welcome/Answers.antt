@@ -1,4 +1,4 @@
-use Rattle.std.proofs.Common.{◌≡◌, refl, arith, ℕ}
+use Rattle.std.proofs.Common.{refl}
 use Rattle.css_drive_relay.proofs.Openings as openings
 use Rattle.css_drive_relay.proofs.Steps as steps
 use Rattle.std.specs.Prelude.{length}
@@ -12,11 +12,8 @@ returns-in-Err-clause-goes g c start relay h s =
 
 pub returns-in-Ok-None-clause-goes : goal.returns-in-Ok-None-clause-goes
 returns-in-Ok-None-clause-goes g c start relay h s =
-    let n : ℕ = (g.O.Outside.counts c.args.outside.now).peers in
-    let m : ℕ = (g.O.Outside.counts c.accept.new.self).peers in
-    let is : m ≡ n = rw c.in-Ok-None.field-0-is at c.in-Ok-None.ensures.counted.peer in
     openings.none_came c.args.live.now s (rw c.in-Ok-None.field-0-is at c.in-Ok-None.ensures.told)
-    c.in-Ok-None.ensures.counted.faults (omega (arith, is))
+    c.in-Ok-None.ensures.counted.faults (rw c.in-Ok-None.field-0-is at c.in-Ok-None.ensures.counted.peer)
 
 pub returns-in-Ok-Some-clause-goes : goal.returns-in-Ok-Some-clause-goes
 returns-in-Ok-Some-clause-goes g c start relay h s =

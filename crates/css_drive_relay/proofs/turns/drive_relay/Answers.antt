@@ -19,8 +19,8 @@ returns-clause-ran g c =
 pub returns-in-Ok-listen-clause-ran : goal.returns-in-Ok-listen-clause-ran
 returns-in-Ok-listen-clause-ran g c =
     ends.ran_by (c.make_turns.ensures.ends _ _
-    (ends.listens c.args.config _ _ _ c.in-Ok.ensures.known c.in-Ok-listen.ensures.told
-    c.in-Ok-listen.ensures.counted.faults c.in-Ok-listen.ensures.counted.same))
+    (ends.listens c.args.config _ _ _ c.in-Ok.ensures.known (steps.adds c.in-Ok-listen.ensures.told
+    c.in-Ok-listen.ensures.counted.faults c.in-Ok-listen.ensures.counted.same)))
 
 pub returns-clause-counted : goal.returns-clause-counted
 returns-clause-counted g c = record {
@@ -33,8 +33,8 @@ returns-clause-counted g c = record {
 pub returns-in-Ok-listen-clause-counted : goal.returns-in-Ok-listen-clause-counted
 returns-in-Ok-listen-clause-counted g c = record {
   faults = (c.make_turns.ensures.ends _ _
-      (ends.listens c.args.config _ _ _ c.in-Ok.ensures.known c.in-Ok-listen.ensures.told
-      c.in-Ok-listen.ensures.counted.faults c.in-Ok-listen.ensures.counted.same)).counted;
+      (ends.listens c.args.config _ _ _ c.in-Ok.ensures.known (steps.adds c.in-Ok-listen.ensures.told
+      c.in-Ok-listen.ensures.counted.faults c.in-Ok-listen.ensures.counted.same))).counted;
   dials = ends.dials_from (g.O.Outside.counts c.args.outside.now) (g.O.Outside.counts c.listen.new.self) _ _
       c.in-Ok-listen.ensures.counted.same c.make_turns.ensures.dials;
   no_writes = c.make_turns.ensures.no_writes;
