@@ -7,6 +7,7 @@ use Rattle.css_model.specs.History.{Entry, History, Once, Clock, Dialled, Took, 
 use Rattle.css_model.specs.WallClock.{Local}
 use Rattle.css_relay.specs.Answers.{Ticket, received_after, answered_after, datagram_of}
 use Rattle.css_relay.specs.declared.fault.RelayFault.{RelayFault}
+use Rattle.css_relay.specs.TwoHops.{IsAnswerOf}
 use Rattle.css_relay.proofs.TwoHops as two
 use Rattle.css_drive_relay.specs.Places.{Place, Facts, Received, Answers, Taken, Dropping, Over, Rejecting}
 use Rattle.css_drive_relay.specs.Places.{progress_of, hung_up, received, received_at, answering, answered_at, with_turn}
@@ -39,24 +40,24 @@ taken_later entry t = record {
   received = t.received;
 }
 
+abbrev pub answer_later : {own : Local} {history : History} {message : Message} (entry : Entry)
+    → IsAnswerOf own history message → IsAnswerOf own (entry ∷ history) message
+answer_later entry x = record {
+  request = x.request;
+  ticket = x.ticket;
+  take = x.take;
+  give = x.give;
+  before_take = x.before_take;
+  before_give = x.before_give;
+  taken = x.taken;
+  given = inr x.given;
+  received = x.received;
+  answered = x.answered;
+}
+
 answered_later : {own : Local} {history : History} {bytes : List ℕ} (entry : Entry) → IsAnswerTo own history bytes
     → IsAnswerTo own (entry ∷ history) bytes
-answered_later entry t = record {
-  message = t.message;
-  wire = t.wire;
-  answer = record {
-    request = t.answer.request;
-    ticket = t.answer.ticket;
-    take = t.answer.take;
-    give = t.answer.give;
-    before_take = t.answer.before_take;
-    before_give = t.answer.before_give;
-    taken = t.answer.taken;
-    given = inr t.answer.given;
-    received = t.answer.received;
-    answered = t.answer.answered;
-  };
-}
+answered_later entry t = record { message = t.message; wire = t.wire; answer = answer_later entry t.answer }
 
 later : (own : Local) (history : History) (entry : Entry) (place : Place) → Tells own history place
     → Tells own (entry ∷ history) place

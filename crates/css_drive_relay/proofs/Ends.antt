@@ -19,10 +19,10 @@ use Rattle.css_drive.specs.declared.driven.Driven.TheVariants as driven
 use Rattle.css_drive.proofs.CompanionRuns.{no_entries}
 use Rattle.css_drive.proofs.TvLines.{peers_all}
 use Rattle.css_drive.proofs.TvOpens.{peer_from}
-use Rattle.css_drive_relay.specs.Places.{Facts, Place, Progress, Asked, Over, after, all_open, without_first, Begun}
+use Rattle.css_drive_relay.specs.Places.{Facts, Place, Progress, Asked, Over, after, all_open, without_first, hung_up, Begun}
 use Rattle.css_drive_relay.specs.Places.{beginning, with_turn}
 use Rattle.css_drive_relay.specs.Due.{due_at, final, from_hang_ups}
-use Rattle.css_drive_relay.specs.Standing.{IsPeer, KnowsPeers, Runs, Stands, IsAt, Stops, IsHanging, HangsUp, KeepsDials}
+use Rattle.css_drive_relay.specs.Standing.{IsPeer, KnowsPeers, Runs, Stands, IsAt, Stops, HangsUp, KeepsDials}
 use Rattle.css_drive_relay.specs.Standing.{facts_in, stood, Knows, HasRead, listening, named}
 use Rattle.css_outside.specs.Limits.{IsLimit, most_turns}
 use Rattle.css_outside.specs.Outsides.{Counts}
@@ -38,63 +38,44 @@ use Rattle.css_drive_relay.specs.Places as places
 use Rattle.css_outside.specs.declared.calls.Clocked.{Clocked}
 use Rattle.std.proofs.lemmas.Bool.Decides.{nat_tests}
 
-module _ (run : RelayRun) (live : Live) (history : History) where
-  -- what is due as so many of them were hung up
-  pub due_hanging : goes_on run.limit live.first live.turn live.made ≡ false → (index : ℕ) (place : Place)
-      → IsHanging (all_open (facts_in live)) index place
-      → due_at run (facts_in live) history place
-      ≡ from_hang_ups (final (facts_in live)) (drop index (all_open (facts_in live)))
-  due_hanging enough index place (inl e) =
-      ap (due_at run (facts_in live) history) e.1
-      ∙ ap (λ b. cond b (Now why.Turn) (from_hang_ups (final (facts_in live)) (all_open (facts_in live)))) enough
-      ∙ ap (λ n. from_hang_ups (final (facts_in live)) (drop n (all_open (facts_in live)))) (sym e.0)
-  due_hanging enough index place (inr e) = ap (due_at run (facts_in live) history) e
-
--- one more was
-after_hanging : (run : RelayRun) (live : Live) (history : History) (peer index : ℕ) (rest : List ℕ) (place : Place)
-    → IsHanging (all_open (facts_in live)) index place → drop index (all_open (facts_in live)) ≡ peer ∷ rest
-    → after run (HungUp peer) history (stood live place) ≡ stood live (Over rest)
-after_hanging run live history peer index rest place (inl e) is =
-    let from : all_open (facts_in live) ≡ peer ∷ rest =
-    ap (λ n. drop n (all_open (facts_in live))) (sym e.0) ∙ is in
-    ap (λ (x : Place). after run (HungUp peer) history (stood live x)) e.1
-    ∙ ap (λ xs. stood live (Over (without_first xs))) from
-after_hanging run live history peer index rest place (inr e) is =
-    ap (λ (x : Place). after run (HungUp peer) history (stood live x)) e
-    ∙ ap (λ xs. stood live (Over (without_first xs))) is
-
 module _ {run : RelayRun} {start now : Shown} {live : Live} {relay : Relay} where
-  pub hung : {index : ℕ} (next : Shown) → HangsUp run start now relay live (all_open (facts_in live)) index
-      → goes_on run.limit live.first live.turn live.made ≡ false → (peer later : ℕ)
-      → drop index (all_open (facts_in live)) ≡ peer ∷ drop later (all_open (facts_in live))
-      → Adds now next (HungUp peer ∷ [])
-      → HangsUp run start next relay live (all_open (facts_in live)) later
-  hung {index} next x enough peer later is a =
-      let rest : List ℕ = drop later (all_open (facts_in live)) in
-      let goes : after run (HungUp peer) x.history (stood live x.place) ≡ stood live (Over rest) =
-      after_hanging run live x.history peer index rest x.place x.hanging is in
+  -- the turns are over, so all open sessions are to be hung up
+  pub hangs_all : {history : History} → Stands run start now relay (stood live (Asked [])) history
+      → goes_on run.limit live.first live.turn live.made ≡ false
+      → HangsUp run start now relay live (all_open (facts_in live))
+  hangs_all {history} s enough = record {
+    history = history;
+    place = Asked [];
+    stands = s;
+    next = ap (λ b. cond b (Now why.Turn) (from_hang_ups (final (facts_in live)) (all_open (facts_in live)))) enough;
+    after = refl;
+  }
+
+  -- the first one was
+  pub hung : {left : List ℕ} (next : Shown) → HangsUp run start now relay live left → (peer : ℕ) (rest : List ℕ)
+      → left ≡ peer ∷ rest → Adds now next (HungUp peer ∷ []) → HangsUp run start next relay live rest
+  hung next x peer rest is a =
+      let goes : hung_up x.place (facts_in live) ≡ Over rest = x.after ∙ ap (λ xs. Over (without_first xs)) is in
       record {
         history = HungUp peer ∷ x.history;
         place = Over rest;
-        hanging = inr refl;
-        stands = stands_as (stands_on x.stands (HangUp peer)
-            (due_hanging run live x.history enough index x.place x.hanging ∙ ap (from_hang_ups (final (facts_in live))) is)
+        stands = stands_as (stands_on x.stands (HangUp peer) (x.next ∙ ap (from_hang_ups (final (facts_in live))) is)
             (HungUp peer) refl a (λ k. knows_plain k (HungUp peer) refl refl refl refl refl refl refl)
             (λ n y.
-            subst (λ (q : Progress). KnowsPeers n q x.history) (sym goes)
-            (y.0, All-nil (IsPeer n x.history None), y.2, y.3)))
-            (stood live (Over rest)) goes;
+            subst (λ (at : Place). KnowsPeers n (stood live at) x.history) (sym goes)
+            (y.0, All-nil (IsPeer n x.history None), y.2, y.3))) (stood live (Over rest)) (ap (stood live) goes);
+        next = refl;
+        after = refl;
       }
 
   -- all of them were
-  pub all_hung : {index : ℕ} → HangsUp run start now relay live (all_open (facts_in live)) index
-      → goes_on run.limit live.first live.turn live.made ≡ false → drop index (all_open (facts_in live)) ≡ []
+  pub all_hung : {left : List ℕ} → HangsUp run start now relay live left → left ≡ []
       → Stops run start now (final (facts_in live))
-  all_hung {index} x enough none =
+  all_hung x none =
       stops_here x.stands.runs (lawful x.stands.knows) (final (facts_in live))
       (never (is_some live.cii || is_some live.wc))
       (ends (is_some live.cii || is_some live.wc) (due_at run (facts_in live) x.history x.place)
-      (due_hanging run live x.history enough index x.place x.hanging ∙ ap (from_hang_ups (final (facts_in live))) none))
+      (x.next ∙ ap (from_hang_ups (final (facts_in live))) none))
     where
       never : (b : Bool) → IsNetFault (cond b driven.Done (driven.Unreachable live.made)) → ⊥
       never true e = e
@@ -218,34 +199,8 @@ ran_none run told = record {
 
 -- the variables as they begin
 pub first_facts : (state : State) (peers : List ℕ) → state ≡ empty → peers ≡ []
-    → ◌≡◌ {A = Facts} (record {
-      turns = 0;
-      first = None;
-      turn = None;
-      asked = None;
-      cii = None;
-      wc = None;
-      television = None;
-      state = state;
-      peers = peers;
-    }) beginning.facts
-first_facts state peers e f = ap₂ (λ (s : State) (p : List ℕ). record {
-  turns = 0;
-  first = None;
-  turn = None;
-  asked = None;
-  cii = None;
-  wc = None;
-  television = None;
-  state = s;
-  peers = p;
-}) e f
-
-pub begins : (f : Facts) {run : RelayRun} {start now : Shown} {relay : Relay} {history : History}
-    → f ≡ beginning.facts → Stands run start now relay listening history
-    → Stands run start now relay (record { facts = f; place = Asked [] }) history
-begins f {run} {start} {now} {relay} {history} e s =
-    subst (λ (x : Facts). Stands run start now relay (record { facts = x; place = Asked [] }) history) (sym e) s
+    → ◌≡◌ {A = Facts} (record beginning.facts { state = state; peers = peers }) beginning.facts
+first_facts state peers e f = ap₂ (λ (s : State) (p : List ℕ). record beginning.facts { state = s; peers = p }) e f
 
 -- ---- turns
 pub turn_due : (run : RelayRun) (live : Live) (history : History)

@@ -20,6 +20,7 @@ use Rattle.css_drive_relay.specs.Places.{Place, Received, progress_of}
 use Rattle.css_drive_relay.specs.Due.{IsProperRelay}
 use Rattle.css_drive_relay.specs.SecondHop.{given_at, given_by, IsGiven, last_take, GivenIsTrue, IsTrueAnswer}
 use Rattle.css_drive_relay.specs.SecondHop.{IsRequest, IsResponse, IsSentAt, IsFromRun, FromRunAt, SecondHopsAreTrue}
+use Rattle.css_drive_relay.proofs.Answering.{answer_later}
 use Rattle.css_drive_relay.proofs.DatagramPlaces.{awake, Shows, shape_of, sent_is_known}
 use Rattle.css_drive_relay.proofs.Follows.{Followed, followed}
 use Rattle.css_drive_relay.proofs.ReadBack.{TellSame, reads_back, true_as}
@@ -34,22 +35,7 @@ record IsFound (own : Local) (h : History) (message : Message) (before : History
 
 found_later : {own : Local} {h : History} {message : Message} {before : History} (entry : Entry)
     → IsFound own h message before → IsFound own (entry ∷ h) message before
-found_later entry x = record {
-  answer = record {
-    request = x.answer.request;
-    ticket = x.answer.ticket;
-    take = x.answer.take;
-    give = x.answer.give;
-    before_take = x.answer.before_take;
-    before_give = x.answer.before_give;
-    taken = x.answer.taken;
-    given = inr x.answer.given;
-    received = x.answer.received;
-    answered = x.answer.answered;
-  };
-  at_take = x.at_take;
-  at_give = x.at_give;
-}
+found_later entry x = record { answer = answer_later entry x.answer; at_take = x.at_take; at_give = x.at_give }
 
 -- the request was taken last, but for sleeps
 taken_before : (take : ℕ) (b h : History) → awake h ≡ Clock why.Take take ∷ b

@@ -12,7 +12,7 @@ use Rattle.css_outside.specs.declared.calls.Clocked.{Clocked}
 use Rattle.css_companion.specs.Meanings.{cii_text, ts_text, opens_ts, closes_ts}
 use Rattle.css_companion.proofs.Telling as telling
 use Rattle.css_relay.specs.Relays.{Relay}
-use Rattle.css_drive.specs.CompanionStanding.{Shown, Adds, Failed, IsFault, asked_after}
+use Rattle.css_drive.specs.CompanionStanding.{Shown, Adds, Failed, asked_after}
 use Rattle.css_drive.specs.Ends.{MayEnd, IsNetFault, CountsNetFault}
 use Rattle.css_drive.specs.Proper.{Due, Now, MayAdd, More}
 use Rattle.css_drive.specs.declared.driven.Driven.{Driven}
@@ -178,12 +178,7 @@ runs_read {run} {start} {now} {next} {live} {later} {place} {history} s w is-due
     known false x = let y = now_known x in (y.0, y.1, y.2, x.3)
 
 -- ---- ends
--- a call of the outside failed
-pub failed : {old new : Shown} {ended : Driven} → new.told ≡ old.told
-    → CountsNetFault old.counts.faults new.counts.faults ended → IsFault ended → Failed old new ended
-failed told counted fault = record { told = told; counted = counted; fault = fault }
-
--- so the run ends
+-- a call of the outside failed, so the run ends
 pub stops_by_fault : {run : RelayRun} {start now : Shown} {p : Progress} {history : History}
     → Runs run start now p history → IsLawful history → (next : Shown) (ended : Driven) → Failed now next ended
     → Stops run start next ended

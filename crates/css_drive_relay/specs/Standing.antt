@@ -1,5 +1,5 @@
 -- How the variables of a relay's run stand for its history.
-use Rattle.std.specs.Prelude.{◌≡◌, ◌≤◌, ◌<◌, ◌+◌, ◌⊎◌, ℕ, List, [], ◌∷◌, ◌++◌, drop, All, Option, Some, None, IfSome}
+use Rattle.std.specs.Prelude.{◌≡◌, ◌≤◌, ◌<◌, ◌+◌, ℕ, List, [], ◌∷◌, ◌++◌, All, Option, Some, None, IfSome}
 use Rattle.std.specs.Prelude.{Result, MatchResult, ⊤}
 use Rattle.css_model.specs.declared.TheConstants.{LIMIT}
 use Rattle.css_model.specs.declared.Kind.{Kind}
@@ -19,8 +19,8 @@ use Rattle.css_drive.specs.Proper.{Due}
 use Rattle.css_drive.specs.TvRan.{AreNumbered}
 use Rattle.css_drive.specs.declared.driven.Driven.{Driven}
 use Rattle.css_drive_relay.specs.Places.{Place, Greeting, Telling, Asked, Dropping, Over, Facts, Progress, beginning}
-use Rattle.css_drive_relay.specs.Places.{progress_of}
-use Rattle.css_drive_relay.specs.Due.{due, due_at, IsProperRelay}
+use Rattle.css_drive_relay.specs.Places.{progress_of, hung_up, without_first}
+use Rattle.css_drive_relay.specs.Due.{due, due_at, final, from_hang_ups, IsProperRelay}
 use Rattle.css_drive_relay.specs.declared.config.RelayRun.{RelayRun}
 use Rattle.css_drive_relay.specs.declared.live.Live.{Live}
 
@@ -154,17 +154,13 @@ pub record KeepsDials (old new : Counts) (before now : Live) : Type 0 where
   pub cii : now.cii ≡ before.cii
 
 -- ---- the end
--- so many of these sessions were hung up
-abbrev pub IsHanging : List ℕ → ℕ → Place → Type 0
-IsHanging peers index place = ((index ≡ 0) × (place ≡ Asked [])) ⊎ (place ≡ Over (drop index peers))
-
--- The run has come so far as it hangs up these sessions.
-pub record HangsUp (run : RelayRun) (start now : Shown) (relay : Relay) (live : Live) (peers : List ℕ) (index : ℕ)
-    : Type 0 where
+-- The run came to where these sessions are to be hung up, and then it ends.
+pub record HangsUp (run : RelayRun) (start now : Shown) (relay : Relay) (live : Live) (left : List ℕ) : Type 0 where
   pub history : History
   pub place : Place
-  pub hanging : IsHanging peers index place
   pub stands : Stands run start now relay (stood live place) history
+  pub next : due_at run (facts_in live) history place ≡ from_hang_ups (final (facts_in live)) left
+  pub after : hung_up place (facts_in live) ≡ Over (without_first left)
 
 -- the run ended, in one way where the result is Ok
 abbrev pub Finishes : {T : Type 0} → RelayRun → Shown → Shown → Driven → Result T Driven → Type 0

@@ -1,10 +1,9 @@
 //! Single calls of a relay's run.
-ghost use Rattle.std.specs.Prelude.{◌≡◌, ◌≤◌, ◌∷◌, [], ℕ, MatchResult, IfOk, IfErr, None};
+ghost use Rattle.std.specs.Prelude.{◌≡◌, ◌≤◌, ◌∷◌, [], MatchResult, IfOk, IfErr, None};
 ghost use Rattle.css_model.specs.History as entries;
 ghost use Rattle.css_outside.specs.Faults.{CountsOutFault, HasRisen};
 ghost use Rattle.css_outside.specs.Outsides.{heard_entries, wrote_entries};
-ghost use Rattle.css_drive.specs.CompanionStanding.{shown, IsCut, IsFault, Failed, Adds, HasDialled};
-ghost use Rattle.css_drive.specs.Ends.{CountsNetFault};
+ghost use Rattle.css_drive.specs.CompanionStanding.{Shown, shown, IsCut, IsFault, Failed, Adds, HasDialled};
 ghost use Rattle.css_drive_relay.specs.Standing.{HasRead, KeepsDials};
 
 use crate::live::Live;
@@ -16,7 +15,8 @@ use css_relay::Relay;
 pub(crate) fn end_of(fault: OutFault) -> Driven
     ensures fault { IsFault result }
     ensures cut { IsCut result }
-    ensures counted { (before : ℕ) → (now : ℕ) → CountsOutFault before now fault → CountsNetFault before now result }
+    ensures failed { (old : Shown) → (new : Shown) → new.told ≡ old.told
+        → CountsOutFault old.counts.faults new.counts.faults fault → Failed old new result }
 {
     match fault {
         OutFault::Failed(failure) => Driven::NetFault(failure),

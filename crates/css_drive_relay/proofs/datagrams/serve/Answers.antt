@@ -19,5 +19,5 @@ returns-in-Ok-Some-clause-goes g c start h at s d =
 
 pub returns-in-Err-clause-goes : goal.returns-in-Err-clause-goes
 returns-in-Err-clause-goes g c start h at s d =
-    steps.stops_by_fault s.runs (steps.lawful s.knows) _ _ (steps.failed c.in-Err.ensures.told
-    (c.end_of.ensures.counted _ _ c.in-Err.ensures.counted.faults) c.end_of.ensures.fault)
+    steps.stops_by_fault s.runs (steps.lawful s.knows) _ _
+    (c.end_of.ensures.failed _ _ c.in-Err.ensures.told c.in-Err.ensures.counted.faults)

@@ -5,11 +5,6 @@ use Rattle.std.specs.Prelude.{length}
 use Rattle.css_drive_relay.specs.Places.{is_kept}
 use Rattle.css_drive_relay.proofs.sessions.welcome.Goals as goal
 
-pub returns-in-Err-clause-goes : goal.returns-in-Err-clause-goes
-returns-in-Err-clause-goes g c start relay h s =
-    steps.stops_by_fault s.runs (steps.lawful s.knows) _ _ (steps.failed c.in-Err.ensures.told
-    (c.end_of.ensures.counted _ _ c.in-Err.ensures.counted.faults) c.end_of.ensures.fault)
-
 pub returns-in-Ok-None-clause-goes : goal.returns-in-Ok-None-clause-goes
 returns-in-Ok-None-clause-goes g c start relay h s =
     openings.none_came c.args.live.now s (rw c.in-Ok-None.field-0-is at c.in-Ok-None.ensures.told)
@@ -23,3 +18,8 @@ returns-in-Ok-Some-clause-goes g c start relay h s =
     (rw c.in-Ok-Some.field-0-is at c.in-Ok-Some.ensures.told)
     c.in-Ok-Some.ensures.counted.faults opens.0 opens.1
     (is_kept c.in-Ok-Some.kind (length c.args.live.now.peers.items)) refl)
+
+pub returns-in-Err-clause-goes : goal.returns-in-Err-clause-goes
+returns-in-Err-clause-goes g c start relay h s =
+    steps.stops_by_fault s.runs (steps.lawful s.knows) _ _
+    (c.end_of.ensures.failed _ _ c.in-Err.ensures.told c.in-Err.ensures.counted.faults)

@@ -13,8 +13,7 @@ returns-clause-ran g c =
     (shown (g.O.Outside.told c.args.outside.now) (g.O.Outside.counts c.args.outside.now)))
     (steps.lawful c.in-Ok.ensures.known) (shown (g.O.Outside.told c.listen.new.self) (g.O.Outside.counts
     c.listen.new.self))
-    c.end_of.result (steps.failed c.in-Err.ensures.told
-    (c.end_of.ensures.counted _ _ c.in-Err.ensures.counted.faults) c.end_of.ensures.fault))
+    c.end_of.result (c.end_of.ensures.failed _ _ c.in-Err.ensures.told c.in-Err.ensures.counted.faults))
 
 pub returns-in-Ok-listen-clause-ran : goal.returns-in-Ok-listen-clause-ran
 returns-in-Ok-listen-clause-ran g c =
@@ -24,7 +23,9 @@ returns-in-Ok-listen-clause-ran g c =
 
 pub returns-clause-counted : goal.returns-clause-counted
 returns-clause-counted g c = record {
-  faults = c.end_of.ensures.counted _ _ c.in-Err.ensures.counted.faults;
+  faults = (c.end_of.ensures.failed (shown (g.O.Outside.told c.args.outside.now) (g.O.Outside.counts
+      c.args.outside.now)) (shown (g.O.Outside.told c.listen.new.self) (g.O.Outside.counts c.listen.new.self))
+      c.in-Err.ensures.told c.in-Err.ensures.counted.faults).counted;
   dials = ends.dials_from (g.O.Outside.counts c.args.outside.now) (g.O.Outside.counts c.listen.new.self) _ _
       c.in-Err.ensures.counted.same (ends.cut_counts _ _ (omega arith) _ c.end_of.ensures.cut);
   no_writes = ends.cut_writes _ c.end_of.ensures.cut;
