@@ -1,23 +1,18 @@
 -- Why what a relay sends in answer answers a request that it took.
-use Rattle.std.proofs.Common.{◌≡◌, ℕ, subst, refl, Bool, true, false, List, [], ◌∷◌, Option, Some, None, inl, inr, cond}
-use Rattle.std.proofs.Common.{Result, Ok, Err}
+use Rattle.std.proofs.Common.{◌≡◌, ℕ, subst, sym, refl, List, [], ◌∷◌, inl, inr, Result, Ok, Err}
+use Rattle.std.specs.Prelude.{◌⊎◌}
 use Rattle.css_model.specs.declared.Message.{Message}
 use Rattle.css_model.specs.declared.Why.TheVariants as why
-use Rattle.css_model.specs.History.{Entry, History, Once, Slept, Clock, Dialling, Accepted, NoneCame, Sent, Quiet}
-use Rattle.css_model.specs.History.{Heard, Closed, Wrote, Gone, HungUp}
+use Rattle.css_model.specs.History.{Entry, History, Once, Clock, Dialled, Took, HungUp}
 use Rattle.css_model.specs.WallClock.{Local}
-use Rattle.css_cii.specs.declared.state.State.{State}
-use Rattle.css_companion.specs.declared.fault.CompanionFault.{CompanionFault}
-use Rattle.css_drive.specs.CompanionTurns.{is_late}
 use Rattle.css_relay.specs.Answers.{Ticket, received_after, answered_after, datagram_of}
 use Rattle.css_relay.specs.declared.fault.RelayFault.{RelayFault}
+use Rattle.css_relay.specs.TwoHops.{IsAnswerOf}
 use Rattle.css_relay.proofs.TwoHops as two
-use Rattle.css_drive_relay.specs.Places.{Place, Facts, Received, Answers, Taken, Asking, Welcomed, Greeting, Telling}
-use Rattle.css_drive_relay.specs.Places.{Dropping, Over, Rejecting, progress_of, next_asked, telling, telling_if}
-use Rattle.css_drive_relay.specs.Places.{opened_if, television_told, sent, hung_up, passed, heard, closed, told, gone}
-use Rattle.css_drive_relay.specs.Places.{received, received_at, answering, answered_at, lost, without_first, Asked}
-use Rattle.css_drive_relay.specs.Places.{Begun, with_turn}
+use Rattle.css_drive_relay.specs.Places.{Place, Facts, Received, Answers, Taken, Dropping, Over, Rejecting}
+use Rattle.css_drive_relay.specs.Places.{progress_of, hung_up, received, received_at, answering, answered_at, with_turn}
 use Rattle.css_drive_relay.specs.Laws.{IsAnswerTo, AnswersAreTrueTo}
+use Rattle.css_drive_relay.proofs.Follows.{IsRest, rest_begun, rest_next, moves}
 use Rattle.css_drive_relay.specs.declared.config.RelayRun.{RelayRun}
 
 -- a request was taken in the history, and this is its ticket
@@ -45,24 +40,24 @@ taken_later entry t = record {
   received = t.received;
 }
 
+abbrev pub answer_later : {own : Local} {history : History} {message : Message} (entry : Entry)
+    → IsAnswerOf own history message → IsAnswerOf own (entry ∷ history) message
+answer_later entry x = record {
+  request = x.request;
+  ticket = x.ticket;
+  take = x.take;
+  give = x.give;
+  before_take = x.before_take;
+  before_give = x.before_give;
+  taken = x.taken;
+  given = inr x.given;
+  received = x.received;
+  answered = x.answered;
+}
+
 answered_later : {own : Local} {history : History} {bytes : List ℕ} (entry : Entry) → IsAnswerTo own history bytes
     → IsAnswerTo own (entry ∷ history) bytes
-answered_later entry t = record {
-  message = t.message;
-  wire = t.wire;
-  answer = record {
-    request = t.answer.request;
-    ticket = t.answer.ticket;
-    take = t.answer.take;
-    give = t.answer.give;
-    before_take = t.answer.before_take;
-    before_give = t.answer.before_give;
-    taken = t.answer.taken;
-    given = inr t.answer.given;
-    received = t.answer.received;
-    answered = t.answer.answered;
-  };
-}
+answered_later entry t = record { message = t.message; wire = t.wire; answer = answer_later entry t.answer }
 
 later : (own : Local) (history : History) (entry : Entry) (place : Place) → Tells own history place
     → Tells own (entry ∷ history) place
@@ -70,81 +65,24 @@ later own history entry (Received peer ticket) t = taken_later entry t
 later own history entry (Answers peer bytes) t = answered_later entry t
 later own history entry _ t = tt
 
--- ---- places that tell nothing
-none_begun : (own : Local) (history : History) (b : Bool) → Tells own history (cond b (Asked []) Begun)
-none_begun own history true = tt
-none_begun own history false = tt
+-- where a turn goes on, nothing is told
+tells_rest : (own : Local) (history : History) (place : Place) → IsRest place → Tells own history place
+tells_rest own history (Received peer ticket) rest = absurd rest
+tells_rest own history (Answers peer bytes) rest = absurd rest
+tells_rest own history place rest = tt
 
-none_next : (own : Local) (history : History) (o : Option ℕ) (peers : List ℕ) → Tells own history (next_asked o peers)
-none_next own history None peers = tt
-none_next own history (Some p) peers = tt
+-- the place is the same, or such a one
+after_move : (own : Local) (older : History) (entry : Entry) (before place : Place)
+    → (place ≡ before) ⊎ IsRest place → Tells own older before → Tells own (entry ∷ older) place
+after_move own older entry before place (inl same) t =
+    subst (λ (x : Place). Tells own (entry ∷ older) x) (sym same) (later own older entry before t)
+after_move own older entry before place (inr rest) t = tells_rest own (entry ∷ older) place rest
 
-none_telling : (own : Local) (history : History) (text left : List ℕ) (f : Facts)
-    → Tells own history (telling text left f)
-none_telling own history text [] f = tt
-none_telling own history text (p ∷ ps) f = tt
-
-none_telling_if : (own : Local) (history : History) (text : Option (List ℕ)) (f : Facts)
-    → Tells own history (telling_if text f)
-none_telling_if own history None f = tt
-none_telling_if own history (Some text) f = none_telling own history text f.peers f
-
-none_opened : (own : Local) (history : History) (kept : Bool) (peer : ℕ) (f : Facts)
-    → Tells own history (opened_if kept peer f).place
-none_opened own history true peer f = tt
-none_opened own history false peer f = tt
-
-none_told : (own : Local) (history : History) (refusal : Option CompanionFault) (state : State) (f : Facts)
-    → Tells own history (television_told refusal state f).place
-none_told own history None state f = none_telling_if own history _ (record f { state = state })
-none_told own history (Some fault) state f = tt
-
-none_sent : (own : Local) (history : History) (place : Place) (f : Facts) → Tells own history (sent place f).place
-none_sent own history (Asking reading) f = tt
-none_sent own history _ f = tt
-
-none_hung_up : (own : Local) (history : History) (place : Place) (f : Facts) → Tells own history (hung_up place f)
-none_hung_up own history (Rejecting peer) f = none_next own history f.television f.peers
-none_hung_up own history (Dropping peer left) f = tt
-none_hung_up own history (Over left) f = tt
-none_hung_up own history _ f = tt
-
--- ---- entries that leave some places
-after_passed : (own : Local) (history : History) (entry : Entry) (place : Place) (f : Facts) → Tells own history place
-    → Tells own (entry ∷ history) (passed place f)
-after_passed own history entry (Received peer ticket) f t = taken_later entry t
-after_passed own history entry (Answers peer bytes) f t = answered_later entry t
-after_passed own history entry _ f t = tt
-
-after_heard : (run : RelayRun) (peer : ℕ) (bytes : List ℕ) (own : Local) (history : History) (place : Place) (f : Facts)
-    → Tells own history place → Tells own (Heard peer bytes ∷ history) (heard run peer bytes history place f).place
-after_heard run peer bytes own history (Received p ticket) f t = taken_later (Heard peer bytes) t
-after_heard run peer bytes own history (Answers p datagram) f t = answered_later (Heard peer bytes) t
-after_heard run peer bytes own history (Welcomed p) f t = none_told own (Heard peer bytes ∷ history) _ _ f
-after_heard run peer bytes own history _ f t = tt
-
-after_closed : (peer : ℕ) (own : Local) (history : History) (place : Place) (f : Facts) → Tells own history place
-    → Tells own (Closed peer ∷ history) (closed peer place f).place
-after_closed peer own history (Received p ticket) f t = taken_later (Closed peer) t
-after_closed peer own history (Answers p datagram) f t = answered_later (Closed peer) t
-after_closed peer own history _ f t = tt
-
-after_told : (own : Local) (history : History) (entry : Entry) (place : Place) (f : Facts) → Tells own history place
-    → Tells own (entry ∷ history) (told place f)
-after_told own history entry (Received p ticket) f t = taken_later entry t
-after_told own history entry (Answers p datagram) f t = answered_later entry t
-after_told own history entry (Greeting p) f t = none_next own (entry ∷ history) f.television f.peers
-after_told own history entry (Telling text left) f t = none_telling own (entry ∷ history) text (without_first left) f
-after_told own history entry _ f t = tt
-
-after_gone : (peer : ℕ) (own : Local) (history : History) (place : Place) (f : Facts) → Tells own history place
-    → Tells own (Gone peer ∷ history) (gone peer place f).place
-after_gone peer own history (Received p ticket) f t = taken_later (Gone peer) t
-after_gone peer own history (Answers p datagram) f t = answered_later (Gone peer) t
-after_gone peer own history (Greeting p) f t = none_next own (Gone peer ∷ history) f.television (lost peer f).peers
-after_gone peer own history (Telling text left) f t =
-    none_telling own (Gone peer ∷ history) text (without_first left) (lost peer f)
-after_gone peer own history _ f t = tt
+after_hang_up : (own : Local) (history : History) (place : Place) (f : Facts) → Tells own history (hung_up place f)
+after_hang_up own history (Rejecting peer) f = tells_rest own history _ (rest_next f.television f.peers)
+after_hang_up own history (Dropping peer left) f = tt
+after_hang_up own history (Over left) f = tt
+after_hang_up own history _ f = tt
 
 -- ---- the clock
 receiving : (own : Local) (history : History) (reading peer : ℕ) (bytes : List ℕ) (result : Result Ticket RelayFault)
@@ -197,41 +135,20 @@ after_give run history reading _ t = tt
 -- ---- each history
 tells : (run : RelayRun) (history : History) → Tells run.companion.local history (progress_of run history).place
 tells run [] = tt
-tells run (Slept ∷ older) = later run.companion.local older Slept (progress_of run older).place (tells run older)
 tells run (Clock why.Turn reading ∷ older) =
-    let f : Facts = with_turn reading (progress_of run older).facts in
-    none_begun run.companion.local (Clock why.Turn reading ∷ older) (is_late run.limit f.first f.turn)
+    tells_rest run.companion.local _ _ (rest_begun run (with_turn reading (progress_of run older).facts))
+tells run (Clock why.Ask reading ∷ older) = tt
 tells run (Clock why.Take reading ∷ older) =
     after_take run older reading (progress_of run older).place (tells run older)
 tells run (Clock why.Give reading ∷ older) =
     after_give run older reading (progress_of run older).place (tells run older)
-tells run (Dialling k to ∷ older) =
-    later run.companion.local older (Dialling k to) (progress_of run older).place (tells run older)
-tells run (Accepted peer k ∷ older) = none_opened run.companion.local (Accepted peer k ∷ older) _ peer _
-tells run (NoneCame ∷ older) =
-    none_next run.companion.local (NoneCame ∷ older) (progress_of run older).facts.television
-    (progress_of run older).facts.peers
-tells run (Sent peer bytes ∷ older) =
-    none_sent run.companion.local (Sent peer bytes ∷ older) (progress_of run older).place (progress_of run older).facts
-tells run (Quiet peer ∷ older) =
-    after_passed run.companion.local older (Quiet peer) (progress_of run older).place (progress_of run older).facts
-    (tells run older)
-tells run (Heard peer bytes ∷ older) =
-    after_heard run peer bytes run.companion.local older (progress_of run older).place (progress_of run older).facts
-    (tells run older)
-tells run (Closed peer ∷ older) =
-    after_closed peer run.companion.local older (progress_of run older).place (progress_of run older).facts
-    (tells run older)
-tells run (Wrote peer bytes ∷ older) =
-    after_told run.companion.local older (Wrote peer bytes) (progress_of run older).place
-    (progress_of run older).facts (tells run older)
-tells run (Gone peer ∷ older) =
-    after_gone peer run.companion.local older (progress_of run older).place (progress_of run older).facts
-    (tells run older)
+tells run (Dialled k peer ∷ older) = tt
+tells run (Took peer bytes ∷ older) = tt
 tells run (HungUp peer ∷ older) =
-    none_hung_up run.companion.local (HungUp peer ∷ older) (progress_of run older).place
-    (progress_of run older).facts
-tells run (_ ∷ older) = tt
+    after_hang_up run.companion.local _ (progress_of run older).place (progress_of run older).facts
+tells run (entry ∷ older) =
+    after_move run.companion.local older entry (progress_of run older).place (progress_of run (entry ∷ older)).place
+    (moves run older entry tt (progress_of run older)).4 (tells run older)
 
 pub answers_are_true : AnswersAreTrueTo
 answers_are_true run history peer bytes e =

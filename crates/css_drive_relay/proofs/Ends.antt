@@ -2,8 +2,8 @@
 use Rattle.css_cii.specs.States.{empty}
 use Rattle.css_cii.specs.declared.state.State.{State}
 use Rattle.std.proofs.Common.{◌≡◌, ap₂, ℕ, ◌≤◌, ◌<◌, arith, ap, sym, ◌∙◌, subst, refl, Bool, true, false, cond, inl}
-use Rattle.std.proofs.Common.{inr, List, [], ◌∷◌, ◌++◌, drop, get_or, length, Option, Some, None}
-use Rattle.std.specs.Prelude.{◌⊎◌, ◌||◌, ◌+◌, ◌&&◌, ◌*◌, is_some, nat_lt, nat_le, not, unwrap_or}
+use Rattle.std.proofs.Common.{inr, List, [], ◌∷◌, drop, get_or, length, Option, Some, None}
+use Rattle.std.specs.Prelude.{◌⊎◌, ◌||◌, ◌+◌, ◌&&◌, ◌*◌, is_some, nat_lt, nat_le, unwrap_or}
 use Rattle.std.specs.Option.{ForSome}
 use Rattle.std.proofs.lemmas.List.Elements.{All-nil}
 use Rattle.css_model.specs.History.{HungUp, History, Listening}
@@ -16,94 +16,66 @@ use Rattle.css_drive.specs.Proper.{Due, Now, HangUp, Ends, Listen, Empty}
 use Rattle.css_model.specs.declared.Why.TheVariants as why
 use Rattle.css_drive.specs.declared.driven.Driven.{Driven}
 use Rattle.css_drive.specs.declared.driven.Driven.TheVariants as driven
-use Rattle.css_drive.proofs.CompanionCalls.{same_peers}
 use Rattle.css_drive.proofs.CompanionRuns.{no_entries}
 use Rattle.css_drive.proofs.TvLines.{peers_all}
 use Rattle.css_drive.proofs.TvOpens.{peer_from}
-use Rattle.css_drive_relay.specs.Places.{Facts, Place, Progress, Asked, Over, after, all_open, without_first, Begun}
+use Rattle.css_drive_relay.specs.Places.{Facts, Place, Progress, Asked, Over, after, all_open, without_first, hung_up, Begun}
 use Rattle.css_drive_relay.specs.Places.{beginning, with_turn}
 use Rattle.css_drive_relay.specs.Due.{due_at, final, from_hang_ups}
-use Rattle.css_drive_relay.specs.Standing.{IsAccepted, Runs, Stands, IsAt, Stops, IsHanging, HangsUp, KeepsDials}
+use Rattle.css_drive_relay.specs.Standing.{IsPeer, KnowsPeers, Runs, Stands, IsAt, Stops, HangsUp, KeepsDials}
 use Rattle.css_drive_relay.specs.Standing.{facts_in, stood, Knows, HasRead, listening, named}
 use Rattle.css_outside.specs.Limits.{IsLimit, most_turns}
-use Rattle.css_outside.specs.Outsides.{Counts, with_entries, clock_entries}
+use Rattle.css_outside.specs.Outsides.{Counts}
 use Rattle.css_outside.specs.declared.limit.Limit.{Limit}
 use Rattle.css_outside.specs.declared.limit.Limit.TheVariants.{Turns, Seconds}
 use Rattle.css_drive_relay.specs.declared.config.RelayRun.{RelayRun}
 use Rattle.css_drive_relay.specs.declared.live.Live.{Live}
-use Rattle.css_drive_relay.proofs.Peers.{accepted, television, unused, peers_quiet, still}
-use Rattle.css_drive_relay.proofs.Serves.{same_faults}
-use Rattle.css_drive_relay.proofs.Steps.{knows_plain, knows_clock, lawful, runs_more, runs_on, runs_read, kinds_read}
-use Rattle.css_drive_relay.proofs.Steps.{numbers_read, stops_here}
+use Rattle.css_drive_relay.proofs.Follows.{one_more}
+use Rattle.css_drive_relay.proofs.Steps.{knows_plain, knows_clock, lawful, runs_read, stands_on, stands_as, here}
+use Rattle.css_drive_relay.proofs.Steps.{stops_here}
 use Rattle.css_drive_relay.specs.Ran.{RelayRan}
 use Rattle.css_drive_relay.specs.Places as places
 use Rattle.css_outside.specs.declared.calls.Clocked.{Clocked}
 use Rattle.std.proofs.lemmas.Bool.Decides.{nat_tests}
 
-module _ (run : RelayRun) (live : Live) (history : History) where
-  -- what is due as so many of them were hung up
-  pub due_hanging : goes_on run.limit live.first live.turn live.made ≡ false → (index : ℕ) (place : Place)
-      → IsHanging (all_open (facts_in live)) index place
-      → due_at run (facts_in live) history place
-      ≡ from_hang_ups (final (facts_in live)) (drop index (all_open (facts_in live)))
-  due_hanging enough index place (inl e) =
-      ap (due_at run (facts_in live) history) e.1
-      ∙ ap (λ b. cond b (Now why.Turn) (from_hang_ups (final (facts_in live)) (all_open (facts_in live)))) enough
-      ∙ ap (λ n. from_hang_ups (final (facts_in live)) (drop n (all_open (facts_in live)))) (sym e.0)
-  due_hanging enough index place (inr e) = ap (due_at run (facts_in live) history) e
-
--- one more was
-after_hanging : (run : RelayRun) (live : Live) (history : History) (peer index : ℕ) (rest : List ℕ) (place : Place)
-    → IsHanging (all_open (facts_in live)) index place → drop index (all_open (facts_in live)) ≡ peer ∷ rest
-    → after run (HungUp peer) history (stood live place) ≡ stood live (Over rest)
-after_hanging run live history peer index rest place (inl e) is =
-    let from : all_open (facts_in live) ≡ peer ∷ rest =
-    ap (λ n. drop n (all_open (facts_in live))) (sym e.0) ∙ is in
-    ap (λ (x : Place). after run (HungUp peer) history (stood live x)) e.1
-    ∙ ap (λ xs. stood live (Over (without_first xs))) from
-after_hanging run live history peer index rest place (inr e) is =
-    ap (λ (x : Place). after run (HungUp peer) history (stood live x)) e
-    ∙ ap (λ xs. stood live (Over (without_first xs))) is
-
 module _ {run : RelayRun} {start now : Shown} {live : Live} {relay : Relay} where
-  pub hung : {index : ℕ} (next : Shown) → HangsUp run start now relay live (all_open (facts_in live)) index
-      → goes_on run.limit live.first live.turn live.made ≡ false → (peer later : ℕ)
-      → drop index (all_open (facts_in live)) ≡ peer ∷ drop later (all_open (facts_in live))
-      → Adds now next (HungUp peer ∷ [])
-      → HangsUp run start next relay live (all_open (facts_in live)) later
-  hung {index} next x enough peer later is a =
-      let le = same_peers a.same in
-      let rest : List ℕ = drop later (all_open (facts_in live)) in
+  -- the turns are over, so all open sessions are to be hung up
+  pub hangs_all : {history : History} → Stands run start now relay (stood live (Asked [])) history
+      → goes_on run.limit live.first live.turn live.made ≡ false
+      → HangsUp run start now relay live (all_open (facts_in live))
+  hangs_all {history} s enough = record {
+    history = history;
+    place = Asked [];
+    stands = s;
+    next = ap (λ b. cond b (Now why.Turn) (from_hang_ups (final (facts_in live)) (all_open (facts_in live)))) enough;
+    after = refl;
+  }
+
+  -- the first one was
+  pub hung : {left : List ℕ} (next : Shown) → HangsUp run start now relay live left → (peer : ℕ) (rest : List ℕ)
+      → left ≡ peer ∷ rest → Adds now next (HungUp peer ∷ []) → HangsUp run start next relay live rest
+  hung next x peer rest is a =
+      let goes : hung_up x.place (facts_in live) ≡ Over rest = x.after ∙ ap (λ xs. Over (without_first xs)) is in
       record {
         history = HungUp peer ∷ x.history;
         place = Over rest;
-        hanging = inr refl;
-        stands = record {
-          runs = runs_more x.stands.runs (HangUp peer)
-              (due_hanging run live x.history enough index x.place x.hanging
-              ∙ ap (from_hang_ups (final (facts_in live))) is) (HungUp peer ∷ []) refl next a.told
-              (same_faults a.same) (stood live (Over rest))
-              (ap (λ (p : Progress). after run (HungUp peer) x.history p) x.stands.runs.progress
-              ∙ after_hanging run live x.history peer index rest x.place x.hanging is)
-              (record {
-                accepted = accepted x.stands.runs.peers le (λ q. refl);
-                waiting = All-nil (IsAccepted next.counts.peers (HungUp peer ∷ x.history));
-                television = television x.stands.runs.peers le (λ q. refl);
-                unused = unused x.stands.runs.peers le (λ q. refl) (still x.stands.runs.peers le);
-              });
-          knows = knows_plain x.stands.knows (HungUp peer) refl refl refl refl refl refl refl;
-        };
+        stands = stands_as (stands_on x.stands (HangUp peer) (x.next ∙ ap (from_hang_ups (final (facts_in live))) is)
+            (HungUp peer) refl a (λ k. knows_plain k (HungUp peer) refl refl refl refl refl refl refl)
+            (λ n y.
+            subst (λ (at : Place). KnowsPeers n (stood live at) x.history) (sym goes)
+            (y.0, All-nil (IsPeer n x.history None), y.2, y.3))) (stood live (Over rest)) (ap (stood live) goes);
+        next = refl;
+        after = refl;
       }
 
   -- all of them were
-  pub all_hung : {index : ℕ} → HangsUp run start now relay live (all_open (facts_in live)) index
-      → goes_on run.limit live.first live.turn live.made ≡ false → drop index (all_open (facts_in live)) ≡ []
+  pub all_hung : {left : List ℕ} → HangsUp run start now relay live left → left ≡ []
       → Stops run start now (final (facts_in live))
-  all_hung {index} x enough none =
+  all_hung x none =
       stops_here x.stands.runs (lawful x.stands.knows) (final (facts_in live))
       (never (is_some live.cii || is_some live.wc))
       (ends (is_some live.cii || is_some live.wc) (due_at run (facts_in live) x.history x.place)
-      (due_hanging run live x.history enough index x.place x.hanging ∙ ap (from_hang_ups (final (facts_in live))) none))
+      (x.next ∙ ap (from_hang_ups (final (facts_in live))) none))
     where
       never : (b : Bool) → IsNetFault (cond b driven.Done (driven.Unreachable live.made)) → ⊥
       never true e = e
@@ -190,30 +162,18 @@ at_first run now = record {
   faults = refl;
   proper = Empty;
   progress = refl;
-  peers = record {
-    accepted = All-nil (IsAccepted now.counts.peers []);
-    waiting = All-nil (IsAccepted now.counts.peers []);
-    television = record { is = tt };
-    unused = record { none = λ peer lt. refl; numbered = (tt, tt) };
-  };
+  peers = (All-nil (IsPeer (now.counts.peers + 1) [] None), All-nil (IsPeer (now.counts.peers + 1) [] None), tt, tt);
+  numbered = tt;
 }
 
 -- the relay listens
 pub listens : (run : RelayRun) (now next : Shown) (relay : Relay) → Knows run relay []
-    → next.told ≡ with_entries (Listening run.host run.port ∷ []) now.told
-    → next.counts.faults ≡ now.counts.faults → next.counts ≡ record now.counts { faults = next.counts.faults }
+    → Adds now next (Listening run.host run.port ∷ [])
     → Stands run now next relay listening (Listening run.host run.port ∷ [])
-listens run now next relay k told faults same = record {
-  runs = runs_on (at_first run now) (Listen run.host run.port) refl (Listening run.host run.port) refl next told
-      faults
-      (record {
-        accepted = All-nil (IsAccepted next.counts.peers (Listening run.host run.port ∷ []));
-        waiting = All-nil (IsAccepted next.counts.peers (Listening run.host run.port ∷ []));
-        television = record { is = tt };
-        unused = record { none = λ peer lt. refl; numbered = (tt, tt) };
-      });
-  knows = knows_plain k (Listening run.host run.port) refl refl refl refl refl refl refl;
-}
+listens run now next relay k a =
+    stands_on (record { runs = at_first run now; knows = k }) (Listen run.host run.port) refl
+    (Listening run.host run.port) refl a
+    (λ known. knows_plain known (Listening run.host run.port) refl refl refl refl refl refl refl) (λ n x. x)
 
 pub ran_by : {run : RelayRun} {start now : Shown} {ended : Driven} → Stops run start now ended
     → RelayRan run start.told now.told ended
@@ -239,34 +199,8 @@ ran_none run told = record {
 
 -- the variables as they begin
 pub first_facts : (state : State) (peers : List ℕ) → state ≡ empty → peers ≡ []
-    → ◌≡◌ {A = Facts} (record {
-      turns = 0;
-      first = None;
-      turn = None;
-      asked = None;
-      cii = None;
-      wc = None;
-      television = None;
-      state = state;
-      peers = peers;
-    }) beginning.facts
-first_facts state peers e f = ap₂ (λ (s : State) (p : List ℕ). record {
-  turns = 0;
-  first = None;
-  turn = None;
-  asked = None;
-  cii = None;
-  wc = None;
-  television = None;
-  state = s;
-  peers = p;
-}) e f
-
-pub begins : (f : Facts) {run : RelayRun} {start now : Shown} {relay : Relay} {history : History}
-    → f ≡ beginning.facts → Stands run start now relay listening history
-    → Stands run start now relay (record { facts = f; place = Asked [] }) history
-begins f {run} {start} {now} {relay} {history} e s =
-    subst (λ (x : Facts). Stands run start now relay (record { facts = x; place = Asked [] }) history) (sym e) s
+    → ◌≡◌ {A = Facts} (record beginning.facts { state = state; peers = peers }) beginning.facts
+first_facts state peers e f = ap₂ (λ (s : State) (p : List ℕ). record beginning.facts { state = s; peers = p }) e f
 
 -- ---- turns
 pub turn_due : (run : RelayRun) (live : Live) (history : History)
@@ -283,15 +217,6 @@ most_few (Seconds seconds) range = omega arith
 some_turns : (limit : Limit) → IsLimit limit → 1 ≤ most_turns limit
 some_turns (Turns turns) range = range.0
 some_turns (Seconds seconds) range = omega arith
-
-pub one_more : (run : RelayRun) (f : Facts) → goes_on run.limit f.first f.turn f.turns ≡ true
-    → f.turns < most_turns run.limit
-one_more run f on = by (nat_lt f.turns (most_turns run.limit)) refl on
-  where
-    by : (b : Bool) → nat_lt f.turns (most_turns run.limit) ≡ b
-        → (b && not (is_late run.limit f.first f.turn)) ≡ true → f.turns < most_turns run.limit
-    by true e on = grind (arith, nat_tests, e)
-    by false e on = absurd cc
 
 pub few_turns : (run : RelayRun) (f : Facts) → goes_on run.limit f.first f.turn f.turns ≡ true
     → f.turns < 1099511627776
@@ -336,18 +261,11 @@ pub begun : {run : RelayRun} {start now next : Shown} {was is : Relay} {live lat
     → HasRead now next live later was is why.Turn clocked
     → facts_in last ≡ with_turn clocked.reading (facts_in later)
     → IsAt run start next is last (places.begun run (facts_in last))
-begun {run} {next = next} {is = relay} {live} {later} {last} {history} s d clocked r e =
-    let n = r.peers in
-    record {
-      history = clock_entries why.Turn clocked ++ history;
-      stands = record {
-        runs = runs_read s.runs why.Turn d clocked next r (stood last (places.begun run (facts_in last)))
-            (ap (λ (f : Facts). record { facts = f; place = places.begun run f }) (sym e))
-            (peers_quiet s.runs.peers (omega (arith, n)) (kinds_read why.Turn clocked history)
-            (numbers_read next.counts.peers why.Turn clocked history (still s.runs.peers (omega (arith, n))))
-            (ap {A = Facts} (λ x. x.peers) e ∙ ap {A = Facts} (λ x. x.peers) r.only)
-            (ap {A = Facts} (λ x. x.television) e ∙ ap {A = Facts} (λ x. x.television) r.only)
-            (none_named (is_late run.limit last.first last.turn)));
-        knows = knows_clock clocked history why.Turn refl (λ older. refl) (r.known run history s.knows);
-      };
-    }
+begun {run} {last = last} {history} s d clocked r e =
+    here (record {
+      runs = runs_read s.runs why.Turn d clocked r (stood last (places.begun run (facts_in last)))
+          (ap (λ (f : Facts). record { facts = f; place = places.begun run f }) (sym e))
+          (ap {A = Facts} (λ x. x.peers) e) (ap {A = Facts} (λ x. x.television) e)
+          (none_named (is_late run.limit last.first last.turn));
+      knows = knows_clock clocked history why.Turn refl (λ older. refl) (r.known run history s.knows);
+    })

@@ -1,3 +1,4 @@
+pub mod Follows
 pub mod Peers
 pub mod Steps
 pub mod Responses
@@ -8,10 +9,8 @@ pub mod Hears
 pub mod Ends
 pub mod Answering
 pub mod Telling
-pub mod PlainDues
 pub mod ToldSessions
 pub mod Made
 pub mod ReadBack
 pub mod DatagramPlaces
-pub mod Sending
 pub mod SecondHop

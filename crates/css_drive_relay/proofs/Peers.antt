@@ -1,6 +1,6 @@
 -- Which sessions were accepted, and which was dialled, as a history goes on.
-use Rattle.std.proofs.Common.{◌≡◌, ℕ, ◌≤◌, ◌<◌, arith, ap, sym, ◌∙◌, refl, subst, Bool, true, false, cond, List, []}
-use Rattle.std.proofs.Common.{◌∷◌, Option, Some, None, add-one}
+use Rattle.std.proofs.Common.{◌≡◌, ℕ, ◌≤◌, ◌<◌, arith, ap, ◌∙◌, refl, Bool, true, false, cond, List, [], ◌∷◌, ◌++◌}
+use Rattle.std.proofs.Common.{Option, Some, None, add-one}
 use Rattle.std.specs.Prelude.{All, IfSome, ◌==◌, ◌+◌, not, nat_lt}
 use Rattle.std.specs.List.{insert}
 use Rattle.std.specs.Option.{option_or}
@@ -8,136 +8,107 @@ use Rattle.std.proofs.lemmas.Bool.{ne_eqb}
 use Rattle.std.proofs.lemmas.List.Elements.{All-head, All-tail, All-nil, All-cons, All-filter}
 use Rattle.css_model.specs.declared.Kind.{Kind}
 use Rattle.css_model.specs.declared.Kind.TheVariants as kind
-use Rattle.css_model.specs.History.{Address, Dialled, Dialling, History}
+use Rattle.css_model.specs.History.{Dialled, Accepted, History}
 use Rattle.css_companion.specs.Meanings.{kind_of}
-use Rattle.css_drive_relay.specs.Places.{Facts, Called, Progress, place, with_peer, without}
-use Rattle.css_drive.proofs.CompanionSteps.{other_kind, own_kind}
-use Rattle.css_drive.proofs.TvSteps.{below_later}
-use Rattle.css_drive_relay.specs.Standing.{IsAccepted, IsTelevision, IsOpen, IsNumbered, AreUnused, KnowsPeers, named}
+use Rattle.css_drive.specs.TvRan.{AreBelow, AreNumbered}
+use Rattle.css_drive_relay.specs.Places.{Facts, Progress, next_asked, telling, telling_if, place, with_peer, without}
+use Rattle.css_drive_relay.specs.Standing.{AreInOrder, IsPeer, KnowsPeers, named}
 
--- ---- the same kinds
-pub accepted_as : (n m : ℕ) (history later : History) → n ≤ m → ((q : ℕ) → kind_of q later ≡ kind_of q history)
-    → (peers : List ℕ) → All (IsAccepted n history) peers → All (IsAccepted m later) peers
-accepted_as n m history later le same [] all = All-nil (IsAccepted m later)
-accepted_as n m history later le same (p ∷ ps) all =
-    let first = All-head (IsAccepted n history) p ps all in
-    let known : p ≤ n = first.used in
-    All-cons (IsAccepted m later) p ps
-    (record { used = omega (arith, le, known); undialled = same p ∙ first.undialled })
-    (accepted_as n m history later le same ps (All-tail (IsAccepted n history) p ps all))
+-- ---- numbers
+pub in_order_later : (n m : ℕ) (h : History) → AreInOrder n h → n ≤ m → AreInOrder m h
+in_order_later n m [] o le = tt
+in_order_later n m (Dialled k peer ∷ older) o le = let lt = o.0 in (omega (arith, lt, le), o.1)
+in_order_later n m (Accepted peer k ∷ older) o le = let lt = o.0 in (omega (arith, lt, le), o.1)
+in_order_later n m (_ ∷ older) o le = in_order_later n m older o le
 
-pub television_as : (n m : ℕ) (history later : History) → n ≤ m → ((q : ℕ) → kind_of q later ≡ kind_of q history)
-    → (o : Option ℕ) → IfSome o (IsTelevision n history) → IfSome o (IsTelevision m later)
-television_as n m history later le same None is = tt
-television_as n m history later le same (Some p) is =
-    let known : p ≤ n = is.used in
-    record { used = omega (arith, le, known); dialled = same p ∙ is.dialled }
+below : (n m : ℕ) (h : History) → AreInOrder n h → n ≤ m → AreBelow m h
+below n m [] o le = tt
+below n m (Dialled k peer ∷ older) o le = let lt = o.0 in below peer m older o.1 (omega (arith, lt, le))
+below n m (Accepted peer k ∷ older) o le =
+    let lt = o.0 in (omega (arith, lt, le), below peer m older o.1 (omega (arith, lt, le)))
+below n m (_ ∷ older) o le = below n m older o le
 
-pub all_in : {n m : ℕ} {history later : History} → n ≤ m → ((q : ℕ) → kind_of q later ≡ kind_of q history)
-    → (peers : List ℕ) → All (IsAccepted n history) peers → All (IsAccepted m later) peers
-all_in {n} {m} {history} {later} le same peers all = accepted_as n m history later le same peers all
+pub numbered : (n : ℕ) (h : History) → AreInOrder n h → AreNumbered h
+numbered n [] o = tt
+numbered n (Dialled k peer ∷ older) o = numbered peer older o.1
+numbered n (Accepted peer k ∷ older) o = (below peer peer older o.1 (omega arith), numbered peer older o.1)
+numbered n (_ ∷ older) o = numbered n older o
 
-pub accepted : {n m : ℕ} {p : Progress} {history later : History} → KnowsPeers n p history → n ≤ m
-    → ((q : ℕ) → kind_of q later ≡ kind_of q history) → All (IsAccepted m later) p.facts.peers
-accepted {n} {m} {p} {history} {later} k le same = accepted_as n m history later le same p.facts.peers k.accepted
+-- a peer with a greater number was not dialled
+pub unused : (n : ℕ) (h : History) (peer : ℕ) → AreInOrder n h → n ≤ peer → kind_of peer h ≡ None
+unused n [] peer o le = refl
+unused n (Dialled k q ∷ older) peer o le =
+    let lt = o.0 in
+    ap (λ b. option_or (cond b (Some k) None) (kind_of peer older)) (ne_eqb q peer (λ e. omega (arith, lt, le, e)))
+    ∙ unused q older peer o.1 (omega (arith, lt, le))
+unused n (Accepted q k ∷ older) peer o le = let lt = o.0 in unused q older peer o.1 (omega (arith, lt, le))
+unused n (_ ∷ older) peer o le = unused n older peer o le
 
-pub waiting : {n m : ℕ} {p : Progress} {history later : History} → KnowsPeers n p history → n ≤ m
-    → ((q : ℕ) → kind_of q later ≡ kind_of q history) → All (IsAccepted m later) (named p.place)
-waiting {n} {m} {p} {history} {later} k le same = accepted_as n m history later le same (named p.place) k.waiting
+-- ---- sessions that places name
+module _ (P : ℕ → Type 0) where
+  pub all_next : (o : Option ℕ) (peers : List ℕ) → All P peers → All P (named (next_asked o peers))
+  all_next None peers all = all
+  all_next (Some p) peers all = All-nil P
 
-pub television : {n m : ℕ} {p : Progress} {history later : History} → KnowsPeers n p history → n ≤ m
-    → ((q : ℕ) → kind_of q later ≡ kind_of q history) → IsOpen m later p.facts.television
-television {n} {m} {p} {history} {later} k le same =
-    record { is = television_as n m history later le same p.facts.television k.television.is }
+  pub all_telling : (text left : List ℕ) (f : Facts) → All P left → All P f.peers → All P (named (telling text left f))
+  all_telling text [] f all peers = peers
+  all_telling text (p ∷ ps) f all peers = all
 
-pub unused : {n m : ℕ} {p : Progress} {history later : History} → KnowsPeers n p history → n ≤ m
-    → ((q : ℕ) → kind_of q later ≡ kind_of q history) → IsNumbered m later → AreUnused m later
-unused {n} {m} k le same numbered =
-    record { none = λ peer lt. same peer ∙ k.unused.none peer (omega (arith, le, lt)); numbered = numbered }
+  pub all_telling_if : (text : Option (List ℕ)) (f : Facts) → All P f.peers → All P (named (telling_if text f))
+  all_telling_if None f peers = peers
+  all_telling_if (Some text) f peers = all_telling text f.peers f peers peers
 
--- the numbers of those that were accepted, where none was since
-pub still : {n m : ℕ} {p : Progress} {history : History} → KnowsPeers n p history → n ≤ m → IsNumbered m history
-still {n} {m} {history = history} k le =
-    let numbered = k.unused.numbered in
-    (below_later (n + 1) (m + 1) history (omega (arith, le)) numbered.0, numbered.1)
+  pub all_without : (peer : ℕ) (peers : List ℕ) → All P peers → All P (without peer peers)
+  all_without peer peers all = All-filter (λ other. not (other == peer)) P peers all
 
--- the same sessions, at a place that names none of them
-pub peers_quiet : {n m : ℕ} {p q : Progress} {history later : History} → KnowsPeers n p history → n ≤ m
-    → ((peer : ℕ) → kind_of peer later ≡ kind_of peer history) → IsNumbered m later → q.facts.peers ≡ p.facts.peers
-    → q.facts.television ≡ p.facts.television → named q.place ≡ [] → KnowsPeers m q later
-peers_quiet {m = m} {later = later} k le same numbered peers tv none = record {
-  accepted = subst (λ (x : List ℕ). All (IsAccepted m later) x) (sym peers) (accepted k le same);
-  waiting = subst (λ (x : List ℕ). All (IsAccepted m later) x) (sym none) (All-nil (IsAccepted m later));
-  television = subst (λ (x : Option ℕ). IsOpen m later x) (sym tv) (television k le same);
-  unused = unused k le same numbered;
-}
+  pub snoc : (peer : ℕ) (peers : List ℕ) → All P peers → P peer → All P (peers ++ peer ∷ [])
+  snoc peer [] all is = All-cons P peer [] is (All-nil P)
+  snoc peer (p ∷ ps) all is =
+      All-cons P p (ps ++ peer ∷ []) (All-head P p ps all) (snoc peer ps (All-tail P p ps all) is)
 
--- the accepted sessions without one
-pub all_without : {n : ℕ} {history : History} (peer : ℕ) (peers : List ℕ) → All (IsAccepted n history) peers
-    → All (IsAccepted n history) (without peer peers)
-all_without {n} {history} peer peers all =
-    All-filter (λ other. not (other == peer)) (IsAccepted n history) peers all
+  module _ (R : ℕ → Type 0) (later : (peer : ℕ) → P peer → R peer) where
+    all_later : (peers : List ℕ) → All P peers → All R peers
+    all_later [] all = All-nil R
+    all_later (p ∷ ps) all = All-cons R p ps (later p (All-head P p ps all)) (all_later ps (All-tail P p ps all))
 
--- ---- dials
-accepted_dialled : (n m q : ℕ) (k : Kind) (to : Address) (history : History) → n < q → q ≤ m → (peers : List ℕ)
-    → All (IsAccepted n history) peers → All (IsAccepted m (Dialled k q ∷ Dialling k to ∷ history)) peers
-accepted_dialled n m q k to history lt le [] all = All-nil (IsAccepted m (Dialled k q ∷ Dialling k to ∷ history))
-accepted_dialled n m q k to history lt le (p ∷ ps) all =
-    let first = All-head (IsAccepted n history) p ps all in
-    let known : p ≤ n = first.used in
-    All-cons (IsAccepted m (Dialled k q ∷ Dialling k to ∷ history)) p ps
-    (record {
-      used = omega (arith, le, lt, known);
-      undialled = other_kind n p q k to history known lt ∙
-          first.undialled;
-    })
-    (accepted_dialled n m q k to history lt le ps (All-tail (IsAccepted n history) p ps all))
+    if_later : (o : Option ℕ) → IfSome o P → IfSome o R
+    if_later None is = tt
+    if_later (Some p) is = later p is
 
-television_dialled : (n m q : ℕ) (k : Kind) (to : Address) (history : History) → n < q → q ≤ m → (o : Option ℕ)
-    → IfSome o (IsTelevision n history) → IfSome o (IsTelevision m (Dialled k q ∷ Dialling k to ∷ history))
-television_dialled n m q k to history lt le None is = tt
-television_dialled n m q k to history lt le (Some p) is =
-    let known : p ≤ n = is.used in
-    record { used = omega (arith, le, lt, known); dialled = other_kind n p q k to history known lt ∙ is.dialled }
+-- ---- greater numbers
+module _ (n m : ℕ) (history : History) (le : n ≤ m) where
+  peer_later : (k : Option Kind) (peer : ℕ) → IsPeer n history k peer → IsPeer m history k peer
+  peer_later k peer is = let lt = is.0 in (omega (arith, lt, le), is.1)
 
-unused_dialled : (n m q : ℕ) (k : Kind) (to : Address) (history : History) → n < q → q ≤ m
-    → AreUnused n history → AreUnused m (Dialled k q ∷ Dialling k to ∷ history)
-unused_dialled n m q k to history lt le unused = record {
-  none = λ peer more.
-      ap (λ b. option_or (cond b (Some k) None) (kind_of peer history))
-      (ne_eqb q peer (λ e. omega (arith, le, more, e)))
-      ∙ unused.none peer (omega (arith, lt, le, more));
-  numbered =
-      (below_later (n + 1) (m + 1) history (omega (arith, lt, le)) unused.numbered.0, unused.numbered.1);
-}
+  pub peers_later : (p : Progress) → KnowsPeers n p history → KnowsPeers m p history
+  peers_later p x = (
+    all_later (IsPeer n history None) (IsPeer m history None) (peer_later None) p.facts.peers x.0,
+    all_later (IsPeer n history None) (IsPeer m history None) (peer_later None) (named p.place) x.1,
+    if_later (IsPeer n history (Some kind.Cii)) (IsPeer m history (Some kind.Cii)) (peer_later (Some kind.Cii))
+        p.facts.television x.2,
+    in_order_later n m history x.3 le,
+  )
 
--- the television's session was dialled
-pub peers_cii : {n m q : ℕ} {to : Address} {p : Progress} {history : History} → KnowsPeers n p history → n < q → q ≤ m
-    → (f : Facts) → KnowsPeers m (record {
-      facts = record f { peers = p.facts.peers; television = Some q };
-      place = Called kind.Cii;
-    }) (Dialled kind.Cii q ∷ Dialling kind.Cii to ∷ history)
-peers_cii {n} {m} {q} {to} {p} {history} k lt le f = record {
-  accepted = accepted_dialled n m q kind.Cii to history lt le p.facts.peers k.accepted;
-  waiting = All-nil (IsAccepted m (Dialled kind.Cii q ∷ Dialling kind.Cii to ∷ history));
-  television = record { is = record { used = le; dialled = own_kind q kind.Cii to history } };
-  unused = unused_dialled n m q kind.Cii to history lt le k.unused;
-}
+-- a dial gave this peer, which no other has
+module _ (n m q : ℕ) (k : Kind) (history : History) (le : n ≤ q) (lt : q < m) where
+  peer_dialled : (which : Option Kind) (peer : ℕ) → IsPeer n history which peer
+      → IsPeer m (Dialled k q ∷ history) which peer
+  peer_dialled which peer is =
+      let less = is.0 in (
+        omega (arith, lt, le, less),
+        ap (λ b. option_or (cond b (Some k) None) (kind_of peer history))
+            (ne_eqb q peer (λ e. omega (arith, less, le, e))) ∙ is.1,
+      )
 
--- the wall clock was
-pub peers_wc : {n m q : ℕ} {to : Address} {p : Progress} {history : History} → KnowsPeers n p history → n < q → q ≤ m
-    → (f : Facts) → KnowsPeers m (record {
-      facts = record f { peers = p.facts.peers; television = p.facts.television };
-      place = Called kind.Wc;
-    }) (Dialled kind.Wc q ∷ Dialling kind.Wc to ∷ history)
-peers_wc {n} {m} {q} {to} {p} {history} k lt le f = record {
-  accepted = accepted_dialled n m q kind.Wc to history lt le p.facts.peers k.accepted;
-  waiting = All-nil (IsAccepted m (Dialled kind.Wc q ∷ Dialling kind.Wc to ∷ history));
-  television = record {
-    is = television_dialled n m q kind.Wc to history lt le p.facts.television k.television.is;
-  };
-  unused = unused_dialled n m q kind.Wc to history lt le k.unused;
-}
+  pub all_dialled : (peers : List ℕ) → All (IsPeer n history None) peers
+      → All (IsPeer m (Dialled k q ∷ history) None) peers
+  all_dialled = all_later (IsPeer n history None) (IsPeer m (Dialled k q ∷ history) None) (peer_dialled None)
+
+  pub television_dialled : (o : Option ℕ) → IfSome o (IsPeer n history (Some kind.Cii))
+      → IfSome o (IsPeer m (Dialled k q ∷ history) (Some kind.Cii))
+  television_dialled =
+      if_later (IsPeer n history (Some kind.Cii)) (IsPeer m (Dialled k q ∷ history) (Some kind.Cii))
+      (peer_dialled (Some kind.Cii))
 
 -- ---- order
 -- a peer is added before the first greater one

@@ -1,13 +1,9 @@
 -- Why each response of a relay's whole run answers the request that was taken last before it.
-use Rattle.std.proofs.Common.{◌≡◌, ℕ, ◌≤◌, Bool, true, false, List, [], ◌∷◌, ◌++◌, Option, Some, None, length, refl}
+use Rattle.std.proofs.Common.{◌≡◌, ℕ, ◌≤◌, List, [], ◌∷◌, Option, Some, None, length, refl}
 use Rattle.std.proofs.Common.{sym, ap, subst, ◌∙◌, arith, inl, inr, take}
 use Rattle.std.specs.Prelude.{◌⊎◌, IfSome, IsTrue, Result, Ok, Err}
 use Rattle.std.specs.Result.{result_ok}
-use Rattle.css_drive.specs.Proper.{Due, Listen, Now, Dial, Accept, SendDatagram, TakeDatagram, TakeText, SendText}
-use Rattle.css_drive.specs.Proper.{HangUp, Ends, MayAdd, Empty, More}
 use Rattle.css_model.specs.declared.Message.{Message}
-use Rattle.css_model.specs.declared.Kind.{Kind}
-use Rattle.css_model.specs.declared.Why.{Why}
 use Rattle.css_model.specs.declared.Why.TheVariants as why
 use Rattle.css_model.specs.WallClock.{Local}
 use Rattle.css_model.specs.Wire.{encoded, decoded}
@@ -15,24 +11,19 @@ use Rattle.css_model.specs.World.{World, Errors, IsWorldFor, IsInRange}
 use Rattle.css_model.specs.Explains.{IsLawful, IsTruthful, TruthfulAt, Explains}
 use Rattle.css_model.proofs.Wall.{wall_is_true}
 use Rattle.css_model.specs.History.{Entry, History, Each, Once, LandedAnswer, landed_answer, landed_answers}
-use Rattle.css_model.specs.History.{is_possible, Listening, Slept, Clock, Dialling, Dialled, NotDialled, Accepted}
-use Rattle.css_model.specs.History.{NoneCame, Sent, Took, TookNone, Quiet, Heard, Closed, Wrote, Gone, HungUp}
-use Rattle.css_outside.specs.Outsides.{opening_entries, datagram_entries, heard_entries, wrote_entries, sleep_entries}
-use Rattle.css_outside.specs.declared.calls.Heard.{Heard as SessionHeard}
-use Rattle.css_outside.specs.declared.calls.Heard.TheVariants as heard
-use Rattle.css_outside.specs.declared.calls.Wrote.{Wrote as Outcome}
-use Rattle.css_outside.specs.declared.calls.Wrote.TheVariants as outcome
+use Rattle.css_model.specs.History.{is_possible, Slept, Clock, Sent}
 use Rattle.css_relay.specs.Answers.{answered_after}
 use Rattle.css_relay.specs.TwoHops.{IsAnswerOf, IsTrueResponse}
 use Rattle.css_relay.specs.declared.fault.RelayFault.{RelayFault}
 use Rattle.css_relay.proofs.TwoHops as two
 use Rattle.css_drive_relay.specs.Places.{Place, Received, progress_of}
-use Rattle.css_drive_relay.specs.Due.{due_at, IsProperRelay}
+use Rattle.css_drive_relay.specs.Due.{IsProperRelay}
 use Rattle.css_drive_relay.specs.SecondHop.{given_at, given_by, IsGiven, last_take, GivenIsTrue, IsTrueAnswer}
 use Rattle.css_drive_relay.specs.SecondHop.{IsRequest, IsResponse, IsSentAt, IsFromRun, FromRunAt, SecondHopsAreTrue}
-use Rattle.css_drive_relay.proofs.DatagramPlaces.{Shows, Shape, shape_of}
+use Rattle.css_drive_relay.proofs.Answering.{answer_later}
+use Rattle.css_drive_relay.proofs.DatagramPlaces.{awake, Shows, shape_of, sent_is_known}
+use Rattle.css_drive_relay.proofs.Follows.{Followed, followed}
 use Rattle.css_drive_relay.proofs.ReadBack.{TellSame, reads_back, true_as}
-use Rattle.css_drive_relay.proofs.Sending.{sent_is_known}
 use Rattle.css_drive_relay.specs.declared.config.RelayRun.{RelayRun}
 
 -- ---- responses that were given
@@ -44,151 +35,55 @@ record IsFound (own : Local) (h : History) (message : Message) (before : History
 
 found_later : {own : Local} {h : History} {message : Message} {before : History} (entry : Entry)
     → IsFound own h message before → IsFound own (entry ∷ h) message before
-found_later entry x = record {
-  answer = record {
-    request = x.answer.request;
-    ticket = x.answer.ticket;
-    take = x.answer.take;
-    give = x.answer.give;
-    before_take = x.answer.before_take;
-    before_give = x.answer.before_give;
-    taken = x.answer.taken;
-    given = inr x.answer.given;
-    received = x.answer.received;
-    answered = x.answer.answered;
-  };
-  at_take = x.at_take;
-  at_give = x.at_give;
-}
+found_later entry x = record { answer = answer_later entry x.answer; at_take = x.at_take; at_give = x.at_give }
 
-abbrev Finds : RelayRun → History → Type 0
-Finds run h = (message : Message) (before : History) → IsGiven run h message before
-    → IsFound run.companion.local h message before
-
--- an entry that gives none
-skip : (run : RelayRun) (older : History) (entry : Entry) → given_by run entry older ≡ None → Finds run older
-    → Finds run (entry ∷ older)
-skip run older entry none finds message before (inl here) =
-    absurd (let e : None ≡ Some message = sym none ∙ here.0 in cc)
-skip run older entry none finds message before (inr later) = found_later entry (finds message before later)
-
-ok_some : (x : Result Message RelayFault) (message : Message) → result_ok x ≡ Some message → x ≡ Ok message
-ok_some (Ok m) message e = cc
-ok_some (Err fault) message e = absurd (cc)
-
--- the request was taken just before the sleeps, if there were any
-taken_before : (take : ℕ) (b h : History) (slept : Bool) → h ≡ Clock why.Take take ∷ b
-    → Once (λ entry older. (entry ≡ Clock why.Take take) × (older ≡ b)) (sleep_entries slept ++ h)
-taken_before take b h false e =
-    subst (λ (x : History). Once (λ entry older. (entry ≡ Clock why.Take take) × (older ≡ b)) x) (sym e)
-    (inl (refl, refl))
-taken_before take b h true e =
-    inr (subst (λ (x : History). Once (λ entry older. (entry ≡ Clock why.Take take) × (older ≡ b)) x) (sym e)
-    (inl (refl, refl)))
-
-last_before : (take : ℕ) (b h : History) (slept : Bool) → h ≡ Clock why.Take take ∷ b
-    → length b ≡ last_take (sleep_entries slept ++ h)
-last_before take b h false e = sym (ap last_take e)
-last_before take b h true e = sym (ap last_take e)
+-- the request was taken last, but for sleeps
+taken_before : (take : ℕ) (b h : History) → awake h ≡ Clock why.Take take ∷ b
+    → Once (λ entry older. (entry ≡ Clock why.Take take) × (older ≡ b)) h × (length b ≡ last_take h)
+taken_before take b (Slept ∷ older) e = let x = taken_before take b older e in (inr x.0, x.1)
+taken_before take b h e = (
+  subst (λ (x : History). Once (λ entry older. (entry ≡ Clock why.Take take) × (older ≡ b)) x) (sym e)
+      (inl (refl, refl)),
+  sym (ap last_take e),
+)
 
 -- it is given with a reading
-gives : (run : RelayRun) (h : History) (reading : ℕ) (slept : Bool) (message : Message) (place : Place)
-    → Shows run h place
-    → given_at run reading (sleep_entries slept ++ h) place ≡ Some message
-    → IsFound run.companion.local (Clock why.Give reading ∷ (sleep_entries slept ++ h)) message
-    (sleep_entries slept ++ h)
-gives run h reading slept message (Received peer ticket) shape is = record {
-  answer = record {
-    request = shape.request;
-    ticket = ticket;
-    take = shape.take;
-    give = reading;
-    before_take = shape.before;
-    before_give = sleep_entries slept ++ h;
-    taken = taken_before shape.take shape.before h slept shape.just;
-    given = inl (refl, refl);
-    received = shape.received;
-    answered =
-        ok_some (answered_after run.companion.local (sleep_entries slept ++ h) reading ticket) message is;
-  };
-  at_take = last_before shape.take shape.before h slept shape.just;
-  at_give = refl;
-}
-gives run h reading slept message place shape is = absurd (cc)
+gives : (run : RelayRun) (older : History) (reading : ℕ) (message : Message) (place : Place) → Shows run older place
+    → given_at run reading older place ≡ Some message
+    → IsFound run.companion.local (Clock why.Give reading ∷ older) message older
+gives run older reading message (Received peer ticket) shows is =
+    let taken = taken_before shows.take shows.before older shows.just in
+    record {
+      answer = record {
+        request = shows.request;
+        ticket = ticket;
+        take = shows.take;
+        give = reading;
+        before_take = shows.before;
+        before_give = older;
+        taken = taken.0;
+        given = inl (refl, refl);
+        received = shows.received;
+        answered = ok_some (answered_after run.companion.local older reading ticket) is;
+      };
+      at_take = taken.1;
+      at_give = refl;
+    }
+  where
+    ok_some : (x : Result Message RelayFault) → result_ok x ≡ Some message → x ≡ Ok message
+    ok_some (Ok m) e = cc
+    ok_some (Err fault) e = absurd (cc)
+gives run older reading message place shows is = absurd (cc)
 
-module _ (run : RelayRun) (older : History) (shape : Shape run older) (finds : Finds run older) where
-  slept_finds : (slept : Bool) → Finds run (sleep_entries slept ++ older)
-  slept_finds false = finds
-  slept_finds true = skip run older Slept refl finds
-
-  slept_place : (slept : Bool) → (progress_of run (sleep_entries slept ++ older)).place ≡ (progress_of run older).place
-  slept_place false = refl
-  slept_place true = refl
-
-  give_finds : (reading : ℕ) (slept : Bool) → Finds run (Clock why.Give reading ∷ (sleep_entries slept ++ older))
-  give_finds reading slept message before (inl here) =
-      subst (λ (x : History). IsFound run.companion.local (Clock why.Give reading ∷ (sleep_entries slept ++ older))
-      message x) here.1
-      (gives run older reading slept message (progress_of run older).place shape
-      (sym (ap (λ (place : Place). given_at run reading (sleep_entries slept ++ older) place) (slept_place slept))
-      ∙ here.0))
-  give_finds reading slept message before (inr later) =
-      found_later (Clock why.Give reading) (slept_finds slept message before later)
-
-  clock_finds : (w : Why) (reading : ℕ) (slept : Bool) → Finds run (Clock w reading ∷ (sleep_entries slept ++ older))
-  clock_finds why.Turn reading slept = skip run _ (Clock why.Turn reading) refl (slept_finds slept)
-  clock_finds why.Ask reading slept = skip run _ (Clock why.Ask reading) refl (slept_finds slept)
-  clock_finds why.Land reading slept = skip run _ (Clock why.Land reading) refl (slept_finds slept)
-  clock_finds why.Take reading slept = skip run _ (Clock why.Take reading) refl (slept_finds slept)
-  clock_finds why.Give reading slept = give_finds reading slept
-
-  opening_finds : (o : Option (ℕ × Kind)) → Finds run (opening_entries o ++ older)
-  opening_finds None = skip run older NoneCame refl finds
-  opening_finds (Some (peer, k)) = skip run older (Accepted peer k) refl finds
-
-  datagram_finds : (room : List ℕ) (o : Option (ℕ × ℕ)) → Finds run (datagram_entries room o ++ older)
-  datagram_finds room None = skip run older TookNone refl finds
-  datagram_finds room (Some (peer, count)) = skip run older (Took peer (take count room)) refl finds
-
-  text_finds : (peer : ℕ) (x : SessionHeard) → Finds run (heard_entries peer x ++ older)
-  text_finds peer heard.Quiet = skip run older (Quiet peer) refl finds
-  text_finds peer (heard.Text text) = skip run older (Heard peer text) refl finds
-  text_finds peer heard.Closed = skip run older (Closed peer) refl finds
-
-  writing_finds : (peer : ℕ) (text : List ℕ) (x : Outcome) → Finds run (wrote_entries peer text x ++ older)
-  writing_finds peer text outcome.Sent = skip run older (Wrote peer text) refl finds
-  writing_finds peer text outcome.Gone = skip run older (Gone peer) refl finds
-
-  call_finds : (d : Due) (call : History) → MayAdd d call → Finds run (call ++ older)
-  call_finds (Listen host port) call may =
-      subst (λ (x : History). Finds run (x ++ older)) (sym may) (skip run older (Listening host port) refl finds)
-  call_finds (Now w) call may =
-      subst (λ (x : History). Finds run (x ++ older)) (sym may.1) (clock_finds w may.0.reading may.0.slept)
-  call_finds (Dial k to) call (inl may) =
-      subst (λ (x : History). Finds run (x ++ older)) (sym may.1)
-      (skip run (Dialling k to ∷ older) (Dialled k may.0) refl (skip run older (Dialling k to) refl finds))
-  call_finds (Dial k to) call (inr may) =
-      subst (λ (x : History). Finds run (x ++ older)) (sym may)
-      (skip run (Dialling k to ∷ older) (NotDialled k) refl (skip run older (Dialling k to) refl finds))
-  call_finds Accept call may =
-      subst (λ (x : History). Finds run (x ++ older)) (sym may.1) (opening_finds may.0)
-  call_finds (SendDatagram peer bytes) call may =
-      subst (λ (x : History). Finds run (x ++ older)) (sym may) (skip run older (Sent peer bytes) refl finds)
-  call_finds TakeDatagram call may =
-      subst (λ (x : History). Finds run (x ++ older)) (sym may.2) (datagram_finds may.0 may.1)
-  call_finds (TakeText peer) call may =
-      subst (λ (x : History). Finds run (x ++ older)) (sym may.1) (text_finds peer may.0)
-  call_finds (SendText peer text) call may =
-      subst (λ (x : History). Finds run (x ++ older)) (sym may.1) (writing_finds peer text may.0)
-  call_finds (HangUp peer) call may =
-      subst (λ (x : History). Finds run (x ++ older)) (sym may) (skip run older (HungUp peer) refl finds)
-  call_finds (Ends ended) call may = absurd may
-
-finds_all : (run : RelayRun) (h : History) → IsProperRelay run h → Finds run h
-finds_all run [] Empty = λ message before once. absurd once
-finds_all run h (More {older} call may proper) =
-    call_finds run older (shape_of run older proper) (finds_all run older proper)
-    (due_at run (progress_of run older).facts older (progress_of run older).place) call may
+found : (run : RelayRun) (h : History) → Followed run h → (message : Message) (before : History)
+    → IsGiven run h message before → IsFound run.companion.local h message before
+found run [] each message before once = absurd once
+found run (Clock why.Give reading ∷ older) each message before (inl here) =
+    subst (λ (x : History). IsFound run.companion.local (Clock why.Give reading ∷ older) message x) here.1
+    (gives run older reading message (progress_of run older).place (shape_of run older each.1) here.0)
+found run (entry ∷ older) each message before (inl here) = absurd (cc)
+found run (entry ∷ older) each message before (inr later) =
+    found_later entry (found run older each.1 message before later)
 
 -- ---- the laws
 true_at : (world : World) (tv_error : ℕ) (moment_of : ℕ → ℕ) (message : Message) (before : History) (take give : ℕ)
@@ -201,7 +96,7 @@ true_at world tv_error moment_of message before take give is_take is_give x =
 
 pub given_is_true : GivenIsTrue
 given_is_true errors world who run history moment_of message before proper for range lawful explains given =
-    let x : IsFound run.companion.local history message before = finds_all run history proper message before given in
+    let x : IsFound run.companion.local history message before = found run history (followed run history proper) message before given in
     let is : IsTrueResponse world errors.tv (moment_of (last_take before)) (moment_of (length before)) message =
     true_at world errors.tv moment_of message before (length x.answer.before_take) (length x.answer.before_give)
     x.at_take (ap length x.at_give)
@@ -261,7 +156,7 @@ module _ (errors : Errors) (world : World) (who : ℕ) (run : RelayRun) (history
       let sent = sent_of run x.peer x.bytes x.give x.before history (sent_is_known run history proper) x.sent in
       let message : Message = sent.0 in
       let found : IsFound run.companion.local history message x.before =
-      finds_all run history proper message x.before sent.1 in
+      found run history (followed run history proper) message x.before sent.1 in
       let is : IsTrueAnswer world errors.tv moment_of x.before message =
       given_is_true errors world who run history moment_of message x.before proper keeps range lawful explains sent.1 in
       let same : TellSame message landed.message =

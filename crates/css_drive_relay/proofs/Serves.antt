@@ -1,16 +1,15 @@
 -- What a relay's requests, landings and answers make of its run.
-use Rattle.std.proofs.Common.{◌≡◌, ℕ, ◌≤◌, arith, ap, sym, ◌∙◌, refl, Bool, true, false, cond, List, [], ◌∷◌, ◌++◌}
+use Rattle.std.proofs.Common.{◌≡◌, ℕ, ap, sym, ◌∙◌, subst, refl, Bool, true, false, cond, List, [], ◌∷◌, ◌++◌}
 use Rattle.std.proofs.Common.{take, Option, Some, None, Result, Ok, Err}
 use Rattle.std.specs.Prelude.{is_some, ◌&&◌, MatchResult}
 use Rattle.std.specs.Option.{option_map}
 use Rattle.css_model.specs.declared.Message.{Message}
-use Rattle.css_model.specs.declared.Why.{Why}
 use Rattle.css_model.specs.declared.Why.TheVariants as why
 use Rattle.css_model.specs.Explains.{IsLawful}
 use Rattle.css_model.specs.History.{Clock, Sent, Took, TookNone, History, request_in}
 use Rattle.css_model.specs.Wire.{encoded, request_at}
 use Rattle.css_model.specs.WallClock.{Local}
-use Rattle.css_outside.specs.Outsides.{Counts, with_entries, clock_entries, sleep_entries}
+use Rattle.css_outside.specs.Outsides.{clock_entries, sleep_entries}
 use Rattle.css_outside.specs.declared.calls.Clocked.{Clocked}
 use Rattle.css_companion.specs.Standing.{StandsFor, own_of}
 use Rattle.css_relay.specs.Answers.{Ticket, received_after, answered_after, datagram_of}
@@ -21,21 +20,18 @@ use Rattle.css_drive.specs.CompanionStanding.{Shown, Adds, Failed}
 use Rattle.css_drive.specs.CompanionTurns.{is_asking}
 use Rattle.css_drive.specs.Proper.{Due, SendDatagram, TakeDatagram}
 use Rattle.css_drive.specs.declared.driven.Driven.{Driven}
-use Rattle.css_drive.proofs.CompanionCalls.{lawful_plain, same_peers}
-use Rattle.css_drive_relay.specs.Places.{Facts, Place, Asking, Requested, Taken, Received, Answers, Served, after}
+use Rattle.css_drive.proofs.CompanionCalls.{lawful_plain}
+use Rattle.css_drive_relay.specs.Places.{Facts, Place, Asking, Requested, Taken, Received, Answers, Served}
 use Rattle.css_drive_relay.specs.Places.{received, answering}
 use Rattle.css_drive_relay.specs.Due.{due_at, from_ask, from_take, from_taken}
-use Rattle.css_drive_relay.specs.Standing.{Knows, KnowsPeers, Runs, Stands, IsAt, Comes, Arrives, HasRead, facts_in}
+use Rattle.css_drive_relay.specs.Standing.{Knows, IsPeer, Runs, Stands, IsAt, Comes, Arrives, HasRead, facts_in}
 use Rattle.css_drive_relay.specs.Standing.{stood, named}
 use Rattle.css_drive_relay.specs.declared.config.RelayRun.{RelayRun}
 use Rattle.css_drive_relay.specs.declared.live.Live.{Live}
 use Rattle.css_drive_relay.proofs.Dialling.{comes}
-use Rattle.css_drive_relay.proofs.Peers.{peers_quiet, still}
-use Rattle.css_drive_relay.proofs.Steps.{knows_plain, knows_clock, lawful, runs_more, runs_on, runs_read, kinds_read}
-use Rattle.css_drive_relay.proofs.Steps.{numbers_read, stops_by_fault}
-
-pub same_faults : {old new : Counts} → new ≡ old → new.faults ≡ old.faults
-same_faults e = ap {A = Counts} (λ x. x.faults) e
+use Rattle.std.proofs.lemmas.List.Elements.{All-nil}
+use Rattle.css_drive_relay.proofs.Steps.{knows_plain, knows_clock, lawful, runs_on, runs_read, stands_on, here}
+use Rattle.css_drive_relay.proofs.Steps.{stops_by_fault}
 
 -- ---- what is due
 ask_due : (o : Option ℕ) (b : Bool) (x y : Due) (peer : ℕ) → o ≡ Some peer → b ≡ true → cond (is_some o && b) x y ≡ x
@@ -47,18 +43,6 @@ pub ask_undialled : (o : Option ℕ) (b : Bool) (x y : Due) → o ≡ None → c
 ask_undialled None b x y e = refl
 ask_undialled (Some q) b x y e = absurd (cc)
 
--- the peers that are known stay known as the clock is read, at a place that names none
-peers_read : {now mid : Shown} {live later : Live} {history : History} {was is : Relay} {clocked : Clocked} {w : Why}
-    (place next : Place) → KnowsPeers now.counts.peers (stood live place) history
-    → HasRead now mid live later was is w clocked → named next ≡ []
-    → KnowsPeers mid.counts.peers (stood later next) (clock_entries w clocked ++ history)
-peers_read {mid = mid} {history = history} {clocked = clocked} {w} place next k r none =
-    let same = r.peers in
-    peers_quiet k (omega (arith, same)) (kinds_read w clocked history)
-    (numbers_read mid.counts.peers w clocked history (still k (omega (arith, same))))
-    (ap {A = Facts} (λ x. x.peers) r.only)
-    (ap {A = Facts} (λ x. x.television) r.only) none
-
 module _ {run : RelayRun} {start now : Shown} {live later : Live} {history : History} {was is : Relay}
     {clocked : Clocked} {mid : Shown} where
   -- ---- the relay's own request
@@ -68,15 +52,15 @@ module _ {run : RelayRun} {start now : Shown} {live later : Live} {history : His
       → HasRead now mid live later was is why.Ask clocked
       → Runs run start mid (stood later (Asking clocked.reading)) (clock_entries why.Ask clocked ++ history)
   asks s is-due peer some time r =
-      runs_read s why.Ask (is-due ∙ ask_due live.wc _ _ _ peer some time) clocked mid r
-      (stood later (Asking clocked.reading)) refl (peers_read _ _ s.peers r refl)
+      runs_read s why.Ask (is-due ∙ ask_due live.wc _ _ _ peer some time) clocked r
+      (stood later (Asking clocked.reading)) refl refl refl refl
 
   -- ---- landings
   pub lands : {peer : ℕ} {taken : List ℕ} → Runs run start now (stood live (Taken peer taken)) history
       → is_some (request_in taken) ≡ false → HasRead now mid live later was is why.Land clocked
       → Runs run start mid (stood later Served) (clock_entries why.Land clocked ++ history)
   lands s none r =
-      runs_read s why.Land (ap from_taken none) clocked mid r (stood later Served) refl (peers_read _ _ s.peers r refl)
+      runs_read s why.Land (ap from_taken none) clocked r (stood later Served) refl refl refl refl
 
   -- ---- requests of others
   pub receives : {peer : ℕ} {taken bytes : List ℕ} → Stands run start now was (stood live (Taken peer taken)) history
@@ -86,14 +70,14 @@ module _ {run : RelayRun} {start now : Shown} {live later : Live} {history : His
       → result ≡ received_after (own_of is.companion) history clocked.reading bytes)
       → Stands run start mid is (stood later (received peer result)) (clock_entries why.Take clocked ++ history)
   receives {peer} {taken} s some r same result value = let k = r.known run history s.knows in record {
-    runs = runs_read s.runs why.Take (ap from_taken some) clocked mid r (stood later (received peer result))
+    runs = runs_read s.runs why.Take (ap from_taken some) clocked r (stood later (received peer result))
         (ap (λ (x : Result Ticket RelayFault). stood later (received peer x))
         (ap (λ (own : Local). received_after own (sleep_entries clocked.slept ++ history) clocked.reading taken)
         (sym k.own)
         ∙ ap (λ (x : List ℕ). received_after (own_of is.companion) (sleep_entries clocked.slept ++ history)
         clocked.reading x) same
         ∙ sym (value (sleep_entries clocked.slept ++ history) k.stands)))
-        (peers_read _ _ s.runs.peers r (by result));
+        refl refl (by result);
     knows = knows_clock clocked history why.Take refl (λ older. refl) k;
   }
     where
@@ -108,14 +92,14 @@ module _ {run : RelayRun} {start now : Shown} {live later : Live} {history : His
       → result ≡ datagram_of (answered_after (own_of is.companion) history clocked.reading spent))
       → Stands run start mid is (stood later (answering peer result)) (clock_entries why.Give clocked ++ history)
   answers {peer} {ticket} s r same result value = let k = r.known run history s.knows in record {
-    runs = runs_read s.runs why.Give refl clocked mid r (stood later (answering peer result))
+    runs = runs_read s.runs why.Give refl clocked r (stood later (answering peer result))
         (ap (λ (x : Result (List ℕ) RelayFault). stood later (answering peer x))
         (ap (λ (own : Local). datagram_of (answered_after own (sleep_entries clocked.slept ++ history)
         clocked.reading ticket)) (sym k.own)
         ∙ ap (λ (x : Ticket). datagram_of (answered_after (own_of is.companion) (sleep_entries clocked.slept
         ++ history) clocked.reading x)) same
         ∙ sym (value (sleep_entries clocked.slept ++ history) k.stands)))
-        (peers_read _ _ s.runs.peers r (by result));
+        refl refl (by result);
     knows = knows_clock clocked history why.Give refl (λ older. refl) k;
   }
     where
@@ -132,14 +116,11 @@ pub requested : {run : RelayRun} {start now next : Shown} {later : Live} {relay 
     → Comes run start next relay later from_take
 requested {run} {start} {now} {next} {later} {history = history} live reading peer bytes s some request a k e =
     comes {place = Requested} (record {
-      runs = runs_more s (SendDatagram peer bytes)
+      runs = subst (λ (f : Facts). Runs run start next (record { facts = f; place = Requested })
+          (Sent peer bytes ∷ history)) (sym e)
+          (runs_on s (SendDatagram peer bytes)
           (ap (λ o. send_to o (encoded (request_at reading))) some ∙ ap (λ b. SendDatagram peer b) (sym request))
-          (Sent peer bytes ∷ []) refl next a.told (same_faults a.same) (stood later Requested)
-          (ap (after run (Sent peer bytes) history) s.progress
-          ∙ ap (λ (f : Facts). record { facts = f; place = Requested }) (sym e))
-          (peers_quiet s.peers (same_peers a.same) (λ q. refl) (still s.peers (same_peers a.same))
-          (ap {A = Facts} (λ x. x.peers) e)
-          (ap {A = Facts} (λ x. x.television) e) refl);
+          (Sent peer bytes) refl a (λ n x. x));
       knows = k;
     }) from_take refl
 
@@ -149,52 +130,28 @@ pub answer_sent : {run : RelayRun} {start now : Shown} {relay : Relay} {history 
     → request_in bytes ≡ None → (result : Result (Unit {0}) Driven)
     → MatchResult result (λ _. Adds now next (Sent peer bytes ∷ [])) (Failed now next)
     → Arrives run start next relay live Served result
-answer_sent {run} {history = history} live next peer bytes s none (Ok done) a = record {
-  history = Sent peer bytes ∷ history;
-  stands = record {
-    runs = runs_on s.runs (SendDatagram peer bytes) refl (Sent peer bytes) refl next a.told (same_faults a.same)
-        (peers_quiet s.runs.peers (same_peers a.same) (λ q. refl) (still s.runs.peers (same_peers a.same)) refl refl
-        refl);
-    knows = knows_plain s.knows (Sent peer bytes) refl refl
-        (ap (λ (o : Option Message). option_map (λ message. message.originate) o) none) refl refl refl refl;
-  };
-}
+answer_sent live next peer bytes s none (Ok done) a =
+    here (stands_on s (SendDatagram peer bytes) refl (Sent peer bytes) refl a
+    (λ k. knows_plain k (Sent peer bytes) refl refl
+    (ap (λ (o : Option Message). option_map (λ message. message.originate) o) none) refl refl refl refl) (λ n x. x))
 answer_sent live next peer bytes s none (Err ended) a = stops_by_fault s.runs (lawful s.knows) next ended a
 
 -- ---- datagrams that come
-pub after_call : (old new : Counts) → new ≡ record old { faults = new.faults } → old.peers ≤ new.peers
-after_call old new e = let f : new.peers ≡ old.peers = ap {A = Counts} (λ x. x.peers) e in omega (arith, f)
-
 module _ (live : Live) {run : RelayRun} {start now next : Shown} {history : History} {relay : Relay} {place : Place}
-  where
-    pub took_none : Stands run start now relay (stood live place) history
-        → due_at run (facts_in live) history place ≡ from_take (facts_in live) history
-        → next.told ≡ with_entries (TookNone ∷ []) now.told → next.counts.faults ≡ now.counts.faults
-        → next.counts ≡ record now.counts { faults = next.counts.faults } → IsAt run start next relay live Served
-    took_none s d told faults same = record {
-      history = TookNone ∷ history;
-      stands = record {
-        runs = runs_on s.runs TakeDatagram d TookNone ([], None, refl) next told faults
-            (peers_quiet s.runs.peers (after_call now.counts next.counts same) (λ q. refl)
-            (still s.runs.peers (after_call now.counts next.counts same)) refl refl refl);
-        knows = knows_plain s.knows TookNone refl refl refl refl refl refl refl;
-      };
-    }
+    (s : Stands run start now relay (stood live place) history)
+    (d : due_at run (facts_in live) history place ≡ from_take (facts_in live) history) where
+  pub took_none : Adds now next (TookNone ∷ []) → IsAt run start next relay live Served
+  took_none a =
+      here (stands_on s TakeDatagram d TookNone ([], None, refl) a
+      (λ k. knows_plain k TookNone refl refl refl refl refl refl refl)
+      (λ n x. (x.0, All-nil (IsPeer n (TookNone ∷ history) None), x.2, x.3)))
 
-    pub took : Stands run start now relay (stood live place) history
-        → due_at run (facts_in live) history place ≡ from_take (facts_in live) history
-        → (peer count : ℕ) (room : List ℕ)
-        → next.told ≡ with_entries (Took peer (take count room) ∷ []) now.told
-        → next.counts.faults ≡ now.counts.faults → next.counts ≡ record now.counts { faults = next.counts.faults }
-        → Stands run start next relay (stood live (Taken peer (take count room)))
-        (Took peer (take count room) ∷ history)
-    took s d peer count room told faults same = record {
-      runs = runs_on s.runs TakeDatagram d (Took peer (take count room)) (room, Some (peer, count), refl) next told
-          faults
-          (peers_quiet s.runs.peers (after_call now.counts next.counts same) (λ q. refl)
-          (still s.runs.peers (after_call now.counts next.counts same)) refl refl refl);
-      knows = knows_plain s.knows (Took peer (take count room)) refl refl refl refl refl refl refl;
-    }
+  pub took : (peer count : ℕ) (room : List ℕ) → Adds now next (Took peer (take count room) ∷ [])
+      → Stands run start next relay (stood live (Taken peer (take count room))) (Took peer (take count room) ∷ history)
+  took peer count room a =
+      stands_on s TakeDatagram d (Took peer (take count room)) (room, Some (peer, count), refl) a
+      (λ k. knows_plain k (Took peer (take count room)) refl refl refl refl refl refl refl)
+      (λ n x. (x.0, All-nil (IsPeer n (Took peer (take count room) ∷ history) None), x.2, x.3))
 
 -- ---- the clock of a landing
 -- after a sleep nothing lands

@@ -10,8 +10,9 @@ use Rattle.css_drive.specs.TvPeers.{has}
 use Rattle.css_drive.specs.TvTold.{lost}
 use Rattle.css_drive.proofs.TvPeers.{has-more}
 use Rattle.css_drive.proofs.TvTold.{none_there}
-use Rattle.css_drive_relay.specs.Places.{Place, Greeting, Telling, Facts, Progress, telling, telling_if, without}
+use Rattle.css_drive_relay.specs.Places.{Place, Facts, Progress, telling, telling_if, without}
 use Rattle.css_drive_relay.specs.Places.{opened_if, published}
+use Rattle.css_drive_relay.proofs.Follows.{waiting, text_at}
 use Rattle.css_drive_relay.specs.Told.{SessionStates, with_state, while_open, texts_told}
 
 -- ---- peers in a list
@@ -98,17 +99,6 @@ once_more peer other (p ∷ ps) fresh o = (
     by false e same = has-more peer other ps e ∙ o.0 same
 
 -- ---- what is still to be sent
--- the sessions to which a text is still to be sent, the first of them first
-abbrev pub waiting : Place → List ℕ
-waiting (Greeting peer) = peer ∷ []
-waiting (Telling text left) = left
-waiting _ = []
-
--- that text
-abbrev pub text_at : Place → Facts → List ℕ
-text_at (Telling text left) f = text
-text_at _ f = full_text f.state
-
 abbrev pub owed_if : Bool → List ℕ → List (List ℕ)
 owed_if true text = text ∷ []
 owed_if false text = []

@@ -1,11 +1,12 @@
 -- How the variables of a relay's run stand for its history.
-use Rattle.std.specs.Prelude.{◌≡◌, ◌≤◌, ◌<◌, ◌+◌, ◌⊎◌, ℕ, List, [], ◌∷◌, ◌++◌, drop, All, Option, Some, None, IfSome}
-use Rattle.std.specs.Prelude.{Result, MatchResult}
+use Rattle.std.specs.Prelude.{◌≡◌, ◌≤◌, ◌<◌, ◌+◌, ℕ, List, [], ◌∷◌, ◌++◌, All, Option, Some, None, IfSome}
+use Rattle.std.specs.Prelude.{Result, MatchResult, ⊤}
 use Rattle.css_model.specs.declared.TheConstants.{LIMIT}
+use Rattle.css_model.specs.declared.Kind.{Kind}
 use Rattle.css_model.specs.declared.Kind.TheVariants as kind
 use Rattle.css_model.specs.declared.Why.{Why}
 use Rattle.css_model.specs.Explains.{IsLawful}
-use Rattle.css_model.specs.History.{History}
+use Rattle.css_model.specs.History.{History, Dialled, Accepted}
 use Rattle.css_outside.specs.Faults.{HasRisen}
 use Rattle.css_outside.specs.Outsides.{Counts, with_entries, clock_entries, sleep_entries}
 use Rattle.css_outside.specs.declared.calls.Clocked.{Clocked}
@@ -15,11 +16,11 @@ use Rattle.css_relay.specs.Relays.{Relay, wc_url_of}
 use Rattle.css_drive.specs.CompanionStanding.{Shown, asked_after}
 use Rattle.css_drive.specs.Ends.{MayEnd, CountsNetFault}
 use Rattle.css_drive.specs.Proper.{Due}
-use Rattle.css_drive.specs.TvRan.{AreBelow, AreNumbered}
+use Rattle.css_drive.specs.TvRan.{AreNumbered}
 use Rattle.css_drive.specs.declared.driven.Driven.{Driven}
 use Rattle.css_drive_relay.specs.Places.{Place, Greeting, Telling, Asked, Dropping, Over, Facts, Progress, beginning}
-use Rattle.css_drive_relay.specs.Places.{progress_of}
-use Rattle.css_drive_relay.specs.Due.{due, due_at, IsProperRelay}
+use Rattle.css_drive_relay.specs.Places.{progress_of, hung_up, without_first}
+use Rattle.css_drive_relay.specs.Due.{due, due_at, final, from_hang_ups, IsProperRelay}
 use Rattle.css_drive_relay.specs.declared.config.RelayRun.{RelayRun}
 use Rattle.css_drive_relay.specs.declared.live.Live.{Live}
 
@@ -43,28 +44,16 @@ pub record Knows (run : RelayRun) (relay : Relay) (history : History) : Type 0 w
   pub own : own_of relay.companion ≡ run.companion.local
   pub wc_url : relay.wc_url ≡ wc_url_of run.host run.port
 
--- a peer has a number up to this one, and was not dialled
-pub record IsAccepted (greatest : ℕ) (history : History) (peer : ℕ) : Type 0 where
-  pub used : peer ≤ greatest
-  pub undialled : kind_of peer history ≡ None
+-- Each peer that was dialled or accepted has a number below this one, and a greater one than those before it.
+abbrev pub AreInOrder : ℕ → History → Type 0
+AreInOrder n [] = ⊤
+AreInOrder n (Dialled kind peer ∷ older) = (peer < n) × AreInOrder peer older
+AreInOrder n (Accepted peer kind ∷ older) = (peer < n) × AreInOrder peer older
+AreInOrder n (_ ∷ older) = AreInOrder n older
 
--- it was dialled as the television's session
-pub record IsTelevision (greatest : ℕ) (history : History) (peer : ℕ) : Type 0 where
-  pub used : peer ≤ greatest
-  pub dialled : kind_of peer history ≡ Some kind.Cii
-
--- so it was, where it is open
-pub record IsOpen (greatest : ℕ) (history : History) (television : Option ℕ) : Type 0 where
-  pub is : IfSome television (IsTelevision greatest history)
-
--- the peers that were accepted have rising numbers up to this one
-abbrev pub IsNumbered : ℕ → History → Type 0
-IsNumbered greatest history = AreBelow (greatest + 1) history × AreNumbered history
-
--- no peer with a greater number was dialled or accepted
-pub record AreUnused (greatest : ℕ) (history : History) : Type 0 where
-  pub none : (peer : ℕ) → greatest < peer → kind_of peer history ≡ None
-  pub numbered : IsNumbered greatest history
+-- a peer has a number below this one, and was dialled so or not at all
+abbrev pub IsPeer : ℕ → History → Option Kind → ℕ → Type 0
+IsPeer n history dialled peer = (peer < n) × (kind_of peer history ≡ dialled)
 
 -- the accepted sessions that a place names
 abbrev pub named : Place → List ℕ
@@ -74,12 +63,11 @@ named (Asked left) = left
 named (Dropping peer left) = left
 named _ = []
 
--- which of the sessions were accepted, and which was dialled
-pub record KnowsPeers (greatest : ℕ) (p : Progress) (history : History) : Type 0 where
-  pub accepted : All (IsAccepted greatest history) p.facts.peers
-  pub waiting : All (IsAccepted greatest history) (named p.place)
-  pub television : IsOpen greatest history p.facts.television
-  pub unused : AreUnused greatest history
+-- the sessions were accepted, and the television's was dialled
+abbrev pub KnowsPeers : ℕ → Progress → History → Type 0
+KnowsPeers n p history =
+    All (IsPeer n history None) p.facts.peers × All (IsPeer n history None) (named p.place)
+    × IfSome p.facts.television (IsPeer n history (Some kind.Cii)) × AreInOrder n history
 
 -- the facts that the variables say, at a place
 abbrev pub stood : Live → Place → Progress
@@ -95,7 +83,8 @@ pub record Runs (run : RelayRun) (start now : Shown) (p : Progress) (history : H
   pub faults : now.counts.faults ≡ start.counts.faults
   pub proper : IsProperRelay run history
   pub progress : progress_of run history ≡ p
-  pub peers : KnowsPeers now.counts.peers p history
+  pub peers : KnowsPeers (now.counts.peers + 1) p history
+  pub numbered : AreNumbered history
 
 -- and the relay knows of it
 pub record Stands (run : RelayRun) (start now : Shown) (relay : Relay) (p : Progress) (history : History)
@@ -165,17 +154,13 @@ pub record KeepsDials (old new : Counts) (before now : Live) : Type 0 where
   pub cii : now.cii ≡ before.cii
 
 -- ---- the end
--- so many of these sessions were hung up
-abbrev pub IsHanging : List ℕ → ℕ → Place → Type 0
-IsHanging peers index place = ((index ≡ 0) × (place ≡ Asked [])) ⊎ (place ≡ Over (drop index peers))
-
--- The run has come so far as it hangs up these sessions.
-pub record HangsUp (run : RelayRun) (start now : Shown) (relay : Relay) (live : Live) (peers : List ℕ) (index : ℕ)
-    : Type 0 where
+-- The run came to where these sessions are to be hung up, and then it ends.
+pub record HangsUp (run : RelayRun) (start now : Shown) (relay : Relay) (live : Live) (left : List ℕ) : Type 0 where
   pub history : History
   pub place : Place
-  pub hanging : IsHanging peers index place
   pub stands : Stands run start now relay (stood live place) history
+  pub next : due_at run (facts_in live) history place ≡ from_hang_ups (final (facts_in live)) left
+  pub after : hung_up place (facts_in live) ≡ Over (without_first left)
 
 -- the run ended, in one way where the result is Ok
 abbrev pub Finishes : {T : Type 0} → RelayRun → Shown → Shown → Driven → Result T Driven → Type 0

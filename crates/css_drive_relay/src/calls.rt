@@ -1,22 +1,22 @@
 //! Single calls of a relay's run.
-ghost use Rattle.std.specs.Prelude.{◌≡◌, ◌≤◌, ◌∷◌, [], ℕ, MatchResult, IfOk, IfErr, None};
+ghost use Rattle.std.specs.Prelude.{◌≡◌, ◌≤◌, ◌∷◌, [], MatchResult, IfOk, IfErr, None};
 ghost use Rattle.css_model.specs.History as entries;
 ghost use Rattle.css_outside.specs.Faults.{CountsOutFault, HasRisen};
-ghost use Rattle.css_outside.specs.Outsides.{wrote_entries};
-ghost use Rattle.css_drive.specs.CompanionStanding.{shown, IsCut, IsFault, Failed, Adds, HasDialled};
-ghost use Rattle.css_drive.specs.Ends.{CountsNetFault};
+ghost use Rattle.css_outside.specs.Outsides.{heard_entries, wrote_entries};
+ghost use Rattle.css_drive.specs.CompanionStanding.{Shown, shown, IsCut, IsFault, Failed, Adds, HasDialled};
 ghost use Rattle.css_drive_relay.specs.Standing.{HasRead, KeepsDials};
 
 use crate::live::Live;
 use css_drive::Driven;
-use css_outside::{Address, Clocked, Kind, OutFault, Outside, Why, Wrote};
+use css_outside::{Address, Clocked, Heard, Kind, OutFault, Outside, Why, Wrote};
 use css_relay::Relay;
 
 /// How a run ends with a fault of the outside.
 pub(crate) fn end_of(fault: OutFault) -> Driven
     ensures fault { IsFault result }
     ensures cut { IsCut result }
-    ensures counted { (before : ℕ) → (now : ℕ) → CountsOutFault before now fault → CountsNetFault before now result }
+    ensures failed { (old : Shown) → (new : Shown) → new.told ≡ old.told
+        → CountsOutFault old.counts.faults new.counts.faults fault → Failed old new result }
 {
     match fault {
         OutFault::Failed(failure) => Driven::NetFault(failure),
@@ -117,6 +117,23 @@ pub(crate) fn tell<O: Outside>(outside: &mut O, peer: u32, text: &[u8]) -> Resul
 {
     match outside.send_text(peer, text) {
         Ok(sent) => Ok(sent),
+        Err(fault) => Err(end_of(fault)),
+    }
+}
+
+/// Asks a session for its next text.
+pub(crate) fn hear<O: Outside>(outside: &mut O, peer: u32) -> Result<Heard, Driven>
+    ensures told { MatchResult result
+        (λ heard. Adds (shown (O.told outside.old) (O.counts outside.old))
+        (shown (O.told outside.new) (O.counts outside.new)) (heard_entries peer heard))
+        (Failed (shown (O.told outside.old) (O.counts outside.old))
+        (shown (O.told outside.new) (O.counts outside.new))) }
+    ensures last { (O.counts outside.new).last ≡ (O.counts outside.old).last }
+    ensures dials { (O.counts outside.new).dial_faults ≡ (O.counts outside.old).dial_faults }
+    ensures cut { IfErr result IsCut }
+{
+    match outside.take_text(peer) {
+        Ok(heard) => Ok(heard),
         Err(fault) => Err(end_of(fault)),
     }
 }

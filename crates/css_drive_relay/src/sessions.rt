@@ -12,7 +12,7 @@ ghost use Rattle.css_drive_relay.specs.Places as places;
 ghost use Rattle.css_drive_relay.specs.Places.{Served, Asked, welcomed, telling, published};
 ghost use Rattle.css_drive_relay.specs.Standing.{facts_in, stood, Stands, Knows, Arrives, KeepsDials};
 
-use crate::calls::{end_of, hang_up, or_memory, tell};
+use crate::calls::{end_of, hang_up, hear, or_memory, tell};
 use crate::config::RelayRun;
 use crate::live::{Live, accepted};
 use crate::published::Published;
@@ -234,8 +234,8 @@ pub(crate) fn hear_television<O: Outside>(
     let Some(peer) = live.television else {
         return Ok(());
     };
-    match outside.take_text(peer) {
-        Err(fault) => Err(end_of(fault)),
+    match hear(outside, peer) {
+        Err(ended) => Err(ended),
         Ok(Heard::Quiet) => Ok(()),
         Ok(Heard::Closed) => {
             live.television = None;
@@ -264,8 +264,8 @@ fn hear_one<O: Outside>(
     ensures keeps { KeepsDials (O.counts outside.old) (O.counts outside.new) live.old live.new }
     ensures cut { IfErr result IsCut }
 {
-    match outside.take_text(peer) {
-        Err(fault) => Err(end_of(fault)),
+    match hear(outside, peer) {
+        Err(ended) => Err(ended),
         Ok(Heard::Quiet) => Ok(()),
         Ok(Heard::Closed) => {
             forget(live, peer);

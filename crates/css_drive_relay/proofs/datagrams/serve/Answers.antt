@@ -5,8 +5,8 @@ use Rattle.css_drive_relay.proofs.datagrams.serve.Goals as goal
 
 pub returns-in-Ok-None-clause-goes : goal.returns-in-Ok-None-clause-goes
 returns-in-Ok-None-clause-goes g c start h at s d =
-    serves.took_none c.args.live.now s d (rw c.in-Ok-None.field-0-is at c.in-Ok-None.ensures.told)
-    c.in-Ok-None.ensures.counted.faults c.in-Ok-None.ensures.counted.same
+    serves.took_none c.args.live.now s d (steps.adds (rw c.in-Ok-None.field-0-is at c.in-Ok-None.ensures.told)
+    c.in-Ok-None.ensures.counted.faults c.in-Ok-None.ensures.counted.same)
 
 pub returns-in-Ok-Some-clause-goes : goal.returns-in-Ok-Some-clause-goes
 returns-in-Ok-Some-clause-goes g c start h at s d =
@@ -14,10 +14,10 @@ returns-in-Ok-Some-clause-goes g c start h at s d =
     let bytes : List ℕ = take n c.take_datagram.new.into in
     c.take.ensures.goes start h bytes
     (serves.took c.args.live.now s d c.in-Ok-Some.peer n c.take_datagram.new.into
-    (rw c.in-Ok-Some.field-0-is at c.in-Ok-Some.ensures.told) c.in-Ok-Some.ensures.counted.faults
-    c.in-Ok-Some.ensures.counted.same) s.knows refl
+    (steps.adds (rw c.in-Ok-Some.field-0-is at c.in-Ok-Some.ensures.told) c.in-Ok-Some.ensures.counted.faults
+    c.in-Ok-Some.ensures.counted.same)) s.knows refl
 
 pub returns-in-Err-clause-goes : goal.returns-in-Err-clause-goes
 returns-in-Err-clause-goes g c start h at s d =
-    steps.stops_by_fault s.runs (steps.lawful s.knows) _ _ (steps.failed c.in-Err.ensures.told
-    (c.end_of.ensures.counted _ _ c.in-Err.ensures.counted.faults) c.end_of.ensures.fault)
+    steps.stops_by_fault s.runs (steps.lawful s.knows) _ _
+    (c.end_of.ensures.failed _ _ c.in-Err.ensures.told c.in-Err.ensures.counted.faults)

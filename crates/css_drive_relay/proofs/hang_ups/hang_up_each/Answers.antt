@@ -1,20 +1,16 @@
-use Rattle.std.proofs.Common.{◌≡◌, refl, ◌∙◌, subst, inl, arith, ℕ, List, ◌∷◌, []}
+use Rattle.std.proofs.Common.{◌≡◌, refl, ◌∙◌, subst, arith, ℕ, List, ◌∷◌, []}
 use Rattle.css_drive.proofs.CompanionSteps.{at_err}
 use Rattle.css_drive_relay.proofs.Ends as ends
 use Rattle.css_drive_relay.proofs.Steps as steps
 use Rattle.std.specs.Prelude.{drop, get_or, ◌+◌}
 use Rattle.css_drive.proofs.TvLines.{peers_all}
 use Rattle.css_drive.proofs.TvOpens.{peer_from}
-use Rattle.css_drive_relay.specs.Places.{Asked, all_open}
+use Rattle.css_drive_relay.specs.Places.{all_open}
 use Rattle.css_drive_relay.specs.Standing.{facts_in}
 use Rattle.css_drive_relay.proofs.hang_ups.hang_up_each.Goals as goal
 
 pub loop-peer-init : goal.loop-peer-init
-loop-peer-init g c = record {
-  goes = λ start relay h s enough.
-      record { history = h; place = Asked []; hanging = inl (refl, refl); stands = s };
-  dials = refl;
-}
+loop-peer-init g c = record { goes = λ start relay h s enough. ends.hangs_all s enough; dials = refl }
 
 pub loop-peer-preserved : goal.loop-peer-preserved
 loop-peer-preserved g c =
@@ -26,16 +22,15 @@ loop-peer-preserved g c =
     (peer_from c.deref-peer-items.result.now i c.loop-peer-test.true) in
     record {
       goes = λ start relay h s enough.
-          ends.hung _ (c.loop-peer.invariant.goes start relay h s enough) enough peer (i + 1) e
+          ends.hung _ (c.loop-peer.invariant.goes start relay h s enough) peer (drop (i + 1) all) e
           c.in_ok-hang_up.ensures.told;
       dials = c.hang_up.ensures.dials ∙ c.loop-peer.invariant.dials;
     }
 
 pub returns-clause-ends : goal.returns-clause-ends
 returns-clause-ends g c start relay h s enough =
-    let x = c.loop-peer.invariant.goes start relay h s enough in
     let over = c.loop-peer-test.false in
-    ends.all_hung x enough
+    ends.all_hung (c.loop-peer.invariant.goes start relay h s enough)
     (subst (λ (xs : List ℕ). drop c.loop-peer.peer-index xs ≡ []) c.requires
     (peers_all c.args.peers.now.items c.loop-peer.peer-index (omega (arith, over))))
 

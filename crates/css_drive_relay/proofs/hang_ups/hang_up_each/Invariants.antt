@@ -1,4 +1,5 @@
 use Rattle.std.proofs.Common.{◌≡◌, [], false}
+use Rattle.std.specs.Prelude.{drop}
 use Rattle.css_model.specs.History.{History}
 use Rattle.css_relay.specs.Relays.{Relay}
 use Rattle.css_drive.specs.CompanionStanding.{Shown, shown}
@@ -13,6 +14,6 @@ invariant-loop-peer g l = record {
       → Stands l.run start (shown (g.O.Outside.told l.fn.outside) (g.O.Outside.counts l.fn.outside)) relay
       (stood l.live (Asked [])) history → goes_on l.run.limit l.live.first l.live.turn l.live.made ≡ false
       → HangsUp l.run start (shown (g.O.Outside.told l.outside) (g.O.Outside.counts l.outside)) relay l.live
-      (all_open (facts_in l.live)) l.peer-index;
+      (drop l.peer-index (all_open (facts_in l.live)));
   dials : (g.O.Outside.counts l.outside).dial_faults ≡ (g.O.Outside.counts l.fn.outside).dial_faults;
 }

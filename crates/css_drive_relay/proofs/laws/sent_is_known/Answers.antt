@@ -1,5 +1,5 @@
-use Rattle.css_drive_relay.proofs.Sending as sending
+use Rattle.css_drive_relay.proofs.DatagramPlaces as datagrams
 use Rattle.css_drive_relay.proofs.laws.sent_is_known.Goals as goal
 
 pub returns : goal.returns
-returns c = sending.sent_is_known
+returns c = datagrams.sent_is_known

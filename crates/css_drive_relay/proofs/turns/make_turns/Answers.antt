@@ -1,14 +1,15 @@
-use Rattle.std.proofs.Common.{◌∙◌, sym, arith}
+use Rattle.std.proofs.Common.{◌∙◌, sym, arith, []}
 use Rattle.css_drive_relay.proofs.Ends as ends
+use Rattle.css_drive_relay.proofs.Steps.{here_as}
+use Rattle.css_drive_relay.specs.Places.{Asked, beginning}
 use Rattle.css_drive_relay.specs.Standing.{facts_in}
 use Rattle.css_drive_relay.proofs.turns.make_turns.Goals as goal
 
 pub turns-init : goal.turns-init
 turns-init g c = record {
-  goes = λ start h s. record {
-    history = h;
-    stands = ends.begins _ (ends.first_facts _ _ (c.new.ensures ∙ c.empty.ensures.value) c.new-2.ensures.items) s;
-  };
+  goes = λ start h s.
+      here_as _ beginning.facts (λ f. Asked []) s
+      (ends.first_facts _ _ (c.new.ensures ∙ c.empty.ensures.value) c.new-2.ensures.items);
   floor = c.requires.floor;
   dials = omega arith;
   tried = λ some. absurd (omega (arith, some));

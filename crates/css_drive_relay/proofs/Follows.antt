@@ -1,0 +1,393 @@
+-- What each entry of a relay's run says of the place that it leaves, and to which places entries lead.
+use Rattle.std.proofs.Common.{◌≡◌, ℕ, ◌<◌, Bool, true, false, cond, List, [], ◌∷◌, ◌++◌, Option, Some, None, refl, sym}
+use Rattle.std.proofs.Common.{subst, arith, inl, inr}
+use Rattle.std.specs.Prelude.{◌||◌, ◌&&◌, ◌⊎◌, nat_lt, not, is_some, ⊤, Result, Ok, Err}
+use Rattle.std.proofs.lemmas.Bool.Decides.{nat_tests}
+use Rattle.css_address.specs.declared.fault.AddressFault.{AddressFault}
+use Rattle.css_cii.specs.declared.name.CiiName.TheVariants.{WcUrl}
+use Rattle.css_companion.specs.declared.fault.CompanionFault.{CompanionFault}
+use Rattle.css_companion.specs.declared.fault.CompanionFault.TheVariants as fault
+use Rattle.css_drive.specs.CompanionDue.{dial_to, dial_first, send_to, refusal_of}
+use Rattle.css_drive.specs.CompanionTurns.{is_late, goes_on, is_asking}
+use Rattle.css_drive.specs.Proper.{Due, Listen, Now, Dial, Accept, SendDatagram, TakeDatagram, TakeText, SendText}
+use Rattle.css_drive.specs.Proper.{HangUp, Ends, MayAdd, Empty, More}
+use Rattle.css_drive.specs.declared.driven.Driven.TheVariants as driven
+use Rattle.css_model.specs.declared.Kind.{Kind}
+use Rattle.css_model.specs.declared.Kind.TheVariants as kind
+use Rattle.css_model.specs.declared.Why.{Why}
+use Rattle.css_model.specs.declared.Why.TheVariants as why
+use Rattle.css_model.specs.History.{Entry, History, Address, Each, Listening, Slept, Clock, Dialling, Dialled}
+use Rattle.css_model.specs.History.{NotDialled, Accepted, NoneCame, Sent, Took, TookNone, Quiet, Heard, Closed, Wrote, Gone}
+use Rattle.css_model.specs.History.{HungUp, request_in}
+use Rattle.css_model.specs.Wire.{encoded, request_at}
+use Rattle.css_outside.specs.Limits.{most_turns}
+use Rattle.css_outside.specs.Outsides.{opening_entries, datagram_entries, heard_entries, wrote_entries, clock_entries}
+use Rattle.css_outside.specs.declared.calls.Heard.{Heard as SessionHeard}
+use Rattle.css_outside.specs.declared.calls.Heard.TheVariants as heard
+use Rattle.css_outside.specs.declared.calls.Wrote.{Wrote as Outcome}
+use Rattle.css_outside.specs.declared.calls.Wrote.TheVariants as outcome
+use Rattle.css_cii.specs.declared.state.State.{State}
+use Rattle.css_sessions.specs.Kept.{difference_text, full_text}
+use Rattle.css_drive_relay.specs.Places as places
+use Rattle.css_drive_relay.specs.Places.{Place, Begins, Begun, Called, Asking, Requested, Taken, Received, Answers}
+use Rattle.css_drive_relay.specs.Places.{Served, Greeting, Rejecting, Welcomed, Refused, Telling, Asked, Dropping, Over}
+use Rattle.css_drive_relay.specs.Places.{Facts, Progress, progress_of, all_open, next_asked, telling, telling_if}
+use Rattle.css_drive_relay.specs.Due.{due_at, final, from_hang_ups, from_texts, from_ask, from_wc, from_dial}
+use Rattle.css_drive_relay.specs.Due.{from_taken, IsProperRelay}
+use Rattle.css_drive_relay.specs.Told.{relayed}
+use Rattle.css_drive_relay.specs.declared.config.RelayRun.{RelayRun}
+
+-- ---- places
+-- the sessions to which a text is still to be sent, the first of them first
+abbrev pub waiting : Place → List ℕ
+waiting (Greeting peer) = peer ∷ []
+waiting (Telling text left) = left
+waiting _ = []
+
+-- that text
+abbrev pub text_at : Place → Facts → List ℕ
+text_at (Telling text left) f = text
+text_at _ f = full_text f.state
+
+-- a turn goes on, and is at no datagram
+abbrev pub IsRest : Place → Type 0
+IsRest (Asking reading) = ⊥
+IsRest (Taken peer bytes) = ⊥
+IsRest (Received peer ticket) = ⊥
+IsRest (Answers peer datagram) = ⊥
+IsRest (Over left) = ⊥
+IsRest _ = ⊤
+
+-- no datagram is to be sent
+abbrev pub IsTimed : Place → Type 0
+IsTimed (Asking reading) = ⊥
+IsTimed (Answers peer datagram) = ⊥
+IsTimed _ = ⊤
+
+abbrev pub IsTaken : Place → Type 0
+IsTaken (Taken peer bytes) = ⊤
+IsTaken _ = ⊥
+
+abbrev pub IsReceived : Place → Type 0
+IsReceived (Received peer ticket) = ⊤
+IsReceived _ = ⊥
+
+-- this datagram is to be sent
+abbrev pub IsToSend : Place → List ℕ → Type 0
+IsToSend (Asking reading) bytes = bytes ≡ encoded (request_at reading)
+IsToSend (Answers peer datagram) bytes = bytes ≡ datagram
+IsToSend _ bytes = ⊥
+
+-- this text is to be sent to this session
+abbrev pub IsToTell : Facts → Place → ℕ → List ℕ → Type 0
+IsToTell f place peer text =
+    (waiting place ≡ peer ∷ places.without_first (waiting place)) × (text_at place f ≡ text) × IsRest place
+
+-- one session is to be hung up, and the turn goes on
+abbrev pub IsDropped : Place → Type 0
+IsDropped (Rejecting peer) = ⊤
+IsDropped (Dropping peer left) = ⊤
+IsDropped _ = ⊥
+
+-- the turns are over
+abbrev pub IsOver : Place → Type 0
+IsOver (Over left) = ⊤
+IsOver _ = ⊥
+
+-- there is no other turn
+abbrev pub IsMade : RelayRun → Facts → Type 0
+IsMade run f = goes_on run.limit f.first f.turn f.turns ≡ false
+
+-- either is so
+abbrev pub HasEnded : RelayRun → Facts → Place → Type 0
+HasEnded run f place = IsOver place ⊎ IsMade run f
+
+-- whether a dial succeeded
+abbrev pub reached : Facts → Bool
+reached f = is_some f.cii || is_some f.wc
+
+-- ---- what is due
+abbrev pub FitsClock : RelayRun → Facts → Place → Why → Type 0
+FitsClock run f place why.Turn = IsRest place × (f.turns < most_turns run.limit)
+FitsClock run f place why.Ask = IsRest place
+FitsClock run f place why.Give = IsReceived place
+FitsClock run f place _ = IsTaken place
+
+abbrev pub FitsDial : Place → Kind → Type 0
+FitsDial place kind.Ts = ⊥
+FitsDial place _ = (waiting place ≡ []) × IsRest place
+
+-- what a place is at which this is due
+abbrev pub Fits : RelayRun → Facts → Place → Due → Type 0
+Fits run f place (Now w) = (waiting place ≡ []) × IsTimed place × FitsClock run f place w
+Fits run f place (Dial k to) = FitsDial place k
+Fits run f place (SendDatagram peer bytes) = (waiting place ≡ []) × IsToSend place bytes
+Fits run f place TakeDatagram = waiting place ≡ []
+Fits run f place (SendText peer text) = IsToTell f place peer text
+Fits run f place (HangUp peer) = (waiting place ≡ []) × (IsDropped place ⊎ HasEnded run f place)
+Fits run f place (Ends driven.Done) = (waiting place ≡ []) × HasEnded run f place × (reached f ≡ true)
+Fits run f place (Ends (driven.Unreachable count)) =
+    (waiting place ≡ []) × HasEnded run f place × (reached f ≡ false) × (count ≡ f.turns)
+Fits run f place _ = (waiting place ≡ []) × IsRest place
+
+-- a turn is left
+pub one_more : (run : RelayRun) (f : Facts) → goes_on run.limit f.first f.turn f.turns ≡ true
+    → f.turns < most_turns run.limit
+one_more run f on = by (nat_lt f.turns (most_turns run.limit)) refl on
+  where
+    by : (b : Bool) → nat_lt f.turns (most_turns run.limit) ≡ b
+        → (b && not (is_late run.limit f.first f.turn)) ≡ true → f.turns < most_turns run.limit
+    by true e on = grind (arith, nat_tests, e)
+    by false e on = absurd cc
+
+module _ (run : RelayRun) (f : Facts) (history : History) (place : Place) (said : waiting place ≡ []) where
+  fits_hanging : (peers : List ℕ) → HasEnded run f place → Fits run f place (from_hang_ups (final f) peers)
+  fits_hanging (peer ∷ peers) ended = (said, inr ended)
+  fits_hanging [] ended = by (reached f) refl
+    where
+      by : (b : Bool) → reached f ≡ b
+          → Fits run f place (Ends (cond b driven.Done (driven.Unreachable f.turns)))
+      by true e = (said, ended, e)
+      by false e = (said, ended, e, refl)
+
+  module _ (rest : IsRest place) (timed : IsTimed place) where
+    fits_texts : (left : List ℕ) → Fits run f place (from_texts run left f history)
+    fits_texts (peer ∷ left) = (said, rest)
+    fits_texts [] = by (goes_on run.limit f.first f.turn f.turns) refl
+      where
+        by : (b : Bool) → goes_on run.limit f.first f.turn f.turns ≡ b
+            → Fits run f place (cond b (Now why.Turn) (from_hang_ups (final f) (all_open f)))
+        by true on = (said, timed, (rest, one_more run f on))
+        by false made = fits_hanging (all_open f) (inr made)
+
+    fits_ask : Fits run f place (from_ask run f history)
+    fits_ask = by (is_some f.wc && is_asking run.ask_every f.turn f.asked)
+      where
+        by : (b : Bool) → Fits run f place (cond b (Now why.Ask) TakeDatagram)
+        by true = (said, timed, rest)
+        by false = said
+
+    fits_wc : Fits run f place (from_wc run f history)
+    fits_wc = by f.wc _
+      where
+        by : (o : Option ℕ) (url : Option (Result Address AddressFault))
+            → Fits run f place (dial_to o kind.Wc WcUrl url (from_ask run f history))
+        by None (Some (Err bad)) = (said, rest)
+        by None (Some (Ok to)) = (said, rest)
+        by None None = fits_ask
+        by (Some peer) url = fits_ask
+
+    fits_cii : Fits run f place (dial_first f.cii run.cii (from_wc run f history))
+    fits_cii = by f.cii
+      where
+        by : (o : Option ℕ) → Fits run f place (dial_first o run.cii (from_wc run f history))
+        by None = (said, rest)
+        by (Some peer) = fits_wc
+
+    fits_dialled : (k : Kind) → Fits run f place (from_dial run k f history)
+    fits_dialled kind.Cii = fits_wc
+    fits_dialled _ = fits_ask
+
+pub fits : (run : RelayRun) (f : Facts) (history : History) (place : Place)
+    → Fits run f place (due_at run f history place)
+fits run f history Begun = fits_cii run f history Begun refl tt tt
+fits run f history (Called k) = fits_dialled run f history (Called k) refl tt tt k
+fits run f history (Asking reading) = by f.wc
+  where
+    by : (o : Option ℕ) → Fits run f (Asking reading) (send_to o (encoded (request_at reading)))
+    by None = refl
+    by (Some peer) = (refl, refl)
+fits run f history Requested = refl
+fits run f history (Taken peer bytes) = by (is_some (request_in bytes))
+  where
+    by : (b : Bool) → Fits run f (Taken peer bytes) (from_taken b)
+    by true = (refl, tt, tt)
+    by false = (refl, tt, tt)
+fits run f history (Received peer ticket) = (refl, tt, tt)
+fits run f history (Answers peer datagram) = (refl, refl)
+fits run f history (Greeting peer) = (refl, refl, tt)
+fits run f history (Rejecting peer) = (refl, inl tt)
+fits run f history (Refused (fault.BadCii number reason)) = (refl, tt)
+fits run f history (Refused _) = (refl, tt)
+fits run f history (Telling text []) = fits_texts run f history (Telling text []) refl tt tt f.peers
+fits run f history (Telling text (peer ∷ left)) = (refl, refl, tt)
+fits run f history (Asked left) = fits_texts run f history (Asked left) refl tt tt left
+fits run f history (Dropping peer left) = (refl, inl tt)
+fits run f history (Over left) = fits_hanging run f history (Over left) refl left (inl tt)
+fits run f history _ = (refl, tt)
+
+-- ---- entries
+-- what the place was that an entry leaves
+abbrev pub Follows : RelayRun → Facts → Place → Entry → Type 0
+Follows run f place Slept = (waiting place ≡ []) × IsTimed place
+Follows run f place (Clock w reading) = (waiting place ≡ []) × IsTimed place × FitsClock run f place w
+Follows run f place (Dialling k to) = FitsDial place k
+Follows run f place (Dialled k peer) = FitsDial place k
+Follows run f place (NotDialled k) = FitsDial place k
+Follows run f place (Sent peer bytes) = (waiting place ≡ []) × IsToSend place bytes
+Follows run f place (Took peer bytes) = waiting place ≡ []
+Follows run f place TookNone = waiting place ≡ []
+Follows run f place (Wrote peer text) = IsToTell f place peer text
+Follows run f place (Gone peer) = (text : List ℕ) × IsToTell f place peer text
+Follows run f place (HungUp peer) = (waiting place ≡ []) × (IsDropped place ⊎ HasEnded run f place)
+Follows run f place _ = (waiting place ≡ []) × IsRest place
+
+abbrev pub Followed : RelayRun → History → Type 0
+Followed run h = Each (λ entry older. Follows run (progress_of run older).facts (progress_of run older).place entry) h
+
+module _ (run : RelayRun) (older : History) (each : Followed run older) where
+  abbrev After : History → Type 0
+  After call = Followed run (call ++ older)
+
+  added : (d : Due) → Fits run (progress_of run older).facts (progress_of run older).place d → (call : History) → MayAdd d call → After call
+  added (Listen host port) fits call may = subst After (sym may) (fits, each)
+  added (Now w) fits call may = subst After (sym may.1) (by may.0.slept)
+    where
+      by : (b : Bool) → After (clock_entries w (record { reading = may.0.reading; slept = b }))
+      by true = (fits, ((fits.0, fits.1), each))
+      by false = (fits, each)
+  added (Dial k to) fits call (inl may) = subst After (sym may.1) (fits, (fits, each))
+  added (Dial k to) fits call (inr may) = subst After (sym may) (fits, (fits, each))
+  added Accept fits call may = subst After (sym may.1) (by may.0)
+    where
+      by : (o : Option (ℕ × Kind)) → After (opening_entries o)
+      by None = (fits, each)
+      by (Some (peer, k)) = (fits, each)
+  added (SendDatagram peer bytes) fits call may = subst After (sym may) (fits, each)
+  added TakeDatagram fits call may = subst After (sym may.2) (by may.1)
+    where
+      by : (o : Option (ℕ × ℕ)) → After (datagram_entries may.0 o)
+      by None = (fits, each)
+      by (Some (peer, count)) = (fits, each)
+  added (TakeText peer) fits call may = subst After (sym may.1) (by may.0)
+    where
+      by : (x : SessionHeard) → After (heard_entries peer x)
+      by heard.Quiet = (fits, each)
+      by (heard.Text text) = (fits, each)
+      by heard.Closed = (fits, each)
+  added (SendText peer text) fits call may = subst After (sym may.1) (by may.0)
+    where
+      by : (x : Outcome) → After (wrote_entries peer text x)
+      by outcome.Sent = (fits, each)
+      by outcome.Gone = ((text, fits), each)
+  added (HangUp peer) fits call may = subst After (sym may) (fits, each)
+  added (Ends ended) fits call may = absurd may
+
+-- each entry of a proper run is so
+pub followed : (run : RelayRun) (h : History) → IsProperRelay run h → Followed run h
+followed run [] Empty = tt
+followed run h (More {older} call may proper) =
+    let p : Progress = progress_of run older in
+    added run older (followed run older proper) (due_at run p.facts older p.place) (fits run p.facts older p.place) call
+    may
+
+-- ---- places to which entries lead
+pub rest_begun : (run : RelayRun) (f : Facts) → IsRest (places.begun run f)
+rest_begun run f = by (is_late run.limit f.first f.turn)
+  where
+    by : (b : Bool) → IsRest (cond b (Asked []) Begun)
+    by true = tt
+    by false = tt
+
+pub rest_next : (o : Option ℕ) (peers : List ℕ) → IsRest (next_asked o peers)
+rest_next None peers = tt
+rest_next (Some p) peers = tt
+
+rest_telling : (text left : List ℕ) (f : Facts) → IsRest (telling text left f)
+rest_telling text [] f = tt
+rest_telling text (p ∷ ps) f = tt
+
+rest_telling_if : (text : Option (List ℕ)) (f : Facts) → IsRest (telling_if text f)
+rest_telling_if None f = tt
+rest_telling_if (Some text) f = rest_telling text f.peers f
+
+-- These facts count the same turns and dials, and the place is the same or one where a turn goes on.
+abbrev pub Moves : Facts → Place → Progress → Type 0
+Moves f place q =
+    (q.facts.turns ≡ f.turns) × (q.facts.first ≡ f.first) × (q.facts.turn ≡ f.turn) × (reached q.facts ≡ reached f)
+    × ((q.place ≡ place) ⊎ IsRest q.place)
+
+pub rest_moved : (f : Facts) (place : Place) (q : Progress) → Moves f place q → IsRest place → IsRest q.place
+rest_moved f place q m rest = by m.4
+  where
+    by : (q.place ≡ place) ⊎ IsRest q.place → IsRest q.place
+    by (inl same) = subst (λ (x : Place). IsRest x) (sym same) rest
+    by (inr at) = at
+
+pub rest_sent : (place : Place) (f : Facts) → IsRest (places.sent place f).place
+rest_sent (Asking reading) f = tt
+rest_sent place f = tt
+
+-- an entry that isn't named below moves a run so
+abbrev pub IsMove : Entry → Type 0
+IsMove (Clock why.Land reading) = ⊤
+IsMove (Clock w reading) = ⊥
+IsMove (Dialled k peer) = ⊥
+IsMove (Took peer bytes) = ⊥
+IsMove (HungUp peer) = ⊥
+IsMove _ = ⊤
+
+module _ (run : RelayRun) (f : Facts) where
+  moves_opened : (place : Place) (kept : Bool) (peer : ℕ) → Moves f place (places.opened_if kept peer f)
+  moves_opened place true peer = (refl, refl, refl, refl, inr tt)
+  moves_opened place false peer = (refl, refl, refl, refl, inr tt)
+
+  moves_sent : (place : Place) → Moves f place (places.sent place f)
+  moves_sent (Asking reading) = (refl, refl, refl, refl, inr tt)
+  moves_sent place = (refl, refl, refl, refl, inr tt)
+
+  moves_passed : (place : Place) → Moves f place (record { facts = f; place = places.passed place f })
+  moves_passed (Welcomed peer) = (refl, refl, refl, refl, inr tt)
+  moves_passed (Asked left) = (refl, refl, refl, refl, inr tt)
+  moves_passed place = (refl, refl, refl, refl, inl refl)
+
+  moves_closed : (peer : ℕ) (place : Place) → Moves f place (places.closed peer place f)
+  moves_closed peer (Welcomed p) = (refl, refl, refl, refl, inr tt)
+  moves_closed peer (Asked left) = (refl, refl, refl, refl, inr tt)
+  moves_closed peer place = (refl, refl, refl, refl, inl refl)
+
+  moves_told : (place : Place) → Moves f place (record { facts = f; place = places.told place f })
+  moves_told (Greeting peer) = (refl, refl, refl, refl, inr (rest_next f.television f.peers))
+  moves_told (Telling text left) = (refl, refl, refl, refl, inr (rest_telling text (places.without_first left) f))
+  moves_told place = (refl, refl, refl, refl, inl refl)
+
+  moves_gone : (peer : ℕ) (place : Place) → Moves f place (places.gone peer place f)
+  moves_gone peer (Greeting p) = (refl, refl, refl, refl, inr (rest_next f.television (places.lost peer f).peers))
+  moves_gone peer (Telling text left) =
+      (refl, refl, refl, refl, inr (rest_telling text (places.without_first left) (places.lost peer f)))
+  moves_gone peer place = (refl, refl, refl, refl, inl refl)
+
+  moves_heard : (peer : ℕ) (bytes : List ℕ) (older : History) (place : Place)
+      → Moves f place (places.heard run peer bytes older place f)
+  moves_heard peer bytes older (Welcomed p) = by (refusal_of (Some bytes) older)
+    where
+      state : State
+      state = relayed run (Heard peer bytes ∷ older)
+
+      by : (x : Option CompanionFault) → Moves f (Welcomed p) (places.television_told x state f)
+      by None =
+          (refl, refl, refl, refl, inr (rest_telling_if (difference_text f.state state) (record f { state = state })))
+      by (Some fault) = (refl, refl, refl, refl, inr tt)
+  moves_heard peer bytes older (Asked left) = (refl, refl, refl, refl, inr tt)
+  moves_heard peer bytes older place = (refl, refl, refl, refl, inl refl)
+
+pub moves : (run : RelayRun) (older : History) (entry : Entry) → IsMove entry → (p : Progress)
+    → Moves p.facts p.place (places.after run entry older p)
+moves run older (Accepted peer k) is p = moves_opened run p.facts p.place _ peer
+moves run older (Sent peer bytes) is p = moves_sent run p.facts p.place
+moves run older (Quiet peer) is p = moves_passed run p.facts p.place
+moves run older (Heard peer bytes) is p = moves_heard run p.facts peer bytes older p.place
+moves run older (Closed peer) is p = moves_closed run p.facts peer p.place
+moves run older (Wrote peer bytes) is p = moves_told run p.facts p.place
+moves run older (Gone peer) is p = moves_gone run p.facts peer p.place
+moves run older (Clock why.Land reading) is p = (refl, refl, refl, refl, inr tt)
+moves run older (Clock w reading) is p = absurd is
+moves run older (Dialled k peer) is p = absurd is
+moves run older (Took peer bytes) is p = absurd is
+moves run older (HungUp peer) is p = absurd is
+moves run older (Listening host port) is p = (refl, refl, refl, refl, inr tt)
+moves run older (NotDialled k) is p = (refl, refl, refl, refl, inr tt)
+moves run older TookNone is p = (refl, refl, refl, refl, inr tt)
+moves run older Slept is p = (refl, refl, refl, refl, inl refl)
+moves run older (Dialling k to) is p = (refl, refl, refl, refl, inl refl)
+moves run older NoneCame is p = (refl, refl, refl, refl, inr (rest_next p.facts.television p.facts.peers))
