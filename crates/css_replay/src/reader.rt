@@ -7,7 +7,7 @@ ghost use Rattle.css_world.specs.Happened.{Numbered};
 ghost use Rattle.css_world.specs.Standing as worlds;
 ghost use Rattle.css_replay.specs.Replayed.{read_meant, with_line, Outset, Opening};
 ghost use Rattle.css_replay.specs.Stands.{refused_fault, unread_fault};
-ghost use Rattle.css_replay.specs.Stands.{Opens, Starts, Declares, Grows, ReadsOn, IsNew, IsPart, IsGrown};
+ghost use Rattle.css_replay.specs.Stands.{Opens, Starts, Declares, Grows, ReadsOn, IsPart, IsGrown};
 
 use css_lines::{LineFault, Lines};
 use css_schedule::{Header, PlayerFault, Start, read_companion, read_header, read_line};
@@ -227,7 +227,7 @@ impl Replay {
 
     // Reads line 1.
     fn begin(&mut self, text: &[u8]) -> Result<(), LineFault<Cause>>
-        requires { IsNew self.old }
+        requires { IsAt self.old Outset }
         ensures reads { ReadsOn self.new Outset text.now result }
         ensures last { self.new.last ≡ self.old.last }
     {
