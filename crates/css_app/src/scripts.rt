@@ -2,7 +2,7 @@ ghost use Rattle.std.specs.Prelude.{◌≡◌, ◌∷◌, [], ◌++◌, IfErr, I
 ghost use Rattle.css_lines.specs.declared.reader.LineFault.TheVariants as lacks;
 ghost use Rattle.css_num.specs.Gives.{GivesBy};
 ghost use Rattle.css_schedule.specs.Ranges.{IsScriptLine};
-ghost use Rattle.css_app.specs.Live.{CountsTaking, GivesScript, HasNoScript, TellsNoRun, script_status};
+ghost use Rattle.css_app.specs.Live.{CountsTaking, GivesScript, HasNoScript, script_status};
 ghost use Rattle.css_app.specs.Scripts.{line_of};
 
 use css_lines::{LineFault, Lines, PIECE, Refusal, Stop, drive};
@@ -140,7 +140,6 @@ pub(crate) fn take_script<S: Source>(
     ensures value { MatchResult result (λ script. GivesScript (S.left source.old) (S.left source.new) script.items)
         (HasNoScript (S.left source.old)) }
     ensures range { IfOk result (λ script. All IsScriptLine script.items) }
-    ensures quiet { IfErr result TellsNoRun }
     ensures counted { CountsTaking (S.faults source.old) (S.faults source.new) result }
 {
     let mut unused = match NeverFailsSink::new(alloc, PIECE) {

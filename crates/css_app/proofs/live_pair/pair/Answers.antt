@@ -5,28 +5,25 @@ use Rattle.css_replay.specs.Ended.{CountsReads}
 use Rattle.css_app.specs.Live.{Stage, stage}
 use Rattle.css_app.specs.Pairs.{Beside, child_words, children}
 use Rattle.css_app.proofs.Live.{script_lacks}
+use Rattle.css_app.proofs.Quiet.{script_no_usage}
 use Rattle.css_app.proofs.live_pair.pair.Goals as goal
 
 -- the script was not read
-pub returns-in-Err-clause-ran : goal.returns-in-Err-clause-ran
-returns-in-Err-clause-ran g c = inl (record { untouched = refl; children = refl; cause = c.in-Err.ensures.value })
-
-pub returns-in-Err-clause-complete : goal.returns-in-Err-clause-complete
-returns-in-Err-clause-complete g c bytes script is ok read wrote called spawned =
-    inl (script_lacks _ _ bytes script _ _ c.in-Err.ensures.value is ok c.in-Err.ensures.counted read)
-
-pub returns-in-Err-clause-counted_writes : goal.returns-in-Err-clause-counted_writes
-returns-in-Err-clause-counted_writes g c = c.in-Err.ensures.quiet.writes (g.K.Sink.faults c.args.sink.now)
-
-pub returns-in-Err-clause-counted_calls : goal.returns-in-Err-clause-counted_calls
-returns-in-Err-clause-counted_calls g c = c.in-Err.ensures.quiet.calls (g.O.Outside.counts c.args.outside.now).faults
-
-pub returns-in-Err-clause-counted_dials : goal.returns-in-Err-clause-counted_dials
-returns-in-Err-clause-counted_dials g c =
-    c.in-Err.ensures.quiet.dials (g.O.Outside.counts c.args.outside.now).dial_faults
-
-pub returns-in-Err-clause-counted_spawns : goal.returns-in-Err-clause-counted_spawns
-returns-in-Err-clause-counted_spawns g c = c.in-Err.ensures.quiet.spawns (g.P.Spawner.faults c.args.spawner.now)
+pub returns-in-Err : goal.returns-in-Err
+returns-in-Err g c =
+    let tells = c.in-Err.ensures.counted (g.K.Sink.faults c.args.sink.now) (g.O.Outside.counts c.args.outside.now)
+    (g.P.Spawner.faults c.args.spawner.now) in
+    record {
+      ran = inl (record { untouched = refl; children = refl; cause = c.in-Err.ensures.value });
+      complete = λ bytes script is ok read wrote called spawned.
+          inl (script_lacks _ c.in-Err.status bytes script c.in-Err.ensures.value is ok tells.reads read);
+      counted_reads = tells.reads;
+      counted_writes = tells.writes;
+      counted_calls = tells.calls;
+      counted_dials = tells.dials;
+      counted_spawns = tells.spawns;
+      no_usage = script_no_usage _ c.in-Err.status c.in-Err.ensures.value;
+    }
 
 -- memory ran out before a child was started
 pub returns-in-Err-prepare-clause-ran : goal.returns-in-Err-prepare-clause-ran
@@ -79,4 +76,16 @@ returns-in-Ok-prepare-clause-complete g c bytes script is ok read wrote called s
 pub returns-in-Ok-prepare-clause-counted_reads : goal.returns-in-Ok-prepare-clause-counted_reads
 returns-in-Ok-prepare-clause-counted_reads g c =
     subst (λ n. CountsReads (g.S.Source.faults c.args.source.now) n c.run_beside.result) (sym c.in-Ok.ensures.counted)
-    (c.run_beside.ensures.reads (g.S.Source.faults c.args.source.now))
+    (c.run_beside.ensures.counted (g.S.Source.faults c.args.source.now)).reads
+
+pub returns-in-Ok-prepare-clause-counted_writes : goal.returns-in-Ok-prepare-clause-counted_writes
+returns-in-Ok-prepare-clause-counted_writes g c = (c.run_beside.ensures.counted 0).writes
+
+pub returns-in-Ok-prepare-clause-counted_calls : goal.returns-in-Ok-prepare-clause-counted_calls
+returns-in-Ok-prepare-clause-counted_calls g c = (c.run_beside.ensures.counted 0).calls
+
+pub returns-in-Ok-prepare-clause-counted_dials : goal.returns-in-Ok-prepare-clause-counted_dials
+returns-in-Ok-prepare-clause-counted_dials g c = (c.run_beside.ensures.counted 0).dials
+
+pub returns-in-Ok-prepare-clause-counted_spawns : goal.returns-in-Ok-prepare-clause-counted_spawns
+returns-in-Ok-prepare-clause-counted_spawns g c = (c.run_beside.ensures.counted 0).spawns
