@@ -17,7 +17,6 @@ use Rattle.css_words.specs.declared.fault.WordsFault.TheVariants as words
 use Rattle.css_survey.specs.Generated.{schedule_text}
 use Rattle.css_survey.specs.Surveyed.{survey_text}
 use Rattle.css_replay.specs.declared.status.Status.TheVariants as status
-use Rattle.css_replay.specs.Devices.{SinkUse}
 use Rattle.css_replay.specs.Replayed.{replayed}
 use Rattle.css_app.specs.Commands.{ByWriting, Does, EitherCompanion}
 use Rattle.css_app.specs.Devices.{Uses, unused}

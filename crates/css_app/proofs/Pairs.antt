@@ -1,7 +1,7 @@
 -- A companion's run beside a child, and the status of both.
 use Rattle.std.proofs.Common.{◌≡◌, ℕ, ◌+◌, ◌≤◌, ℤ, pos, Bool, true, false, cond, List, ◌∷◌}
 use Rattle.std.proofs.Common.{ap, refl, sym, subst, ◌∙◌, arith, inl, inr}
-use Rattle.std.specs.Prelude.{Option, Some, None, Result, Ok, Err, OnOk, OnErr, MatchResult}
+use Rattle.std.specs.Prelude.{Option, Result, Ok, Err, OnOk, OnErr, MatchResult}
 use Rattle.std.specs.Option.{option_map}
 use Rattle.std.specs.Ordering.{int_eq}
 use Rattle.css_model.specs.History.{History}

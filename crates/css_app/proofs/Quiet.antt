@@ -26,6 +26,10 @@ use Rattle.css_app.specs.Migrations.{migrate_status_of}
 abbrev pub EndsLines : ℕ → ℕ → ℕ → ℕ → Status → Type 0
 EndsLines r r' w w' result = IsNoUsage result × TellsOverLines r r' w w' result
 
+pub done_tells : {r r' w w' : ℕ} → r' ≡ r → w' ≡ w → TellsOverLines r r' w w' status.Done
+done_tells read wrote c s =
+    record { reads = read; writes = wrote; calls = refl; dials = omega arith; spawns = refl }
+
 pub agree_tells : {r r' w w' : ℕ} (stop : Stop agree.Cause) → SourceCounts r r' stop → SinkCounts w w' stop
     → EndsLines r r' w w' (agree_status_of stop)
 agree_tells (stops.BadLine line (refusals.Refused agrees.Form)) read wrote =

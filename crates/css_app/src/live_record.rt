@@ -1,5 +1,5 @@
 //! A companion's run that is recorded.
-ghost use Rattle.std.specs.Prelude.{◌≡◌, List, ℕ};
+ghost use Rattle.std.specs.Prelude.{ℕ};
 ghost use Rattle.css_drive.specs.Configs.{IsWritable};
 ghost use Rattle.css_replay.specs.Ended.{CountsCalls, CountsDials, CountsReads, CountsSpawns, CountsWrites};
 ghost use Rattle.css_replay.specs.Ended.{HasNotFailed, IsNoUsage};

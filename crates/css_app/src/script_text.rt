@@ -1,4 +1,4 @@
-ghost use Rattle.std.specs.Prelude.{◌≡◌, MatchResult, Some};
+ghost use Rattle.std.specs.Prelude.{MatchResult, Some};
 ghost use Rattle.css_app.specs.Live.{CountsTaking, HasNoScript};
 ghost use Rattle.css_app.specs.Pairs.{GivesScriptText, GivesUpTo, IsScript};
 

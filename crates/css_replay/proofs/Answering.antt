@@ -13,7 +13,7 @@ use Rattle.css_world.specs.Verdicts.{line_meant}
 use Rattle.css_replay.specs.declared.reader.Cause.{Cause}
 use Rattle.css_replay.specs.declared.reader.Cause.TheVariants as causes
 use Rattle.css_world.specs.declared.fault.WorldFault.{WorldFault}
-use Rattle.css_world.specs.declared.fault.WorldFault.TheVariants.{Broken, Absent, Player, Memory}
+use Rattle.css_world.specs.declared.fault.WorldFault.TheVariants.{Memory}
 use Rattle.css_world.specs.Standing.{appended}
 use Rattle.css_replay.specs.Replayed.{caused, read_meant}
 use Rattle.css_replay.specs.Stands.{unread_fault, refused_fault}

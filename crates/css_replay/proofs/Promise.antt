@@ -28,9 +28,7 @@ use Rattle.css_schedule.specs.declared.header.Start.{Start}
 use Rattle.css_schedule.specs.declared.header.Start.TheVariants.{One, Two}
 use Rattle.css_schedule.specs.declared.line.Line.{Line}
 use Rattle.css_schedule.specs.declared.line.Verb.{Verb}
-use Rattle.css_schedule.specs.declared.line.Verb.TheVariants.{Ask, Take, Give, Land, Wall, Print}
-use Rattle.css_schedule.specs.declared.line.Verb.TheVariants.{Programme, Timeline, Viewer}
-use Rattle.css_schedule.specs.declared.line.Verb.TheVariants as verbs
+use Rattle.css_schedule.specs.declared.line.Verb.TheVariants.{Wall, Print}
 use Rattle.css_schedule.specs.Headers.{max_companions, header_of, with_companion}
 use Rattle.css_schedule.specs.Lines.{line_of, second_of_words, line_in}
 use Rattle.css_schedule.specs.Words.{words_of}
@@ -39,7 +37,7 @@ use Rattle.css_schedule.proofs.Adding.{more_companions}
 use Rattle.css_schedule.proofs.HeadersInRange.{start_in_range, companion_in_range}
 use Rattle.css_schedule.proofs.InRange.{lines_are_in_range, second_line_range, second_is_second}
 use Rattle.css_world.specs.declared.fault.WorldFault.{WorldFault}
-use Rattle.css_world.specs.declared.fault.WorldFault.TheVariants.{Broken, Absent, Player, Memory}
+use Rattle.css_world.specs.declared.fault.WorldFault.TheVariants.{Absent}
 use Rattle.css_companion.specs.Printed as companions
 use Rattle.css_companion.specs.Meanings.{timing_after}
 use Rattle.css_companion.specs.Reports.{HasTickOf, report_by}

@@ -1,8 +1,5 @@
 use Rattle.std.proofs.Common.{ℕ, ◌≤◌, subst, sym}
 use Rattle.css_gen.specs.Second.{least_lines}
-use Rattle.css_survey.specs.Generated.{schedule_text}
-use Rattle.css_app.specs.Commands.{ByWriting}
-use Rattle.css_replay.specs.Devices.{sink_use}
 use Rattle.css_app.proofs.Generating.{some_asked, few_asked, lines_asked}
 use Rattle.css_app.proofs.Quiet.{writes_tells}
 use Rattle.css_app.proofs.by_words.generate_by.Goals as goal
@@ -24,10 +21,10 @@ generate-requires-clause-least g c =
 
 pub returns-clause-does : goal.returns-clause-does
 returns-clause-does g c =
-    subst (λ (n : ℕ). ByWriting (schedule_text c.args.words.seed n c.args.words.lines)
-    (sink_use g.K.Sink.holds g.K.Sink.faults c.args.sink.now c.generate.new.sink) c.generate.result)
-    c.unwrap_or-companions.ensures
-    (record { writes = c.generate.ensures.writes; complete = c.generate.ensures.complete })
+    record {
+      writes = rw c.unwrap_or-companions.ensures at c.generate.ensures.writes;
+      complete = c.generate.ensures.complete;
+    }
 
 pub returns-clause-counted : goal.returns-clause-counted
 returns-clause-counted g c reads calls spawns =

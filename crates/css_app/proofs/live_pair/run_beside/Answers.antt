@@ -1,4 +1,4 @@
-use Rattle.std.proofs.Common.{subst, sym, ap, refl, inl, inr, ◌∙◌, arith}
+use Rattle.std.proofs.Common.{subst, ap, refl, inl, inr, ◌∙◌, arith}
 use Rattle.css_outside.specs.Faults.{CountsOutFault}
 use Rattle.css_app.specs.Pairs.{children}
 use Rattle.css_app.proofs.Pairs.{both_no_usage, both_tell, pairs_as_due, runs_beside}

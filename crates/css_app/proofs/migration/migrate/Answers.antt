@@ -1,8 +1,8 @@
-use Rattle.std.proofs.Common.{ap, inl, inr, subst, sym, refl, arith}
+use Rattle.std.proofs.Common.{ap, inl, inr, subst, sym, refl}
 use Rattle.css_replay.specs.Ended.{IsDoneUnlessMemory}
 use Rattle.css_replay.proofs.Completeness.{only_memory}
 use Rattle.css_app.specs.Migrations.{migrate_status_of}
-use Rattle.css_app.proofs.Quiet.{migrate_tells}
+use Rattle.css_app.proofs.Quiet.{migrate_tells, done_tells}
 use Rattle.css_app.proofs.migration.migrate.Goals as goal
 
 pub returns-in-Ok-clause-does : goal.returns-in-Ok-clause-does
@@ -15,13 +15,8 @@ returns-in-Ok-clause-does g c = record {
 }
 
 pub returns-in-Ok-clause-counted : goal.returns-in-Ok-clause-counted
-returns-in-Ok-clause-counted g c calls spawns = record {
-  reads = c.in-Ok.ensures.counted_reads;
-  writes = c.in-Ok.ensures.counted_writes;
-  calls = refl;
-  dials = omega arith;
-  spawns = refl;
-}
+returns-in-Ok-clause-counted g c =
+    done_tells c.in-Ok.ensures.counted_reads c.in-Ok.ensures.counted_writes
 
 pub returns-in-Err-clause-does : goal.returns-in-Err-clause-does
 returns-in-Err-clause-does g c =
