@@ -9,7 +9,7 @@ ghost use Rattle.css_words.specs.Generator.{generator_of};
 ghost use Rattle.css_words.specs.Pair.{pair_of};
 ghost use Rattle.css_words.specs.Tv.{tv_of};
 ghost use Rattle.css_words.specs.Written.{AreWritable};
-ghost use Rattle.css_app.specs.Commands.{ByCompanion, ByGenerate, ByPair, ByRecord, BySurvey, ByTv};
+ghost use Rattle.css_app.specs.Commands.{ByGenerate, ByPair, BySurvey, ByTv};
 ghost use Rattle.css_app.specs.Commands.{EitherCompanion, IsAskedRun, asked_child, asked_drive};
 ghost use Rattle.css_app.specs.Devices.{followers_use, outside_use, spawner_use};
 ghost use Rattle.css_app.specs.Live.{TellsFaults, TellsOverLines, failures};
@@ -57,49 +57,6 @@ fn run_of(options: CompanionOptions, cii: Address) -> DriveConfig
     }
 }
 
-// A companion whose run is recorded, with these words.
-fn record_by<K: Sink, O: Outside>(
-    alloc: Global,
-    words: CompanionWords,
-    sink: &mut K,
-    outside: &mut O,
-) -> Status
-    requires { AreWritable words.options }
-    ensures does { ByRecord (companion_of words) (sink_use K.holds K.faults sink.old sink.new)
-        (outside_use O.told O.counts outside.old outside.new) result }
-    ensures no_usage { IsNoUsage result }
-    ensures counted { (reads spawns : ℕ) → TellsFaults
-        (failures reads (K.faults sink.old) (O.counts outside.old) spawns)
-        (failures reads (K.faults sink.new) (O.counts outside.new) spawns) result }
-{
-    let CompanionWords { cii, options, .. } = words;
-    let run = run_of(options, cii);
-    record_companion(alloc, run, sink, outside)
-}
-
-// A companion by its sheet, with these words.
-fn follow_by<S: Source, K: Sink, O: Outside, F: Listens>(
-    alloc: Global,
-    words: CompanionWords,
-    source: &mut S,
-    sink: &mut K,
-    outside: &mut O,
-    followers: &mut F,
-) -> Status
-    requires { AreWritable words.options }
-    ensures does { ByCompanion (companion_of words) (source_use S.left S.faults source.old source.new)
-        (sink_use K.holds K.faults sink.old sink.new) (outside_use O.told O.counts outside.old outside.new)
-        (followers_use F.takes F.heard followers.old followers.new) result }
-    ensures no_usage { IsNoUsage result }
-    ensures counted { (spawns : ℕ) → TellsFaults
-        (failures (S.faults source.old) (K.faults sink.old) (O.counts outside.old) spawns)
-        (failures (S.faults source.new) (K.faults sink.new) (O.counts outside.new) spawns) result }
-{
-    let CompanionWords { cii, options, .. } = words;
-    let run = run_of(options, cii);
-    companion(alloc, run, source, sink, outside, followers)
-}
-
 /// The command `companion` with these words.
 pub(crate) fn companion_by<S: Source, K: Sink, O: Outside, F: Listens>(
     alloc: Global,
@@ -121,10 +78,16 @@ pub(crate) fn companion_by<S: Source, K: Sink, O: Outside, F: Listens>(
         (failures (S.faults source.old) (K.faults sink.old) (O.counts outside.old) spawns)
         (failures (S.faults source.new) (K.faults sink.new) (O.counts outside.new) spawns) result }
 {
-    if words.recorded {
-        return record_by(alloc, words, sink, outside);
+    let CompanionWords {
+        cii,
+        options,
+        recorded,
+    } = words;
+    let run = run_of(options, cii);
+    if recorded {
+        return record_companion(alloc, run, sink, outside);
     }
-    follow_by(alloc, words, source, sink, outside, followers)
+    companion(alloc, run, source, sink, outside, followers)
 }
 
 // The television's run that these words ask for.

@@ -92,12 +92,7 @@ pub record Stands (replay : Replay) (texts : List (List ℕ)) : Type 0 where
   pub at : IsAt replay (reached texts)
 
 -- ---- calls
--- the world of a header was opened, which stands for no lines, or memory ran out
-abbrev pub Opens : Header → Result World (LineFault Cause) → Type 0
-Opens header result = MatchResult result (λ world. (world.header ≡ header) × worlds.StandsFor world [])
-    (λ fault. fault ≡ faults.Memory)
-
--- such a world is kept
+-- The world of a header was opened and is kept, which stands for no lines, or memory ran out.
 abbrev pub Starts : Option World → Header → Result (Unit {0}) (LineFault Cause) → Type 0
 Starts kept header result = MatchResult result
     (λ _. (world : World) × (kept ≡ Some world) × (world.header ≡ header) × worlds.StandsFor world [])
