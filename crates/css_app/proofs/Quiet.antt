@@ -46,7 +46,7 @@ audit_tells _ read wrote =
 
 pub migrate_tells : {r r' w w' : ℕ} (stop : Stop NoLine) → SourceCounts r r' stop → SinkCounts w w' stop
     → EndsLines r r' w w' (migrate_status_of stop)
-migrate_tells (stops.BadLine line refusals.Long) read wrote =
+migrate_tells stops.Memory read wrote =
     (tt, λ c s. record { reads = read; writes = wrote; calls = refl; dials = omega arith; spawns = omega arith })
 migrate_tells _ read wrote =
     (tt, λ c s. record { reads = read; writes = wrote; calls = refl; dials = omega arith; spawns = omega arith })

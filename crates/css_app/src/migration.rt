@@ -4,11 +4,11 @@ ghost use Rattle.css_replay.specs.Devices.{sink_use, source_use};
 ghost use Rattle.css_app.specs.Live.{TellsOverLines};
 ghost use Rattle.css_app.specs.Migrations.{migrate_status_of};
 
-use css_lines::{Refusal, Stop, drive};
+use crate::scripts::why_of;
+use css_lines::{Stop, drive};
 use css_migrate::{Migrate, NoLine};
 use css_outside::{Sink, Source};
 use css_replay::Status;
-use css_schedule::LineWhy;
 use std::alloc::Global;
 
 // The status of a migration that stopped.
@@ -16,19 +16,9 @@ fn status_of(stop: Stop<NoLine>) -> Status
     ensures { result ≡ migrate_status_of stop }
 {
     match stop {
-        Stop::BadLine {
+        Stop::BadLine { line, why } => Status::BadLine {
             line,
-            why: Refusal::Long,
-        } => Status::BadLine {
-            line,
-            why: LineWhy::Long,
-        },
-        Stop::BadLine {
-            line,
-            why: Refusal::Refused(_),
-        } => Status::BadLine {
-            line,
-            why: LineWhy::Form,
+            why: why_of(why),
         },
         Stop::ReadFault => Status::ReadFault,
         Stop::WriteFault => Status::WriteFault,
