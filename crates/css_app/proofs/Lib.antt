@@ -1,4 +1,3 @@
-pub mod Completeness
 pub mod Generating
 pub mod ScriptsTaken
 pub mod SheetsTaken
@@ -9,8 +8,5 @@ pub mod Pairs
 pub mod TvEnds
 pub mod Quiet
 pub mod Lacking
-pub mod Relays
-pub mod Records
 pub mod Watches
-pub mod Migrations
 pub mod Commands

@@ -1,13 +1,12 @@
 -- A companion's run beside a child, and the status of both.
 use Rattle.std.proofs.Common.{◌≡◌, ℕ, ◌+◌, ◌≤◌, ℤ, pos, Bool, true, false, cond, List, ◌∷◌}
 use Rattle.std.proofs.Common.{ap, refl, sym, subst, ◌∙◌, arith, inl, inr}
-use Rattle.std.specs.Prelude.{Option, Some, None, Result, Ok, Err, OnOk, OnErr, MatchResult}
+use Rattle.std.specs.Prelude.{Option, Result, Ok, Err, OnOk, OnErr, MatchResult}
 use Rattle.std.specs.Option.{option_map}
 use Rattle.std.specs.Ordering.{int_eq}
 use Rattle.css_model.specs.History.{History}
 use Rattle.css_outside.specs.Faults.{CountsCall}
 use Rattle.css_outside.specs.Spawners.{Spawned, Started, Finished, TellsSpawned}
-use Rattle.css_outside.specs.declared.failure.Failure.{Failure}
 use Rattle.css_outside.specs.declared.fault.OutFault.{OutFault}
 use Rattle.css_outside.specs.declared.fault.OutFault.TheVariants as fault
 use Rattle.css_follow.specs.Following.{Plan}
@@ -16,102 +15,72 @@ use Rattle.css_drive.specs.declared.driven.Driven.{Driven}
 use Rattle.css_drive.specs.declared.driven.Driven.TheVariants as driven
 use Rattle.css_replay.specs.declared.status.Status.{Status}
 use Rattle.css_replay.specs.declared.status.Status.TheVariants as status
-use Rattle.css_replay.specs.Ended.{CountsCalls, CountsDials, CountsReads, CountsSpawns, CountsWrites, HasNotFailed}
-use Rattle.css_replay.specs.Ended.{IsNoUsage}
-use Rattle.css_app.specs.Live.{EndsAsDue, IsAsDue, MakesRun, Stage}
-use Rattle.css_app.specs.Live.{driven_status}
+use Rattle.css_replay.specs.Ended.{HasNotFailed, IsNoUsage}
+use Rattle.css_app.specs.Live.{EndsAsDue, Failures, IsAsDue, MakesRun, Stage, TellsFaults, driven_status}
 use Rattle.css_app.specs.Pairs.{PairsAsDue, RunsBeside, child_status, is_done, with_child}
 
 -- ---- the status of both
--- what holds of each status of a child that was waited for
-of_child : (P : Status → Type 0) (finished : Result ℤ OutFault) → P status.Done
-    → ((ended : ℤ) → P (status.ChildFault (Ok ended))) → ((failure : Failure) → P (status.ChildFault (Err failure)))
-    → P status.Memory → P (child_status finished)
-of_child P (Ok ended) done other none memory =
-    elim (int_eq ended (pos 0)) as (λ b. P (cond b status.Done (status.ChildFault (Ok ended))))
-    [ true ↦ done | false ↦ other ended ]
-of_child P (Err (fault.Failed failure)) done other none memory = none failure
-of_child P (Err fault.Memory) done other none memory = memory
+child_no_usage : (finished : Result ℤ OutFault) → IsNoUsage (child_status finished)
+child_no_usage (Ok ended) =
+    elim (int_eq ended (pos 0)) as (λ b. IsNoUsage (cond b status.Done (status.ChildFault (Ok ended))))
+    [ true ↦ tt | false ↦ tt ]
+child_no_usage (Err (fault.Failed failure)) = tt
+child_no_usage (Err fault.Memory) = tt
 
--- what holds of a companion's status, and of a child's where the companion is done, holds of the status of both
-of_both : (P : Status → Type 0) (ended : Driven) (finished : Result ℤ OutFault)
-    → (P status.Done → P (child_status finished)) → P (driven_status ended)
-    → P (with_child (driven_status ended) finished)
-of_both P driven.Done finished child p = child p
-of_both P (driven.BadLine line why) finished child p = p
-of_both P driven.WriteFault finished child p = p
-of_both P (driven.NetFault failure) finished child p = p
-of_both P (driven.BadCii text fault) finished child p = p
-of_both P (driven.Moved property old new) finished child p = p
-of_both P (driven.Spent turns) finished child p = p
-of_both P (driven.Unreachable turns) finished child p = p
-of_both P (driven.BadUrl property) finished child p = p
-of_both P driven.Memory finished child p = p
+pub both_no_usage : (companion : Status) (finished : Result ℤ OutFault) → IsNoUsage companion
+    → IsNoUsage (with_child companion finished)
+both_no_usage status.Done finished none = child_no_usage finished
+both_no_usage _ finished none = none
 
-module _ (config : DriveConfig) (plans : List Plan) (before now : Stage) (companion : Status)
-    (finished : Result ℤ OutFault) (made : MakesRun config plans before now companion) where
-  -- the same of a run that was made
-  keeps : (P : Status → Type 0) → (P status.Done → P (child_status finished)) → P companion
-      → P (with_child companion finished)
-  keeps P child p =
-      subst (λ (s : Status). P (with_child s finished)) (sym made.tells)
-      (of_both P made.ended finished child (subst P made.tells p))
-
-  pub keeps_no_usage : IsNoUsage companion → IsNoUsage (with_child companion finished)
-  keeps_no_usage told = keeps IsNoUsage (λ so. of_child IsNoUsage finished tt (λ e. tt) (λ f. tt) tt) told
-
-  pub keeps_reads : (r r' : ℕ) → CountsReads r r' companion → CountsReads r r' (with_child companion finished)
-  keeps_reads r r' counted =
-      keeps (CountsReads r r') (λ same. of_child (CountsReads r r') finished same (λ e. same) (λ f. same) same) counted
-
-  pub keeps_writes : (w w' : ℕ) → CountsWrites w w' companion → CountsWrites w w' (with_child companion finished)
-  keeps_writes w w' counted =
-      keeps (CountsWrites w w') (λ same. of_child (CountsWrites w w') finished same (λ e. same)
-      (λ f. same) same) counted
-
-  pub keeps_calls : (c c' : ℕ) → CountsCalls c c' companion → CountsCalls c c' (with_child companion finished)
-  keeps_calls c c' counted =
-      keeps (CountsCalls c c') (λ same. of_child (CountsCalls c c') finished same (λ e. same) (λ f. same) same) counted
-
-  pub keeps_dials : (d d' : ℕ) → CountsDials d d' companion → CountsDials d d' (with_child companion finished)
-  keeps_dials d d' counted =
-      keeps (CountsDials d d') (λ same. of_child (CountsDials d d') finished same (λ e. same) (λ f. same) same) counted
-
--- ---- the spawner
 never_falls : (finished : Result ℤ OutFault) (before now : ℕ) → CountsCall before now finished → before ≤ now
 never_falls (Ok ended) before now counted = omega (arith, counted)
 never_falls (Err (fault.Failed failure)) before now counted = counted.kept
 never_falls (Err fault.Memory) before now counted = omega (arith, counted)
 
-child_counts : (finished : Result ℤ OutFault) (before now : ℕ) → CountsCall before now finished
-    → CountsSpawns before now (child_status finished)
-child_counts (Ok ended) before now counted =
+-- a companion that is done tells no fault, and the child's status tells one of the spawner
+child_tells : (before now : Failures) (spawns : ℕ) (finished : Result ℤ OutFault) → TellsFaults before now status.Done
+    → CountsCall before.spawns spawns finished
+    → TellsFaults before (record now { spawns = spawns }) (child_status finished)
+child_tells before now spawns (Ok ended) told counted =
     elim (int_eq ended (pos 0))
-    as (λ b. CountsSpawns before now (cond b status.Done (status.ChildFault (Ok ended))))
-    [ true ↦ counted | false ↦ counted ]
-child_counts (Err (fault.Failed failure)) before now counted = counted
-child_counts (Err fault.Memory) before now counted = omega (arith, counted)
+    as (λ b. TellsFaults before (record now { spawns = spawns }) (cond b status.Done (status.ChildFault (Ok ended)))) [
+      | true ↦ record {
+        reads = told.reads;
+        writes = told.writes;
+        calls = told.calls;
+        dials = told.dials;
+        spawns = counted;
+      }
+      | false ↦ record {
+        reads = told.reads;
+        writes = told.writes;
+        calls = told.calls;
+        dials = told.dials;
+        spawns = counted;
+      }
+    ]
+child_tells before now spawns (Err (fault.Failed failure)) told counted =
+    record { reads = told.reads; writes = told.writes; calls = told.calls; dials = told.dials; spawns = counted }
+child_tells before now spawns (Err fault.Memory) told counted = record {
+  reads = told.reads;
+  writes = told.writes;
+  calls = told.calls;
+  dials = told.dials;
+  spawns = omega (arith, counted);
+}
 
-driven_spawns : (ended : Driven) (finished : Result ℤ OutFault) (before now : ℕ) → CountsCall before now finished
-    → CountsSpawns before now (with_child (driven_status ended) finished)
-driven_spawns driven.Done finished before now counted = child_counts finished before now counted
-driven_spawns (driven.BadLine line why) finished before now counted = never_falls finished before now counted
-driven_spawns driven.WriteFault finished before now counted = never_falls finished before now counted
-driven_spawns (driven.NetFault failure) finished before now counted = never_falls finished before now counted
-driven_spawns (driven.BadCii text fault) finished before now counted = never_falls finished before now counted
-driven_spawns (driven.Moved property old new) finished before now counted = never_falls finished before now counted
-driven_spawns (driven.Spent turns) finished before now counted = never_falls finished before now counted
-driven_spawns (driven.Unreachable turns) finished before now counted = never_falls finished before now counted
-driven_spawns (driven.BadUrl property) finished before now counted = never_falls finished before now counted
-driven_spawns driven.Memory finished before now counted = never_falls finished before now counted
-
--- after a start that went well
-pub counts_spawns : (config : DriveConfig) (plans : List Plan) (before now : Stage) (companion : Status)
-    (finished : Result ℤ OutFault) (old mid new : ℕ) → MakesRun config plans before now companion → mid ≡ old
-    → CountsCall mid new finished → CountsSpawns old new (with_child companion finished)
-counts_spawns config plans before now companion finished old mid new made same counted =
-    subst (λ (s : Status). CountsSpawns old new (with_child s finished)) (sym made.tells)
-    (driven_spawns made.ended finished old new (subst (λ n. CountsCall n new finished) same counted))
+-- the status of both tells what the companion's tells, and else what the child's does
+pub both_tell : (before now : Failures) (spawns : ℕ) (ended : Driven) (finished : Result ℤ OutFault)
+    → TellsFaults before now (driven_status ended) → CountsCall before.spawns spawns finished
+    → TellsFaults before (record now { spawns = spawns }) (with_child (driven_status ended) finished)
+both_tell before now spawns driven.Done finished told counted = child_tells before now spawns finished told counted
+both_tell before now spawns _ finished told counted = record {
+  reads = told.reads;
+  writes = told.writes;
+  calls = told.calls;
+  dials = told.dials;
+  spawns = never_falls finished before.spawns spawns counted;
+}
 
 -- ---- the run
 -- the child was started and waited for

@@ -15,9 +15,7 @@ use Rattle.css_schedule.specs.Ranges.{IsScriptLine}
 use Rattle.css_schedule.specs.declared.line.ScriptLine.{ScriptLine}
 use Rattle.css_app.specs.declared.scripts.NoLine.{NoLine}
 use Rattle.css_app.specs.declared.scripts.ScriptLines.{ScriptLines}
-use Rattle.css_replay.specs.declared.status.Status.TheVariants as status
-use Rattle.css_replay.specs.Ended.{CountsReads}
-use Rattle.css_app.specs.Live.{GivesScript, HasNoScript, TellsNoRun, script_status}
+use Rattle.css_app.specs.Live.{GivesScript, HasNoScript, TellsOverLines, script_status}
 use Rattle.css_app.specs.Scripts.{Stands, line_in, line_of, script_in, script_lines, script_of_lines, unless_refused}
 use Rattle.css_app.specs.Scripts.{why_of}
 
@@ -77,28 +75,10 @@ no-script left left_new holds_old holds_new stops.ReadFault ran = tt
 no-script left left_new holds_old holds_new stops.WriteFault ran = tt
 no-script left left_new holds_old holds_new stops.Memory ran = tt
 
-pub script-counts : (before now : ℕ) (stop : Stop NoLine) → SourceCounts before now stop
-    → CountsReads before now (script_status stop)
-script-counts before now (stops.BadLine line why) counted = counted
-script-counts before now stops.ReadFault counted = counted
-script-counts before now stops.WriteFault counted = counted
-script-counts before now stops.Memory counted = counted
-
 -- no fault of another device is told
-pub script-quiet : (stop : Stop NoLine) → TellsNoRun (script_status stop)
-script-quiet (stops.BadLine line why) =
-    record { writes = λ n. refl; calls = λ n. refl; dials = λ n. omega arith; spawns = λ n. omega arith }
-script-quiet stops.ReadFault =
-    record { writes = λ n. refl; calls = λ n. refl; dials = λ n. omega arith; spawns = λ n. omega arith }
-script-quiet stops.WriteFault =
-    record { writes = λ n. refl; calls = λ n. refl; dials = λ n. omega arith; spawns = λ n. omega arith }
-script-quiet stops.Memory =
-    record { writes = λ n. refl; calls = λ n. refl; dials = λ n. omega arith; spawns = λ n. omega arith }
-
--- a status that comes for want of memory
-pub memory-quiet : TellsNoRun status.Memory
-memory-quiet = record { writes = λ n. refl; calls = λ n. refl; dials = λ n. omega arith; spawns = λ n. omega arith }
-
--- and one of a failed read
-pub read-quiet : TellsNoRun status.ReadFault
-read-quiet = record { writes = λ n. refl; calls = λ n. refl; dials = λ n. omega arith; spawns = λ n. omega arith }
+pub script-tells : {before now : ℕ} (stop : Stop NoLine) → SourceCounts before now stop → (writes : ℕ)
+    → TellsOverLines before now writes writes (script_status stop)
+script-tells stops.ReadFault counted = λ w c s.
+    record { reads = counted; writes = refl; calls = refl; dials = omega arith; spawns = omega arith }
+script-tells _ counted = λ w c s.
+    record { reads = counted; writes = refl; calls = refl; dials = omega arith; spawns = omega arith }

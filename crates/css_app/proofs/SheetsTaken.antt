@@ -13,8 +13,7 @@ use Rattle.css_follow.specs.declared.fault.SheetFault.TheVariants.{Line}
 use Rattle.css_follow.specs.declared.line.Form.{Form}
 use Rattle.css_follow.specs.declared.reading.SheetLines.{SheetLines}
 use Rattle.css_follow.proofs.SheetsRead.{read-ok}
-use Rattle.css_replay.specs.Ended.{CountsReads}
-use Rattle.css_app.specs.Live.{GivesSheet, HasNoSheet, TellsNoRun, sheet_status}
+use Rattle.css_app.specs.Live.{GivesSheet, HasNoSheet, TellsOverLines, sheet_status}
 
 -- the first line that is refused
 sheet-bad : (bytes : List ℕ) (left old new : Option (List ℕ)) (line : ℕ) (why : Refusal Form)
@@ -43,20 +42,10 @@ no-sheet left left_new holds_old holds_new stops.ReadFault ran = tt
 no-sheet left left_new holds_old holds_new stops.WriteFault ran = tt
 no-sheet left left_new holds_old holds_new stops.Memory ran = tt
 
-pub sheet-counts : (before now : ℕ) (stop : Stop Form) → SourceCounts before now stop
-    → CountsReads before now (sheet_status stop)
-sheet-counts before now (stops.BadLine line why) counted = counted
-sheet-counts before now stops.ReadFault counted = counted
-sheet-counts before now stops.WriteFault counted = counted
-sheet-counts before now stops.Memory counted = counted
-
 -- no fault of another device is told
-pub sheet-quiet : (stop : Stop Form) → TellsNoRun (sheet_status stop)
-sheet-quiet (stops.BadLine line why) =
-    record { writes = λ n. refl; calls = λ n. refl; dials = λ n. omega arith; spawns = λ n. omega arith }
-sheet-quiet stops.ReadFault =
-    record { writes = λ n. refl; calls = λ n. refl; dials = λ n. omega arith; spawns = λ n. omega arith }
-sheet-quiet stops.WriteFault =
-    record { writes = λ n. refl; calls = λ n. refl; dials = λ n. omega arith; spawns = λ n. omega arith }
-sheet-quiet stops.Memory =
-    record { writes = λ n. refl; calls = λ n. refl; dials = λ n. omega arith; spawns = λ n. omega arith }
+pub sheet-tells : {before now : ℕ} (stop : Stop Form) → SourceCounts before now stop → (writes : ℕ)
+    → TellsOverLines before now writes writes (sheet_status stop)
+sheet-tells stops.ReadFault counted = λ w c s.
+    record { reads = counted; writes = refl; calls = refl; dials = omega arith; spawns = omega arith }
+sheet-tells _ counted = λ w c s.
+    record { reads = counted; writes = refl; calls = refl; dials = omega arith; spawns = omega arith }

@@ -94,38 +94,10 @@ pub no_text : (left now : Option (List ℕ)) (text : List ℕ) (result : Status)
 no_text left now text status.Memory gives none = tt
 no_text left now text status.ReadFault gives none = tt
 no_text left now text (status.BadLine line why) gives none = bad_in_all left now text line why gives (none text refl)
-no_text left now text status.Done gives none = absurd none
-no_text left now text status.Usage gives none = absurd none
-no_text left now text (status.Broken line earlier excess) gives none = absurd none
-no_text left now text status.WriteFault gives none = absurd none
-no_text left now text (status.NetFault failure) gives none = absurd none
-no_text left now text (status.BadCii number fault) gives none = absurd none
-no_text left now text (status.Moved property old new) gives none = absurd none
-no_text left now text (status.Spent turns) gives none = absurd none
-no_text left now text (status.Unreachable turns) gives none = absurd none
-no_text left now text (status.ChildFault ended) gives none = absurd none
-no_text left now text (status.BadSheet line) gives none = absurd none
-no_text left now text (status.BadUrl property) gives none = absurd none
-no_text left now text (status.WrongReport line right) gives none = absurd none
-no_text left now text (status.NoInterval reports) gives none = absurd none
+no_text left now text _ gives none = absurd none
 
 -- a count of faults that stays 0 tells no failed read, of whatever source
 pub no_read_fault : (result : Status) (before now : ℕ) → CountsReads 0 0 result → now ≡ before
     → CountsReads before now result
-no_read_fault status.Memory before now none same = same
 no_read_fault status.ReadFault before now none same = absurd (omega (arith, none.risen (omega arith)))
-no_read_fault (status.BadLine line why) before now none same = same
-no_read_fault status.Done before now none same = same
-no_read_fault status.Usage before now none same = same
-no_read_fault (status.Broken line earlier excess) before now none same = same
-no_read_fault status.WriteFault before now none same = same
-no_read_fault (status.NetFault failure) before now none same = same
-no_read_fault (status.BadCii number fault) before now none same = same
-no_read_fault (status.Moved property old new) before now none same = same
-no_read_fault (status.Spent turns) before now none same = same
-no_read_fault (status.Unreachable turns) before now none same = same
-no_read_fault (status.ChildFault ended) before now none same = same
-no_read_fault (status.BadSheet line) before now none same = same
-no_read_fault (status.BadUrl property) before now none same = same
-no_read_fault (status.WrongReport line right) before now none same = same
-no_read_fault (status.NoInterval reports) before now none same = same
+no_read_fault _ before now none same = same

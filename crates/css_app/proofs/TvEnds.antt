@@ -1,5 +1,5 @@
 -- A television's run dials nobody, and so it never ends as one that reached nobody.
-use Rattle.std.proofs.Common.{◌≡◌, ℕ, true, false, cond, List, [], ◌∷◌, subst}
+use Rattle.std.proofs.Common.{◌≡◌, ℕ, true, false, cond, List, [], ◌∷◌, arith, subst}
 use Rattle.std.specs.Prelude.{Option, Some, None, ⊤}
 use Rattle.css_model.specs.declared.Why.TheVariants as why
 use Rattle.css_model.specs.History.{History}
@@ -15,6 +15,8 @@ use Rattle.css_drive.specs.declared.turns.Turns.{Turns}
 use Rattle.css_drive.specs.TvPeers.{above}
 use Rattle.css_drive.specs.TvProgress.{Place, Begins, Listens, Turned, Taken, Received, Answers, Served, Asked, Over}
 use Rattle.css_drive.specs.TvProgress.{addresses_in, open_after, progress_of}
+use Rattle.css_drive.specs.Ends.{CountsDialFaults, MayEnd}
+use Rattle.css_drive.specs.declared.driven.Driven.{Driven}
 use Rattle.css_drive.specs.declared.driven.Driven.TheVariants as driven
 
 -- what is due is another end, or a call
@@ -66,9 +68,15 @@ refusing before None rest so = so
 refusing before (Some (fault.Player reason)) rest so = tt
 refusing before (Some fault.Memory) rest so = tt
 
-pub never_unreachable : (run : TvRun) (h : History) (turns : ℕ) → due run h ≡ Ends (driven.Unreachable turns) → ⊥
+never_unreachable : (run : TvRun) (h : History) (turns : ℕ) → due run h ≡ Ends (driven.Unreachable turns) → ⊥
 never_unreachable run h turns is =
     let p = progress_of run h in
     let place = due_at run (open_after (addresses_in run.config) p.events) p.turns p.place in
     subst IsReached is (refusing p.carried p.refused (unless_owed p.owed place)
     (owing p.owed place (at_place run (open_after (addresses_in run.config) p.events) p.turns p.place)))
+
+-- so no dial of it fails
+pub tv_dials : {before now : ℕ} (run : TvRun) (h : History) (ended : Driven) → MayEnd (due run h) ended → now ≡ before
+    → CountsDialFaults before now ended
+tv_dials run h (driven.Unreachable turns) ends same = absurd (never_unreachable run h turns ends)
+tv_dials run h _ ends same = omega (arith, same)

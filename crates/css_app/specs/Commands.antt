@@ -1,5 +1,6 @@
 -- What each command of a command line does to its devices.
 use Rattle.std.specs.Prelude.{◌≡◌, ◌⊎◌, ℕ, Bool, true, false, not, List, Option, Some, unwrap_or, Result, Ok, Err}
+use Rattle.std.specs.Prelude.{String, map, string_bytes}
 use Rattle.css_model.specs.History.{Address, History}
 use Rattle.css_agree.specs.Promise as agree
 use Rattle.css_audit.specs.Promise.{SaysRight}
@@ -15,13 +16,14 @@ use Rattle.css_survey.specs.Surveyed.{survey_text}
 use Rattle.css_tv.specs.declared.config.TvConfig.{TvConfig}
 use Rattle.css_watch.specs.declared.config.WatchConfig.{WatchConfig}
 use Rattle.css_words.specs.Commands.{Asked, Replay, Agree, Audit, Migrate, Companion, Tv, Pair, Relay, Generate}
-use Rattle.css_words.specs.Commands.{Survey, Watch}
+use Rattle.css_words.specs.Commands.{Survey, Watch, asked_of, command_in}
 use Rattle.css_words.specs.Companion.{CompanionAsked, OptionsAsked}
 use Rattle.css_words.specs.Generator.{GeneratorAsked}
 use Rattle.css_words.specs.Pair.{PairAsked}
 use Rattle.css_words.specs.Relay.{RelayAsked}
 use Rattle.css_words.specs.Tv.{TvAsked}
 use Rattle.css_words.specs.Watch.{WatchAsked}
+use Rattle.css_words.specs.declared.command.Command.{Command}
 use Rattle.css_words.specs.declared.fault.WordsFault.{WordsFault}
 use Rattle.css_words.specs.declared.fault.WordsFault.TheVariants as words
 use Rattle.css_app.specs.declared.child.Child.{Child}
@@ -29,7 +31,7 @@ use Rattle.css_replay.specs.declared.status.Status.{Status}
 use Rattle.css_replay.specs.declared.status.Status.TheVariants as status
 use Rattle.css_replay.specs.Devices.{SourceUse, SinkUse}
 use Rattle.css_replay.specs.Does.{ByReplay}
-use Rattle.css_app.specs.Devices.{OutsideUse, SpawnerUse, FollowersUse, stage_before, stage_after}
+use Rattle.css_app.specs.Devices.{OutsideUse, SpawnerUse, FollowersUse, Uses, stage_before, stage_after, unused}
 use Rattle.css_app.specs.Ended.{Agrees, AreAllRead, AreAllRight, Audits, Writes}
 use Rattle.css_replay.specs.Ended.{HasNotFailed, IsDoneUnlessMemory, IsNoUsage}
 use Rattle.css_app.specs.Live.{IsAsDue, MakesNoRun, RunsBySheet, Serves, ServesAsDue, Stage}
@@ -39,6 +41,10 @@ use Rattle.css_app.specs.Records.{MakesNoRecord, MakesRecord}
 use Rattle.css_app.specs.Relays.{RelaysBy, RelaysNone, RelaysAsDue}
 use Rattle.css_app.specs.Scripts.{script_in}
 use Rattle.css_app.specs.Watches.{IsAskedWatch, EndsAtLastUnlessMemory, MakesNoWatch, MakesWatch}
+
+-- what a command line asks for
+abbrev pub asked_by : {A : Type 0} → List (String A) → Result Asked WordsFault
+asked_by line = command_in (map string_bytes line)
 
 -- ---- refused words
 -- the words are those of no command, or memory ran out before that was known
@@ -290,20 +296,28 @@ BySurvey asked sink result =
 
 -- ---- all commands
 -- what a command does to the devices that it uses, or words that are those of none
-abbrev pub Does :
-    Result Asked WordsFault → SourceUse → SinkUse → OutsideUse → SpawnerUse → FollowersUse → Status → Type 0
-Does (Ok Replay) source sink outside spawner followers result = ByReplay source sink result
-Does (Ok Agree) source sink outside spawner followers result = ByAgree source sink result
-Does (Ok Audit) source sink outside spawner followers result = ByAudit source sink result
-Does (Ok Migrate) source sink outside spawner followers result = ByMigrate source sink result
-Does (Ok (Companion asked)) source sink outside spawner followers result =
-    EitherCompanion asked.recorded asked source sink outside followers result
-Does (Ok (Tv asked)) source sink outside spawner followers result = ByTv asked source outside result
-Does (Ok (Pair asked)) source sink outside spawner followers result =
-    ByPair asked source sink outside spawner followers result
-Does (Ok (Relay asked)) source sink outside spawner followers result = ByRelay asked outside result
-Does (Ok (Watch asked)) source sink outside spawner followers result = ByWatch asked sink outside result
-Does (Ok (Generate asked)) source sink outside spawner followers result = ByGenerate asked sink result
-Does (Ok (Survey asked)) source sink outside spawner followers result = BySurvey asked sink result
-Does (Err words.Usage) source sink outside spawner followers result = IsUsageUnlessMemory result
-Does (Err words.Memory) source sink outside spawner followers result = result ≡ status.Memory
+abbrev pub Does : Result Asked WordsFault → Uses → Status → Type 0
+Does (Ok Replay) used result = ByReplay used.source used.sink result
+Does (Ok Agree) used result = ByAgree used.source used.sink result
+Does (Ok Audit) used result = ByAudit used.source used.sink result
+Does (Ok Migrate) used result = ByMigrate used.source used.sink result
+Does (Ok (Companion asked)) used result =
+    EitherCompanion asked.recorded asked used.source used.sink used.outside used.followers result
+Does (Ok (Tv asked)) used result = ByTv asked used.source used.outside result
+Does (Ok (Pair asked)) used result = ByPair asked used.source used.sink used.outside used.spawner used.followers result
+Does (Ok (Relay asked)) used result = ByRelay asked used.outside result
+Does (Ok (Watch asked)) used result = ByWatch asked used.sink used.outside result
+Does (Ok (Generate asked)) used result = ByGenerate asked used.sink result
+Does (Ok (Survey asked)) used result = BySurvey asked used.sink result
+Does (Err words.Usage) used result = IsUsageUnlessMemory result
+Does (Err words.Memory) used result = (used ≡ unused used) × (result ≡ status.Memory)
+
+-- what is asked for where the words were read so
+abbrev pub asked_in : Result Command WordsFault → Result Asked WordsFault
+asked_in (Ok command) = Ok (asked_of command)
+asked_in (Err fault) = Err fault
+
+-- only words that are those of no command are told as such
+abbrev pub TellsUsage : Result Asked WordsFault → Status → Type 0
+TellsUsage (Err words.Usage) result = Unit {0}
+TellsUsage _ result = IsNoUsage result

@@ -2,12 +2,13 @@
 use Rattle.std.specs.Prelude.{ℕ, List, Option}
 use Rattle.css_model.specs.History.{History}
 use Rattle.css_outside.specs.Outsides.{Counts}
+use Rattle.css_outside.specs.Spawners.{Spawned}
 use Rattle.css_follow.specs.Following.{Plan}
 use Rattle.css_follow.specs.declared.sheet.Sheet.{Sheet}
 use Rattle.css_drive.specs.Listening.{Listener}
-use Rattle.css_replay.specs.Devices.{SinkUse}
+use Rattle.css_replay.specs.Devices.{SourceUse, SinkUse}
 use Rattle.css_app.specs.Live.{Stage, stage}
-use Rattle.css_app.specs.Pairs.{Children}
+use Rattle.css_app.specs.Pairs.{Children, children}
 
 -- the calls of the outside, where it tells them, and how often a call other than a dial has failed
 pub record OutsideUse : Type 0 where
@@ -16,9 +17,15 @@ pub record OutsideUse : Type 0 where
   pub faults_old : ℕ
   pub faults_new : ℕ
 
-abbrev pub outside_use : Option History → Option History → Counts → Counts → OutsideUse
-outside_use told_old told_new counts_old counts_new =
-    record { told_old = told_old; told_new = told_new; faults_old = counts_old.faults; faults_new = counts_new.faults }
+-- those of an outside with this view and these counts, which was so and is so now
+abbrev pub outside_use : {O : Type 0} → (O → Option History) → (O → Counts) → O → O → OutsideUse
+outside_use told counts old new =
+    record {
+      told_old = told old;
+      told_new = told new;
+      faults_old = (counts old).faults;
+      faults_new = (counts new).faults;
+    }
 
 -- the children of the spawner, and how often a call has failed
 pub record SpawnerUse : Type 0 where
@@ -27,13 +34,14 @@ pub record SpawnerUse : Type 0 where
   pub faults_old : ℕ
   pub faults_new : ℕ
 
-abbrev pub spawner_use : Children → Children → ℕ → ℕ → SpawnerUse
-spawner_use children_old children_new faults_old faults_new =
+-- those of a spawner with this view and these counts
+abbrev pub spawner_use : {P : Type 0} → (P → Option (List Spawned)) → (P → ℕ) → (P → ℕ) → P → P → SpawnerUse
+spawner_use told running faults old new =
     record {
-      children_old = children_old;
-      children_new = children_new;
-      faults_old = faults_old;
-      faults_new = faults_new;
+      children_old = children (told old) (running old);
+      children_new = children (told new) (running new);
+      faults_old = faults old;
+      faults_new = faults new;
     }
 
 -- the plans that a sheet gives the followers, and what each of them has heard and said
@@ -42,8 +50,9 @@ pub record FollowersUse : Type 0 where
   pub heard_old : List Listener
   pub heard_new : List Listener
 
-abbrev pub followers_use : (Sheet → List Plan) → List Listener → List Listener → FollowersUse
-followers_use takes heard_old heard_new = record { takes = takes; heard_old = heard_old; heard_new = heard_new }
+-- those of followers that take sheets so and have heard this
+abbrev pub followers_use : {F : Type 0} → (F → Sheet → List Plan) → (F → List Listener) → F → F → FollowersUse
+followers_use takes heard old new = record { takes = takes old; heard_old = heard old; heard_new = heard new }
 
 -- what there is to see of the devices of a companion's run
 abbrev pub stage_before : SinkUse → OutsideUse → FollowersUse → Stage
@@ -51,3 +60,26 @@ stage_before sink outside followers = stage sink.holds_old outside.told_old foll
 
 abbrev pub stage_after : SinkUse → OutsideUse → FollowersUse → Stage
 stage_after sink outside followers = stage sink.holds_new outside.told_new followers.heard_new
+
+-- what there is to see of all devices
+pub record Uses : Type 0 where
+  pub source : SourceUse
+  pub sink : SinkUse
+  pub outside : OutsideUse
+  pub spawner : SpawnerUse
+  pub followers : FollowersUse
+
+abbrev pub uses : SourceUse → SinkUse → OutsideUse → SpawnerUse → FollowersUse → Uses
+uses source sink outside spawner followers =
+    record { source = source; sink = sink; outside = outside; spawner = spawner; followers = followers }
+
+-- none of them was used
+abbrev pub unused : Uses → Uses
+unused used =
+    record used {
+      source = record used.source { left_new = used.source.left_old; faults_new = used.source.faults_old };
+      sink = record used.sink { holds_new = used.sink.holds_old; faults_new = used.sink.faults_old };
+      outside = record used.outside { told_new = used.outside.told_old; faults_new = used.outside.faults_old };
+      spawner = record used.spawner { children_new = used.spawner.children_old; faults_new = used.spawner.faults_old };
+      followers = record used.followers { heard_new = used.followers.heard_old };
+    }

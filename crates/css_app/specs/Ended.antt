@@ -5,7 +5,7 @@ use Rattle.css_outside.specs.Bytes.{AppendsPrefix}
 use Rattle.css_lines.specs.declared.reader.Refusal.TheVariants as refusals
 use Rattle.css_lines.specs.declared.ending.Stop.{Stop}
 use Rattle.css_lines.specs.declared.ending.Stop.TheVariants as stops
-use Rattle.css_lines.specs.Meaning.{outcome}
+use Rattle.css_lines.specs.Meaning.{Meaning, outcome}
 use Rattle.css_lines.specs.Ending.{RanUntil}
 use Rattle.css_agree.specs.declared.reader.Cause as agree
 use Rattle.css_agree.specs.declared.reader.Cause.TheVariants as agrees
@@ -18,6 +18,29 @@ use Rattle.css_replay.specs.declared.status.Status.{Status}
 use Rattle.css_replay.specs.declared.status.Status.TheVariants.{BadCii, BadLine, Broken, Done, Memory, Moved, ReadFault}
 use Rattle.css_replay.specs.declared.status.Status.TheVariants.{WriteFault, WrongReport}
 
+-- ---- lines
+-- The input was read to its end, no line of it is refused, and the sink grew by the whole output.
+pub record ReadsAll {Cause : Type 0} (meaning : Meaning Cause) (bytes : List ℕ)
+    (left holds_old holds_new : Option (List ℕ)) (status : Status) : Type 0 where
+  pub done : status ≡ Done
+  pub at_end : left ≡ Some []
+  pub accepted : (outcome meaning bytes).verdict ≡ None
+  pub grew : Appends holds_old holds_new (outcome meaning bytes).printed
+
+-- The run stopped, and the status says how.
+pub record ReadsUntil {Cause : Type 0} (meaning : Meaning Cause) (status_of : Stop Cause → Status) (bytes : List ℕ)
+    (left holds_old holds_new : Option (List ℕ)) (status : Status) : Type 0 where
+  pub stop : Stop Cause
+  pub ran : RanUntil meaning bytes left holds_old holds_new stop
+  pub told : status ≡ status_of stop
+
+-- what a run over lines of these bytes may leave
+abbrev pub Reads : {Cause : Type 0} → Meaning Cause → (Stop Cause → Status) → List ℕ → Option (List ℕ) → Option (List ℕ)
+    → Option (List ℕ) → Status → Type 0
+Reads meaning status_of bytes left holds_old holds_new status =
+    ReadsAll meaning bytes left holds_old holds_new status
+    ⊎ ReadsUntil meaning status_of bytes left holds_old holds_new status
+
 -- ---- answers
 -- the status of a run over answers that stopped
 abbrev pub agree_status_of : Stop agree.Cause → Status
@@ -28,23 +51,9 @@ agree_status_of stops.ReadFault = ReadFault
 agree_status_of stops.WriteFault = WriteFault
 agree_status_of stops.Memory = Memory
 
--- The input was read to its end, no line of it is refused, and the sink grew by the whole output.
-pub record AgreesAll (bytes : List ℕ) (left holds_old holds_new : Option (List ℕ)) (status : Status) : Type 0 where
-  pub done : status ≡ Done
-  pub at_end : left ≡ Some []
-  pub accepted : (outcome agreeing bytes).verdict ≡ None
-  pub grew : Appends holds_old holds_new (outcome agreeing bytes).printed
-
--- The run stopped, and the status says how.
-pub record AgreesUntil (bytes : List ℕ) (left holds_old holds_new : Option (List ℕ)) (status : Status) : Type 0 where
-  pub stop : Stop agree.Cause
-  pub ran : RanUntil agreeing bytes left holds_old holds_new stop
-  pub told : status ≡ agree_status_of stop
-
 -- what a run over answers with these bytes may leave
 abbrev pub Agrees : List ℕ → Option (List ℕ) → Option (List ℕ) → Option (List ℕ) → Status → Type 0
-Agrees bytes left holds_old holds_new status =
-    AgreesAll bytes left holds_old holds_new status ⊎ AgreesUntil bytes left holds_old holds_new status
+Agrees = Reads agreeing agree_status_of
 
 -- no line of the answers is refused
 abbrev pub AreAllRead : List ℕ → Type 0
@@ -65,23 +74,9 @@ audit_status_of stops.ReadFault = ReadFault
 audit_status_of stops.WriteFault = WriteFault
 audit_status_of stops.Memory = Memory
 
--- The input was read to its end, no line of it is refused, and the sink grew by the number of reports.
-pub record AuditsAll (bytes : List ℕ) (left holds_old holds_new : Option (List ℕ)) (status : Status) : Type 0 where
-  pub done : status ≡ Done
-  pub at_end : left ≡ Some []
-  pub accepted : (outcome auditing bytes).verdict ≡ None
-  pub grew : Appends holds_old holds_new (outcome auditing bytes).printed
-
--- The audit stopped, and the status says how.
-pub record AuditsUntil (bytes : List ℕ) (left holds_old holds_new : Option (List ℕ)) (status : Status) : Type 0 where
-  pub stop : Stop AuditFault
-  pub ran : RanUntil auditing bytes left holds_old holds_new stop
-  pub told : status ≡ audit_status_of stop
-
 -- what an audit of a record with these bytes may leave
 abbrev pub Audits : List ℕ → Option (List ℕ) → Option (List ℕ) → Option (List ℕ) → Status → Type 0
-Audits bytes left holds_old holds_new status =
-    AuditsAll bytes left holds_old holds_new status ⊎ AuditsUntil bytes left holds_old holds_new status
+Audits = Reads auditing audit_status_of
 
 -- no line of the record is refused, and each report of it is right
 abbrev pub AreAllRight : List ℕ → Type 0

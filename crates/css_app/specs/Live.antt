@@ -5,7 +5,7 @@ use Rattle.std.specs.Io.KnownBytes.{Consumes, IsAtEnd}
 use Rattle.css_lines.specs.declared.ending.Stop.{Stop}
 use Rattle.css_lines.specs.declared.ending.Stop.TheVariants as stops
 use Rattle.css_model.specs.History.{History}
-use Rattle.css_outside.specs.Outsides.{with_entries}
+use Rattle.css_outside.specs.Outsides.{Counts, with_entries}
 use Rattle.css_follow.specs.Following.{Plan, Seen}
 use Rattle.css_follow.specs.Sheets.{sheet_in}
 use Rattle.css_follow.specs.declared.fault.SheetFault.TheVariants.{Line}
@@ -15,7 +15,7 @@ use Rattle.css_drive.specs.CompanionDue as companion
 use Rattle.css_drive.specs.CompanionDue.{IsProperRun}
 use Rattle.css_drive.specs.CompanionRun.{Ran}
 use Rattle.css_drive.specs.Listening.{Listener, all_plans, all_seen}
-use Rattle.css_drive.specs.Proper.{IsProper, Ends}
+use Rattle.css_drive.specs.Proper.{Due, IsProper, Ends}
 use Rattle.css_drive.specs.TvDue as tv
 use Rattle.css_drive.specs.TvDue.{TvRun, run_of}
 use Rattle.css_drive.specs.TvRan.{TvRan}
@@ -56,17 +56,45 @@ script_status (stops.BadLine line why) = status.BadLine line (why_of why)
 script_status stops.ReadFault = status.ReadFault
 script_status _ = status.Memory
 
+-- A run was made to an end that was due: `proper` says which calls it may make, and `due` what follows them.
+pub record IsMadeAsDue (proper : History → Type 0) (due : History → Due) (before now : Option History)
+    (result : Status) : Type 0 where
+  pub history : History
+  pub told : now ≡ with_entries history before
+  pub is_proper : proper history
+  pub ended : Driven
+  pub is_due : due history ≡ Ends ended
+  pub tells : result ≡ driven_status ended
+
 -- ---- counts of faults
--- A status that comes before a run tells no fault of the sink, of the outside or of a spawner.
-pub record TellsNoRun (result : Status) : Type 0 where
-  pub writes : (count : ℕ) → CountsWrites count count result
-  pub calls : (count : ℕ) → CountsCalls count count result
-  pub dials : (count : ℕ) → CountsDials count count result
-  pub spawns : (count : ℕ) → CountsSpawns count count result
+-- how often calls of the devices have failed: of the source, of the sink, of the outside, and of a spawner
+pub record Failures : Type 0 where
+  pub reads : ℕ
+  pub writes : ℕ
+  pub calls : Counts
+  pub spawns : ℕ
+
+abbrev pub failures : ℕ → ℕ → Counts → ℕ → Failures
+failures reads writes calls spawns = record { reads = reads; writes = writes; calls = calls; spawns = spawns }
+
+-- A fault is told only where the device has failed. A failure of the spawner yields to the companion's status, and of
+-- dials it is told where every one failed; no other failure of a device goes untold.
+pub record TellsFaults (before now : Failures) (result : Status) : Type 0 where
+  pub reads : CountsReads before.reads now.reads result
+  pub writes : CountsWrites before.writes now.writes result
+  pub calls : CountsCalls before.calls.faults now.calls.faults result
+  pub dials : CountsDials before.calls.dial_faults now.calls.dial_faults result
+  pub spawns : CountsSpawns before.spawns now.spawns result
+
+-- so it is of a run over lines, which uses neither the outside nor a spawner
+abbrev pub TellsOverLines : ℕ → ℕ → ℕ → ℕ → Status → Type 0
+TellsOverLines reads reads_new writes writes_new result = (calls : Counts) (spawns : ℕ)
+    → TellsFaults (failures reads writes calls spawns) (failures reads_new writes_new calls spawns) result
 
 -- the source's count, where its bytes were taken or a status says why not
 abbrev pub CountsTaking : {T : Type 0} → ℕ → ℕ → Result T Status → Type 0
-CountsTaking before now result = MatchResult result (λ _. now ≡ before) (CountsReads before now)
+CountsTaking before now result =
+    MatchResult result (λ _. now ≡ before) (λ status. (writes : ℕ) → TellsOverLines before now writes writes status)
 
 -- ---- what is read
 -- the source gave these bytes, and has none left
@@ -142,13 +170,8 @@ Companions config takes left_old left_new before now result =
     MakesNoRun left_old before now result ⊎ RunsBySheet config takes left_old left_new before now result
 
 -- the run was made to an end that was due
-pub record IsAsDue (config : DriveConfig) (before now : Option History) (result : Status) : Type 0 where
-  pub history : History
-  pub told : now ≡ with_entries history before
-  pub proper : IsProperRun config history
-  pub ended : Driven
-  pub due : companion.due config history ≡ Ends ended
-  pub tells : result ≡ driven_status ended
+abbrev pub IsAsDue : DriveConfig → Option History → Option History → Status → Type 0
+IsAsDue config = IsMadeAsDue (IsProperRun config) (companion.due config)
 
 -- so it was, unless memory ran out
 abbrev pub EndsAsDue : DriveConfig → Option History → Option History → Status → Type 0
@@ -175,15 +198,7 @@ Serves drive left_old left_new told_old told_new result =
     ServesNone left_old told_old told_new result
     ⊎ ServesByScript drive left_old left_new told_old told_new result
 
--- the run was made to an end that was due
-pub record IsServedAsDue (run : TvRun) (before now : Option History) (result : Status) : Type 0 where
-  pub history : History
-  pub told : now ≡ with_entries history before
-  pub proper : IsProper (tv.due run) history
-  pub ended : Driven
-  pub due : tv.due run history ≡ Ends ended
-  pub tells : result ≡ driven_status ended
-
--- so it was, unless memory ran out
+-- the run was made to an end that was due, unless memory ran out
 abbrev pub ServesAsDue : TvRun → Option History → Option History → Status → Type 0
-ServesAsDue run before now result = (result ≡ status.Memory) ⊎ IsServedAsDue run before now result
+ServesAsDue run before now result =
+    (result ≡ status.Memory) ⊎ IsMadeAsDue (IsProper (tv.due run)) (tv.due run) before now result

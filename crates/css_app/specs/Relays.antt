@@ -1,8 +1,6 @@
 -- How a relay's run ends, by the words of `relay`.
 use Rattle.std.specs.Prelude.{◌≡◌, ◌⊎◌, Option}
 use Rattle.css_model.specs.History.{History}
-use Rattle.css_outside.specs.Outsides.{with_entries}
-use Rattle.css_drive.specs.Proper.{Ends}
 use Rattle.css_drive.specs.declared.driven.Driven.{Driven}
 use Rattle.css_drive_relay.specs.Due as relay
 use Rattle.css_drive_relay.specs.Due.{IsProperRelay}
@@ -11,7 +9,7 @@ use Rattle.css_drive_relay.specs.declared.config.RelayRun.{RelayRun}
 use Rattle.css_words.specs.Relay.{RelayAsked}
 use Rattle.css_replay.specs.declared.status.Status.{Status}
 use Rattle.css_replay.specs.declared.status.Status.TheVariants as status
-use Rattle.css_app.specs.Live.{driven_status}
+use Rattle.css_app.specs.Live.{IsMadeAsDue, driven_status}
 
 -- the run is what the options of a relay ask for
 pub record IsAskedRelay (asked : RelayAsked) (run : RelayRun) : Type 0 where
@@ -36,17 +34,7 @@ pub record RelaysNone (told_old told_new : Option History) (result : Status) : T
   pub untouched : told_new ≡ told_old
   pub lacks : result ≡ status.Memory
 
--- the run was made to an end that was due
-pub record IsRelayedAsDue (asked : RelayAsked) (before now : Option History) (result : Status) : Type 0 where
-  pub run : RelayRun
-  pub is_asked : IsAskedRelay asked run
-  pub history : History
-  pub told : now ≡ with_entries history before
-  pub proper : IsProperRelay run history
-  pub ended : Driven
-  pub due : relay.due run history ≡ Ends ended
-  pub tells : result ≡ driven_status ended
-
--- so it was, unless memory ran out
+-- a run that the options ask for was made to an end that was due, unless memory ran out
 abbrev pub RelaysAsDue : RelayAsked → Option History → Option History → Status → Type 0
-RelaysAsDue asked before now result = (result ≡ status.Memory) ⊎ IsRelayedAsDue asked before now result
+RelaysAsDue asked before now result = (result ≡ status.Memory)
+    ⊎ ((run : RelayRun) × IsAskedRelay asked run × IsMadeAsDue (IsProperRelay run) (relay.due run) before now result)

@@ -52,7 +52,7 @@ unfoldable pub script_of_lines : List (List ℕ) → List ScriptLine
 script_of_lines lines = flat_map (λ line. line_in (line_of line)) lines
 
 -- why a line is refused: it is too long, or outside the grammar
-abbrev pub why_of : Refusal NoLine → LineWhy
+abbrev pub why_of : {Cause : Type 0} → Refusal Cause → LineWhy
 why_of refusals.Long = Long
 why_of (refusals.Refused cause) = Form
 

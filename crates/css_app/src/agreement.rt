@@ -1,7 +1,7 @@
 ghost use Rattle.std.specs.Prelude.{◌≡◌};
 ghost use Rattle.css_app.specs.Commands.{ByAgree};
 ghost use Rattle.css_replay.specs.Devices.{sink_use, source_use};
-ghost use Rattle.css_replay.specs.Ended.{CountsReads, CountsWrites, TellsNoLive};
+ghost use Rattle.css_app.specs.Live.{TellsOverLines};
 ghost use Rattle.css_app.specs.Ended.{agree_status_of};
 
 use css_agree::{Agreeing, Cause};
@@ -46,12 +46,10 @@ fn status_of(stop: Stop<Cause>) -> Status
 
 /// Reads answers from the source, line by line, and writes what they say together where a line asks for it.
 pub(crate) fn agree<S: Source, K: Sink>(alloc: Global, source: &mut S, sink: &mut K) -> Status
-    ensures does { ByAgree
-        (source_use (S.left source.old) (S.left source.new) (S.faults source.old) (S.faults source.new))
-        (sink_use (K.holds sink.old) (K.holds sink.new) (K.faults sink.old) (K.faults sink.new)) result }
-    ensures quiet { TellsNoLive result }
-    ensures counted_reads { CountsReads (S.faults source.old) (S.faults source.new) result }
-    ensures counted_writes { CountsWrites (K.faults sink.old) (K.faults sink.new) result }
+    ensures does { ByAgree (source_use S.left S.faults source.old source.new)
+        (sink_use K.holds K.faults sink.old sink.new) result }
+    ensures counted { TellsOverLines (S.faults source.old) (S.faults source.new) (K.faults sink.old) (K.faults sink.new)
+        result }
 {
     let mut reader = Agreeing::new(alloc);
     let ended = drive(alloc, source, sink, &mut reader);

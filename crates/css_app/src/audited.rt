@@ -1,7 +1,7 @@
 ghost use Rattle.std.specs.Prelude.{◌≡◌};
 ghost use Rattle.css_app.specs.Commands.{ByAudit};
 ghost use Rattle.css_replay.specs.Devices.{sink_use, source_use};
-ghost use Rattle.css_replay.specs.Ended.{CountsReads, CountsWrites, TellsNoLive};
+ghost use Rattle.css_app.specs.Live.{TellsOverLines};
 ghost use Rattle.css_app.specs.Ended.{audit_status_of};
 ghost use Rattle.css_app.specs.Ended as ended;
 ghost use Rattle.css_lines.specs.declared.ending.Stop.TheVariants as stops;
@@ -57,12 +57,10 @@ fn status_of(stop: Stop<AuditFault>) -> Status
 /// Reads a record from the source, line by line, and checks each report of it. Where all are right, it writes how many
 /// there were.
 pub(crate) fn audit<S: Source, K: Sink>(alloc: Global, source: &mut S, sink: &mut K) -> Status
-    ensures does { ByAudit
-        (source_use (S.left source.old) (S.left source.new) (S.faults source.old) (S.faults source.new))
-        (sink_use (K.holds sink.old) (K.holds sink.new) (K.faults sink.old) (K.faults sink.new)) result }
-    ensures quiet { TellsNoLive result }
-    ensures counted_reads { CountsReads (S.faults source.old) (S.faults source.new) result }
-    ensures counted_writes { CountsWrites (K.faults sink.old) (K.faults sink.new) result }
+    ensures does { ByAudit (source_use S.left S.faults source.old source.new)
+        (sink_use K.holds K.faults sink.old sink.new) result }
+    ensures counted { TellsOverLines (S.faults source.old) (S.faults source.new) (K.faults sink.old) (K.faults sink.new)
+        result }
 {
     let mut reader = Auditing::new(alloc);
     let ended = drive(alloc, source, sink, &mut reader);

@@ -9,13 +9,12 @@ ghost use Rattle.css_words.specs.Generator.{generator_of};
 ghost use Rattle.css_words.specs.Pair.{pair_of};
 ghost use Rattle.css_words.specs.Tv.{tv_of};
 ghost use Rattle.css_words.specs.Written.{AreWritable};
-ghost use Rattle.css_app.specs.Commands.{ByCompanion, ByGenerate, ByPair, ByRecord, BySurvey, ByTv};
+ghost use Rattle.css_app.specs.Commands.{ByGenerate, ByPair, BySurvey, ByTv};
 ghost use Rattle.css_app.specs.Commands.{EitherCompanion, IsAskedRun, asked_child, asked_drive};
 ghost use Rattle.css_app.specs.Devices.{followers_use, outside_use, spawner_use};
+ghost use Rattle.css_app.specs.Live.{TellsFaults, TellsOverLines, failures};
 ghost use Rattle.css_replay.specs.Devices.{sink_use, source_use};
-ghost use Rattle.css_replay.specs.Ended.{CountsCalls, CountsDials, CountsReads, CountsSpawns, CountsWrites};
-ghost use Rattle.css_replay.specs.Ended.{TellsNoLive};
-ghost use Rattle.css_app.specs.Pairs.{children};
+ghost use Rattle.css_replay.specs.Ended.{IsNoUsage};
 
 use crate::child::{Child, address_at};
 use crate::generated::generate;
@@ -58,56 +57,6 @@ fn run_of(options: CompanionOptions, cii: Address) -> DriveConfig
     }
 }
 
-// A companion whose run is recorded, with these words.
-fn record_by<K: Sink, O: Outside>(
-    alloc: Global,
-    words: CompanionWords,
-    sink: &mut K,
-    outside: &mut O,
-) -> Status
-    requires { AreWritable words.options }
-    ensures does { ByRecord (companion_of words)
-        (sink_use (K.holds sink.old) (K.holds sink.new) (K.faults sink.old) (K.faults sink.new))
-        (outside_use (O.told outside.old) (O.told outside.new) (O.counts outside.old) (O.counts outside.new)) result }
-    ensures reads { (count : ℕ) → CountsReads count count result }
-    ensures counted_writes { CountsWrites (K.faults sink.old) (K.faults sink.new) result }
-    ensures counted_calls { CountsCalls (O.counts outside.old).faults (O.counts outside.new).faults result }
-    ensures counted_dials { CountsDials (O.counts outside.old).dial_faults
-        (O.counts outside.new).dial_faults result }
-    ensures spawns { (count : ℕ) → CountsSpawns count count result }
-{
-    let CompanionWords { cii, options, .. } = words;
-    let run = run_of(options, cii);
-    record_companion(alloc, run, sink, outside)
-}
-
-// A companion by its sheet, with these words.
-fn follow_by<S: Source, K: Sink, O: Outside, F: Listens>(
-    alloc: Global,
-    words: CompanionWords,
-    source: &mut S,
-    sink: &mut K,
-    outside: &mut O,
-    followers: &mut F,
-) -> Status
-    requires { AreWritable words.options }
-    ensures does { ByCompanion (companion_of words)
-        (source_use (S.left source.old) (S.left source.new) (S.faults source.old) (S.faults source.new))
-        (sink_use (K.holds sink.old) (K.holds sink.new) (K.faults sink.old) (K.faults sink.new))
-        (outside_use (O.told outside.old) (O.told outside.new) (O.counts outside.old) (O.counts outside.new))
-        (followers_use (F.takes followers.old) (F.heard followers.old) (F.heard followers.new)) result }
-    ensures counted_reads { CountsReads (S.faults source.old) (S.faults source.new) result }
-    ensures counted_writes { CountsWrites (K.faults sink.old) (K.faults sink.new) result }
-    ensures counted_calls { CountsCalls (O.counts outside.old).faults (O.counts outside.new).faults result }
-    ensures counted_dials { CountsDials (O.counts outside.old).dial_faults
-        (O.counts outside.new).dial_faults result }
-    ensures spawns { (count : ℕ) → CountsSpawns count count result }
-{
-    let CompanionWords { cii, options, .. } = words;
-    let run = run_of(options, cii);
-    companion(alloc, run, source, sink, outside, followers)
-}
-
 /// The command `companion` with these words.
 pub(crate) fn companion_by<S: Source, K: Sink, O: Outside, F: Listens>(
     alloc: Global,
@@ -119,23 +68,26 @@ pub(crate) fn companion_by<S: Source, K: Sink, O: Outside, F: Listens>(
 ) -> Status
     requires { AreWritable words.options }
     ensures does { EitherCompanion words.recorded (companion_of words)
-        (source_use (S.left source.old) (S.left source.new) (S.faults source.old) (S.faults source.new))
-        (sink_use (K.holds sink.old) (K.holds sink.new) (K.faults sink.old) (K.faults sink.new))
-        (outside_use (O.told outside.old) (O.told outside.new) (O.counts outside.old) (O.counts outside.new))
-        (followers_use (F.takes followers.old) (F.heard followers.old) (F.heard followers.new)) result }
+        (source_use S.left S.faults source.old source.new) (sink_use K.holds K.faults sink.old sink.new)
+        (outside_use O.told O.counts outside.old outside.new)
+        (followers_use F.takes F.heard followers.old followers.new) result }
     ensures same_source { not words.recorded ≡ false → source.new ≡ source.old }
     ensures same_followers { not words.recorded ≡ false → followers.new ≡ followers.old }
-    ensures counted_reads { CountsReads (S.faults source.old) (S.faults source.new) result }
-    ensures counted_writes { CountsWrites (K.faults sink.old) (K.faults sink.new) result }
-    ensures counted_calls { CountsCalls (O.counts outside.old).faults (O.counts outside.new).faults result }
-    ensures counted_dials { CountsDials (O.counts outside.old).dial_faults
-        (O.counts outside.new).dial_faults result }
-    ensures spawns { (count : ℕ) → CountsSpawns count count result }
+    ensures no_usage { IsNoUsage result }
+    ensures counted { (spawns : ℕ) → TellsFaults
+        (failures (S.faults source.old) (K.faults sink.old) (O.counts outside.old) spawns)
+        (failures (S.faults source.new) (K.faults sink.new) (O.counts outside.new) spawns) result }
 {
-    if words.recorded {
-        return record_by(alloc, words, sink, outside);
+    let CompanionWords {
+        cii,
+        options,
+        recorded,
+    } = words;
+    let run = run_of(options, cii);
+    if recorded {
+        return record_companion(alloc, run, sink, outside);
     }
-    follow_by(alloc, words, source, sink, outside, followers)
+    companion(alloc, run, source, sink, outside, followers)
 }
 
 // The television's run that these words ask for.
@@ -169,15 +121,12 @@ pub(crate) fn tv_by<S: Source, O: Outside>(
     outside: &mut O,
 ) -> Status
     requires { IsUtf8 words.host }
-    ensures does { ByTv (tv_of words)
-        (source_use (S.left source.old) (S.left source.new) (S.faults source.old) (S.faults source.new))
-        (outside_use (O.told outside.old) (O.told outside.new) (O.counts outside.old) (O.counts outside.new)) result }
-    ensures counted_reads { CountsReads (S.faults source.old) (S.faults source.new) result }
-    ensures writes { (count : ℕ) → CountsWrites count count result }
-    ensures counted_calls { CountsCalls (O.counts outside.old).faults (O.counts outside.new).faults result }
-    ensures counted_dials { CountsDials (O.counts outside.old).dial_faults
-        (O.counts outside.new).dial_faults result }
-    ensures spawns { (count : ℕ) → CountsSpawns count count result }
+    ensures does { ByTv (tv_of words) (source_use S.left S.faults source.old source.new)
+        (outside_use O.told O.counts outside.old outside.new) result }
+    ensures no_usage { IsNoUsage result }
+    ensures counted { (writes spawns : ℕ) → TellsFaults
+        (failures (S.faults source.old) writes (O.counts outside.old) spawns)
+        (failures (S.faults source.new) writes (O.counts outside.new) spawns) result }
 {
     let run = tv_run_of(words);
     tv(alloc, run, source, outside)
@@ -207,19 +156,14 @@ pub(crate) fn pair_by<S: Source, K: Sink, O: Outside, P: Spawner, F: Listens>(
     followers: &mut F,
 ) -> Status
     requires { AreWritable words.companion }
-    ensures does { ByPair (pair_of words)
-        (source_use (S.left source.old) (S.left source.new) (S.faults source.old) (S.faults source.new))
-        (sink_use (K.holds sink.old) (K.holds sink.new) (K.faults sink.old) (K.faults sink.new))
-        (outside_use (O.told outside.old) (O.told outside.new) (O.counts outside.old) (O.counts outside.new))
-        (spawner_use (children (P.told spawner.old) (P.running spawner.old))
-        (children (P.told spawner.new) (P.running spawner.new)) (P.faults spawner.old) (P.faults spawner.new))
-        (followers_use (F.takes followers.old) (F.heard followers.old) (F.heard followers.new)) result }
-    ensures counted_reads { CountsReads (S.faults source.old) (S.faults source.new) result }
-    ensures counted_writes { CountsWrites (K.faults sink.old) (K.faults sink.new) result }
-    ensures counted_calls { CountsCalls (O.counts outside.old).faults (O.counts outside.new).faults result }
-    ensures counted_dials { CountsDials (O.counts outside.old).dial_faults
-        (O.counts outside.new).dial_faults result }
-    ensures counted_spawns { CountsSpawns (P.faults spawner.old) (P.faults spawner.new) result }
+    ensures does { ByPair (pair_of words) (source_use S.left S.faults source.old source.new)
+        (sink_use K.holds K.faults sink.old sink.new) (outside_use O.told O.counts outside.old outside.new)
+        (spawner_use P.told P.running P.faults spawner.old spawner.new)
+        (followers_use F.takes F.heard followers.old followers.new) result }
+    ensures no_usage { IsNoUsage result }
+    ensures counted { TellsFaults
+        (failures (S.faults source.old) (K.faults sink.old) (O.counts outside.old) (P.faults spawner.old))
+        (failures (S.faults source.new) (K.faults sink.new) (O.counts outside.new) (P.faults spawner.new)) result }
 {
     let PairWords { companion, tv } = words;
     let child = child_of(&tv);
@@ -236,11 +180,9 @@ pub(crate) fn pair_by<S: Source, K: Sink, O: Outside, P: Spawner, F: Listens>(
 
 /// The command `generate` with these words.
 pub(crate) fn generate_by<K: Sink>(alloc: Global, words: GeneratorWords, sink: &mut K) -> Status
-    ensures does { ByGenerate (generator_of words)
-        (sink_use (K.holds sink.old) (K.holds sink.new) (K.faults sink.old) (K.faults sink.new)) result }
-    ensures quiet { TellsNoLive result }
-    ensures reads { (count : ℕ) → CountsReads count count result }
-    ensures counted_writes { CountsWrites (K.faults sink.old) (K.faults sink.new) result }
+    ensures does { ByGenerate (generator_of words) (sink_use K.holds K.faults sink.old sink.new) result }
+    ensures no_usage { IsNoUsage result }
+    ensures counted { (reads : ℕ) → TellsOverLines reads reads (K.faults sink.old) (K.faults sink.new) result }
 {
     let companions = words.companions.unwrap_or(1);
     generate(alloc, words.seed, words.lines, companions, sink)
@@ -248,11 +190,9 @@ pub(crate) fn generate_by<K: Sink>(alloc: Global, words: GeneratorWords, sink: &
 
 /// The command `survey` with these words.
 pub(crate) fn survey_by<K: Sink>(alloc: Global, words: GeneratorWords, sink: &mut K) -> Status
-    ensures does { BySurvey (generator_of words)
-        (sink_use (K.holds sink.old) (K.holds sink.new) (K.faults sink.old) (K.faults sink.new)) result }
-    ensures quiet { TellsNoLive result }
-    ensures reads { (count : ℕ) → CountsReads count count result }
-    ensures counted_writes { CountsWrites (K.faults sink.old) (K.faults sink.new) result }
+    ensures does { BySurvey (generator_of words) (sink_use K.holds K.faults sink.old sink.new) result }
+    ensures no_usage { IsNoUsage result }
+    ensures counted { (reads : ℕ) → TellsOverLines reads reads (K.faults sink.old) (K.faults sink.new) result }
 {
     let companions = words.companions.unwrap_or(1);
     survey(alloc, words.seed, words.lines, companions, sink)

@@ -5,7 +5,7 @@ ghost use Rattle.css_outside.specs.Faults.{CountsCall};
 ghost use Rattle.css_gen.specs.Second.{least_lines};
 ghost use Rattle.css_survey.specs.Generated.{schedule_text};
 ghost use Rattle.css_app.specs.Ended.{Writes};
-ghost use Rattle.css_replay.specs.Ended.{CountsWrites, HasNotFailed, IsDoneUnlessMemory};
+ghost use Rattle.css_replay.specs.Ended.{CountsWrites, HasNotFailed, IsDoneUnlessMemory, IsNoUsage};
 
 use css_gen::Generator;
 use css_outside::{OutFault, Sink, write_all};
@@ -55,6 +55,7 @@ pub fn generate<K: Sink>(
     ensures writes { Writes (schedule_text seed companions lines) (K.holds sink.old) (K.holds sink.new) result }
     ensures complete { HasNotFailed (K.faults sink.old) (K.faults sink.new) → IsDoneUnlessMemory result }
     ensures counted_writes { CountsWrites (K.faults sink.old) (K.faults sink.new) result }
+    ensures no_usage { IsNoUsage result }
 {
     match write_lines(alloc, seed, lines, companions, sink) {
         Ok(()) => Status::Done,

@@ -3,8 +3,9 @@ ghost use Rattle.css_drive.specs.Configs.{IsWritable};
 ghost use Rattle.css_follow.specs.Sheets.{sheet_in};
 ghost use Rattle.css_follow.specs.declared.sheet.Sheet.{Sheet};
 ghost use Rattle.css_drive.specs.Listening.{all_plans};
-ghost use Rattle.css_replay.specs.Ended.{CountsCalls, CountsDials, CountsReads, CountsWrites, HasNotFailed};
-ghost use Rattle.css_app.specs.Live.{Companions, EndsAsDue, MakesRun, stage};
+ghost use Rattle.css_replay.specs.Ended.{CountsCalls, CountsDials, CountsReads, CountsSpawns, CountsWrites};
+ghost use Rattle.css_replay.specs.Ended.{HasNotFailed, IsNoUsage};
+ghost use Rattle.css_app.specs.Live.{Companions, EndsAsDue, MakesRun, TellsFaults, failures, stage};
 
 use crate::driven::status_of;
 use crate::sheets::take_sheet;
@@ -26,11 +27,13 @@ pub(crate) fn make_run<K: Sink, O: Outside, F: Listens>(
     ensures makes { MakesRun config (all_plans (F.heard followers.old))
         (stage (K.holds sink.old) (O.told outside.old) (F.heard followers.old))
         (stage (K.holds sink.new) (O.told outside.new) (F.heard followers.new)) result }
-    ensures reads { (count : ℕ) → CountsReads count count result }
-    ensures counted_writes { CountsWrites (K.faults sink.old) (K.faults sink.new) result }
-    ensures counted_calls { CountsCalls (O.counts outside.old).faults (O.counts outside.new).faults result }
-    ensures counted_dials { CountsDials (O.counts outside.old).dial_faults
-        (O.counts outside.new).dial_faults result }
+    ensures complete { HasNotFailed (K.faults sink.old) (K.faults sink.new)
+        → HasNotFailed (O.counts outside.old).faults (O.counts outside.new).faults
+        → EndsAsDue config (O.told outside.old) (O.told outside.new) result }
+    ensures no_usage { IsNoUsage result }
+    ensures counted { (reads spawns : ℕ) → TellsFaults
+        (failures reads (K.faults sink.old) (O.counts outside.old) spawns)
+        (failures reads (K.faults sink.new) (O.counts outside.new) spawns) result }
 {
     status_of(drive_companion(alloc, config, sink, outside, followers))
 }
@@ -69,6 +72,8 @@ pub fn companion<S: Source, K: Sink, O: Outside, F: Listens>(
     ensures counted_calls { CountsCalls (O.counts outside.old).faults (O.counts outside.new).faults result }
     ensures counted_dials { CountsDials (O.counts outside.old).dial_faults
         (O.counts outside.new).dial_faults result }
+    ensures spawns { (count : ℕ) → CountsSpawns count count result }
+    ensures no_usage { IsNoUsage result }
 {
     let sheet = match take_sheet(alloc, source) {
         Ok(sheet) => sheet,

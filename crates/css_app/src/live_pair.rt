@@ -3,8 +3,8 @@ ghost use Rattle.css_drive.specs.Configs.{IsWritable};
 ghost use Rattle.css_drive.specs.Listening.{all_plans, all_seen};
 ghost use Rattle.css_schedule.specs.declared.line.ScriptLine.{ScriptLine};
 ghost use Rattle.css_replay.specs.Ended.{CountsCalls, CountsDials, CountsReads, CountsSpawns, CountsWrites};
-ghost use Rattle.css_replay.specs.Ended.{HasNotFailed};
-ghost use Rattle.css_app.specs.Live.{stage};
+ghost use Rattle.css_replay.specs.Ended.{HasNotFailed, IsNoUsage};
+ghost use Rattle.css_app.specs.Live.{TellsFaults, failures, stage};
 ghost use Rattle.css_app.specs.Pairs.{Beside, Pairs, PairsAsDue, children};
 ghost use Rattle.css_app.specs.Pairs as pairs;
 ghost use Rattle.css_app.specs.Scripts.{script_in};
@@ -77,12 +77,10 @@ fn run_beside<K: Sink, O: Outside, P: Spawner, F: Listens>(
         → HasNotFailed (O.counts outside.old).faults (O.counts outside.new).faults
         → HasNotFailed (P.faults spawner.old) (P.faults spawner.new)
         → PairsAsDue config (O.told outside.old) (O.told outside.new) result }
-    ensures reads { (count : ℕ) → CountsReads count count result }
-    ensures counted_writes { CountsWrites (K.faults sink.old) (K.faults sink.new) result }
-    ensures counted_calls { CountsCalls (O.counts outside.old).faults (O.counts outside.new).faults result }
-    ensures counted_dials { CountsDials (O.counts outside.old).dial_faults
-        (O.counts outside.new).dial_faults result }
-    ensures counted_spawns { CountsSpawns (P.faults spawner.old) (P.faults spawner.new) result }
+    ensures no_usage { IsNoUsage result }
+    ensures counted { (reads : ℕ) → TellsFaults
+        (failures reads (K.faults sink.old) (O.counts outside.old) (P.faults spawner.old))
+        (failures reads (K.faults sink.new) (O.counts outside.new) (P.faults spawner.new)) result }
 {
     match spawner.start(words, script) {
         Ok(()) => {}
@@ -154,6 +152,7 @@ pub fn pair<S: Source, K: Sink, O: Outside, P: Spawner, F: Listens>(
     ensures counted_dials { CountsDials (O.counts outside.old).dial_faults
         (O.counts outside.new).dial_faults result }
     ensures counted_spawns { CountsSpawns (P.faults spawner.old) (P.faults spawner.new) result }
+    ensures no_usage { IsNoUsage result }
 {
     let script = match take_script_text(alloc, source) {
         Ok(script) => script,

@@ -1,8 +1,8 @@
 //! A companion's run that is recorded.
-ghost use Rattle.std.specs.Prelude.{◌≡◌, List, ℕ};
+ghost use Rattle.std.specs.Prelude.{ℕ};
 ghost use Rattle.css_drive.specs.Configs.{IsWritable};
 ghost use Rattle.css_replay.specs.Ended.{CountsCalls, CountsDials, CountsReads, CountsSpawns, CountsWrites};
-ghost use Rattle.css_replay.specs.Ended.{HasNotFailed};
+ghost use Rattle.css_replay.specs.Ended.{HasNotFailed, IsNoUsage};
 ghost use Rattle.css_app.specs.Live.{EndsAsDue};
 ghost use Rattle.css_app.specs.Records.{MakesRecord};
 
@@ -39,6 +39,7 @@ pub fn record_companion<K: Sink, O: Outside>(
     ensures counted_dials { CountsDials (O.counts outside.old).dial_faults
         (O.counts outside.new).dial_faults result }
     ensures spawns { (count : ℕ) → CountsSpawns count count result }
+    ensures no_usage { IsNoUsage result }
 {
     status_of(drive_record(alloc, config, sink, outside))
 }

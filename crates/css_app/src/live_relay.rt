@@ -5,7 +5,8 @@ ghost use Rattle.css_drive_relay.specs.Ran.{IsWritable};
 ghost use Rattle.css_words.specs.Relay.{relay_of};
 ghost use Rattle.css_app.specs.Commands.{ByRelay};
 ghost use Rattle.css_app.specs.Devices.{outside_use};
-ghost use Rattle.css_replay.specs.Ended.{CountsCalls, CountsDials, CountsReads, CountsSpawns, CountsWrites};
+ghost use Rattle.css_app.specs.Live.{TellsFaults, failures};
+ghost use Rattle.css_replay.specs.Ended.{IsNoUsage};
 ghost use Rattle.css_app.specs.Relays.{IsAskedRelay};
 
 use crate::driven::status_of;
@@ -44,14 +45,10 @@ fn run_of(alloc: Global, words: RelayWords) -> RelayRun
 /// The command `relay` with these words.
 pub(crate) fn relay_by<O: Outside>(alloc: Global, words: RelayWords, outside: &mut O) -> Status
     requires { IsUtf8 words.host }
-    ensures does { ByRelay (relay_of words)
-        (outside_use (O.told outside.old) (O.told outside.new) (O.counts outside.old) (O.counts outside.new)) result }
-    ensures reads { (count : ℕ) → CountsReads count count result }
-    ensures writes { (count : ℕ) → CountsWrites count count result }
-    ensures counted_calls { CountsCalls (O.counts outside.old).faults (O.counts outside.new).faults result }
-    ensures counted_dials { CountsDials (O.counts outside.old).dial_faults
-        (O.counts outside.new).dial_faults result }
-    ensures spawns { (count : ℕ) → CountsSpawns count count result }
+    ensures does { ByRelay (relay_of words) (outside_use O.told O.counts outside.old outside.new) result }
+    ensures no_usage { IsNoUsage result }
+    ensures counted { (reads writes spawns : ℕ) → TellsFaults (failures reads writes (O.counts outside.old) spawns)
+        (failures reads writes (O.counts outside.new) spawns) result }
 {
     let run = run_of(alloc, words);
     let ended = drive_relay(alloc, run, outside);

@@ -2,7 +2,8 @@ ghost use Rattle.std.specs.Prelude.{◌≡◌, ◌≤◌, ◌≤ℤ◌, pos, Lis
 ghost use Rattle.std.specs.Str.{IsUtf8};
 ghost use Rattle.css_model.specs.Numbers.{max_error};
 ghost use Rattle.css_schedule.specs.declared.line.ScriptLine.{ScriptLine};
-ghost use Rattle.css_replay.specs.Ended.{CountsCalls, CountsReads, CountsWrites, HasNotFailed};
+ghost use Rattle.css_replay.specs.Ended.{CountsCalls, CountsDials, CountsReads, CountsSpawns, CountsWrites};
+ghost use Rattle.css_replay.specs.Ended.{HasNotFailed, IsNoUsage};
 ghost use Rattle.css_drive.specs.TvDue.{run_of};
 ghost use Rattle.css_outside.specs.Limits.{IsLimit};
 ghost use Rattle.css_app.specs.Live.{Serves, ServesAsDue};
@@ -45,6 +46,10 @@ pub fn tv<S: Source, O: Outside>(
     ensures counted_calls { CountsCalls (O.counts outside.old).faults (O.counts outside.new).faults result }
     ensures writes { (count : ℕ) → CountsWrites count count result }
     ensures dials { (O.counts outside.new).dial_faults ≡ (O.counts outside.old).dial_faults }
+    ensures counted_dials { CountsDials (O.counts outside.old).dial_faults
+        (O.counts outside.new).dial_faults result }
+    ensures spawns { (count : ℕ) → CountsSpawns count count result }
+    ensures no_usage { IsNoUsage result }
 {
     let script = match take_script(alloc, source) {
         Ok(script) => script,

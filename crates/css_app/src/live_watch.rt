@@ -7,7 +7,8 @@ ghost use Rattle.css_app.specs.Commands.{ByWatch};
 ghost use Rattle.css_app.specs.Devices.{outside_use};
 ghost use Rattle.css_replay.specs.Devices.{sink_use};
 ghost use Rattle.css_replay.specs.Ended.{CountsCalls, CountsDials, CountsReads, CountsSpawns, CountsWrites};
-ghost use Rattle.css_replay.specs.Ended.{HasNotFailed};
+ghost use Rattle.css_replay.specs.Ended.{HasNotFailed, IsNoUsage};
+ghost use Rattle.css_app.specs.Live.{TellsFaults, failures};
 ghost use Rattle.css_app.specs.Watches.{IsAskedWatch, EndsAtLastUnlessMemory, MakesWatch, watched_status};
 
 use css_client::Local;
@@ -79,6 +80,7 @@ pub fn watch_television<K: Sink, O: Outside>(
     ensures counted_dials { CountsDials (O.counts outside.old).dial_faults
         (O.counts outside.new).dial_faults result }
     ensures spawns { (count : ℕ) → CountsSpawns count count result }
+    ensures no_usage { IsNoUsage result }
 {
     status_of(watch(alloc, config, sink, outside))
 }
@@ -92,15 +94,12 @@ pub(crate) fn watch_by<K: Sink, O: Outside>(
 ) -> Status
     requires selector { IsUtf8 words.selector }
     requires stem { IsUtf8 words.stem }
-    ensures does { ByWatch (watch_of words)
-        (sink_use (K.holds sink.old) (K.holds sink.new) (K.faults sink.old) (K.faults sink.new))
-        (outside_use (O.told outside.old) (O.told outside.new) (O.counts outside.old) (O.counts outside.new)) result }
-    ensures reads { (count : ℕ) → CountsReads count count result }
-    ensures counted_writes { CountsWrites (K.faults sink.old) (K.faults sink.new) result }
-    ensures counted_calls { CountsCalls (O.counts outside.old).faults (O.counts outside.new).faults result }
-    ensures counted_dials { CountsDials (O.counts outside.old).dial_faults
-        (O.counts outside.new).dial_faults result }
-    ensures spawns { (count : ℕ) → CountsSpawns count count result }
+    ensures does { ByWatch (watch_of words) (sink_use K.holds K.faults sink.old sink.new)
+        (outside_use O.told O.counts outside.old outside.new) result }
+    ensures no_usage { IsNoUsage result }
+    ensures counted { (reads spawns : ℕ) → TellsFaults
+        (failures reads (K.faults sink.old) (O.counts outside.old) spawns)
+        (failures reads (K.faults sink.new) (O.counts outside.new) spawns) result }
 {
     let config = config_of(words);
     watch_television(alloc, config, sink, outside)

@@ -1,14 +1,14 @@
 ghost use Rattle.std.specs.Prelude.{◌≡◌};
 ghost use Rattle.css_app.specs.Commands.{ByMigrate};
 ghost use Rattle.css_replay.specs.Devices.{sink_use, source_use};
-ghost use Rattle.css_replay.specs.Ended.{CountsReads, CountsWrites, TellsNoLive};
+ghost use Rattle.css_app.specs.Live.{TellsOverLines};
 ghost use Rattle.css_app.specs.Migrations.{migrate_status_of};
 
-use css_lines::{Refusal, Stop, drive};
+use crate::scripts::why_of;
+use css_lines::{Stop, drive};
 use css_migrate::{Migrate, NoLine};
 use css_outside::{Sink, Source};
 use css_replay::Status;
-use css_schedule::LineWhy;
 use std::alloc::Global;
 
 // The status of a migration that stopped.
@@ -16,19 +16,9 @@ fn status_of(stop: Stop<NoLine>) -> Status
     ensures { result ≡ migrate_status_of stop }
 {
     match stop {
-        Stop::BadLine {
+        Stop::BadLine { line, why } => Status::BadLine {
             line,
-            why: Refusal::Long,
-        } => Status::BadLine {
-            line,
-            why: LineWhy::Long,
-        },
-        Stop::BadLine {
-            line,
-            why: Refusal::Refused(_),
-        } => Status::BadLine {
-            line,
-            why: LineWhy::Form,
+            why: why_of(why),
         },
         Stop::ReadFault => Status::ReadFault,
         Stop::WriteFault => Status::WriteFault,
@@ -38,12 +28,10 @@ fn status_of(stop: Stop<NoLine>) -> Status
 
 /// Reads a schedule of version 1 from the source, line by line, and writes what each line becomes in version 2.
 pub(crate) fn migrate<S: Source, K: Sink>(alloc: Global, source: &mut S, sink: &mut K) -> Status
-    ensures does { ByMigrate
-        (source_use (S.left source.old) (S.left source.new) (S.faults source.old) (S.faults source.new))
-        (sink_use (K.holds sink.old) (K.holds sink.new) (K.faults sink.old) (K.faults sink.new)) result }
-    ensures quiet { TellsNoLive result }
-    ensures counted_reads { CountsReads (S.faults source.old) (S.faults source.new) result }
-    ensures counted_writes { CountsWrites (K.faults sink.old) (K.faults sink.new) result }
+    ensures does { ByMigrate (source_use S.left S.faults source.old source.new)
+        (sink_use K.holds K.faults sink.old sink.new) result }
+    ensures counted { TellsOverLines (S.faults source.old) (S.faults source.new) (K.faults sink.old) (K.faults sink.new)
+        result }
 {
     let mut reader = Migrate::new(alloc);
     let ended = drive(alloc, source, sink, &mut reader);

@@ -1,5 +1,5 @@
-ghost use Rattle.std.specs.Prelude.{◌≡◌, IfErr, MatchResult, Some};
-ghost use Rattle.css_app.specs.Live.{CountsTaking, HasNoScript, TellsNoRun};
+ghost use Rattle.std.specs.Prelude.{MatchResult, Some};
+ghost use Rattle.css_app.specs.Live.{CountsTaking, HasNoScript};
 ghost use Rattle.css_app.specs.Pairs.{GivesScriptText, GivesUpTo, IsScript};
 
 use crate::scripts::take_script;
@@ -15,7 +15,6 @@ const LONGEST_INPUT: usize = 67_108_864;
 fn take_bytes<S: Source>(alloc: Global, source: &mut S) -> Result<Vec<u8>, Status>
     ensures value { MatchResult result (λ text. GivesUpTo (S.left source.old) (S.left source.new) text.items)
         (HasNoScript (S.left source.old)) }
-    ensures quiet { IfErr result TellsNoRun }
     ensures counted { CountsTaking (S.faults source.old) (S.faults source.new) result }
 {
     let mut piece = [0u8; PIECE];
@@ -39,7 +38,6 @@ fn take_bytes<S: Source>(alloc: Global, source: &mut S) -> Result<Vec<u8>, Statu
 // Tests whether bytes are a script.
 fn check_script(alloc: Global, text: &[u8]) -> Result<(), Status>
     ensures value { MatchResult result (λ _. IsScript text.now) (HasNoScript (Some text.now)) }
-    ensures quiet { IfErr result TellsNoRun }
     ensures counted { CountsTaking 0 0 result }
 {
     let mut copy = match NeverFailsSource::new(alloc, text, PIECE) {
@@ -59,7 +57,6 @@ fn check_script(alloc: Global, text: &[u8]) -> Result<(), Status>
 pub(crate) fn take_script_text<S: Source>(alloc: Global, source: &mut S) -> Result<Vec<u8>, Status>
     ensures value { MatchResult result (λ text. GivesScriptText (S.left source.old) (S.left source.new) text.items)
         (HasNoScript (S.left source.old)) }
-    ensures quiet { IfErr result TellsNoRun }
     ensures counted { CountsTaking (S.faults source.old) (S.faults source.new) result }
 {
     let text = match take_bytes(alloc, source) {

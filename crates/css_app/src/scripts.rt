@@ -2,7 +2,8 @@ ghost use Rattle.std.specs.Prelude.{◌≡◌, ◌∷◌, [], ◌++◌, IfErr, I
 ghost use Rattle.css_lines.specs.declared.reader.LineFault.TheVariants as lacks;
 ghost use Rattle.css_num.specs.Gives.{GivesBy};
 ghost use Rattle.css_schedule.specs.Ranges.{IsScriptLine};
-ghost use Rattle.css_app.specs.Live.{CountsTaking, GivesScript, HasNoScript, TellsNoRun, script_status};
+ghost use Rattle.css_app.specs.Live.{CountsTaking, GivesScript, HasNoScript, script_status};
+ghost use Rattle.css_app.specs.Scripts as scripts;
 ghost use Rattle.css_app.specs.Scripts.{line_of};
 
 use css_lines::{LineFault, Lines, PIECE, Refusal, Stop, drive};
@@ -108,24 +109,24 @@ impl Lines for ScriptLines {
     }
 }
 
+// Why a line is refused that can only be too long, or outside the grammar.
+pub(crate) fn why_of<C: Copy>(why: Refusal<C>) -> LineWhy
+    ensures { result ≡ scripts.why_of why }
+{
+    match why {
+        Refusal::Long => LineWhy::Long,
+        Refusal::Refused(_) => LineWhy::Form,
+    }
+}
+
 // The status where a script was not read. The sink of its reader never fails.
 fn status_of(stop: Stop<NoLine>) -> Status
     ensures { result ≡ script_status stop }
 {
     match stop {
-        Stop::BadLine {
+        Stop::BadLine { line, why } => Status::BadLine {
             line,
-            why: Refusal::Long,
-        } => Status::BadLine {
-            line,
-            why: LineWhy::Long,
-        },
-        Stop::BadLine {
-            line,
-            why: Refusal::Refused(NoLine),
-        } => Status::BadLine {
-            line,
-            why: LineWhy::Form,
+            why: why_of(why),
         },
         Stop::ReadFault => Status::ReadFault,
         Stop::WriteFault | Stop::Memory => Status::Memory,
@@ -140,7 +141,6 @@ pub(crate) fn take_script<S: Source>(
     ensures value { MatchResult result (λ script. GivesScript (S.left source.old) (S.left source.new) script.items)
         (HasNoScript (S.left source.old)) }
     ensures range { IfOk result (λ script. All IsScriptLine script.items) }
-    ensures quiet { IfErr result TellsNoRun }
     ensures counted { CountsTaking (S.faults source.old) (S.faults source.new) result }
 {
     let mut unused = match NeverFailsSink::new(alloc, PIECE) {

@@ -1,5 +1,5 @@
-ghost use Rattle.std.specs.Prelude.{◌≡◌, IfErr, MatchResult};
-ghost use Rattle.css_app.specs.Live.{CountsTaking, GivesSheet, HasNoSheet, TellsNoRun, sheet_status};
+ghost use Rattle.std.specs.Prelude.{◌≡◌, MatchResult};
+ghost use Rattle.css_app.specs.Live.{CountsTaking, GivesSheet, HasNoSheet, sheet_status};
 
 use css_follow::{Form, Sheet, SheetLines};
 use css_lines::{PIECE, Stop, drive};
@@ -22,7 +22,6 @@ fn status_of(stop: Stop<Form>) -> Status
 pub(crate) fn take_sheet<S: Source>(alloc: Global, source: &mut S) -> Result<Sheet, Status>
     ensures value { MatchResult result (GivesSheet (S.left source.old) (S.left source.new))
         (HasNoSheet (S.left source.old)) }
-    ensures quiet { IfErr result TellsNoRun }
     ensures counted { CountsTaking (S.faults source.old) (S.faults source.new) result }
 {
     let mut unused = match NeverFailsSink::new(alloc, PIECE) {

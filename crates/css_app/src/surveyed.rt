@@ -5,7 +5,7 @@ ghost use Rattle.css_outside.specs.Faults.{CountsCall};
 ghost use Rattle.css_gen.specs.Second.{least_lines};
 ghost use Rattle.css_survey.specs.Surveyed.{survey_text};
 ghost use Rattle.css_app.specs.Ended.{Writes};
-ghost use Rattle.css_replay.specs.Ended.{CountsWrites, HasNotFailed, IsDoneUnlessMemory};
+ghost use Rattle.css_replay.specs.Ended.{CountsWrites, HasNotFailed, IsDoneUnlessMemory, IsNoUsage};
 
 use css_num::Memory;
 use css_outside::{OutFault, Sink, write_all};
@@ -67,6 +67,7 @@ pub fn survey<K: Sink>(
     ensures writes { Writes (survey_text seed companions lines) (K.holds sink.old) (K.holds sink.new) result }
     ensures complete { HasNotFailed (K.faults sink.old) (K.faults sink.new) → IsDoneUnlessMemory result }
     ensures counted_writes { CountsWrites (K.faults sink.old) (K.faults sink.new) result }
+    ensures no_usage { IsNoUsage result }
 {
     match write_survey(alloc, seed, lines, companions, sink) {
         Ok(()) => Status::Done,

@@ -13,7 +13,7 @@ use Rattle.css_world.specs.Verdicts.{line_meant}
 use Rattle.css_replay.specs.declared.reader.Cause.{Cause}
 use Rattle.css_replay.specs.declared.reader.Cause.TheVariants as causes
 use Rattle.css_world.specs.declared.fault.WorldFault.{WorldFault}
-use Rattle.css_world.specs.declared.fault.WorldFault.TheVariants.{Broken, Absent, Player, Memory}
+use Rattle.css_world.specs.declared.fault.WorldFault.TheVariants.{Memory}
 use Rattle.css_world.specs.Standing.{appended}
 use Rattle.css_replay.specs.Replayed.{caused, read_meant}
 use Rattle.css_replay.specs.Stands.{unread_fault, refused_fault}
@@ -34,13 +34,9 @@ caused-err (Err f) old fault e = cc
 pub faulted : (meant : Result (List ℕ) WorldFault) (old : List ℕ) (fault : WorldFault)
     → (appended old meant ≡ Err fault) ⊎ (fault ≡ Memory)
     → MayFault (caused meant) (refused_fault fault)
-faulted meant old (Broken earlier excess) (inl e) = ap caused (caused-err meant old (Broken earlier excess) e)
-faulted meant old (Broken earlier excess) (inr e) = absurd (cc)
-faulted meant old Absent (inl e) = ap caused (caused-err meant old Absent e)
-faulted meant old Absent (inr e) = absurd (cc)
-faulted meant old (Player fault) (inl e) = ap caused (caused-err meant old (Player fault) e)
-faulted meant old (Player fault) (inr e) = absurd (cc)
 faulted meant old Memory h = tt
+faulted meant old fault (inl e) = ap caused (caused-err meant old fault e)
+faulted meant old fault (inr e) = absurd (cc)
 
 -- a line that was carried out answers what is meant
 pub answers-ok : (header : Header) (lines : List Numbered) (number : ℕ) (read : Result Line LineFault) (line : Line)

@@ -19,9 +19,10 @@ use Rattle.css_replay.specs.declared.reader.Format.{Format}
 use Rattle.css_replay.specs.declared.reader.Replay.{Replay}
 use Rattle.css_replay.specs.Replayed.{Extent, Opening, Outset, Running, Unread, declared, grown, next_companion, opened}
 use Rattle.css_replay.specs.Replayed.{started}
-use Rattle.css_replay.specs.Stands.{Declares, Grows, IsAt, IsGrown, IsNew, IsPart, ReadsOn, Starts, format_of}
+use Rattle.css_replay.specs.Stands.{Declares, Grows, IsAt, IsGrown, IsPart, ReadsOn, Starts, format_of}
 use Rattle.css_replay.specs.Stands.{unread_fault}
 use Rattle.css_replay.proofs.Answering.{unread-fault}
+use Rattle.css_replay.proofs.Standing.{same_Some}
 
 -- ---- line 1
 -- the header of version 1 can have a world
@@ -33,7 +34,7 @@ can-start start header is range =
 
 -- version 1 opens its world
 pub reads-one : (result : Result (Unit {0}) (engine.LineFault Cause)) (old new : Replay) (text : List ℕ)
-    (start : Start) (header : Header) → IsNew old → start ≡ One header → header_of text ≡ Ok start → IsStart start
+    (start : Start) (header : Header) → IsAt old Outset → start ≡ One header → header_of text ≡ Ok start → IsStart start
     → Starts new.world header result → new.format ≡ old.format → ReadsOn new Outset text result
 reads-one (Ok done) old new text start header is one read range starts same = λ number.
     let known : IsStart (One header) = subst IsStart one range in
@@ -207,34 +208,23 @@ grows-more old new header part apart same kept none =
     })
 
 -- ---- how far it has read
--- equal values that are there are equal
-same_Some : {A : Type 0} (x y : A) → Some x ≡ Some y → x ≡ y
-same_Some x y e = cc
-
--- a reader that has a header and no world waits for companions
+-- a reader that has a header and no world waits for companions, and its header is part of one
 pub opening-is : (replay : Replay) (header : Header) (extent : Extent) → replay.header ≡ Some header
-    → replay.world ≡ None → IsAt replay extent → extent ≡ Opening header replay.format.companions
+    → replay.world ≡ None → IsAt replay extent
+    → (extent ≡ Opening header replay.format.companions) × IsPart replay.format header
 opening-is replay header Outset is none at = absurd (let no : Some header ≡ None = sym is ∙ at.header in cc)
 opening-is replay header (Opening h count) is none at =
-    ap (λ (x : Header). Opening x count) (same_Some h header (sym at.kept ∙ is))
-    ∙ ap (Opening header) (sym at.companions)
+    let same = same_Some h header (sym at.kept ∙ is) in (
+      ap (λ (x : Header). Opening x count) same ∙ ap (Opening header) (sym at.companions),
+      subst (IsPart replay.format) same at.part,
+    )
 opening-is replay header (Running h version lines) is none at =
     absurd (let no : Some at.world ≡ None = sym at.is ∙ none in cc)
 opening-is replay header Unread is none at = absurd at
 
--- and its header is part of one
-pub part-of : (replay : Replay) (header : Header) (extent : Extent) → replay.header ≡ Some header
-    → replay.world ≡ None → IsAt replay extent → IsPart replay.format header
-part-of replay header Outset is none at = absurd (let no : Some header ≡ None = sym is ∙ at.header in cc)
-part-of replay header (Opening h count) is none at =
-    subst (IsPart replay.format) (same_Some h header (sym at.kept ∙ is)) at.part
-part-of replay header (Running h version lines) is none at =
-    absurd (let no : Some at.world ≡ None = sym at.is ∙ none in cc)
-part-of replay header Unread is none at = absurd at
-
 -- one that has neither has read nothing
 pub outset-is : (replay : Replay) (extent : Extent) → replay.header ≡ None → replay.world ≡ None
-    → IsAt replay extent → (extent ≡ Outset) × IsNew replay
+    → IsAt replay extent → (extent ≡ Outset) × IsAt replay Outset
 outset-is replay Outset is none at = (refl, at)
 outset-is replay (Opening h count) is none at = absurd (let no : Some h ≡ None = sym at.kept ∙ is in cc)
 outset-is replay (Running h version lines) is none at =

@@ -28,9 +28,7 @@ use Rattle.css_schedule.specs.declared.header.Start.{Start}
 use Rattle.css_schedule.specs.declared.header.Start.TheVariants.{One, Two}
 use Rattle.css_schedule.specs.declared.line.Line.{Line}
 use Rattle.css_schedule.specs.declared.line.Verb.{Verb}
-use Rattle.css_schedule.specs.declared.line.Verb.TheVariants.{Ask, Take, Give, Land, Wall, Print}
-use Rattle.css_schedule.specs.declared.line.Verb.TheVariants.{Programme, Timeline, Viewer}
-use Rattle.css_schedule.specs.declared.line.Verb.TheVariants as verbs
+use Rattle.css_schedule.specs.declared.line.Verb.TheVariants.{Wall, Print}
 use Rattle.css_schedule.specs.Headers.{max_companions, header_of, with_companion}
 use Rattle.css_schedule.specs.Lines.{line_of, second_of_words, line_in}
 use Rattle.css_schedule.specs.Words.{words_of}
@@ -39,7 +37,7 @@ use Rattle.css_schedule.proofs.Adding.{more_companions}
 use Rattle.css_schedule.proofs.HeadersInRange.{start_in_range, companion_in_range}
 use Rattle.css_schedule.proofs.InRange.{lines_are_in_range, second_line_range, second_is_second}
 use Rattle.css_world.specs.declared.fault.WorldFault.{WorldFault}
-use Rattle.css_world.specs.declared.fault.WorldFault.TheVariants.{Broken, Absent, Player, Memory}
+use Rattle.css_world.specs.declared.fault.WorldFault.TheVariants.{Absent}
 use Rattle.css_companion.specs.Printed as companions
 use Rattle.css_companion.specs.Meanings.{timing_after}
 use Rattle.css_companion.specs.Reports.{HasTickOf, report_by}
@@ -164,19 +162,7 @@ kept-by header older now (Wall reading) printed is wall report e =
     kept-wall header older now reading printed e (wall reading is)
 kept-by header older now (Print reading) printed is wall report e =
     kept-print header older now reading printed e (report reading is)
-kept-by header older now (Ask reading) printed is wall report e = e
-kept-by header older now (Take request reading) printed is wall report e = e
-kept-by header older now (Give take reading) printed is wall report e = e
-kept-by header older now (Land datagram reading) printed is wall report e = e
-kept-by header older now (Programme content_id) printed is wall report e = e
-kept-by header older now (Timeline programme selector rate base) printed is wall report e = e
-kept-by header older now (Viewer reading command) printed is wall report e = e
-kept-by header older now (verbs.Opening kind) printed is wall report e = e
-kept-by header older now (verbs.Bring kind) printed is wall report e = e
-kept-by header older now verbs.Up printed is wall report e = e
-kept-by header older now (verbs.Present earliest latest) printed is wall report e = e
-kept-by header older now (verbs.Close kind) printed is wall report e = e
-kept-by header older now verbs.Sleep printed is wall report e = e
+kept-by header older now _ printed is wall report e = e
 
 -- an accepted line keeps the promise
 kept_line : (header : Header) (older : List Numbered) (now : Numbered) (printed : List ℕ) → IsDeclared header
@@ -271,10 +257,8 @@ TakenAll texts printed = TakenAt (reached texts) printed
 -- what is printed is what the world printed
 caused-ok : (meant : Result (List ℕ) WorldFault) (printed : List ℕ) → caused meant ≡ Ok printed → meant ≡ Ok printed
 caused-ok (Ok p) printed e = cc
-caused-ok (Err (Broken earlier excess)) printed e = absurd (cc)
 caused-ok (Err Absent) printed e = absurd (cc)
-caused-ok (Err (Player fault)) printed e = absurd (cc)
-caused-ok (Err Memory) printed e = absurd (cc)
+caused-ok (Err fault) printed e = absurd (cc)
 
 -- nothing is printed for a line of the header
 nothing : (sofar printed : List ℕ) (meant : Result (List ℕ) Cause) → sofar ≡ [] → meant ≡ Ok [] → meant ≡ Ok printed

@@ -5,7 +5,6 @@ use Rattle.std.specs.Prelude.{Some, None, Result, Ok, Err, OnOk, MatchResult}
 use Rattle.std.proofs.lemmas.List.{append-nil, length-append}
 use Rattle.css_lines.specs.Answers.{Answers, MayFault}
 use Rattle.css_lines.specs.declared.reader.LineFault as engine
-use Rattle.css_lines.specs.declared.reader.LineFault.TheVariants as faults
 use Rattle.css_schedule.specs.declared.fault.LineFault.{LineFault}
 use Rattle.css_schedule.specs.declared.header.Header.{Header}
 use Rattle.css_schedule.specs.Lines.{line_in}
@@ -23,7 +22,7 @@ use Rattle.css_replay.specs.Stands.{format_of, IsAt, Stands, ReadsOn}
 use Rattle.css_replay.proofs.Texts.{reached-push, is_next}
 
 -- equal values that are there are equal
-same_Some : {A : Type 0} (x y : A) → Some x ≡ Some y → x ≡ y
+pub same_Some : {A : Type 0} (x y : A) → Some x ≡ Some y → x ≡ y
 same_Some x y e = cc
 
 -- a text more is one more
@@ -34,23 +33,6 @@ push-length texts text = omega (arith, length-append texts (text ∷ []))
 pub next-number : (replay : Replay) (number : ℕ) (before other : List (List ℕ)) → Stands replay before
     → number ≡ length before + 1 → Stands replay other → number ≡ length other + 1
 next-number replay number before other stands is stood = omega (arith, stands.last, is, stood.last)
-
--- where it has read does not depend on the number of its last line
-pub at-last : (replay : Replay) (number : ℕ) (extent : Extent) → IsAt replay extent
-    → IsAt (record replay { last = number }) extent
-at-last replay number Outset at = record { format = at.format; header = at.header; world = at.world }
-at-last replay number (Opening header count) at =
-    record { companions = at.companions; kept = at.kept; part = at.part; world = at.world }
-at-last replay number (Running header version lines) at = record {
-  format = at.format;
-  known = at.known;
-  fits = at.fits;
-  world = at.world;
-  is = at.is;
-  same = at.same;
-  stands = at.stands;
-}
-at-last replay number Unread at = at
 
 -- ---- a line after the header
 -- The world of a reader stands for the lines that were read after this header.
@@ -81,36 +63,6 @@ runs replay world (Running header version lines) is at =
       fits = subst (λ (h : Header). FitsFirst (version == 1) (length h.companions)) same at.fits;
       stands = subst (λ (w : World). worlds.StandsFor w lines) kept at.stands;
     }
-
--- its format is one of the grammar
-pub known-version : (replay : Replay) (world : World) (before : List (List ℕ)) → replay.world ≡ Some world
-    → Stands replay before → IsVersion replay.format.version
-known-version replay world before is stands =
-    let run = runs replay world (reached before) is stands.at in
-    subst IsVersion (sym (ap (λ (f : Format). f.version) run.format)) run.known
-
-pub same-companions : (replay : Replay) (world : World) (before : List (List ℕ)) → replay.world ≡ Some world
-    → Stands replay before → replay.format.companions ≡ length world.header.companions
-same-companions replay world before is stands =
-    ap (λ (f : Format). f.companions) (runs replay world (reached before) is stands.at).format
-
-pub fits-first : (replay : Replay) (world : World) (before : List (List ℕ)) → replay.world ≡ Some world
-    → Stands replay before → FitsFirst (replay.format.version == 1) replay.format.companions
-fits-first replay world before is stands =
-    let run = runs replay world (reached before) is stands.at in
-    subst (λ (f : Format). FitsFirst (f.version == 1) f.companions) (sym run.format) run.fits
-
--- there are lines that the world stands for, and the number comes next
-pub some_lines : (replay : Replay) (world : World) (number : ℕ) (before : List (List ℕ)) → replay.world ≡ Some world
-    → Stands replay before → number ≡ length before + 1
-    → (lines : List Numbered) × worlds.StandsFor world lines × worlds.IsNext number lines
-some_lines replay world number before is stands e =
-    let run = runs replay world (reached before) is stands.at in (
-      run.lines,
-      run.stands,
-      subst (λ (n : ℕ). worlds.IsNext n run.lines) (sym e)
-          (is_next before world.header run.version run.lines run.is),
-    )
 
 -- a text that was read and carried out is one text more
 after_text : (replay : Replay) (old new : World) (number : ℕ) (text : List ℕ) → replay.world ≡ Some old
@@ -182,7 +134,7 @@ pub answers-header : (result : Result (Unit {0}) (engine.LineFault Cause)) (old 
     → (before : List (List ℕ)) → Stands old before
     → Answers (meant_at (length before + 1) (reached before) text) out out result
 answers-header result old new number text out reads before stands =
-    by result (reads (reached before) (at-last old number (reached before) stands.at) (length before + 1))
+    by result (reads (reached before) stands.at (length before + 1))
   where
     by : (r : Result (Unit {0}) (engine.LineFault Cause))
         → MatchResult r (λ _. (meant_at (length before + 1) (reached before) text ≡ Ok [])
@@ -199,7 +151,7 @@ pub stands-header : (result : Result (Unit {0}) (engine.LineFault Cause)) (old n
     → new.last ≡ number → ((other : List (List ℕ)) → Stands old other → number ≡ length other + 1)
     → OnOk result ((before : List (List ℕ)) → Stands old before → Stands new (before ++ text ∷ []))
 stands-header (Ok done) old new number text reads last counts = λ before stands.
-    let read = reads (reached before) (at-last old number (reached before) stands.at) (length before + 1) in
+    let read = reads (reached before) stands.at (length before + 1) in
     record {
       last = last ∙ counts before stands ∙ sym (push-length before text);
       at = subst (IsAt new) (sym (reached-push before text)) read.1;
@@ -228,20 +180,3 @@ ended-early replay before none stands = by (reached before) stands.at
     by (Opening header count) at = refl
     by (Running header version lines) at = absurd (let no : Some at.world ≡ None = sym at.is ∙ none in cc)
     by Unread at = refl
-
--- with one it is
-pub ended-whole : (replay : Replay) (world : World) (before : List (List ℕ)) → replay.world ≡ Some world
-    → Stands replay before → ended_at (reached before) ≡ Ok []
-ended-whole replay world before is stands = ap ended_at (runs replay world (reached before) is stands.at).is
-
--- so the end is answered
-pub finishes-early : (replay : Replay) (before : List (List ℕ)) (out : List ℕ) → replay.world ≡ None
-    → Stands replay before
-    → Answers {T = Unit {0}} (ended_at (reached before)) out out (Err (faults.Refused Form))
-finishes-early replay before out none stands = record { cases = (ended-early replay before none stands, refl) }
-
-pub finishes-whole : (replay : Replay) (world : World) (before : List (List ℕ)) (out : List ℕ)
-    → replay.world ≡ Some world → Stands replay before
-    → Answers {T = Unit {0}} (ended_at (reached before)) out out (Ok tt)
-finishes-whole replay world before out is stands =
-    record { cases = ([], ended-whole replay world before is stands, sym (append-nil out)) }

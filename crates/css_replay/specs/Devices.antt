@@ -8,9 +8,10 @@ pub record SourceUse : Type 0 where
   pub faults_old : ℕ
   pub faults_new : ℕ
 
-abbrev pub source_use : Option (List ℕ) → Option (List ℕ) → ℕ → ℕ → SourceUse
-source_use left_old left_new faults_old faults_new =
-    record { left_old = left_old; left_new = left_new; faults_old = faults_old; faults_new = faults_new }
+-- those of a source with this view and this count, which was so and is so now
+abbrev pub source_use : {S : Type 0} → (S → Option (List ℕ)) → (S → ℕ) → S → S → SourceUse
+source_use left faults old new =
+    record { left_old = left old; left_new = left new; faults_old = faults old; faults_new = faults new }
 
 -- the bytes that the sink holds, where it tells them, and how often a write has failed
 pub record SinkUse : Type 0 where
@@ -19,6 +20,7 @@ pub record SinkUse : Type 0 where
   pub faults_old : ℕ
   pub faults_new : ℕ
 
-abbrev pub sink_use : Option (List ℕ) → Option (List ℕ) → ℕ → ℕ → SinkUse
-sink_use holds_old holds_new faults_old faults_new =
-    record { holds_old = holds_old; holds_new = holds_new; faults_old = faults_old; faults_new = faults_new }
+-- those of a sink with this view and this count
+abbrev pub sink_use : {K : Type 0} → (K → Option (List ℕ)) → (K → ℕ) → K → K → SinkUse
+sink_use holds faults old new =
+    record { holds_old = holds old; holds_new = holds new; faults_old = faults old; faults_new = faults new }

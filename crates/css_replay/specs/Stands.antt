@@ -40,10 +40,10 @@ abbrev pub format_of : ℕ → ℕ → Format
 format_of version companions = record { version = version; companions = companions }
 
 -- Nothing was read yet. Line 1 counts as one of version 1, which has one companion.
-pub record IsNew (replay : Replay) : Type 0 where
-  pub format : replay.format ≡ format_of 1 1
-  pub header : replay.header ≡ None
-  pub world : replay.world ≡ None
+pub record IsNew (format_now : Format) (header_now : Option Header) (world_now : Option World) : Type 0 where
+  pub format : format_now ≡ format_of 1 1
+  pub header : header_now ≡ None
+  pub world : world_now ≡ None
 
 -- The header of version 2 has fewer companions than the schedule.
 pub record IsPart (format : Format) (header : Header) : Type 0 where
@@ -61,27 +61,29 @@ pub record IsGrown (format : Format) (header : Header) : Type 0 where
   pub few : format.companions ≤ max_companions
 
 -- There is a part of a header, and so many companions in all.
-pub record IsOpening (replay : Replay) (header : Header) (count : ℕ) : Type 0 where
-  pub companions : replay.format.companions ≡ count
-  pub kept : replay.header ≡ Some header
-  pub part : IsPart replay.format header
-  pub world : replay.world ≡ None
+pub record IsOpening (format_now : Format) (header_now : Option Header) (world_now : Option World) (header : Header)
+    (count : ℕ) : Type 0 where
+  pub companions : format_now.companions ≡ count
+  pub kept : header_now ≡ Some header
+  pub part : IsPart format_now header
+  pub world : world_now ≡ None
 
 -- The header is whole, and its world stands for the lines after it.
-pub record IsRunning (replay : Replay) (header : Header) (version : ℕ) (lines : List Numbered) : Type 0 where
-  pub format : replay.format ≡ format_of version (length header.companions)
+pub record IsRunning (format_now : Format) (world_now : Option World) (header : Header) (version : ℕ)
+    (lines : List Numbered) : Type 0 where
+  pub format : format_now ≡ format_of version (length header.companions)
   pub known : IsVersion version
   pub fits : FitsFirst (version == 1) (length header.companions)
   pub world : World
-  pub is : replay.world ≡ Some world
+  pub is : world_now ≡ Some world
   pub same : world.header ≡ header
   pub stands : worlds.StandsFor world lines
 
--- the reader has read a schedule so far
+-- the reader has read a schedule so far, whatever the number of its last line
 abbrev pub IsAt : Replay → Extent → Type 0
-IsAt replay Outset = IsNew replay
-IsAt replay (Opening header count) = IsOpening replay header count
-IsAt replay (Running header version lines) = IsRunning replay header version lines
+IsAt replay Outset = IsNew replay.format replay.header replay.world
+IsAt replay (Opening header count) = IsOpening replay.format replay.header replay.world header count
+IsAt replay (Running header version lines) = IsRunning replay.format replay.world header version lines
 IsAt replay Unread = ⊥
 
 -- The reader stands for these texts: it knows how many they are, and has read them.
@@ -90,12 +92,7 @@ pub record Stands (replay : Replay) (texts : List (List ℕ)) : Type 0 where
   pub at : IsAt replay (reached texts)
 
 -- ---- calls
--- the world of a header was opened, which stands for no lines, or memory ran out
-abbrev pub Opens : Header → Result World (LineFault Cause) → Type 0
-Opens header result = MatchResult result (λ world. (world.header ≡ header) × worlds.StandsFor world [])
-    (λ fault. fault ≡ faults.Memory)
-
--- such a world is kept
+-- The world of a header was opened and is kept, which stands for no lines, or memory ran out.
 abbrev pub Starts : Option World → Header → Result (Unit {0}) (LineFault Cause) → Type 0
 Starts kept header result = MatchResult result
     (λ _. (world : World) × (kept ≡ Some world) × (world.header ≡ header) × worlds.StandsFor world [])

@@ -7,7 +7,7 @@ ghost use Rattle.css_world.specs.Happened.{Numbered};
 ghost use Rattle.css_world.specs.Standing as worlds;
 ghost use Rattle.css_replay.specs.Replayed.{read_meant, with_line, Outset, Opening};
 ghost use Rattle.css_replay.specs.Stands.{refused_fault, unread_fault};
-ghost use Rattle.css_replay.specs.Stands.{Opens, Starts, Declares, Grows, ReadsOn, IsNew, IsPart, IsGrown};
+ghost use Rattle.css_replay.specs.Stands.{Starts, Declares, Grows, ReadsOn, IsPart, IsGrown};
 
 use css_lines::{LineFault, Lines};
 use css_schedule::{Header, PlayerFault, Start, read_companion, read_header, read_line};
@@ -128,17 +128,6 @@ fn refused(fault: WorldFault) -> LineFault<Cause>
     }
 }
 
-// Opens the world of a whole header.
-fn open_world(alloc: Global, header: Header) -> Result<World, LineFault<Cause>>
-    requires { IsHeader header × IsCount (length header.companions) }
-    ensures { Opens header result }
-{
-    match World::new(alloc, header) {
-        Ok(world) => Ok(world),
-        Err(_) => Err(LineFault::Memory),
-    }
-}
-
 // Opens the world of a whole header, and keeps it. A world is large: in a function of its own its room is cleared once,
 // and not at each line.
 #[cold]
@@ -147,8 +136,13 @@ fn start(alloc: Global, header: Header, kept: &mut Option<World>) -> Result<(), 
     requires { IsHeader header × IsCount (length header.companions) }
     ensures { Starts kept.new header result }
 {
-    *kept = Some(open_world(alloc, header)?);
-    Ok(())
+    match World::new(alloc, header) {
+        Ok(world) => {
+            *kept = Some(world);
+            Ok(())
+        }
+        Err(_) => Err(LineFault::Memory),
+    }
 }
 
 // How many companions a header has.
@@ -227,7 +221,7 @@ impl Replay {
 
     // Reads line 1.
     fn begin(&mut self, text: &[u8]) -> Result<(), LineFault<Cause>>
-        requires { IsNew self.old }
+        requires { IsAt self.old Outset }
         ensures reads { ReadsOn self.new Outset text.now result }
         ensures last { self.new.last ≡ self.old.last }
     {

@@ -54,9 +54,8 @@ fn status_of(stop: Stop<Cause>) -> Status
 ///
 /// Of a source that tells its bytes, status and sink are the defined outcome. It never ends with `Usage`.
 pub fn replay<S: Source, K: Sink>(alloc: Global, source: &mut S, sink: &mut K) -> Status
-    ensures does { ByReplay
-        (source_use (S.left source.old) (S.left source.new) (S.faults source.old) (S.faults source.new))
-        (sink_use (K.holds sink.old) (K.holds sink.new) (K.faults sink.old) (K.faults sink.new)) result }
+    ensures does { ByReplay (source_use S.left S.faults source.old source.new)
+        (sink_use K.holds K.faults sink.old sink.new) result }
     ensures quiet { TellsNoLive result }
     ensures counted_reads { CountsReads (S.faults source.old) (S.faults source.new) result }
     ensures counted_writes { CountsWrites (K.faults sink.old) (K.faults sink.new) result }

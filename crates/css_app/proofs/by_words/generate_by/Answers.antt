@@ -1,10 +1,7 @@
 use Rattle.std.proofs.Common.{ℕ, ◌≤◌, subst, sym}
 use Rattle.css_gen.specs.Second.{least_lines}
-use Rattle.css_survey.specs.Generated.{schedule_text}
-use Rattle.css_app.specs.Commands.{ByWriting}
-use Rattle.css_replay.specs.Devices.{sink_use}
 use Rattle.css_app.proofs.Generating.{some_asked, few_asked, lines_asked}
-use Rattle.css_app.proofs.Quiet.{writes_no_read, writes_quiet}
+use Rattle.css_app.proofs.Quiet.{writes_tells}
 use Rattle.css_app.proofs.by_words.generate_by.Goals as goal
 
 pub generate-requires-clause-some : goal.generate-requires-clause-some
@@ -24,17 +21,11 @@ generate-requires-clause-least g c =
 
 pub returns-clause-does : goal.returns-clause-does
 returns-clause-does g c =
-    subst (λ (n : ℕ). ByWriting (schedule_text c.args.words.seed n c.args.words.lines)
-    (sink_use (g.K.Sink.holds c.args.sink.now) (g.K.Sink.holds c.generate.new.sink) (g.K.Sink.faults c.args.sink.now)
-    (g.K.Sink.faults c.generate.new.sink)) c.generate.result) c.unwrap_or-companions.ensures
-    (record { writes = c.generate.ensures.writes; complete = c.generate.ensures.complete })
+    record {
+      writes = rw c.unwrap_or-companions.ensures at c.generate.ensures.writes;
+      complete = c.generate.ensures.complete;
+    }
 
-pub returns-clause-quiet : goal.returns-clause-quiet
-returns-clause-quiet g c =
-    writes_quiet (schedule_text c.args.words.seed c.unwrap_or-companions.result c.args.words.lines)
-    (g.K.Sink.holds c.args.sink.now) (g.K.Sink.holds c.generate.new.sink) c.generate.result c.generate.ensures.writes
-
-pub returns-clause-reads : goal.returns-clause-reads
-returns-clause-reads g c =
-    writes_no_read (schedule_text c.args.words.seed c.unwrap_or-companions.result c.args.words.lines)
-    (g.K.Sink.holds c.args.sink.now) (g.K.Sink.holds c.generate.new.sink) c.generate.result c.generate.ensures.writes
+pub returns-clause-counted : goal.returns-clause-counted
+returns-clause-counted g c reads calls spawns =
+    writes_tells _ _ _ c.generate.result c.generate.ensures.writes c.generate.ensures.counted_writes

@@ -13,11 +13,19 @@ returns-in-Err-clause-does g c = record {
 pub returns-clause-does : goal.returns-clause-does
 returns-clause-does g c = record {
   ran = pairs_by (pair_of c.args.words) c.child_of-child.result c.in-Ok.cii c.run_of-run.result _
-      (source_use (g.S.Source.left c.args.source.now) (g.S.Source.left c.pair.new.source)
-      (g.S.Source.faults c.args.source.now) (g.S.Source.faults c.pair.new.source)) _ _ _ _ _
+      (source_use g.S.Source.left g.S.Source.faults c.args.source.now c.pair.new.source) _ _ _ _ _
       c.child_of-child.ensures c.in-Ok.ensures c.run_of-run.ensures.asked c.pair.ensures.ran;
   complete = λ bytes script is ok read wrote called spawned.
       pairs_as_asked (pair_of c.args.words) c.child_of-child.result c.in-Ok.cii c.run_of-run.result _ _ _
       c.child_of-child.ensures c.in-Ok.ensures c.run_of-run.ensures.asked
       (c.pair.ensures.complete bytes script is ok read wrote called spawned);
+}
+
+pub returns-clause-counted : goal.returns-clause-counted
+returns-clause-counted g c = record {
+  reads = c.pair.ensures.counted_reads;
+  writes = c.pair.ensures.counted_writes;
+  calls = c.pair.ensures.counted_calls;
+  dials = c.pair.ensures.counted_dials;
+  spawns = c.pair.ensures.counted_spawns;
 }

@@ -1,10 +1,7 @@
 use Rattle.std.proofs.Common.{ℕ, ◌≤◌, subst, sym}
 use Rattle.css_gen.specs.Second.{least_lines}
-use Rattle.css_survey.specs.Surveyed.{survey_text}
-use Rattle.css_app.specs.Commands.{ByWriting}
-use Rattle.css_replay.specs.Devices.{sink_use}
 use Rattle.css_app.proofs.Generating.{some_asked, few_asked, lines_asked}
-use Rattle.css_app.proofs.Quiet.{writes_no_read, writes_quiet}
+use Rattle.css_app.proofs.Quiet.{writes_tells}
 use Rattle.css_app.proofs.by_words.survey_by.Goals as goal
 
 pub survey-requires-clause-some : goal.survey-requires-clause-some
@@ -24,17 +21,11 @@ survey-requires-clause-least g c =
 
 pub returns-clause-does : goal.returns-clause-does
 returns-clause-does g c =
-    subst (λ (n : ℕ). ByWriting (survey_text c.args.words.seed n c.args.words.lines)
-    (sink_use (g.K.Sink.holds c.args.sink.now) (g.K.Sink.holds c.survey.new.sink) (g.K.Sink.faults c.args.sink.now)
-    (g.K.Sink.faults c.survey.new.sink)) c.survey.result) c.unwrap_or-companions.ensures
-    (record { writes = c.survey.ensures.writes; complete = c.survey.ensures.complete })
+    record {
+      writes = rw c.unwrap_or-companions.ensures at c.survey.ensures.writes;
+      complete = c.survey.ensures.complete;
+    }
 
-pub returns-clause-quiet : goal.returns-clause-quiet
-returns-clause-quiet g c =
-    writes_quiet (survey_text c.args.words.seed c.unwrap_or-companions.result c.args.words.lines)
-    (g.K.Sink.holds c.args.sink.now) (g.K.Sink.holds c.survey.new.sink) c.survey.result c.survey.ensures.writes
-
-pub returns-clause-reads : goal.returns-clause-reads
-returns-clause-reads g c =
-    writes_no_read (survey_text c.args.words.seed c.unwrap_or-companions.result c.args.words.lines)
-    (g.K.Sink.holds c.args.sink.now) (g.K.Sink.holds c.survey.new.sink) c.survey.result c.survey.ensures.writes
+pub returns-clause-counted : goal.returns-clause-counted
+returns-clause-counted g c reads calls spawns =
+    writes_tells _ _ _ c.survey.result c.survey.ensures.writes c.survey.ensures.counted_writes

@@ -1,9 +1,7 @@
-use Rattle.std.proofs.Common.{subst, sym}
+use Rattle.std.proofs.Common.{subst}
 use Rattle.css_drive.specs.TvDue.{run_of}
 use Rattle.css_drive.specs.declared.tv_config.TvDrive.{TvDrive}
-use Rattle.css_replay.specs.Ended.{CountsDials}
 use Rattle.css_app.specs.Live.{Serves, ServesAsDue}
-use Rattle.css_app.proofs.Quiet.{serves_no_dial}
 use Rattle.css_app.proofs.by_words.tv_by.Goals as goal
 
 pub returns-clause-does : goal.returns-clause-does
@@ -17,10 +15,11 @@ returns-clause-does g c = record {
       c.tv_run_of-run.ensures.asked (c.tv.ensures.complete bytes script is ok read called);
 }
 
-pub returns-clause-counted_dials : goal.returns-clause-counted_dials
-returns-clause-counted_dials g c =
-    subst (λ n. CountsDials (g.O.Outside.counts c.args.outside.now).dial_faults n c.tv.result) (sym c.tv.ensures.dials)
-    ((serves_no_dial _ _ _ _ _ _ c.tv.ensures.ran).1 (g.O.Outside.counts c.args.outside.now).dial_faults)
-
-pub returns-clause-spawns : goal.returns-clause-spawns
-returns-clause-spawns g c = (serves_no_dial _ _ _ _ _ _ c.tv.ensures.ran).0.1
+pub returns-clause-counted : goal.returns-clause-counted
+returns-clause-counted g c writes spawns = record {
+  reads = c.tv.ensures.counted_reads;
+  writes = c.tv.ensures.writes writes;
+  calls = c.tv.ensures.counted_calls;
+  dials = c.tv.ensures.counted_dials;
+  spawns = c.tv.ensures.spawns spawns;
+}

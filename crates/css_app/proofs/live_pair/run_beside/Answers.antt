@@ -1,10 +1,7 @@
-use Rattle.std.proofs.Common.{subst, sym, ap, refl, inl, inr, ◌∙◌, arith}
+use Rattle.std.proofs.Common.{subst, ap, refl, inl, inr, ◌∙◌, arith}
 use Rattle.css_outside.specs.Faults.{CountsOutFault}
-use Rattle.css_replay.specs.Ended.{CountsCalls, CountsDials, CountsReads, CountsSpawns, CountsWrites}
-use Rattle.css_app.specs.Pairs.{PairsAsDue, children}
-use Rattle.css_app.proofs.Live.{as_due}
-use Rattle.css_app.proofs.Pairs.{counts_spawns, keeps_calls, keeps_dials, keeps_reads, keeps_writes, pairs_as_due}
-use Rattle.css_app.proofs.Pairs.{runs_beside}
+use Rattle.css_app.specs.Pairs.{children}
+use Rattle.css_app.proofs.Pairs.{both_no_usage, both_tell, pairs_as_due, runs_beside}
 use Rattle.css_app.proofs.live_pair.run_beside.Goals as goal
 
 -- the child was not started
@@ -45,48 +42,21 @@ returns-clause-ran g c =
 
 pub returns-clause-complete : goal.returns-clause-complete
 returns-clause-complete g c wrote called spawned =
-    subst (PairsAsDue c.args.config (g.O.Outside.told c.args.outside.now)
-    (g.O.Outside.told c.make_run-companion.new.outside)) (sym c.with_child.ensures)
-    (pairs_as_due c.args.config (g.O.Outside.told c.args.outside.now)
-    (g.O.Outside.told c.make_run-companion.new.outside) c.make_run-companion.result c.finish-finished.result
-    (g.P.Spawner.faults c.args.spawner.now) (g.P.Spawner.faults c.start.new.self)
-    (g.P.Spawner.faults c.finish-finished.new.self)
-    (as_due c.args.config _ _ _ _ _ _ _ _ c.make_run-companion.ensures.makes
-    c.make_run-companion.ensures.counted_writes c.make_run-companion.ensures.counted_calls wrote called)
-    c.in-Ok.ensures.counted c.finish-finished.ensures.counted spawned)
+    rw c.with_child.ensures
+    (pairs_as_due c.args.config _ _ c.make_run-companion.result c.finish-finished.result _ _ _
+    (c.make_run-companion.ensures.complete wrote called) c.in-Ok.ensures.counted c.finish-finished.ensures.counted
+    spawned)
 
-pub returns-clause-reads : goal.returns-clause-reads
-returns-clause-reads g c n =
-    subst (CountsReads n n) (sym c.with_child.ensures)
-    (keeps_reads _ _ _ _ c.make_run-companion.result c.finish-finished.result c.make_run-companion.ensures.makes n n
-    (c.make_run-companion.ensures.reads n))
+pub returns-clause-no_usage : goal.returns-clause-no_usage
+returns-clause-no_usage g c =
+    rw c.with_child.ensures
+    (both_no_usage c.make_run-companion.result c.finish-finished.result c.make_run-companion.ensures.no_usage)
 
-pub returns-clause-counted_writes : goal.returns-clause-counted_writes
-returns-clause-counted_writes g c =
-    subst (CountsWrites (g.K.Sink.faults c.args.sink.now) (g.K.Sink.faults c.make_run-companion.new.sink))
-    (sym c.with_child.ensures)
-    (keeps_writes _ _ _ _ c.make_run-companion.result c.finish-finished.result c.make_run-companion.ensures.makes _ _
-    c.make_run-companion.ensures.counted_writes)
-
-pub returns-clause-counted_calls : goal.returns-clause-counted_calls
-returns-clause-counted_calls g c =
-    subst (CountsCalls (g.O.Outside.counts c.args.outside.now).faults
-    (g.O.Outside.counts c.make_run-companion.new.outside).faults) (sym c.with_child.ensures)
-    (keeps_calls _ _ _ _ c.make_run-companion.result c.finish-finished.result c.make_run-companion.ensures.makes _ _
-    c.make_run-companion.ensures.counted_calls)
-
-pub returns-clause-counted_dials : goal.returns-clause-counted_dials
-returns-clause-counted_dials g c =
-    subst (CountsDials (g.O.Outside.counts c.args.outside.now).dial_faults
-    (g.O.Outside.counts c.make_run-companion.new.outside).dial_faults) (sym c.with_child.ensures)
-    (keeps_dials _ _ _ _ c.make_run-companion.result c.finish-finished.result c.make_run-companion.ensures.makes _ _
-    c.make_run-companion.ensures.counted_dials)
-
-pub returns-clause-counted_spawns : goal.returns-clause-counted_spawns
-returns-clause-counted_spawns g c =
-    subst (CountsSpawns (g.P.Spawner.faults c.args.spawner.now) (g.P.Spawner.faults c.finish-finished.new.self))
-    (sym c.with_child.ensures)
-    (counts_spawns c.args.config _ _ _ c.make_run-companion.result c.finish-finished.result
-    (g.P.Spawner.faults c.args.spawner.now) (g.P.Spawner.faults c.start.new.self)
-    (g.P.Spawner.faults c.finish-finished.new.self) c.make_run-companion.ensures.makes c.in-Ok.ensures.counted
-    c.finish-finished.ensures.counted)
+pub returns-clause-counted : goal.returns-clause-counted
+returns-clause-counted g c reads =
+    let spawns = g.P.Spawner.faults c.args.spawner.now in
+    let makes = c.make_run-companion.ensures.makes in
+    rw (c.with_child.ensures, makes.tells)
+    (both_tell _ _ _ makes.ended c.finish-finished.result
+    (rw makes.tells at (c.make_run-companion.ensures.counted reads spawns))
+    (rw c.in-Ok.ensures.counted at c.finish-finished.ensures.counted))

@@ -1,69 +1,68 @@
-use Rattle.std.proofs.Common.{List, subst, sym, refl, inl, inr, ◌∙◌}
-use Rattle.css_drive.specs.TvDue.{run_of}
+use Rattle.std.proofs.Common.{ℕ, refl, inl, inr}
+use Rattle.css_drive.specs.Proper.{IsProper}
+use Rattle.css_drive.specs.TvDue.{due, run_of}
 use Rattle.css_drive.specs.TvRan.{TvRan}
-use Rattle.css_schedule.specs.declared.line.ScriptLine.{ScriptLine}
-use Rattle.css_replay.specs.Ended.{CountsCalls, CountsReads, CountsWrites}
-use Rattle.css_app.specs.Live.{ServesAsDue}
-use Rattle.css_app.proofs.Live.{driven-calls, driven-no_writes, driven-reads, script_lacks, served_as_due}
+use Rattle.css_app.specs.Live.{TellsFaults, driven_status, failures}
+use Rattle.css_app.proofs.Live.{as_due, no_write, script_lacks}
+use Rattle.css_app.proofs.Quiet.{driven_no_usage, driven_tells, script_no_usage, unwritten}
 use Rattle.css_app.proofs.TextsTaken.{same_script}
+use Rattle.css_app.proofs.TvEnds.{tv_dials}
 use Rattle.css_app.proofs.live_tv.tv.Goals as goal
 
 -- the script was not read
-pub returns-in-Err-clause-ran : goal.returns-in-Err-clause-ran
-returns-in-Err-clause-ran g c = inl (record { untouched = refl; cause = c.in-Err.ensures.value })
-
-pub returns-in-Err-clause-complete : goal.returns-in-Err-clause-complete
-returns-in-Err-clause-complete g c bytes script is ok read called =
-    inl (script_lacks _ _ bytes script _ _ c.in-Err.ensures.value is ok c.in-Err.ensures.counted read)
-
-pub returns-in-Err-clause-counted_calls : goal.returns-in-Err-clause-counted_calls
-returns-in-Err-clause-counted_calls g c = c.in-Err.ensures.quiet.calls (g.O.Outside.counts c.args.outside.now).faults
-
-pub returns-in-Err-clause-writes : goal.returns-in-Err-clause-writes
-returns-in-Err-clause-writes g c = c.in-Err.ensures.quiet.writes
+pub returns-in-Err : goal.returns-in-Err
+returns-in-Err g c =
+    let calls = g.O.Outside.counts c.args.outside.now in
+    let tells = c.in-Err.ensures.counted 0 calls 0 in
+    record {
+      ran = inl (record { untouched = refl; cause = c.in-Err.ensures.value });
+      complete = λ bytes script is ok read called.
+          inl (script_lacks _ c.in-Err.status bytes script c.in-Err.ensures.value is ok tells.reads read);
+      counted_reads = tells.reads;
+      counted_calls = tells.calls;
+      writes = λ count. (c.in-Err.ensures.counted count calls 0).writes;
+      dials = refl;
+      counted_dials = tells.dials;
+      spawns = λ count. (c.in-Err.ensures.counted 0 calls count).spawns;
+      no_usage = script_no_usage _ c.in-Err.status c.in-Err.ensures.value;
+    }
 
 -- the run
-pub returns-clause-ran : goal.returns-clause-ran
-returns-clause-ran g c =
-    inr (record {
-      script = c.in-Ok.script.items;
-      gives = c.in-Ok.ensures.value;
-      ended = c.drive_tv-ended.result;
-      ran = subst (λ (script : List ScriptLine).
-          TvRan (run_of c.args.run script)
-          (g.O.Outside.told c.args.outside.now) (g.O.Outside.told c.drive_tv-ended.new.outside)
-          c.drive_tv-ended.result) c.deref.ensures.value c.drive_tv-ended.ensures.ran;
-      tells = c.status_of.ensures;
+pub returns : goal.returns
+returns g c =
+    let ended = c.drive_tv-ended.result in
+    let made = c.drive_tv-ended.ensures in
+    let calls = g.O.Outside.counts c.args.outside.now in
+    let calls_new = g.O.Outside.counts c.drive_tv-ended.new.outside in
+    let run = run_of c.args.run c.in-Ok.script.items in
+    let ran : TvRan run (g.O.Outside.told c.args.outside.now)
+    (g.O.Outside.told c.drive_tv-ended.new.outside) ended =
+    rw (← c.deref.ensures.value) made.ran in
+    let reads = g.S.Source.faults c.args.source.now in
+    let tells : (writes spawns : ℕ) → TellsFaults (failures reads writes calls spawns)
+    (failures (g.S.Source.faults c.take_script.new.source) writes calls_new spawns) (driven_status ended) =
+    λ writes spawns. rw c.in-Ok.ensures.counted
+    (driven_tells ended (unwritten ended writes made.counted.no_writes) made.counted.faults
+    (tv_dials run ran.h ended ran.ends made.counted.dials)) in
+    rw c.status_of.ensures
+    (record {
+      ran = inr (record {
+        script = c.in-Ok.script.items;
+        gives = c.in-Ok.ensures.value;
+        ended = ended;
+        ran = ran;
+        tells = refl;
+      });
+      complete = λ bytes script is ok read called.
+          let same = same_script (g.S.Source.left c.args.source.now) bytes
+          (g.S.Source.left c.take_script.new.source) c.in-Ok.script.items script is c.in-Ok.ensures.value ok in
+          rw (← same) (as_due (IsProper (due run)) (due run) _ _ ran.h ended ran.grew ran.proper ran.ends
+          (unwritten ended 0 made.counted.no_writes) made.counted.faults no_write called);
+      counted_reads = (tells 0 0).reads;
+      counted_calls = (tells 0 0).calls;
+      writes = λ count. (tells count 0).writes;
+      dials = made.counted.dials;
+      counted_dials = (tells 0 0).dials;
+      spawns = λ count. (tells 0 count).spawns;
+      no_usage = driven_no_usage ended;
     })
-
-pub returns-clause-complete : goal.returns-clause-complete
-returns-clause-complete g c bytes script is ok read called =
-    let run = run_of c.args.run script in
-    let same = same_script (g.S.Source.left c.args.source.now) bytes (g.S.Source.left c.take_script.new.source)
-    c.in-Ok.script.items script is c.in-Ok.ensures.value ok in
-    subst (ServesAsDue run (g.O.Outside.told c.args.outside.now) (g.O.Outside.told c.drive_tv-ended.new.outside))
-    (sym c.status_of.ensures)
-    (served_as_due run (g.O.Outside.told c.args.outside.now) (g.O.Outside.told c.drive_tv-ended.new.outside)
-    c.drive_tv-ended.result _ _
-    (subst (λ (lines : List ScriptLine).
-    TvRan (run_of c.args.run lines)
-    (g.O.Outside.told c.args.outside.now) (g.O.Outside.told c.drive_tv-ended.new.outside)
-    c.drive_tv-ended.result) (c.deref.ensures.value ∙ same) c.drive_tv-ended.ensures.ran)
-    c.drive_tv-ended.ensures.counted.no_writes c.drive_tv-ended.ensures.counted.faults called)
-
-pub returns-clause-writes : goal.returns-clause-writes
-returns-clause-writes g c n =
-    subst (CountsWrites n n) (sym c.status_of.ensures)
-    (driven-no_writes c.drive_tv-ended.result n c.drive_tv-ended.ensures.counted.no_writes)
-
-pub returns-clause-counted_reads : goal.returns-clause-counted_reads
-returns-clause-counted_reads g c =
-    subst (λ n. CountsReads (g.S.Source.faults c.args.source.now) n c.status_of.result) (sym c.in-Ok.ensures.counted)
-    (subst (CountsReads (g.S.Source.faults c.args.source.now) (g.S.Source.faults c.args.source.now))
-    (sym c.status_of.ensures) (driven-reads c.drive_tv-ended.result (g.S.Source.faults c.args.source.now)))
-
-pub returns-clause-counted_calls : goal.returns-clause-counted_calls
-returns-clause-counted_calls g c =
-    subst (CountsCalls (g.O.Outside.counts c.args.outside.now).faults
-    (g.O.Outside.counts c.drive_tv-ended.new.outside).faults) (sym c.status_of.ensures)
-    (driven-calls c.drive_tv-ended.result _ _ c.drive_tv-ended.ensures.counted.faults)

@@ -1,12 +1,13 @@
-use Rattle.std.proofs.Common.{ap, subst}
+use Rattle.std.proofs.Common.{ap, refl, subst}
 use Rattle.std.specs.Prelude.{Some}
+use Rattle.css_lines.specs.declared.ending.Stop.TheVariants as stops
 use Rattle.css_app.specs.Live.{HasNoScript}
-use Rattle.css_app.proofs.ScriptsTaken.{memory-quiet}
+use Rattle.css_app.proofs.ScriptsTaken.{script-tells}
 use Rattle.css_app.proofs.TextsTaken.{is_script}
 use Rattle.css_app.proofs.script_text.check_script.Goals as goal
 
-pub returns-in-Err-clause-quiet : goal.returns-in-Err-clause-quiet
-returns-in-Err-clause-quiet c = memory-quiet
+pub returns-in-Err-clause-counted : goal.returns-in-Err-clause-counted
+returns-in-Err-clause-counted c = script-tells stops.Memory refl
 
 pub returns-in-Ok-take_script-clause-value : goal.returns-in-Ok-take_script-clause-value
 returns-in-Ok-take_script-clause-value c =

@@ -1,9 +1,10 @@
 use Rattle.std.proofs.Common.{inl, inr, refl, subst, sym, take, ◌∙◌, arith}
 use Rattle.std.specs.Io.KnownBytes.{Consumes}
 use Rattle.css_outside.specs.Faults.{HasRisen}
+use Rattle.css_lines.specs.declared.ending.Stop.TheVariants as stops
 use Rattle.css_lines.proofs.Endings.{consumes_nothing}
 use Rattle.css_outside.proofs.Known.{consumes_none, consumes_more}
-use Rattle.css_app.proofs.ScriptsTaken.{memory-quiet, read-quiet}
+use Rattle.css_app.proofs.ScriptsTaken.{script-tells}
 use Rattle.css_app.proofs.script_text.take_bytes.Goals as goal
 
 pub pieces-init : goal.pieces-init
@@ -22,12 +23,10 @@ pieces-preserved g c = record {
   counted = c.in-Ok.ensures.counted ∙ c.pieces.invariant.counted;
 }
 
-pub returns-in-Err-clause-quiet : goal.returns-in-Err-clause-quiet
-returns-in-Err-clause-quiet g c = read-quiet
-
 pub returns-in-Err-clause-counted : goal.returns-in-Err-clause-counted
 returns-in-Err-clause-counted g c =
-    subst (λ n. HasRisen n (g.S.Source.faults c.read.new.self)) c.pieces.invariant.counted c.in-Err.ensures.counted
+    script-tells stops.ReadFault
+    (subst (λ n. HasRisen n (g.S.Source.faults c.read.new.self)) c.pieces.invariant.counted c.in-Err.ensures.counted)
 
 pub returns-then-count-eq0-clause-value : goal.returns-then-count-eq0-clause-value
 returns-then-count-eq0-clause-value g c = record {
@@ -39,11 +38,9 @@ returns-then-count-eq0-clause-value g c = record {
 pub returns-then-count-eq0-clause-counted : goal.returns-then-count-eq0-clause-counted
 returns-then-count-eq0-clause-counted g c = c.in-Ok.ensures.counted ∙ c.pieces.invariant.counted
 
-pub returns-in-Err-extend_from_slice-clause-quiet : goal.returns-in-Err-extend_from_slice-clause-quiet
-returns-in-Err-extend_from_slice-clause-quiet g c = memory-quiet
-
 pub returns-in-Err-extend_from_slice-clause-counted : goal.returns-in-Err-extend_from_slice-clause-counted
-returns-in-Err-extend_from_slice-clause-counted g c = c.in-Ok.ensures.counted ∙ c.pieces.invariant.counted
+returns-in-Err-extend_from_slice-clause-counted g c =
+    script-tells stops.Memory (c.in-Ok.ensures.counted ∙ c.pieces.invariant.counted)
 
 pub returns-clause-value : goal.returns-clause-value
 returns-clause-value g c = record {

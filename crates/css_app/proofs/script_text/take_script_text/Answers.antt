@@ -17,5 +17,12 @@ returns-in-Err-check_script-clause-value g c =
     c.in-Err-check_script.ensures.value)
 
 pub returns-in-Err-check_script-clause-counted : goal.returns-in-Err-check_script-clause-counted
-returns-in-Err-check_script-clause-counted g c =
-    no_read_fault c.in-Err-check_script.status _ _ c.in-Err-check_script.ensures.counted c.in-Ok.ensures.counted
+returns-in-Err-check_script-clause-counted g c writes calls spawns =
+    let tells = c.in-Err-check_script.ensures.counted writes calls spawns in
+    record {
+      reads = no_read_fault c.in-Err-check_script.status _ _ tells.reads c.in-Ok.ensures.counted;
+      writes = tells.writes;
+      calls = tells.calls;
+      dials = tells.dials;
+      spawns = tells.spawns;
+    }

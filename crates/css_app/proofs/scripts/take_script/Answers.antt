@@ -1,13 +1,13 @@
-use Rattle.std.proofs.Common.{subst, sym}
+use Rattle.std.proofs.Common.{refl, subst, sym}
 use Rattle.std.specs.Prelude.{All}
 use Rattle.css_schedule.specs.Ranges.{IsScriptLine}
-use Rattle.css_replay.specs.Ended.{CountsReads}
-use Rattle.css_app.specs.Live.{GivesScript, HasNoScript, TellsNoRun}
-use Rattle.css_app.proofs.ScriptsTaken.{gives-script, memory-quiet, no-script, script-counts, script-quiet}
+use Rattle.css_lines.specs.declared.ending.Stop.TheVariants as stops
+use Rattle.css_app.specs.Live.{GivesScript}
+use Rattle.css_app.proofs.ScriptsTaken.{gives-script, no-script, script-tells}
 use Rattle.css_app.proofs.scripts.take_script.Goals as goal
 
-pub returns-in-Err-clause-quiet : goal.returns-in-Err-clause-quiet
-returns-in-Err-clause-quiet g c = memory-quiet
+pub returns-in-Err-clause-counted : goal.returns-in-Err-clause-counted
+returns-in-Err-clause-counted g c = script-tells stops.Memory refl
 
 pub returns-in-Ok-drive-clause-value : goal.returns-in-Ok-drive-clause-value
 returns-in-Ok-drive-clause-value g c =
@@ -20,14 +20,8 @@ returns-in-Ok-drive-clause-range g c =
 
 pub returns-clause-value : goal.returns-clause-value
 returns-clause-value g c =
-    subst (HasNoScript (g.S.Source.left c.args.source.now)) (sym c.status_of.ensures)
-    (no-script _ _ _ _ c.in-Err-drive.stop c.in-Err-drive.ensures.ran)
-
-pub returns-clause-quiet : goal.returns-clause-quiet
-returns-clause-quiet g c =
-    subst TellsNoRun (sym c.status_of.ensures) (script-quiet c.in-Err-drive.stop)
+    rw c.status_of.ensures (no-script _ _ _ _ c.in-Err-drive.stop c.in-Err-drive.ensures.ran)
 
 pub returns-clause-counted : goal.returns-clause-counted
 returns-clause-counted g c =
-    subst (CountsReads (g.S.Source.faults c.args.source.now) (g.S.Source.faults c.drive.new.source))
-    (sym c.status_of.ensures) (script-counts _ _ c.in-Err-drive.stop c.in-Err-drive.ensures.counted_reads)
+    rw c.status_of.ensures (script-tells c.in-Err-drive.stop c.in-Err-drive.ensures.counted_reads)

@@ -7,18 +7,6 @@ use Rattle.css_outside.proofs.Known.{appends_none}
 use Rattle.css_survey.specs.Surveyed.{survey_text}
 use Rattle.css_app.proofs.surveyed.write_survey.Goals as goal
 
-pub survey_line-requires-clause-some : goal.survey_line-requires-clause-some
-survey_line-requires-clause-some g c = c.requires.some
-
-pub survey_line-requires-clause-few : goal.survey_line-requires-clause-few
-survey_line-requires-clause-few g c = c.requires.few
-
-pub survey_line-requires-clause-least : goal.survey_line-requires-clause-least
-survey_line-requires-clause-least g c = c.requires.least
-
-pub survey_line-requires-clause-most : goal.survey_line-requires-clause-most
-survey_line-requires-clause-most g c = c.requires.most
-
 pub returns-in-Ok-clause-ok : goal.returns-in-Ok-clause-ok
 returns-in-Ok-clause-ok g c =
     subst (λ (l : List ℕ). OnOk c.write_all.result
@@ -31,15 +19,9 @@ returns-in-Ok-clause-err g c =
     (AppendsPrefix (g.K.Sink.holds c.args.sink.now) (g.K.Sink.holds c.write_all.new.sink) l))
     (c.as_bytes.ensures.value ∙ c.in-Ok.ensures) c.write_all.ensures.err
 
-pub returns-in-Ok-clause-counted : goal.returns-in-Ok-clause-counted
-returns-in-Ok-clause-counted g c = c.write_all.ensures.counted
-
 pub returns-in-Err-clause-err : goal.returns-in-Err-clause-err
 returns-in-Err-clause-err g c = record {
   front = [];
   of = (survey_text c.args.seed c.args.companions c.args.lines, refl);
   grew = appends_none (g.K.Sink.holds c.args.sink.now);
 }
-
-pub returns-in-Err-clause-counted : goal.returns-in-Err-clause-counted
-returns-in-Err-clause-counted g c = refl

@@ -1,15 +1,25 @@
-use Rattle.css_replay.proofs.Standing.{answers-header, answers-line, at-last, fits-first, known-version, next-number}
-use Rattle.css_replay.proofs.Standing.{same-companions, some_lines, stands-after, stands-header}
+use Rattle.std.proofs.Common.{◌==◌, ap, subst, sym}
+use Rattle.css_schedule.specs.Ranges.{FitsFirst, IsVersion}
+use Rattle.css_world.specs.Standing.{IsNext}
 use Rattle.css_replay.specs.Replayed.{reached}
+use Rattle.css_replay.specs.declared.reader.Format.{Format}
+use Rattle.css_replay.proofs.Standing.{answers-header, answers-line, next-number, runs, stands-after, stands-header}
+use Rattle.css_replay.proofs.Texts.{is_next}
 use Rattle.css_replay.proofs.reader.ReplayLines.line.Goals as goal
 
 pub carry_out-requires : goal.carry_out-requires
-carry_out-requires c = record {
-  version = known-version c.args.self.now c.in-Some.world c.requires.0 c.in-Some.is c.requires.1;
-  companions = same-companions c.args.self.now c.in-Some.world c.requires.0 c.in-Some.is c.requires.1;
-  count = fits-first c.args.self.now c.in-Some.world c.requires.0 c.in-Some.is c.requires.1;
-  stands = some_lines c.args.self.now c.in-Some.world c.args.number c.requires.0 c.in-Some.is c.requires.1 c.requires.2;
-}
+carry_out-requires c =
+    let run = runs c.args.self.now c.in-Some.world (reached c.requires.0) c.in-Some.is c.requires.1.at in
+    record {
+      version = subst (λ (f : Format). IsVersion f.version) (sym run.format) run.known;
+      companions = ap (λ (f : Format). f.companions) run.format;
+      count = subst (λ (f : Format). FitsFirst (f.version == 1) f.companions) (sym run.format) run.fits;
+      stands = (
+        run.lines,
+        run.stands,
+        subst (λ n. IsNext n run.lines) (sym c.requires.2) (is_next c.requires.0 _ run.version run.lines run.is),
+      );
+    }
 
 pub returns-in-Some-clause-answers : goal.returns-in-Some-clause-answers
 returns-in-Some-clause-answers c =
@@ -24,7 +34,7 @@ returns-in-Some-clause-stands c =
 
 pub open-requires-clause-at : goal.open-requires-clause-at
 open-requires-clause-at c =
-    (reached c.requires.0, at-last c.args.self.now c.args.number (reached c.requires.0) c.requires.1.at)
+    (reached c.requires.0, c.requires.1.at)
 
 pub returns-in-None-clause-answers : goal.returns-in-None-clause-answers
 returns-in-None-clause-answers c = λ before stands is.
