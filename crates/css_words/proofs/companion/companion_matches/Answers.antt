@@ -1,4 +1,4 @@
-use Rattle.std.proofs.Common.{◌≡◌, refl, rules, map}
+use Rattle.std.proofs.Common.{◌≡◌, refl, rules, map, true}
 use Rattle.css_words.specs.Companion.{companion_flags, companion_options, companion_rows}
 use Rattle.css_words.proofs.companion.companion_matches.Goals as goal
 

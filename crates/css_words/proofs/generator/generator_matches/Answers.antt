@@ -1,4 +1,4 @@
-use Rattle.std.proofs.Common.{◌≡◌, refl, rules, map}
+use Rattle.std.proofs.Common.{◌≡◌, refl, rules, map, true}
 use Rattle.css_words.specs.Generator.{generator_options, generator_rows}
 use Rattle.css_words.proofs.generator.generator_matches.Goals as goal
 

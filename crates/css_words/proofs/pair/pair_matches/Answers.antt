@@ -1,4 +1,4 @@
-use Rattle.std.proofs.Common.{◌≡◌, refl, rules, map}
+use Rattle.std.proofs.Common.{◌≡◌, refl, rules, map, true}
 use Rattle.css_words.specs.Pair.{pair_options, pair_rows}
 use Rattle.css_words.specs.Tv.{tv_flags}
 use Rattle.css_words.proofs.pair.pair_matches.Goals as goal

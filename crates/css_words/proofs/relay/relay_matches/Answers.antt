@@ -1,4 +1,4 @@
-use Rattle.std.proofs.Common.{◌≡◌, refl, rules, map}
+use Rattle.std.proofs.Common.{◌≡◌, refl, rules, map, true}
 use Rattle.css_words.specs.Relay.{relay_options, relay_rows}
 use Rattle.css_words.proofs.relay.relay_matches.Goals as goal
 

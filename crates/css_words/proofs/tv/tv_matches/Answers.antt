@@ -1,4 +1,4 @@
-use Rattle.std.proofs.Common.{◌≡◌, refl, rules, map}
+use Rattle.std.proofs.Common.{◌≡◌, refl, rules, map, true}
 use Rattle.css_words.specs.Tv.{tv_flags, tv_options, tv_rows}
 use Rattle.css_words.proofs.tv.tv_matches.Goals as goal
 

@@ -1,4 +1,4 @@
-use Rattle.std.proofs.Common.{◌≡◌, refl, rules, map}
+use Rattle.std.proofs.Common.{◌≡◌, refl, rules, map, true}
 use Rattle.css_words.specs.Watch.{watch_options, watch_rows}
 use Rattle.css_words.proofs.watch.watch_matches.Goals as goal
 
