@@ -1,4 +1,4 @@
-use Rattle.std.proofs.Common.{◌≡◌, refl, rules, map}
+use Rattle.std.proofs.Common.{◌≡◌, refl, rules, map, true}
 use Rattle.css_words.specs.Companion.{companion_flags, companion_options, companion_rows}
 use Rattle.css_words.proofs.companion.companion_matches.Goals as goal
 
@@ -6,7 +6,7 @@ pub matches_of-requires : goal.matches_of-requires
 matches_of-requires c =
     let names : map (λ name. name.now) c.as_slice.result.now ≡ companion_options = search rules in
     let flags : map (λ name. name.now) c.as_slice-2.result.now ≡ companion_flags = search rules in
-    rw (names, flags) refl
+    rw (names, flags) (refl {a = true})
 
 pub returns : goal.returns
 unfolding companion_rows
