@@ -19,9 +19,6 @@ turns-init g c = record {
   tried = λ begun. absurd (begun refl);
 }
 
-pub goes_on-requires : goal.goes_on-requires
-goes_on-requires g c = c.args.config.now.limit_range
-
 pub turns-preserved : goal.turns-preserved
 turns-preserved g c =
     let cfg = c.args.config.now in
@@ -38,18 +35,9 @@ turns-preserved g c =
       tried = c.in-Ok.ensures.tried _ c.turns.invariant.dials c.turns.invariant.tried;
     }
 
-pub turn-requires-clause-floor : goal.turn-requires-clause-floor
-turn-requires-clause-floor g c = c.turns.invariant.floor
-
 pub turn-requires-clause-made : goal.turn-requires-clause-made
 turn-requires-clause-made g c =
     ends.below_most _ _ _ _ c.args.config.now.limit_range (sym c.goes_on.ensures ∙ c.turns-test.true)
-
-pub turn-requires-clause-reported : goal.turn-requires-clause-reported
-turn-requires-clause-reported g c = c.turns.invariant.reported
-
-pub turn-requires-clause-bounds : goal.turn-requires-clause-bounds
-turn-requires-clause-bounds g c = c.requires.bounds
 
 pub returns-in-Err : goal.returns-in-Err
 returns-in-Err g c =
