@@ -366,7 +366,8 @@ awake_landing config was is-now clocked p bytes history e k land = by clocked.sl
 
 -- ---- texts
 -- what is due after a session was asked for a text
-pub asked : (config : DriveConfig) (entry : Entry) (p : ℕ) (history : History) (k : Kind) → (due config (entry ∷ history)
+pub asked : (config : DriveConfig) (entry : Entry) (p : ℕ) (history : History) (k : Kind)
+    → (due config (entry ∷ history)
     ≡ cond (is_ts (kind_of p history)) (from_end config (entry ∷ history)) (from_ts_text config (entry ∷ history)))
     → kind_of p history ≡ Some k
     → due config (entry ∷ history)

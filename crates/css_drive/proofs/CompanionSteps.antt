@@ -7,14 +7,12 @@ use Rattle.std.proofs.lemmas.Bool.{ne_eqb}
 use Rattle.css_model.specs.declared.Kind.{Kind}
 use Rattle.css_model.specs.declared.Kind.TheVariants as kind
 use Rattle.css_model.specs.Explains.{IsLawful}
-use Rattle.css_model.specs.History.{Address, Entry, Dialling, Dialled, History}
+use Rattle.css_model.specs.History.{Address, Dialling, Dialled, History}
 use Rattle.css_outside.specs.Outsides.{with_entries}
 use Rattle.css_outside.specs.declared.fault.OutFault.{OutFault}
 use Rattle.css_outside.specs.declared.fault.OutFault.TheVariants as fault
-use Rattle.css_companion.specs.Aside.{IsAside}
 use Rattle.css_companion.specs.Meanings.{kind_of}
 use Rattle.css_companion.specs.Standing.{Companion}
-use Rattle.css_companion.proofs.Telling as telling
 use Rattle.css_drive.specs.CompanionDue.{due}
 use Rattle.css_drive.specs.CompanionStanding.{Shown, facts_of, facts_in, KnowsPeers, Stands, Knows, Comes, Stops}
 use Rattle.css_drive.specs.CompanionStanding.{IsFault, IsEndBy, IsSo, Fails, Adds, HasDialled, dial_entries}

@@ -1,4 +1,4 @@
-use Rattle.std.proofs.Common.{refl, sym, ◌∙◌, ap, ◌∷◌}
+use Rattle.std.proofs.Common.{refl, sym, ◌∙◌, ◌∷◌}
 use Rattle.css_drive.specs.Notes.{standpoint}
 use Rattle.css_drive.proofs.CompanionSteps.{none_if, failed, knows_lawful, stops_here, ends_by, at_err}
 use Rattle.css_drive.proofs.CompanionCalls as calls
@@ -9,7 +9,8 @@ returns-clause-goes g c before started h s k d =
     let none = none_if _ (sym c.is_some.ensures ∙ c.if-is_some.false) in
     let gives = rw c.in-Some.is at c.in_ok-to.ensures.gives in
     let call = c.in_ok-live.ensures in
-    calls.wc_dialled s (calls.wc_due s d none _ (c.state.ensures.meaning h k.stands) _ gives) none k _ call.told (call.saw (standpoint _ (_ ∷ h)) started _ s.saw_so) _ refl
+    calls.wc_dialled s (calls.wc_due s d none _ (c.state.ensures.meaning h k.stands) _ gives) none k _ call.told
+    (call.saw (standpoint _ (_ ∷ h)) started _ s.saw_so) _ refl
 
 pub returns-in_err-live-clause-goes : goal.returns-in_err-live-clause-goes
 returns-in_err-live-clause-goes g c before started h s k d =
