@@ -26,7 +26,9 @@ use Rattle.css_outside.specs.declared.calls.Wrote.{Wrote as Outcome}
 use Rattle.css_outside.specs.declared.calls.Wrote.TheVariants as outcome
 use Rattle.css_companion.specs.Contents.{told}
 use Rattle.css_companion.specs.Meanings.{kind_of, is_ts, is_cii, state_of, cii_text, ts_text, opens_ts, closes_ts}
+use Rattle.css_companion.specs.Aside.{IsAside}
 use Rattle.css_companion.specs.Standing.{Companion}
+use Rattle.css_companion.proofs.Telling as telling
 use Rattle.css_model.specs.declared.Stamp.{Stamp}
 use Rattle.css_model.specs.Explains.{IsLawful, IsJustAsked}
 use Rattle.css_companion.specs.declared.fault.CompanionFault.{CompanionFault}
@@ -49,16 +51,13 @@ use Rattle.css_drive.specs.declared.companion_live.Live.{Live}
 use Rattle.css_drive.specs.declared.config.DriveConfig.{DriveConfig}
 use Rattle.css_drive.specs.declared.driven.Driven.{Driven}
 use Rattle.css_drive.specs.declared.driven.Driven.TheVariants as driven
-use Rattle.css_drive.proofs.CompanionSteps.{opened_dialled, peers_later, knows_aside, stands_saw, stands_adds}
+use Rattle.css_drive.proofs.CompanionSteps.{opened_dialled, peers_later, stands_saw, stands_adds}
 use Rattle.css_drive.proofs.CompanionSteps.{stands_tried, stops_here, ends_by, IsOwn, comes, stops_by_memory}
 use Rattle.css_drive.proofs.CompanionSteps.{knows_lawful}
 
--- ---- the addresses that are told
+-- the address of the wall clock that is told
 abbrev pub wc_place : State → Option (Result Address AddressFault)
 wc_place state = place kind.Wc state.wc_url
-
-abbrev pub ts_place : State → Option (Result Address AddressFault)
-ts_place state = place kind.Ts state.ts_url
 
 -- ---- entries that tell a companion nothing
 pub lawful_plain : (entry : Entry) (history : History) → IsLawful history → asking_at entry ≡ None
@@ -82,18 +81,14 @@ pub knows_plain : {config : DriveConfig} {companion : Companion} (entry : Entry)
     → request_by entry ≡ None → landed_answer entry history ≡ None → cii_text entry history ≡ None
     → ts_text entry history ≡ None → (opens_ts entry || closes_ts entry history) ≡ false
     → Knows config companion (entry ∷ history)
-knows_plain entry k awake asks sends lands cii ts end =
-    knows_aside _ _ entry _ k (record {
-      client = record {
-        awake = awake;
-        asks_none = asks;
-        sends_none = sends;
-        lands_none = lands;
-      };
+knows_plain entry {history} k awake asks sends lands cii ts end =
+    let aside : IsAside entry history = record {
+      client = record { awake = awake; asks_none = asks; sends_none = sends; lands_none = lands };
       no_cii = cii;
       no_ts = ts;
       no_edge = end;
-    })
+    } in
+    record { stands = telling.stands_aside _ _ entry k.stands aside; setup = k.setup; own = k.own }
 
 -- nor does a dial that fails or begins, or a session that isn't one of CSS-TS
 pub knows_dialling : {config : DriveConfig} {companion : Companion} (k : Kind) (to : Address) {history : History}
@@ -117,21 +112,23 @@ module _ {config : DriveConfig} {before now : Shown} {saw : List Note → Type 0
   cii_due d none = d ∙ ap (λ x. dial_first x config.cii (from_wc config history))
       (ap {A = Facts} (λ x. x.cii) s.facts ∙ none)
 
-  pub wc_due : due config history ≡ from_wc config history → live.wc ≡ None
-      → {p : Option (Result Address AddressFault)} → wc_place (state_of history) ≡ p
+  pub wc_due : due config history ≡ from_wc config history → live.wc ≡ None → (state : State)
+      → state ≡ state_of history → (p : Option (Result Address AddressFault)) → place kind.Wc state.wc_url ≡ p
       → due config history ≡ dial_to None kind.Wc WcUrl p (from_ts config history)
-  wc_due d none at =
-      d ∙ ap (λ x. dial_to x kind.Wc WcUrl (wc_place (state_of history)) (from_ts config history))
+  wc_due d none state told p at =
+      d ∙ ap (λ x. dial_to x kind.Wc WcUrl (place kind.Wc (state_of history).wc_url) (from_ts config history))
       (ap {A = Facts} (λ x. x.wc) s.facts ∙ none)
-      ∙ ap (λ x. dial_to None kind.Wc WcUrl x (from_ts config history)) at
+      ∙ ap (λ x. dial_to None kind.Wc WcUrl x (from_ts config history))
+      (ap (λ (x : State). place kind.Wc x.wc_url) (sym told) ∙ at)
 
-  pub ts_due : due config history ≡ from_ts config history → live.ts ≡ None
-      → {p : Option (Result Address AddressFault)} → ts_place (state_of history) ≡ p
+  pub ts_due : due config history ≡ from_ts config history → live.ts ≡ None → (state : State)
+      → state ≡ state_of history → (p : Option (Result Address AddressFault)) → place kind.Ts state.ts_url ≡ p
       → due config history ≡ dial_to None kind.Ts TsUrl p (from_ask config history)
-  ts_due d none at =
-      d ∙ ap (λ x. dial_to x kind.Ts TsUrl (ts_place (state_of history)) (from_ask config history))
+  ts_due d none state told p at =
+      d ∙ ap (λ x. dial_to x kind.Ts TsUrl (place kind.Ts (state_of history).ts_url) (from_ask config history))
       (ap {A = Facts} (λ x. x.ts) s.facts ∙ none)
-      ∙ ap (λ x. dial_to None kind.Ts TsUrl x (from_ask config history)) at
+      ∙ ap (λ x. dial_to None kind.Ts TsUrl x (from_ask config history))
+      (ap (λ (x : State). place kind.Ts x.ts_url) (sym told) ∙ at)
 
   -- ---- requests and datagrams
   pub ask_due : due config history ≡ from_ask config history → {p : ℕ} → live.wc ≡ Some p
@@ -148,17 +145,6 @@ module _ {config : DriveConfig} {before now : Shown} {saw : List Note → Type 0
   take_due d e =
       d ∙ ap (λ x. cond (is_some x) TakeDatagram (from_cii_text config history))
       (ap {A = Facts} (λ x. x.wc) s.facts ∙ e)
-
-  -- ---- texts
-  pub cii_text_due : due config history ≡ from_cii_text config history → {p : ℕ} → live.cii_open ≡ Some p
-      → due config history ≡ TakeText p
-  cii_text_due d e =
-      d ∙ ap (λ x. take_text x (from_ts_text config history)) (ap {A = Facts} (λ x. x.cii_open) s.facts ∙ e)
-
-  pub ts_text_due : due config history ≡ from_ts_text config history → {p : ℕ} → live.ts_open ≡ Some p
-      → due config history ≡ TakeText p
-  ts_text_due d e =
-      d ∙ ap (λ x. take_text x (from_end config history)) (ap {A = Facts} (λ x. x.ts_open) s.facts ∙ e)
 
   -- ---- whose session it is
   cii_last : {p : ℕ} → live.cii_open ≡ Some p → dialled kind.Cii history ≡ Some p
@@ -380,32 +366,24 @@ awake_landing config was is-now clocked p bytes history e k land = by clocked.sl
 
 -- ---- texts
 -- what is due after a session was asked for a text
-pub asked_cii : (config : DriveConfig) (entry : Entry) (p : ℕ) (history : History) → (due config (entry ∷ history)
+pub asked : (config : DriveConfig) (entry : Entry) (p : ℕ) (history : History) (k : Kind)
+    → (due config (entry ∷ history)
     ≡ cond (is_ts (kind_of p history)) (from_end config (entry ∷ history)) (from_ts_text config (entry ∷ history)))
-    → kind_of p history ≡ Some kind.Cii → due config (entry ∷ history) ≡ from_ts_text config (entry ∷ history)
-asked_cii config entry p history e k =
-    e ∙ ap (λ x. cond (is_ts x) (from_end config (entry ∷ history)) (from_ts_text config (entry ∷ history))) k
+    → kind_of p history ≡ Some k
+    → due config (entry ∷ history)
+    ≡ cond (is_ts (Some k)) (from_end config (entry ∷ history)) (from_ts_text config (entry ∷ history))
+asked config entry p history k e is =
+    e ∙ ap (λ x. cond (is_ts x) (from_end config (entry ∷ history)) (from_ts_text config (entry ∷ history))) is
 
-pub asked_ts : (config : DriveConfig) (entry : Entry) (p : ℕ) (history : History) → (due config (entry ∷ history)
-    ≡ cond (is_ts (kind_of p history)) (from_end config (entry ∷ history)) (from_ts_text config (entry ∷ history)))
-    → kind_of p history ≡ Some kind.Ts → due config (entry ∷ history) ≡ from_end config (entry ∷ history)
-asked_ts config entry p history e k =
-    e ∙ ap (λ x. cond (is_ts x) (from_end config (entry ∷ history)) (from_ts_text config (entry ∷ history))) k
-
-pub heard_cii : (config : DriveConfig) (p : ℕ) (bytes : List ℕ) (history : History) (f : Option CompanionFault)
-    → kind_of p history ≡ Some kind.Cii
-    → refusal_of (Some bytes) history ≡ f → due config (Heard p bytes ∷ history) ≡ unless_refused f (from_ts_text
-    config (Heard p bytes ∷ history))
-heard_cii config p bytes history f k r =
+-- and where it gave one
+pub heard : (config : DriveConfig) (p : ℕ) (bytes : List ℕ) (history : History) (k : Kind)
+    → kind_of p history ≡ Some k
+    → due config (Heard p bytes ∷ history)
+    ≡ unless_refused (refusal_of (cond (is_cii (Some k)) (Some bytes) None) history) (cond (is_ts (Some k))
+    (from_end config (Heard p bytes ∷ history)) (from_ts_text config (Heard p bytes ∷ history)))
+heard config p bytes history k is =
     ap (λ x. unless_refused (refusal_of (cond (is_cii x) (Some bytes) None) history) (cond (is_ts x) (from_end config
-    (Heard p bytes ∷ history)) (from_ts_text config (Heard p bytes ∷ history)))) k
-    ∙ ap (λ x. unless_refused x (from_ts_text config (Heard p bytes ∷ history))) r
-
-pub heard_ts : (config : DriveConfig) (p : ℕ) (bytes : List ℕ) (history : History) → kind_of p history ≡ Some kind.Ts
-    → due config (Heard p bytes ∷ history) ≡ from_end config (Heard p bytes ∷ history)
-heard_ts config p bytes history k =
-    ap (λ x. unless_refused (refusal_of (cond (is_cii x) (Some bytes) None) history) (cond (is_ts x) (from_end config
-    (Heard p bytes ∷ history)) (from_ts_text config (Heard p bytes ∷ history)))) k
+    (Heard p bytes ∷ history)) (from_ts_text config (Heard p bytes ∷ history)))) is
 
 -- a refused text ends the run so
 pub refusal_ends : (refusal : Option CompanionFault) (rest : Due) (ended : Driven) → IsRefusal refusal ended
@@ -437,7 +415,7 @@ pub refused_stops : {config : DriveConfig} {before now : Shown} {saw : List Note
 refused_stops {config} {p = p} {bytes = bytes} {history = history} s lawful k over ended r =
     stops_here s (lawful_plain (Heard p bytes) history lawful refl refl) over ended
     (refusal_own (refusal_of (Some bytes) history) ended r)
-    (ends_by _ _ ended (heard_cii config p bytes history (refusal_of (Some bytes) history) k refl)
+    (ends_by _ _ ended (heard config p bytes history kind.Cii k)
     (refusal_ends (refusal_of (Some bytes) history) (from_ts_text config (Heard p bytes ∷ history)) ended r))
 
 -- ---- counts
@@ -473,14 +451,18 @@ module _ {config : DriveConfig} {before now : Shown} {saw : List Note → Type 0
       → after (heard_notes session.Cii (standpoint config history) said ++ noted config history) → (later : Live)
       → facts_of config (heard_entries p said ++ history) ≡ facts_in later
       → Stands config before next after later (heard_entries p said ++ history)
-  cii_said d {p} at = said_stands session.Cii p (cii_at s at) (cii_text_due s d at)
+  cii_said d {p} at =
+      said_stands session.Cii p (cii_at s at)
+      (d ∙ ap (λ x. take_text x (from_ts_text config history)) (ap {A = Facts} (λ x. x.cii_open) s.facts ∙ at))
 
   pub ts_said : due config history ≡ from_ts_text config history → {p : ℕ} → live.ts_open ≡ Some p
       → (said : Answer) → {next : Shown} → Adds now next (heard_entries p said) → {after : List Note → Type 0}
       → after (heard_notes session.Ts (standpoint config history) said ++ noted config history) → (later : Live)
       → facts_of config (heard_entries p said ++ history) ≡ facts_in later
       → Stands config before next after later (heard_entries p said ++ history)
-  ts_said d {p} at = said_stands session.Ts p (ts_at s at) (ts_text_due s d at)
+  ts_said d {p} at =
+      said_stands session.Ts p (ts_at s at)
+      (d ∙ ap (λ x. take_text x (from_end config history)) (ap {A = Facts} (λ x. x.ts_open) s.facts ∙ at))
 
   pub ts_sent : {p : ℕ} → live.ts_open ≡ Some p → {text : List ℕ} → due config history ≡ SendText p text
       → (sent : Outcome) → {next : Shown} → Adds now next (wrote_entries p text sent) → {after : List Note → Type 0}

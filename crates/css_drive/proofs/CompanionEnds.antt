@@ -1,5 +1,5 @@
 -- How a turn begins, and how a run ends.
-use Rattle.std.proofs.Common.{◌≡◌, ℕ, ◌+◌, ◌<◌, arith, ap, sym, ◌∙◌, refl, Bool, true, false, cond, List}
+use Rattle.std.proofs.Common.{◌≡◌, ℕ, ◌+◌, ◌<◌, ◌≤◌, arith, ap, sym, ◌∙◌, refl, Bool, true, false, cond, List}
 use Rattle.std.proofs.Common.{[], ◌∷◌, ◌++◌, length, Option, Some, None, add-one}
 use Rattle.std.proofs.lemmas.Bool.{ltb-true}
 use Rattle.std.proofs.lemmas.Grind.{common_steps}
@@ -194,6 +194,12 @@ never_late l (Some reading) turn r e late = by l r (ap (λ o. is_late l (Some re
     by (limit.Seconds n) r e = grind (arith, common_steps, r.0, e)
 
 -- ---- whether the run goes on
+is_fewer : (n m : ℕ) → n < m → nat_lt n m ≡ true
+is_fewer n m lt = grind (arith, common_steps, lt)
+
+is_no_fewer : (n m : ℕ) → m ≤ n → nat_lt n m ≡ false
+is_no_fewer n m le = grind (arith, common_steps, le)
+
 module _ {config : DriveConfig} {before now : Shown} {saw : List Note → Type 0} {live : Live} {history : History}
     (s : Stands config before now saw live history) where
   short_so : (b : Bool) → nat_lt live.reported config.reports ≡ b → is_short config history ≡ b
@@ -229,10 +235,10 @@ module _ {config : DriveConfig} {before now : Shown} {saw : List Note → Type 0
   final_as b e = ap (λ x. cond x (cond (any_dialled history) (driven.Spent (turns history)) (driven.Unreachable (turns
       history))) driven.Done) (short_so b e)
 
-  pub makes_calls : due config history ≡ from_turn config history → nat_lt live.reported config.reports ≡ true
+  pub makes_calls : due config history ≡ from_turn config history → live.reported < config.reports
       → is_late config.limit live.first live.turn ≡ false → due config history ≡ from_cii config history
   makes_calls d few soon =
-      d ∙ in_turn true few
+      d ∙ in_turn true (is_fewer _ _ few)
       ∙ ap (λ b. cond (not b) (from_cii config history) (from_end config history)) (late_so false soon)
 
   pub is_last : due config history ≡ from_turn config history → is_late config.limit live.first live.turn ≡ true
@@ -241,32 +247,32 @@ module _ {config : DriveConfig} {before now : Shown} {saw : List Note → Type 0
       d ∙ ap (λ b. cond (is_short config history && not b) (from_cii config history) (from_end config history))
       (late_so true late) ∙ cut_short (is_short config history) (from_cii config history) (from_end config history)
 
-  pub is_done : due config history ≡ from_turn config history → nat_lt live.reported config.reports ≡ false
+  pub is_done : due config history ≡ from_turn config history → config.reports ≤ live.reported
       → IsHangingUp config driven.Done history
-  is_done d none = record {
+  is_done d made = let none = is_no_fewer live.reported config.reports made in record {
     over = tt;
     first = d ∙ in_turn false none ∙ at_end false none ∙ ap (λ x. from_hang_ups x history) (final_as false none);
     final_so = final_as false none;
   }
 
-  pub next_turn : due config history ≡ from_end config history → nat_lt live.reported config.reports ≡ true
+  pub next_turn : due config history ≡ from_end config history → live.reported < config.reports
       → goes_on config.limit live.first live.turn live.made ≡ true → due config history ≡ Now why.Turn
   next_turn d few again =
-      d ∙ at_end true few
+      d ∙ at_end true (is_fewer _ _ few)
       ∙ ap (λ b. cond b (Now why.Turn) (from_hang_ups (final config history) history)) (more_so true again)
 
-  pub is_over : due config history ≡ from_end config history → nat_lt live.reported config.reports ≡ true
+  pub is_over : due config history ≡ from_end config history → live.reported < config.reports
       → goes_on config.limit live.first live.turn live.made ≡ false
       → IsHangingUp config (ending_of live.made live.cii live.wc live.ts) history
   is_over d few last =
       let f : final config history ≡ ending_of live.made live.cii live.wc live.ts =
-      final_as true few
+      final_as true (is_fewer _ _ few)
       ∙ ap (λ b. cond b (driven.Spent (turns history)) (driven.Unreachable (turns history))) (any_is history)
       ∙ ap {A = Facts} (λ x. ending_of x.made x.cii x.wc x.ts) s.facts in
       record {
         over = ending_over live.made (is_some live.cii || (is_some live.wc || is_some live.ts));
         first =
-            d ∙ at_end true few
+            d ∙ at_end true (is_fewer _ _ few)
             ∙ ap (λ b. cond b (Now why.Turn) (from_hang_ups (final config history) history)) (more_so false last)
             ∙ ap (λ x. from_hang_ups x history) f;
         final_so = f;

@@ -7,14 +7,12 @@ use Rattle.std.proofs.lemmas.Bool.{ne_eqb}
 use Rattle.css_model.specs.declared.Kind.{Kind}
 use Rattle.css_model.specs.declared.Kind.TheVariants as kind
 use Rattle.css_model.specs.Explains.{IsLawful}
-use Rattle.css_model.specs.History.{Address, Entry, Dialling, Dialled, History}
+use Rattle.css_model.specs.History.{Address, Dialling, Dialled, History}
 use Rattle.css_outside.specs.Outsides.{with_entries}
 use Rattle.css_outside.specs.declared.fault.OutFault.{OutFault}
 use Rattle.css_outside.specs.declared.fault.OutFault.TheVariants as fault
-use Rattle.css_companion.specs.Aside.{IsAside}
 use Rattle.css_companion.specs.Meanings.{kind_of}
 use Rattle.css_companion.specs.Standing.{Companion}
-use Rattle.css_companion.proofs.Telling as telling
 use Rattle.css_drive.specs.CompanionDue.{due}
 use Rattle.css_drive.specs.CompanionStanding.{Shown, facts_of, facts_in, KnowsPeers, Stands, Knows, Comes, Stops}
 use Rattle.css_drive.specs.CompanionStanding.{IsFault, IsEndBy, IsSo, Fails, Adds, HasDialled, dial_entries}
@@ -101,12 +99,6 @@ opened_dialled wanted (entry ∷ older) p e =
     by None (Some q) was first older e = older p (below (is_peer was q) was e)
 
 -- ---- what the companion knows
--- an entry that tells it nothing
-pub knows_aside : (config : DriveConfig) (companion : Companion) (entry : Entry) (history : History)
-    → Knows config companion history → IsAside entry history → Knows config companion (entry ∷ history)
-knows_aside config companion entry history k a =
-    record { stands = telling.stands_aside companion history entry k.stands a; setup = k.setup; own = k.own }
-
 -- it knows of a lawful history
 pub knows_lawful : (config : DriveConfig) (companion : Companion) (history : History) → Knows config companion history
     → IsLawful history
@@ -146,14 +138,7 @@ fails_so None ended f = by ended f
     by : (ended : Driven) → IsFault ended → IsSo None ended
     by (driven.NetFault failure) f = refl
     by driven.Memory f = tt
-    by driven.WriteFault f = absurd f
-    by driven.Done f = absurd f
-    by (driven.BadLine line why) f = absurd f
-    by (driven.BadCii text fault) f = absurd f
-    by (driven.Moved property old new) f = absurd f
-    by (driven.Spent n) f = absurd f
-    by (driven.Unreachable n) f = absurd f
-    by (driven.BadUrl property) f = absurd f
+    by _ f = absurd f
 fails_so (Some (fault.Failed failure)) ended f =
     let P : Driven → Type 0 = λ x. IsSo (Some (fault.Failed failure)) x in
     let never : Some (fault.Failed failure) ≡ None → ⊥ = λ e. cc in

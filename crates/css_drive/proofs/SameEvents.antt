@@ -113,7 +113,8 @@ same_events config live replayed reading e =
     let own = config.companion.local in
     let timing = λ (x : Known). timing_of x.control x.ended (rate_of config.companion.selector x.state.timelines) in
     let same : known_of live ≡ known_of replayed = known_same live ∙ ap known_in e ∙ sym (known_same replayed) in
-    let report = ap (λ (x : Known). report_by (wall_span own reading (possible_answers own x.landed)) (timing x)) same in
+    let report = ap (λ (x : Known).
+    report_by (wall_span own reading (possible_answers own x.landed)) (timing x)) same in
     record {
       report = report;
       line = λ number position. ap (λ report. line_of number report position) report;

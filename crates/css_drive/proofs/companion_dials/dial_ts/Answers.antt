@@ -14,7 +14,7 @@ returns-clause-goes g c before started h s k d =
     let none = none_if _ (sym c.is_some.ensures ∙ c.if-is_some.false) in
     let p : ℕ = c.in-Some-2.peer in
     let gives = rw c.in-Some.is at c.in_ok-to.ensures.gives in
-    let t = calls.ts_due s d none (ap (λ x. calls.ts_place x) (sym (c.state.ensures.meaning h k.stands)) ∙ gives) in
+    let t = calls.ts_due s d none _ (c.state.ensures.meaning h k.stands) _ gives in
     let call = rw c.in-Some-2.is at c.in_ok-peer.ensures in
     c.introduce.ensures.goes refl refl before started _
     (stands_tried s kind.Ts c.in-Some.to t (Some p) call.told (call.saw (standpoint _ (_ ∷ h)) started _ s.saw_so) _
@@ -27,7 +27,7 @@ returns-in_err-setup-clause-goes g c before started h s k d =
     let none = none_if _ (sym c.is_some.ensures ∙ c.if-is_some.false) in
     let p : ℕ = c.in-Some-2.peer in
     let gives = rw c.in-Some.is at c.in_ok-to.ensures.gives in
-    let t = calls.ts_due s d none (ap (λ x. calls.ts_place x) (sym (c.state.ensures.meaning h k.stands)) ∙ gives) in
+    let t = calls.ts_due s d none _ (c.state.ensures.meaning h k.stands) _ gives in
     let call = rw c.in-Some-2.is at c.in_ok-peer.ensures in
     at_err _ _ _ _ c.from_residual-in_err-setup.ensures.1
     (stops_by_memory (stands_tried s kind.Ts c.in-Some.to t (Some p) call.told
@@ -40,7 +40,7 @@ pub returns-in_default-2-clause-goes : goal.returns-in_default-2-clause-goes
 returns-in_default-2-clause-goes g c before started h s k d =
     let none = none_if _ (sym c.is_some.ensures ∙ c.if-is_some.false) in
     let gives = rw c.in-Some.is at c.in_ok-to.ensures.gives in
-    let t = calls.ts_due s d none (ap (λ x. calls.ts_place x) (sym (c.state.ensures.meaning h k.stands)) ∙ gives) in
+    let t = calls.ts_due s d none _ (c.state.ensures.meaning h k.stands) _ gives in
     let call = rw c.in_default-2.is at c.in_ok-peer.ensures in
     comes (stands_tried s kind.Ts c.in-Some.to t None call.told (call.saw (standpoint _ (_ ∷ h)) started _ s.saw_so) _
     s.facts) (calls.knows_tried kind.Ts c.in-Some.to None tt k) _ refl
@@ -53,8 +53,7 @@ returns-in_err-peer-clause-goes g c before started h s k d =
 pub returns-in_err-to-clause-goes : goal.returns-in_err-to-clause-goes
 returns-in_err-to-clause-goes g c before started h s k d =
     let none = none_if _ (sym c.is_some.ensures ∙ c.if-is_some.false) in
-    let t = calls.ts_due s d none (ap (λ x. calls.ts_place x) (sym (c.state.ensures.meaning h k.stands))) in
     let gives = c.in_err-to.ensures.gives in
     at_err _ _ _ c.from_residual.result c.from_residual.ensures.1
-    (stops_here s (knows_lawful _ _ h k) _ _ (calls.bad_own _ _ _ gives) (ends_by _ _ _ t (calls.bad_place _
-    _ _ _ _ gives)))
+    (stops_here s (knows_lawful _ _ h k) _ _ (calls.bad_own _ _ _ gives) (ends_by _ _ _
+    (calls.ts_due s d none _ (c.state.ensures.meaning h k.stands) _ refl) (calls.bad_place _ _ _ _ _ gives)))

@@ -1,5 +1,6 @@
 use Rattle.std.proofs.Common.{refl, inl, ℕ, List, None, ◌∷◌}
 use Rattle.std.proofs.lemmas.Result.{on_ok_weaker}
+use Rattle.css_model.specs.declared.Kind.TheVariants as kind
 use Rattle.css_model.specs.History.{Quiet, Heard, Closed}
 use Rattle.css_outside.specs.declared.calls.Heard.TheVariants as heard
 use Rattle.css_drive.specs.CompanionStanding.{HasLost, Knows}
@@ -16,7 +17,7 @@ returns-in-Quiet-clause-goes g c before started h s k d =
     let call = rw c.in-Quiet.is at c.in_ok-hear.ensures in
     comes (calls.ts_said s d at heard.Quiet call.told (call.saw (standpoint cfg h) k started _ s.saw_so) _ s.facts)
     (calls.knows_plain (Quiet p) k refl refl refl refl refl refl refl) _
-    (calls.asked_ts cfg (Quiet p) p h refl (calls.open_ts s at))
+    (calls.asked cfg (Quiet p) p h kind.Ts refl (calls.open_ts s at))
 
 pub returns-in-Closed-clause-goes : goal.returns-in-Closed-clause-goes
 returns-in-Closed-clause-goes g c before started h s k d =
@@ -30,7 +31,7 @@ returns-in-Closed-clause-goes g c before started h s k d =
     calls.told_goes (calls.ts_said s d at heard.Closed call.told (call.saw (standpoint cfg h) k started _ s.saw_so)
     (record live { ts_open = None }) (calls.ts_over s at))
     (calls.lawful_plain (Closed p) h (knows_lawful _ _ h k) refl refl) _ _ _ _
-    (calls.asked_ts cfg (Closed p) p h refl is) c.lose_ts.result
+    (calls.asked cfg (Closed p) p h kind.Ts refl is) c.lose_ts.result
     (on_ok_weaker _ (λ (x : P). (x.known cfg h (Closed p) k (p, inl refl, is), x.only)) c.lose_ts.ensures.ok)
     c.lose_ts.ensures.err
 
@@ -44,7 +45,7 @@ returns-in-Text-clause-goes g c before started h s k d =
     let call = rw c.in-Text.is at c.in_ok-hear.ensures in
     calls.told_goes (calls.ts_said s d c.in-Some.is (heard.Text text) call.told
     (call.saw (standpoint cfg h) k started _ s.saw_so) live s.facts)
-    (calls.lawful_plain (Heard p text) h (knows_lawful _ _ h k) refl refl) _ _ _ _ (calls.heard_ts cfg p text h is)
+    (calls.lawful_plain (Heard p text) h (knows_lawful _ _ h k) refl refl) _ _ _ _ (calls.heard cfg p text h kind.Ts is)
     c.take_in_ts.result (on_ok_weaker _ (λ (known : Knows cfg c.take_in_ts.new.companion (Heard p text ∷ h)). (
       known,
       refl,

@@ -9,7 +9,8 @@ pub returns-in-Ok-None-clause-goes : goal.returns-in-Ok-None-clause-goes
 returns-in-Ok-None-clause-goes g c before started h s k d =
     let call = c.in-Ok-None.ensures in
     comes (stands_adds s TakeDatagram (calls.take_due s d c.in-Some.is) (TookNone ∷ []) ([], None, refl) s.peers
-    (calls.plain_adds (rw c.in-Ok-None.field-0-is at call.told) call.counted.same call.counted.faults) s.saw_so _ s.facts)
+    (calls.plain_adds (rw c.in-Ok-None.field-0-is at call.told) call.counted.same call.counted.faults) s.saw_so _
+    s.facts)
     (calls.knows_plain TookNone k refl refl refl refl refl refl refl) _ refl
 
 pub returns-in-Ok-Some-clause-goes : goal.returns-in-Ok-Some-clause-goes
@@ -21,8 +22,8 @@ returns-in-Ok-Some-clause-goes g c before started h s k d =
     c.land.ensures.goes before started h q
     (stands_adds s TakeDatagram (calls.take_due s d c.in-Some.is) (Took q bytes ∷ [])
     (c.take_datagram.new.into, Some (q, n), refl) s.peers
-    (calls.plain_adds (rw c.in-Ok-Some.field-0-is at call.told) call.counted.same call.counted.faults) s.saw_so _ s.facts)
-    k
+    (calls.plain_adds (rw c.in-Ok-Some.field-0-is at call.told) call.counted.same call.counted.faults) s.saw_so _
+    s.facts) k
 
 pub returns-in-Err-clause-goes : goal.returns-in-Err-clause-goes
 returns-in-Err-clause-goes g c before started h s k d =

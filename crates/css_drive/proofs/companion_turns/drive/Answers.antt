@@ -1,8 +1,5 @@
-use Rattle.std.proofs.Common.{◌≡◌, ◌≤◌, refl, sym, ◌∙◌, subst, arith, true, false}
-use Rattle.std.specs.Prelude.{nat_lt}
-use Rattle.std.proofs.lemmas.Grind.{common_steps}
+use Rattle.std.proofs.Common.{◌≤◌, refl, sym, ◌∙◌, subst, arith}
 use Rattle.css_drive.specs.CompanionStanding.{IsHangingUp}
-use Rattle.css_drive.specs.CompanionTurns.{goes_on}
 use Rattle.css_drive.specs.Ends.{CountsDialFaults}
 use Rattle.css_drive.specs.declared.driven.Driven.{Driven}
 use Rattle.css_drive.proofs.CompanionSteps.{knows_lawful}
@@ -19,17 +16,10 @@ turns-init g c = record {
   tried = λ begun. absurd (begun refl);
 }
 
-pub goes_on-requires : goal.goes_on-requires
-goes_on-requires g c = c.args.config.now.limit_range
-
 pub turns-preserved : goal.turns-preserved
 turns-preserved g c =
-    let cfg = c.args.config.now in
     let w = c.turns.invariant.run in
-    let more : goes_on cfg.limit c.turns.live.first c.turns.live.turn c.turns.live.made ≡ true = sym c.goes_on.ensures
-    ∙ c.turns-test.true in
-    let few : nat_lt c.turns.live.reported cfg.reports ≡ true = grind (arith, common_steps) in
-    let d = ends.next_turn w.stands w.next few more in
+    let d = ends.next_turn w.stands w.next c.turns.invariant.reported (sym c.goes_on.ensures ∙ c.turns-test.true) in
     record {
       run = c.in-Ok.ensures.goes _ _ w.history w.stands w.known d;
       floor = c.in-Ok.ensures.floor;
@@ -38,27 +28,15 @@ turns-preserved g c =
       tried = c.in-Ok.ensures.tried _ c.turns.invariant.dials c.turns.invariant.tried;
     }
 
-pub turn-requires-clause-floor : goal.turn-requires-clause-floor
-turn-requires-clause-floor g c = c.turns.invariant.floor
-
 pub turn-requires-clause-made : goal.turn-requires-clause-made
 turn-requires-clause-made g c =
     ends.below_most _ _ _ _ c.args.config.now.limit_range (sym c.goes_on.ensures ∙ c.turns-test.true)
-
-pub turn-requires-clause-reported : goal.turn-requires-clause-reported
-turn-requires-clause-reported g c = c.turns.invariant.reported
-
-pub turn-requires-clause-bounds : goal.turn-requires-clause-bounds
-turn-requires-clause-bounds g c = c.requires.bounds
 
 pub returns-in-Err : goal.returns-in-Err
 returns-in-Err g c =
     let cfg = c.args.config.now in
     let w = c.turns.invariant.run in
-    let more : goes_on cfg.limit c.turns.live.first c.turns.live.turn c.turns.live.made ≡ true = sym c.goes_on.ensures
-    ∙ c.turns-test.true in
-    let few : nat_lt c.turns.live.reported cfg.reports ≡ true = grind (arith, common_steps) in
-    let d = ends.next_turn w.stands w.next few more in
+    let d = ends.next_turn w.stands w.next c.turns.invariant.reported (sym c.goes_on.ensures ∙ c.turns-test.true) in
     let s = c.in-Err.ensures.goes _ _ w.history w.stands w.known d in
     let le : (g.O.Outside.counts c.args.outside.now).dial_faults ≤ (g.O.Outside.counts c.turn.new.outside).dial_faults =
     omega (arith, c.turns.invariant.dials, c.turn.ensures.dials) in
@@ -75,15 +53,14 @@ returns g c =
     let cfg = c.args.config.now in
     let i = c.turns.invariant in
     let w = i.run in
-    let over : goes_on cfg.limit c.turns.live.first c.turns.live.turn c.turns.live.made ≡ false = sym c.goes_on.ensures
-    ∙ c.turns-test.false in
-    let few : nat_lt c.turns.live.reported cfg.reports ≡ true = grind (arith, common_steps) in
+    let over = sym c.goes_on.ensures ∙ c.turns-test.false in
     let P : Driven → Type 0 = λ x. IsHangingUp cfg x w.history in
-    let hanging = subst P (sym c.ending-end.ensures) (ends.is_over w.stands w.next few over) in
+    let hanging = subst P (sym c.ending-end.ensures) (ends.is_over w.stands w.next i.reported over) in
     let s = c.hang_up-ended.ensures.stops _ _ w.history w.stands (knows_lawful cfg _ _ w.known) hanging in
     let begun = ends.has_begun w.stands over in
-    let le : (g.O.Outside.counts c.args.outside.now).dial_faults ≤ (g.O.Outside.counts c.hang_up-ended.new.outside).dial_faults
-    = omega (arith, i.dials, c.hang_up-ended.ensures.dials) in
+    let now = g.O.Outside.counts c.hang_up-ended.new.outside in
+    let le : (g.O.Outside.counts c.args.outside.now).dial_faults ≤ now.dial_faults =
+    omega (arith, i.dials, c.hang_up-ended.ensures.dials) in
     let hung = runs.hung_dials _ _ c.turns.live.made c.turns.live.cii c.turns.live.wc c.turns.live.ts _ _ _ le
     (λ none. runs.risen_to _ _ _ c.hang_up-ended.ensures.dials (i.tried begun none)) c.ending-end.ensures
     c.hang_up-ended.ensures.kind in

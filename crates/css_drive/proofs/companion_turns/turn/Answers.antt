@@ -1,5 +1,4 @@
-use Rattle.std.proofs.Common.{◌≡◌, ◌<◌, sym, ◌∙◌, arith, true, false}
-use Rattle.std.specs.Prelude.{nat_lt}
+use Rattle.std.proofs.Common.{◌≡◌, ◌<◌, sym, ◌∙◌, arith, true}
 use Rattle.std.proofs.lemmas.Grind.{common_steps}
 use Rattle.std.proofs.lemmas.Result.{err_from_is_err_and}
 use Rattle.css_drive.specs.CompanionTurns.{is_late}
@@ -28,9 +27,8 @@ returns-then-live-config g c = record {
   goes = λ before started h s k d.
       let cfg = c.args.config.now in
       let a = c.in_ok-start.ensures.goes before started h s k d in
-      let few : nat_lt c.start.new.live.reported cfg.reports ≡ false = grind (arith, common_steps) in
       c.hang_up.ensures.stops before started a.history a.stands (knows_lawful cfg _ a.history a.known)
-      (ends.is_done a.stands a.next few);
+      (ends.is_done a.stands a.next (omega arith));
   floor = tt;
   made = tt;
   reported = tt;
@@ -71,9 +69,8 @@ returns g c =
     grind (arith, common_steps, c.calls.ensures.stays.keeps.reported) in
     record {
       goes = c.in_ok-start.ensures.goes >=> (λ before started h s k d.
-          let few : nat_lt c.start.new.live.reported c.args.config.now.reports ≡ true = grind (arith, common_steps) in
           c.calls.ensures.goes before started h s k
-          (ends.makes_calls s d few (sym c.is_late.ensures ∙ c.if-is_late.false)));
+          (ends.makes_calls s d (omega arith) (sym c.is_late.ensures ∙ c.if-is_late.false)));
       floor = c.calls.ensures.stays.floor c.in_ok-start.ensures.floor;
       made = runs.on_ok c.calls.result (c.calls.ensures.stays.keeps.made ∙ c.in_ok-start.ensures.made);
       reported = runs.on_ok c.calls.result less;
