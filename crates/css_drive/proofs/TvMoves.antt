@@ -1,11 +1,10 @@
 -- How a television's run comes on from part to part of its loop.
 use Rattle.std.proofs.Common.{◌≡◌, ℕ, ◌+◌, ◌≤◌, ◌<◌, Bool, true, false, cond, List, [], ◌∷◌, ◌++◌, Option, Some, None}
 use Rattle.std.proofs.Common.{refl, sym, ap, ap₂, subst, ◌∙◌, arith, Result, Ok, Err}
-use Rattle.std.specs.Prelude.{◌==◌, nat_lt, not, ◌&&◌, is_some, OnOk, ◌↔◌}
+use Rattle.std.specs.Prelude.{nat_lt, not, ◌&&◌, is_some, ◌↔◌}
 use Rattle.std.proofs.lemmas.List.Elements.{All-push}
 use Rattle.std.specs.Option.{option_map, option_to_list}
 use Rattle.css_model.specs.Wire.{encoded}
-use Rattle.css_model.specs.declared.TheConstants.{LIMIT}
 use Rattle.css_model.specs.declared.Kind.{Kind as PeerKind}
 use Rattle.css_model.specs.declared.Kind.TheVariants as peer_kind
 use Rattle.css_model.specs.declared.Why.TheVariants as why
@@ -25,7 +24,7 @@ use Rattle.css_drive.specs.Proper.{Now, MayAdd, TakeDatagram}
 use Rattle.css_drive.specs.TvProgress.{Place, Turned, Received, Answers, Served, Asked, Progress, settled, happened, opened}
 use Rattle.css_drive.specs.TvProgress.{answering, addresses_in, open_after}
 use Rattle.css_drive.specs.TvDue.{TvRun, due_for, from_hang_ups}
-use Rattle.css_drive.specs.TvTurns.{begun, goes_on, is_over, IsRanged, IsOneMore}
+use Rattle.css_drive.specs.TvTurns.{begun, goes_on, is_over}
 use Rattle.css_drive.specs.TvPeers.{Knows, has}
 use Rattle.css_drive.specs.TvStanding.{Adds, IsRead, Told, Airs, IsAt, Settles, Happens, IsTurned, IsAtEnd, Arrives, IsUnused}
 use Rattle.css_drive.specs.TvStanding.{progress_at, with_peers}
@@ -197,17 +196,3 @@ over_at_end {run} {air = air} x over =
       ends = ap (λ b. cond b (from_hang_ups live) TakeDatagram) over
           ∙ sym (ap (λ b. cond b (Now why.Turn) (from_hang_ups live)) (ap (λ b. some && not b) over ∙ never some));
     }
-
-pub ranged_on : (t now : Turns) → IsRanged t → IsOneMore t now → IsRanged now
-ranged_on t now k more = subst IsRanged (sym more.2) (record {
-  limit = k.limit;
-  first = by (t.made == 0);
-  last = more.1;
-}) where
-  by : (b : Bool) → cond b more.0 t.first < LIMIT
-  by true = more.1
-  by false = k.first
-
-pub on_ok : {T : Type 0} {P : Type 0} → P → (result : Result T Driven) → OnOk result P
-on_ok x (Ok t) = x
-on_ok x (Err e) = tt
