@@ -4,6 +4,7 @@ use Rattle.std.proofs.Common.{sym, ap, ap₂, subst, ◌∙◌, arith, append_as
 use Rattle.std.specs.Prelude.{◌≢◌, ◌&&◌, ⊤}
 use Rattle.css_model.specs.declared.Why.{Why}
 use Rattle.css_model.specs.History.{History, Accepted, Clock}
+use Rattle.css_outside.specs.Faults.{CountsOutFault}
 use Rattle.css_outside.specs.Outsides.{Counts, CountsPlain, with_entries, clock_entries}
 use Rattle.css_outside.specs.declared.calls.Clocked.{Clocked}
 use Rattle.css_outside.specs.declared.fault.OutFault.{OutFault}
@@ -159,11 +160,12 @@ cause_by before now ended dials peers counted none = record {
 }
 
 -- so did one that does nothing else
-pub cause_plain : {T : Type 0} {U : Type 0} {result : Result U OutFault} (before now : Counts) (ended : Driven)
-    → CountsPlain before now result → CountsNetFault before.faults now.faults ended → ended ≢ driven.WriteFault
+pub cause_plain : {T : Type 0} {U : Type 0} {before now : Counts} {fault : OutFault} {ended : Driven}
+    → CountsPlain {T = U} before now (Err fault)
+    → ((n m : ℕ) → CountsOutFault n m fault → CountsNetFault n m ended) → ended ≢ driven.WriteFault
     → HasCause {T = T} before now (Err ended)
-cause_plain before now ended k counted none =
-    cause_by before now ended (ap (λ x. x.dial_faults) k.same) (ap (λ x. x.peers) k.same) counted none
+cause_plain {before = before} {now} {ended = ended} k counted none =
+    cause_by before now ended (ap (λ x. x.dial_faults) k.same) (ap (λ x. x.peers) k.same) (counted _ _ k.faults) none
 
 -- no call had failed before
 pub cause_later : {T : Type 0} (before mid now : Counts) (ended : Driven) → KeepsCounts before mid
