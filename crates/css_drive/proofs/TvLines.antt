@@ -14,8 +14,8 @@ use Rattle.css_tv.specs.declared.event.TvEvent.{TvEvent}
 use Rattle.css_tv.specs.declared.event.TvOut.{TvOut}
 use Rattle.css_tv.specs.declared.fault.TvFault.{TvFault}
 use Rattle.css_tv.specs.declared.fault.TvFault.TheVariants as fault
-use Rattle.css_drive.specs.TvProgress.{Turned, Progress, settled, carry, with_line, played, played_if, event_of, happened}
-use Rattle.css_drive.specs.TvProgress.{addresses_in, is_due}
+use Rattle.css_drive.specs.TvProgress.{Turned, Progress, settled, carry, with_line, played, played_if, event_of}
+use Rattle.css_drive.specs.TvProgress.{happened, addresses_in, is_due}
 use Rattle.css_drive.specs.TvTurns.{since}
 use Rattle.css_drive.specs.TvDue.{TvRun, due_for}
 use Rattle.css_drive.specs.TvRan.{TvRan}
@@ -44,7 +44,10 @@ module _ {run : TvRun} {start told : Option History} {peers : ℕ} {air : OnAir}
   -- ---- a line that is due
   -- a line that is due is what the run has come to next
   carried : {r : ℕ} {line : ScriptLine} → (x : Carries run start told peers air r line)
-      → let a = addresses_in run.config in let left = drop (air.lines + 1) run.script in let p = progress_at run air (Turned r) [] x.settles.events in Told run start told peers (carry a (since air.turns) r left (with_line a r line left p)) x.settles.h
+      → let a = addresses_in run.config in
+      let left = drop (air.lines + 1) run.script in
+      let p = progress_at run air (Turned r) [] x.settles.events in
+      Told run start told peers (carry a (since air.turns) r left (with_line a r line left p)) x.settles.h
   carried {r = r} {line = line} x =
       let a = addresses_in run.config in
       let from = since air.turns in

@@ -1,6 +1,6 @@
 -- The loops over the peers of sessions.
-use Rattle.std.proofs.Common.{◌≡◌, ℕ, ◌+◌, ◌≤◌, true, false, cond, List, [], ◌∷◌, Option, Some, None, refl, sym, ap, subst, ◌∙◌}
-use Rattle.std.proofs.Common.{drop}
+use Rattle.std.proofs.Common.{◌≡◌, ℕ, ◌+◌, ◌≤◌, true, false, cond, List, [], ◌∷◌, Option, Some, None, refl, sym, ap}
+use Rattle.std.proofs.Common.{subst, ◌∙◌, drop}
 use Rattle.std.specs.Prelude.{filter}
 use Rattle.std.specs.List.{remove}
 use Rattle.css_model.specs.declared.Why.TheVariants as why
@@ -66,7 +66,8 @@ module _ {run : TvRun} {start told : Option History} {peers : ℕ} {air : OnAir}
           });
         };
         left = x.left ∙ ap (filter (λ peer. has peer live)) e ∙ lists.next_lacks peer live rest lacks
-            ∙ ap (filter (λ peer. has peer live)) (sym (lists.drop_removed at peer xs rest e) ∙ ap (drop at) (sym items));
+            ∙ ap (filter (λ peer. has peer live))
+            (sym (lists.drop_removed at peer xs rest e) ∙ ap (drop at) (sym items));
       }
 
   pub all_heard : {at : ℕ} → Hears run start told peers air at → drop at air.peers.items ≡ []
@@ -84,8 +85,9 @@ module _ {run : TvRun} {start told : Option History} {peers : ℕ} {air : OnAir}
   all_to_hang_up x over = record {
     place = x.place;
     is_at = x.is_at;
-    left = x.ends ∙ ap (λ b. cond b (Now why.Turn) (from_hang_ups (open_after (addresses_in run.config) x.is_at.events)))
-        over ∙ ap from_hang_ups (sym x.is_at.knows.covers);
+    left = let live = open_after (addresses_in run.config) x.is_at.events in
+        x.ends ∙ ap (λ b. cond b (Now why.Turn) (from_hang_ups live)) over
+        ∙ ap from_hang_ups (sym x.is_at.knows.covers);
   }
 
   pub hung_next : {told' : Option History} {peers' : ℕ} {at : ℕ} → (x : HangsUp run start told peers air at)

@@ -21,13 +21,13 @@ use Rattle.css_tv.specs.declared.event.TvEvent.{TvEvent}
 use Rattle.css_tv.specs.declared.event.TvEvent.TheVariants as event
 use Rattle.css_tv.specs.declared.event.TvOut.{TvOut}
 use Rattle.css_drive.specs.Proper.{Now, MayAdd, TakeDatagram}
-use Rattle.css_drive.specs.TvProgress.{Place, Turned, Received, Answers, Served, Asked, Progress, settled, happened, opened}
-use Rattle.css_drive.specs.TvProgress.{answering, addresses_in, open_after}
+use Rattle.css_drive.specs.TvProgress.{Place, Turned, Received, Answers, Served, Asked, Progress, settled, happened}
+use Rattle.css_drive.specs.TvProgress.{opened, answering, addresses_in, open_after}
 use Rattle.css_drive.specs.TvDue.{TvRun, due_for, from_hang_ups}
 use Rattle.css_drive.specs.TvTurns.{begun, goes_on, is_over}
 use Rattle.css_drive.specs.TvPeers.{Knows, has}
-use Rattle.css_drive.specs.TvStanding.{Adds, IsRead, Told, Airs, IsAt, Settles, Happens, IsTurned, IsAtEnd, Arrives, IsUnused}
-use Rattle.css_drive.specs.TvStanding.{progress_at, with_peers}
+use Rattle.css_drive.specs.TvStanding.{Adds, IsRead, Told, Airs, IsAt, Settles, Happens, IsTurned, IsAtEnd, Arrives}
+use Rattle.css_drive.specs.TvStanding.{IsUnused, progress_at, with_peers}
 use Rattle.css_drive.specs.declared.driven.Driven.{Driven}
 use Rattle.css_drive.specs.declared.on_air.OnAir.{OnAir}
 use Rattle.css_drive.specs.declared.turns.Turns.{Turns}
@@ -122,7 +122,9 @@ module _ {run : TvRun} {start told : Option History} {peers : ℕ} {air : OnAir}
   pub came_told : {told' : Option History} {peers' : ℕ} → (x : IsAt run start told peers air Served)
       → (peer : ℕ) (k : Kind) → told' ≡ with_entries (Accepted peer (peer_kind_of k) ∷ []) told → peers < peer
       → peers' ≡ peer
-      → let a = addresses_in run.config in Told run start told' peers' (happened a (event.Opened peer k) (progress_at run air (Asked None) [] x.events)) (Accepted peer (peer_kind_of k) ∷ x.h)
+      → let a = addresses_in run.config in
+      Told run start told' peers' (happened a (event.Opened peer k) (progress_at run air (Asked None) [] x.events))
+      (Accepted peer (peer_kind_of k) ∷ x.h)
   came_told x peer k e lt is =
       told_as _
       (told_more x.history (Accepted peer (peer_kind_of k) ∷ []) (Some (peer, peer_kind_of k), refl) e
@@ -164,7 +166,8 @@ module _ {run : TvRun} {start told : Option History} {peers : ℕ} {air : OnAir}
   pub turn_begins : {told' : Option History} {peers' : ℕ} → IsAtEnd run start told peers air
       → goes_on air.turns ≡ true → (reading : ℕ) → IsRead why.Turn told told' reading → peers ≤ peers'
       → (turns : Turns) → turns ≡ begun reading air.turns
-      → Settles run start told' peers' (record { tv = air.tv; peers = air.peers; lines = air.lines; turns = turns }) (Turned reading) []
+      → Settles run start told' peers'
+      (record { tv = air.tv; peers = air.peers; lines = air.lines; turns = turns }) (Turned reading) []
   turn_begins x goes reading read le turns is =
       let live = open_after (addresses_in run.config) x.is_at.events in
       read_on x.is_at why.Turn (x.ends ∙ ap (λ b. cond b (Now why.Turn) (from_hang_ups live)) goes) reading read le

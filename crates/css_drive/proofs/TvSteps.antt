@@ -22,14 +22,14 @@ use Rattle.css_schedule.specs.declared.line.ScriptLine.{ScriptLine}
 use Rattle.css_drive.specs.Proper.{Now, MayAdd, More}
 use Rattle.css_drive.specs.Ends.{MayEnd, CountsNetFault}
 use Rattle.css_drive.specs.TvProgress.{Place, Turned, Progress, settled, settled_at, carry, with_line, is_free, is_due}
-use Rattle.css_drive.specs.TvProgress.{open_after, addresses_in, progress_of, after, happened, outcome_after, outs_after}
-use Rattle.css_drive.specs.TvProgress.{outs_in}
+use Rattle.css_drive.specs.TvProgress.{open_after, addresses_in, progress_of, after, happened, outcome_after}
+use Rattle.css_drive.specs.TvProgress.{outs_after, outs_in}
 use Rattle.css_drive.specs.TvTurns.{since}
 use Rattle.css_drive.specs.TvDue.{TvRun, due, due_for}
 use Rattle.css_drive.specs.TvPeers.{Knows}
 use Rattle.css_drive.specs.TvRan.{AreBelow, AreNumbered, MadeTurns, TvRan}
-use Rattle.css_drive.specs.TvStanding.{HasCause, KeepsCounts, IsFault, IsRead, Told, Airs, Settles, Happens, progress_at}
-use Rattle.css_drive.specs.TvStanding.{with_tv}
+use Rattle.css_drive.specs.TvStanding.{HasCause, KeepsCounts, IsFault, IsRead, Told, Airs, Settles, Happens}
+use Rattle.css_drive.specs.TvStanding.{progress_at, with_tv}
 use Rattle.css_drive.specs.declared.driven.Driven.{Driven}
 use Rattle.css_drive.specs.declared.driven.Driven.TheVariants as driven
 use Rattle.css_drive.specs.declared.on_air.OnAir.{OnAir}
