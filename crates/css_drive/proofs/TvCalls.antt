@@ -18,8 +18,8 @@ use Rattle.css_sessions.specs.declared.session.Talk.{Talk}
 use Rattle.css_sessions.specs.declared.session.Talk.TheVariants as talk
 use Rattle.css_num.specs.declared.protocol.Kind.{Kind}
 use Rattle.css_sessions.specs.declared.session.Session.{Session}
-use Rattle.css_sessions.specs.Told.{Life, Lived, life_of, born, state_of, ended, living, set_life, grown_life, when, peers_of}
-use Rattle.css_sessions.specs.Told.{IsAccepted, sessions_of}
+use Rattle.css_sessions.specs.Told.{Life, Lived, life_of, born, state_of, ended, living, set_life, grown_life, when}
+use Rattle.css_sessions.specs.Told.{peers_of, IsAccepted, sessions_of}
 use Rattle.css_tv.specs.Stages.{max_sessions}
 use Rattle.css_tv.specs.Outcomes as outcomes
 use Rattle.css_tv.specs.Outcomes.{Outcome, outcome, by_player, programme_added, timeline_added, viewed, choice}
@@ -85,7 +85,8 @@ waits (Some talk.Waiting) e = refl
 waits _ e = absurd (cc)
 
 module _ (h : List Event) (a : Addresses) (p : Player) where
-  by_programme : (id : List ℕ) (r : Result Player PlayerFault) → IsCalled h (called_in (by_player (programme_added id) r))
+  by_programme : (id : List ℕ) (r : Result Player PlayerFault)
+      → IsCalled h (called_in (by_player (programme_added id) r))
   by_programme id (Err fault) = Nothing
   by_programme id (Ok q) = Nothing
 

@@ -73,7 +73,9 @@ has-last q (y ∷ live) = ap (λ b. eqb y q || b) (has-last q live) ∙ or-true 
   or-true false = refl
 
 apart : (q : ℕ) (xs live : List ℕ) → All (λ x. x < q) xs → All (λ x. has x (live ++ q ∷ []) ≡ has x live) xs
-apart q xs live h = All-weaker (λ x. x < q) (λ x. has x (live ++ q ∷ []) ≡ has x live) (λ x lt. has-more x q live (grind (arith, nat_tests))) xs h
+apart q xs live h =
+    All-weaker (λ x. x < q) (λ x. has x (live ++ q ∷ []) ≡ has x live)
+    (λ x lt. has-more x q live (grind (arith, nat_tests))) xs h
 
 covers_opened : (q : ℕ) (peers live : List ℕ) → All (λ x. x < q) peers → Covers peers live
     → Covers (peers ++ q ∷ []) (live ++ q ∷ [])

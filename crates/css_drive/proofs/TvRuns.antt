@@ -1,10 +1,8 @@
 -- How a television's run begins.
-use Rattle.std.proofs.Common.{◌≡◌, Bool, ℕ, ◌≤◌, [], ◌∷◌, Option, Some, None, refl, sym, ap, ap₂, subst, ◌∙◌, arith, drop}
+use Rattle.std.proofs.Common.{◌≡◌, ℕ, ◌≤◌, [], ◌∷◌, Option, Some, None, refl, sym, ap, ap₂, subst, ◌∙◌, arith, drop}
 use Rattle.std.proofs.lemmas.List.Elements.{All-nil}
 use Rattle.css_model.specs.History.{History, Listening}
-use Rattle.css_outside.specs.Limits.{IsLimit}
 use Rattle.css_outside.specs.Outsides.{with_entries}
-use Rattle.css_outside.specs.declared.limit.Limit.{Limit}
 use Rattle.css_server.specs.Tickets.{Server}
 use Rattle.css_tv.specs.Serving.{server_of}
 use Rattle.css_tv.specs.Standing.{StandsFor}
@@ -12,7 +10,7 @@ use Rattle.css_drive.specs.Proper.{Empty}
 use Rattle.css_drive.specs.TvProgress.{Listens, addresses_in, beginning}
 use Rattle.css_drive.specs.TvDue.{TvRun}
 use Rattle.css_drive.specs.TvPeers.{Knows}
-use Rattle.css_drive.specs.TvTurns.{no_turns, IsRanged}
+use Rattle.css_drive.specs.TvTurns.{no_turns}
 use Rattle.css_drive.specs.TvStanding.{Told, IsAtEnd}
 use Rattle.css_drive.specs.declared.on_air.OnAir.{OnAir}
 use Rattle.css_drive.specs.declared.turns.Turns.{Turns}
@@ -59,8 +57,3 @@ begun run start told peers grew air addresses stands server none turns zero = re
   };
   ends = refl;
 }
-
-pub none_ranged : (t : Turns) (limit : Limit) (relative : Bool) → t ≡ no_turns limit relative → IsLimit limit
-    → IsRanged t
-none_ranged t limit relative e k =
-    subst IsRanged (sym e) (record { limit = k; first = omega arith; last = omega arith })

@@ -12,8 +12,8 @@ use Rattle.css_drive.specs.Proper.{Due, Now, Dial, Accept, TakeDatagram, TakeTex
 use Rattle.css_drive.specs.Proper.{IsProper, Empty, More}
 use Rattle.css_drive.specs.TvProgress.{Place, Listens, Turned, Answers, Asked, Over, addresses_in, progress_of}
 use Rattle.css_drive.specs.TvProgress.{open_after}
-use Rattle.css_drive.specs.TvDue.{TvRun, due, due_at, from_end, from_hang_ups, from_texts, from_answers}
-use Rattle.css_drive.specs.TvDue.{unless_owed, unless_refused}
+use Rattle.css_drive.specs.TvDue.{TvRun, due, due_at, from_end, from_hang_ups, from_texts, from_answers, unless_owed}
+use Rattle.css_drive.specs.TvDue.{unless_refused}
 use Rattle.css_drive.specs.TvTurns.{goes_on, is_over}
 use Rattle.css_drive.specs.declared.turns.Turns.{Turns}
 use Rattle.css_drive.specs.TvPeers.{above}
@@ -22,8 +22,7 @@ use Rattle.css_drive.specs.TvTold.{sent_to, is_gone, lost, SessionsAreTold}
 use Rattle.css_drive.specs.declared.driven.Driven.TheVariants as driven
 use Rattle.css_drive.proofs.TvNews.{news_of}
 use Rattle.css_drive.proofs.TvTold.{Tells}
-use Rattle.css_drive.proofs.TvTellings.{Good, read_good, opening_good, datagram_good, heard_good, wrote_good}
-use Rattle.css_drive.proofs.TvTellings.{hung_good}
+use Rattle.css_drive.proofs.TvTellings.{Good, read_good, opening_good, datagram_good, heard_good, wrote_good, hung_good}
 
 -- ---- what is due where nothing is owed
 -- it is no text

@@ -4,6 +4,7 @@ use Rattle.std.proofs.Common.{sym, ap, ap₂, subst, ◌∙◌, arith, append_as
 use Rattle.std.specs.Prelude.{◌≢◌, ◌&&◌, ⊤}
 use Rattle.css_model.specs.declared.Why.{Why}
 use Rattle.css_model.specs.History.{History, Accepted, Clock}
+use Rattle.css_outside.specs.Faults.{CountsOutFault}
 use Rattle.css_outside.specs.Outsides.{Counts, CountsPlain, with_entries, clock_entries}
 use Rattle.css_outside.specs.declared.calls.Clocked.{Clocked}
 use Rattle.css_outside.specs.declared.fault.OutFault.{OutFault}
@@ -21,14 +22,14 @@ use Rattle.css_schedule.specs.declared.line.ScriptLine.{ScriptLine}
 use Rattle.css_drive.specs.Proper.{Now, MayAdd, More}
 use Rattle.css_drive.specs.Ends.{MayEnd, CountsNetFault}
 use Rattle.css_drive.specs.TvProgress.{Place, Turned, Progress, settled, settled_at, carry, with_line, is_free, is_due}
-use Rattle.css_drive.specs.TvProgress.{open_after, addresses_in, progress_of, after, happened, outcome_after, outs_after}
-use Rattle.css_drive.specs.TvProgress.{outs_in}
+use Rattle.css_drive.specs.TvProgress.{open_after, addresses_in, progress_of, after, happened, outcome_after}
+use Rattle.css_drive.specs.TvProgress.{outs_after, outs_in}
 use Rattle.css_drive.specs.TvTurns.{since}
 use Rattle.css_drive.specs.TvDue.{TvRun, due, due_for}
 use Rattle.css_drive.specs.TvPeers.{Knows}
 use Rattle.css_drive.specs.TvRan.{AreBelow, AreNumbered, MadeTurns, TvRan}
-use Rattle.css_drive.specs.TvStanding.{HasCause, KeepsCounts, IsFault, IsRead, Told, Airs, Settles, Happens, progress_at}
-use Rattle.css_drive.specs.TvStanding.{with_tv}
+use Rattle.css_drive.specs.TvStanding.{HasCause, KeepsCounts, IsFault, IsRead, Told, Airs, Settles, Happens}
+use Rattle.css_drive.specs.TvStanding.{progress_at, with_tv}
 use Rattle.css_drive.specs.declared.driven.Driven.{Driven}
 use Rattle.css_drive.specs.declared.driven.Driven.TheVariants as driven
 use Rattle.css_drive.specs.declared.on_air.OnAir.{OnAir}
@@ -159,11 +160,12 @@ cause_by before now ended dials peers counted none = record {
 }
 
 -- so did one that does nothing else
-pub cause_plain : {T : Type 0} {U : Type 0} {result : Result U OutFault} (before now : Counts) (ended : Driven)
-    → CountsPlain before now result → CountsNetFault before.faults now.faults ended → ended ≢ driven.WriteFault
+pub cause_plain : {T : Type 0} {U : Type 0} {before now : Counts} {fault : OutFault} {ended : Driven}
+    → CountsPlain {T = U} before now (Err fault)
+    → ((n m : ℕ) → CountsOutFault n m fault → CountsNetFault n m ended) → ended ≢ driven.WriteFault
     → HasCause {T = T} before now (Err ended)
-cause_plain before now ended k counted none =
-    cause_by before now ended (ap (λ x. x.dial_faults) k.same) (ap (λ x. x.peers) k.same) counted none
+cause_plain {before = before} {now} {ended = ended} k counted none =
+    cause_by before now ended (ap (λ x. x.dial_faults) k.same) (ap (λ x. x.peers) k.same) (counted _ _ k.faults) none
 
 -- no call had failed before
 pub cause_later : {T : Type 0} (before mid now : Counts) (ended : Driven) → KeepsCounts before mid

@@ -1,6 +1,6 @@
 -- The texts of a session over a television's whole run.
-use Rattle.std.proofs.Common.{◌≡◌, ℕ, ◌≤◌, ◌<◌, Bool, true, false, cond, eqb, List, [], ◌∷◌, ◌++◌, length, Option}
-use Rattle.std.proofs.Common.{Some, None, refl, sym, ap, subst, ◌∙◌, arith, append-nil}
+use Rattle.std.proofs.Common.{◌≡◌, ℕ, ◌≤◌, ◌<◌, Bool, true, false, cond, eqb, List, [], ◌∷◌, ◌++◌, length, Option, Some}
+use Rattle.std.proofs.Common.{None, refl, sym, ap, subst, ◌∙◌, arith, append-nil}
 use Rattle.std.specs.Prelude.{◌||◌, reverse, option_map}
 use Rattle.std.proofs.lemmas.Bool.Decides.{nat_tests}
 use Rattle.css_model.specs.declared.Kind.{Kind as PeerKind}
@@ -20,14 +20,15 @@ use Rattle.css_tv.specs.declared.event.TvEvent.TheVariants as event
 use Rattle.css_tv.specs.declared.event.TvOut.{TvOut}
 use Rattle.css_tv.specs.declared.event.TvOut.TheVariants as out
 use Rattle.css_tv.specs.declared.state.Addresses.{Addresses}
-use Rattle.css_drive.specs.TvProgress.{Progress, happened, settled, one_done, without_first, hung_up, addresses_in, progress_of}
+use Rattle.css_drive.specs.TvProgress.{Progress, happened, settled, one_done, without_first, hung_up, addresses_in}
+use Rattle.css_drive.specs.TvProgress.{progress_of}
 use Rattle.css_drive.specs.TvDue.{TvRun}
 use Rattle.css_drive.specs.TvRan.{AreBelow, AreNumbered}
 use Rattle.css_drive.specs.TvTold.{sent_by, sent_to, is_gone, lost}
 use Rattle.css_drive.proofs.TvCalls.{IsOther, is_fresh, is_other, none_over, event_keeps}
 use Rattle.css_drive.proofs.TvNews.{news_of}
-use Rattle.css_drive.proofs.TvTold.{Telling, Tells, IsKept, At, gone_life, none_there, none_more}
-use Rattle.css_drive.proofs.TvTold.{tells_event, kept_settled, kept_clock}
+use Rattle.css_drive.proofs.TvTold.{Telling, Tells, IsKept, At, gone_life, none_there, none_more, tells_event}
+use Rattle.css_drive.proofs.TvTold.{kept_settled, kept_clock}
 
 -- ---- peers that never came
 -- no session of this peer was opened

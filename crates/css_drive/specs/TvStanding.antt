@@ -12,8 +12,8 @@ use Rattle.css_tv.specs.declared.event.TvEvent.{TvEvent}
 use Rattle.css_schedule.specs.declared.line.ScriptLine.{ScriptLine}
 use Rattle.css_drive.specs.Proper.{IsProper, TakeText}
 use Rattle.css_drive.specs.Ends.{CountsNetFault}
-use Rattle.css_drive.specs.TvProgress.{Place, Turned, Asked, Progress, settled, happened, is_due, open_after, addresses_in}
-use Rattle.css_drive.specs.TvProgress.{progress_of}
+use Rattle.css_drive.specs.TvProgress.{Place, Turned, Asked, Progress, settled, happened, is_due, open_after}
+use Rattle.css_drive.specs.TvProgress.{addresses_in, progress_of}
 use Rattle.css_drive.specs.TvTurns.{since}
 use Rattle.css_drive.specs.TvDue.{TvRun, due, due_for, due_at, from_end, from_hang_ups}
 use Rattle.css_drive.specs.TvPeers.{Knows, above, has}

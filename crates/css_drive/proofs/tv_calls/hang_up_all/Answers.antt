@@ -59,5 +59,4 @@ returns-clause-ends g c run start enough s =
 pub returns-in-Err-clause-cause : goal.returns-in-Err-clause-cause
 returns-in-Err-clause-cause g c =
     cause_later _ _ _ _ c.loop-peer.invariant.counts
-    (cause_plain _ _ _ c.in-Err.ensures.counted (c.fault_of.ensures.counted _ _ c.in-Err.ensures.counted.faults)
-    c.fault_of.ensures.no_writes)
+    (cause_plain c.in-Err.ensures.counted c.fault_of.ensures.counted c.fault_of.ensures.no_writes)

@@ -1,12 +1,7 @@
-use Rattle.std.proofs.Common.{refl, None}
+use Rattle.std.proofs.Common.{None}
 use Rattle.css_drive.specs.TvProgress.{Asked}
-use Rattle.css_drive.specs.declared.driven.Driven.TheVariants as driven
 use Rattle.css_drive.specs.declared.on_air.OnAir.{OnAir}
-use Rattle.css_drive.proofs.TvSteps.{stops_by_fault}
 use Rattle.css_drive.proofs.tv_calls.open.Goals as goal
-
-pub returns-in-Err-clause-goes : goal.returns-in-Err-clause-goes
-returns-in-Err-clause-goes g c run start p h t opens = stops_by_fault t _ refl driven.Memory tt
 
 pub returns-clause-goes : goal.returns-clause-goes
 returns-clause-goes g c run start p h t opens =

@@ -3,5 +3,4 @@ use Rattle.css_drive.proofs.tv_calls.send.Goals as goal
 
 pub returns-in-Err-clause-cause : goal.returns-in-Err-clause-cause
 returns-in-Err-clause-cause g c =
-    cause_plain _ _ _ c.in-Err.ensures.counted (c.fault_of.ensures.counted _ _ c.in-Err.ensures.counted.faults)
-    c.fault_of.ensures.no_writes
+    cause_plain c.in-Err.ensures.counted c.fault_of.ensures.counted c.fault_of.ensures.no_writes

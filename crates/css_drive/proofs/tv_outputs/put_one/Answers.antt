@@ -33,11 +33,9 @@ returns-in-Ok-clause-goes g c run start air place rest s =
 
 pub returns-in-Err-clause-cause : goal.returns-in-Err-clause-cause
 returns-in-Err-clause-cause g c =
-    cause_plain _ _ _ c.in-Err.ensures.counted (c.fault_of.ensures.counted _ _ c.in-Err.ensures.counted.faults)
-    c.fault_of.ensures.no_writes
+    cause_plain c.in-Err.ensures.counted c.fault_of.ensures.counted c.fault_of.ensures.no_writes
 
 pub returns-in-Err-hang_up-clause-cause : goal.returns-in-Err-hang_up-clause-cause
 returns-in-Err-hang_up-clause-cause g c =
-    cause_plain _ _ _ c.in-Err-hang_up.ensures.counted
-    (c.fault_of-in-Err-hang_up.ensures.counted _ _ c.in-Err-hang_up.ensures.counted.faults)
-    c.fault_of-in-Err-hang_up.ensures.no_writes
+    cause_plain c.in-Err-hang_up.ensures.counted
+    c.fault_of-in-Err-hang_up.ensures.counted c.fault_of-in-Err-hang_up.ensures.no_writes

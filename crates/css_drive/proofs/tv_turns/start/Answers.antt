@@ -1,7 +1,7 @@
 use Rattle.std.proofs.Common.{refl}
 use Rattle.css_drive.specs.declared.driven.Driven.TheVariants as driven
 use Rattle.css_drive.proofs.TvSteps.{cause_plain, stops_by_fault}
-use Rattle.css_drive.proofs.TvRuns.{at_first, listens, begun, none_ranged}
+use Rattle.css_drive.proofs.TvRuns.{at_first, listens, begun}
 use Rattle.css_drive.specs.TvDue.{run_of}
 use Rattle.css_drive.proofs.tv_turns.start.Goals as goal
 
@@ -26,11 +26,6 @@ returns-in-Ok-new-clause-goes g c script =
     c.in-Ok.ensures.told _ c.in-Ok-new.ensures.addresses c.in-Ok-new.ensures.stands c.in-Ok-new.ensures.server
     c.new-in-Ok-new.ensures.items c.new-turns.ensures refl
 
-pub returns-in-Ok-new-clause-ranged : goal.returns-in-Ok-new-clause-ranged
-returns-in-Ok-new-clause-ranged g c =
-    none_ranged c.new-turns.result c.args.run.limit c.args.run.relative c.new-turns.ensures c.requires.limit
-
 pub returns-in-Err-clause-cause : goal.returns-in-Err-clause-cause
 returns-in-Err-clause-cause g c =
-    cause_plain _ _ _ c.in-Err.ensures.counted (c.fault_of.ensures.counted _ _ c.in-Err.ensures.counted.faults)
-    c.fault_of.ensures.no_writes
+    cause_plain c.in-Err.ensures.counted c.fault_of.ensures.counted c.fault_of.ensures.no_writes

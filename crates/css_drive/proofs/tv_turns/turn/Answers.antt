@@ -1,15 +1,7 @@
 use Rattle.std.proofs.Common.{◌∙◌, sym}
 use Rattle.css_drive.proofs.CompanionSteps.{at_err}
-use Rattle.css_drive.proofs.TvMoves.{over_at_end, ranged_on, on_ok, unused_of}
+use Rattle.css_drive.proofs.TvMoves.{unused_of}
 use Rattle.css_drive.proofs.tv_turns.turn.Goals as goal
-
-pub is_over-requires : goal.is_over-requires
-is_over-requires g c =
-    ranged_on c.args.air.now.turns c.begin.new.air.turns c.requires.ranged c.in_ok-begin.ensures.turns
-
-pub returns-then-is_over-clause-goes : goal.returns-then-is_over-clause-goes
-returns-then-is_over-clause-goes g c run start script s =
-    over_at_end (c.in_ok-begin.ensures.goes run start script s) (sym c.is_over.ensures ∙ c.if-is_over.true)
 
 pub returns-in_err-serve-clause-goes : goal.returns-in_err-serve-clause-goes
 returns-in_err-serve-clause-goes g c run start script s =
@@ -35,8 +27,3 @@ returns-clause-goes g c run start script s =
     let x = c.in_ok-begin.ensures.goes run start script s in
     c.hear_all.ensures.goes run start (c.in_ok-welcome.ensures.goes run start
     (c.in_ok-serve.ensures.goes run start c.begin.new.air x.0 (sym c.is_over.ensures ∙ c.if-is_over.false) x.1))
-
-pub returns-clause-turns : goal.returns-clause-turns
-returns-clause-turns g c =
-    let more = c.in_ok-begin.ensures.turns in
-    on_ok (more.0, more.1, c.hear_all.ensures.turns ∙ c.in_ok-welcome.ensures.turns ∙ more.2) c.hear_all.result
