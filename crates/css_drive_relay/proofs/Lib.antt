@@ -4,7 +4,6 @@ pub mod Steps
 pub mod Responses
 pub mod Dialling
 pub mod Serves
-pub mod Openings
 pub mod Hears
 pub mod Ends
 pub mod Answering
