@@ -1,7 +1,6 @@
 pub mod Follows
 pub mod Peers
 pub mod Steps
-pub mod Responses
 pub mod Dialling
 pub mod Serves
 pub mod Hears
