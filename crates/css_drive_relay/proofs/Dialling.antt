@@ -1,6 +1,6 @@
 -- What the dials of a turn make of a relay's run.
 use Rattle.std.proofs.Common.{◌≡◌, ℕ, ◌+◌, arith, ap, sym, ◌∙◌, subst, refl, true, false, inl, inr, List, [], ◌∷◌}
-use Rattle.std.proofs.Common.{Option, Some, None, Result, Ok, Err}
+use Rattle.std.proofs.Common.{Option, Some, None, Result, Ok}
 use Rattle.std.specs.Prelude.{is_some, ◌||◌, All, IfSome}
 use Rattle.std.proofs.lemmas.List.Elements.{All-nil}
 use Rattle.css_model.specs.declared.Kind.{Kind}
@@ -11,19 +11,16 @@ use Rattle.css_address.specs.declared.fault.AddressFault.{AddressFault}
 use Rattle.css_companion.specs.Meanings.{state_of, opens_ts}
 use Rattle.css_relay.specs.Relays.{Relay}
 use Rattle.css_drive.specs.CompanionDue.{dial_first, dial_to, place}
-use Rattle.css_drive.specs.CompanionStanding.{Shown, HasDialled, GivesPlace}
-use Rattle.css_drive.specs.Ends.{MayEnd}
+use Rattle.css_drive.specs.CompanionStanding.{Shown, HasDialled}
 use Rattle.css_drive.specs.Proper.{Due, Dial}
-use Rattle.css_drive.specs.declared.driven.Driven.{Driven}
-use Rattle.css_drive.proofs.CompanionCalls.{bad_place, bad_own}
-use Rattle.css_drive.proofs.CompanionSteps.{own_kind, own_quiet}
+use Rattle.css_drive.proofs.CompanionSteps.{own_kind}
 use Rattle.css_drive_relay.specs.Places.{Facts, Place, Begun, Called, Progress, after, after_dial}
 use Rattle.css_drive_relay.specs.Due.{due_at, from_wc, from_ask}
-use Rattle.css_drive_relay.specs.Standing.{IsPeer, Stands, Comes, Stops, facts_in, stood}
+use Rattle.css_drive_relay.specs.Standing.{IsPeer, Stands, Comes, facts_in, stood}
 use Rattle.css_drive_relay.specs.declared.config.RelayRun.{RelayRun}
 use Rattle.css_drive_relay.specs.declared.live.Live.{Live}
 use Rattle.css_drive_relay.proofs.Peers.{peers_later, in_order_later, all_dialled, television_dialled}
-use Rattle.css_drive_relay.proofs.Steps.{knows_plain, lawful, runs_more, stops_here}
+use Rattle.css_drive_relay.proofs.Steps.{knows_plain, runs_more}
 
 -- ---- what is due where a dial is skipped
 pub first_skipped : (o : Option ℕ) (to : Address) (rest : Due) → is_some o ≡ true → dial_first o to rest ≡ rest
@@ -139,12 +136,3 @@ module _ (live : Live) {run : RelayRun} {start now : Shown} {relay : Relay} {his
         comes {place = Called kind.Wc}
         (dial_failed live s kind.Wc to
         (is-due ∙ wc_made live.wc _ _ (from_ask run (facts_in live) history) none found) d) (from_ask run) refl
-
-    -- the address is none, or memory is wanting
-    pub wc_ended : (url : Option (Result Address AddressFault)) → place kind.Wc (state_of history).wc_url ≡ url
-        → (ended : Driven) → GivesPlace WcUrl url (Err ended) → Stops run start now ended
-    wc_ended url found ended g =
-        let Q : Due → Type 0 = λ x. MayEnd x ended in
-        stops_here s.runs (lawful s.knows) ended (own_quiet ended (bad_own WcUrl url ended g))
-        (subst Q (sym (is-due ∙ wc_made live.wc _ _ (from_ask run (facts_in live) history) none found))
-        (bad_place WcUrl url kind.Wc (from_ask run (facts_in live) history) ended g))

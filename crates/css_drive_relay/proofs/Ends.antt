@@ -3,7 +3,7 @@ use Rattle.css_cii.specs.States.{empty}
 use Rattle.css_cii.specs.declared.state.State.{State}
 use Rattle.std.proofs.Common.{◌≡◌, ap₂, ℕ, ◌≤◌, ◌<◌, arith, ap, sym, ◌∙◌, subst, refl, Bool, true, false, cond, inl}
 use Rattle.std.proofs.Common.{inr, List, [], ◌∷◌, drop, get_or, length, Option, Some, None}
-use Rattle.std.specs.Prelude.{◌⊎◌, ◌||◌, ◌+◌, ◌&&◌, ◌*◌, is_some, nat_lt, nat_le, unwrap_or}
+use Rattle.std.specs.Prelude.{◌⊎◌, ◌||◌, ◌+◌, ◌&&◌, is_some, nat_lt, unwrap_or}
 use Rattle.std.specs.Option.{ForSome}
 use Rattle.std.proofs.lemmas.List.Elements.{All-nil}
 use Rattle.css_model.specs.History.{HungUp, History, Listening}
@@ -16,6 +16,7 @@ use Rattle.css_drive.specs.Proper.{Due, Now, HangUp, Ends, Listen, Empty}
 use Rattle.css_model.specs.declared.Why.TheVariants as why
 use Rattle.css_drive.specs.declared.driven.Driven.{Driven}
 use Rattle.css_drive.specs.declared.driven.Driven.TheVariants as driven
+use Rattle.css_drive.proofs.CompanionEnds.{never_late}
 use Rattle.css_drive.proofs.CompanionRuns.{no_entries}
 use Rattle.css_drive.proofs.TvLines.{peers_all}
 use Rattle.css_drive.proofs.TvOpens.{peer_from}
@@ -30,7 +31,6 @@ use Rattle.css_outside.specs.declared.limit.Limit.{Limit}
 use Rattle.css_outside.specs.declared.limit.Limit.TheVariants.{Turns, Seconds}
 use Rattle.css_drive_relay.specs.declared.config.RelayRun.{RelayRun}
 use Rattle.css_drive_relay.specs.declared.live.Live.{Live}
-use Rattle.css_drive_relay.proofs.Follows.{one_more}
 use Rattle.css_drive_relay.proofs.Steps.{knows_plain, knows_clock, lawful, runs_read, stands_on, stands_as, here}
 use Rattle.css_drive_relay.proofs.Steps.{stops_here}
 use Rattle.css_drive_relay.specs.Ran.{RelayRan}
@@ -209,21 +209,9 @@ pub turn_due : (run : RelayRun) (live : Live) (history : History)
 turn_due run live history on =
     ap (λ b. cond b (Now why.Turn) (from_hang_ups (final (facts_in live)) (all_open (facts_in live)))) on
 
--- how many there are at most
-most_few : (limit : Limit) → IsLimit limit → most_turns limit ≤ 1099511627776
-most_few (Turns turns) range = let few = range.1 in omega (arith, few)
-most_few (Seconds seconds) range = omega arith
-
 some_turns : (limit : Limit) → IsLimit limit → 1 ≤ most_turns limit
 some_turns (Turns turns) range = range.0
 some_turns (Seconds seconds) range = omega arith
-
-pub few_turns : (run : RelayRun) (f : Facts) → goes_on run.limit f.first f.turn f.turns ≡ true
-    → f.turns < 1099511627776
-few_turns run f on =
-    let less = one_more run f on in
-    let most = most_few run.limit run.limit_range in
-    omega (arith, less, most)
 
 -- the turns are over only once one was begun
 pub was_begun : (limit : Limit) → IsLimit limit → (first this : Option ℕ) (made : ℕ)
@@ -239,11 +227,8 @@ was_begun limit range None this made some over = by (nat_lt made (most_turns lim
 pub was_second : (limit : Limit) → IsLimit limit → (first : Option ℕ) (made reading : ℕ)
     → ForSome first (λ x. 1 ≤ made) → is_late limit (Some (unwrap_or first reading)) (Some reading) ≡ true → 1 ≤ made
 was_second limit range (Some first) made reading some last = some first refl
-was_second (Turns turns) range None made reading none last = absurd cc
-was_second (Seconds seconds) range None made reading none last =
-    let over : nat_le (reading + seconds * 1000000000) reading ≡ true = last in
-    let some = range.0 in
-    absurd (grind (arith, nat_tests, over, some))
+was_second limit range None made reading none last =
+    absurd (never_late limit (Some reading) (Some reading) range refl last)
 
 -- where the turn is the last by its time, and where it isn't
 pub begun_at : {run : RelayRun} {start now : Shown} {relay : Relay} (live : Live) {late last : Bool}

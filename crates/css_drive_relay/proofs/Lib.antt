@@ -1,10 +1,8 @@
 pub mod Follows
 pub mod Peers
 pub mod Steps
-pub mod Responses
 pub mod Dialling
 pub mod Serves
-pub mod Openings
 pub mod Hears
 pub mod Ends
 pub mod Answering

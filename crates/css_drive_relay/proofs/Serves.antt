@@ -1,18 +1,19 @@
 -- What a relay's requests, landings and answers make of its run.
-use Rattle.std.proofs.Common.{◌≡◌, ℕ, ap, sym, ◌∙◌, subst, refl, Bool, true, false, cond, List, [], ◌∷◌, ◌++◌}
-use Rattle.std.proofs.Common.{take, Option, Some, None, Result, Ok, Err}
-use Rattle.std.specs.Prelude.{is_some, ◌&&◌, MatchResult}
-use Rattle.std.specs.Option.{option_map}
+use Rattle.std.proofs.Common.{◌≡◌, ℕ, ap, sym, ◌∙◌, subst, refl, Bool, true, false, cond, List, [], ◌∷◌, ◌++◌, take}
+use Rattle.std.proofs.Common.{Option, Some, None, Result, Ok, Err}
+use Rattle.std.specs.Prelude.{is_some, ◌&&◌, MatchResult, pos, max, nat_lt, ◌==◌}
+use Rattle.std.specs.Option.{option_map, option_and_then}
 use Rattle.css_model.specs.declared.Message.{Message}
 use Rattle.css_model.specs.declared.Why.TheVariants as why
 use Rattle.css_model.specs.Explains.{IsLawful}
-use Rattle.css_model.specs.History.{Clock, Sent, Took, TookNone, History, request_in}
-use Rattle.css_model.specs.Wire.{encoded, request_at}
+use Rattle.css_model.specs.History.{Clock, Sent, Took, TookNone, History, request_in, accepted_answers}
+use Rattle.css_model.specs.Wire.{encoded, request_at, fields, fault, unless_fault}
 use Rattle.css_model.specs.WallClock.{Local}
 use Rattle.css_outside.specs.Outsides.{clock_entries, sleep_entries}
 use Rattle.css_outside.specs.declared.calls.Clocked.{Clocked}
 use Rattle.css_companion.specs.Standing.{StandsFor, own_of}
-use Rattle.css_relay.specs.Answers.{Ticket, received_after, answered_after, datagram_of}
+use Rattle.css_relay.specs.Answers.{Ticket, received_after, answered_after, datagram_of, response_to, answer_at}
+use Rattle.css_relay.specs.Answers.{answered}
 use Rattle.css_relay.specs.Relays.{Relay}
 use Rattle.css_relay.specs.declared.fault.RelayFault.{RelayFault}
 use Rattle.css_drive.specs.CompanionDue.{send_to}
@@ -21,17 +22,72 @@ use Rattle.css_drive.specs.CompanionTurns.{is_asking}
 use Rattle.css_drive.specs.Proper.{Due, SendDatagram, TakeDatagram}
 use Rattle.css_drive.specs.declared.driven.Driven.{Driven}
 use Rattle.css_drive.proofs.CompanionCalls.{lawful_plain}
-use Rattle.css_drive_relay.specs.Places.{Facts, Place, Asking, Requested, Taken, Received, Answers, Served}
-use Rattle.css_drive_relay.specs.Places.{received, answering}
+use Rattle.css_drive_relay.specs.Places.{Facts, Place, Asking, Requested, Taken, Received, Answers, Served, received}
+use Rattle.css_drive_relay.specs.Places.{answering}
 use Rattle.css_drive_relay.specs.Due.{due_at, from_ask, from_take, from_taken}
-use Rattle.css_drive_relay.specs.Standing.{Knows, IsPeer, Runs, Stands, IsAt, Comes, Arrives, HasRead, facts_in}
-use Rattle.css_drive_relay.specs.Standing.{stood, named}
+use Rattle.css_drive_relay.specs.Standing.{Knows, IsPeer, Runs, Stands, IsAt, Comes, Arrives, HasRead, facts_in, stood}
+use Rattle.css_drive_relay.specs.Standing.{named}
 use Rattle.css_drive_relay.specs.declared.config.RelayRun.{RelayRun}
 use Rattle.css_drive_relay.specs.declared.live.Live.{Live}
 use Rattle.css_drive_relay.proofs.Dialling.{comes}
 use Rattle.std.proofs.lemmas.List.Elements.{All-nil}
 use Rattle.css_drive_relay.proofs.Steps.{knows_plain, knows_clock, lawful, runs_on, runs_read, stands_on, here}
 use Rattle.css_drive_relay.proofs.Steps.{stops_by_fault}
+use Rattle.std.specs.Result.{result_ok}
+use Rattle.css_num.specs.Spans.{Interval}
+use Rattle.css_model.specs.declared.WcFault.{WcFault}
+use Rattle.css_model.specs.Numbers.{precision_ns}
+use Rattle.css_span.specs.Frontiers.{greatest_error}
+use Rattle.css_span.specs.WallSpans.{wall_span}
+use Rattle.css_relay.specs.Middles.{between, cut, is_beyond}
+use Rattle.css_relay.specs.declared.fault.RelayFault.TheVariants as faults
+
+-- ---- what is sent in answer
+-- bytes whose field tells another type are no request
+type_of_encoded : (message : Message) → (fields (encoded message)).message_type ≡ message.message_type
+unfolding encoded fields
+type_of_encoded message = refl
+
+no_request : (first : Option WcFault) (message : Message) → message.message_type == 0 ≡ false
+    → option_and_then (λ (m : Message). cond (m.message_type == 0) (Some m) None)
+    (result_ok (unless_fault first message)) ≡ None
+no_request None message e = ap (λ b. cond b (Some message) None) e
+no_request (Some first) message e = refl
+
+encoded_response : (message : Message) → message.message_type ≡ 1 → request_in (encoded message) ≡ None
+encoded_response message e = no_request (fault (encoded message)) (fields (encoded message))
+    (ap (λ n. n == 0) (type_of_encoded message ∙ e))
+
+abbrev IsResponse : Result (List ℕ) RelayFault → Type 0
+IsResponse (Err fault) = Unit {0}
+IsResponse (Ok bytes) = request_in bytes ≡ None
+
+wide_response : (wide : Bool) (n : ℕ) (message : Message) → message.message_type ≡ 1
+    → IsResponse (datagram_of (cond wide (Err (faults.Wide n)) (Ok message)))
+wide_response true n message e = tt
+wide_response false n message e = encoded_response message e
+
+beyond_response : (ticket : Ticket) (error : ℕ) (span : Interval) (b : Bool)
+    → IsResponse (datagram_of (answer_at ticket error
+    (cond b (Err (faults.Beyond span)) (Ok (between (cut span.lo) (cut span.hi))))))
+beyond_response ticket error span true = tt
+beyond_response ticket error span false =
+    let middle = between (cut span.lo) (cut span.hi) in
+    wide_response (nat_lt (precision_ns (pos 30)) (max ticket.half middle.half)) (max ticket.half middle.half)
+    (response_to ticket error middle) refl
+
+known_response : (ticket : Ticket) (error : ℕ) (wall : Option Interval)
+    → IsResponse (datagram_of (answered wall error ticket))
+known_response ticket error None = tt
+known_response ticket error (Some span) = beyond_response ticket error span (is_beyond span)
+
+-- an answer is no request
+pub answer_is_no_request : (own : Local) (history : History) (reading : ℕ) (ticket : Ticket) (bytes : List ℕ)
+    → datagram_of (answered_after own history reading ticket) ≡ Ok bytes → request_in bytes ≡ None
+answer_is_no_request own history reading ticket bytes e =
+    let P : Result (List ℕ) RelayFault → Type 0 = λ x. IsResponse x in
+    subst P e (known_response ticket (greatest_error (accepted_answers own history))
+    (wall_span own reading (accepted_answers own history)))
 
 -- ---- what is due
 ask_due : (o : Option ℕ) (b : Bool) (x y : Due) (peer : ℕ) → o ≡ Some peer → b ≡ true → cond (is_some o && b) x y ≡ x

@@ -13,7 +13,7 @@ use Rattle.css_outside.specs.declared.calls.Clocked.{Clocked}
 use Rattle.css_companion.specs.Meanings.{kind_of}
 use Rattle.css_companion.specs.Standing.{StandsFor, own_of}
 use Rattle.css_relay.specs.Relays.{Relay, wc_url_of}
-use Rattle.css_drive.specs.CompanionStanding.{Shown, asked_after}
+use Rattle.css_drive.specs.CompanionStanding.{Shown, Adds, Failed, asked_after}
 use Rattle.css_drive.specs.Ends.{MayEnd, CountsNetFault}
 use Rattle.css_drive.specs.Proper.{Due}
 use Rattle.css_drive.specs.TvRan.{AreNumbered}
@@ -128,6 +128,10 @@ Goes run start now relay live to result =
     MatchResult result (λ _. Comes run start now relay live to) (Stops run start now)
 
 -- ---- single calls
+-- a call that is no dial and reads no clock added these entries, or it failed
+abbrev pub AddsOrFailed : {T : Type 0} → Shown → Shown → (T → History) → Result T Driven → Type 0
+AddsOrFailed old new entries result = MatchResult result (λ value. Adds old new (entries value)) (Failed old new)
+
 -- The clock was read, and where the machine slept the relay knows.
 pub record HasRead (old new : Shown) (before now : Live) (was is : Relay) (why : Why) (clocked : Clocked)
     : Type 0 where

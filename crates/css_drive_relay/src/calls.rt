@@ -3,8 +3,8 @@ ghost use Rattle.std.specs.Prelude.{◌≡◌, ◌≤◌, ◌∷◌, [], MatchRe
 ghost use Rattle.css_model.specs.History as entries;
 ghost use Rattle.css_outside.specs.Faults.{CountsOutFault, HasRisen};
 ghost use Rattle.css_outside.specs.Outsides.{heard_entries, wrote_entries};
-ghost use Rattle.css_drive.specs.CompanionStanding.{Shown, shown, IsCut, IsFault, Failed, Adds, HasDialled};
-ghost use Rattle.css_drive_relay.specs.Standing.{HasRead, KeepsDials};
+ghost use Rattle.css_drive.specs.CompanionStanding.{Shown, shown, IsCut, IsFault, Failed, HasDialled};
+ghost use Rattle.css_drive_relay.specs.Standing.{AddsOrFailed, HasRead, KeepsDials};
 
 use crate::live::Live;
 use css_drive::Driven;
@@ -89,11 +89,8 @@ pub(crate) fn read<O: Outside>(
 
 /// Sends a datagram.
 pub(crate) fn send<O: Outside>(outside: &mut O, peer: u32, bytes: &[u8; 32]) -> Result<(), Driven>
-    ensures told { MatchResult result
-        (λ _. Adds (shown (O.told outside.old) (O.counts outside.old))
-        (shown (O.told outside.new) (O.counts outside.new)) (entries.Sent peer bytes.now ∷ []))
-        (Failed (shown (O.told outside.old) (O.counts outside.old))
-        (shown (O.told outside.new) (O.counts outside.new))) }
+    ensures told { AddsOrFailed (shown (O.told outside.old) (O.counts outside.old))
+        (shown (O.told outside.new) (O.counts outside.new)) (λ _. entries.Sent peer bytes.now ∷ []) result }
     ensures last { (O.counts outside.new).last ≡ (O.counts outside.old).last }
     ensures dials { (O.counts outside.new).dial_faults ≡ (O.counts outside.old).dial_faults }
     ensures cut { IfErr result IsCut }
@@ -106,11 +103,8 @@ pub(crate) fn send<O: Outside>(outside: &mut O, peer: u32, bytes: &[u8; 32]) -> 
 
 /// Sends a text on a session.
 pub(crate) fn tell<O: Outside>(outside: &mut O, peer: u32, text: &[u8]) -> Result<Wrote, Driven>
-    ensures told { MatchResult result
-        (λ sent. Adds (shown (O.told outside.old) (O.counts outside.old))
-        (shown (O.told outside.new) (O.counts outside.new)) (wrote_entries peer text.now sent))
-        (Failed (shown (O.told outside.old) (O.counts outside.old))
-        (shown (O.told outside.new) (O.counts outside.new))) }
+    ensures told { AddsOrFailed (shown (O.told outside.old) (O.counts outside.old))
+        (shown (O.told outside.new) (O.counts outside.new)) (λ sent. wrote_entries peer text.now sent) result }
     ensures last { (O.counts outside.new).last ≡ (O.counts outside.old).last }
     ensures dials { (O.counts outside.new).dial_faults ≡ (O.counts outside.old).dial_faults }
     ensures cut { IfErr result IsCut }
@@ -123,11 +117,8 @@ pub(crate) fn tell<O: Outside>(outside: &mut O, peer: u32, text: &[u8]) -> Resul
 
 /// Asks a session for its next text.
 pub(crate) fn hear<O: Outside>(outside: &mut O, peer: u32) -> Result<Heard, Driven>
-    ensures told { MatchResult result
-        (λ heard. Adds (shown (O.told outside.old) (O.counts outside.old))
-        (shown (O.told outside.new) (O.counts outside.new)) (heard_entries peer heard))
-        (Failed (shown (O.told outside.old) (O.counts outside.old))
-        (shown (O.told outside.new) (O.counts outside.new))) }
+    ensures told { AddsOrFailed (shown (O.told outside.old) (O.counts outside.old))
+        (shown (O.told outside.new) (O.counts outside.new)) (λ heard. heard_entries peer heard) result }
     ensures last { (O.counts outside.new).last ≡ (O.counts outside.old).last }
     ensures dials { (O.counts outside.new).dial_faults ≡ (O.counts outside.old).dial_faults }
     ensures cut { IfErr result IsCut }
@@ -140,11 +131,8 @@ pub(crate) fn hear<O: Outside>(outside: &mut O, peer: u32) -> Result<Heard, Driv
 
 /// Hangs up a session.
 pub(crate) fn hang_up<O: Outside>(outside: &mut O, peer: u32) -> Result<(), Driven>
-    ensures told { MatchResult result
-        (λ _. Adds (shown (O.told outside.old) (O.counts outside.old))
-        (shown (O.told outside.new) (O.counts outside.new)) (entries.HungUp peer ∷ []))
-        (Failed (shown (O.told outside.old) (O.counts outside.old))
-        (shown (O.told outside.new) (O.counts outside.new))) }
+    ensures told { AddsOrFailed (shown (O.told outside.old) (O.counts outside.old))
+        (shown (O.told outside.new) (O.counts outside.new)) (λ _. entries.HungUp peer ∷ []) result }
     ensures last { (O.counts outside.new).last ≡ (O.counts outside.old).last }
     ensures dials { (O.counts outside.new).dial_faults ≡ (O.counts outside.old).dial_faults }
     ensures cut { IfErr result IsCut }

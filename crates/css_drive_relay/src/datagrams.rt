@@ -29,31 +29,6 @@ fn is_time(every: u64, turn: Option<u64>, asked: Option<u64>) -> bool
     }
 }
 
-/// Reads the clock for a request, and sends the request of that reading.
-fn request<O: Outside>(
-    run: &RelayRun,
-    live: &mut Live,
-    relay: &mut Relay,
-    outside: &mut O,
-    peer: u32,
-) -> Result<(), Driven>
-    requires { relay.old.companion.client.floor ≤ (O.counts outside.old).last }
-    ensures goes { (start : Shown) (history : History) (at : Place)
-        → Stands run.now start (shown (O.told outside.old) (O.counts outside.old)) relay.old (stood live.old at) history
-        → due_at run.now (facts_in live.old) history at ≡ from_ask run.now (facts_in live.old) history
-        → live.old.wc ≡ Some peer → is_asking run.now.ask_every live.old.turn live.old.asked ≡ true
-        → Goes run.now start (shown (O.told outside.new) (O.counts outside.new)) relay.new live.new from_take result }
-    ensures floor { OnOk result (relay.new.companion.client.floor ≤ (O.counts outside.new).last) }
-    ensures keeps { KeepsDials (O.counts outside.old) (O.counts outside.new) live.old live.new }
-    ensures cut { IfErr result IsCut }
-{
-    let clocked = read(outside, relay, live, Why::Ask)?;
-    let bytes = relay.ask(clocked.reading);
-    send(outside, peer, &bytes)?;
-    live.asked = live.turn;
-    Ok(())
-}
-
 /// Asks the television's wall clock, where it was dialled and it is time.
 pub(crate) fn ask<O: Outside>(
     run: &RelayRun,
@@ -76,7 +51,11 @@ pub(crate) fn ask<O: Outside>(
     if !is_time(run.ask_every, live.turn, live.asked) {
         return Ok(());
     }
-    request(run, live, relay, outside, peer)
+    let clocked = read(outside, relay, live, Why::Ask)?;
+    let bytes = relay.ask(clocked.reading);
+    send(outside, peer, &bytes)?;
+    live.asked = live.turn;
+    Ok(())
 }
 
 /// Reads the clock for a datagram that was just taken, and takes it in.
@@ -187,31 +166,12 @@ pub(crate) fn serve<O: Outside>(
     match outside.take_datagram(&mut into) {
         Err(fault) => Err(end_of(fault)),
         Ok(None) => Ok(()),
-        Ok(Some((peer, count))) => take(run, live, relay, outside, peer, &into[..count]),
+        Ok(Some((peer, count))) => {
+            let bytes = &into[..count];
+            if is_request(bytes) {
+                return receive(run, live, relay, outside, peer, bytes);
+            }
+            land(run, live, relay, outside, bytes)
+        }
     }
-}
-
-/// A datagram that was taken: a request is received, and anything else lands.
-fn take<O: Outside>(
-    run: &RelayRun,
-    live: &mut Live,
-    relay: &mut Relay,
-    outside: &mut O,
-    peer: u32,
-    bytes: &[u8],
-) -> Result<(), Driven>
-    requires { relay.old.companion.client.floor ≤ (O.counts outside.old).last }
-    ensures goes { (start : Shown) (history : History) (taken : List ℕ)
-        → Stands run.now start (shown (O.told outside.old) (O.counts outside.old)) relay.old
-        (stood live.old (Taken peer taken)) (entries.Took peer taken ∷ history)
-        → Knows run.now relay.old history → taken ≡ bytes.now
-        → Arrives run.now start (shown (O.told outside.new) (O.counts outside.new)) relay.new live.new Served result }
-    ensures floor { OnOk result (relay.new.companion.client.floor ≤ (O.counts outside.new).last) }
-    ensures keeps { KeepsDials (O.counts outside.old) (O.counts outside.new) live.old live.new }
-    ensures cut { IfErr result IsCut }
-{
-    if is_request(bytes) {
-        return receive(run, live, relay, outside, peer, bytes);
-    }
-    land(run, live, relay, outside, bytes)
 }

@@ -30,6 +30,7 @@ fn place(peers: &[u32], peer: u32) -> usize
 }
 
 /// Adds a peer before the first greater one.
+#[tactic(auto, using(crate::proofs::Peers::insert_place))]
 fn insert(peers: &mut Vec<u32>, peer: u32) -> Result<(), Memory>
     ensures { OnOk result (peers.new.items ≡ places.with_peer peer peers.old.items) }
 {
@@ -83,6 +84,7 @@ fn ending(live: &Live) -> Driven
 }
 
 /// Hangs up all open sessions, and ends the run.
+#[tactic(auto, using(crate::proofs::Steps::stops_as))]
 pub(crate) fn finish<O: Outside>(run: &RelayRun, live: &Live, outside: &mut O) -> Driven
     ensures ends { (start : Shown) (relay : KnownRelay) (history : History)
         → Stands run.now start (shown (O.told outside.old) (O.counts outside.old)) relay (stood live.now (Asked []))

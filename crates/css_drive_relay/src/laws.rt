@@ -6,6 +6,7 @@ ghost use Rattle.css_drive_relay.specs.Told.{SessionsAreTold};
 
 /// What a run sends in answer is the relay's answer to a request that it took. It is true in every world that explains
 /// what the run's calls told, and so it is truthful to each companion that asked for it.
+#[tactic(auto, using(crate::proofs::Answering::answers_are_true))]
 pub fn answers_are_true_to()
     ensures { AnswersAreTrueTo }
 {}
@@ -16,18 +17,21 @@ pub fn answers_are_true_to()
 /// was told as gone.
 ///
 /// The calls are those of a run, and each peer that was accepted has a greater number than those before it.
+#[tactic(auto, using(crate::proofs::ToldSessions::sessions_are_told))]
 pub fn sessions_are_told()
     ensures { SessionsAreTold }
 {}
 
 /// A run that is done made all its turns, and a dial of it succeeded. One for which every dial failed made all its
 /// turns too. The calls are those of a run, which ended where it may.
+#[tactic(auto, using(crate::proofs::Made::turns_are_made))]
 pub fn turns_are_made()
     ensures { TurnsAreMade }
 {}
 
 /// Each datagram that a whole run sent is a request of its own, at the reading just before, or the datagram of the
 /// response that it gave at the reading just before. The calls are those of a run.
+#[tactic(auto, using(crate::proofs::DatagramPlaces::sent_is_known))]
 pub fn sent_is_known()
     ensures { SentIsKnown }
 {}

@@ -1,7 +1,6 @@
-use Rattle.std.proofs.Common.{sym, ◌∙◌, subst, ℕ, List, ◌∷◌, ◌++◌}
+use Rattle.std.proofs.Common.{sym, ◌∙◌, subst, ℕ, List, ◌∷◌}
 use Rattle.css_model.specs.declared.Why.TheVariants as why
 use Rattle.css_model.specs.History.{Clock, Took}
-use Rattle.css_outside.specs.Outsides.{clock_entries}
 use Rattle.css_outside.specs.declared.calls.Clocked.{Clocked}
 use Rattle.css_drive.proofs.CompanionSteps.{at_err}
 use Rattle.css_drive_relay.proofs.Serves as serves
@@ -13,33 +12,27 @@ pub returns-then-clocked-clause-goes : goal.returns-then-clocked-clause-goes
 returns-then-clocked-clause-goes g c start h peer taken s k same none =
     let read = c.in_ok-clocked.ensures.told in
     let clocked : Clocked = c.in_ok-clocked.clocked in
-    record {
-      history = clock_entries why.Land clocked ++ (Took peer taken ∷ h);
-      stands = record {
-        runs = serves.lands {clocked = clocked} s.runs none read;
-        knows = serves.slept_landing clocked (Took peer taken ∷ h) c.if-clocked.true
-            (read.known c.args.run.now (Took peer taken ∷ h) s.knows);
-      };
-    }
+    steps.here (record {
+      runs = serves.lands {clocked = clocked} s.runs none read;
+      knows = serves.slept_landing clocked (Took peer taken ∷ h) c.if-clocked.true
+          (read.known c.args.run.now (Took peer taken ∷ h) s.knows);
+    })
 
 pub returns-clause-goes : goal.returns-clause-goes
 returns-clause-goes g c start h peer taken s k same none =
     let read = c.in_ok-clocked.ensures.told in
     let clocked : Clocked = c.in_ok-clocked.clocked in
-    record {
-      history = clock_entries why.Land clocked ++ (Took peer taken ∷ h);
-      stands = record {
-        runs = serves.lands {clocked = clocked} s.runs none read;
-        knows = serves.awake_landing clocked peer taken h c.if-clocked.false (read.known c.args.run.now h k)
-            (λ k1. record {
-              stands = subst (λ (x : List ℕ). StandsFor c.land.new.self.companion (Clock why.Land clocked.reading
-                  ∷ Took peer x ∷ h)) (sym same)
-                  (rw c.in_ok-or_memory.ensures.ok at c.land.ensures.stands h peer k1.stands);
-              own = c.land.ensures.own ∙ k1.own;
-              wc_url = c.land.ensures.wc_url ∙ k1.wc_url;
-            });
-      };
-    }
+    steps.here (record {
+      runs = serves.lands {clocked = clocked} s.runs none read;
+      knows = serves.awake_landing clocked peer taken h c.if-clocked.false (read.known c.args.run.now h k)
+          (λ k1. record {
+            stands = subst (λ (x : List ℕ). StandsFor c.land.new.self.companion (Clock why.Land clocked.reading
+                ∷ Took peer x ∷ h)) (sym same)
+                (rw c.in_ok-or_memory.ensures.ok at c.land.ensures.stands h peer k1.stands);
+            own = c.land.ensures.own ∙ k1.own;
+            wc_url = c.land.ensures.wc_url ∙ k1.wc_url;
+          });
+    })
 
 pub returns-in_err-or_memory-clause-goes : goal.returns-in_err-or_memory-clause-goes
 returns-in_err-or_memory-clause-goes g c start h peer taken s k same none =

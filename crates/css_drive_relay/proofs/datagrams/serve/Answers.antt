@@ -1,4 +1,4 @@
-use Rattle.std.proofs.Common.{refl, ℕ, List, take}
+use Rattle.std.proofs.Common.{refl, sym, ◌∙◌, ℕ, List, take}
 use Rattle.css_drive_relay.proofs.Serves as serves
 use Rattle.css_drive_relay.proofs.Steps as steps
 use Rattle.css_drive_relay.proofs.datagrams.serve.Goals as goal
@@ -8,14 +8,24 @@ returns-in-Ok-None-clause-goes g c start h at s d =
     serves.took_none c.args.live.now s d (steps.adds (rw c.in-Ok-None.field-0-is at c.in-Ok-None.ensures.told)
     c.in-Ok-None.ensures.counted.faults c.in-Ok-None.ensures.counted.same)
 
-pub returns-in-Ok-Some-clause-goes : goal.returns-in-Ok-Some-clause-goes
-returns-in-Ok-Some-clause-goes g c start h at s d =
+pub returns-then-is_request-clause-goes : goal.returns-then-is_request-clause-goes
+returns-then-is_request-clause-goes g c start h at s d =
     let n : ℕ = c.in-Ok-Some.count in
     let bytes : List ℕ = take n c.take_datagram.new.into in
-    c.take.ensures.goes start h bytes
-    (serves.took c.args.live.now s d c.in-Ok-Some.peer n c.take_datagram.new.into
+    let s1 = serves.took c.args.live.now s d c.in-Ok-Some.peer n c.take_datagram.new.into
     (steps.adds (rw c.in-Ok-Some.field-0-is at c.in-Ok-Some.ensures.told) c.in-Ok-Some.ensures.counted.faults
-    c.in-Ok-Some.ensures.counted.same)) s.knows refl
+    c.in-Ok-Some.ensures.counted.same) in
+    c.receive.ensures.goes start _ bytes s1 refl (sym c.is_request.ensures ∙ c.if-is_request.true)
+
+pub returns-else-is_request-clause-goes : goal.returns-else-is_request-clause-goes
+returns-else-is_request-clause-goes g c start h at s d =
+    let n : ℕ = c.in-Ok-Some.count in
+    let bytes : List ℕ = take n c.take_datagram.new.into in
+    let s1 = serves.took c.args.live.now s d c.in-Ok-Some.peer n c.take_datagram.new.into
+    (steps.adds (rw c.in-Ok-Some.field-0-is at c.in-Ok-Some.ensures.told) c.in-Ok-Some.ensures.counted.faults
+    c.in-Ok-Some.ensures.counted.same) in
+    c.land.ensures.goes start h c.in-Ok-Some.peer bytes s1 s.knows refl
+    (sym c.is_request.ensures ∙ c.if-is_request.false)
 
 pub returns-in-Err-clause-goes : goal.returns-in-Err-clause-goes
 returns-in-Err-clause-goes g c start h at s d =

@@ -1,4 +1,5 @@
 use Rattle.std.proofs.Common.{◌∙◌, sym, arith, []}
+use Rattle.css_drive.proofs.CompanionEnds.{below_most}
 use Rattle.css_drive_relay.proofs.Ends as ends
 use Rattle.css_drive_relay.proofs.Steps.{here_as}
 use Rattle.css_drive_relay.specs.Places.{Asked, beginning}
@@ -29,7 +30,7 @@ turns-preserved g c =
 
 pub turn-requires-clause-few : goal.turn-requires-clause-few
 turn-requires-clause-few g c =
-    ends.few_turns c.args.run.now (facts_in c.turns.live) (sym c.goes_on.ensures ∙ c.turns-test.true)
+    below_most _ _ _ _ c.args.run.now.limit_range (sym c.goes_on.ensures ∙ c.turns-test.true)
 
 pub returns-in-Err-clause-dials : goal.returns-in-Err-clause-dials
 returns-in-Err-clause-dials g c =
