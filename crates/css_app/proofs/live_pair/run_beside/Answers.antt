@@ -1,6 +1,5 @@
-use Rattle.std.proofs.Common.{subst, ap, refl, inl, inr, ◌∙◌, arith}
+use Rattle.std.proofs.Common.{subst, refl, inl, inr, arith}
 use Rattle.css_outside.specs.Faults.{CountsOutFault}
-use Rattle.css_app.specs.Pairs.{children}
 use Rattle.css_app.proofs.Pairs.{both_no_usage, both_tell, pairs_as_due, runs_beside}
 use Rattle.css_app.proofs.live_pair.run_beside.Goals as goal
 
@@ -9,8 +8,7 @@ pub returns-in-Err-Failed-clause-ran : goal.returns-in-Err-Failed-clause-ran
 returns-in-Err-Failed-clause-ran g c =
     inl (record {
       untouched = refl;
-      children = ap (λ t. children t (g.P.Spawner.running c.start.new.self)) c.in-Err-Failed.ensures.told
-          ∙ ap (λ r. children (g.P.Spawner.told c.args.spawner.now) r) c.in-Err-Failed.ensures.err;
+      children = rw (c.in-Err-Failed.ensures.told, c.in-Err-Failed.ensures.err);
       cause = tt;
     })
 
@@ -24,8 +22,7 @@ pub returns-in-Err-Memory-clause-ran : goal.returns-in-Err-Memory-clause-ran
 returns-in-Err-Memory-clause-ran g c =
     inl (record {
       untouched = refl;
-      children = ap (λ t. children t (g.P.Spawner.running c.start.new.self)) c.in-Err-Memory.ensures.told
-          ∙ ap (λ r. children (g.P.Spawner.told c.args.spawner.now) r) c.in-Err-Memory.ensures.err;
+      children = rw (c.in-Err-Memory.ensures.told, c.in-Err-Memory.ensures.err);
       cause = tt;
     })
 
