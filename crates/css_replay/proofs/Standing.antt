@@ -5,7 +5,6 @@ use Rattle.std.specs.Prelude.{Some, None, Result, Ok, Err, OnOk, MatchResult}
 use Rattle.std.proofs.lemmas.List.{append-nil, length-append}
 use Rattle.css_lines.specs.Answers.{Answers, MayFault}
 use Rattle.css_lines.specs.declared.reader.LineFault as engine
-use Rattle.css_schedule.specs.declared.fault.LineFault.{LineFault}
 use Rattle.css_schedule.specs.declared.header.Header.{Header}
 use Rattle.css_schedule.specs.Lines.{line_in}
 use Rattle.css_schedule.specs.Ranges.{IsVersion, FitsFirst}
