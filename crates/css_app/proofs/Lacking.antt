@@ -67,8 +67,8 @@ module _ {Cause : Type 0} (meaning : Meaning Cause) where
       inr (record { stop = stops.Memory; ran = ran_none_of left holds bytes is; told = refl })
 
 companion_lacks : (recorded : Bool) (asked : CompanionAsked) (used : Uses)
-    → EitherCompanion recorded asked (unused used).source (unused used).sink (unused used).outside (unused used).followers
-    status.Memory
+    → EitherCompanion recorded asked (unused used).source (unused used).sink (unused used).outside
+    (unused used).followers status.Memory
 companion_lacks true asked used = record {
   ran = inl (record { untouched = refl; unwritten = refl; lacks = refl });
   complete = λ written called. inl refl;

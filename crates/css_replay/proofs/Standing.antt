@@ -85,8 +85,8 @@ after_text replay old new number text is header goes before e stands =
             world = new;
             is = refl;
             same = header;
-            stands = subst (λ (f : Format). worlds.StandsFor new (with_line number run.lines (line_in f.version f.companions
-                text))) run.format stood;
+            stands = subst (λ (f : Format). worlds.StandsFor new
+                (with_line number run.lines (line_in f.version f.companions text))) run.format stood;
           });
     }
 
