@@ -1,80 +1,25 @@
 -- What a run did, by the words of its command line.
-use Rattle.std.proofs.Common.{◌≡◌, ◌∙◌, List, ap, sym, subst, inl, inr}
-use Rattle.std.specs.Prelude.{◌⊎◌, Bool, false, Option, Result, Ok, Err}
-use Rattle.css_model.specs.History.{Address, History}
+use Rattle.std.proofs.Common.{◌≡◌, ◌∙◌, ap, sym, subst, inl, inr}
+use Rattle.std.specs.Prelude.{◌⊎◌, Bool, false, Result, Ok, Err}
 use Rattle.css_num.specs.Gives.{GivesBy}
-use Rattle.css_follow.specs.Following.{Plan}
-use Rattle.css_follow.specs.declared.sheet.Sheet.{Sheet}
-use Rattle.css_drive.specs.declared.config.DriveConfig.{DriveConfig}
 use Rattle.css_words.specs.Commands.{Asked, Companion, asked_of}
-use Rattle.css_words.specs.Companion.{CompanionAsked, OptionsAsked}
-use Rattle.css_words.specs.Pair.{PairAsked}
-use Rattle.css_words.specs.Relay.{RelayAsked}
-use Rattle.css_drive_relay.specs.Due as relay
-use Rattle.css_drive_relay.specs.Due.{IsProperRelay}
-use Rattle.css_drive_relay.specs.declared.config.RelayRun.{RelayRun}
+use Rattle.css_words.specs.Companion.{CompanionAsked}
 use Rattle.css_words.specs.declared.command.Command.{Command}
 use Rattle.css_words.specs.declared.fault.WordsFault.{WordsFault}
 use Rattle.css_words.specs.declared.fault.WordsFault.TheVariants as words
-use Rattle.css_app.specs.declared.child.Child.{Child}
 use Rattle.css_replay.specs.declared.status.Status.{Status}
 use Rattle.css_replay.specs.declared.status.Status.TheVariants as status
-use Rattle.css_replay.specs.Devices.{SourceUse}
 use Rattle.css_replay.specs.Ended.{IsNoUsage}
-use Rattle.css_app.specs.Commands.{CompanionsBy, Does, EitherCompanion, EndsAsAsked, IsAskedRun, PairsAsAsked, PairsBy}
-use Rattle.css_app.specs.Commands.{TellsUsage, asked_child, asked_in}
+use Rattle.css_app.specs.Commands.{Does, EitherCompanion}
+use Rattle.css_app.specs.Commands.{TellsUsage, asked_in}
 use Rattle.css_app.specs.Devices.{Uses, unused}
-use Rattle.css_app.specs.Live.{Companions, EndsAsDue, IsMadeAsDue, Stage}
-use Rattle.css_app.specs.Relays.{IsAskedRelay, RelaysAsDue}
-use Rattle.css_app.specs.Pairs.{Children, Pairs, PairsAsDue, PairsByScript, address_at}
 use Rattle.css_app.proofs.Lacking.{lacks}
 
--- ---- a run by what the options ask for
-pub companions_by : (asked : CompanionAsked) (run : DriveConfig) (takes : Sheet → List Plan) (source : SourceUse)
-    (before now : Stage) (result : Status) → IsAskedRun asked.options asked.cii run
-    → Companions run takes source.left_old source.left_new before now result
-    → CompanionsBy asked takes source before now result
-companions_by asked run takes source before now result is (inl none) = inl none
-companions_by asked run takes source before now result is (inr ran) = inr (run, is, ran)
-
-pub ends_as_asked : (asked : OptionsAsked) (cii : Address) (run : DriveConfig) (before now : Option History)
-    (result : Status) → IsAskedRun asked cii run → EndsAsDue run before now result
-    → EndsAsAsked asked cii before now result
-ends_as_asked asked cii run before now result is (inl memory) = inl memory
-ends_as_asked asked cii run before now result is (inr due) = inr (run, is, due)
-
-pub relays_as_asked : (asked : RelayAsked) (run : RelayRun) (before now : Option History) (result : Status)
-    → IsAskedRelay asked run
-    → (result ≡ status.Memory) ⊎ IsMadeAsDue (IsProperRelay run) (relay.due run) before now result
-    → RelaysAsDue asked before now result
-relays_as_asked asked run before now result is (inl memory) = inl memory
-relays_as_asked asked run before now result is (inr due) = inr (run, is, due)
-
-pub pairs_by : (asked : PairAsked) (child : Child) (cii : Address) (run : DriveConfig) (takes : Sheet → List Plan)
-    (source : SourceUse) (before now : Stage) (kids_old kids_new : Children) (result : Status)
-    → child ≡ asked_child asked.tv → cii ≡ address_at child.port → IsAskedRun asked.companion cii run
-    → Pairs run takes child source.left_old source.left_new before now kids_old kids_new result
-    → PairsBy asked takes source before now kids_old kids_new result
-pairs_by asked child cii run takes source before now kids_old kids_new result of dials is (inl none) = inl none
-pairs_by asked child cii run takes source before now kids_old kids_new result of dials is (inr ran) =
-    inr (
-      run,
-      subst (λ (a : Address). IsAskedRun asked.companion a run) (dials ∙ ap (λ (k : Child). address_at k.port) of) is,
-      subst (λ (k : Child). PairsByScript run takes k source.left_old source.left_new before now kids_old kids_new
-          result) of ran,
-    )
-
-pub pairs_as_asked : (asked : PairAsked) (child : Child) (cii : Address) (run : DriveConfig)
-    (before now : Option History) (result : Status) → child ≡ asked_child asked.tv → cii ≡ address_at child.port
-    → IsAskedRun asked.companion cii run → PairsAsDue run before now result
-    → PairsAsAsked asked.companion (address_at asked.tv.port) before now result
-pairs_as_asked asked child cii run before now result of dials is (inl memory) = inl memory
-pairs_as_asked asked child cii run before now result of dials is (inr due) =
-    inr (
-      run,
-      subst (λ (a : Address). IsAskedRun asked.companion a run) (dials ∙ ap (λ (k : Child). address_at k.port) of) is,
-      due,
-    )
+-- what a run came to is so of one that the options ask for
+pub as_asked : {None Run : Type 0} {IsAsked Came : Run → Type 0} (run : Run) → IsAsked run → None ⊎ Came run
+    → None ⊎ ((run : Run) × IsAsked run × Came run)
+as_asked run is (inl none) = inl none
+as_asked run is (inr came) = inr (run, is, came)
 
 -- ---- words
 -- what was done for the words that were read was done for what is asked, whatever that is expected to be

@@ -2,6 +2,7 @@
 use Rattle.std.proofs.Common.{◌≡◌, ℕ, List, [], refl, sym, subst, arith, inl, inr}
 use Rattle.std.specs.Prelude.{Bool, true, false, Option, Some, unwrap_or, Result, Ok, Err}
 use Rattle.css_outside.proofs.Known.{appends_none, consumes_none}
+use Rattle.css_lines.specs.declared.ending.Stop.{Stop}
 use Rattle.css_lines.specs.declared.ending.Stop.TheVariants as stops
 use Rattle.css_lines.specs.Ending.{RanUntil, StopsInPiece}
 use Rattle.css_lines.specs.Lines.{whole_lines, last_part}
@@ -16,10 +17,13 @@ use Rattle.css_words.specs.declared.fault.WordsFault.{WordsFault}
 use Rattle.css_words.specs.declared.fault.WordsFault.TheVariants as words
 use Rattle.css_survey.specs.Generated.{schedule_text}
 use Rattle.css_survey.specs.Surveyed.{survey_text}
+use Rattle.css_replay.specs.declared.status.Status.{Status}
 use Rattle.css_replay.specs.declared.status.Status.TheVariants as status
 use Rattle.css_replay.specs.Replayed.{replayed}
 use Rattle.css_app.specs.Commands.{ByWriting, Does, EitherCompanion}
 use Rattle.css_app.specs.Devices.{Uses, unused}
+use Rattle.css_app.specs.Ended.{Reads, agree_status_of, audit_status_of}
+use Rattle.css_app.specs.Migrations.{migrate_status_of}
 
 module _ {Cause : Type 0} (meaning : Meaning Cause) where
   nothing_sound : IsSound meaning []
@@ -57,9 +61,14 @@ module _ {Cause : Type 0} (meaning : Meaning Cause) where
       subst (λ (l : Option (List ℕ)). RanUntil meaning bytes l holds holds stops.Memory) (sym is)
       (ran_none bytes holds)
 
+  reads_none : (status_of : Stop Cause → Status) (left holds : Option (List ℕ)) (bytes : List ℕ) → left ≡ Some bytes
+      → Reads meaning status_of bytes left holds holds (status_of stops.Memory)
+  reads_none status_of left holds bytes is =
+      inr (record { stop = stops.Memory; ran = ran_none_of left holds bytes is; told = refl })
+
 companion_lacks : (recorded : Bool) (asked : CompanionAsked) (used : Uses)
-    → EitherCompanion recorded asked (unused used).source (unused used).sink (unused used).outside (unused used).followers
-    status.Memory
+    → EitherCompanion recorded asked (unused used).source (unused used).sink (unused used).outside
+    (unused used).followers status.Memory
 companion_lacks true asked used = record {
   ran = inl (record { untouched = refl; unwritten = refl; lacks = refl });
   complete = λ written called. inl refl;
@@ -91,11 +100,7 @@ lacks (Ok Replay) used = record {
 }
 lacks (Ok Agree) used = record {
   no_usage = tt;
-  agrees = λ bytes is. inr (record {
-    stop = stops.Memory;
-    ran = ran_none_of agreeing used.source.left_old used.sink.holds_old bytes is;
-    told = refl;
-  });
+  agrees = reads_none agreeing agree_status_of used.source.left_old used.sink.holds_old;
   promise = record {
     read = [];
     printed = [];
@@ -107,21 +112,13 @@ lacks (Ok Agree) used = record {
 }
 lacks (Ok Audit) used = record {
   no_usage = tt;
-  audits = λ bytes is. inr (record {
-    stop = stops.Memory;
-    ran = ran_none_of auditing used.source.left_old used.sink.holds_old bytes is;
-    told = refl;
-  });
+  audits = reads_none auditing audit_status_of used.source.left_old used.sink.holds_old;
   right = λ done. absurd (cc);
   complete = λ bytes is right read written. tt;
 }
 lacks (Ok Migrate) used = record {
   no_usage = tt;
-  migrates = λ bytes is. inr (record {
-    stop = stops.Memory;
-    ran = ran_none_of migrated used.source.left_old used.sink.holds_old bytes is;
-    told = refl;
-  });
+  migrates = reads_none migrated migrate_status_of used.source.left_old used.sink.holds_old;
   complete = λ bytes is accepted read written. tt;
 }
 lacks (Ok (Companion asked)) used = companion_lacks asked.recorded asked used

@@ -1,23 +1,20 @@
 -- A companion's run beside a child, and the status of both.
-use Rattle.std.proofs.Common.{◌≡◌, ℕ, ◌+◌, ◌≤◌, ℤ, pos, Bool, true, false, cond, List, ◌∷◌}
-use Rattle.std.proofs.Common.{ap, refl, sym, subst, ◌∙◌, arith, inl, inr}
+use Rattle.std.proofs.Common.{◌≡◌, ℕ, ◌+◌, ◌≤◌, ℤ, pos, true, false, cond}
+use Rattle.std.proofs.Common.{ap, refl, subst, ◌∙◌, arith, inl, inr}
 use Rattle.std.specs.Prelude.{Option, Result, Ok, Err, OnOk, OnErr, MatchResult}
-use Rattle.std.specs.Option.{option_map}
 use Rattle.std.specs.Ordering.{int_eq}
 use Rattle.css_model.specs.History.{History}
 use Rattle.css_outside.specs.Faults.{CountsCall}
-use Rattle.css_outside.specs.Spawners.{Spawned, Started, Finished, TellsSpawned}
 use Rattle.css_outside.specs.declared.fault.OutFault.{OutFault}
 use Rattle.css_outside.specs.declared.fault.OutFault.TheVariants as fault
-use Rattle.css_follow.specs.Following.{Plan}
 use Rattle.css_drive.specs.declared.config.DriveConfig.{DriveConfig}
 use Rattle.css_drive.specs.declared.driven.Driven.{Driven}
 use Rattle.css_drive.specs.declared.driven.Driven.TheVariants as driven
 use Rattle.css_replay.specs.declared.status.Status.{Status}
 use Rattle.css_replay.specs.declared.status.Status.TheVariants as status
 use Rattle.css_replay.specs.Ended.{HasNotFailed, IsNoUsage}
-use Rattle.css_app.specs.Live.{EndsAsDue, Failures, IsAsDue, MakesRun, Stage, TellsFaults, driven_status}
-use Rattle.css_app.specs.Pairs.{PairsAsDue, RunsBeside, child_status, is_done, with_child}
+use Rattle.css_app.specs.Live.{EndsAsDue, Failures, IsAsDue, TellsFaults, driven_status}
+use Rattle.css_app.specs.Pairs.{PairsAsDue, child_status, with_child}
 
 -- ---- the status of both
 child_no_usage : (finished : Result ℤ OutFault) → IsNoUsage (child_status finished)
@@ -83,30 +80,11 @@ both_tell before now spawns _ finished told counted = record {
 }
 
 -- ---- the run
--- the child was started and waited for
-pub runs_beside : (config : DriveConfig) (plans : List Plan) (words : List (List ℕ)) (script : List ℕ)
-    (before now : Stage) (told_old told_mid told_new : Option (List Spawned)) (running_old running_mid running_new : ℕ)
-    (companion : Status) (finished : Result ℤ OutFault) (result : Status) → MakesRun config plans before now companion
-    → told_mid ≡ option_map (λ told. Started words script ∷ told) told_old → running_mid ≡ running_old + 1
-    → TellsSpawned told_mid told_new finished Finished
-    → OnOk finished (running_new + 1 ≡ running_mid) → OnErr finished (running_new ≡ running_mid)
-    → result ≡ with_child companion finished
-    → RunsBeside config plans words script before now (record { told = told_old; running = running_old })
-    (record { told = told_new; running = running_new }) result
-runs_beside config plans words script before now told_old told_mid told_new old mid new companion finished result made
-    started runs tells ok err is = record {
-      companion = companion;
-      makes = made;
-      finished = finished;
-      told = subst (λ t. TellsSpawned t told_new finished Finished) started tells;
-      running = by finished ok err;
-      tells = is;
-    }
-  where
-    by : (f : Result ℤ OutFault) → OnOk f (new + 1 ≡ mid) → OnErr f (new ≡ mid)
-        → MatchResult f (λ _. new ≡ old) (λ _. new ≡ old + 1)
-    by (Ok ended) ok err = omega (arith, ok, runs)
-    by (Err fault) ok err = err ∙ runs
+-- after a start one more child runs, until it was waited for
+pub running_after : (finished : Result ℤ OutFault) (old mid new : ℕ) → mid ≡ old + 1 → OnOk finished (new + 1 ≡ mid)
+    → OnErr finished (new ≡ mid) → MatchResult finished (λ _. new ≡ old) (λ _. new ≡ old + 1)
+running_after (Ok ended) old mid new more ok err = omega (arith, ok, more)
+running_after (Err fault) old mid new more ok err = err ∙ more
 
 -- the run was made to an end that was due, and the child ended
 paired_as_due : (config : DriveConfig) (before now : Option History) (companion : Status) (finished : Result ℤ OutFault)
@@ -116,17 +94,9 @@ paired_as_due config before now companion (Ok ended) old new due counted none =
     inr (record { companion = companion; due = due; ended = ended; tells = refl })
 paired_as_due config before now companion (Err (fault.Failed failure)) old new due counted none =
     absurd (omega (arith, counted.risen none.below, none.same))
-paired_as_due config before now companion (Err fault.Memory) old new due counted none = by (is_done companion) refl
-  where
-    by : (b : Bool) → is_done companion ≡ b → PairsAsDue config before now (with_child companion (Err fault.Memory))
-    by true e = inl (ap (λ c. cond c status.Memory companion) e)
-    by false e = inr (record {
-      companion = companion;
-      due = due;
-      ended = pos 0;
-      tells = ap (λ c. cond c status.Memory companion) e
-          ∙ sym (ap (λ c. cond c (child_status (Ok (pos 0))) companion) e);
-    })
+paired_as_due config before now status.Done (Err fault.Memory) old new due counted none = inl refl
+paired_as_due config before now companion (Err fault.Memory) old new due counted none =
+    inr (record { companion = companion; due = due; ended = pos 0; tells = refl })
 
 pub pairs_as_due : (config : DriveConfig) (before now : Option History) (companion : Status)
     (finished : Result ℤ OutFault) (old mid new : ℕ) → EndsAsDue config before now companion → mid ≡ old

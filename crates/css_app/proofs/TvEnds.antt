@@ -13,7 +13,7 @@ use Rattle.css_drive.specs.TvDue.{from_turn, unless_refused}
 use Rattle.css_drive.specs.TvTurns.{goes_on, is_over}
 use Rattle.css_drive.specs.declared.turns.Turns.{Turns}
 use Rattle.css_drive.specs.TvPeers.{above}
-use Rattle.css_drive.specs.TvProgress.{Place, Begins, Listens, Turned, Taken, Received, Answers, Served, Asked, Over}
+use Rattle.css_drive.specs.TvProgress.{Place, Listens, Turned, Answers, Asked, Over}
 use Rattle.css_drive.specs.TvProgress.{addresses_in, open_after, progress_of}
 use Rattle.css_drive.specs.Ends.{CountsDialFaults, MayEnd}
 use Rattle.css_drive.specs.declared.driven.Driven.{Driven}
@@ -47,15 +47,12 @@ answers peer [] = tt
 answers peer (datagram ∷ datagrams) = tt
 
 at_place : (run : TvRun) (live : List ℕ) (turns : Turns) (place : Place) → IsReached (due_at run live turns place)
-at_place run live turns Begins = tt
 at_place run live turns Listens = ends turns live
 at_place run live turns (Turned reading) = begins turns live
-at_place run live turns (Taken peer bytes) = tt
-at_place run live turns (Received peer ticket) = tt
 at_place run live turns (Answers peer datagrams) = answers peer datagrams
-at_place run live turns Served = tt
 at_place run live turns (Asked last) = texts turns live (above last live)
 at_place run live turns (Over last) = hangs (above (Some last) live)
+at_place run live turns _ = tt
 
 owing : (owed : List TvOut) (rest : Due) → IsReached rest → IsReached (unless_owed owed rest)
 owing [] rest so = so

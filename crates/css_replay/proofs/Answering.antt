@@ -40,14 +40,10 @@ faulted meant old fault (inr e) = absurd (cc)
 
 -- a line that was carried out answers what is meant
 pub answers-ok : (header : Header) (lines : List Numbered) (number : ℕ) (read : Result Line LineFault) (line : Line)
-    (old new : List ℕ)
-    → read ≡ Ok line
+    (old new : List ℕ) → read ≡ Ok line
     → appended old (line_meant header lines (record { number = number; line = line })) ≡ Ok new
     → Answers {T = Unit {0}} (read_meant header lines number read) old new (Ok tt)
-answers-ok header lines number read line old new is e =
-    subst (λ (r : Result Line LineFault). Answers {T = Unit {0}} (read_meant header lines number r) old new (Ok tt))
-    (sym is)
-    (record { cases = added (line_meant header lines (record { number = number; line = line })) old new e })
+answers-ok header lines number read line old new is e = rw is (record { cases = added _ old new e })
 
 -- and so does one that was refused
 pub answers-err : (header : Header) (lines : List Numbered) (number : ℕ) (read : Result Line LineFault) (line : Line)
@@ -58,16 +54,7 @@ pub answers-err : (header : Header) (lines : List Numbered) (number : ℕ) (read
     ⊎ (fault ≡ Memory))
     → Answers {T = Unit {0}} (read_meant header lines number read) old new (Err told)
 answers-err header lines number read line old new fault told is same e =
-    subst (λ (r : Result Line LineFault). Answers {T = Unit {0}} (read_meant header lines number r) old new (Err told))
-    (sym is)
-    (record {
-      cases = (
-        subst (λ (f : engine.LineFault Cause).
-            MayFault (caused (line_meant header lines (record { number = number; line = line }))) f) (sym same)
-            (faulted (line_meant header lines (record { number = number; line = line })) old fault e.1),
-        e.0,
-      );
-    })
+    rw (is, same) (record { cases = (faulted _ old fault e.1, e.0) })
 
 -- ---- what is not read
 -- what is said of anything that is not read

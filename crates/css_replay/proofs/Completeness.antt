@@ -11,9 +11,10 @@ use Rattle.css_replay.specs.Replayed.{replayed}
 use Rattle.css_replay.specs.declared.reader.Cause.TheVariants as causes
 use Rattle.css_replay.specs.Ended.{HasNotFailed, Replays, status_of}
 
-pub only_memory : {Cause : Type 0} {meaning : Meaning Cause} {bytes : List ℕ} {left holds_old holds_new : Option (List ℕ)}
-    {reads reads_new writes writes_new : ℕ} (stop : Stop Cause) → RanUntil meaning bytes left holds_old holds_new stop
-    → (outcome meaning bytes).verdict ≡ None → SourceCounts reads reads_new stop → SinkCounts writes writes_new stop
+pub only_memory : {Cause : Type 0} {meaning : Meaning Cause} {bytes : List ℕ}
+    {left holds_old holds_new : Option (List ℕ)} {reads reads_new writes writes_new : ℕ} (stop : Stop Cause)
+    → RanUntil meaning bytes left holds_old holds_new stop → (outcome meaning bytes).verdict ≡ None
+    → SourceCounts reads reads_new stop → SinkCounts writes writes_new stop
     → HasNotFailed reads reads_new → HasNotFailed writes writes_new → stop ≡ Memory
 only_memory (BadLine line why) ran accepted source sink read written =
     let verdict = sym (ap (λ (o : Outcome _). o.verdict) ran.verdict) ∙ accepted in

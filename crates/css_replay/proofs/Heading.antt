@@ -1,10 +1,9 @@
 -- The reader of a replay reads the lines of a header.
 use Rattle.std.proofs.Common.{◌≡◌, ℕ, ◌+◌, arith, ap, sym, subst, ◌∙◌, refl, ◌⊎◌}
-use Rattle.std.proofs.Common.{Bool, cond, List, [], ◌∷◌, length}
+use Rattle.std.proofs.Common.{List, [], ◌∷◌, length}
 use Rattle.std.specs.Prelude.{Some, None, Result, Ok, Err}
 use Rattle.std.proofs.lemmas.Bool.{eq-eqb, ne_eqb}
 use Rattle.std.proofs.lemmas.List.{length-append}
-use Rattle.css_lines.specs.Answers.{MayFault}
 use Rattle.css_lines.specs.declared.reader.LineFault as engine
 use Rattle.css_schedule.specs.declared.fault.LineFault.{LineFault}
 use Rattle.css_schedule.specs.declared.fault.LineFault.TheVariants as unreads
@@ -17,8 +16,7 @@ use Rattle.css_schedule.specs.Ranges.{IsStart, IsGoodHeader, IsGoodCompanion, Is
 use Rattle.css_replay.specs.declared.reader.Cause.{Cause}
 use Rattle.css_replay.specs.declared.reader.Format.{Format}
 use Rattle.css_replay.specs.declared.reader.Replay.{Replay}
-use Rattle.css_replay.specs.Replayed.{Extent, Opening, Outset, Running, Unread, declared, grown, next_companion, opened}
-use Rattle.css_replay.specs.Replayed.{started}
+use Rattle.css_replay.specs.Replayed.{Extent, Opening, Outset, Running, Unread, next_companion, opened}
 use Rattle.css_replay.specs.Stands.{Declares, Grows, IsAt, IsGrown, IsPart, ReadsOn, Starts, format_of}
 use Rattle.css_replay.specs.Stands.{unread_fault}
 use Rattle.css_replay.proofs.Answering.{unread-fault}
@@ -38,21 +36,19 @@ pub reads-one : (result : Result (Unit {0}) (engine.LineFault Cause)) (old new :
     → Starts new.world header result → new.format ≡ old.format → ReadsOn new Outset text result
 reads-one (Ok done) old new text start header is one read range starts same = λ number.
     let known : IsStart (One header) = subst IsStart one range in
-    let path = read ∙ ap (λ (s : Start). Ok s) one in (
-      ap (opened {T = Start}) path,
-      subst (IsAt new) (sym (ap started path))
-          (record {
-            format = same ∙ is.format ∙ ap (format_of 1) (sym known.1);
-            known = (omega arith, omega arith);
-            fits = known.1;
-            world = starts.0;
-            is = starts.1;
-            same = starts.2;
-            stands = starts.3;
-          }),
+    rw (read, one) (
+      refl,
+      record {
+        format = same ∙ is.format ∙ ap (format_of 1) (sym known.1);
+        known = (omega arith, omega arith);
+        fits = known.1;
+        world = starts.0;
+        is = starts.1;
+        same = starts.2;
+        stands = starts.3;
+      },
     )
-reads-one (Err fault) old new text start header is one read range starts same = λ number.
-    subst (MayFault (opened (header_of text))) (sym starts) tt
+reads-one (Err fault) old new text start header is one read range starts same = λ number. rw starts tt
 
 -- version 2 waits for its companions
 pub reads-two : (new : Replay) (text : List ℕ) (start : Start) (header : Header) (count : ℕ)
@@ -61,24 +57,23 @@ pub reads-two : (new : Replay) (text : List ℕ) (start : Start) (header : Heade
     → ReadsOn new Outset text (Ok tt)
 reads-two new text start header count two read range same kept none = λ number.
     let known : IsStart (Two header count) = subst IsStart two range in
-    let path = read ∙ ap (λ (s : Start). Ok s) two in
     let companions : new.format.companions ≡ count = ap (λ (f : Format). f.companions) same in
     let empty : length header.companions ≡ 0 = ap length known.1 in
     let low = known.2.low in
-    let high = known.2.high in (
-      ap (opened {T = Start}) path,
-      subst (IsAt new) (sym (ap started path))
-          (record {
-            companions = companions;
-            kept = kept;
-            part = record {
-              version = ap (λ (f : Format). f.version) same;
-              good = known.0;
-              more = omega (arith, companions, empty, low);
-              few = omega (arith, companions, high);
-            };
-            world = none;
-          }),
+    let high = known.2.high in
+    rw (read, two) (
+      refl,
+      record {
+        companions = companions;
+        kept = kept;
+        part = record {
+          version = ap (λ (f : Format). f.version) same;
+          good = known.0;
+          more = omega (arith, companions, empty, low);
+          few = omega (arith, companions, high);
+        };
+        world = none;
+      },
     )
 
 -- anything else is no header
@@ -141,13 +136,9 @@ pub reads-next : (result : Result (Unit {0}) (engine.LineFault Cause)) (new : Re
     → (companion : CompanionLine) × (next_companion header text ≡ Ok companion)
     × (more ≡ with_companion header companion) × IsGoodHeader more
     → Grows new more count result → ReadsOn new (Opening header count) text result
-reads-next (Ok done) new header more count text declares grows = λ number. (
-  ap (opened {T = CompanionLine}) declares.1,
-  subst (IsAt new)
-      (sym (ap (declared header count) declares.1 ∙ ap (λ (h : Header). grown h count) (sym declares.2))) grows,
-)
-reads-next (Err fault) new header more count text declares grows = λ number.
-    subst (MayFault (opened (next_companion header text))) (sym grows) tt
+reads-next (Ok done) new header more count text declares grows = λ number.
+    rw declares.1 (refl, rw declares.2 at grows)
+reads-next (Err fault) new header more count text declares grows = λ number. rw grows tt
 
 -- ---- a header with one companion more
 -- it may be whole
@@ -165,12 +156,9 @@ pub grows-whole : (result : Result (Unit {0}) (engine.LineFault Cause)) (old new
     → Starts new.world header result → new.format ≡ old.format → Grows new header old.format.companions result
 grows-whole (Ok done) old new header part whole starts same =
     let count = old.format.companions in
-    let path : grown header count ≡ Running header 2 [] =
-    ap (λ (b : Bool). cond b (Running header 2 []) (Opening header count))
-    (eq-eqb (length header.companions) count whole) in
     let format : old.format ≡ format_of 2 (length header.companions) =
     ap (λ (v : ℕ). format_of v count) part.version ∙ ap (format_of 2) (sym whole) in
-    subst (IsAt new) (sym path)
+    rw (eq-eqb (length header.companions) count whole)
     (record {
       format = same ∙ format;
       known = (omega arith, omega arith);
@@ -189,21 +177,17 @@ pub grows-more : (old new : Replay) (header : Header) → IsGrown old.format hea
     → Grows new header old.format.companions (Ok tt)
 grows-more old new header part apart same kept none =
     let count = old.format.companions in
-    let path : grown header count ≡ Opening header count =
-    ap (λ (b : Bool). cond b (Running header 2 []) (Opening header count))
-    (ne_eqb (length header.companions) count apart) in
     let within = part.within in
-    subst (IsAt new) (sym path)
+    rw (ne_eqb (length header.companions) count apart)
     (record {
       companions = ap (λ (f : Format). f.companions) same;
       kept = kept;
-      part = subst (λ (f : Format). IsPart f header) (sym same)
-          (record {
-            version = part.version;
-            good = part.good;
-            more = omega (arith, within, apart);
-            few = part.few;
-          });
+      part = rw same (record {
+        version = part.version;
+        good = part.good;
+        more = omega (arith, within, apart);
+        few = part.few;
+      });
       world = none;
     })
 

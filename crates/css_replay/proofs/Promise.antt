@@ -362,7 +362,7 @@ taken_text : (before : List (List ℕ)) (text sofar printed : List ℕ) → Take
     → meant_at (length before + 1) (reached before) text ≡ Ok printed
     → TakenAll (before ++ text ∷ []) (sofar ++ printed)
 taken_text before text sofar printed taken e =
-    subst (λ (x : Extent). TakenAt x (sofar ++ printed)) (sym (reached-push before text))
+    rw (reached-push before text)
     (taken-at (length before + 1) (reached before) text sofar printed (is_next before) taken e)
 
 -- ---- the whole input

@@ -5,7 +5,6 @@ use Rattle.std.specs.Prelude.{Some, None, Result, Ok, Err, OnOk, MatchResult}
 use Rattle.std.proofs.lemmas.List.{append-nil, length-append}
 use Rattle.css_lines.specs.Answers.{Answers, MayFault}
 use Rattle.css_lines.specs.declared.reader.LineFault as engine
-use Rattle.css_schedule.specs.declared.fault.LineFault.{LineFault}
 use Rattle.css_schedule.specs.declared.header.Header.{Header}
 use Rattle.css_schedule.specs.Lines.{line_in}
 use Rattle.css_schedule.specs.Ranges.{IsVersion, FitsFirst}
@@ -76,25 +75,19 @@ after_text replay old new number text is header goes before e stands =
     let next : worlds.IsNext number run.lines =
     subst (λ (n : ℕ). worlds.IsNext n run.lines) (sym e) (is_next before old.header run.version run.lines run.is) in
     let stood = goes run.lines run.stands next in
-    let lines = with_line number run.lines (line_in run.version (length old.header.companions) text) in
-    let read : worlds.StandsFor new lines =
-    subst (λ (f : Format). worlds.StandsFor new (with_line number run.lines (line_in f.version f.companions text)))
-    run.format stood in
-    let at : IsAt (record replay { world = Some new; last = number }) (Running old.header run.version lines) = record {
-      format = run.format;
-      known = run.known;
-      fits = run.fits;
-      world = new;
-      is = refl;
-      same = header;
-      stands = read;
-    } in
-    let reaches : Running old.header run.version lines ≡ reached (before ++ text ∷ []) =
-    ap (λ (n : ℕ). after n (Running old.header run.version run.lines) text) e
-    ∙ ap (λ (x : Extent). after (length before + 1) x text) (sym run.is) ∙ sym (reached-push before text) in
     record {
       last = e ∙ sym (push-length before text);
-      at = subst (IsAt (record replay { world = Some new; last = number })) reaches at;
+      at = rw (reached-push before text, run.is, ← e)
+          (record {
+            format = run.format;
+            known = run.known;
+            fits = run.fits;
+            world = new;
+            is = refl;
+            same = header;
+            stands = subst (λ (f : Format). worlds.StandsFor new
+                (with_line number run.lines (line_in f.version f.companions text))) run.format stood;
+          });
     }
 
 -- the replay stands for one text more
@@ -119,12 +112,10 @@ pub answers-line : (result : Result (Unit {0}) (engine.LineFault Cause)) (replay
     → Answers (meant_at (length before + 1) (reached before) text) before_out after_out result
 answers-line result replay old number text before_out after_out is answers before stands e =
     let run = runs replay old (reached before) is stands.at in
-    subst (λ (x : Extent). Answers (meant_at (length before + 1) x text) before_out after_out result) (sym run.is)
-    (subst (λ (n : ℕ). Answers (meant_at n (Running old.header run.version run.lines) text) before_out after_out result)
-    e
+    rw (run.is, ← e)
     (subst (λ (f : Format).
     Answers (read_meant old.header run.lines number (line_in f.version f.companions text)) before_out after_out result)
-    run.format (answers run.lines run.stands)))
+    run.format (answers run.lines run.stands))
 
 -- ---- a line of the header
 -- what is read answers what is meant
@@ -154,7 +145,7 @@ stands-header (Ok done) old new number text reads last counts = λ before stands
     let read = reads (reached before) stands.at (length before + 1) in
     record {
       last = last ∙ counts before stands ∙ sym (push-length before text);
-      at = subst (IsAt new) (sym (reached-push before text)) read.1;
+      at = rw (reached-push before text) read.1;
     }
 stands-header (Err fault) old new number text reads last counts = tt
 

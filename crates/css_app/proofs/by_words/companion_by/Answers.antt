@@ -1,7 +1,5 @@
 use Rattle.std.proofs.Common.{inr}
-use Rattle.css_words.specs.Companion.{companion_of}
-use Rattle.css_replay.specs.Devices.{source_use}
-use Rattle.css_app.proofs.Commands.{companions_by, ends_as_asked}
+use Rattle.css_app.proofs.Commands.{as_asked}
 use Rattle.css_app.proofs.by_words.companion_by.Goals as goal
 
 -- with a record
@@ -11,8 +9,7 @@ returns-then-recorded-clause-does g c =
     (record {
       ran = inr (c.run_of-run.result, c.run_of-run.ensures.asked, c.record_companion.ensures.makes);
       complete = λ wrote called.
-          ends_as_asked _ _ c.run_of-run.result _ _ _ c.run_of-run.ensures.asked
-          (c.record_companion.ensures.complete wrote called);
+          as_asked c.run_of-run.result c.run_of-run.ensures.asked (c.record_companion.ensures.complete wrote called);
     })
 
 pub returns-then-recorded-clause-counted : goal.returns-then-recorded-clause-counted
@@ -29,11 +26,9 @@ pub returns-clause-does : goal.returns-clause-does
 returns-clause-does g c =
     rw c.if-recorded.false
     (record {
-      ran = companions_by (companion_of c.args.words) c.run_of-run.result _
-          (source_use g.S.Source.left g.S.Source.faults c.args.source.now c.companion.new.source) _ _ _
-          c.run_of-run.ensures.asked c.companion.ensures.ran;
+      ran = as_asked c.run_of-run.result c.run_of-run.ensures.asked c.companion.ensures.ran;
       complete = λ bytes sheet is ok read wrote called.
-          ends_as_asked _ _ c.run_of-run.result _ _ _ c.run_of-run.ensures.asked
+          as_asked c.run_of-run.result c.run_of-run.ensures.asked
           (c.companion.ensures.complete bytes sheet is ok read wrote called);
     })
 

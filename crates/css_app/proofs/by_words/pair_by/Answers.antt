@@ -1,7 +1,5 @@
 use Rattle.std.proofs.Common.{refl, inl}
-use Rattle.css_words.specs.Pair.{pair_of}
-use Rattle.css_replay.specs.Devices.{source_use}
-use Rattle.css_app.proofs.Commands.{pairs_as_asked, pairs_by}
+use Rattle.css_app.proofs.Commands.{as_asked}
 use Rattle.css_app.proofs.by_words.pair_by.Goals as goal
 
 pub returns-in-Err-clause-does : goal.returns-in-Err-clause-does
@@ -11,15 +9,14 @@ returns-in-Err-clause-does g c = record {
 }
 
 pub returns-clause-does : goal.returns-clause-does
-returns-clause-does g c = record {
-  ran = pairs_by (pair_of c.args.words) c.child_of-child.result c.in-Ok.cii c.run_of-run.result _
-      (source_use g.S.Source.left g.S.Source.faults c.args.source.now c.pair.new.source) _ _ _ _ _
-      c.child_of-child.ensures c.in-Ok.ensures c.run_of-run.ensures.asked c.pair.ensures.ran;
-  complete = λ bytes script is ok read wrote called spawned.
-      pairs_as_asked (pair_of c.args.words) c.child_of-child.result c.in-Ok.cii c.run_of-run.result _ _ _
-      c.child_of-child.ensures c.in-Ok.ensures c.run_of-run.ensures.asked
-      (c.pair.ensures.complete bytes script is ok read wrote called spawned);
-}
+returns-clause-does g c =
+    let asked = rw (c.in-Ok.ensures, c.child_of-child.ensures) at c.run_of-run.ensures.asked in
+    record {
+      ran = as_asked c.run_of-run.result asked (rw c.child_of-child.ensures at c.pair.ensures.ran);
+      complete = λ bytes script is ok read wrote called spawned.
+          as_asked c.run_of-run.result asked
+          (c.pair.ensures.complete bytes script is ok read wrote called spawned);
+    }
 
 pub returns-clause-counted : goal.returns-clause-counted
 returns-clause-counted g c = record {

@@ -1,7 +1,6 @@
-use Rattle.std.proofs.Common.{subst, ap, refl, inl, inr, ◌∙◌, arith}
+use Rattle.std.proofs.Common.{subst, refl, inl, inr, arith}
 use Rattle.css_outside.specs.Faults.{CountsOutFault}
-use Rattle.css_app.specs.Pairs.{children}
-use Rattle.css_app.proofs.Pairs.{both_no_usage, both_tell, pairs_as_due, runs_beside}
+use Rattle.css_app.proofs.Pairs.{both_no_usage, both_tell, pairs_as_due, running_after}
 use Rattle.css_app.proofs.live_pair.run_beside.Goals as goal
 
 -- the child was not started
@@ -9,8 +8,7 @@ pub returns-in-Err-Failed-clause-ran : goal.returns-in-Err-Failed-clause-ran
 returns-in-Err-Failed-clause-ran g c =
     inl (record {
       untouched = refl;
-      children = ap (λ t. children t (g.P.Spawner.running c.start.new.self)) c.in-Err-Failed.ensures.told
-          ∙ ap (λ r. children (g.P.Spawner.told c.args.spawner.now) r) c.in-Err-Failed.ensures.err;
+      children = rw (c.in-Err-Failed.ensures.told, c.in-Err-Failed.ensures.err);
       cause = tt;
     })
 
@@ -24,8 +22,7 @@ pub returns-in-Err-Memory-clause-ran : goal.returns-in-Err-Memory-clause-ran
 returns-in-Err-Memory-clause-ran g c =
     inl (record {
       untouched = refl;
-      children = ap (λ t. children t (g.P.Spawner.running c.start.new.self)) c.in-Err-Memory.ensures.told
-          ∙ ap (λ r. children (g.P.Spawner.told c.args.spawner.now) r) c.in-Err-Memory.ensures.err;
+      children = rw (c.in-Err-Memory.ensures.told, c.in-Err-Memory.ensures.err);
       cause = tt;
     })
 
@@ -35,10 +32,15 @@ returns-in-Err-Memory-clause-complete g c wrote called spawned = inl refl
 -- the child was started
 pub returns-clause-ran : goal.returns-clause-ran
 returns-clause-ran g c =
-    inr (runs_beside c.args.config _ c.args.words.now c.args.script.now _ _ _ _ _ _ _ _ c.make_run-companion.result
-    c.finish-finished.result c.with_child.result c.make_run-companion.ensures.makes c.in-Ok.ensures.told
-    c.in-Ok.ensures.ok c.finish-finished.ensures.told c.finish-finished.ensures.ok c.finish-finished.ensures.err
-    c.with_child.ensures)
+    let finish = c.finish-finished.ensures in
+    inr (record {
+      companion = c.make_run-companion.result;
+      makes = c.make_run-companion.ensures.makes;
+      finished = c.finish-finished.result;
+      told = rw c.in-Ok.ensures.told at finish.told;
+      running = running_after c.finish-finished.result _ _ _ c.in-Ok.ensures.ok finish.ok finish.err;
+      tells = c.with_child.ensures;
+    })
 
 pub returns-clause-complete : goal.returns-clause-complete
 returns-clause-complete g c wrote called spawned =

@@ -1,10 +1,5 @@
-use Rattle.std.proofs.Common.{length, sym, subst}
-use Rattle.std.specs.Prelude.{Result}
+use Rattle.std.proofs.Common.{length}
 use Rattle.css_schedule.specs.Lines.{line_in}
-use Rattle.css_schedule.specs.declared.fault.LineFault.{LineFault}
-use Rattle.css_schedule.specs.declared.line.Line.{Line}
-use Rattle.css_world.specs.Standing as worlds
-use Rattle.css_replay.specs.Replayed.{with_line}
 use Rattle.css_replay.proofs.Answering.{answers-ok, answers-err, answers-unread, of-second}
 use Rattle.css_replay.proofs.reader.carry_out.Goals as goal
 
@@ -30,21 +25,18 @@ returns-in-Err-clause-stands c = λ lines stands next. tt
 
 pub returns-in-Ok-line-clause-answers : goal.returns-in-Ok-line-clause-answers
 returns-in-Ok-line-clause-answers c = λ lines stands.
-    answers-ok c.args.world.now.header lines c.args.number
-    (line_in c.args.format.version c.args.format.companions c.args.text.now) c.in-Ok.line c.args.out.now.items
-    c.line.new.out.items c.in-Ok.ensures.value (c.in-Ok-line.ensures.answers lines stands)
+    answers-ok c.args.world.now.header lines c.args.number _ c.in-Ok.line c.args.out.now.items c.line.new.out.items
+    c.in-Ok.ensures.value (c.in-Ok-line.ensures.answers lines stands)
 
 pub returns-in-Ok-line-clause-stands : goal.returns-in-Ok-line-clause-stands
 returns-in-Ok-line-clause-stands c = λ lines stands next.
-    subst (λ (r : Result Line LineFault). worlds.StandsFor c.line.new.self (with_line c.args.number lines r))
-    (sym c.in-Ok.ensures.value) (c.in-Ok-line.ensures.stands lines stands next)
+    rw c.in-Ok.ensures.value (c.in-Ok-line.ensures.stands lines stands next)
 
 pub returns-in-Err-line-clause-answers : goal.returns-in-Err-line-clause-answers
 returns-in-Err-line-clause-answers c = λ lines stands.
-    answers-err c.args.world.now.header lines c.args.number
-    (line_in c.args.format.version c.args.format.companions c.args.text.now) c.in-Ok.line c.args.out.now.items
-    c.line.new.out.items c.in-Err-line.fault c.refused.result c.in-Ok.ensures.value
-    c.refused.ensures (c.in-Err-line.ensures.answers lines stands)
+    answers-err c.args.world.now.header lines c.args.number _ c.in-Ok.line c.args.out.now.items c.line.new.out.items
+    c.in-Err-line.fault c.refused.result c.in-Ok.ensures.value c.refused.ensures
+    (c.in-Err-line.ensures.answers lines stands)
 
 pub returns-in-Err-line-clause-stands : goal.returns-in-Err-line-clause-stands
 returns-in-Err-line-clause-stands c = λ lines stands next. tt
