@@ -1,7 +1,7 @@
 -- How a television's run comes on from part to part of its loop.
 use Rattle.std.proofs.Common.{◌≡◌, ℕ, ◌+◌, ◌≤◌, ◌<◌, Bool, true, false, cond, List, [], ◌∷◌, ◌++◌, Option, Some, None}
 use Rattle.std.proofs.Common.{refl, sym, ap, ap₂, subst, ◌∙◌, arith, Result, Ok, Err}
-use Rattle.std.specs.Prelude.{nat_lt, not, ◌&&◌, is_some, ◌↔◌}
+use Rattle.std.specs.Prelude.{is_some, ◌↔◌}
 use Rattle.std.proofs.lemmas.List.Elements.{All-push}
 use Rattle.std.specs.Option.{option_map, option_to_list}
 use Rattle.css_model.specs.Wire.{encoded}
@@ -11,7 +11,6 @@ use Rattle.css_model.specs.declared.Why.TheVariants as why
 use Rattle.css_model.specs.History.{History, Accepted, Sent}
 use Rattle.css_num.specs.declared.protocol.Kind.{Kind}
 use Rattle.css_num.specs.declared.protocol.Kind.TheVariants as kind
-use Rattle.css_outside.specs.Limits.{most_turns}
 use Rattle.css_outside.specs.Outsides.{with_entries}
 use Rattle.css_server.specs.Tickets.{Ticket, response_to, follow_up_for}
 use Rattle.css_sessions.specs.Kept.{talk_of}
@@ -26,7 +25,7 @@ use Rattle.css_drive.specs.TvProgress.{opened, answering, addresses_in, open_aft
 use Rattle.css_drive.specs.TvDue.{TvRun, due_for, from_hang_ups}
 use Rattle.css_drive.specs.TvTurns.{begun, goes_on, is_over}
 use Rattle.css_drive.specs.TvPeers.{Knows, has}
-use Rattle.css_drive.specs.TvStanding.{Adds, IsRead, Told, Airs, IsAt, Settles, Happens, IsTurned, IsAtEnd, Arrives}
+use Rattle.css_drive.specs.TvStanding.{Adds, IsRead, Told, Airs, IsAt, Settles, Happens, IsAtEnd, Arrives}
 use Rattle.css_drive.specs.TvStanding.{IsUnused, progress_at, with_peers}
 use Rattle.css_drive.specs.declared.driven.Driven.{Driven}
 use Rattle.css_drive.specs.declared.on_air.OnAir.{OnAir}
@@ -57,10 +56,6 @@ not_open r true i e = absurd (let f : r ≡ true = i.1 refl in cc)
 abbrev pub peer_kind_of : Kind → PeerKind
 peer_kind_of kind.Cii = peer_kind.Cii
 peer_kind_of kind.Ts = peer_kind.Ts
-
-never : (b : Bool) → (b && false) ≡ false
-never true = refl
-never false = refl
 
 module _ {run : TvRun} {start told : Option History} {peers : ℕ} {air : OnAir} where
   -- ---- what is owed
@@ -175,15 +170,3 @@ module _ {run : TvRun} {start told : Option History} {peers : ℕ} {air : OnAir}
       (ap (λ (t : Turns). settled (addresses_in run.config) (progress_at run
       (record { tv = air.tv; peers = air.peers; lines = air.lines; turns = t }) (Turned reading) [] x.is_at.events))
       (sym is))
-
-  -- where the turn is the last by its time, it is at its end with the lines
-  pub over_at_end : IsTurned run start told peers air → is_over air.turns ≡ true → IsAtEnd run start told peers air
-  over_at_end x over =
-      let live = open_after (addresses_in run.config) x.1.events in
-      let some = nat_lt air.turns.made (most_turns air.turns.limit) in
-      record {
-        place = Turned x.0;
-        is_at = x.1;
-        ends = ap (λ b. cond b (from_hang_ups live) TakeDatagram) over
-            ∙ sym (ap (λ b. cond b (Now why.Turn) (from_hang_ups live)) (ap (λ b. some && not b) over ∙ never some));
-      }

@@ -1,10 +1,9 @@
-use Rattle.std.proofs.Common.{rules, ◌≡◌, ◌+◌, ◌∙◌, ◌∷◌, ℕ, List, sym, subst, arith, drop, get_or}
+use Rattle.std.proofs.Common.{rules, ◌≡◌, ◌+◌, ◌∙◌, ◌∷◌, ℕ, List, subst, arith, drop, get_or}
 use Rattle.css_drive.proofs.TvSteps.{cause_later, cause_plain, counts_kept, stops_by_fault, peers_kept}
 use Rattle.css_drive.proofs.TvMoves.{is_live, not_open}
 use Rattle.css_drive.proofs.TvLines.{peers_all}
 use Rattle.css_drive.proofs.TvLoops.{all_to_hang_up, hung_next, hung_past, all_hung}
 use Rattle.css_drive.proofs.TvOpens.{peer_from}
-use Rattle.css_drive.specs.TvStanding.{HangsUp, KeepsCounts}
 use Rattle.css_drive.proofs.tv_calls.hang_up_all.Goals.{then-is_open+in-Ok, else-is_open}
 use Rattle.css_drive.proofs.tv_calls.hang_up_all.Goals as goal
 
@@ -14,8 +13,7 @@ loop-peer-init g c = record { goes = λ run start enough s. all_to_hang_up s eno
 pub returns-in-Err-clause-ends : goal.returns-in-Err-clause-ends
 returns-in-Err-clause-ends g c run start enough s =
     let x = c.loop-peer.invariant.goes run start enough s in
-    stops_by_fault x.is_at.history (g.O.Outside.told c.hang_up.new.self) c.in-Err.ensures.told c.fault_of.result
-    c.fault_of.ensures.fault
+    stops_by_fault x.is_at.history _ c.in-Err.ensures.told _ c.fault_of.ensures.fault
 
 pub loop-peer-preserved : goal.loop-peer-preserved
 loop-peer-preserved g c =
@@ -30,23 +28,18 @@ loop-peer-preserved g c =
           let x = c.loop-peer.invariant.goes run start enough s in
           elim c.if-is_open.branch [
             | then-is_open+in-Ok w ↦
-                subst (λ o. HangsUp run start (g.O.Outside.told o) (g.O.Outside.counts o).peers c.args.air.now (i + 1))
-                (sym w.outside-is)
+                rw w.outside-is
                 (hung_next x peer e (is_live x.is_at peer ∙ c.is_open.ensures.0 w.if-is_open.true)
                 w.in-Ok.ensures.told (peers_kept w.in-Ok.ensures.counted))
             | else-is_open w ↦
-                subst (λ o. HangsUp run start (g.O.Outside.told o) (g.O.Outside.counts o).peers c.args.air.now (i + 1))
-                (sym w.outside-is)
-                (hung_past x peer e
-                (is_live x.is_at peer ∙ not_open _ _ c.is_open.ensures w.if-is_open.false))
+                rw w.outside-is
+                (hung_past x peer e (is_live x.is_at peer ∙ not_open _ _ c.is_open.ensures w.if-is_open.false))
           ];
       counts = elim c.if-is_open.branch [
         | then-is_open+in-Ok w ↦
-            subst (λ o. KeepsCounts (g.O.Outside.counts c.args.outside.now) (g.O.Outside.counts o)) (sym w.outside-is)
-            (counts_kept c.loop-peer.invariant.counts w.in-Ok.ensures.counted)
+            rw w.outside-is (counts_kept c.loop-peer.invariant.counts w.in-Ok.ensures.counted)
         | else-is_open w ↦
-            subst (λ o. KeepsCounts (g.O.Outside.counts c.args.outside.now) (g.O.Outside.counts o)) (sym w.outside-is)
-            c.loop-peer.invariant.counts
+            rw w.outside-is c.loop-peer.invariant.counts
       ];
     }
 

@@ -7,24 +7,17 @@ use Rattle.css_drive.proofs.tv_turns.start.Goals as goal
 
 pub returns-in-Err-clause-goes : goal.returns-in-Err-clause-goes
 returns-in-Err-clause-goes g c script =
-    stops_by_fault (at_first (run_of c.args.run script) (g.O.Outside.told c.args.outside.now) 0)
-    (g.O.Outside.told c.listen.new.self)
-    c.in-Err.ensures.told
-    c.fault_of.result c.fault_of.ensures.fault
+    stops_by_fault (at_first (run_of c.args.run script) (g.O.Outside.told c.args.outside.now) 0) _ c.in-Err.ensures.told
+    _ c.fault_of.ensures.fault
 
 pub returns-in-Err-new-clause-goes : goal.returns-in-Err-new-clause-goes
 returns-in-Err-new-clause-goes g c script =
-    let told = g.O.Outside.told c.listen.new.self in
-    stops_by_fault
-    (listens (run_of c.args.run script) (g.O.Outside.told c.args.outside.now) told 0 c.in-Ok.ensures.told) told
-    refl driven.Memory tt
+    stops_by_fault (listens (run_of c.args.run script) _ _ 0 c.in-Ok.ensures.told) _ refl driven.Memory tt
 
 pub returns-in-Ok-new-clause-goes : goal.returns-in-Ok-new-clause-goes
 returns-in-Ok-new-clause-goes g c script =
-    begun (run_of c.args.run script) (g.O.Outside.told c.args.outside.now) (g.O.Outside.told c.listen.new.self)
-    (g.O.Outside.counts c.listen.new.self).peers
-    c.in-Ok.ensures.told _ c.in-Ok-new.ensures.addresses c.in-Ok-new.ensures.stands c.in-Ok-new.ensures.server
-    c.new-in-Ok-new.ensures.items c.new-turns.ensures refl
+    begun (run_of c.args.run script) _ _ _ c.in-Ok.ensures.told _ c.in-Ok-new.ensures.addresses
+    c.in-Ok-new.ensures.stands c.in-Ok-new.ensures.server c.new-in-Ok-new.ensures.items c.new-turns.ensures refl
 
 pub returns-in-Err-clause-cause : goal.returns-in-Err-clause-cause
 returns-in-Err-clause-cause g c =
