@@ -13,7 +13,7 @@ use Rattle.css_companion.specs.Standing.{Companion, own_of}
 use Rattle.css_companion.specs.declared.report.Report.{Report}
 use Rattle.css_drive.specs.CompanionDue.{due, from_end}
 use Rattle.css_drive.specs.CompanionReports.{report_at}
-use Rattle.css_drive.specs.CompanionStanding.{Shown, Knows, Comes, Stops, Made, IsFault, IsEarly, IsSo, IsEndBy}
+use Rattle.css_drive.specs.CompanionStanding.{Shown, Knows, Comes, Stops, Made, IsEarly, IsSo}
 use Rattle.css_drive.specs.CompanionStanding.{IsEndOf, final_end, ending_of, facts_of, facts_in, HasTried}
 use Rattle.css_drive.specs.Ends.{MayEnd, CountsNetFault, CountsDialFaults}
 use Rattle.css_drive.specs.Notes.{Note}
@@ -35,20 +35,9 @@ reports_so config companion history reading report k e =
     ∙ ap (λ x. report_after config.companion.local x.selector history reading) k.setup
 
 -- ---- how it may end
-pub fault_early : (ended : Driven) → IsFault ended → IsEarly ended
-fault_early (driven.NetFault failure) f = tt
-fault_early driven.Memory f = tt
-fault_early _ f = absurd f
-
-pub fails_early : (over : Option OutFault) (ended : Driven) → IsEndBy over ended → IsEarly ended
-fails_early None ended f = fault_early ended f
-fails_early (Some (fault.Failed failure)) ended f = subst IsEarly (sym f) tt
-fails_early (Some fault.Memory) ended f = subst IsEarly (sym f) tt
-
-pub hung_early : (over : Option OutFault) (end ended : Driven) → IsEarly end → (ended ≡ end) ⊎ IsEndBy over ended
-    → IsEarly ended
-hung_early over end ended early (inl e) = subst IsEarly (sym e) early
-hung_early over end ended early (inr f) = fails_early over ended f
+pub hung_early : (end ended : Driven) → IsEarly end → (ended ≡ end) ⊎ IsEarly ended → IsEarly ended
+hung_early end ended early (inl e) = subst IsEarly (sym e) early
+hung_early end ended early (inr f) = f
 
 -- ---- counts of failed dials
 pub early_dials : (before now : ℕ) (ended : Driven) → IsEarly ended → before ≤ now
@@ -71,14 +60,13 @@ ending_dials before now turns None (Some x) ts le tried = le
 ending_dials before now turns None None (Some x) le tried = le
 ending_dials before now turns None None None le tried = tried refl
 
-pub hung_dials : (before now turns : ℕ) (cii wc ts : Option ℕ) (over : Option OutFault) (end ended : Driven)
-    → before ≤ now → (cii ≡ None → HasRisen before now) → end ≡ ending_of turns cii wc ts
-    → (ended ≡ end) ⊎ IsEndBy over ended → CountsDialFaults before now ended
-hung_dials before now turns cii wc ts over end ended le tried so (inl e) =
+pub hung_dials : (before now turns : ℕ) (cii wc ts : Option ℕ) (end ended : Driven) → before ≤ now
+    → (cii ≡ None → HasRisen before now) → end ≡ ending_of turns cii wc ts → (ended ≡ end) ⊎ IsEarly ended
+    → CountsDialFaults before now ended
+hung_dials before now turns cii wc ts end ended le tried so (inl e) =
     let P : Driven → Type 0 = λ x. CountsDialFaults before now x in
     subst P (sym (e ∙ so)) (ending_dials before now turns cii wc ts le tried)
-hung_dials before now turns cii wc ts over end ended le tried so (inr f) =
-    early_dials before now ended (fails_early over ended f) le
+hung_dials before now turns cii wc ts end ended le tried so (inr f) = early_dials before now ended f le
 
 -- a count that rose since a later one rose since an earlier one
 pub risen_from : (was before now : ℕ) → was ≤ before → HasRisen before now → HasRisen was now

@@ -1,5 +1,5 @@
 //! Single calls of a companion's run.
-ghost use Rattle.std.specs.Prelude.{◌≡◌, ◌≤◌, [], ◌∷◌, ℕ, Option, None, Some, IfOk, IfErr, OnOk};
+ghost use Rattle.std.specs.Prelude.{◌≡◌, ◌≤◌, [], ◌∷◌, Option, None, Some, IfOk, IfErr, OnOk};
 ghost use Rattle.css_model.specs.History.{Sent};
 ghost use Rattle.css_outside.specs.Faults.{CountsOutFault, HasRisen};
 ghost use Rattle.css_outside.specs.declared.fault.OutFault.{OutFault as Fault};

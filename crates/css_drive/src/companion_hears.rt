@@ -10,7 +10,7 @@ ghost use Rattle.css_companion.specs.Meanings.{kind_of};
 ghost use Rattle.css_drive.specs.CompanionDue.{due, from_ask, from_take, from_cii_text, from_ts_text, from_end};
 ghost use Rattle.css_drive.specs.CompanionDue.{refusal_of};
 ghost use Rattle.css_drive.specs.CompanionStanding.{Shown, shown, at, Stands, Knows, Leads, LeadsFrom, Goes, Stops};
-ghost use Rattle.css_drive.specs.CompanionStanding.{Stays, Calls, Adds, IsHangingUp, IsEarly, IsEndBy, IsRefusal, hung};
+ghost use Rattle.css_drive.specs.CompanionStanding.{Stays, Calls, Adds, IsHangingUp, IsEarly, IsRefusal, hung};
 ghost use Rattle.css_drive.specs.CompanionTurns.{is_asking};
 ghost use Rattle.css_drive.specs.Proper.{Now};
 
@@ -268,7 +268,7 @@ pub fn hang_up<O: Outside, W: Observes>(
         → Stops config.now before (shown (O.told outside.new) (O.counts outside.new)) (W.saw started observer.now)
         (W.over observer.now) result }
     ensures dials { (O.counts outside.old).dial_faults ≤ (O.counts outside.new).dial_faults }
-    ensures kind { (result ≡ end) ⊎ IsEndBy (W.over observer.now) result }
+    ensures kind { (result ≡ end) ⊎ IsEarly result }
 {
     match hang_up_one(outside, observer, live.cii_open) {
         Ok(()) => {}

@@ -9,7 +9,7 @@ pub returns-in-Err : goal.returns-in-Err
 returns-in-Err g c = record {
   stops = λ before started h s l i. stops_by_fault s l c.in-Err.ensures s.saw_so;
   dials = c.in-Err.ensures.dials;
-  kind = inr c.in-Err.ensures.end;
+  kind = inr c.in-Err.ensures.early;
 }
 
 pub returns-in-Ok-hang_up_one : goal.returns-in-Ok-hang_up_one
@@ -34,5 +34,5 @@ returns-in-Err-hang_up_one g c = record {
       let x = ends.hung_cii (record { history = h; stands = s; lawful = l; hanging = i }) c.in-Ok.ensures in
       stops_by_fault x.stands x.lawful c.in-Err-hang_up_one.ensures x.stands.saw_so;
   dials = omega (arith, ap (λ x. x.dial_faults) c.in-Ok.ensures.same, c.in-Err-hang_up_one.ensures.dials);
-  kind = inr c.in-Err-hang_up_one.ensures.end;
+  kind = inr c.in-Err-hang_up_one.ensures.early;
 }

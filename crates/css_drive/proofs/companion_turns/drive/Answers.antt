@@ -61,7 +61,7 @@ returns g c =
     let now = g.O.Outside.counts c.hang_up-ended.new.outside in
     let le : (g.O.Outside.counts c.args.outside.now).dial_faults ≤ now.dial_faults =
     omega (arith, i.dials, c.hang_up-ended.ensures.dials) in
-    let hung = runs.hung_dials _ _ c.turns.live.made c.turns.live.cii c.turns.live.wc c.turns.live.ts _ _ _ le
+    let hung = runs.hung_dials _ _ c.turns.live.made c.turns.live.cii c.turns.live.wc c.turns.live.ts _ _ le
     (λ none. runs.risen_to _ _ _ c.hang_up-ended.ensures.dials (i.tried begun none)) c.ending-end.ensures
     c.hang_up-ended.ensures.kind in
     record {

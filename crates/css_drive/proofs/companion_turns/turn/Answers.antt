@@ -33,7 +33,7 @@ returns-then-live-config g c = record {
   made = tt;
   reported = tt;
   dials = omega (arith, c.start.ensures.dials, c.hang_up.ensures.dials);
-  early = runs.hung_early _ driven.Done _ tt c.hang_up.ensures.kind;
+  early = runs.hung_early driven.Done _ tt c.hang_up.ensures.kind;
   tried = λ started le tried. tt;
 }
 
