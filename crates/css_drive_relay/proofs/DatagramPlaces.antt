@@ -97,7 +97,8 @@ module _ (run : RelayRun) (older : History) where
 -- what the place says after each history of a run
 pub shape_of : (run : RelayRun) (h : History) → Followed run h → Shows run h (progress_of run h).place
 shape_of run [] each = tt
-shape_of run (Slept ∷ older) each = after_sleep run older (progress_of run older).place each.0.1 (shape_of run older each.1)
+shape_of run (Slept ∷ older) each =
+    after_sleep run older (progress_of run older).place each.0.1 (shape_of run older each.1)
 shape_of run (Clock why.Turn reading ∷ older) each =
     shows_rest run _ _ (rest_begun run (places.with_turn reading (progress_of run older).facts))
 shape_of run (Clock why.Ask reading ∷ older) each = (older, refl)

@@ -20,7 +20,8 @@ use Rattle.css_drive.proofs.CompanionEnds.{never_late}
 use Rattle.css_drive.proofs.CompanionRuns.{no_entries}
 use Rattle.css_drive.proofs.TvLines.{peers_all}
 use Rattle.css_drive.proofs.TvOpens.{peer_from}
-use Rattle.css_drive_relay.specs.Places.{Facts, Place, Progress, Asked, Over, after, all_open, without_first, hung_up, Begun}
+use Rattle.css_drive_relay.specs.Places.{Facts, Place, Progress, Asked, Over, after, all_open, without_first, hung_up}
+use Rattle.css_drive_relay.specs.Places.{Begun}
 use Rattle.css_drive_relay.specs.Places.{beginning, with_turn}
 use Rattle.css_drive_relay.specs.Due.{due_at, final, from_hang_ups}
 use Rattle.css_drive_relay.specs.Standing.{IsPeer, KnowsPeers, Runs, Stands, IsAt, Stops, HangsUp, KeepsDials}

@@ -17,7 +17,8 @@ use Rattle.css_model.specs.declared.Kind.TheVariants as kind
 use Rattle.css_model.specs.declared.Why.{Why}
 use Rattle.css_model.specs.declared.Why.TheVariants as why
 use Rattle.css_model.specs.History.{Entry, History, Address, Each, Listening, Slept, Clock, Dialling, Dialled}
-use Rattle.css_model.specs.History.{NotDialled, Accepted, NoneCame, Sent, Took, TookNone, Quiet, Heard, Closed, Wrote, Gone}
+use Rattle.css_model.specs.History.{NotDialled, Accepted, NoneCame, Sent, Took, TookNone, Quiet, Heard, Closed, Wrote}
+use Rattle.css_model.specs.History.{Gone}
 use Rattle.css_model.specs.History.{HungUp, request_in}
 use Rattle.css_model.specs.Wire.{encoded, request_at}
 use Rattle.css_outside.specs.Limits.{most_turns}
@@ -239,7 +240,8 @@ module _ (run : RelayRun) (older : History) (each : Followed run older) where
   abbrev After : History → Type 0
   After call = Followed run (call ++ older)
 
-  added : (d : Due) → Fits run (progress_of run older).facts (progress_of run older).place d → (call : History) → MayAdd d call → After call
+  added : (d : Due) → Fits run (progress_of run older).facts (progress_of run older).place d → (call : History)
+      → MayAdd d call → After call
   added (Listen host port) fits call may = subst After (sym may) (fits, each)
   added (Now w) fits call may = subst After (sym may.1) (by may.0.slept)
     where

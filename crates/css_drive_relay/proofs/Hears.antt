@@ -98,7 +98,12 @@ module _ (live : Live) {run : RelayRun} {start now next : Shown} {history : Hist
         (stands_on s (SendText peer (full_text live.state)) refl (Wrote peer text)
         (outcome.Sent, ap (λ x. Wrote peer x ∷ []) is) a
         (λ k. knows_plain k (Wrote peer text) refl refl refl refl refl refl refl)
-        (λ n x. (x.0, all_next (IsPeer n history None) live.television (live.peers.items ++ peer ∷ []) x.0, x.2, x.3))) e
+        (λ n x. (
+          x.0,
+          all_next (IsPeer n history None) live.television (live.peers.items ++ peer ∷ []) x.0,
+          x.2,
+          x.3,
+        ))) e
 
     -- it closed before
     pub greeted_none : Adds now next (Gone peer ∷ []) → (later : Live)
@@ -162,7 +167,8 @@ module _ (live : Live) {run : RelayRun} {start now : Shown} {history : History} 
 module _ (live : Live) {run : RelayRun} {start now next : Shown} {history : History} {relay : Relay} (text : List ℕ)
     (peer : ℕ) (left : List ℕ)
     (s : Stands run start now relay (stood live (telling text (peer ∷ left) (facts_in live))) history) where
-  pub one_told : Adds now next (Wrote peer text ∷ []) → IsAt run start next relay live (telling text left (facts_in live))
+  pub one_told : Adds now next (Wrote peer text ∷ [])
+      → IsAt run start next relay live (telling text left (facts_in live))
   one_told a =
       here (stands_on s (SendText peer text) refl (Wrote peer text) (outcome.Sent, refl) a
       (λ k. knows_plain k (Wrote peer text) refl refl refl refl refl refl refl)
@@ -237,7 +243,8 @@ module _ (live : Live) {run : RelayRun} {start now next : Shown} {history : Hist
 
       ends : (x : Option CompanionFault) → IsRefusal x ended
           → MayEnd (due_for run (Heard peer bytes ∷ history) (television_told x state (facts_in live))) ended
-      ends None r = refusal_ends None (due_for run (Heard peer bytes ∷ history) (published state (facts_in live))) ended r
+      ends None r =
+          refusal_ends None (due_for run (Heard peer bytes ∷ history) (published state (facts_in live))) ended r
       ends (Some fault) r = refusal_ends (Some fault) (Ends (end_by fault)) ended r
 
   -- or it is taken in, and the relay publishes

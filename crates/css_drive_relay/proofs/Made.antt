@@ -15,10 +15,12 @@ use Rattle.css_outside.specs.Limits.{most_turns}
 use Rattle.css_relay.specs.Answers.{Ticket, received_after, answered_after, datagram_of}
 use Rattle.css_relay.specs.declared.fault.RelayFault.{RelayFault}
 use Rattle.css_drive_relay.specs.Places as places
-use Rattle.css_drive_relay.specs.Places.{Place, Taken, Received, Rejecting, Dropping, Over, Facts, Progress, progress_of}
+use Rattle.css_drive_relay.specs.Places.{Place, Taken, Received, Rejecting, Dropping, Over, Facts, Progress}
+use Rattle.css_drive_relay.specs.Places.{progress_of}
 use Rattle.css_drive_relay.specs.Due.{due}
 use Rattle.css_drive_relay.specs.Made.{HasMadeAll, MadeTurns, TurnsAreMade}
-use Rattle.css_drive_relay.proofs.Follows.{Follows, Followed, followed, Fits, fits, Moves, moves, IsOver, IsRest, IsTaken}
+use Rattle.css_drive_relay.proofs.Follows.{Follows, Followed, followed, Fits, fits, Moves, moves, IsOver, IsRest}
+use Rattle.css_drive_relay.proofs.Follows.{IsTaken}
 use Rattle.css_drive_relay.proofs.Follows.{IsReceived, IsDropped, IsMade, HasEnded, reached, rest_begun, rest_next}
 use Rattle.css_drive_relay.specs.declared.config.RelayRun.{RelayRun}
 
@@ -136,7 +138,8 @@ all_good run [] each = record { turns = refl; few = omega arith; over = λ e. ab
 all_good run (entry ∷ older) each = after run older (all_good run older each.1) entry each.0
 
 -- ---- the end
-has_made_all : (run : RelayRun) (h : History) → Good run h → HasEnded run (progress_of run h).facts (progress_of run h).place
+has_made_all : (run : RelayRun) (h : History) → Good run h
+    → HasEnded run (progress_of run h).facts (progress_of run h).place
     → HasMadeAll run h
 has_made_all run h t ended =
     by (nat_lt x.0 (most_turns run.limit)) (is_late run.limit x.1 x.2) refl refl (is_so ended)

@@ -96,7 +96,8 @@ true_at world tv_error moment_of message before take give is_take is_give x =
 
 pub given_is_true : GivenIsTrue
 given_is_true errors world who run history moment_of message before proper for range lawful explains given =
-    let x : IsFound run.companion.local history message before = found run history (followed run history proper) message before given in
+    let x : IsFound run.companion.local history message before = found run history (followed run history proper) message
+    before given in
     let is : IsTrueResponse world errors.tv (moment_of (last_take before)) (moment_of (length before)) message =
     true_at world errors.tv moment_of message before (length x.answer.before_take) (length x.answer.before_give)
     x.at_take (ap length x.at_give)

@@ -181,7 +181,8 @@ module _ (run : RelayRun) (peer : ℕ) (older : History) (t : Good run peer olde
       (went t other _ text c.0 c.1 (record { facts = g; place = places.told p.place g }) refl refl
       (waits_told p.place g) (owes_told peer p.place p.facts g text c.1) (eqb other peer) refl)
 
-  after : (entry : Entry) → Follows run p.facts p.place entry → AreNumbered (entry ∷ older) → Good run peer (entry ∷ older)
+  after : (entry : Entry) → Follows run p.facts p.place entry → AreNumbered (entry ∷ older)
+      → Good run peer (entry ∷ older)
   after (Clock why.Turn reading) c n =
       stays t c.0 (next (Clock why.Turn reading)) refl refl (waits_begun run (places.with_turn reading p.facts))
   after (Clock why.Ask reading) c n = stays t c.0 (next (Clock why.Ask reading)) refl refl refl

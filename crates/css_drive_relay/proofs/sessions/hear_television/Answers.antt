@@ -29,7 +29,8 @@ returns-in_ok-take_in-in-Ok-Text-clause-goes g c start h s =
     let taken = c.in_ok-take_in-in-Ok-Text.ensures.told c.args.run.now p h
     (hears.its_kind c.args.live.now _ h p c.in-Some.is s1.runs.peers) s.knows in
     c.publish.ensures.goes start (Heard p text ∷ h)
-    (hears.taken_in c.args.live.now p s1 text (rw c.in-Ok-Text.field-0-is at c.in-Ok-Text.ensures.told) taken.0 c.take_in.new.relay
+    (hears.taken_in c.args.live.now p s1 text (rw c.in-Ok-Text.field-0-is at c.in-Ok-Text.ensures.told) taken.0
+    c.take_in.new.relay
     taken.1)
 
 pub returns-in_err-take_in-in-Ok-Text-clause-goes : goal.returns-in_err-take_in-in-Ok-Text-clause-goes
