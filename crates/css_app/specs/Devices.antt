@@ -5,7 +5,7 @@ use Rattle.css_outside.specs.Outsides.{Counts}
 use Rattle.css_outside.specs.Spawners.{Spawned}
 use Rattle.css_follow.specs.Following.{Plan}
 use Rattle.css_follow.specs.declared.sheet.Sheet.{Sheet}
-use Rattle.css_drive.specs.Listening.{Listener}
+use Rattle.css_follow.specs.Listening.{Listener}
 use Rattle.css_replay.specs.Devices.{SourceUse, SinkUse}
 use Rattle.css_app.specs.Live.{Stage, stage}
 use Rattle.css_app.specs.Pairs.{Children, children}

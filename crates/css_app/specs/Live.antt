@@ -14,7 +14,7 @@ use Rattle.css_follow.specs.declared.sheet.Sheet.{Sheet}
 use Rattle.css_drive.specs.CompanionDue as companion
 use Rattle.css_drive.specs.CompanionDue.{IsProperRun}
 use Rattle.css_drive.specs.CompanionRun.{Ran}
-use Rattle.css_drive.specs.Listening.{Listener, all_plans, all_seen}
+use Rattle.css_follow.specs.Listening.{Listener, all_plans, all_seen}
 use Rattle.css_drive.specs.Proper.{Due, IsProper, Ends}
 use Rattle.css_drive.specs.TvDue as tv
 use Rattle.css_drive.specs.TvDue.{TvRun, run_of}

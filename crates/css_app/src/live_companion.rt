@@ -2,7 +2,7 @@ ghost use Rattle.std.specs.Prelude.{◌≡◌, List, ℕ, Ok, Some};
 ghost use Rattle.css_drive.specs.Configs.{IsWritable};
 ghost use Rattle.css_follow.specs.Sheets.{sheet_in};
 ghost use Rattle.css_follow.specs.declared.sheet.Sheet.{Sheet};
-ghost use Rattle.css_drive.specs.Listening.{all_plans};
+ghost use Rattle.css_follow.specs.Listening.{all_plans};
 ghost use Rattle.css_replay.specs.Ended.{CountsCalls, CountsDials, CountsReads, CountsSpawns, CountsWrites};
 ghost use Rattle.css_replay.specs.Ended.{HasNotFailed, IsNoUsage};
 ghost use Rattle.css_app.specs.Live.{Companions, EndsAsDue, MakesRun, TellsFaults, failures, stage};

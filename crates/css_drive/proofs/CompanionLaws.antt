@@ -33,7 +33,7 @@ use Rattle.css_drive.specs.CompanionReports.{due_reports, is_due, report_at}
 use Rattle.css_drive.specs.CompanionTurns.{first_turn, this_turn, turns, dialled, opened, any_dialled}
 use Rattle.css_drive.specs.CompanionTurns.{asked_turn, is_asking, is_late, goes_on}
 use Rattle.css_drive.specs.CompanionRun.{after_all}
-use Rattle.css_drive.specs.Listening.{Listener, hearing, words_of}
+use Rattle.css_follow.specs.Listening.{Listener, hearing, words_of}
 use Rattle.css_drive.specs.Proper.{Due, Now, Dial, Accept, TakeDatagram, TakeText, SendText, Ends}
 use Rattle.css_drive.specs.Proper.{MayAdd, Empty, More}
 use Rattle.css_drive.specs.declared.config.DriveConfig.{DriveConfig}

@@ -6,7 +6,7 @@ use Rattle.css_follow.specs.Following.{Seen}
 use Rattle.css_drive.specs.CompanionDue.{due, IsProperRun}
 use Rattle.css_drive.specs.CompanionReports.{due_reports}
 use Rattle.css_drive.specs.CompanionRun.{Followed}
-use Rattle.css_drive.specs.Listening.{Listener}
+use Rattle.css_follow.specs.Listening.{Listener}
 use Rattle.css_drive.specs.Proper.{Ends}
 use Rattle.css_drive.specs.declared.config.DriveConfig.{DriveConfig}
 use Rattle.css_drive.specs.declared.driven.Driven.TheVariants as driven

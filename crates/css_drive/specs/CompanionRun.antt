@@ -8,7 +8,7 @@ use Rattle.css_companion.specs.declared.report.Report.{Report}
 use Rattle.css_drive.specs.CompanionDue.{due, IsProperRun}
 use Rattle.css_drive.specs.CompanionReports.{due_reports, all_but_newest, HasWritten, KeepsPromises}
 use Rattle.css_drive.specs.Ends.{MayEnd}
-use Rattle.css_drive.specs.Listening.{Listener, HearEach, hearing, words_of}
+use Rattle.css_follow.specs.Listening.{Listener, HearEach, hearing, words_of}
 use Rattle.css_drive.specs.declared.config.DriveConfig.{DriveConfig}
 use Rattle.css_drive.specs.declared.driven.Driven.{Driven}
 use Rattle.css_drive.specs.declared.driven.Driven.TheVariants as driven

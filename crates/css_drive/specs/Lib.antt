@@ -1,7 +1,6 @@
 pub mod Configs
 pub mod Proper
 pub mod Ends
-pub mod Listening
 pub mod CompanionTurns
 pub mod CompanionReports
 pub mod CompanionDue

@@ -8,7 +8,7 @@ use Rattle.css_companion.specs.Printed.{line_of}
 use Rattle.css_companion.specs.declared.report.Report.{Report}
 use Rattle.css_drive.specs.CompanionReports.{written, IsPart}
 use Rattle.css_drive.specs.CompanionRun.{Followed, FollowedInPart, HearFirst}
-use Rattle.css_drive.specs.Listening.{Listener, HearEach}
+use Rattle.css_follow.specs.Listening.{Listener, HearEach}
 use Rattle.css_drive.specs.Notes.{Note, Happened, Reported}
 
 -- ---- one report

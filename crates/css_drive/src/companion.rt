@@ -8,9 +8,9 @@ ghost use Rattle.css_drive.specs.Ends.{CountsNetFault, CountsWriteFault, CountsD
 use crate::companion_turns::drive;
 use crate::config::DriveConfig;
 use crate::driven::Driven;
-use crate::listens::Listens;
 use crate::telling::Telling;
 use css_companion::{Companion, CompanionConfig};
+use css_follow::Listens;
 use css_num::Memory;
 use css_outside::{Outside, Sink};
 use std::alloc::Global;

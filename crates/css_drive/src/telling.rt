@@ -2,10 +2,10 @@
 ghost use Rattle.std.specs.Prelude.{Option, MatchResult};
 ghost use Rattle.css_drive.specs.Telling.{HasSaid, HasSaidFirst, Tells, WritesReport, audience};
 
-use crate::listens::Listens;
 use crate::observes::Observes;
 use crate::session::Session;
 use css_companion::{Companion, Report, line};
+use css_follow::Listens;
 use css_num::{Memory, Text};
 use css_outside::{Clocked, Kind, OutFault, Sink, write_all};
 use std::alloc::Global;

@@ -3,7 +3,7 @@
 use crate::common::{check, check_that, words};
 use crate::follow_rows::*;
 use css_companion::{Cause, Report};
-use css_follow::{Cues, Follower, Followers, Meter, Sheet, SheetFault, read_sheet};
+use css_follow::{Before, Cues, Follower, Listens, Meter, Nobody, Sheet, SheetFault, read_sheet};
 use css_num::{Memory, Text};
 use std::alloc::Global;
 use std::process::Abort;
@@ -113,21 +113,25 @@ impl Follower for Lacks {
 }
 
 /// `Cues`, one that lacks memory, and `Meter`.
-fn lacking(rt: &impl Abort, alloc: Global, sheets: bool) -> Followers {
-    let mut list: Vec<Box<dyn Follower>> = Vec::new(alloc);
-    list.push(Box::new(alloc, Cues::new(alloc)).expect(rt, "memory"))
-        .expect(rt, "memory");
-    list.push(Box::new(alloc, Lacks { sheets }).expect(rt, "memory"))
-        .expect(rt, "memory");
-    list.push(Box::new(alloc, Meter::new(alloc)).expect(rt, "memory"))
-        .expect(rt, "memory");
-    Followers::new(list)
+fn lacking(alloc: Global, sheets: bool) -> Before<Cues, Before<Lacks, Before<Meter, Nobody>>> {
+    let meter = Before {
+        first: Meter::new(alloc),
+        rest: Nobody,
+    };
+    let rest = Before {
+        first: Lacks { sheets },
+        rest: meter,
+    };
+    Before {
+        first: Cues::new(alloc),
+        rest,
+    }
 }
 
 #[test]
 fn want_of_memory_ends_the_telling(rt: HostRuntime) {
     for sheets in [false, true] {
-        let mut followers = lacking(&rt, rt.alloc(), sheets);
+        let mut followers = lacking(rt.alloc(), sheets);
         let prepared = followers.prepare(&sheet(&rt, rt.alloc(), "cue 5 a\nmeter 1"));
         check_that(&rt, prepared.is_err() == sheets, "a sheet");
         let mut out = Text::new(rt.alloc());

@@ -1,6 +1,6 @@
 pub mod Cut
 pub mod Passes
 pub mod SheetsRead
-pub mod Each
+pub mod Listening
 pub mod Marks
 pub mod Counts

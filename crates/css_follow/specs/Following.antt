@@ -1,5 +1,5 @@
 -- What a follower hears and says, and what a report makes of it. Lists have the newest first.
-use Rattle.std.specs.Prelude.{◌≡◌, ℕ, List, [], ◌∷◌, ◌++◌, Bool, true, false, if◌then◌else◌, take, drop}
+use Rattle.std.specs.Prelude.{◌≡◌, ℕ, List, [], ◌∷◌, Bool, true, false, if◌then◌else◌}
 use Rattle.css_companion.specs.declared.report.Report.{Report}
 
 -- what there is to see of a follower: the reports that it heard, what it said of each, and whether it is done
@@ -38,27 +38,3 @@ ends_by plan seen report = if seen.done then true else plan.ends seen.heard repo
 pub record RestsWhenDone (seen : Seen) (says : List ℕ) (ends : Bool) : Type 0 where
   pub silent : seen.done ≡ true → says ≡ []
   pub stays : seen.done ≡ true → ends ≡ true
-
--- ---- several followers, in their order
--- what one report made of a follower, and what was said then
-pub record Hears (report : Report) (before now : Seen) (said : List ℕ) : Type 0 where
-  pub ends : Bool
-  pub rests : RestsWhenDone before said ends
-  pub heard : now ≡ told report said ends before
-
--- each of them was told the report in turn, and this was said
-abbrev pub HearEach : Report → List Seen → List Seen → List ℕ → Type 0
-HearEach report [] [] said = said ≡ []
-HearEach report (before ∷ befores) (now ∷ nows) said =
-    (first : List ℕ) × (rest : List ℕ) × (said ≡ first ++ rest) × Hears report before now first
-    × HearEach report befores nows rest
-HearEach report [] (now ∷ nows) said = ⊥
-HearEach report (before ∷ befores) [] said = ⊥
-
--- The first of them were told the report, and what they said was added to the output; the others are as before.
-pub record SayFirst (report : Report) (befores nows : List Seen) (old new : List ℕ) : Type 0 where
-  pub count : ℕ
-  pub said : List ℕ
-  pub each : HearEach report (take count befores) (take count nows) said
-  pub rest : drop count nows ≡ drop count befores
-  pub grew : new ≡ old ++ said

@@ -1,4 +1,5 @@
 pub mod Following
+pub mod Listening
 pub mod Words
 pub mod SheetLines
 pub mod Sheets

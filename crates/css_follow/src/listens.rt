@@ -2,10 +2,11 @@
 ghost use Rattle.std.specs.Prelude.{◌≡◌, List, OnOk};
 ghost use Rattle.css_follow.specs.Following.{Plan};
 ghost use Rattle.css_follow.specs.declared.sheet.Sheet as sheets;
-ghost use Rattle.css_drive.specs.Listening.{Listener, TellsEach, all_plans, all_seen};
+ghost use Rattle.css_follow.specs.Listening.{Listener, TellsEach, all_plans, all_seen};
 
+use crate::follower::Follower;
+use crate::sheet::Sheet;
 use css_companion::Report;
-use css_follow::{Follower, Sheet};
 use css_num::{Memory, Text};
 
 /// Those who follow a companion's run, in their order. A run is generic in them: it boxes none.
