@@ -2,7 +2,7 @@
 use Rattle.std.proofs.Common.{◌≡◌, ℕ, ◌≤◌, ◌<◌, arith, suc, ap, sym, ◌∙◌, subst, refl, Bool, true, false, cond}
 use Rattle.std.proofs.Common.{inl, inr, map, List, [], ◌∷◌, ◌++◌, length, drop, Option, Some, None, Result, Ok, Err}
 use Rattle.std.proofs.lemmas.Bool.{ltb-true, ltb-false}
-use Rattle.std.specs.Prelude.{◌&&◌, not, is_some, if◌then◌else◌}
+use Rattle.std.specs.Prelude.{◌&&◌, not, is_some}
 use Rattle.css_model.specs.declared.Kind.{Kind}
 use Rattle.css_model.specs.declared.Kind.TheVariants as kind
 use Rattle.css_model.specs.declared.Why.{Why}
@@ -22,7 +22,7 @@ use Rattle.css_outside.specs.declared.calls.Wrote.TheVariants as outcome
 use Rattle.css_companion.specs.declared.fault.CompanionFault.{CompanionFault}
 use Rattle.css_companion.specs.declared.fault.CompanionFault.TheVariants as fault
 use Rattle.css_companion.specs.declared.report.Report.{Report}
-use Rattle.css_follow.specs.Following.{Seen, Hears, told_unless, after, ends_by}
+use Rattle.css_follow.specs.Following.{Seen, told, told_unless, after, ends_by}
 use Rattle.css_drive.specs.CompanionDue as dues
 use Rattle.css_drive.specs.CompanionDue.{Point, due, due_at, dial_to, dial_first, take_text, hang_up, sending, send_to}
 use Rattle.css_drive.specs.CompanionDue.{from_hang_ups, from_cii, from_wc, from_ts, from_ask, from_take, from_cii_text}
@@ -41,13 +41,13 @@ use Rattle.css_drive.specs.declared.driven.Driven.TheVariants as driven
 
 -- ---- followers
 -- one more report
-hears_more : (report : Report) (reports : List Report) (before between now : Seen) (said : List ℕ)
-    → HasHeard reports before between → Hears report between now said → HasHeard (report ∷ reports) before now
-hears_more report reports before between now said h s = by between.done refl
+hears_more : (report : Report) (reports : List Report) (before between now : Seen) (said : List ℕ) (ends : Bool)
+    → HasHeard reports before between → now ≡ told report said ends between → HasHeard (report ∷ reports) before now
+hears_more report reports before between now said ends h hears = by between.done refl
   where
     by : (b : Bool) → between.done ≡ b → HasHeard (report ∷ reports) before now
     by true e =
-        let same : now ≡ between = s.heard ∙ ap (λ d. told_unless d report said s.ends between) e in
+        let same : now ≡ between = hears ∙ ap (λ d. told_unless d report said ends between) e in
         record {
           missed = suc h.missed;
           heard = ap (λ x. x.heard) same ∙ h.heard;
@@ -58,8 +58,7 @@ hears_more report reports before between now said h s = by between.done refl
               ∙ f in cc);
         }
     by false e =
-        let new : now ≡ after report said s.ends between = s.heard ∙ ap (λ d. told_unless d report said s.ends
-        between) e in
+        let new : now ≡ after report said ends between = hears ∙ ap (λ d. told_unless d report said ends between) e in
         let none : h.missed ≡ 0 = h.all e in
         record {
           missed = 0;
@@ -71,21 +70,12 @@ hears_more report reports before between now said h s = by between.done refl
           all = λ f. refl;
         }
 
-hears : (report : Report) (l : Listener) → Hears report l.seen (hearing report l).seen (words_of report l)
-hears report l = record {
-  ends = ends_by l.plan l.seen report;
-  rests = record {
-    silent = λ e. ap (λ d. if d then [] else l.plan.says l.seen.heard report) e;
-    stays = λ e. ap (λ d. if d then true else l.plan.ends l.seen.heard report) e;
-  };
-  heard = refl;
-}
-
 each_more : (report : Report) (reports : List Report) (before between : List Listener)
     → EachHasHeard reports before between → EachHasHeard (report ∷ reports) before (map (hearing report) between)
 each_more report reports [] [] e = tt
 each_more report reports (b ∷ bs) (m ∷ ms) e = (
-  hears_more report reports b.seen m.seen (hearing report m).seen (words_of report m) e.0 (hears report m),
+  hears_more report reports b.seen m.seen (hearing report m).seen (words_of report m) (ends_by m.plan m.seen report) e.0
+      refl,
   each_more report reports bs ms e.1,
 )
 each_more report reports [] (m ∷ ms) e = absurd e

@@ -1,7 +1,7 @@
 -- What a run's observer that writes its reports has written.
 use Rattle.std.proofs.Common.{◌≡◌, ℕ, ◌+◌, suc, ap, sym, ◌∙◌, subst, refl, inl, Bool, true, false, List, [], ◌∷◌, ◌++◌}
-use Rattle.std.proofs.Common.{append_assoc, append-nil, length, take, map, flat_map, Option, Some, None, Result, Ok}
-use Rattle.std.proofs.Common.{Err, cond}
+use Rattle.std.proofs.Common.{append_assoc, append-nil, length, map, flat_map, Option, Some, None}
+use Rattle.std.proofs.Common.{cond}
 use Rattle.std.proofs.KnownBytes.{Appends-nil, Appends-trans}
 use Rattle.std.specs.Io.KnownBytes.{Appends}
 use Rattle.css_model.specs.History.{History}
@@ -11,7 +11,6 @@ use Rattle.css_outside.specs.declared.fault.OutFault.{OutFault}
 use Rattle.css_outside.specs.declared.fault.OutFault.TheVariants as fault
 use Rattle.css_companion.specs.Printed.{line_of}
 use Rattle.css_companion.specs.declared.report.Report.{Report}
-use Rattle.css_follow.specs.Following.{Seen, Plan, told, says_by, ends_by}
 use Rattle.css_drive.specs.CompanionReports.{due_reports, report_at, is_due, written, all_but_newest, IsPart}
 use Rattle.css_drive.specs.CompanionReports.{HasWritten}
 use Rattle.css_drive.specs.CompanionRun.{Followed, FollowedInPart, HasFollowed, Ran, after_all}
@@ -19,7 +18,7 @@ use Rattle.css_drive.specs.CompanionReports as reports
 use Rattle.css_drive.specs.CompanionStanding.{Made, IsEndOf}
 use Rattle.css_drive.specs.CompanionTurns.{turn_at, first_turn}
 use Rattle.css_drive.specs.Ends.{CountsWriteFault}
-use Rattle.css_follow.specs.Listening.{Listener, HearEach, TellsEach, hearing, words_of}
+use Rattle.css_follow.specs.Listening.{Listener, hearing, words_of}
 use Rattle.css_drive.specs.Notes.{Note, Event, Reported, noted, with_event, with_report, event_of, slept_notes}
 use Rattle.css_drive.specs.Notes.{turn_notes, Standpoint, standpoint}
 use Rattle.css_outside.specs.declared.calls.Clocked.{Clocked}
