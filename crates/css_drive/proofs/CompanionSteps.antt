@@ -162,6 +162,11 @@ pub at_err : {T E : Type 0} (P : T → Type 0) (Q : E → Type 0) (e : E) (r : R
 at_err P Q e (Ok v) h q = absurd h
 at_err P Q e (Err x) h q = subst Q (sym h) q
 
+-- a call failed, and the observer isn't over
+pub fails_over : {old new : Shown} {over : Option OutFault} {ended : Driven} → over ≡ None → Fails old new None ended
+    → Fails old new over ended
+fails_over {old} {new} {over} {ended} e f = subst (λ (o : Option OutFault). Fails old new o ended) (sym e) f
+
 -- ---- steps
 dial_may : (k : Kind) (to : Address) (tried : Option ℕ) → MayAdd (Dial k to) (dial_entries k to tried)
 dial_may k to None = inr refl

@@ -223,12 +223,6 @@ abbrev pub Calls : {T : Type 0} → Shown → Shown → Option OutFault → (Sho
     → Type 0
 Calls old new over well result = MatchResult result (well old new) (Fails old new over)
 
--- a call failed, and told nothing
-pub record Failed (old new : Shown) (ended : Driven) : Type 0 where
-  pub told : new.told ≡ old.told
-  pub counted : CountsNetFault old.counts.faults new.counts.faults ended
-  pub fault : IsFault ended
-
 -- a call that is no dial and reads no clock went well
 pub record Adds (old new : Shown) (entries : History) : Type 0 where
   pub told : new.told ≡ with_entries entries old.told

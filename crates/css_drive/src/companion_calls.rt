@@ -1,46 +1,21 @@
-//! Single calls of a companion's run.
+//! Single calls of a companion's run, of which its observer is told.
 ghost use Rattle.std.specs.Prelude.{◌≡◌, ◌≤◌, [], ◌∷◌, Option, None, Some, IfOk, IfErr, OnOk};
 ghost use Rattle.css_model.specs.History.{Sent};
-ghost use Rattle.css_outside.specs.Faults.{CountsOutFault, HasRisen};
+ghost use Rattle.css_outside.specs.Faults.{HasRisen};
 ghost use Rattle.css_outside.specs.declared.fault.OutFault.{OutFault as Fault};
 ghost use Rattle.css_outside.specs.Outsides.{heard_entries, wrote_entries};
-ghost use Rattle.css_drive.specs.CompanionDue.{end_by};
 ghost use Rattle.css_drive.specs.CompanionStanding.{Shown, shown, IsEarly, Fails, Calls, Adds, HasDialled, HasRead};
 ghost use Rattle.css_drive.specs.CompanionStanding.{HasLost, Keeps, Stays, Knows, SawMore, final_end};
 ghost use Rattle.css_drive.specs.Notes.{Standpoint, Happened, Asked, Sees, dial_notes, heard_notes, slept_notes};
 ghost use Rattle.css_drive.specs.Notes.{wrote_notes};
 
+use crate::calls::{dial, end_of, send_datagram, send_text, take_text};
 use crate::companion_live::Live;
 use crate::driven::Driven;
 use crate::observes::Observes;
 use crate::session::Session;
-use css_companion::{Companion, CompanionEvent, CompanionFault};
+use css_companion::{Companion, CompanionEvent};
 use css_outside::{Address, Clocked, Heard, Kind, OutFault, Outside, Why, Wrote};
-
-/// How a run ends with a fault of the outside, of an observer that isn't over.
-pub fn end_of(fault: OutFault) -> Driven
-    ensures early { IsEarly result }
-    ensures failed { (old : Shown) → (new : Shown) → (over : Option Fault) → over ≡ None → new.told ≡ old.told
-        → CountsOutFault old.counts.faults new.counts.faults fault → new.counts.dial_faults ≡ old.counts.dial_faults
-        → Fails old new over result }
-{
-    match fault {
-        OutFault::Failed(failure) => Driven::NetFault(failure),
-        OutFault::Memory => Driven::Memory,
-    }
-}
-
-/// How a run ends with a text that is refused.
-pub fn refused(fault: CompanionFault) -> Driven
-    ensures end { result ≡ end_by fault }
-    ensures early { IsEarly result }
-{
-    match fault {
-        CompanionFault::BadCii { text, fault } => Driven::BadCii { text, fault },
-        CompanionFault::Moved { property, old, new } => Driven::Moved { property, old, new },
-        CompanionFault::Memory => Driven::Memory,
-    }
-}
 
 /// How a run ends that its observer ends.
 fn unseen(fault: OutFault) -> Driven
@@ -93,17 +68,9 @@ pub fn try_dial<O: Outside, W: Observes>(
         → HasRisen (O.counts outside.old).dial_faults (O.counts outside.new).dial_faults) }
 {
     check(observer)?;
-    match outside.dial(kind, to) {
-        Ok(peer) => {
-            observer.dialled(kind, Some(peer));
-            Ok(Some(peer))
-        }
-        Err(OutFault::Failed(_)) => {
-            observer.dialled(kind, None);
-            Ok(None)
-        }
-        Err(OutFault::Memory) => Err(Driven::Memory),
-    }
+    let tried = dial(outside, kind, to)?;
+    observer.dialled(kind, tried);
+    Ok(tried)
 }
 
 /// Reads the clock. Where the machine slept, the companion forgets what it asked before the reading is used.
@@ -158,13 +125,9 @@ pub fn send<O: Outside, W: Observes>(
     ensures saw { (from : Standpoint) → SawMore W.saw observer.old observer.new (wrote_notes from) result }
 {
     check(observer)?;
-    match outside.send_text(peer, text) {
-        Ok(sent) => {
-            note_sent(observer, sent);
-            Ok(sent)
-        }
-        Err(fault) => Err(end_of(fault)),
-    }
+    let sent = send_text(outside, peer, text)?;
+    note_sent(observer, sent);
+    Ok(sent)
 }
 
 /// Tells the observer what came of a session.
@@ -194,13 +157,9 @@ pub fn hear<O: Outside, W: Observes>(
         → SawMore W.saw observer.old observer.new (heard_notes session from) result }
 {
     check(observer)?;
-    match outside.take_text(peer) {
-        Ok(heard) => {
-            note_heard(observer, companion, session, &heard);
-            Ok(heard)
-        }
-        Err(fault) => Err(end_of(fault)),
-    }
+    let heard = take_text(outside, peer)?;
+    note_heard(observer, companion, session, &heard);
+    Ok(heard)
 }
 
 /// Tells the observer of a sleep, where a reading told one.
@@ -228,13 +187,9 @@ pub fn send_request<O: Outside, W: Observes>(
         → SawMore W.saw observer.old observer.new (λ _. Happened from (Asked reading) ∷ []) result }
 {
     check(observer)?;
-    match outside.send_datagram(peer, bytes) {
-        Ok(()) => {
-            observer.asked(reading);
-            Ok(())
-        }
-        Err(fault) => Err(end_of(fault)),
-    }
+    send_datagram(outside, peer, bytes)?;
+    observer.asked(reading);
+    Ok(())
 }
 
 /// The TS session is over, which the companion is told.

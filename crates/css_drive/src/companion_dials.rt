@@ -4,22 +4,22 @@ ghost use Rattle.css_outside.specs.Faults.{HasRisen};
 ghost use Rattle.css_tsmsg.specs.Setups.{setup_text};
 ghost use Rattle.css_tsmsg.specs.Presentations.{IsPresentation};
 ghost use Rattle.css_companion.specs.Steps.{window};
-ghost use Rattle.css_drive.specs.CompanionDue.{due, from_cii, from_wc, from_ts, from_ask, from_setup, point_of, place};
+ghost use Rattle.css_drive.specs.CompanionDue.{due, from_cii, from_wc, from_ts, from_ask, from_setup, point_of};
 ghost use Rattle.css_drive.specs.CompanionDue.{window_text, Connected, SetUp};
 ghost use Rattle.css_drive.specs.Configs.{IsWindow};
-ghost use Rattle.css_drive.specs.CompanionStanding.{at, Leads, LeadsFrom, Stays, GivesPlace, IsEarly, HasBegun};
+ghost use Rattle.css_drive.specs.CompanionStanding.{at, Leads, LeadsFrom, Stays, HasBegun};
 ghost use Rattle.css_drive.specs.Proper.{SendText};
 
+use crate::calls::place;
 use crate::companion_calls::{lose_ts, send, try_dial};
 use crate::companion_live::Live;
 use crate::config::DriveConfig;
 use crate::driven::Driven;
 use crate::observes::Observes;
-use css_address::{AddressFault, address};
 use css_cii::CiiName;
 use css_companion::{Companion, CompanionEvent};
 use css_num::Text;
-use css_outside::{Address, Kind, Outside, Wrote};
+use css_outside::{Kind, Outside, Wrote};
 use css_tsmsg::Bound;
 use std::alloc::Global;
 
@@ -45,26 +45,6 @@ pub fn dial_cii<O: Outside, W: Observes>(
     live.cii = try_dial(outside, observer, Kind::Cii, &config.cii)?;
     live.cii_open = live.cii;
     Ok(())
-}
-
-/// The address of a property, where it isn't null.
-fn place(
-    alloc: Global,
-    kind: Kind,
-    property: CiiName,
-    url: &Option<Text>,
-) -> Result<Option<Address>, Driven>
-    ensures gives { GivesPlace property (place kind url.now) result }
-    ensures early { IfErr result IsEarly }
-{
-    let Some(text) = url else {
-        return Ok(None);
-    };
-    match address(alloc, kind, text.bytes()) {
-        Ok(to) => Ok(Some(to)),
-        Err(AddressFault::Bad) => Err(Driven::BadUrl { property }),
-        Err(AddressFault::Memory) => Err(Driven::Memory),
-    }
 }
 
 /// Dials the wall clock, while no dial of it succeeded and its address is told.

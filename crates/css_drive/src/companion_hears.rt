@@ -1,6 +1,5 @@
 //! What a turn of a companion asks and hears, and the end of its sessions.
-ghost use Rattle.std.specs.Prelude.{◌≡◌, ◌≤◌, ◌<◌, ◌∷◌, ◌⊎◌, ℕ, OnOk, IfErr, None, Some, MatchResult};
-ghost use Rattle.std.specs.Option.{ForSome};
+ghost use Rattle.std.specs.Prelude.{◌≡◌, ◌≤◌, ◌∷◌, ◌⊎◌, ℕ, OnOk, IfErr, None, Some, MatchResult};
 ghost use Rattle.css_model.specs.History as entries;
 ghost use Rattle.css_model.specs.History.{History};
 ghost use Rattle.css_model.specs.Explains.{IsLawful};
@@ -11,31 +10,20 @@ ghost use Rattle.css_drive.specs.CompanionDue.{due, from_ask, from_take, from_ci
 ghost use Rattle.css_drive.specs.CompanionDue.{refusal_of};
 ghost use Rattle.css_drive.specs.CompanionStanding.{Shown, shown, at, Stands, Knows, Leads, LeadsFrom, Goes, Stops};
 ghost use Rattle.css_drive.specs.CompanionStanding.{Stays, Calls, Adds, IsHangingUp, IsEarly, IsRefusal, hung};
-ghost use Rattle.css_drive.specs.CompanionTurns.{is_asking};
 ghost use Rattle.css_drive.specs.Proper.{Now};
 
-use crate::companion_calls::{
-    check, end_of, hear, lose_ts, note_sleep, read, refused, send_request,
-};
+use crate::calls;
+use crate::calls::{end_of, refused};
+use crate::companion_calls::{check, hear, lose_ts, note_sleep, read, send_request};
 use crate::companion_live::Live;
 use crate::config::DriveConfig;
 use crate::driven::Driven;
 use crate::observes::Observes;
 use crate::session::Session;
+use crate::timing::is_time;
 use css_companion::{Companion, CompanionEvent};
 use css_num::Text;
 use css_outside::{Heard, Outside, Why};
-
-fn is_time(every: u64, turn: Option<u64>, asked: Option<u64>) -> bool
-    requires few { every ≤ 1000000000000 }
-    requires below { ForSome asked (λ reading. reading < 4294967296000000000) }
-    ensures { result ≡ is_asking every turn asked }
-{
-    match asked {
-        None => true,
-        Some(asked) => asked + every <= turn.unwrap_or(0),
-    }
-}
 
 /// Reads the clock for a request, and sends the request of that reading.
 fn request<O: Outside, W: Observes>(
@@ -245,10 +233,8 @@ fn hang_up_one<O: Outside, W: Observes>(
         return Ok(());
     };
     check(observer)?;
-    match outside.hang_up(peer) {
-        Ok(()) => Ok(()),
-        Err(fault) => Err(end_of(fault)),
-    }
+    calls::hang_up(outside, peer)?;
+    Ok(())
 }
 
 /// Hangs up the sessions that are open, that of CSS-CII first, and ends the run so.

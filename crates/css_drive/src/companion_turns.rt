@@ -2,13 +2,11 @@
 ghost use Rattle.std.specs.Prelude.{◌≡◌, ◌≤◌, ◌<◌, ◌+◌, [], ℕ, IfSome, OnOk, IfErr, None};
 ghost use Rattle.std.specs.Option.{ForSome};
 ghost use Rattle.css_outside.specs.Faults.{HasRisen};
-ghost use Rattle.css_outside.specs.Limits.{IsLimit};
 ghost use Rattle.css_drive.specs.Configs.{IsWindow};
 ghost use Rattle.css_drive.specs.CompanionDue.{from_turn, from_cii, from_end};
 ghost use Rattle.css_drive.specs.CompanionReports.{is_due};
 ghost use Rattle.css_drive.specs.CompanionStanding.{Knows, at, a_turn, Leads, Stays, IsEarly, Made, HasTried};
 ghost use Rattle.css_drive.specs.CompanionStanding.{ending_of};
-ghost use Rattle.css_drive.specs.CompanionTurns as turns;
 ghost use Rattle.css_drive.specs.Ends.{CountsNetFault, CountsDialFaults};
 
 use crate::companion_calls::{ended_by, read};
@@ -18,8 +16,9 @@ use crate::companion_live::Live;
 use crate::config::DriveConfig;
 use crate::driven::Driven;
 use crate::observes::Observes;
+use crate::timing::{goes_on, is_late};
 use css_companion::Companion;
-use css_outside::{Limit, Outside, Why};
+use css_outside::{Outside, Why};
 use std::alloc::Global;
 
 fn reports_at(every: u64, reading: u64, first: Option<u64>, reported: u64) -> bool
@@ -32,25 +31,6 @@ fn reports_at(every: u64, reading: u64, first: Option<u64>, reported: u64) -> bo
         None => false,
         Some(first) => first + (reported + 1) * every <= reading,
     }
-}
-
-/// Whether the present turn is the last by its time.
-fn is_late(limit: Limit, live: &Live) -> bool
-    requires { IsLimit limit }
-    ensures { result ≡ turns.is_late limit live.now.first live.now.turn }
-{
-    match live.first {
-        None => false,
-        Some(first) => limit.is_over(first, live.turn.unwrap_or(0)),
-    }
-}
-
-/// Whether another turn follows, while reports are to be made.
-fn goes_on(limit: Limit, live: &Live) -> bool
-    requires { IsLimit limit }
-    ensures { result ≡ turns.goes_on limit live.now.first live.now.turn live.now.made }
-{
-    live.made < limit.most_turns() && !is_late(limit, live)
 }
 
 /// Begins a turn, and makes the report that is due, if one is.
@@ -151,7 +131,7 @@ fn turn<O: Outside, W: Observes>(
     if live.reported >= config.reports {
         return Err(hang_up(config, live, outside, observer, Driven::Done));
     }
-    if is_late(config.limit, live) {
+    if is_late(config.limit, live.first, live.turn) {
         return Ok(());
     }
     calls(alloc, config, live, companion, outside, observer)
@@ -200,7 +180,7 @@ pub fn drive<O: Outside, W: Observes>(
         cii_open: None,
         ts_open: None,
     };
-    'turns: while goes_on(config.limit, &live) {
+    'turns: while goes_on(config.limit, live.first, live.turn, live.made) {
         match turn(alloc, config, &mut live, companion, outside, observer) {
             Ok(()) => {}
             Err(ended) => return ended_by(observer, ended),

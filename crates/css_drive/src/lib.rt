@@ -3,6 +3,7 @@
 //! A companion's loop tells an observer what happens and each report: the one that writes the reports, or any other.
 #![tactic(auto)]
 
+pub mod calls;
 mod companion;
 mod companion_calls;
 mod companion_dials;
@@ -16,6 +17,7 @@ mod observes;
 mod on_air;
 mod session;
 mod telling;
+pub mod timing;
 mod turns;
 mod tv_calls;
 mod tv_config;

@@ -2,14 +2,14 @@
 use Rattle.css_cii.specs.States.{empty}
 use Rattle.css_cii.specs.declared.state.State.{State}
 use Rattle.std.proofs.Common.{◌≡◌, ap₂, ℕ, ◌≤◌, ◌<◌, arith, ap, sym, ◌∙◌, subst, refl, Bool, true, false, cond, inl}
-use Rattle.std.proofs.Common.{inr, List, [], ◌∷◌, drop, get_or, length, Option, Some, None}
+use Rattle.std.proofs.Common.{inr, List, [], ◌∷◌, drop, get_or, length, Option, Some, None, Result, Ok}
 use Rattle.std.specs.Prelude.{◌⊎◌, ◌||◌, ◌+◌, ◌&&◌, is_some, nat_lt, unwrap_or}
 use Rattle.std.specs.Option.{ForSome}
 use Rattle.std.proofs.lemmas.List.Elements.{All-nil}
 use Rattle.css_model.specs.History.{HungUp, History, Listening}
 use Rattle.css_outside.specs.Faults.{HasRisen}
 use Rattle.css_relay.specs.Relays.{Relay}
-use Rattle.css_drive.specs.CompanionStanding.{Shown, Adds, IsFault, IsCut}
+use Rattle.css_drive.specs.CompanionStanding.{Shown, Adds, IsCut}
 use Rattle.css_drive.specs.CompanionTurns.{goes_on, is_late}
 use Rattle.css_drive.specs.Ends.{MayEnd, IsNetFault, CountsDialFaults}
 use Rattle.css_drive.specs.Proper.{Due, Now, HangUp, Ends, Listen, Empty}
@@ -24,7 +24,7 @@ use Rattle.css_drive_relay.specs.Places.{Facts, Place, Progress, Asked, Over, af
 use Rattle.css_drive_relay.specs.Places.{Begun}
 use Rattle.css_drive_relay.specs.Places.{beginning, with_turn}
 use Rattle.css_drive_relay.specs.Due.{due_at, final, from_hang_ups}
-use Rattle.css_drive_relay.specs.Standing.{IsPeer, KnowsPeers, Runs, Stands, IsAt, Stops, HangsUp, KeepsDials}
+use Rattle.css_drive_relay.specs.Standing.{IsPeer, KnowsPeers, Runs, Stands, IsAt, Stops, HangsUp, Keeps}
 use Rattle.css_drive_relay.specs.Standing.{facts_in, stood, Knows, HasRead, listening, named}
 use Rattle.css_outside.specs.Limits.{IsLimit, most_turns}
 use Rattle.css_outside.specs.Outsides.{Counts}
@@ -104,14 +104,24 @@ module _ {run : RelayRun} {start now : Shown} {relay : Relay} (live : Live) wher
         → IsAt run start now relay live (to [])
     none_left le x = is_at_as x (ap to (peers_all peers index le))
 
-pub keeps_on : {old mid new : Counts} {before between now : Live} → KeepsDials old mid before between
-    → KeepsDials mid new between now → KeepsDials old new before now
-keeps_on a b = record { made = b.made ∙ a.made; dials = b.dials ∙ a.dials; cii = b.cii ∙ a.cii }
+pub keeps_on : {T : Type 0} {old mid new : Counts} {before between now : Live} {result : Result T Driven}
+    → Keeps old mid before between (Ok (tt {0})) → Keeps mid new between now result → Keeps old new before now result
+keeps_on {old} {mid} {new} a b = record {
+  made = b.made ∙ a.made;
+  dialled = λ e. a.dialled (b.dialled e);
+  dials = omega (arith, a.dials, b.dials);
+  cut = b.cut;
+}
 
 -- ---- what is counted
+-- a run that is cut counts no failed dial
+pub cut_counts : (before now : ℕ) → before ≤ now → (ended : Driven) → IsCut ended → CountsDialFaults before now ended
+cut_counts before now le (driven.Unreachable n) c = absurd c
+cut_counts before now le _ c = le
+
 -- where a dial succeeded, or one failed
 pub ending_counts : (f : Facts) (before now : ℕ) → before ≤ now
-    → (f.cii ≡ None → HasRisen before now) → (ended : Driven) → (ended ≡ final f) ⊎ IsFault ended
+    → (f.cii ≡ None → HasRisen before now) → (ended : Driven) → (ended ≡ final f) ⊎ IsCut ended
     → CountsDialFaults before now ended
 ending_counts f before now le tried ended (inl e) =
     let P : Driven → Type 0 = λ x. CountsDialFaults before now x in
@@ -122,34 +132,19 @@ ending_counts f before now le tried ended (inl e) =
     by None true tried = le
     by None false tried = tried refl
     by (Some p) b tried = le
-ending_counts f before now le tried (driven.NetFault failure) (inr c) = le
-ending_counts f before now le tried driven.Memory (inr c) = le
-ending_counts f before now le tried _ (inr c) = absurd c
-
--- a run that is cut counts no failed dial
-pub cut_counts : (before now : ℕ) → before ≤ now → (ended : Driven) → IsCut ended → CountsDialFaults before now ended
-cut_counts before now le driven.WriteFault c = absurd c
-cut_counts before now le driven.Done c = absurd c
-cut_counts before now le (driven.BadLine line why) c = absurd c
-cut_counts before now le (driven.Spent n) c = absurd c
-cut_counts before now le (driven.Unreachable n) c = absurd c
-cut_counts before now le _ c = le
+ending_counts f before now le tried ended (inr c) = cut_counts before now le ended c
 
 -- nothing is written
 pub cut_writes : (ended : Driven) → IsCut ended → ended ≡ driven.WriteFault → ⊥
 cut_writes ended c e = let P : Driven → Type 0 = λ x. IsCut x in absurd (subst P e c)
 
-pub ending_writes : (f : Facts) (ended : Driven) → (ended ≡ final f) ⊎ IsFault ended → ended ≡ driven.WriteFault → ⊥
+pub ending_writes : (f : Facts) (ended : Driven) → (ended ≡ final f) ⊎ IsCut ended → ended ≡ driven.WriteFault → ⊥
 ending_writes f ended (inl e) is = by (is_some f.cii || is_some f.wc) (sym e ∙ is)
   where
     by : (b : Bool) → cond b driven.Done (driven.Unreachable f.turns) ≡ driven.WriteFault → ⊥
     by true e = cc
     by false e = cc
-ending_writes f ended (inr c) is = let P : Driven → Type 0 = λ x. IsFault x in absurd (subst P is c)
-
-pub dials_same : (before mid now : ℕ) (ended : Driven) → now ≡ mid → CountsDialFaults before mid ended
-    → CountsDialFaults before now ended
-dials_same before mid now ended e c = subst (λ (n : ℕ). CountsDialFaults before n ended) (sym e) c
+ending_writes f ended (inr c) is = cut_writes ended c is
 
 pub dials_from : (old new : Counts) (now : ℕ) (ended : Driven) → new ≡ record old { faults = new.faults }
     → CountsDialFaults new.dial_faults now ended → CountsDialFaults old.dial_faults now ended

@@ -13,7 +13,7 @@ use Rattle.css_companion.specs.Meanings.{kind_of, is_cii, is_ts, state_of}
 use Rattle.css_companion.specs.declared.fault.CompanionFault.{CompanionFault}
 use Rattle.css_relay.specs.Relays.{Relay, wc_url_of, relayed_state}
 use Rattle.css_drive.specs.CompanionDue.{refusal_of, end_by}
-use Rattle.css_drive.specs.CompanionStanding.{Shown, Adds, Failed, IsRefusal}
+use Rattle.css_drive.specs.CompanionStanding.{Shown, Adds, Fails, IsRefusal}
 use Rattle.css_drive.specs.Ends.{MayEnd}
 use Rattle.css_drive.specs.Proper.{TakeText, SendText, HangUp, Ends, Accept}
 use Rattle.css_drive.specs.declared.driven.Driven.{Driven}
@@ -122,20 +122,10 @@ module _ (live : Live) {run : RelayRun} {start now next : Shown} {history : Hist
 pub rejects : (live : Live) {run : RelayRun} {start now : Shown} {history : History} {relay : Relay} (next : Shown)
     (peer : ℕ) → Stands run start now relay (opened_if false peer (facts_in live)) history
     → (result : Result (Unit {0}) Driven)
-    → MatchResult result (λ _. Adds now next (HungUp peer ∷ [])) (Failed now next)
+    → MatchResult result (λ _. Adds now next (HungUp peer ∷ [])) (Fails now next None)
     → Arrives run start next relay live (welcomed (facts_in live)) result
 rejects live next peer s (Ok done) a = rejected live peer s a
 rejects live next peer s (Err ended) f = stops_by_fault s.runs (lawful s.knows) next ended f
-
--- whether it is kept, where so many are open
-pub kept_so : (live : Live) {run : RelayRun} {start now : Shown} {history : History} {relay : Relay} (peer : ℕ)
-    (which : Kind) {count : ℕ} {kept other : Bool}
-    → Stands run start now relay (opened_if (is_kept which (length live.peers.items)) peer (facts_in live)) history
-    → count ≡ length live.peers.items → kept ≡ is_kept which count → kept ≡ other
-    → Stands run start now relay (opened_if other peer (facts_in live)) history
-kept_so live {run} {start} {now} {history} {relay} peer which s n is e =
-    subst (λ (b : Bool). Stands run start now relay (opened_if b peer (facts_in live)) history)
-    (ap (is_kept which) (sym n) ∙ sym is ∙ e) s
 
 module _ (live : Live) {run : RelayRun} {start now : Shown} {history : History} {relay : Relay} where
   -- ---- publishing
@@ -304,7 +294,7 @@ module _ (live : Live) {run : RelayRun} {start now next : Shown} {history : Hist
 pub drops : (live : Live) {run : RelayRun} {start now : Shown} {relay : Relay} (next : Shown)
     (peer : ℕ) (left : List ℕ) → IsAt run start now relay live (Dropping peer left)
     → (result : Result (Unit {0}) Driven)
-    → MatchResult result (λ _. Adds now next (HungUp peer ∷ [])) (Failed now next)
+    → MatchResult result (λ _. Adds now next (HungUp peer ∷ [])) (Fails now next None)
     → Arrives run start next relay live (Asked left) result
 drops live next peer left x (Ok done) a =
     here (stands_on x.stands (HangUp peer) refl (HungUp peer) refl a

@@ -17,7 +17,7 @@ use Rattle.css_relay.specs.Answers.{answered}
 use Rattle.css_relay.specs.Relays.{Relay}
 use Rattle.css_relay.specs.declared.fault.RelayFault.{RelayFault}
 use Rattle.css_drive.specs.CompanionDue.{send_to}
-use Rattle.css_drive.specs.CompanionStanding.{Shown, Adds, Failed}
+use Rattle.css_drive.specs.CompanionStanding.{Shown, Adds, Fails}
 use Rattle.css_drive.specs.CompanionTurns.{is_asking}
 use Rattle.css_drive.specs.Proper.{Due, SendDatagram, TakeDatagram}
 use Rattle.css_drive.specs.declared.driven.Driven.{Driven}
@@ -184,7 +184,7 @@ requested {run} {start} {now} {next} {later} {history = history} live reading pe
 pub answer_sent : {run : RelayRun} {start now : Shown} {relay : Relay} {history : History} (live : Live) (next : Shown)
     (peer : ℕ) (bytes : List ℕ) → Stands run start now relay (stood live (Answers peer bytes)) history
     → request_in bytes ≡ None → (result : Result (Unit {0}) Driven)
-    → MatchResult result (λ _. Adds now next (Sent peer bytes ∷ [])) (Failed now next)
+    → MatchResult result (λ _. Adds now next (Sent peer bytes ∷ [])) (Fails now next None)
     → Arrives run start next relay live Served result
 answer_sent live next peer bytes s none (Ok done) a =
     here (stands_on s (SendDatagram peer bytes) refl (Sent peer bytes) refl a

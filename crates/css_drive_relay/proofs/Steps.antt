@@ -13,7 +13,7 @@ use Rattle.css_outside.specs.declared.calls.Clocked.{Clocked}
 use Rattle.css_companion.specs.Meanings.{cii_text, ts_text, opens_ts, closes_ts}
 use Rattle.css_companion.proofs.Telling as telling
 use Rattle.css_relay.specs.Relays.{Relay}
-use Rattle.css_drive.specs.CompanionStanding.{Shown, Adds, Failed, asked_after}
+use Rattle.css_drive.specs.CompanionStanding.{Shown, Adds, Fails, asked_after}
 use Rattle.css_drive.specs.Ends.{MayEnd, IsNetFault, CountsNetFault}
 use Rattle.css_drive.specs.Proper.{Due, Now, MayAdd, More}
 use Rattle.css_drive.specs.declared.driven.Driven.{Driven}
@@ -68,13 +68,6 @@ module _ {run : RelayRun} {start now : Shown} {relay : Relay} {live : Live} {Nex
   on_from x next = next x.history x.place x.stands x.next
 
 -- ---- a call that is due
--- what a call tells and counts that went well
-pub adds : {old new : Shown} {call : History} → new.told ≡ with_entries call old.told
-    → new.counts.faults ≡ old.counts.faults → new.counts ≡ record old.counts { faults = new.counts.faults }
-    → Adds old new call
-adds {old} told faults same =
-    record { told = told; same = same ∙ ap (λ (n : ℕ). record old.counts { faults = n }) faults }
-
 -- the run came to a place, as the variables say it
 pub here : {run : RelayRun} {start now : Shown} {relay : Relay} {live : Live} {place : Place} {history : History}
     → Stands run start now relay (stood live place) history → IsAt run start now relay live place
@@ -181,7 +174,7 @@ runs_read {run} {start} {now} {next} {live} {later} {place} {history} s w is-due
 -- ---- ends
 -- a call of the outside failed, so the run ends
 pub stops_by_fault : {run : RelayRun} {start now : Shown} {p : Progress} {history : History}
-    → Runs run start now p history → IsLawful history → (next : Shown) (ended : Driven) → Failed now next ended
+    → Runs run start now p history → IsLawful history → (next : Shown) (ended : Driven) → Fails now next None ended
     → Stops run start next ended
 stops_by_fault {run} {start} {now} {history = history} s l next ended f =
     let P : ℕ → Type 0 = λ n. CountsNetFault n next.counts.faults ended in
@@ -192,7 +185,7 @@ stops_by_fault {run} {start} {now} {history = history} s l next ended f =
       proper = s.proper;
       lawful = l;
       numbered = s.numbered;
-      ends = fault_ends (due run history) ended f.fault;
+      ends = fault_ends (due run history) ended f.end;
     }
 
 -- the end is due, or memory is wanting

@@ -1,6 +1,6 @@
 -- How the variables of a relay's run stand for its history.
 use Rattle.std.specs.Prelude.{◌≡◌, ◌≤◌, ◌<◌, ◌+◌, ℕ, List, [], ◌∷◌, ◌++◌, All, Option, Some, None, IfSome}
-use Rattle.std.specs.Prelude.{Result, MatchResult, ⊤}
+use Rattle.std.specs.Prelude.{Result, MatchResult, IfErr, ⊤}
 use Rattle.css_model.specs.declared.TheConstants.{LIMIT}
 use Rattle.css_model.specs.declared.Kind.{Kind}
 use Rattle.css_model.specs.declared.Kind.TheVariants as kind
@@ -13,7 +13,7 @@ use Rattle.css_outside.specs.declared.calls.Clocked.{Clocked}
 use Rattle.css_companion.specs.Meanings.{kind_of}
 use Rattle.css_companion.specs.Standing.{StandsFor, own_of}
 use Rattle.css_relay.specs.Relays.{Relay, wc_url_of}
-use Rattle.css_drive.specs.CompanionStanding.{Shown, Adds, Failed, asked_after}
+use Rattle.css_drive.specs.CompanionStanding.{Shown, IsCut, asked_after}
 use Rattle.css_drive.specs.Ends.{MayEnd, CountsNetFault}
 use Rattle.css_drive.specs.Proper.{Due}
 use Rattle.css_drive.specs.TvRan.{AreNumbered}
@@ -128,10 +128,6 @@ Goes run start now relay live to result =
     MatchResult result (λ _. Comes run start now relay live to) (Stops run start now)
 
 -- ---- single calls
--- a call that is no dial and reads no clock added these entries, or it failed
-abbrev pub AddsOrFailed : {T : Type 0} → Shown → Shown → (T → History) → Result T Driven → Type 0
-AddsOrFailed old new entries result = MatchResult result (λ value. Adds old new (entries value)) (Failed old new)
-
 -- The clock was read, and where the machine slept the relay knows.
 pub record HasRead (old new : Shown) (before now : Live) (was is : Relay) (why : Why) (clocked : Clocked)
     : Type 0 where
@@ -145,17 +141,12 @@ pub record HasRead (old new : Shown) (before now : Live) (was is : Relay) (why :
       → Knows run is (sleep_entries clocked.slept ++ history)
   pub only : facts_in now ≡ record (facts_in before) { asked = asked_after clocked.slept before.asked }
 
--- what the stages of a turn leave as it is, and that failed dials are counted
-pub record Keeps (old new : Counts) (before now : Live) : Type 0 where
+-- What every stage of a turn leaves as it is. Failed dials are counted, and an end comes in the midst of the turn.
+pub record Keeps {T : Type 0} (old new : Counts) (before now : Live) (result : Result T Driven) : Type 0 where
   pub made : now.made ≡ before.made
-  pub dials : old.dial_faults ≤ new.dial_faults
   pub dialled : now.cii ≡ None → before.cii ≡ None
-
--- the same, where no dial is made
-pub record KeepsDials (old new : Counts) (before now : Live) : Type 0 where
-  pub made : now.made ≡ before.made
-  pub dials : new.dial_faults ≡ old.dial_faults
-  pub cii : now.cii ≡ before.cii
+  pub dials : old.dial_faults ≤ new.dial_faults
+  pub cut : IfErr result IsCut
 
 -- ---- the end
 -- The run came to where these sessions are to be hung up, and then it ends.

@@ -1,33 +1,21 @@
 //! What a turn of a relay does with datagrams: its own request, what lands, and the requests that it answers.
-ghost use Rattle.std.specs.Prelude.{◌≡◌, ◌≤◌, ◌<◌, ◌∷◌, ℕ, List, OnOk, IfErr, Some, is_some, true, false};
-ghost use Rattle.std.specs.Option.{ForSome};
+ghost use Rattle.std.specs.Prelude.{◌≡◌, ◌≤◌, ◌∷◌, ℕ, List, OnOk, is_some, true, false};
 ghost use Rattle.css_model.specs.History as entries;
 ghost use Rattle.css_model.specs.History.{History, request_in};
-ghost use Rattle.css_relay.specs.Answers.{Ticket};
-ghost use Rattle.css_drive.specs.CompanionStanding.{Shown, shown, IsCut};
-ghost use Rattle.css_drive.specs.CompanionTurns.{is_asking};
-ghost use Rattle.css_drive_relay.specs.Places.{Place, Taken, Received, Served};
+ghost use Rattle.css_drive.specs.CompanionStanding.{Shown, shown};
+ghost use Rattle.css_drive_relay.specs.Places.{Place, Taken, Served};
 ghost use Rattle.css_drive_relay.specs.Due.{due_at, from_ask, from_take};
-ghost use Rattle.css_drive_relay.specs.Standing.{facts_in, stood, Stands, Knows, Goes, Arrives, KeepsDials};
+ghost use Rattle.css_drive_relay.specs.Standing.{facts_in, stood, Stands, Knows, Goes, Arrives, Keeps};
 
-use crate::calls::{end_of, or_memory, read, send};
+use crate::calls::{or_memory, read};
 use crate::config::RelayRun;
 use crate::live::Live;
 use css_drive::Driven;
+use css_drive::calls::{end_of, send_datagram};
+use css_drive::timing::is_time;
 use css_outside::{Outside, Why};
-use css_relay::{Relay, RelayTicket};
+use css_relay::Relay;
 use css_wc::decode;
-
-fn is_time(every: u64, turn: Option<u64>, asked: Option<u64>) -> bool
-    requires few { every ≤ 1000000000000 }
-    requires below { ForSome asked (λ reading. reading < 4294967296000000000) }
-    ensures { result ≡ is_asking every turn asked }
-{
-    match asked {
-        None => true,
-        Some(asked) => asked + every <= turn.unwrap_or(0),
-    }
-}
 
 /// Asks the television's wall clock, where it was dialled and it is time.
 pub(crate) fn ask<O: Outside>(
@@ -42,8 +30,7 @@ pub(crate) fn ask<O: Outside>(
         → due_at run.now (facts_in live.old) history at ≡ from_ask run.now (facts_in live.old) history
         → Goes run.now start (shown (O.told outside.new) (O.counts outside.new)) relay.new live.new from_take result }
     ensures floor { OnOk result (relay.new.companion.client.floor ≤ (O.counts outside.new).last) }
-    ensures keeps { KeepsDials (O.counts outside.old) (O.counts outside.new) live.old live.new }
-    ensures cut { IfErr result IsCut }
+    ensures keeps { Keeps (O.counts outside.old) (O.counts outside.new) live.old live.new result }
 {
     let Some(peer) = live.wc else {
         return Ok(());
@@ -53,7 +40,7 @@ pub(crate) fn ask<O: Outside>(
     }
     let clocked = read(outside, relay, live, Why::Ask)?;
     let bytes = relay.ask(clocked.reading);
-    send(outside, peer, &bytes)?;
+    send_datagram(outside, peer, &bytes)?;
     live.asked = live.turn;
     Ok(())
 }
@@ -73,8 +60,7 @@ fn land<O: Outside>(
         → Knows run.now relay.old history → taken ≡ bytes.now → is_some (request_in taken) ≡ false
         → Arrives run.now start (shown (O.told outside.new) (O.counts outside.new)) relay.new live.new Served result }
     ensures floor { OnOk result (relay.new.companion.client.floor ≤ (O.counts outside.new).last) }
-    ensures keeps { KeepsDials (O.counts outside.old) (O.counts outside.new) live.old live.new }
-    ensures cut { IfErr result IsCut }
+    ensures keeps { Keeps (O.counts outside.old) (O.counts outside.new) live.old live.new result }
 {
     let clocked = read(outside, relay, live, Why::Land)?;
     if clocked.slept {
@@ -85,34 +71,8 @@ fn land<O: Outside>(
     Ok(())
 }
 
-/// Answers a request that was received, unless its answer has a fault.
-fn answer<O: Outside>(
-    run: &RelayRun,
-    live: &mut Live,
-    relay: &mut Relay,
-    outside: &mut O,
-    peer: u32,
-    ticket: RelayTicket,
-) -> Result<(), Driven>
-    requires { relay.old.companion.client.floor ≤ (O.counts outside.old).last }
-    ensures goes { (start : Shown) (history : History) (received : Ticket)
-        → Stands run.now start (shown (O.told outside.old) (O.counts outside.old)) relay.old
-        (stood live.old (Received peer received)) history → received ≡ ticket
-        → Arrives run.now start (shown (O.told outside.new) (O.counts outside.new)) relay.new live.new Served result }
-    ensures floor { OnOk result (relay.new.companion.client.floor ≤ (O.counts outside.new).last) }
-    ensures keeps { KeepsDials (O.counts outside.old) (O.counts outside.new) live.old live.new }
-    ensures cut { IfErr result IsCut }
-{
-    let clocked = read(outside, relay, live, Why::Give)?;
-    match relay.answer(ticket, clocked.reading) {
-        // A request whose answer has a fault is dropped.
-        Err(_) => Ok(()),
-        Ok(bytes) => send(outside, peer, &bytes),
-    }
-}
-
-/// Receives a request, and answers it unless it has a fault.
-fn receive<O: Outside>(
+/// Receives a request, and answers it. It is dropped where it has a fault, or its answer has one.
+fn respond<O: Outside>(
     run: &RelayRun,
     live: &mut Live,
     relay: &mut Relay,
@@ -126,13 +86,18 @@ fn receive<O: Outside>(
         (stood live.old (Taken peer taken)) history → taken ≡ bytes.now → is_some (request_in taken) ≡ true
         → Arrives run.now start (shown (O.told outside.new) (O.counts outside.new)) relay.new live.new Served result }
     ensures floor { OnOk result (relay.new.companion.client.floor ≤ (O.counts outside.new).last) }
-    ensures keeps { KeepsDials (O.counts outside.old) (O.counts outside.new) live.old live.new }
-    ensures cut { IfErr result IsCut }
+    ensures keeps { Keeps (O.counts outside.old) (O.counts outside.new) live.old live.new result }
 {
-    let clocked = read(outside, relay, live, Why::Take)?;
-    match relay.receive(bytes, clocked.reading) {
+    let taken = read(outside, relay, live, Why::Take)?;
+    match relay.receive(bytes, taken.reading) {
         Err(_) => Ok(()),
-        Ok(ticket) => answer(run, live, relay, outside, peer, ticket),
+        Ok(ticket) => {
+            let given = read(outside, relay, live, Why::Give)?;
+            match relay.answer(ticket, given.reading) {
+                Err(_) => Ok(()),
+                Ok(answer) => send_datagram(outside, peer, &answer),
+            }
+        }
     }
 }
 
@@ -159,8 +124,7 @@ pub(crate) fn serve<O: Outside>(
         → due_at run.now (facts_in live.old) history at ≡ from_take (facts_in live.old) history
         → Arrives run.now start (shown (O.told outside.new) (O.counts outside.new)) relay.new live.new Served result }
     ensures floor { OnOk result (relay.new.companion.client.floor ≤ (O.counts outside.new).last) }
-    ensures keeps { KeepsDials (O.counts outside.old) (O.counts outside.new) live.old live.new }
-    ensures cut { IfErr result IsCut }
+    ensures keeps { Keeps (O.counts outside.old) (O.counts outside.new) live.old live.new result }
 {
     let mut into = [0u8; 64];
     match outside.take_datagram(&mut into) {
@@ -169,7 +133,7 @@ pub(crate) fn serve<O: Outside>(
         Ok(Some((peer, count))) => {
             let bytes = &into[..count];
             if is_request(bytes) {
-                return receive(run, live, relay, outside, peer, bytes);
+                return respond(run, live, relay, outside, peer, bytes);
             }
             land(run, live, relay, outside, bytes)
         }

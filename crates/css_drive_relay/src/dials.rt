@@ -1,22 +1,19 @@
 //! The dials of a turn of a relay.
-ghost use Rattle.std.specs.Prelude.{◌≡◌, OnOk, IfErr, None};
+ghost use Rattle.std.specs.Prelude.{◌≡◌, OnOk, None};
 ghost use Rattle.css_model.specs.History.{History};
 ghost use Rattle.css_outside.specs.Faults.{HasRisen};
 ghost use Rattle.css_relay.specs.Relays.{Relay as KnownRelay};
-ghost use Rattle.css_drive.specs.CompanionDue as dues;
-ghost use Rattle.css_drive.specs.CompanionStanding.{Shown, shown, GivesPlace, IsCut};
+ghost use Rattle.css_drive.specs.CompanionStanding.{Shown, shown};
 ghost use Rattle.css_drive_relay.specs.Places.{Place, Begun};
 ghost use Rattle.css_drive_relay.specs.Due.{due_at, from_wc, from_ask};
 ghost use Rattle.css_drive_relay.specs.Standing.{facts_in, stood, Stands, Goes, Keeps};
 
-use crate::calls::try_dial;
 use crate::config::RelayRun;
 use crate::live::Live;
-use css_address::{AddressFault, address};
 use css_cii::CiiName;
 use css_drive::Driven;
-use css_num::Text;
-use css_outside::{Address, Kind, Outside};
+use css_drive::calls::{dial, place};
+use css_outside::{Kind, Outside};
 use css_relay::Relay;
 use std::alloc::Global;
 
@@ -30,38 +27,20 @@ pub(crate) fn dial_cii<O: Outside>(
         → Stands run.now start (shown (O.told outside.old) (O.counts outside.old)) relay (stood live.old Begun) history
         → Goes run.now start (shown (O.told outside.new) (O.counts outside.new)) relay live.new
         (from_wc run.now) result }
-    ensures last { (O.counts outside.new).last ≡ (O.counts outside.old).last }
-    ensures keeps { Keeps (O.counts outside.old) (O.counts outside.new) live.old live.new }
-    ensures cut { IfErr result IsCut }
+    ensures last { OnOk result ((O.counts outside.new).last ≡ (O.counts outside.old).last) }
+    ensures keeps { Keeps (O.counts outside.old) (O.counts outside.new) live.old live.new result }
     ensures tried { OnOk result (live.new.cii ≡ None
         → HasRisen (O.counts outside.old).dial_faults (O.counts outside.new).dial_faults) }
 {
     if live.cii.is_some() {
         return Ok(());
     }
-    let Some(peer) = try_dial(outside, Kind::Cii, &run.cii)? else {
+    let Some(peer) = dial(outside, Kind::Cii, &run.cii)? else {
         return Ok(());
     };
     live.cii = Some(peer);
     live.television = Some(peer);
     Ok(())
-}
-
-/// The address of the television's wall clock, where it isn't null.
-fn place(alloc: Global, url: &Option<Text>) -> Result<Option<Address>, Driven>
-    ensures gives { GivesPlace CiiName.WcUrl (dues.place Kind.Wc url.now) result }
-    ensures cut { IfErr result IsCut }
-{
-    let Some(text) = url else {
-        return Ok(None);
-    };
-    match address(alloc, Kind::Wc, text.bytes()) {
-        Ok(to) => Ok(Some(to)),
-        Err(AddressFault::Bad) => Err(Driven::BadUrl {
-            property: CiiName::WcUrl,
-        }),
-        Err(AddressFault::Memory) => Err(Driven::Memory),
-    }
 }
 
 /// Dials the wall clock, while no dial of it succeeded and its address is told.
@@ -77,17 +56,16 @@ pub(crate) fn dial_wc<O: Outside>(
         → due_at run.now (facts_in live.old) history at ≡ from_wc run.now (facts_in live.old) history
         → Goes run.now start (shown (O.told outside.new) (O.counts outside.new)) relay.now live.new
         (from_ask run.now) result }
-    ensures last { (O.counts outside.new).last ≡ (O.counts outside.old).last }
-    ensures keeps { Keeps (O.counts outside.old) (O.counts outside.new) live.old live.new }
-    ensures cut { IfErr result IsCut }
+    ensures last { OnOk result ((O.counts outside.new).last ≡ (O.counts outside.old).last) }
+    ensures keeps { Keeps (O.counts outside.old) (O.counts outside.new) live.old live.new result }
 {
     if live.wc.is_some() {
         return Ok(());
     }
-    let Some(to) = place(alloc, &relay.state().wc_url)? else {
+    let Some(to) = place(alloc, Kind::Wc, CiiName::WcUrl, &relay.state().wc_url)? else {
         return Ok(());
     };
-    let Some(peer) = try_dial(outside, Kind::Wc, &to)? else {
+    let Some(peer) = dial(outside, Kind::Wc, &to)? else {
         return Ok(());
     };
     live.wc = Some(peer);

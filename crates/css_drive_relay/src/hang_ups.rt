@@ -2,17 +2,17 @@
 ghost use Rattle.std.specs.Prelude.{◌≡◌, ◌≤◌, ◌⊎◌, [], false, length, IfOk, IfErr, OnOk};
 ghost use Rattle.css_model.specs.History.{History};
 ghost use Rattle.css_relay.specs.Relays.{Relay as KnownRelay};
-ghost use Rattle.css_drive.specs.CompanionStanding.{Shown, shown, IsFault};
+ghost use Rattle.css_drive.specs.CompanionStanding.{Shown, shown, IsCut};
 ghost use Rattle.css_drive_relay.specs.Places as places;
 ghost use Rattle.css_drive_relay.specs.Places.{Asked};
 ghost use Rattle.css_drive.specs.CompanionTurns.{goes_on};
 ghost use Rattle.css_drive_relay.specs.Due.{final};
 ghost use Rattle.css_drive_relay.specs.Standing.{facts_in, stood, Stands, Stops, Finishes};
 
-use crate::calls::hang_up;
 use crate::config::RelayRun;
 use crate::live::{Live, accepted};
 use css_drive::Driven;
+use css_drive::calls::hang_up;
 use css_num::Memory;
 use css_outside::Outside;
 
@@ -63,8 +63,8 @@ fn hang_up_each<O: Outside>(
         history → goes_on run.now.limit live.now.first live.now.turn live.now.made ≡ false
         → Finishes run.now start (shown (O.told outside.new) (O.counts outside.new))
         (final (facts_in live.now)) result }
-    ensures dials { (O.counts outside.new).dial_faults ≡ (O.counts outside.old).dial_faults }
-    ensures fault { IfErr result IsFault }
+    ensures dials { (O.counts outside.old).dial_faults ≤ (O.counts outside.new).dial_faults }
+    ensures cut { IfErr result IsCut }
 {
     for peer in peers {
         hang_up(outside, *peer)?;
@@ -90,8 +90,8 @@ pub(crate) fn finish<O: Outside>(run: &RelayRun, live: &Live, outside: &mut O) -
         → Stands run.now start (shown (O.told outside.old) (O.counts outside.old)) relay (stood live.now (Asked []))
         history → goes_on run.now.limit live.now.first live.now.turn live.now.made ≡ false
         → Stops run.now start (shown (O.told outside.new) (O.counts outside.new)) result }
-    ensures dials { (O.counts outside.new).dial_faults ≡ (O.counts outside.old).dial_faults }
-    ensures kind { (result ≡ final (facts_in live.now)) ⊎ IsFault result }
+    ensures dials { (O.counts outside.old).dial_faults ≤ (O.counts outside.new).dial_faults }
+    ensures kind { (result ≡ final (facts_in live.now)) ⊎ IsCut result }
 {
     let Ok(peers) = all_open(live) else {
         return Driven::Memory;

@@ -6,21 +6,22 @@ ghost use Rattle.css_model.specs.History.{History};
 ghost use Rattle.css_model.specs.declared.Kind.TheVariants as kinds;
 ghost use Rattle.css_companion.specs.Meanings.{kind_of};
 ghost use Rattle.css_relay.specs.Relays.{Relay as KnownRelay, relayed_state};
-ghost use Rattle.css_drive.specs.CompanionDue.{refusal_of, end_by};
+ghost use Rattle.css_drive.specs.CompanionDue.{refusal_of};
 ghost use Rattle.css_drive.specs.CompanionStanding.{Shown, shown, IsCut, IsRefusal};
 ghost use Rattle.css_drive_relay.specs.Places as places;
 ghost use Rattle.css_drive_relay.specs.Places.{Served, Asked, welcomed, telling, published};
-ghost use Rattle.css_drive_relay.specs.Standing.{facts_in, stood, Stands, Knows, Arrives, KeepsDials};
+ghost use Rattle.css_drive_relay.specs.Standing.{facts_in, stood, Stands, Knows, Arrives, Keeps};
 
-use crate::calls::{end_of, hang_up, hear, or_memory, tell};
+use crate::calls::or_memory;
 use crate::config::RelayRun;
 use crate::live::{Live, accepted};
 use crate::published::Published;
 use crate::texts::{difference_text, full_text};
 use css_drive::Driven;
+use css_drive::calls::{end_of, hang_up, refused, send_text, take_text};
 use css_num::Text;
 use css_outside::{Heard, Kind, Outside, Wrote};
-use css_relay::{CompanionEvent, CompanionFault, Relay};
+use css_relay::{CompanionEvent, Relay};
 use std::alloc::Global;
 
 /// An accepted session is over.
@@ -53,44 +54,19 @@ fn greet<O: Outside>(
         (places.opened_if true peer (facts_in live.old)) history
         → Arrives run.now start (shown (O.told outside.new) (O.counts outside.new)) relay live.new
         (welcomed (facts_in live.new)) result }
-    ensures last { (O.counts outside.new).last ≡ (O.counts outside.old).last }
-    ensures keeps { KeepsDials (O.counts outside.old) (O.counts outside.new) live.old live.new }
-    ensures cut { IfErr result IsCut }
+    ensures last { OnOk result ((O.counts outside.new).last ≡ (O.counts outside.old).last) }
+    ensures keeps { Keeps (O.counts outside.old) (O.counts outside.new) live.old live.new result }
 {
     let text = or_memory(full_text(alloc, live.state.state()))?;
     or_memory(live.peers.push(peer))?;
-    match tell(outside, peer, text.bytes())? {
+    match send_text(outside, peer, text.bytes())? {
         Wrote::Sent => {}
         Wrote::Gone => forget(live, peer),
     }
     Ok(())
 }
 
-/// Greets a session that was opened, or hangs it up.
-fn admit<O: Outside>(
-    alloc: Global,
-    run: &RelayRun,
-    live: &mut Live,
-    outside: &mut O,
-    peer: u32,
-    kind: Kind,
-) -> Result<(), Driven>
-    ensures goes { (start : Shown) (relay : KnownRelay) (history : History)
-        → Stands run.now start (shown (O.told outside.old) (O.counts outside.old)) relay
-        (places.opened peer kind (facts_in live.old)) history
-        → Arrives run.now start (shown (O.told outside.new) (O.counts outside.new)) relay live.new
-        (welcomed (facts_in live.new)) result }
-    ensures last { (O.counts outside.new).last ≡ (O.counts outside.old).last }
-    ensures keeps { KeepsDials (O.counts outside.old) (O.counts outside.new) live.old live.new }
-    ensures cut { IfErr result IsCut }
-{
-    if is_kept(kind, live.peers.len()) {
-        return greet(alloc, run, live, outside, peer);
-    }
-    hang_up(outside, peer)
-}
-
-/// Takes the session that a peer opened, if one did.
+/// Takes the session that a peer opened, if one did: greets it, or hangs it up.
 pub(crate) fn welcome<O: Outside>(
     alloc: Global,
     run: &RelayRun,
@@ -101,14 +77,18 @@ pub(crate) fn welcome<O: Outside>(
         → Stands run.now start (shown (O.told outside.old) (O.counts outside.old)) relay (stood live.old Served) history
         → Arrives run.now start (shown (O.told outside.new) (O.counts outside.new)) relay live.new
         (welcomed (facts_in live.new)) result }
-    ensures last { (O.counts outside.new).last ≡ (O.counts outside.old).last }
-    ensures keeps { KeepsDials (O.counts outside.old) (O.counts outside.new) live.old live.new }
-    ensures cut { IfErr result IsCut }
+    ensures last { OnOk result ((O.counts outside.new).last ≡ (O.counts outside.old).last) }
+    ensures keeps { Keeps (O.counts outside.old) (O.counts outside.new) live.old live.new result }
 {
     match outside.accept() {
         Err(fault) => Err(end_of(fault)),
         Ok(None) => Ok(()),
-        Ok(Some((peer, kind))) => admit(alloc, run, live, outside, peer, kind),
+        Ok(Some((peer, kind))) => {
+            if is_kept(kind, live.peers.len()) {
+                return greet(alloc, run, live, outside, peer);
+            }
+            hang_up(outside, peer)
+        }
     }
 }
 
@@ -125,11 +105,10 @@ fn tell_one<O: Outside>(
         (stood live.old (telling text.now (peer ∷ left) (facts_in live.old))) history
         → Arrives run.now start (shown (O.told outside.new) (O.counts outside.new)) relay live.new
         (telling text.now left (facts_in live.new)) result }
-    ensures last { (O.counts outside.new).last ≡ (O.counts outside.old).last }
-    ensures keeps { KeepsDials (O.counts outside.old) (O.counts outside.new) live.old live.new }
-    ensures cut { IfErr result IsCut }
+    ensures last { OnOk result ((O.counts outside.new).last ≡ (O.counts outside.old).last) }
+    ensures keeps { Keeps (O.counts outside.old) (O.counts outside.new) live.old live.new result }
 {
-    match tell(outside, peer, text.bytes())? {
+    match send_text(outside, peer, text.bytes())? {
         Wrote::Sent => {}
         Wrote::Gone => forget(live, peer),
     }
@@ -148,9 +127,8 @@ fn tell_all<O: Outside>(
         (stood live.old (telling text.now live.old.peers.items (facts_in live.old))) history
         → Arrives run.now start (shown (O.told outside.new) (O.counts outside.new)) relay live.new
         (Asked live.new.peers.items) result }
-    ensures last { (O.counts outside.new).last ≡ (O.counts outside.old).last }
-    ensures keeps { KeepsDials (O.counts outside.old) (O.counts outside.new) live.old live.new }
-    ensures cut { IfErr result IsCut }
+    ensures last { OnOk result ((O.counts outside.new).last ≡ (O.counts outside.old).last) }
+    ensures keeps { Keeps (O.counts outside.old) (O.counts outside.new) live.old live.new result }
 {
     let left = or_memory(accepted(live))?;
     for peer in &left {
@@ -172,9 +150,8 @@ fn publish<O: Outside>(
         (published (relayed_state relay.now.wc_url relay.now.companion.state) (facts_in live.old)) history
         → Arrives run.now start (shown (O.told outside.new) (O.counts outside.new)) relay.now live.new
         (Asked live.new.peers.items) result }
-    ensures last { (O.counts outside.new).last ≡ (O.counts outside.old).last }
-    ensures keeps { KeepsDials (O.counts outside.old) (O.counts outside.new) live.old live.new }
-    ensures cut { IfErr result IsCut }
+    ensures last { OnOk result ((O.counts outside.new).last ≡ (O.counts outside.old).last) }
+    ensures keeps { Keeps (O.counts outside.old) (O.counts outside.new) live.old live.new result }
 {
     let state = or_memory(relay.relayed())?;
     let change = or_memory(difference_text(alloc, live.state.state(), &state))?;
@@ -182,18 +159,6 @@ fn publish<O: Outside>(
     match change {
         None => Ok(()),
         Some(text) => tell_all(run, live, outside, &text),
-    }
-}
-
-/// How a run ends with a text that is refused.
-fn refused(fault: CompanionFault) -> Driven
-    ensures end { result ≡ end_by fault }
-    ensures cut { IsCut result }
-{
-    match fault {
-        CompanionFault::BadCii { text, fault } => Driven::BadCii { text, fault },
-        CompanionFault::Moved { property, old, new } => Driven::Moved { property, old, new },
-        CompanionFault::Memory => Driven::Memory,
     }
 }
 
@@ -228,13 +193,12 @@ pub(crate) fn hear_television<O: Outside>(
         → Arrives run.now start (shown (O.told outside.new) (O.counts outside.new)) relay.new live.new
         (Asked live.new.peers.items) result }
     ensures floor { OnOk result (relay.new.companion.client.floor ≤ (O.counts outside.new).last) }
-    ensures keeps { KeepsDials (O.counts outside.old) (O.counts outside.new) live.old live.new }
-    ensures cut { IfErr result IsCut }
+    ensures keeps { Keeps (O.counts outside.old) (O.counts outside.new) live.old live.new result }
 {
     let Some(peer) = live.television else {
         return Ok(());
     };
-    match hear(outside, peer) {
+    match take_text(outside, peer) {
         Err(ended) => Err(ended),
         Ok(Heard::Quiet) => Ok(()),
         Ok(Heard::Closed) => {
@@ -260,11 +224,10 @@ fn hear_one<O: Outside>(
         (stood live.old (Asked (peer ∷ left))) history
         → Arrives run.now start (shown (O.told outside.new) (O.counts outside.new)) relay live.new
         (Asked left) result }
-    ensures last { (O.counts outside.new).last ≡ (O.counts outside.old).last }
-    ensures keeps { KeepsDials (O.counts outside.old) (O.counts outside.new) live.old live.new }
-    ensures cut { IfErr result IsCut }
+    ensures last { OnOk result ((O.counts outside.new).last ≡ (O.counts outside.old).last) }
+    ensures keeps { Keeps (O.counts outside.old) (O.counts outside.new) live.old live.new result }
 {
-    match hear(outside, peer) {
+    match take_text(outside, peer) {
         Err(ended) => Err(ended),
         Ok(Heard::Quiet) => Ok(()),
         Ok(Heard::Closed) => {
@@ -288,9 +251,8 @@ pub(crate) fn hear_all<O: Outside>(
         → Stands run.now start (shown (O.told outside.old) (O.counts outside.old)) relay
         (stood live.old (Asked live.old.peers.items)) history
         → Arrives run.now start (shown (O.told outside.new) (O.counts outside.new)) relay live.new (Asked []) result }
-    ensures last { (O.counts outside.new).last ≡ (O.counts outside.old).last }
-    ensures keeps { KeepsDials (O.counts outside.old) (O.counts outside.new) live.old live.new }
-    ensures cut { IfErr result IsCut }
+    ensures last { OnOk result ((O.counts outside.new).last ≡ (O.counts outside.old).last) }
+    ensures keeps { Keeps (O.counts outside.old) (O.counts outside.new) live.old live.new result }
 {
     let left = or_memory(accepted(live))?;
     for peer in &left {

@@ -6,14 +6,13 @@ ghost use Rattle.css_outside.specs.Outsides.{Counts};
 ghost use Rattle.css_drive.specs.CompanionStanding.{Shown, shown, IsCut};
 ghost use Rattle.css_drive.specs.CompanionTurns as turns;
 ghost use Rattle.css_drive_relay.specs.Places as places;
-ghost use Rattle.css_drive_relay.specs.Places.{Place, Asked, Begun};
-ghost use Rattle.css_drive_relay.specs.Due.{due_at, from_take};
+ghost use Rattle.css_drive_relay.specs.Places.{Asked, Begun};
 ghost use Rattle.css_drive.specs.Ends.{CountsDialFaults};
 ghost use Rattle.css_drive_relay.specs.Ran.{IsWritable, RelayRan, CountsRelayRun};
-ghost use Rattle.css_drive_relay.specs.Standing.{facts_in, stood, listening, Stands, Stops, Knows, Goes, Arrives};
-ghost use Rattle.css_drive_relay.specs.Standing.{Keeps, KeepsDials, HasTried};
+ghost use Rattle.css_drive_relay.specs.Standing.{facts_in, stood, listening, Stands, Stops, Knows, Arrives};
+ghost use Rattle.css_drive_relay.specs.Standing.{Keeps, HasTried};
 
-use crate::calls::{end_of, read};
+use crate::calls::read;
 use crate::config::RelayRun;
 use crate::datagrams::{ask, serve};
 use crate::dials::{dial_cii, dial_wc};
@@ -24,27 +23,12 @@ use crate::sessions::{hear_all, hear_television, welcome};
 use css_cii::State;
 use css_companion::CompanionConfig;
 use css_drive::Driven;
+use css_drive::calls::end_of;
+use css_drive::timing::{goes_on, is_late};
 use css_num::Memory;
 use css_outside::{Outside, Why};
 use css_relay::Relay;
 use std::alloc::Global;
-
-/// Whether the present turn is the last by its time.
-fn is_late(run: &RelayRun, live: &Live) -> bool
-    ensures { result ≡ turns.is_late run.now.limit live.now.first live.now.turn }
-{
-    match live.first {
-        None => false,
-        Some(first) => run.limit.is_over(first, live.turn.unwrap_or(0)),
-    }
-}
-
-/// Whether there is another turn.
-fn goes_on(run: &RelayRun, live: &Live) -> bool
-    ensures { result ≡ turns.goes_on run.now.limit live.now.first live.now.turn live.now.made }
-{
-    live.made < run.limit.most_turns() && !is_late(run, live)
-}
 
 /// Begins a turn.
 fn begin<O: Outside>(
@@ -65,7 +49,7 @@ fn begin<O: Outside>(
     ensures second { OnOk result (turns.is_late run.now.limit live.new.first live.new.turn ≡ true
         → 1 ≤ live.old.made) }
     ensures cii { OnOk result (live.new.cii ≡ live.old.cii) }
-    ensures dials { (O.counts outside.new).dial_faults ≡ (O.counts outside.old).dial_faults }
+    ensures dials { (O.counts outside.old).dial_faults ≤ (O.counts outside.new).dial_faults }
     ensures cut { IfErr result IsCut }
 {
     let reading = read(outside, relay, live, Why::Turn)?.reading;
@@ -75,8 +59,8 @@ fn begin<O: Outside>(
     Ok(())
 }
 
-/// Makes the calls of a turn to the television.
-fn call<O: Outside>(
+/// Makes the calls of a turn: to the television, to further companions, and what it hears of all of them.
+fn calls<O: Outside>(
     alloc: Global,
     run: &RelayRun,
     live: &mut Live,
@@ -87,36 +71,16 @@ fn call<O: Outside>(
     ensures goes { (start : Shown) (history : History)
         → Stands run.now start (shown (O.told outside.old) (O.counts outside.old)) relay.old (stood live.old Begun)
         history
-        → Goes run.now start (shown (O.told outside.new) (O.counts outside.new)) relay.new live.new from_take result }
-    ensures floor { OnOk result (relay.new.companion.client.floor ≤ (O.counts outside.new).last) }
-    ensures keeps { Keeps (O.counts outside.old) (O.counts outside.new) live.old live.new }
-    ensures tried { OnOk result (live.new.cii ≡ None
-        → HasRisen (O.counts outside.old).dial_faults (O.counts outside.new).dial_faults) }
-    ensures cut { IfErr result IsCut }
-{
-    dial_cii(run, live, outside)?;
-    dial_wc(alloc, run, live, relay, outside)?;
-    ask(run, live, relay, outside)
-}
-
-/// Makes the calls of a turn to further companions, and hears the television.
-fn attend<O: Outside>(
-    alloc: Global,
-    run: &RelayRun,
-    live: &mut Live,
-    relay: &mut Relay,
-    outside: &mut O,
-) -> Result<(), Driven>
-    requires floor { relay.old.companion.client.floor ≤ (O.counts outside.old).last }
-    ensures goes { (start : Shown) (history : History) (at : Place)
-        → Stands run.now start (shown (O.told outside.old) (O.counts outside.old)) relay.old (stood live.old at)
-        history → due_at run.now (facts_in live.old) history at ≡ from_take (facts_in live.old) history
         → Arrives run.now start (shown (O.told outside.new) (O.counts outside.new)) relay.new live.new
         (Asked []) result }
     ensures floor { OnOk result (relay.new.companion.client.floor ≤ (O.counts outside.new).last) }
-    ensures keeps { KeepsDials (O.counts outside.old) (O.counts outside.new) live.old live.new }
-    ensures cut { IfErr result IsCut }
+    ensures keeps { Keeps (O.counts outside.old) (O.counts outside.new) live.old live.new result }
+    ensures tried { OnOk result (live.new.cii ≡ None
+        → HasRisen (O.counts outside.old).dial_faults (O.counts outside.new).dial_faults) }
 {
+    dial_cii(run, live, outside)?;
+    dial_wc(alloc, run, live, relay, outside)?;
+    ask(run, live, relay, outside)?;
     serve(run, live, relay, outside)?;
     welcome(alloc, run, live, outside)?;
     hear_television(alloc, run, live, relay, outside)?;
@@ -147,11 +111,10 @@ fn turn<O: Outside>(
     ensures cut { IfErr result IsCut }
 {
     begin(run, live, relay, outside)?;
-    if is_late(run, live) {
+    if is_late(run.limit, live.first, live.turn) {
         return Ok(());
     }
-    call(alloc, run, live, relay, outside)?;
-    attend(alloc, run, live, relay, outside)
+    calls(alloc, run, live, relay, outside)
 }
 
 /// The relay of a configuration.
@@ -193,7 +156,7 @@ fn make_turns<O: Outside>(
         state: Published::new(State::empty()),
         peers: Vec::new(alloc),
     };
-    'turns: while goes_on(run, &live) {
+    'turns: while goes_on(run.limit, live.first, live.turn, live.made) {
         if let Err(ended) = turn(alloc, run, &mut live, relay, outside) {
             return ended;
         }

@@ -39,7 +39,7 @@ returns-then-live-config g c = record {
 
 -- ---- the turn is the last by its time
 pub is_late-requires : goal.is_late-requires
-is_late-requires g c = c.args.config.now.limit_range
+is_late-requires g c = record { range = c.args.config.now.limit_range; below = c.start.new.live.first_below }
 
 pub returns-then-is_late : goal.returns-then-is_late
 returns-then-is_late g c =

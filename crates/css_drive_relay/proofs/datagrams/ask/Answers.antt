@@ -19,20 +19,20 @@ returns-clause-goes g c start h at s d =
     let s1 = serves.asks {clocked = clocked} s.runs d c.in-Some.peer c.in-Some.is time read in
     let k1 = read.known c.args.run.now h s.knows in
     serves.requested c.read.new.live clocked.reading c.in-Some.peer c.ask-bytes.result s1
-    (ap {A = Facts} (λ x. x.wc) read.only ∙ c.in-Some.is) c.ask-bytes.ensures.request c.in_ok-send.ensures.told
+    (ap {A = Facts} (λ x. x.wc) read.only ∙ c.in-Some.is) c.ask-bytes.ensures.request c.in_ok-send_datagram.ensures.told
     (record {
       stands = c.ask-bytes.ensures.stands _ c.in-Some.peer k1.stands;
       own = c.ask-bytes.ensures.own ∙ k1.own;
       wc_url = c.ask-bytes.ensures.wc_url ∙ k1.wc_url;
     }) refl
 
-pub returns-in_err-send-clause-goes : goal.returns-in_err-send-clause-goes
-returns-in_err-send-clause-goes g c start h at s d =
+pub returns-in_err-send_datagram-clause-goes : goal.returns-in_err-send_datagram-clause-goes
+returns-in_err-send_datagram-clause-goes g c start h at s d =
     let read = c.in_ok-clocked.ensures.told in
     let time = sym c.is_time.ensures ∙ c.if-not-is_time.false in
     let k1 = read.known c.args.run.now h s.knows in
     let l = (c.ask-bytes.ensures.stands _ c.in-Some.peer k1.stands).client.lawful in
-    at_err _ _ _ _ c.from_residual-in_err-send.ensures.1
+    at_err _ _ _ _ c.from_residual-in_err-send_datagram.ensures.1
     (steps.stops_by_fault
     (serves.asks {clocked = c.in_ok-clocked.clocked} s.runs d c.in-Some.peer c.in-Some.is time read)
-    (record { rises = l.rises.1; asks = l.asks.1 }) _ _ c.in_err-send.ensures.told)
+    (record { rises = l.rises.1; asks = l.asks.1 }) _ _ c.in_err-send_datagram.ensures.told)

@@ -1,4 +1,4 @@
-use Rattle.std.proofs.Common.{◌≡◌, refl, ◌∙◌, subst, arith, ℕ, List, ◌∷◌, []}
+use Rattle.std.proofs.Common.{◌≡◌, ◌∙◌, subst, ap, arith, ℕ, List, ◌∷◌, []}
 use Rattle.css_drive.proofs.CompanionSteps.{at_err}
 use Rattle.css_drive_relay.proofs.Ends as ends
 use Rattle.css_drive_relay.proofs.Steps as steps
@@ -10,7 +10,7 @@ use Rattle.css_drive_relay.specs.Standing.{facts_in}
 use Rattle.css_drive_relay.proofs.hang_ups.hang_up_each.Goals as goal
 
 pub loop-peer-init : goal.loop-peer-init
-loop-peer-init g c = record { goes = λ start relay h s enough. ends.hangs_all s enough; dials = refl }
+loop-peer-init g c = record { goes = λ start relay h s enough. ends.hangs_all s enough; dials = omega arith }
 
 pub loop-peer-preserved : goal.loop-peer-preserved
 loop-peer-preserved g c =
@@ -24,7 +24,7 @@ loop-peer-preserved g c =
       goes = λ start relay h s enough.
           ends.hung _ (c.loop-peer.invariant.goes start relay h s enough) peer (drop (i + 1) all) e
           c.in_ok-hang_up.ensures.told;
-      dials = c.hang_up.ensures.dials ∙ c.loop-peer.invariant.dials;
+      dials = omega (arith, c.loop-peer.invariant.dials, ap (λ x. x.dial_faults) c.in_ok-hang_up.ensures.told.same);
     }
 
 pub returns-clause-ends : goal.returns-clause-ends

@@ -1,4 +1,4 @@
-use Rattle.std.proofs.Common.{◌≡◌, [], false}
+use Rattle.std.proofs.Common.{◌≡◌, ◌≤◌, [], false}
 use Rattle.std.specs.Prelude.{drop}
 use Rattle.css_model.specs.History.{History}
 use Rattle.css_relay.specs.Relays.{Relay}
@@ -15,5 +15,5 @@ invariant-loop-peer g l = record {
       (stood l.live (Asked [])) history → goes_on l.run.limit l.live.first l.live.turn l.live.made ≡ false
       → HangsUp l.run start (shown (g.O.Outside.told l.outside) (g.O.Outside.counts l.outside)) relay l.live
       (drop l.peer-index (all_open (facts_in l.live)));
-  dials : (g.O.Outside.counts l.outside).dial_faults ≡ (g.O.Outside.counts l.fn.outside).dial_faults;
+  dials : (g.O.Outside.counts l.fn.outside).dial_faults ≤ (g.O.Outside.counts l.outside).dial_faults;
 }

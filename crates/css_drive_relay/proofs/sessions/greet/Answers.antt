@@ -13,7 +13,7 @@ returns-clause-goes g c start relay h s =
     elim c.match-branch-4.branch [
       | in-Sent w ↦ rw w.live-is (hears.greeted c.args.live.now c.args.peer s _ (c.bytes.ensures
           ∙ (rw c.in_ok-text.ensures.ok at c.full_text.ensures) ∙ ap full_text c.state.ensures.value)
-          (rw w.in-Sent.is at c.in_ok-tell.ensures.told) _ pushed)
+          (rw w.in-Sent.is at c.in_ok-send_text.ensures.told) _ pushed)
       | in-Gone w ↦ rw w.live-is (hears.greeted_none c.args.live.now c.args.peer s
-          (rw w.in-Gone.is at c.in_ok-tell.ensures.told) _ (w.forget.ensures ∙ ap (λ f. lost c.args.peer f) pushed))
+          (rw w.in-Gone.is at c.in_ok-send_text.ensures.told) _ (w.forget.ensures ∙ ap (λ f. lost c.args.peer f) pushed))
     ]

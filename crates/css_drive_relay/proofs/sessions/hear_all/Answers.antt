@@ -10,7 +10,7 @@ loop-peer-init g c = record {
       ends.is_at_as c.args.live.now (record { history = h; stands = s }) (ap Asked
       (sym (c.deref-peer-items.ensures.value ∙ (rw c.in_ok-left.ensures.ok at c.accepted.ensures))));
   last = refl;
-  keeps = record { made = refl; dials = refl; cii = refl };
+  keeps = record { made = refl; dialled = λ e. e; dials = omega arith; cut = tt };
 }
 
 pub loop-peer-preserved : goal.loop-peer-preserved
@@ -19,8 +19,8 @@ loop-peer-preserved g c = record {
       let x = ends.next_left c.loop-peer.live Asked c.deref-peer-items.result.now c.loop-peer.peer-index
       c.loop-peer-test.true (c.loop-peer.invariant.goes start relay h s) in
       c.in_ok-hear_one.ensures.goes start relay x.history _ x.stands;
-  last = c.hear_one.ensures.last ∙ c.loop-peer.invariant.last;
-  keeps = ends.keeps_on c.loop-peer.invariant.keeps c.hear_one.ensures.keeps;
+  last = c.in_ok-hear_one.ensures.last ∙ c.loop-peer.invariant.last;
+  keeps = ends.keeps_on c.loop-peer.invariant.keeps c.in_ok-hear_one.ensures.keeps;
 }
 
 pub returns-clause-goes : goal.returns-clause-goes

@@ -1,10 +1,10 @@
-use Rattle.std.proofs.Common.{◌≡◌}
+use Rattle.std.proofs.Common.{◌≡◌, Ok}
 use Rattle.std.specs.Prelude.{drop}
 use Rattle.css_model.specs.History.{History}
 use Rattle.css_relay.specs.Relays.{Relay}
 use Rattle.css_drive.specs.CompanionStanding.{Shown, shown}
 use Rattle.css_drive_relay.specs.Places.{Asked}
-use Rattle.css_drive_relay.specs.Standing.{stood, Stands, IsAt, KeepsDials}
+use Rattle.css_drive_relay.specs.Standing.{stood, Stands, IsAt, Keeps}
 use Rattle.css_drive_relay.proofs.sessions.hear_all.Given as goal
 
 abbrev pub invariant-loop-peer : goal.invariant-loop-peer
@@ -15,5 +15,5 @@ invariant-loop-peer g l = record {
       → IsAt l.run start (shown (g.O.Outside.told l.outside) (g.O.Outside.counts l.outside)) relay l.live
       (Asked (drop l.peer-index l.peer-items));
   last : (g.O.Outside.counts l.outside).last ≡ (g.O.Outside.counts l.fn.outside).last;
-  keeps : KeepsDials (g.O.Outside.counts l.fn.outside) (g.O.Outside.counts l.outside) l.fn.live l.live;
+  keeps : Keeps (g.O.Outside.counts l.fn.outside) (g.O.Outside.counts l.outside) l.fn.live l.live (Ok (tt {0}));
 }

@@ -6,7 +6,7 @@ pub returns-clause-goes : goal.returns-clause-goes
 returns-clause-goes g c start relay h left s =
     elim c.match-branch-2.branch [
       | in-Sent w ↦ rw w.live-is (hears.one_told c.args.live.now c.args.text.now c.args.peer left s
-          (rw (w.in-Sent.is, c.bytes.ensures) at c.in_ok-tell.ensures.told))
+          (rw (w.in-Sent.is, c.bytes.ensures) at c.in_ok-send_text.ensures.told))
       | in-Gone w ↦ rw w.live-is (hears.one_gone c.args.live.now c.args.text.now c.args.peer left s
-          (rw w.in-Gone.is at c.in_ok-tell.ensures.told) _ w.forget.ensures)
+          (rw w.in-Gone.is at c.in_ok-send_text.ensures.told) _ w.forget.ensures)
     ]

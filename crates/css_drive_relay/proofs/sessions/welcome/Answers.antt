@@ -1,8 +1,7 @@
-use Rattle.std.proofs.Common.{refl}
+use Rattle.std.proofs.Common.{refl, sym, ◌∙◌, ap, true, false}
+use Rattle.css_drive_relay.specs.Places.{is_kept}
 use Rattle.css_drive_relay.proofs.Hears as hears
 use Rattle.css_drive_relay.proofs.Steps as steps
-use Rattle.std.specs.Prelude.{length}
-use Rattle.css_drive_relay.specs.Places.{is_kept}
 use Rattle.css_drive_relay.proofs.sessions.welcome.Goals as goal
 
 pub returns-in-Ok-None-clause-goes : goal.returns-in-Ok-None-clause-goes
@@ -10,16 +9,27 @@ returns-in-Ok-None-clause-goes g c start relay h s =
     hears.none_came c.args.live.now s (rw c.in-Ok-None.field-0-is at c.in-Ok-None.ensures.told)
     c.in-Ok-None.ensures.counted.faults (rw c.in-Ok-None.field-0-is at c.in-Ok-None.ensures.counted.peer)
 
-pub returns-in-Ok-Some-clause-goes : goal.returns-in-Ok-Some-clause-goes
-returns-in-Ok-Some-clause-goes g c start relay h s =
+pub returns-then-is_kept-clause-goes : goal.returns-then-is_kept-clause-goes
+returns-then-is_kept-clause-goes g c start relay h s =
     let opens = rw c.in-Ok-Some.field-0-is at c.in-Ok-Some.ensures.counted.peer in
-    c.admit.ensures.goes start relay _
+    c.greet.ensures.goes start relay _
     (hears.came c.args.live.now s c.in-Ok-Some.peer c.in-Ok-Some.kind
     (rw c.in-Ok-Some.field-0-is at c.in-Ok-Some.ensures.told)
-    c.in-Ok-Some.ensures.counted.faults opens.0 opens.1
-    (is_kept c.in-Ok-Some.kind (length c.args.live.now.peers.items)) refl)
+    c.in-Ok-Some.ensures.counted.faults opens.0 opens.1 true
+    (sym c.if-is_kept.true ∙ c.is_kept.ensures ∙ ap (is_kept _) (c.len.ensures ∙ c.args.live.now.peers.ok.0)))
+
+pub returns-else-is_kept-clause-goes : goal.returns-else-is_kept-clause-goes
+returns-else-is_kept-clause-goes g c start relay h s =
+    let opens = rw c.in-Ok-Some.field-0-is at c.in-Ok-Some.ensures.counted.peer in
+    hears.rejects c.args.live.now _ c.in-Ok-Some.peer
+    (hears.came c.args.live.now s c.in-Ok-Some.peer c.in-Ok-Some.kind
+    (rw c.in-Ok-Some.field-0-is at c.in-Ok-Some.ensures.told)
+    c.in-Ok-Some.ensures.counted.faults opens.0 opens.1 false
+    (sym c.if-is_kept.false ∙ c.is_kept.ensures ∙ ap (is_kept _) (c.len.ensures ∙ c.args.live.now.peers.ok.0)))
+    c.hang_up.result c.hang_up.ensures.told
 
 pub returns-in-Err-clause-goes : goal.returns-in-Err-clause-goes
 returns-in-Err-clause-goes g c start relay h s =
     steps.stops_by_fault s.runs (steps.lawful s.knows) _ _
-    (c.end_of.ensures.failed _ _ c.in-Err.ensures.told c.in-Err.ensures.counted.faults)
+    (c.end_of.ensures.failed _ _ _ refl c.in-Err.ensures.told c.in-Err.ensures.counted.faults
+    (ap (λ x. x.dial_faults) c.in-Err.ensures.counted.same))

@@ -1,4 +1,5 @@
-use Rattle.std.proofs.Common.{arith}
+use Rattle.std.proofs.Common.{None, refl, ap, arith}
+use Rattle.css_drive.proofs.CompanionCalls.{plain_adds}
 use Rattle.css_drive_relay.proofs.Ends as ends
 use Rattle.css_drive_relay.proofs.Steps as steps
 use Rattle.css_drive.specs.CompanionStanding.{shown}
@@ -13,19 +14,21 @@ returns-clause-ran g c =
     (shown (g.O.Outside.told c.args.outside.now) (g.O.Outside.counts c.args.outside.now)))
     (steps.lawful c.in-Ok.ensures.known) (shown (g.O.Outside.told c.listen.new.self) (g.O.Outside.counts
     c.listen.new.self))
-    c.end_of.result (c.end_of.ensures.failed _ _ c.in-Err.ensures.told c.in-Err.ensures.counted.faults))
+    c.end_of.result (c.end_of.ensures.failed _ _ _ refl c.in-Err.ensures.told c.in-Err.ensures.counted.faults
+    (ap (λ x. x.dial_faults) c.in-Err.ensures.counted.same)))
 
 pub returns-in-Ok-listen-clause-ran : goal.returns-in-Ok-listen-clause-ran
 returns-in-Ok-listen-clause-ran g c =
     ends.ran_by (c.make_turns.ensures.ends _ _
-    (ends.listens c.args.config _ _ _ c.in-Ok.ensures.known (steps.adds c.in-Ok-listen.ensures.told
-    c.in-Ok-listen.ensures.counted.faults c.in-Ok-listen.ensures.counted.same)))
+    (ends.listens c.args.config _ _ _ c.in-Ok.ensures.known (plain_adds c.in-Ok-listen.ensures.told
+    c.in-Ok-listen.ensures.counted.same c.in-Ok-listen.ensures.counted.faults)))
 
 pub returns-clause-counted : goal.returns-clause-counted
 returns-clause-counted g c = record {
   faults = (c.end_of.ensures.failed (shown (g.O.Outside.told c.args.outside.now) (g.O.Outside.counts
       c.args.outside.now)) (shown (g.O.Outside.told c.listen.new.self) (g.O.Outside.counts c.listen.new.self))
-      c.in-Err.ensures.told c.in-Err.ensures.counted.faults).counted;
+      None refl c.in-Err.ensures.told c.in-Err.ensures.counted.faults
+      (ap (λ x. x.dial_faults) c.in-Err.ensures.counted.same)).counted;
   dials = ends.dials_from (g.O.Outside.counts c.args.outside.now) (g.O.Outside.counts c.listen.new.self) _ _
       c.in-Err.ensures.counted.same (ends.cut_counts _ _ (omega arith) _ c.end_of.ensures.cut);
   no_writes = ends.cut_writes _ c.end_of.ensures.cut;
@@ -34,8 +37,8 @@ returns-clause-counted g c = record {
 pub returns-in-Ok-listen-clause-counted : goal.returns-in-Ok-listen-clause-counted
 returns-in-Ok-listen-clause-counted g c = record {
   faults = (c.make_turns.ensures.ends _ _
-      (ends.listens c.args.config _ _ _ c.in-Ok.ensures.known (steps.adds c.in-Ok-listen.ensures.told
-      c.in-Ok-listen.ensures.counted.faults c.in-Ok-listen.ensures.counted.same))).counted;
+      (ends.listens c.args.config _ _ _ c.in-Ok.ensures.known (plain_adds c.in-Ok-listen.ensures.told
+      c.in-Ok-listen.ensures.counted.same c.in-Ok-listen.ensures.counted.faults))).counted;
   dials = ends.dials_from (g.O.Outside.counts c.args.outside.now) (g.O.Outside.counts c.listen.new.self) _ _
       c.in-Ok-listen.ensures.counted.same c.make_turns.ensures.dials;
   no_writes = c.make_turns.ensures.no_writes;

@@ -1,5 +1,6 @@
 use Rattle.std.proofs.Common.{◌∙◌, sym, arith, []}
 use Rattle.css_drive.proofs.CompanionEnds.{below_most}
+use Rattle.css_drive.proofs.CompanionRuns.{risen_to}
 use Rattle.css_drive_relay.proofs.Ends as ends
 use Rattle.css_drive_relay.proofs.Steps.{here_as}
 use Rattle.css_drive_relay.specs.Places.{Asked, beginning}
@@ -51,8 +52,8 @@ returns-clause-dials g c =
     let live = c.turns.live in
     let some = ends.was_begun run.limit run.limit_range live.first live.turn live.made live.first_made
     (sym c.goes_on.ensures ∙ c.turns-test.false) in
-    ends.dials_same _ _ _ _ c.finish.ensures.dials
-    (ends.ending_counts (facts_in live) _ _ i.dials (i.tried some) _ c.finish.ensures.kind)
+    ends.ending_counts (facts_in live) _ _ (omega (arith, i.dials, c.finish.ensures.dials))
+    (λ none. risen_to _ _ _ c.finish.ensures.dials (i.tried some none)) _ c.finish.ensures.kind
 
 pub returns-clause-no_writes : goal.returns-clause-no_writes
 returns-clause-no_writes g c = ends.ending_writes (facts_in c.turns.live) _ c.finish.ensures.kind
