@@ -3,12 +3,12 @@ use Rattle.std.proofs.Common.{◌≡◌, ℕ, arith, ap, sym, ◌∙◌, subst, 
 use Rattle.std.proofs.Common.{Option, Some, None, Result, Ok, Err, eq-eqb, inr}
 use Rattle.std.proofs.lemmas.Bool.{ne_eqb, or_from}
 use Rattle.std.proofs.lemmas.Result.{on_ok_weaker}
-use Rattle.std.specs.Prelude.{is_some, ◌&&◌, ◌||◌, IfSome, OnOk, IfErr, ◌<◌, ◌≤◌}
+use Rattle.std.specs.Prelude.{is_some, ◌&&◌, ◌||◌, IfSome, OnOk, IfErr, ◌<◌}
 use Rattle.css_model.specs.declared.Kind.{Kind}
 use Rattle.css_model.specs.declared.Kind.TheVariants as kind
 use Rattle.css_model.specs.declared.Why.{Why}
 use Rattle.css_model.specs.declared.Why.TheVariants as why
-use Rattle.css_model.specs.History.{Address, Entry, Clock, Dialling, Dialled, NotDialled, Took}
+use Rattle.css_model.specs.History.{Address, Entry, Dialling, Dialled, NotDialled, Took}
 use Rattle.css_model.specs.History.{Heard, Gone, History, is_sleep, asking_at, request_by, landed_answer}
 use Rattle.css_model.specs.History.{sleeps, Each}
 use Rattle.css_address.specs.declared.fault.AddressFault.{AddressFault}
@@ -340,30 +340,6 @@ wrote_noted config p text outcome.Sent history e = refl
 wrote_noted config p text outcome.Gone history e =
     ap (λ o. with_event (standpoint config history) (option_map notes.Closed o) (noted config history)) e
 
--- after a sleep nothing lands
-pub slept_landing : (config : DriveConfig) (companion : Companion) (clocked : Clocked) (history : History)
-    → clocked.slept ≡ true → Knows config companion (sleep_entries clocked.slept ++ history)
-    → Knows config companion (clock_entries why.Land clocked ++ history)
-slept_landing config companion clocked history e k = by clocked.slept e k
-  where
-    by : (b : Bool) → b ≡ true → Knows config companion (sleep_entries b ++ history)
-        → Knows config companion (clock_entries why.Land (record { reading = clocked.reading; slept = b }) ++ history)
-    by true e k = knows_plain (Clock why.Land clocked.reading) k refl refl refl refl refl refl refl
-    by false e k = absurd (cc)
-
--- without one the datagram taken just before does
-pub awake_landing : (config : DriveConfig) (was is : Companion) (clocked : Clocked) (p : ℕ) (bytes : List ℕ) (history
-    : History) → clocked.slept ≡ false → Knows config was (sleep_entries clocked.slept ++ history)
-    → (Knows config was history → Knows config is (Clock why.Land clocked.reading ∷ Took p bytes ∷ history))
-    → Knows config is (clock_entries why.Land clocked ++ (Took p bytes ∷ history))
-awake_landing config was is-now clocked p bytes history e k land = by clocked.slept e k
-  where
-    by : (b : Bool) → b ≡ false → Knows config was (sleep_entries b ++ history)
-        → Knows config is-now (clock_entries why.Land (record { reading = clocked.reading; slept = b }) ++ (Took p
-        bytes ∷ history))
-    by true e k = absurd (cc)
-    by false e k = land k
-
 -- ---- texts
 -- what is due after a session was asked for a text
 pub asked : (config : DriveConfig) (entry : Entry) (p : ℕ) (history : History) (k : Kind)
@@ -419,9 +395,6 @@ refused_stops {config} {p = p} {bytes = bytes} {history = history} s lawful k ov
     (refusal_ends (refusal_of (Some bytes) history) (from_ts_text config (Heard p bytes ∷ history)) ended r))
 
 -- ---- counts
-pub same_peers : {old new : Counts} → new ≡ old → old.peers ≤ new.peers
-same_peers {old} {new} e = let f : new.peers ≡ old.peers = ap (λ x. x.peers) e in omega (arith, f)
-
 -- a call that went well and is no dial
 pub plain_adds : {old new : Shown} {call : History} → new.told ≡ with_entries call old.told
     → new.counts ≡ record old.counts { faults = new.counts.faults } → new.counts.faults ≡ old.counts.faults

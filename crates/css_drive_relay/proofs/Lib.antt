@@ -1,14 +1,9 @@
 pub mod Follows
 pub mod Peers
 pub mod Steps
-pub mod Dialling
 pub mod Serves
-pub mod Hears
-pub mod Ends
 pub mod Answering
-pub mod Telling
 pub mod ToldSessions
 pub mod Made
 pub mod ReadBack
-pub mod DatagramPlaces
 pub mod SecondHop

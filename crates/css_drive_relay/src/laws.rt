@@ -31,7 +31,7 @@ pub fn turns_are_made()
 
 /// Each datagram that a whole run sent is a request of its own, at the reading just before, or the datagram of the
 /// response that it gave at the reading just before. The calls are those of a run.
-#[tactic(auto, using(crate::proofs::DatagramPlaces::sent_is_known))]
+#[tactic(auto, using(crate::proofs::SecondHop::sent_is_known))]
 pub fn sent_is_known()
     ensures { SentIsKnown }
 {}

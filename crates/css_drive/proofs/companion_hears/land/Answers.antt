@@ -17,7 +17,8 @@ returns-then-clocked-clause-goes g c before started h p s k =
     let taken = read.known cfg _ (calls.knows_plain (Took p bytes) k refl refl refl refl refl refl refl) in
     comes (calls.stands_landed s clocked read
     (c.landed.ensures (standpoint cfg (Took p bytes ∷ h)) taken started _ c.in_ok-clocked.ensures.on s.saw_so))
-    (calls.slept_landing _ _ clocked (Took p bytes ∷ h) c.if-clocked.true taken) _ refl
+    (rw c.if-clocked.true (calls.knows_plain (Clock why.Land clocked.reading) (rw c.if-clocked.true at taken) refl refl
+    refl refl refl refl refl)) _ refl
 
 pub returns-in-Ok-clause-goes : goal.returns-in-Ok-clause-goes
 returns-in-Ok-clause-goes g c before started h p s k =
@@ -28,11 +29,9 @@ returns-in-Ok-clause-goes g c before started h p s k =
     let taken = read.known cfg _ (calls.knows_plain (Took p bytes) k refl refl refl refl refl refl refl) in
     comes (calls.stands_landed s clocked read
     (c.landed.ensures (standpoint cfg (Took p bytes ∷ h)) taken started _ c.in_ok-clocked.ensures.on s.saw_so))
-    (calls.awake_landing _ _ _ clocked p bytes h c.if-clocked.false (read.known cfg h k)
-    (λ k2. record {
+    (rw c.if-clocked.false (let k2 = rw c.if-clocked.false at (read.known cfg h k) in record {
       stands = c.in-Ok.ensures.stands h p k2.stands;
-      setup = ap (λ x. x.setup) c.in-Ok.ensures.keeps
-          ∙ k2.setup;
+      setup = ap (λ x. x.setup) c.in-Ok.ensures.keeps ∙ k2.setup;
       own = c.in-Ok.ensures.own ∙ k2.own;
     })) _ refl
 

@@ -2,14 +2,13 @@ use Rattle.std.proofs.Common.{refl, sym, ◌∙◌, ap}
 use Rattle.css_outside.specs.declared.calls.Clocked.{Clocked}
 use Rattle.css_drive.proofs.CompanionSteps.{at_err}
 use Rattle.css_drive_relay.specs.Places.{Facts}
-use Rattle.css_drive_relay.proofs.Dialling as dials
-use Rattle.css_drive_relay.proofs.Serves as serves
 use Rattle.css_drive_relay.proofs.Steps as steps
+use Rattle.css_drive_relay.proofs.Serves as serves
 use Rattle.css_drive_relay.proofs.datagrams.ask.Goals as goal
 
 pub returns-in_default-clause-goes : goal.returns-in_default-clause-goes
 returns-in_default-clause-goes g c start h at s d =
-    dials.comes s _ (d ∙ serves.ask_undialled _ _ _ _ c.in_default.is)
+    steps.comes s _ (d ∙ serves.ask_undialled _ _ _ _ c.in_default.is)
 
 pub returns-clause-goes : goal.returns-clause-goes
 returns-clause-goes g c start h at s d =

@@ -1,4 +1,4 @@
-use Rattle.std.proofs.Common.{sym, ◌∙◌, subst, ℕ, List, ◌∷◌}
+use Rattle.std.proofs.Common.{refl, sym, ◌∙◌, subst, ℕ, List, ◌∷◌}
 use Rattle.css_model.specs.declared.Why.TheVariants as why
 use Rattle.css_model.specs.History.{Clock, Took}
 use Rattle.css_outside.specs.declared.calls.Clocked.{Clocked}
@@ -14,8 +14,8 @@ returns-then-clocked-clause-goes g c start h peer taken s k same none =
     let clocked : Clocked = c.in_ok-clocked.clocked in
     steps.here (record {
       runs = serves.lands {clocked = clocked} s.runs none read;
-      knows = serves.slept_landing clocked (Took peer taken ∷ h) c.if-clocked.true
-          (read.known c.args.run.now (Took peer taken ∷ h) s.knows);
+      knows = rw c.if-clocked.true (steps.knows_plain (rw c.if-clocked.true at (read.known c.args.run.now
+          (Took peer taken ∷ h) s.knows)) (Clock why.Land clocked.reading) refl refl refl refl refl refl refl);
     })
 
 pub returns-clause-goes : goal.returns-clause-goes
@@ -24,14 +24,13 @@ returns-clause-goes g c start h peer taken s k same none =
     let clocked : Clocked = c.in_ok-clocked.clocked in
     steps.here (record {
       runs = serves.lands {clocked = clocked} s.runs none read;
-      knows = serves.awake_landing clocked peer taken h c.if-clocked.false (read.known c.args.run.now h k)
-          (λ k1. record {
-            stands = subst (λ (x : List ℕ). StandsFor c.land.new.self.companion (Clock why.Land clocked.reading
-                ∷ Took peer x ∷ h)) (sym same)
-                (rw c.in_ok-or_memory.ensures.ok at c.land.ensures.stands h peer k1.stands);
-            own = c.land.ensures.own ∙ k1.own;
-            wc_url = c.land.ensures.wc_url ∙ k1.wc_url;
-          });
+      knows = rw c.if-clocked.false (let k1 = rw c.if-clocked.false at (read.known c.args.run.now h k) in record {
+        stands = subst (λ (x : List ℕ). StandsFor c.land.new.self.companion (Clock why.Land clocked.reading
+            ∷ Took peer x ∷ h)) (sym same)
+            (rw c.in_ok-or_memory.ensures.ok at c.land.ensures.stands h peer k1.stands);
+        own = c.land.ensures.own ∙ k1.own;
+        wc_url = c.land.ensures.wc_url ∙ k1.wc_url;
+      });
     })
 
 pub returns-in_err-or_memory-clause-goes : goal.returns-in_err-or_memory-clause-goes

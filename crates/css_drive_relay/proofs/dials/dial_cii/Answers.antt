@@ -1,17 +1,17 @@
 use Rattle.std.proofs.Common.{refl, sym, ◌∙◌}
-use Rattle.css_drive_relay.proofs.Dialling as dials
+use Rattle.css_drive_relay.proofs.Steps as steps
 use Rattle.css_drive_relay.proofs.dials.dial_cii.Goals as goal
 
 pub returns-then-is_some-clause-goes : goal.returns-then-is_some-clause-goes
 returns-then-is_some-clause-goes g c start relay h s =
-    dials.comes s _ (dials.first_skipped _ _ _ (sym c.is_some.ensures ∙ c.if-is_some.true))
+    steps.comes s _ (steps.first_skipped _ _ _ (sym c.is_some.ensures ∙ c.if-is_some.true))
 
 pub returns-clause-goes : goal.returns-clause-goes
 returns-clause-goes g c start relay h s =
-    dials.cii_dialled c.args.live.now s (sym c.is_some.ensures ∙ c.if-is_some.false) _ c.in-Some.peer
+    steps.cii_dialled c.args.live.now s (sym c.is_some.ensures ∙ c.if-is_some.false) _ c.in-Some.peer
     (rw c.in-Some.is at c.in_ok-peer.ensures.told) _ refl
 
 pub returns-in_default-clause-goes : goal.returns-in_default-clause-goes
 returns-in_default-clause-goes g c start relay h s =
-    dials.cii_not_dialled c.args.live.now s (sym c.is_some.ensures ∙ c.if-is_some.false) _
+    steps.cii_not_dialled c.args.live.now s (sym c.is_some.ensures ∙ c.if-is_some.false) _
     (rw c.in_default.is at c.in_ok-peer.ensures.told)

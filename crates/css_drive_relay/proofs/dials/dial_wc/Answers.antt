@@ -1,17 +1,17 @@
 use Rattle.std.proofs.Common.{refl, sym, ◌∙◌, ap, None}
 use Rattle.css_drive.proofs.CompanionCalls as calls
-use Rattle.css_drive_relay.proofs.Dialling as dials
+use Rattle.css_drive_relay.proofs.Steps as steps
 use Rattle.css_drive_relay.proofs.dials.dial_wc.Goals as goal
 
 pub returns-then-is_some-clause-goes : goal.returns-then-is_some-clause-goes
 returns-then-is_some-clause-goes g c start h at s d =
-    dials.comes s _ (d ∙ dials.wc_skipped _ _ _ (sym c.is_some.ensures ∙ c.if-is_some.true))
+    steps.comes s _ (d ∙ steps.wc_skipped _ _ _ (sym c.is_some.ensures ∙ c.if-is_some.true))
 
 pub returns-clause-goes : goal.returns-clause-goes
 returns-clause-goes g c start h at s d =
     let found = ap (λ x. calls.wc_place x) (sym (c.state.ensures.meaning h s.knows.stands))
     ∙ (rw c.in-Some.is at c.in_ok-to.ensures.gives) in
-    dials.wc_dialled c.args.live.now s d (sym c.is_some.ensures ∙ c.if-is_some.false) c.in-Some.to found _
+    steps.wc_dialled c.args.live.now s d (sym c.is_some.ensures ∙ c.if-is_some.false) c.in-Some.to found _
     c.in-Some-2.peer
     (rw c.in-Some-2.is at c.in_ok-peer.ensures.told) _ refl
 
@@ -19,11 +19,11 @@ pub returns-in_default-2-clause-goes : goal.returns-in_default-2-clause-goes
 returns-in_default-2-clause-goes g c start h at s d =
     let found = ap (λ x. calls.wc_place x) (sym (c.state.ensures.meaning h s.knows.stands))
     ∙ (rw c.in-Some.is at c.in_ok-to.ensures.gives) in
-    dials.wc_not_dialled c.args.live.now s d (sym c.is_some.ensures ∙ c.if-is_some.false) c.in-Some.to found _
+    steps.wc_not_dialled c.args.live.now s d (sym c.is_some.ensures ∙ c.if-is_some.false) c.in-Some.to found _
     (rw c.in_default-2.is at c.in_ok-peer.ensures.told)
 
 pub returns-in_default-clause-goes : goal.returns-in_default-clause-goes
 returns-in_default-clause-goes g c start h at s d =
     let found = ap (λ x. calls.wc_place x) (sym (c.state.ensures.meaning h s.knows.stands))
     ∙ (rw c.in_default.is at c.in_ok-to.ensures.gives) in
-    dials.comes s _ (d ∙ dials.wc_made _ _ None _ (sym c.is_some.ensures ∙ c.if-is_some.false) found)
+    steps.comes s _ (d ∙ steps.wc_made _ _ None _ (sym c.is_some.ensures ∙ c.if-is_some.false) found)

@@ -1,6 +1,5 @@
 use Rattle.std.proofs.Common.{◌≡◌, ◌∙◌, subst, ap, arith, ℕ, List, ◌∷◌, []}
 use Rattle.css_drive.proofs.CompanionSteps.{at_err}
-use Rattle.css_drive_relay.proofs.Ends as ends
 use Rattle.css_drive_relay.proofs.Steps as steps
 use Rattle.std.specs.Prelude.{drop, get_or, ◌+◌}
 use Rattle.css_drive.proofs.TvLines.{peers_all}
@@ -10,7 +9,7 @@ use Rattle.css_drive_relay.specs.Standing.{facts_in}
 use Rattle.css_drive_relay.proofs.hang_ups.hang_up_each.Goals as goal
 
 pub loop-peer-init : goal.loop-peer-init
-loop-peer-init g c = record { goes = λ start relay h s enough. ends.hangs_all s enough; dials = omega arith }
+loop-peer-init g c = record { goes = λ start relay h s enough. steps.hangs_all s enough; dials = omega arith }
 
 pub loop-peer-preserved : goal.loop-peer-preserved
 loop-peer-preserved g c =
@@ -22,7 +21,7 @@ loop-peer-preserved g c =
     (peer_from c.deref-peer-items.result.now i c.loop-peer-test.true) in
     record {
       goes = λ start relay h s enough.
-          ends.hung _ (c.loop-peer.invariant.goes start relay h s enough) peer (drop (i + 1) all) e
+          steps.hung _ (c.loop-peer.invariant.goes start relay h s enough) peer (drop (i + 1) all) e
           c.in_ok-hang_up.ensures.told;
       dials = omega (arith, c.loop-peer.invariant.dials, ap (λ x. x.dial_faults) c.in_ok-hang_up.ensures.told.same);
     }
@@ -30,7 +29,7 @@ loop-peer-preserved g c =
 pub returns-clause-ends : goal.returns-clause-ends
 returns-clause-ends g c start relay h s enough =
     let over = c.loop-peer-test.false in
-    ends.all_hung (c.loop-peer.invariant.goes start relay h s enough)
+    steps.all_hung (c.loop-peer.invariant.goes start relay h s enough)
     (subst (λ (xs : List ℕ). drop c.loop-peer.peer-index xs ≡ []) c.requires
     (peers_all c.args.peers.now.items c.loop-peer.peer-index (omega (arith, over))))
 

@@ -1,16 +1,16 @@
 use Rattle.std.proofs.Common.{sym, ◌∙◌, Some, None}
-use Rattle.css_drive_relay.proofs.Hears as hears
+use Rattle.css_drive_relay.proofs.Serves as serves
 use Rattle.css_drive_relay.proofs.Steps.{here}
 use Rattle.css_drive_relay.proofs.sessions.publish.Goals as goal
 
 pub returns-in-None-clause-goes : goal.returns-in-None-clause-goes
 returns-in-None-clause-goes g c start h s =
-    here (hears.publishes c.args.live.now s (rw c.in_ok-state.ensures.ok at c.relayed.ensures.value) c.new.ensures
+    here (serves.publishes c.args.live.now s (rw c.in_ok-state.ensures.ok at c.relayed.ensures.value) c.new.ensures
     c.state.ensures.value None (sym c.in-None.is ∙ (rw c.in_ok-change.ensures.ok at c.difference_text.ensures)))
 
 pub returns-in-Some-clause-goes : goal.returns-in-Some-clause-goes
 returns-in-Some-clause-goes g c start h s =
     c.tell_all.ensures.goes start _ h
-    (hears.publishes c.args.live.now s (rw c.in_ok-state.ensures.ok at c.relayed.ensures.value) c.new.ensures
+    (serves.publishes c.args.live.now s (rw c.in_ok-state.ensures.ok at c.relayed.ensures.value) c.new.ensures
     c.state.ensures.value (Some c.in-Some.text)
     (sym c.in-Some.is ∙ (rw c.in_ok-change.ensures.ok at c.difference_text.ensures)))

@@ -1,19 +1,19 @@
 use Rattle.std.proofs.Common.{refl, sym, ◌∙◌, ap, true, false}
 use Rattle.css_drive_relay.specs.Places.{is_kept}
-use Rattle.css_drive_relay.proofs.Hears as hears
+use Rattle.css_drive_relay.proofs.Serves as serves
 use Rattle.css_drive_relay.proofs.Steps as steps
 use Rattle.css_drive_relay.proofs.sessions.welcome.Goals as goal
 
 pub returns-in-Ok-None-clause-goes : goal.returns-in-Ok-None-clause-goes
 returns-in-Ok-None-clause-goes g c start relay h s =
-    hears.none_came c.args.live.now s (rw c.in-Ok-None.field-0-is at c.in-Ok-None.ensures.told)
+    serves.none_came c.args.live.now s (rw c.in-Ok-None.field-0-is at c.in-Ok-None.ensures.told)
     c.in-Ok-None.ensures.counted.faults (rw c.in-Ok-None.field-0-is at c.in-Ok-None.ensures.counted.peer)
 
 pub returns-then-is_kept-clause-goes : goal.returns-then-is_kept-clause-goes
 returns-then-is_kept-clause-goes g c start relay h s =
     let opens = rw c.in-Ok-Some.field-0-is at c.in-Ok-Some.ensures.counted.peer in
     c.greet.ensures.goes start relay _
-    (hears.came c.args.live.now s c.in-Ok-Some.peer c.in-Ok-Some.kind
+    (serves.came c.args.live.now s c.in-Ok-Some.peer c.in-Ok-Some.kind
     (rw c.in-Ok-Some.field-0-is at c.in-Ok-Some.ensures.told)
     c.in-Ok-Some.ensures.counted.faults opens.0 opens.1 true
     (sym c.if-is_kept.true ∙ c.is_kept.ensures ∙ ap (is_kept _) (c.len.ensures ∙ c.args.live.now.peers.ok.0)))
@@ -21,8 +21,8 @@ returns-then-is_kept-clause-goes g c start relay h s =
 pub returns-else-is_kept-clause-goes : goal.returns-else-is_kept-clause-goes
 returns-else-is_kept-clause-goes g c start relay h s =
     let opens = rw c.in-Ok-Some.field-0-is at c.in-Ok-Some.ensures.counted.peer in
-    hears.rejects c.args.live.now _ c.in-Ok-Some.peer
-    (hears.came c.args.live.now s c.in-Ok-Some.peer c.in-Ok-Some.kind
+    serves.rejects c.args.live.now _ c.in-Ok-Some.peer
+    (serves.came c.args.live.now s c.in-Ok-Some.peer c.in-Ok-Some.kind
     (rw c.in-Ok-Some.field-0-is at c.in-Ok-Some.ensures.told)
     c.in-Ok-Some.ensures.counted.faults opens.0 opens.1 false
     (sym c.if-is_kept.false ∙ c.is_kept.ensures ∙ ap (is_kept _) (c.len.ensures ∙ c.args.live.now.peers.ok.0)))

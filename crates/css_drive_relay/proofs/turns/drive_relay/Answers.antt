@@ -1,16 +1,15 @@
 use Rattle.std.proofs.Common.{None, refl, ap, arith}
 use Rattle.css_drive.proofs.CompanionCalls.{plain_adds}
-use Rattle.css_drive_relay.proofs.Ends as ends
 use Rattle.css_drive_relay.proofs.Steps as steps
 use Rattle.css_drive.specs.CompanionStanding.{shown}
 use Rattle.css_drive_relay.proofs.turns.drive_relay.Goals as goal
 
 pub returns-in_default-clause-ran : goal.returns-in_default-clause-ran
-returns-in_default-clause-ran g c = ends.ran_none c.args.config _
+returns-in_default-clause-ran g c = steps.ran_none c.args.config _
 
 pub returns-clause-ran : goal.returns-clause-ran
 returns-clause-ran g c =
-    ends.ran_by (steps.stops_by_fault (ends.at_first c.args.config
+    steps.ran_by (steps.stops_by_fault (steps.at_first c.args.config
     (shown (g.O.Outside.told c.args.outside.now) (g.O.Outside.counts c.args.outside.now)))
     (steps.lawful c.in-Ok.ensures.known) (shown (g.O.Outside.told c.listen.new.self) (g.O.Outside.counts
     c.listen.new.self))
@@ -19,8 +18,8 @@ returns-clause-ran g c =
 
 pub returns-in-Ok-listen-clause-ran : goal.returns-in-Ok-listen-clause-ran
 returns-in-Ok-listen-clause-ran g c =
-    ends.ran_by (c.make_turns.ensures.ends _ _
-    (ends.listens c.args.config _ _ _ c.in-Ok.ensures.known (plain_adds c.in-Ok-listen.ensures.told
+    steps.ran_by (c.make_turns.ensures.ends _ _
+    (steps.listens c.args.config _ _ _ c.in-Ok.ensures.known (plain_adds c.in-Ok-listen.ensures.told
     c.in-Ok-listen.ensures.counted.same c.in-Ok-listen.ensures.counted.faults)))
 
 pub returns-clause-counted : goal.returns-clause-counted
@@ -29,17 +28,17 @@ returns-clause-counted g c = record {
       c.args.outside.now)) (shown (g.O.Outside.told c.listen.new.self) (g.O.Outside.counts c.listen.new.self))
       None refl c.in-Err.ensures.told c.in-Err.ensures.counted.faults
       (ap (λ x. x.dial_faults) c.in-Err.ensures.counted.same)).counted;
-  dials = ends.dials_from (g.O.Outside.counts c.args.outside.now) (g.O.Outside.counts c.listen.new.self) _ _
-      c.in-Err.ensures.counted.same (ends.cut_counts _ _ (omega arith) _ c.end_of.ensures.cut);
-  no_writes = ends.cut_writes _ c.end_of.ensures.cut;
+  dials = steps.dials_from (g.O.Outside.counts c.args.outside.now) (g.O.Outside.counts c.listen.new.self) _ _
+      c.in-Err.ensures.counted.same (steps.cut_counts _ _ (omega arith) _ c.end_of.ensures.cut);
+  no_writes = steps.cut_writes _ c.end_of.ensures.cut;
 }
 
 pub returns-in-Ok-listen-clause-counted : goal.returns-in-Ok-listen-clause-counted
 returns-in-Ok-listen-clause-counted g c = record {
   faults = (c.make_turns.ensures.ends _ _
-      (ends.listens c.args.config _ _ _ c.in-Ok.ensures.known (plain_adds c.in-Ok-listen.ensures.told
+      (steps.listens c.args.config _ _ _ c.in-Ok.ensures.known (plain_adds c.in-Ok-listen.ensures.told
       c.in-Ok-listen.ensures.counted.same c.in-Ok-listen.ensures.counted.faults))).counted;
-  dials = ends.dials_from (g.O.Outside.counts c.args.outside.now) (g.O.Outside.counts c.listen.new.self) _ _
+  dials = steps.dials_from (g.O.Outside.counts c.args.outside.now) (g.O.Outside.counts c.listen.new.self) _ _
       c.in-Ok-listen.ensures.counted.same c.make_turns.ensures.dials;
   no_writes = c.make_turns.ensures.no_writes;
 }

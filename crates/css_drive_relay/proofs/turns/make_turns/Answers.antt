@@ -1,7 +1,7 @@
 use Rattle.std.proofs.Common.{◌∙◌, sym, arith, []}
 use Rattle.css_drive.proofs.CompanionEnds.{below_most}
 use Rattle.css_drive.proofs.CompanionRuns.{risen_to}
-use Rattle.css_drive_relay.proofs.Ends as ends
+use Rattle.css_drive_relay.proofs.Steps as steps
 use Rattle.css_drive_relay.proofs.Steps.{here_as}
 use Rattle.css_drive_relay.specs.Places.{Asked, beginning}
 use Rattle.css_drive_relay.specs.Standing.{facts_in}
@@ -11,7 +11,7 @@ pub turns-init : goal.turns-init
 turns-init g c = record {
   goes = λ start h s.
       here_as _ beginning.facts (λ f. Asked []) s
-      (ends.first_facts _ _ (c.new.ensures ∙ c.empty.ensures.value) c.new-2.ensures.items);
+      (steps.first_facts _ _ (c.new.ensures ∙ c.empty.ensures.value) c.new-2.ensures.items);
   floor = c.requires.floor;
   dials = omega arith;
   tried = λ some. absurd (omega (arith, some));
@@ -35,10 +35,10 @@ turn-requires-clause-few g c =
 
 pub returns-in-Err-clause-dials : goal.returns-in-Err-clause-dials
 returns-in-Err-clause-dials g c =
-    ends.cut_counts _ _ (omega (arith, c.turns.invariant.dials, c.turn.ensures.dials)) _ c.in-Err.ensures.cut
+    steps.cut_counts _ _ (omega (arith, c.turns.invariant.dials, c.turn.ensures.dials)) _ c.in-Err.ensures.cut
 
 pub returns-in-Err-clause-no_writes : goal.returns-in-Err-clause-no_writes
-returns-in-Err-clause-no_writes g c = ends.cut_writes _ c.in-Err.ensures.cut
+returns-in-Err-clause-no_writes g c = steps.cut_writes _ c.in-Err.ensures.cut
 
 pub returns-clause-ends : goal.returns-clause-ends
 returns-clause-ends g c start h s =
@@ -50,10 +50,10 @@ returns-clause-dials g c =
     let i = c.turns.invariant in
     let run = c.args.run.now in
     let live = c.turns.live in
-    let some = ends.was_begun run.limit run.limit_range live.first live.turn live.made live.first_made
+    let some = steps.was_begun run.limit run.limit_range live.first live.turn live.made live.first_made
     (sym c.goes_on.ensures ∙ c.turns-test.false) in
-    ends.ending_counts (facts_in live) _ _ (omega (arith, i.dials, c.finish.ensures.dials))
+    steps.ending_counts (facts_in live) _ _ (omega (arith, i.dials, c.finish.ensures.dials))
     (λ none. risen_to _ _ _ c.finish.ensures.dials (i.tried some none)) _ c.finish.ensures.kind
 
 pub returns-clause-no_writes : goal.returns-clause-no_writes
-returns-clause-no_writes g c = ends.ending_writes (facts_in c.turns.live) _ c.finish.ensures.kind
+returns-clause-no_writes g c = steps.ending_writes (facts_in c.turns.live) _ c.finish.ensures.kind
