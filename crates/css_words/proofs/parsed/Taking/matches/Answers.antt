@@ -11,8 +11,9 @@ returns-in_err-try_get_matches_from c =
     let app = app_of c.args.self.command in
     let words = map string_bytes c.args.words.now in
     let kind = kind_of c.in_err-try_get_matches_from.field-0.0 in
-    by_fault _ _ (λ matches. rows_of (found_of matches.all)) c.from_residual.result (rows_in app words) (parse_fault kind)
-    c.from_residual.ensures.1 (refused app words kind (c.in_err-try_get_matches_from.ensures.kinds c.requires))
+    by_fault _ _ (λ matches. rows_of (found_of matches.all)) c.from_residual.result (rows_in app words)
+    (parse_fault kind) c.from_residual.ensures.1
+    (refused app words kind (c.in_err-try_get_matches_from.ensures.kinds c.requires))
 
 pub returns : goal.returns
 returns c =
