@@ -275,8 +275,14 @@ impl Dial {
         Ok(())
     }
 
-    /// One turn of the handshake, which may be its last. One that fails is dropped.
-    fn turn(&mut self, alloc: Global, now: u64) -> Result<Option<Line>, OutFault> {
+    /// One turn of the handshake, which may be its last. One that fails is dropped. Where the session stands, it tells
+    /// where it was reached.
+    fn turn(
+        &mut self,
+        alloc: Global,
+        reached: &mut Option<IpAddr>,
+        now: u64,
+    ) -> Result<Option<Line>, OutFault> {
         let Some(mut call) = self.call.take() else {
             return Ok(None);
         };
@@ -285,7 +291,11 @@ impl Dial {
                 self.call = Some(call);
                 Ok(None)
             }
-            Turn::Opened => Ok(Some(call.line(alloc)?)),
+            Turn::Opened => {
+                let line = call.line(alloc)?;
+                *reached = self.reached();
+                Ok(Some(line))
+            }
         }
     }
 
@@ -371,11 +381,7 @@ impl Caller {
             return Ok(None);
         };
         dial.begin_next(self.alloc, rt, watch, to, now)?;
-        let line = dial.turn(self.alloc, now)?;
-        if line.is_some() {
-            self.reached = dial.reached();
-        }
-        Ok(line)
+        dial.turn(self.alloc, &mut self.reached, now)
     }
 
     /// Dials, or goes on dialling, and gives the session once it stands. It is Err once for each address that failed.

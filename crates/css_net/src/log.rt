@@ -58,23 +58,47 @@ fn why(end: End) -> &'static str {
 }
 
 /// What the system said, in a few words.
-#[derive(Clone, Copy)]
-struct Said(OutFault);
+fn said(fault: OutFault) -> &'static str {
+    match fault {
+        OutFault::Memory => "out of memory",
+        OutFault::Failed(Failure::InUse) => "in use",
+        OutFault::Failed(Failure::NotHere) => "no address of this machine",
+        OutFault::Failed(Failure::NoSuchHost) => "no such host",
+        OutFault::Failed(Failure::Refused) => "refused",
+        OutFault::Failed(Failure::TimedOut) => "no answer in time",
+        OutFault::Failed(Failure::NoPermission) => "no permission",
+        OutFault::Failed(Failure::NoRoom) => "no room",
+        OutFault::Failed(Failure::HttpStatus(_)) => "HTTP status",
+        OutFault::Failed(Failure::Other) => "failed",
+    }
+}
 
-impl fmt::Display for Said {
+/// How a dial, or listening, went.
+#[derive(Clone, Copy)]
+enum Went {
+    OpenAs(u32),
+    Failed(OutFault),
+}
+
+impl fmt::Display for Went {
     fn fmt<W: fmt::Write>(&self, f: &mut fmt::Formatter<W>) -> fmt::Result {
-        match self.0 {
-            OutFault::Memory => f.write_str("out of memory"),
-            OutFault::Failed(Failure::InUse) => f.write_str("in use"),
-            OutFault::Failed(Failure::NotHere) => f.write_str("no address of this machine"),
-            OutFault::Failed(Failure::NoSuchHost) => f.write_str("no such host"),
-            OutFault::Failed(Failure::Refused) => f.write_str("refused"),
-            OutFault::Failed(Failure::TimedOut) => f.write_str("no answer in time"),
-            OutFault::Failed(Failure::NoPermission) => f.write_str("no permission"),
-            OutFault::Failed(Failure::NoRoom) => f.write_str("no room"),
-            OutFault::Failed(Failure::HttpStatus(status)) => write!(f, "HTTP status {status}"),
-            OutFault::Failed(Failure::Other) => f.write_str("failed"),
+        match *self {
+            Went::OpenAs(peer) => write!(f, "open as {peer}"),
+            Went::Failed(OutFault::Failed(Failure::HttpStatus(status))) => {
+                write!(f, "HTTP status {status}")
+            }
+            Went::Failed(fault) => f.write_str(said(fault)),
         }
+    }
+}
+
+/// A port of a host.
+#[derive(Clone, Copy)]
+struct Port<'a>(&'a Text, u16);
+
+impl fmt::Display for Port<'_> {
+    fn fmt<W: fmt::Write>(&self, f: &mut fmt::Formatter<W>) -> fmt::Result {
+        write!(f, "{}:{}", shown(self.0), self.1)
     }
 }
 
@@ -91,23 +115,35 @@ impl fmt::Display for Place {
     }
 }
 
+/// Writes what a dial came to.
+fn write_dial<W: fmt::Write>(
+    f: &mut fmt::Formatter<W>,
+    kind: Kind,
+    to: &Address,
+    went: Went,
+) -> fmt::Result {
+    write!(
+        f,
+        "{} dialled {}: {went}",
+        name_of(kind),
+        Port(&to.host, to.port)
+    )
+}
+
 impl fmt::Display for Event<'_> {
     fn fmt<W: fmt::Write>(&self, f: &mut fmt::Formatter<W>) -> fmt::Result {
         match *self {
             Event::Listens(address) => write!(f, "listening on {address}"),
             Event::ListensNot(host, port, fault) => {
-                write!(f, "listening on {}:{port}: {}", shown(host), Said(fault))
+                write!(
+                    f,
+                    "listening on {}: {}",
+                    Port(host, port),
+                    Went::Failed(fault)
+                )
             }
-            Event::Dialled(kind, to, peer) => {
-                let kind = name_of(kind);
-                let host = shown(&to.host);
-                write!(f, "{kind} dialled {host}:{}: open as {peer}", to.port)
-            }
-            Event::DialledNot(kind, to, fault) => {
-                let kind = name_of(kind);
-                let host = shown(&to.host);
-                write!(f, "{kind} dialled {host}:{}: {}", to.port, Said(fault))
-            }
+            Event::Dialled(kind, to, peer) => write_dial(f, kind, to, Went::OpenAs(peer)),
+            Event::DialledNot(kind, to, fault) => write_dial(f, kind, to, Went::Failed(fault)),
             Event::Opened(kind, peer, from) => {
                 write!(f, "{} session {peer} from {}", name_of(kind), Place(from))
             }

@@ -5,12 +5,13 @@ ghost use Rattle.css_outside.specs.Outsides.{FitsRoom, IsSession};
 use crate::datagrams::Datagrams;
 use crate::dials::{Dials, Failures};
 use crate::log::{Event, Log};
+use crate::metered::Metered;
 use crate::names::addresses_of;
 use crate::pace::{LookUps, time};
 use crate::partings::{LONGEST_PARTING, Partings};
 use crate::session::Line;
 use crate::sessions::Sessions;
-use crate::upgrades::{FIRST_UPGRADE, Service, Upgraded, Upgrades};
+use crate::upgrades::{FIRST_UPGRADE, Refusal, Service, Upgraded, Upgrades};
 use crate::watch::{NOBODY, Watch};
 use css_devices::faults::fault_of;
 use css_num::Text;
@@ -220,12 +221,28 @@ impl Sockets {
         Ok(line)
     }
 
+    /// Lets a connection part whose upgrade was refused. It is watched under this name.
+    fn part_refused<R: Eprint>(
+        &mut self,
+        rt: &R,
+        name: usize,
+        refusal: Refusal,
+        stream: Metered,
+        now: u64,
+    ) -> Result<(), OutFault> {
+        let mut line = Line::served(self.alloc, stream, Vec::new(self.alloc));
+        let event = Event::Refused(line.from(), refusal.words());
+        self.log.write(rt, event);
+        self.partings.add(name, line, now)
+    }
+
     /// The next handshake that a peer began and that stands.
-    fn next_upgrade<R: Eprint>(
+    fn next_upgrade<R: Net + Eprint>(
         &mut self,
         rt: &R,
         now: u64,
     ) -> Result<Option<(Service, Line)>, OutFault> {
+        self.upgrades.connect(rt, &mut self.watch, now)?;
         for _ in 0..MOST_ENDED {
             match self.upgrades.turn()? {
                 None => return Ok(None),
@@ -233,10 +250,7 @@ impl Sockets {
                     return Ok(Some((service, Line::served(self.alloc, stream, rest))));
                 }
                 Some(Upgraded::Refused(name, refusal, stream)) => {
-                    let mut line = Line::served(self.alloc, stream, Vec::new(self.alloc));
-                    let event = Event::Refused(line.from(), refusal.words());
-                    self.log.write(rt, event);
-                    self.partings.add(name, line, now)?;
+                    self.part_refused(rt, name, refusal, stream, now)?;
                 }
                 Some(Upgraded::Ended) => {}
             }
@@ -282,15 +296,12 @@ impl Sockets {
             return Ok(None);
         }
         let now = time(rt);
-        self.upgrades.connect(rt, &mut self.watch, now)?;
         let Some((service, line)) = self.next_upgrade(rt, now)? else {
             return Ok(None);
         };
-        if self.open(rt, service.kind(), line, peer, now)? {
-            Ok(Some(service.kind()))
-        } else {
-            Ok(None)
-        }
+        let kind = service.kind();
+        let is_open = self.open(rt, kind, line, peer, now)?;
+        Ok(is_open.then_some(kind))
     }
 
     // ---- a companion's sockets

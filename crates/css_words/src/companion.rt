@@ -8,6 +8,7 @@ ghost use Rattle.css_words.specs.declared.fault.WordsFault.TheVariants as faults
 use crate::bounds::{earliest, latest};
 use crate::fault::WordsFault;
 use crate::options::{NumberOption, is_set, matches_of, number_or, text_given, text_given_or};
+use crate::parsed::Matches;
 use crate::recorded::check_recorded;
 use crate::tv::limit;
 use crate::words::{CompanionOptions, CompanionWords};
@@ -183,8 +184,8 @@ pub fn cii(alloc: Global, matches: &ArgMatches<'_>) -> Result<Address, WordsFaul
     }
 }
 
-fn companion_matches<'a>(alloc: Global, words: &'a [String]) -> Result<ArgMatches<'a>, WordsFault>
-    ensures { GivesBy (λ matches. rows_of (found_of matches)) faults.Memory result
+fn companion_matches<'a>(alloc: Global, words: &'a [String]) -> Result<Matches<'a>, WordsFault>
+    ensures { GivesBy (λ matches. rows_of (found_of matches.all)) faults.Memory result
         (companion.companion_rows (map string_bytes words.entry.now)) }
 {
     matches_of(alloc, OPTIONS.as_slice(), FLAGS.as_slice(), words)
@@ -216,5 +217,5 @@ pub fn companion_words(alloc: Global, words: &[String]) -> Result<CompanionWords
     ensures writable { IfOk result (λ words. AreWritable words.options) }
 {
     let matches = companion_matches(alloc, words)?;
-    companion_from(alloc, &matches)
+    companion_from(alloc, &matches.all)
 }

@@ -309,6 +309,12 @@ fn refused(alloc: Global, kind: ErrorKind, message: &str) -> Option<Text> {
     line(alloc, "--", up_to(quoted(message, opening), ' '), what)
 }
 
+// What is wrong with words that the parse refuses.
+fn of_refusal(alloc: Global, error: &clap::Error) -> Option<Text> {
+    let message = format!(in alloc; "{error}").ok()?;
+    refused(alloc, error.kind(), message.as_str())
+}
+
 // What is wrong with the words of a command with these options and flags.
 fn of_options<'a>(
     alloc: Global,
@@ -317,13 +323,10 @@ fn of_options<'a>(
     flags: &'a [&'a str],
     words: &'a [String],
 ) -> Option<Text> {
-    let command = command_taking(alloc, names, flags).ok()?;
-    match command.try_get_matches_from(words) {
-        Ok(matches) => check(alloc, name, &matches).err()?,
-        Err(error) => {
-            let message = format!(in alloc; "{error}").ok()?;
-            refused(alloc, error.kind(), message.as_str())
-        }
+    let taking = command_taking(alloc, names, flags).ok()?;
+    match taking.parsed(words) {
+        Ok(matches) => check(alloc, name, &matches.all).err()?,
+        Err(error) => of_refusal(alloc, &error),
     }
 }
 

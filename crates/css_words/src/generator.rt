@@ -7,6 +7,7 @@ ghost use Rattle.css_words.specs.declared.fault.WordsFault.TheVariants as faults
 
 use crate::fault::WordsFault;
 use crate::options::{matches_of, number, number_in, text_given};
+use crate::parsed::Matches;
 use crate::words::GeneratorWords;
 use clap::ArgMatches;
 use std::alloc::Global;
@@ -45,8 +46,8 @@ pub fn least_lines(companions: Option<u32>) -> u64
     }
 }
 
-fn generator_matches<'a>(alloc: Global, words: &'a [String]) -> Result<ArgMatches<'a>, WordsFault>
-    ensures { GivesBy (λ matches. rows_of (found_of matches)) faults.Memory result
+fn generator_matches<'a>(alloc: Global, words: &'a [String]) -> Result<Matches<'a>, WordsFault>
+    ensures { GivesBy (λ matches. rows_of (found_of matches.all)) faults.Memory result
         (generator.generator_rows (map string_bytes words.entry.now)) }
 {
     matches_of(alloc, OPTIONS.as_slice(), &[], words)
@@ -59,9 +60,9 @@ pub fn generator_words(alloc: Global, words: &[String]) -> Result<GeneratorWords
         (generator.generator_in (map string_bytes words.now)) }
 {
     let matches = generator_matches(alloc, words)?;
-    let seed = number(&matches, "seed", 0, MOST_SEED)?;
-    let companions = companions(&matches)?;
-    let lines = number(&matches, "lines", least_lines(companions), MOST_LINES)?;
+    let seed = number(&matches.all, "seed", 0, MOST_SEED)?;
+    let companions = companions(&matches.all)?;
+    let lines = number(&matches.all, "lines", least_lines(companions), MOST_LINES)?;
     Ok(GeneratorWords {
         seed,
         lines,

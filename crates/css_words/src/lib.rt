@@ -10,6 +10,7 @@ mod generator;
 pub mod laws;
 mod options;
 mod pair;
+mod parsed;
 mod recorded;
 mod relay;
 mod tv;

@@ -9,6 +9,7 @@ ghost use Rattle.css_words.specs.declared.fault.WordsFault.TheVariants as faults
 use crate::companion::options_in;
 use crate::fault::WordsFault;
 use crate::options::matches_of;
+use crate::parsed::Matches;
 use crate::tv::{FLAGS, LOCAL_HOST, tv_at};
 use crate::words::PairWords;
 use clap::ArgMatches;
@@ -32,8 +33,8 @@ pub static OPTIONS: [&str; 14] = [
     "error",
 ];
 
-fn pair_matches<'a>(alloc: Global, words: &'a [String]) -> Result<ArgMatches<'a>, WordsFault>
-    ensures { GivesBy (λ matches. rows_of (found_of matches)) faults.Memory result
+fn pair_matches<'a>(alloc: Global, words: &'a [String]) -> Result<Matches<'a>, WordsFault>
+    ensures { GivesBy (λ matches. rows_of (found_of matches.all)) faults.Memory result
         (pair.pair_rows (map string_bytes words.entry.now)) }
 {
     matches_of(alloc, OPTIONS.as_slice(), FLAGS.as_slice(), words)
@@ -61,5 +62,5 @@ pub fn pair_words(alloc: Global, words: &[String]) -> Result<PairWords, WordsFau
     ensures writable { IfOk result (λ words. AreWritable words.companion) }
 {
     let matches = pair_matches(alloc, words)?;
-    pair_from(alloc, &matches)
+    pair_from(alloc, &matches.all)
 }

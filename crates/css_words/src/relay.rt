@@ -8,6 +8,7 @@ ghost use Rattle.css_words.specs.declared.fault.WordsFault.TheVariants as faults
 use crate::companion::{ask_every, cii, local_error, local_precision};
 use crate::fault::WordsFault;
 use crate::options::{NumberOption, matches_of, number_or, text_given_or};
+use crate::parsed::Matches;
 use crate::tv::{LOCAL_HOST, check_host, limit};
 use crate::words::{RelayNumbers, RelayWords};
 use clap::ArgMatches;
@@ -42,8 +43,8 @@ pub fn port(matches: &ArgMatches<'_>) -> Result<u16, WordsFault>
     Ok(port as u16)
 }
 
-fn relay_matches<'a>(alloc: Global, words: &'a [String]) -> Result<ArgMatches<'a>, WordsFault>
-    ensures { GivesBy (λ matches. rows_of (found_of matches)) faults.Memory result
+fn relay_matches<'a>(alloc: Global, words: &'a [String]) -> Result<Matches<'a>, WordsFault>
+    ensures { GivesBy (λ matches. rows_of (found_of matches.all)) faults.Memory result
         (relay.relay_rows (map string_bytes words.entry.now)) }
 {
     matches_of(alloc, OPTIONS.as_slice(), &[], words)
@@ -96,5 +97,5 @@ pub fn relay_words(alloc: Global, words: &[String]) -> Result<RelayWords, WordsF
     ensures utf8 { IfOk result (λ words. IsUtf8 words.host) }
 {
     let matches = relay_matches(alloc, words)?;
-    relay_from(alloc, &matches)
+    relay_from(alloc, &matches.all)
 }

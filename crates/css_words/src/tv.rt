@@ -10,6 +10,7 @@ use crate::fault::WordsFault;
 use crate::options::{
     NumberOption, is_set, matches_of, number_in, number_or, text_given, text_given_or,
 };
+use crate::parsed::Matches;
 use crate::words::TvWords;
 use clap::ArgMatches;
 use css_address::{Kind, address};
@@ -158,8 +159,8 @@ pub fn tv_at(matches: &ArgMatches<'_>, host: Text) -> Result<TvWords, WordsFault
     })
 }
 
-fn tv_matches<'a>(alloc: Global, words: &'a [String]) -> Result<ArgMatches<'a>, WordsFault>
-    ensures { GivesBy (λ matches. rows_of (found_of matches)) faults.Memory result
+fn tv_matches<'a>(alloc: Global, words: &'a [String]) -> Result<Matches<'a>, WordsFault>
+    ensures { GivesBy (λ matches. rows_of (found_of matches.all)) faults.Memory result
         (tv.tv_rows (map string_bytes words.entry.now)) }
 {
     matches_of(alloc, OPTIONS.as_slice(), FLAGS.as_slice(), words)
@@ -174,9 +175,9 @@ pub fn tv_words(alloc: Global, words: &[String]) -> Result<TvWords, WordsFault>
     let matches = tv_matches(alloc, words)?;
     let host = Text::of(
         alloc,
-        text_given_or(&matches, "host", LOCAL_HOST).as_bytes(),
+        text_given_or(&matches.all, "host", LOCAL_HOST).as_bytes(),
     )?;
-    let asked = tv_at(&matches, host)?;
+    let asked = tv_at(&matches.all, host)?;
     check_host(alloc, asked.host.bytes(), asked.port)?;
     Ok(asked)
 }

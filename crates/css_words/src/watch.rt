@@ -9,6 +9,7 @@ ghost use Rattle.css_words.specs.declared.fault.WordsFault.TheVariants as faults
 use crate::companion::{cii, options_in};
 use crate::fault::WordsFault;
 use crate::options::matches_of;
+use crate::parsed::Matches;
 use crate::words::WatchWords;
 use clap::ArgMatches;
 use css_outside::Limit;
@@ -41,8 +42,8 @@ fn seconds_of(limit: Limit) -> u64
     }
 }
 
-fn watch_matches<'a>(alloc: Global, words: &'a [String]) -> Result<ArgMatches<'a>, WordsFault>
-    ensures { GivesBy (λ matches. rows_of (found_of matches)) faults.Memory result
+fn watch_matches<'a>(alloc: Global, words: &'a [String]) -> Result<Matches<'a>, WordsFault>
+    ensures { GivesBy (λ matches. rows_of (found_of matches.all)) faults.Memory result
         (watch.watch_rows (map string_bytes words.entry.now)) }
 {
     matches_of(alloc, OPTIONS.as_slice(), &[], words)
@@ -79,5 +80,5 @@ pub fn watch_words(alloc: Global, words: &[String]) -> Result<WatchWords, WordsF
     ensures stem { IfOk result (λ words. IsUtf8 words.stem) }
 {
     let matches = watch_matches(alloc, words)?;
-    watch_from(alloc, &matches)
+    watch_from(alloc, &matches.all)
 }
