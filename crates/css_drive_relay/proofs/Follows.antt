@@ -1,5 +1,5 @@
--- What each entry of a relay's run says of the place that it leaves, and to which places entries lead; and so that a run
--- that is done made all its turns.
+-- What each entry of a relay's run says of the place that it leaves, and to which places entries lead. So a run that is
+-- done made all its turns.
 use Rattle.std.proofs.Common.{◌≡◌, ℕ, ◌<◌, Bool, true, false, cond, List, [], ◌∷◌, ◌++◌, Option, Some, None, refl, sym}
 use Rattle.std.proofs.Common.{subst, arith, inl, inr, ◌+◌, ◌≤◌, ap, ◌∙◌}
 use Rattle.std.specs.Prelude.{◌||◌, ◌&&◌, ◌⊎◌, nat_lt, not, is_some, ⊤, Result, Ok, Err, unwrap_or}
