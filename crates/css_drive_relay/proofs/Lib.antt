@@ -1,9 +1,7 @@
 pub mod Follows
-pub mod Peers
 pub mod Steps
 pub mod Serves
 pub mod Answering
 pub mod ToldSessions
-pub mod Made
 pub mod ReadBack
 pub mod SecondHop

@@ -34,6 +34,8 @@ use Rattle.css_drive_relay.specs.declared.config.RelayRun.{RelayRun}
 use Rattle.css_drive_relay.specs.declared.live.Live.{Live}
 use Rattle.css_drive_relay.proofs.Steps.{comes, knows_plain, knows_clock, lawful, runs_on, runs_read, stands_on, here}
 use Rattle.css_drive_relay.proofs.Steps.{stops_by_fault, runs_as, stands_as, here_as, stops_here, runs_more}
+use Rattle.css_drive_relay.proofs.Steps.{all_telling, all_telling_if, all_without, all_next, snoc, peers_later}
+use Rattle.css_drive_relay.proofs.Steps.{in_order_later, unused}
 use Rattle.css_num.specs.Spans.{Interval}
 use Rattle.css_model.specs.declared.WcFault.{WcFault}
 use Rattle.css_model.specs.Numbers.{precision_ns}
@@ -46,8 +48,6 @@ use Rattle.css_companion.specs.Meanings.{kind_of, is_cii, is_ts, state_of}
 use Rattle.css_companion.specs.declared.fault.CompanionFault.{CompanionFault}
 use Rattle.css_drive.specs.Ends.{MayEnd}
 use Rattle.css_drive.proofs.CompanionSteps.{own_quiet}
-use Rattle.css_drive_relay.proofs.Peers.{all_telling, all_telling_if, all_without, all_next, snoc, peers_later}
-use Rattle.css_drive_relay.proofs.Peers.{in_order_later, unused}
 use Rattle.css_model.specs.declared.Kind.{Kind}
 use Rattle.css_model.specs.declared.Why.TheVariants as why
 use Rattle.css_relay.specs.declared.fault.RelayFault.TheVariants as faults

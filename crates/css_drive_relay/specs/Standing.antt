@@ -19,10 +19,12 @@ use Rattle.css_drive.specs.Proper.{Due}
 use Rattle.css_drive.specs.TvRan.{AreNumbered}
 use Rattle.css_drive.specs.declared.driven.Driven.{Driven}
 use Rattle.css_drive_relay.specs.Places.{Place, Greeting, Telling, Asked, Dropping, Over, Facts, Progress, beginning}
-use Rattle.css_drive_relay.specs.Places.{progress_of, hung_up, without_first}
+use Rattle.css_drive_relay.specs.Places.{progress_of, hung_up, without_first, telling}
 use Rattle.css_drive_relay.specs.Due.{due, due_at, final, from_hang_ups, IsProperRelay}
 use Rattle.css_drive_relay.specs.declared.config.RelayRun.{RelayRun}
 use Rattle.css_drive_relay.specs.declared.live.Live.{Live}
+use Rattle.css_drive_relay.specs.declared.sessions.Visit.{Visit}
+use Rattle.css_drive_relay.specs.declared.sessions.Visit.TheVariants as visit
 
 -- ---- what the variables say of the history
 abbrev pub facts_in : Live → Facts
@@ -91,6 +93,11 @@ pub record Stands (run : RelayRun) (start now : Shown) (relay : Relay) (p : Prog
     : Type 0 where
   pub runs : Runs run start now p history
   pub knows : Knows run relay history
+
+-- these accepted sessions are still to be visited so
+abbrev pub visiting : Visit → List ℕ → Facts → Place
+visiting (visit.Tell text) left f = telling text left f
+visiting visit.Hear left f = Asked left
 
 -- ---- after a part of the loop
 -- The run came to this place.

@@ -65,9 +65,6 @@ pub(crate) fn dial_wc<O: Outside>(
     let Some(to) = place(alloc, Kind::Wc, CiiName::WcUrl, &relay.state().wc_url)? else {
         return Ok(());
     };
-    let Some(peer) = dial(outside, Kind::Wc, &to)? else {
-        return Ok(());
-    };
-    live.wc = Some(peer);
+    live.wc = dial(outside, Kind::Wc, &to)?;
     Ok(())
 }

@@ -30,7 +30,7 @@ fn place(peers: &[u32], peer: u32) -> usize
 }
 
 /// Adds a peer before the first greater one.
-#[tactic(auto, using(crate::proofs::Peers::insert_place))]
+#[tactic(auto, using(crate::proofs::Steps::insert_place))]
 fn insert(peers: &mut Vec<u32>, peer: u32) -> Result<(), Memory>
     ensures { OnOk result (peers.new.items ≡ places.with_peer peer peers.old.items) }
 {

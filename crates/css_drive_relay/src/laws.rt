@@ -24,7 +24,7 @@ pub fn sessions_are_told()
 
 /// A run that is done made all its turns, and a dial of it succeeded. One for which every dial failed made all its
 /// turns too. The calls are those of a run, which ended where it may.
-#[tactic(auto, using(crate::proofs::Made::turns_are_made))]
+#[tactic(auto, using(crate::proofs::Follows::turns_are_made))]
 pub fn turns_are_made()
     ensures { TurnsAreMade }
 {}

@@ -10,7 +10,7 @@ ghost use Rattle.css_drive.specs.CompanionDue.{refusal_of};
 ghost use Rattle.css_drive.specs.CompanionStanding.{Shown, shown, IsCut, IsRefusal};
 ghost use Rattle.css_drive_relay.specs.Places as places;
 ghost use Rattle.css_drive_relay.specs.Places.{Served, Asked, welcomed, telling, published};
-ghost use Rattle.css_drive_relay.specs.Standing.{facts_in, stood, Stands, Knows, Arrives, Keeps};
+ghost use Rattle.css_drive_relay.specs.Standing.{facts_in, stood, Stands, Knows, Arrives, Keeps, visiting};
 
 use crate::calls::or_memory;
 use crate::config::RelayRun;
@@ -23,6 +23,15 @@ use css_num::Text;
 use css_outside::{Heard, Kind, Outside, Wrote};
 use css_relay::{CompanionEvent, Relay};
 use std::alloc::Global;
+
+/// What is done with each accepted session.
+#[derive(Drop)]
+pub(crate) enum Visit {
+    /// It is told this text.
+    Tell(Text),
+    /// It is asked for one.
+    Hear,
+}
 
 /// An accepted session is over.
 fn forget(live: &mut Live, peer: u32)
@@ -115,24 +124,75 @@ fn tell_one<O: Outside>(
     Ok(())
 }
 
-/// Tells each accepted session a text.
-fn tell_all<O: Outside>(
+/// Asks an accepted session for a text, which ends it.
+fn hear_one<O: Outside>(
     run: &RelayRun,
     live: &mut Live,
     outside: &mut O,
-    text: &Text,
+    peer: u32,
+) -> Result<(), Driven>
+    ensures goes { (start : Shown) (relay : KnownRelay) (history : History) (left : List ℕ)
+        → Stands run.now start (shown (O.told outside.old) (O.counts outside.old)) relay
+        (stood live.old (Asked (peer ∷ left))) history
+        → Arrives run.now start (shown (O.told outside.new) (O.counts outside.new)) relay live.new
+        (Asked left) result }
+    ensures last { OnOk result ((O.counts outside.new).last ≡ (O.counts outside.old).last) }
+    ensures keeps { Keeps (O.counts outside.old) (O.counts outside.new) live.old live.new result }
+{
+    match take_text(outside, peer) {
+        Err(ended) => Err(ended),
+        Ok(Heard::Quiet) => Ok(()),
+        Ok(Heard::Closed) => {
+            forget(live, peer);
+            Ok(())
+        }
+        Ok(Heard::Text(_)) => {
+            forget(live, peer);
+            hang_up(outside, peer)
+        }
+    }
+}
+
+/// Visits an accepted session.
+fn visit_one<O: Outside>(
+    run: &RelayRun,
+    live: &mut Live,
+    outside: &mut O,
+    peer: u32,
+    what: &Visit,
+) -> Result<(), Driven>
+    ensures goes { (start : Shown) (relay : KnownRelay) (history : History) (left : List ℕ)
+        → Stands run.now start (shown (O.told outside.old) (O.counts outside.old)) relay
+        (stood live.old (visiting what.now (peer ∷ left) (facts_in live.old))) history
+        → Arrives run.now start (shown (O.told outside.new) (O.counts outside.new)) relay live.new
+        (visiting what.now left (facts_in live.new)) result }
+    ensures last { OnOk result ((O.counts outside.new).last ≡ (O.counts outside.old).last) }
+    ensures keeps { Keeps (O.counts outside.old) (O.counts outside.new) live.old live.new result }
+{
+    match what {
+        Visit::Tell(text) => tell_one(run, live, outside, peer, text),
+        Visit::Hear => hear_one(run, live, outside, peer),
+    }
+}
+
+/// Visits each accepted session.
+pub(crate) fn visit_all<O: Outside>(
+    run: &RelayRun,
+    live: &mut Live,
+    outside: &mut O,
+    what: &Visit,
 ) -> Result<(), Driven>
     ensures goes { (start : Shown) (relay : KnownRelay) (history : History)
         → Stands run.now start (shown (O.told outside.old) (O.counts outside.old)) relay
-        (stood live.old (telling text.now live.old.peers.items (facts_in live.old))) history
+        (stood live.old (visiting what.now live.old.peers.items (facts_in live.old))) history
         → Arrives run.now start (shown (O.told outside.new) (O.counts outside.new)) relay live.new
-        (Asked live.new.peers.items) result }
+        (visiting what.now [] (facts_in live.new)) result }
     ensures last { OnOk result ((O.counts outside.new).last ≡ (O.counts outside.old).last) }
     ensures keeps { Keeps (O.counts outside.old) (O.counts outside.new) live.old live.new result }
 {
     let left = or_memory(accepted(live))?;
     for peer in &left {
-        tell_one(run, live, outside, *peer, text)?;
+        visit_one(run, live, outside, *peer, what)?;
     }
     Ok(())
 }
@@ -158,7 +218,7 @@ fn publish<O: Outside>(
     live.state = Published::new(state);
     match change {
         None => Ok(()),
-        Some(text) => tell_all(run, live, outside, &text),
+        Some(text) => visit_all(run, live, outside, &Visit::Tell(text)),
     }
 }
 
@@ -210,53 +270,4 @@ pub(crate) fn hear_television<O: Outside>(
             publish(alloc, run, live, relay, outside)
         }
     }
-}
-
-/// Asks an accepted session for a text, which ends it.
-fn hear_one<O: Outside>(
-    run: &RelayRun,
-    live: &mut Live,
-    outside: &mut O,
-    peer: u32,
-) -> Result<(), Driven>
-    ensures goes { (start : Shown) (relay : KnownRelay) (history : History) (left : List ℕ)
-        → Stands run.now start (shown (O.told outside.old) (O.counts outside.old)) relay
-        (stood live.old (Asked (peer ∷ left))) history
-        → Arrives run.now start (shown (O.told outside.new) (O.counts outside.new)) relay live.new
-        (Asked left) result }
-    ensures last { OnOk result ((O.counts outside.new).last ≡ (O.counts outside.old).last) }
-    ensures keeps { Keeps (O.counts outside.old) (O.counts outside.new) live.old live.new result }
-{
-    match take_text(outside, peer) {
-        Err(ended) => Err(ended),
-        Ok(Heard::Quiet) => Ok(()),
-        Ok(Heard::Closed) => {
-            forget(live, peer);
-            Ok(())
-        }
-        Ok(Heard::Text(_)) => {
-            forget(live, peer);
-            hang_up(outside, peer)
-        }
-    }
-}
-
-/// Asks each accepted session for a text.
-pub(crate) fn hear_all<O: Outside>(
-    run: &RelayRun,
-    live: &mut Live,
-    outside: &mut O,
-) -> Result<(), Driven>
-    ensures goes { (start : Shown) (relay : KnownRelay) (history : History)
-        → Stands run.now start (shown (O.told outside.old) (O.counts outside.old)) relay
-        (stood live.old (Asked live.old.peers.items)) history
-        → Arrives run.now start (shown (O.told outside.new) (O.counts outside.new)) relay live.new (Asked []) result }
-    ensures last { OnOk result ((O.counts outside.new).last ≡ (O.counts outside.old).last) }
-    ensures keeps { Keeps (O.counts outside.old) (O.counts outside.new) live.old live.new result }
-{
-    let left = or_memory(accepted(live))?;
-    for peer in &left {
-        hear_one(run, live, outside, *peer)?;
-    }
-    Ok(())
 }

@@ -19,7 +19,7 @@ use crate::dials::{dial_cii, dial_wc};
 use crate::hang_ups::finish;
 use crate::live::Live;
 use crate::published::Published;
-use crate::sessions::{hear_all, hear_television, welcome};
+use crate::sessions::{Visit, hear_television, visit_all, welcome};
 use css_cii::State;
 use css_companion::CompanionConfig;
 use css_drive::Driven;
@@ -84,7 +84,7 @@ fn calls<O: Outside>(
     serve(run, live, relay, outside)?;
     welcome(alloc, run, live, outside)?;
     hear_television(alloc, run, live, relay, outside)?;
-    hear_all(run, live, outside)
+    visit_all(run, live, outside, &Visit::Hear)
 }
 
 /// Makes a turn. One that is the last by its time ends with its reading.

@@ -3,7 +3,8 @@ use Rattle.css_drive.proofs.companion_calls.send.Goals as goal
 
 pub returns-in_err-sent-clause-told : goal.returns-in_err-sent-clause-told
 returns-in_err-sent-clause-told g c =
-    at_err _ _ _ _ c.from_residual-in_err-sent.ensures.1 (fails_over c.in_ok-check.ensures.on c.in_err-sent.ensures.told)
+    at_err _ _ _ _ c.from_residual-in_err-sent.ensures.1
+    (fails_over c.in_ok-check.ensures.on c.in_err-sent.ensures.told)
 
 pub returns-in_err-check-clause-told : goal.returns-in_err-check-clause-told
 returns-in_err-check-clause-told g c = at_err _ _ _ _ c.from_residual.ensures.1 (c.in_err-check.ensures.unmade _)

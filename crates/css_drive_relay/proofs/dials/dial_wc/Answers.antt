@@ -11,16 +11,8 @@ pub returns-clause-goes : goal.returns-clause-goes
 returns-clause-goes g c start h at s d =
     let found = ap (λ x. calls.wc_place x) (sym (c.state.ensures.meaning h s.knows.stands))
     ∙ (rw c.in-Some.is at c.in_ok-to.ensures.gives) in
-    steps.wc_dialled c.args.live.now s d (sym c.is_some.ensures ∙ c.if-is_some.false) c.in-Some.to found _
-    c.in-Some-2.peer
-    (rw c.in-Some-2.is at c.in_ok-peer.ensures.told) _ refl
-
-pub returns-in_default-2-clause-goes : goal.returns-in_default-2-clause-goes
-returns-in_default-2-clause-goes g c start h at s d =
-    let found = ap (λ x. calls.wc_place x) (sym (c.state.ensures.meaning h s.knows.stands))
-    ∙ (rw c.in-Some.is at c.in_ok-to.ensures.gives) in
-    steps.wc_not_dialled c.args.live.now s d (sym c.is_some.ensures ∙ c.if-is_some.false) c.in-Some.to found _
-    (rw c.in_default-2.is at c.in_ok-peer.ensures.told)
+    steps.wc_dialled c.args.live.now s d (sym c.is_some.ensures ∙ c.if-is_some.false) c.in-Some.to found _ _
+    c.in_ok-live.ensures.told _ refl
 
 pub returns-in_default-clause-goes : goal.returns-in_default-clause-goes
 returns-in_default-clause-goes g c start h at s d =

@@ -15,5 +15,6 @@ returns-clause-goes g c start relay h s =
           ∙ (rw c.in_ok-text.ensures.ok at c.full_text.ensures) ∙ ap full_text c.state.ensures.value)
           (rw w.in-Sent.is at c.in_ok-send_text.ensures.told) _ pushed)
       | in-Gone w ↦ rw w.live-is (serves.greeted_none c.args.live.now c.args.peer s
-          (rw w.in-Gone.is at c.in_ok-send_text.ensures.told) _ (w.forget.ensures ∙ ap (λ f. lost c.args.peer f) pushed))
+          (rw w.in-Gone.is at c.in_ok-send_text.ensures.told) _
+          (w.forget.ensures ∙ ap (λ f. lost c.args.peer f) pushed))
     ]

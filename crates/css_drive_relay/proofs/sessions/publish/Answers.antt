@@ -10,7 +10,7 @@ returns-in-None-clause-goes g c start h s =
 
 pub returns-in-Some-clause-goes : goal.returns-in-Some-clause-goes
 returns-in-Some-clause-goes g c start h s =
-    c.tell_all.ensures.goes start _ h
+    c.visit_all.ensures.goes start _ h
     (serves.publishes c.args.live.now s (rw c.in_ok-state.ensures.ok at c.relayed.ensures.value) c.new.ensures
     c.state.ensures.value (Some c.in-Some.text)
     (sym c.in-Some.is ∙ (rw c.in_ok-change.ensures.ok at c.difference_text.ensures)))

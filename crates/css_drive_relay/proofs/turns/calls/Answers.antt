@@ -37,4 +37,4 @@ returns-clause-goes g c start h s =
     on_at (on_at (on_at (on_from (on_from (on_from (c.in_ok-dial_cii.ensures.goes start _ h s)
     (c.in_ok-dial_wc.ensures.goes start)) (c.in_ok-ask.ensures.goes start)) (c.in_ok-serve.ensures.goes start))
     (c.in_ok-welcome.ensures.goes start _)) (c.in_ok-hear_television.ensures.goes start))
-    (c.hear_all.ensures.goes start _)
+    (c.visit_all.ensures.goes start _)
