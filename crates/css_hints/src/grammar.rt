@@ -30,72 +30,57 @@ pub(crate) fn is_of_several(line: &str) -> bool {
     }
 }
 
-fn schedule_verb(verb: &str) -> Option<&'static str> {
-    Some(match verb {
-        "ask" => "ask R",
-        "take" => "take I R",
-        "give" => "give J R",
-        "land" => "land I R",
-        "wall" => "wall R",
-        "print" => "print R",
-        "change" => "change R N",
-        "speed" => "speed R S",
-        "seek" => "seek R M",
-        "open" => "open cii|ts",
-        "text" => "text cii|ts",
-        "up" => "up ts",
-        "present" => "present TICK EARLIEST TICK LATEST",
-        "close" => "close cii|ts",
-        _ => return setup_verb(verb),
-    })
-}
+/// What stands in a line of each verb of a schedule. Only a schedule that isn't migrated can have `sleep`.
+const SCHEDULE: [&str; 16] = [
+    "ask R",
+    "take I R",
+    "give J R",
+    "land I R",
+    "wall R",
+    "print R",
+    "programme ID",
+    "timeline N SELECTOR UPT UPS BASE",
+    "change R N",
+    "speed R S",
+    "seek R M",
+    "open cii|ts",
+    "text cii|ts",
+    "up ts",
+    "present TICK EARLIEST TICK LATEST",
+    "close cii|ts",
+];
 
-/// The verbs of schedules and scripts alike.
-fn setup_verb(verb: &str) -> Option<&'static str> {
-    Some(match verb {
-        "programme" => "programme ID",
-        "timeline" => "timeline N SELECTOR UPT UPS BASE",
-        _ => return None,
-    })
-}
+const SCRIPT: [&str; 5] = [
+    "programme ID",
+    "timeline N SELECTOR UPT UPS BASE",
+    "change N",
+    "speed S",
+    "seek M",
+];
 
-fn script_verb(verb: &str) -> Option<&'static str> {
-    Some(match verb {
-        "change" => "change N",
-        "speed" => "speed S",
-        "seek" => "seek M",
-        _ => return setup_verb(verb),
-    })
-}
+const RECORD: [&str; 8] = [
+    "slept",
+    "turn R",
+    "ask R",
+    "land R HEX",
+    "cii HEX",
+    "ts HEX",
+    "closed cii|ts",
+    "report N",
+];
 
-fn record_verb(verb: &str) -> Option<&'static str> {
-    Some(match verb {
-        "slept" => "slept",
-        "turn" => "turn R",
-        "ask" => "ask R",
-        "land" => "land R HEX",
-        "cii" => "cii HEX",
-        "ts" => "ts HEX",
-        "closed" => "closed cii|ts",
-        "report" => "report N",
-        _ => return None,
-    })
-}
+const ANSWERS: [&str; 2] = ["answer R R R R KW EW", "at R"];
 
-fn answer_verb(verb: &str) -> Option<&'static str> {
-    Some(match verb {
-        "answer" => "answer R R R R KW EW",
-        "at" => "at R",
-        _ => return None,
-    })
-}
+const SHEET: [&str; 2] = ["cue TICK NAME", "meter REPORTS"];
 
-fn sheet_verb(verb: &str) -> Option<&'static str> {
-    Some(match verb {
-        "cue" => "cue TICK NAME",
-        "meter" => "meter REPORTS",
-        _ => return None,
-    })
+/// The row that begins with this verb.
+fn row_of(rows: &[&'static str], verb: &str) -> Option<&'static str> {
+    for row in rows {
+        if row.split(' ').next() == Some(verb) {
+            return Some(*row);
+        }
+    }
+    None
 }
 
 impl Grammar {
@@ -137,11 +122,11 @@ impl Grammar {
     pub(crate) fn verb(self, verb: &str) -> Option<&'static str> {
         match self {
             Grammar::Schedule if verb == "sleep" => Some("sleep"),
-            Grammar::Schedule | Grammar::Migrated => schedule_verb(verb),
-            Grammar::Answers => answer_verb(verb),
-            Grammar::Record => record_verb(verb),
-            Grammar::Script => script_verb(verb),
-            Grammar::Sheet => sheet_verb(verb),
+            Grammar::Schedule | Grammar::Migrated => row_of(SCHEDULE.as_slice(), verb),
+            Grammar::Answers => row_of(ANSWERS.as_slice(), verb),
+            Grammar::Record => row_of(RECORD.as_slice(), verb),
+            Grammar::Script => row_of(SCRIPT.as_slice(), verb),
+            Grammar::Sheet => row_of(SHEET.as_slice(), verb),
         }
     }
 

@@ -19,6 +19,20 @@ fn front(text: &Text) -> &str {
     str::from_utf8(bytes.get(..MOST).unwrap_or(bytes)).unwrap_or("?")
 }
 
+/// What a message's fault means, in three parts. The second is the name of a property, where there is one.
+fn meaning_of(fault: CiiFault) -> Option<(&'static str, &'static str, &'static str)> {
+    Some(match fault {
+        CiiFault::NotJson => (" isn't JSON", "", ""),
+        CiiFault::NotObject => (" is JSON, but no object", "", ""),
+        CiiFault::Field(name) => (
+            ": its ",
+            name.as_str(),
+            " isn't of the form that it has to have",
+        ),
+        CiiFault::Memory => return None,
+    })
+}
+
 /// What a message's fault means, and how the message begins.
 pub(crate) fn bad_cii(
     alloc: Global,
@@ -26,23 +40,9 @@ pub(crate) fn bad_cii(
     fault: CiiFault,
     course: &Course<'_>,
 ) -> Option<String> {
+    let (before, name, after) = meaning_of(fault)?;
     let front = shown(alloc, course.state, MOST_SHOWN)?;
-    match fault {
-        CiiFault::NotJson => format!(in alloc;
-            "text {text} of the CSS-CII session isn't JSON: {front}"
-        ),
-        CiiFault::NotObject => format!(in alloc;
-            "text {text} of the CSS-CII session is JSON, but no object: {front}"
-        ),
-        CiiFault::Field(name) => {
-            let name = name.as_str();
-            format!(in alloc;
-                "text {text} of the CSS-CII session: its {name} isn't of the form that it has to have: {front}"
-            )
-        }
-        CiiFault::Memory => return None,
-    }
-    .ok()
+    format!(in alloc; "text {text} of the CSS-CII session{before}{name}{after}: {front}").ok()
 }
 
 /// What an address has to be, and the text that is none.

@@ -1,5 +1,4 @@
-//! A command of `clap`, and what words say of it. One function drops the many parts of each: what holds one needn't see
-//! them.
+//! A command of `clap`, and what words say of it, whose many parts one function drops: what holds it needn't see them.
 ghost use Rattle.std.specs.Prelude.{◌≡◌, IfOk, IfErr, map, string_bytes, true, false};
 ghost use Rattle.clap.specs.Words.{app_of, found_of, rows_of, rule_of, with_rule};
 ghost use Rattle.clap.specs.Faults.{is_simple_and_free};
@@ -23,14 +22,9 @@ impl Drop for Matches<'_> {
 }
 
 /// A command with its arguments.
+#[derive(Drop)]
 pub struct Taking<'a> {
     pub command: clap::Command<'a>,
-}
-
-impl Drop for Taking<'_> {
-    fn drop(self) {
-        let Taking { command: _ } = self;
-    }
 }
 
 // An argument of this name, by what a use of it does.
