@@ -9,15 +9,11 @@ use Rattle.css_app.proofs.surveyed.write_survey.Goals as goal
 
 pub returns-in-Ok-clause-ok : goal.returns-in-Ok-clause-ok
 returns-in-Ok-clause-ok g c =
-    subst (λ (l : List ℕ). OnOk c.write_all.result
-    (Appends (g.K.Sink.holds c.args.sink.now) (g.K.Sink.holds c.write_all.new.sink) l))
-    (c.as_bytes.ensures.value ∙ c.in-Ok.ensures) c.write_all.ensures.ok
+    rw (c.as_bytes.ensures.value ∙ c.in-Ok.ensures) at c.write_all.ensures.ok
 
 pub returns-in-Ok-clause-err : goal.returns-in-Ok-clause-err
 returns-in-Ok-clause-err g c =
-    subst (λ (l : List ℕ). OnErr c.write_all.result
-    (AppendsPrefix (g.K.Sink.holds c.args.sink.now) (g.K.Sink.holds c.write_all.new.sink) l))
-    (c.as_bytes.ensures.value ∙ c.in-Ok.ensures) c.write_all.ensures.err
+    rw (c.as_bytes.ensures.value ∙ c.in-Ok.ensures) at c.write_all.ensures.err
 
 pub returns-in-Err-clause-err : goal.returns-in-Err-clause-err
 returns-in-Err-clause-err g c = record {
