@@ -1,10 +1,7 @@
 -- What was written is a front part of the schedule, line after line.
-use Rattle.std.proofs.Common.{◌≡◌, ◌+◌, ◌<◌, ◌++◌, ◌∷◌, [], arith, ap, sym, subst, ◌∙◌, List, ℕ}
-use Rattle.std.specs.Io.KnownBytes.{Appends}
-use Rattle.css_outside.specs.Bytes.{AppendsPrefix}
+use Rattle.std.proofs.Common.{◌≡◌, ◌+◌, ◌<◌, ◌++◌, ◌∷◌, [], arith, ap, sym, ◌∙◌, List, ℕ}
 use Rattle.css_outside.proofs.Known.{on_err_from}
 use Rattle.css_gen.specs.Generated.{Generator, text_in}
-use Rattle.css_survey.specs.Generated.{schedule_text}
 use Rattle.css_survey.proofs.Giving.{gave}
 use Rattle.css_app.proofs.Generating.{one_more, stops_before, stops_within}
 use Rattle.css_app.proofs.generated.write_lines.Goals as goal

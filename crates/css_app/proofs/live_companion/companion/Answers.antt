@@ -2,6 +2,7 @@ use Rattle.std.proofs.Common.{refl, inl, inr}
 use Rattle.css_follow.specs.Sheets.{sheet_in}
 use Rattle.css_follow.specs.declared.fault.SheetFault.TheVariants.{Line}
 use Rattle.css_replay.specs.declared.status.Status.TheVariants.{BadSheet}
+use Rattle.css_app.specs.Live.{stage}
 use Rattle.css_app.proofs.Taken.{none_lacks, none_no_usage}
 use Rattle.css_app.proofs.live_companion.companion.Goals as goal
 
@@ -10,8 +11,10 @@ pub returns-in-Err : goal.returns-in-Err
 returns-in-Err g c =
     let none = c.in-Err.ensures.value in
     let tells = c.in-Err.ensures.counted (g.K.Sink.faults c.args.sink.now) (g.O.Outside.counts c.args.outside.now) in
+    let before = stage (g.K.Sink.holds c.args.sink.now) (g.O.Outside.told c.args.outside.now)
+    (g.F.Listens.heard c.args.followers.now) in
     record {
-      ran = inl (refl, none);
+      ran = inl (refl {a = before}, none);
       complete = λ bytes sheet is ok read wrote called.
           inl (none_lacks sheet_in Line BadSheet (λ bad. tt) _ c.in-Err.status bytes sheet none is ok (tells 0).reads
           read);

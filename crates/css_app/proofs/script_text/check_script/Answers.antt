@@ -1,7 +1,6 @@
-use Rattle.std.proofs.Common.{ap, refl, subst}
+use Rattle.std.proofs.Common.{ap, refl}
 use Rattle.std.specs.Prelude.{Some}
 use Rattle.css_lines.specs.declared.ending.Stop.TheVariants as stops
-use Rattle.css_app.specs.Live.{HasNoScript}
 use Rattle.css_app.specs.declared.scripts.NoLine.{NoLine}
 use Rattle.css_app.specs.Ended.{line_refused}
 use Rattle.css_app.proofs.Taken.{stop_tells}

@@ -1,5 +1,4 @@
-use Rattle.std.proofs.Common.{inl, inr, refl, subst, sym, take, ◌∙◌, arith}
-use Rattle.std.specs.Io.KnownBytes.{Consumes}
+use Rattle.std.proofs.Common.{inl, inr, refl, take, ◌∙◌, arith}
 use Rattle.css_lines.specs.declared.ending.Stop.TheVariants as stops
 use Rattle.css_lines.proofs.Endings.{consumes_nothing}
 use Rattle.css_outside.proofs.Known.{consumes_none, consumes_more}

@@ -1,7 +1,3 @@
-use Rattle.std.proofs.Common.{subst}
-use Rattle.std.specs.Prelude.{Some}
-use Rattle.css_app.specs.Live.{HasNoScript}
-use Rattle.css_app.specs.Pairs.{IsScript}
 use Rattle.css_app.proofs.TextsTaken.{gives_text, no_text, no_read_fault}
 use Rattle.css_app.proofs.script_text.take_script_text.Goals as goal
 

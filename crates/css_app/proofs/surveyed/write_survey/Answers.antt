@@ -1,8 +1,5 @@
 -- The line is written whole, or a front part of it.
-use Rattle.std.proofs.Common.{◌∙◌, [], List, ℕ, refl, subst}
-use Rattle.std.specs.Prelude.{OnErr, OnOk}
-use Rattle.std.specs.Io.KnownBytes.{Appends}
-use Rattle.css_outside.specs.Bytes.{AppendsPrefix}
+use Rattle.std.proofs.Common.{◌∙◌, [], refl}
 use Rattle.css_outside.proofs.Known.{appends_none}
 use Rattle.css_survey.specs.Surveyed.{survey_text}
 use Rattle.css_app.proofs.surveyed.write_survey.Goals as goal
