@@ -12,7 +12,8 @@ pub returns-in-Err-Failed-clause-complete : goal.returns-in-Err-Failed-clause-co
 returns-in-Err-Failed-clause-complete g c wrote called spawned =
     let risen = subst (CountsOutFault (g.P.Spawner.faults c.args.spawner.now) (g.P.Spawner.faults c.start.new.self))
     c.in-Err-Failed.field-0-is c.in-Err-Failed.ensures.counted in
-    absurd (omega (arith, risen.risen spawned.below, spawned.same))
+    let no : ⊥ = omega (arith, risen.risen spawned.below, spawned.same) in
+    elim no [ ]
 
 pub returns-in-Err-Memory-clause-ran : goal.returns-in-Err-Memory-clause-ran
 returns-in-Err-Memory-clause-ran g c =
