@@ -9,26 +9,23 @@ use Rattle.css_outside.proofs.Known.{appends_more}
 use Rattle.css_outside.specs.Bytes.{IsPrefix, AppendsPrefix}
 use Rattle.css_words.specs.Lines as asked
 use Rattle.css_gen.specs.Generated.{text_in}
-use Rattle.css_gen.specs.Second.{openings, least_lines}
+use Rattle.css_gen.specs.Second.{openings}
 use Rattle.css_survey.specs.Generated.{schedule_text}
+use Rattle.css_app.specs.Ended.{CanBeDrawn}
 
 -- ---- what is asked for
 -- where no companions are told, there is one
-pub some_asked : (told : Option ℕ) → 2 ≤ unwrap_or told 2 → 1 ≤ unwrap_or told 1
-some_asked None some = omega arith
-some_asked (Some count) some = omega (arith, some)
-
-pub few_asked : (told : Option ℕ) → unwrap_or told 2 ≤ 16 → unwrap_or told 1 ≤ 16
-few_asked None few = omega arith
-few_asked (Some count) few = few
-
--- so many lines suffice for them
-pub lines_asked : (told : Option ℕ) (lines : ℕ) → 2 ≤ unwrap_or told 2 → asked.least_lines told ≤ lines
-    → least_lines (unwrap_or told 1) ≤ lines
-lines_asked None lines some least = least
-lines_asked (Some count) lines some least =
-    subst (λ (b : Bool). cond b 9 (openings count) ≤ lines) (sym (ne_eqb count 1 (λ e. omega (arith, e, some))))
-    (omega (arith, least))
+pub can_be_drawn : (told : Option ℕ) (lines : ℕ) → 2 ≤ unwrap_or told 2 → unwrap_or told 2 ≤ 16
+    → asked.least_lines told ≤ lines → lines ≤ 200000 → CanBeDrawn (unwrap_or told 1) lines
+can_be_drawn None lines some few least most =
+    record { some = omega arith; few = omega arith; least = least; most = most }
+can_be_drawn (Some count) lines some few least most = record {
+  some = omega (arith, some);
+  few = few;
+  least = subst (λ (b : Bool). cond b 9 (openings count) ≤ lines)
+      (sym (ne_eqb count 1 (λ e. omega (arith, e, some)))) (omega (arith, least));
+  most = most;
+}
 
 -- ---- the schedule
 -- it begins with its first lines

@@ -1,6 +1,5 @@
 pub mod Generating
-pub mod ScriptsTaken
-pub mod SheetsTaken
+pub mod Taken
 pub mod Live
 pub mod LongText
 pub mod TextsTaken

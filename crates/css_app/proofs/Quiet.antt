@@ -1,60 +1,26 @@
 -- Which faults a command's status tells, and that it isn't Usage.
-use Rattle.std.proofs.Common.{◌≡◌, ℕ, List, refl, arith}
+use Rattle.std.proofs.Common.{ℕ, List, refl, arith}
 use Rattle.std.specs.Prelude.{◌≢◌, Option}
-use Rattle.css_lines.specs.Ending.{SinkCounts, SourceCounts}
-use Rattle.css_lines.specs.declared.ending.Stop.{Stop}
-use Rattle.css_lines.specs.declared.ending.Stop.TheVariants as stops
-use Rattle.css_lines.specs.declared.reader.Refusal.TheVariants as refusals
-use Rattle.css_agree.specs.declared.reader.Cause as agree
-use Rattle.css_agree.specs.declared.reader.Cause.TheVariants as agrees
-use Rattle.css_audit.specs.declared.fault.AuditFault.{AuditFault}
-use Rattle.css_audit.specs.declared.fault.AuditFault.TheVariants as audits
 use Rattle.css_drive.specs.Ends.{CountsDialFaults, CountsNetFault, CountsWriteFault}
 use Rattle.css_drive.specs.declared.driven.Driven.{Driven}
 use Rattle.css_drive.specs.declared.driven.Driven.TheVariants as driven
-use Rattle.css_migrate.specs.declared.migrate.NoLine.{NoLine}
 use Rattle.css_outside.specs.Outsides.{Counts}
 use Rattle.css_replay.specs.declared.status.Status.{Status}
 use Rattle.css_replay.specs.declared.status.Status.TheVariants as status
 use Rattle.css_replay.specs.Ended.{CountsWrites, IsNoUsage}
-use Rattle.css_app.specs.Ended.{Writes, agree_status_of, audit_status_of}
-use Rattle.css_app.specs.Live.{HasNoScript, HasNoSheet, TellsFaults, TellsOverLines, driven_status, failures}
-use Rattle.css_app.specs.Migrations.{migrate_status_of}
+use Rattle.css_replay.proofs.OverLines.{EndsLines}
+use Rattle.css_app.specs.Ended.{Writes}
+use Rattle.css_app.specs.Live.{TellsFaults, TellsOverLines, driven_status, failures}
 
 -- ---- commands over lines
--- what a status of a run over lines tells
-abbrev pub EndsLines : ℕ → ℕ → ℕ → ℕ → Status → Type 0
-EndsLines r r' w w' result = IsNoUsage result × TellsOverLines r r' w w' result
-
-pub done_tells : {r r' w w' : ℕ} → r' ≡ r → w' ≡ w → TellsOverLines r r' w w' status.Done
-done_tells read wrote c s =
-    record { reads = read; writes = wrote; calls = refl; dials = omega arith; spawns = refl }
-
-pub agree_tells : {r r' w w' : ℕ} (stop : Stop agree.Cause) → SourceCounts r r' stop → SinkCounts w w' stop
-    → EndsLines r r' w w' (agree_status_of stop)
-agree_tells (stops.BadLine line (refusals.Refused agrees.Form)) read wrote =
-    (tt, λ c s. record { reads = read; writes = wrote; calls = refl; dials = omega arith; spawns = omega arith })
-agree_tells _ read wrote =
-    (tt, λ c s. record { reads = read; writes = wrote; calls = refl; dials = omega arith; spawns = omega arith })
-
-pub audit_tells : {r r' w w' : ℕ} (stop : Stop AuditFault) → SourceCounts r r' stop → SinkCounts w w' stop
-    → EndsLines r r' w w' (audit_status_of stop)
-audit_tells (stops.BadLine line (refusals.Refused audits.Form)) read wrote =
-    (tt, λ c s. record { reads = read; writes = wrote; calls = refl; dials = omega arith; spawns = omega arith })
-audit_tells _ read wrote =
-    (tt, λ c s. record { reads = read; writes = wrote; calls = refl; dials = omega arith; spawns = omega arith })
-
-pub migrate_tells : {r r' w w' : ℕ} (stop : Stop NoLine) → SourceCounts r r' stop → SinkCounts w w' stop
-    → EndsLines r r' w w' (migrate_status_of stop)
-migrate_tells stops.Memory read wrote =
-    (tt, λ c s. record { reads = read; writes = wrote; calls = refl; dials = omega arith; spawns = omega arith })
-migrate_tells _ read wrote =
-    (tt, λ c s. record { reads = read; writes = wrote; calls = refl; dials = omega arith; spawns = omega arith })
-
--- an audit that stopped isn't told as done
-pub never_done : (stop : Stop AuditFault) → audit_status_of stop ≡ status.Done → ⊥
-never_done (stops.BadLine line (refusals.Refused audits.Form)) done = cc
-never_done _ done = cc
+pub tells_lines : {r r' w w' : ℕ} {result : Status} → EndsLines r r' w w' result → TellsOverLines r r' w w' result
+tells_lines ends c s = record {
+  reads = ends.reads;
+  writes = ends.writes;
+  calls = ends.quiet.calls c.faults;
+  dials = ends.quiet.dials c.dial_faults;
+  spawns = ends.quiet.spawns s;
+}
 
 -- ---- texts that are written
 pub writes_tells : {r w w' s : ℕ} {c : Counts} (text : List ℕ) (old new : Option (List ℕ)) (result : Status)
@@ -85,12 +51,3 @@ driven_tells _ wrote called dialled =
 pub unwritten : (ended : Driven) (count : ℕ) → ended ≢ driven.WriteFault → CountsWriteFault count count ended
 unwritten driven.WriteFault count none = absurd (none refl)
 unwritten _ count none = refl
-
--- an input that wasn't read
-pub sheet_no_usage : (left : Option (List ℕ)) (result : Status) → HasNoSheet left result → IsNoUsage result
-sheet_no_usage left status.Usage none = none
-sheet_no_usage left _ none = tt
-
-pub script_no_usage : (left : Option (List ℕ)) (result : Status) → HasNoScript left result → IsNoUsage result
-script_no_usage left status.Usage none = none
-script_no_usage left _ none = tt

@@ -1,7 +1,7 @@
 -- The script that a source's bytes are, where they are read first.
-use Rattle.std.proofs.Common.{◌≡◌, ℕ, ◌<◌, List, [], ◌++◌, length, ap, refl, sym, subst, ◌∙◌, arith}
+use Rattle.std.proofs.Common.{◌≡◌, ℕ, ◌<◌, List, [], ◌++◌, length, ap, refl, sym, ◌∙◌, arith}
 use Rattle.std.proofs.Common.{append-nil, inl, inr}
-use Rattle.std.specs.Prelude.{◌⊎◌, Option, Some, None, Result, Ok, Err}
+use Rattle.std.specs.Prelude.{◌⊎◌, Option, Some, None, Ok, Err}
 use Rattle.std.specs.Io.KnownBytes.{IsAtEnd}
 use Rattle.css_lines.specs.Lines.{lines_of}
 use Rattle.css_lines.specs.Meaning.{outcome}
@@ -12,7 +12,7 @@ use Rattle.css_app.specs.declared.scripts.NoLine.{NoLine}
 use Rattle.css_replay.specs.declared.status.Status.{Status}
 use Rattle.css_replay.specs.declared.status.Status.TheVariants as status
 use Rattle.css_replay.specs.Ended.{CountsReads}
-use Rattle.css_app.specs.Live.{GivesAll, GivesScript, HasNoScript}
+use Rattle.css_app.specs.Live.{Gives, GivesAll, HasNoScript}
 use Rattle.css_app.specs.Pairs.{GivesScriptText, GivesUpTo, IsScript}
 use Rattle.css_app.specs.Scripts.{script_in, script_lines, script_of_lines, unless_refused, why_of}
 use Rattle.css_app.proofs.LongText.{long_text}
@@ -25,24 +25,15 @@ gave_text text read (Some rest) gave =
 
 -- so they are its script
 pub is_script : (left : Option (List ℕ)) (text : List ℕ) (now : Option (List ℕ)) (script : List ScriptLine)
-    → left ≡ Some text → GivesScript left now script → IsScript text
-is_script left text now script is gives = (
-  script,
-  subst (λ (t : List ℕ). script_in t ≡ Ok script)
-      (gave_text text gives.read now (subst (λ (l : Option (List ℕ)). GivesAll l now gives.read) is gives.all))
-      gives.is_script,
-)
-
-same_Ok : {A E : Type 0} (r : Result A E) (x y : A) → r ≡ Ok x → r ≡ Ok y → x ≡ y
-same_Ok r x y e f = cc
+    → left ≡ Some text → Gives script_in left now script → IsScript text
+is_script left text now script is gives =
+    (script, rw (gave_text text gives.read now (rw is at gives.all)) at gives.is)
 
 -- and no other script is
 pub same_script : (left : Option (List ℕ)) (bytes : List ℕ) (now : Option (List ℕ)) (one other : List ScriptLine)
-    → left ≡ Some bytes → GivesScript left now one → script_in bytes ≡ Ok other → one ≡ other
+    → left ≡ Some bytes → Gives script_in left now one → script_in bytes ≡ Ok other → one ≡ other
 same_script left bytes now one other is gives ok =
-    let read = gave_text bytes gives.read now
-    (subst (λ (l : Option (List ℕ)). GivesAll l now gives.read) is gives.all) in
-    same_Ok (script_in bytes) one other (sym (ap script_in read) ∙ gives.is_script) ok
+    let same = rw (gave_text bytes gives.read now (rw is at gives.all)) at gives.is in cc
 
 -- a verdict says that there is no script
 refused : (bytes : List ℕ) (v : ℕ × Refusal NoLine) → (outcome script_lines bytes).verdict ≡ Some v
@@ -78,14 +69,13 @@ bad_in_all : (left now : Option (List ℕ)) (text : List ℕ) (line : ℕ) (why 
 bad_in_all None now text line why gives bad bytes is = absurd (cc)
 bad_in_all (Some all) None text line why gives bad bytes is = absurd gives.took
 bad_in_all (Some all) (Some rest) text line why gives bad bytes is =
-    subst (λ (b : List ℕ). script_in b ≡ Err (line, why)) whole (of gives.reached)
+    rw whole at (of gives.reached)
   where
     whole : text ++ rest ≡ bytes
     whole = let e = gives.took in cc
 
     of : (rest ≡ []) ⊎ (67108864 < length text) → script_in (text ++ rest) ≡ Err (line, why)
-    of (inl none) = subst (λ (b : List ℕ). script_in b ≡ Err (line, why))
-        (sym (ap (λ r. text ++ r) none ∙ append-nil text)) bad
+    of (inl none) = rw (none, append-nil text) bad
     of (inr long) = same_refusal text rest line why long bad
 
 -- a source whose bytes are no script has none
@@ -93,8 +83,8 @@ pub no_text : (left now : Option (List ℕ)) (text : List ℕ) (result : Status)
     → HasNoScript (Some text) result → HasNoScript left result
 no_text left now text status.Memory gives none = tt
 no_text left now text status.ReadFault gives none = tt
-no_text left now text (status.BadLine line why) gives none = bad_in_all left now text line why gives (none text refl)
-no_text left now text _ gives none = absurd none
+no_text left now text _ gives none =
+    (none.0, none.1, bad_in_all left now text none.0.0 none.0.1 gives (none.2 text refl))
 
 -- a count of faults that stays 0 tells no failed read, of whatever source
 pub no_read_fault : (result : Status) (before now : ℕ) → CountsReads 0 0 result → now ≡ before

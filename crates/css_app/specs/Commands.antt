@@ -2,15 +2,24 @@
 use Rattle.std.specs.Prelude.{◌≡◌, ◌⊎◌, ℕ, Bool, true, false, not, List, Option, Some, unwrap_or, Result, Ok, Err}
 use Rattle.std.specs.Prelude.{String, map, string_bytes}
 use Rattle.css_model.specs.History.{Address, History}
+use Rattle.css_agree.specs.Agreeing.{agreeing}
 use Rattle.css_agree.specs.Promise as agree
+use Rattle.css_audit.specs.Auditing.{auditing}
 use Rattle.css_audit.specs.Promise.{SaysRight}
 use Rattle.css_drive.specs.TvDue.{run_of}
 use Rattle.css_drive.specs.declared.config.DriveConfig.{DriveConfig}
+use Rattle.css_drive.specs.declared.driven.Driven.{Driven}
 use Rattle.css_drive.specs.declared.tv_config.TvDrive.{TvDrive}
+use Rattle.css_drive_relay.specs.Due as relay
+use Rattle.css_drive_relay.specs.Due.{IsProperRelay}
+use Rattle.css_drive_relay.specs.Ran.{RelayRan}
+use Rattle.css_drive_relay.specs.declared.config.RelayRun.{RelayRun}
 use Rattle.css_follow.specs.Following.{Plan}
 use Rattle.css_follow.specs.Sheets.{sheet_in}
 use Rattle.css_follow.specs.declared.sheet.Sheet.{Sheet}
+use Rattle.css_migrate.specs.Migrated.{migrated}
 use Rattle.css_schedule.specs.declared.line.ScriptLine.{ScriptLine}
+use Rattle.css_record.specs.Runs.{Recorded}
 use Rattle.css_survey.specs.Generated.{schedule_text}
 use Rattle.css_survey.specs.Surveyed.{survey_text}
 use Rattle.css_tv.specs.declared.config.TvConfig.{TvConfig}
@@ -30,17 +39,15 @@ use Rattle.css_app.specs.declared.child.Child.{Child}
 use Rattle.css_replay.specs.declared.status.Status.{Status}
 use Rattle.css_replay.specs.declared.status.Status.TheVariants as status
 use Rattle.css_replay.specs.Devices.{SourceUse, SinkUse}
-use Rattle.css_replay.specs.Does.{ByReplay}
+use Rattle.css_replay.specs.Does.{ByReplay, OverLines}
 use Rattle.css_app.specs.Devices.{OutsideUse, SpawnerUse, FollowersUse, Uses, stage_before, stage_after, unused}
-use Rattle.css_app.specs.Ended.{Agrees, AreAllRead, AreAllRight, Audits, Writes}
+use Rattle.css_app.specs.Ended.{Writes, agree_refused, audit_refused, line_refused}
 use Rattle.css_replay.specs.Ended.{HasNotFailed, IsDoneUnlessMemory, IsNoUsage}
-use Rattle.css_app.specs.Live.{IsAsDue, MakesNoRun, RunsBySheet, Serves, ServesAsDue, Stage}
-use Rattle.css_app.specs.Migrations.{AreAllFirst, Migrates}
+use Rattle.css_app.specs.Live.{HasNoSheet, IsAsDue, IsMadeAsDue, RunsBySheet, Serves, ServesAsDue, Stage}
+use Rattle.css_app.specs.Live.{driven_status}
 use Rattle.css_app.specs.Pairs.{ArePairedAsDue, Children, PairsByScript, PairsNone, address_at}
-use Rattle.css_app.specs.Records.{MakesNoRecord, MakesRecord}
-use Rattle.css_app.specs.Relays.{RelaysBy, RelaysNone, RelaysAsDue}
 use Rattle.css_app.specs.Scripts.{script_in}
-use Rattle.css_app.specs.Watches.{IsAskedWatch, EndsAtLastUnlessMemory, MakesNoWatch, MakesWatch}
+use Rattle.css_app.specs.Watches.{IsAskedWatch, EndsAtLastUnlessMemory, MakesWatch}
 
 -- what a command line asks for
 abbrev pub asked_by : {A : Type 0} → List (String A) → Result Asked WordsFault
@@ -66,16 +73,10 @@ uses_source (Ok (Pair asked)) = true
 uses_source _ = false
 
 abbrev pub uses_sink : Result Asked WordsFault → Bool
-uses_sink (Ok Replay) = true
-uses_sink (Ok Agree) = true
-uses_sink (Ok Audit) = true
-uses_sink (Ok Migrate) = true
-uses_sink (Ok (Companion asked)) = true
-uses_sink (Ok (Pair asked)) = true
-uses_sink (Ok (Watch asked)) = true
-uses_sink (Ok (Generate asked)) = true
-uses_sink (Ok (Survey asked)) = true
-uses_sink _ = false
+uses_sink (Ok (Tv asked)) = false
+uses_sink (Ok (Relay asked)) = false
+uses_sink (Ok _) = true
+uses_sink (Err fault) = false
 
 abbrev pub uses_outside : Result Asked WordsFault → Bool
 uses_outside (Ok (Companion asked)) = true
@@ -132,49 +133,29 @@ asked_child asked = record {
   relative = asked.relative;
 }
 
--- ---- `agree`
--- The same as of a replay (`ByReplay`), of answers. What is printed of them is what they say together, and it is true
--- in every world that makes them truthful.
+-- ---- `agree`, `audit` and `migrate`
+-- Answers: what is printed of them is what they say together, and it is true in every world that makes them truthful.
 pub record ByAgree (source : SourceUse) (sink : SinkUse) (result : Status) : Type 0 where
-  pub no_usage : IsNoUsage result
-  pub agrees : (bytes : List ℕ) → source.left_old ≡ Some bytes
-      → Agrees bytes source.left_new sink.holds_old sink.holds_new result
+  pub lines : OverLines agreeing agree_refused source sink result
   pub promise : agree.Promised source.left_old source.left_new sink.holds_old sink.holds_new
-  pub complete : (bytes : List ℕ) → source.left_old ≡ Some bytes → AreAllRead bytes
-      → HasNotFailed source.faults_old source.faults_new → HasNotFailed sink.faults_old sink.faults_new
-      → IsDoneUnlessMemory result
 
--- ---- `audit`
--- The same of the record of a companion. Where the audit says yes, each report in the record is the one that its
--- companion was to make there, by the lines before it. It is refused at the first line that has a cause, by the first
--- cause of that line.
+-- The record of a companion: where the audit says yes, each report in the record is the one that its companion was to
+-- make there, by the lines before it. It is refused at the first line that has a cause, by the first cause of that
+-- line.
 pub record ByAudit (source : SourceUse) (sink : SinkUse) (result : Status) : Type 0 where
-  pub no_usage : IsNoUsage result
-  pub audits : (bytes : List ℕ) → source.left_old ≡ Some bytes
-      → Audits bytes source.left_new sink.holds_old sink.holds_new result
+  pub lines : OverLines auditing audit_refused source sink result
   pub right : result ≡ status.Done → SaysRight source.left_old source.left_new
-  -- a record that is right is read to its end, over devices that don't fail
-  pub complete : (bytes : List ℕ) → source.left_old ≡ Some bytes → AreAllRight bytes
-      → HasNotFailed source.faults_old source.faults_new → HasNotFailed sink.faults_old sink.faults_new
-      → IsDoneUnlessMemory result
 
--- ---- `migrate`
--- What each line of a schedule of version 1 becomes in version 2 is written. It is refused at the first line that is
--- none of version 1.
-pub record ByMigrate (source : SourceUse) (sink : SinkUse) (result : Status) : Type 0 where
-  pub no_usage : IsNoUsage result
-  pub migrates : (bytes : List ℕ) → source.left_old ≡ Some bytes
-      → Migrates bytes source.left_new sink.holds_old sink.holds_new result
-  -- a schedule of version 1 is read to its end, over devices that don't fail
-  pub complete : (bytes : List ℕ) → source.left_old ≡ Some bytes → AreAllFirst bytes
-      → HasNotFailed source.faults_old source.faults_new → HasNotFailed sink.faults_old sink.faults_new
-      → IsDoneUnlessMemory result
+-- A schedule of version 1: what each line of it becomes in version 2 is written. It is refused at the first line that
+-- is none of version 1.
+abbrev pub ByMigrate : SourceUse → SinkUse → Status → Type 0
+ByMigrate = OverLines migrated line_refused
 
 -- ---- `companion`
 -- what became of the sheet and of the run that the options ask for
 abbrev pub CompanionsBy : CompanionAsked → (Sheet → List Plan) → SourceUse → Stage → Stage → Status → Type 0
 CompanionsBy asked takes source before now result =
-    MakesNoRun source.left_old before now result
+    ((now ≡ before) × HasNoSheet source.left_old result)
     ⊎ ((run : DriveConfig) × IsAskedRun asked.options asked.cii run
     × RunsBySheet run takes source.left_old source.left_new before now result)
 
@@ -196,10 +177,22 @@ pub record ByCompanion (asked : CompanionAsked) (source : SourceUse) (sink : Sin
       → HasNotFailed outside.faults_old outside.faults_new
       → EndsAsAsked asked.options asked.cii outside.told_old outside.told_new result
 
+-- A run was made, the sink gained its record, and the status says how it ended.
+pub record MakesRecord (config : DriveConfig) (told_old told_new : Option History)
+    (holds_old holds_new : Option (List ℕ)) (result : Status) : Type 0 where
+  pub ended : Driven
+  pub recorded : Recorded config told_old told_new holds_old holds_new ended
+  pub tells : result ≡ driven_status ended
+
+-- nothing was asked of the outside, and nothing was written, for want of memory
+abbrev pub MakesNone : SinkUse → OutsideUse → Status → Type 0
+MakesNone sink outside result =
+    (outside.told_new ≡ outside.told_old) × (sink.holds_new ≡ sink.holds_old) × (result ≡ status.Memory)
+
 -- what became of the run that the options ask for, and of its record
 abbrev pub RecordsBy : CompanionAsked → SinkUse → OutsideUse → Status → Type 0
 RecordsBy asked sink outside result =
-    MakesNoRecord outside.told_old outside.told_new sink.holds_old sink.holds_new result
+    MakesNone sink outside result
     ⊎ ((run : DriveConfig) × IsAskedRun asked.options asked.cii run
     × MakesRecord run outside.told_old outside.told_new sink.holds_old sink.holds_new result)
 
@@ -254,9 +247,32 @@ pub record ByPair (asked : PairAsked) (source : SourceUse) (sink : SinkUse) (out
       → PairsAsAsked asked.companion (address_at asked.tv.port) outside.told_old outside.told_new result
 
 -- ---- `relay`
+-- the run is what the options of a relay ask for
+pub record IsAskedRelay (asked : RelayAsked) (run : RelayRun) : Type 0 where
+  pub dials : run.cii ≡ asked.cii
+  pub host : run.host ≡ asked.host
+  pub port : run.port ≡ asked.port
+  pub limit : run.limit ≡ asked.limit
+  pub ask_every : run.ask_every ≡ asked.ask_every
+  pub local_error : run.companion.local.error ≡ asked.local_error
+  pub local_precision : run.companion.local.precision ≡ asked.local_precision
+
+-- A run was made that the options ask for, and the status says how it ended.
+pub record RelaysBy (asked : RelayAsked) (told_old told_new : Option History) (result : Status) : Type 0 where
+  pub run : RelayRun
+  pub is_asked : IsAskedRelay asked run
+  pub ended : Driven
+  pub ran : RelayRan run told_old told_new ended
+  pub tells : result ≡ driven_status ended
+
+-- a run that the options ask for was made to an end that was due, unless memory ran out
+abbrev pub RelaysAsDue : RelayAsked → Option History → Option History → Status → Type 0
+RelaysAsDue asked before now result = (result ≡ status.Memory)
+    ⊎ ((run : RelayRun) × IsAskedRelay asked run × IsMadeAsDue (IsProperRelay run) (relay.due run) before now result)
+
 -- Each call of the outside is the one that is due by what came.
 pub record ByRelay (asked : RelayAsked) (outside : OutsideUse) (result : Status) : Type 0 where
-  pub ran : RelaysNone outside.told_old outside.told_new result
+  pub ran : (outside.told_new ≡ outside.told_old) × (result ≡ status.Memory)
       ⊎ RelaysBy asked outside.told_old outside.told_new result
   -- over an outside that doesn't fail, dials aside, a run ends as its calls say
   pub complete : HasNotFailed outside.faults_old outside.faults_new
@@ -266,7 +282,7 @@ pub record ByRelay (asked : RelayAsked) (outside : OutsideUse) (result : Status)
 -- what became of the watch that the options ask for
 abbrev pub WatchesBy : WatchAsked → SinkUse → OutsideUse → Status → Type 0
 WatchesBy asked sink outside result =
-    MakesNoWatch outside.told_old outside.told_new sink.holds_old sink.holds_new result
+    MakesNone sink outside result
     ⊎ ((config : WatchConfig) × IsAskedWatch asked config
     × MakesWatch config outside.told_old outside.told_new sink.holds_old sink.holds_new result)
 

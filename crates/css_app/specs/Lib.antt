@@ -3,8 +3,5 @@ pub mod Scripts
 pub mod Live
 pub mod Pairs
 pub mod Devices
-pub mod Relays
-pub mod Records
-pub mod Migrations
 pub mod Watches
 pub mod Commands

@@ -2,14 +2,11 @@
 use Rattle.std.specs.Prelude.{◌≡◌, ◌⊎◌, ℕ, List, Option, Some}
 use Rattle.std.specs.Prelude.{Ok, Err, Result, MatchResult, ⊤}
 use Rattle.std.specs.Io.KnownBytes.{Consumes, IsAtEnd}
-use Rattle.css_lines.specs.declared.ending.Stop.{Stop}
-use Rattle.css_lines.specs.declared.ending.Stop.TheVariants as stops
 use Rattle.css_model.specs.History.{History}
 use Rattle.css_outside.specs.Outsides.{Counts, with_entries}
 use Rattle.css_follow.specs.Following.{Plan, Seen}
 use Rattle.css_follow.specs.Sheets.{sheet_in}
 use Rattle.css_follow.specs.declared.fault.SheetFault.TheVariants.{Line}
-use Rattle.css_follow.specs.declared.line.Form.{Form}
 use Rattle.css_follow.specs.declared.sheet.Sheet.{Sheet}
 use Rattle.css_drive.specs.CompanionDue as companion
 use Rattle.css_drive.specs.CompanionDue.{IsProperRun}
@@ -22,13 +19,13 @@ use Rattle.css_drive.specs.TvRan.{TvRan}
 use Rattle.css_drive.specs.declared.config.DriveConfig.{DriveConfig}
 use Rattle.css_drive.specs.declared.driven.Driven.{Driven}
 use Rattle.css_drive.specs.declared.driven.Driven.TheVariants as driven
+use Rattle.css_schedule.specs.declared.fault.LineWhy.{LineWhy}
 use Rattle.css_schedule.specs.declared.line.ScriptLine.{ScriptLine}
 use Rattle.css_drive.specs.declared.tv_config.TvDrive.{TvDrive}
-use Rattle.css_app.specs.declared.scripts.NoLine.{NoLine}
 use Rattle.css_replay.specs.declared.status.Status.{Status}
 use Rattle.css_replay.specs.declared.status.Status.TheVariants as status
 use Rattle.css_replay.specs.Ended.{CountsCalls, CountsDials, CountsReads, CountsSpawns, CountsWrites}
-use Rattle.css_app.specs.Scripts.{script_in, why_of}
+use Rattle.css_app.specs.Scripts.{script_in}
 
 -- ---- statuses
 -- the status of a run that ended so
@@ -43,18 +40,6 @@ driven_status (driven.Spent turns) = status.Spent turns
 driven_status (driven.Unreachable turns) = status.Unreachable turns
 driven_status (driven.BadUrl property) = status.BadUrl property
 driven_status driven.Memory = status.Memory
-
--- the status where a cue sheet was not read
-abbrev pub sheet_status : Stop Form → Status
-sheet_status (stops.BadLine line why) = status.BadSheet line
-sheet_status stops.ReadFault = status.ReadFault
-sheet_status _ = status.Memory
-
--- the status where a script was not read
-abbrev pub script_status : Stop NoLine → Status
-script_status (stops.BadLine line why) = status.BadLine line (why_of why)
-script_status stops.ReadFault = status.ReadFault
-script_status _ = status.Memory
 
 -- A run was made to an end that was due: `proper` says which calls it may make, and `due` what follows them.
 pub record IsMadeAsDue (proper : History → Type 0) (due : History → Due) (before now : Option History)
@@ -102,32 +87,32 @@ pub record GivesAll (before now : Option (List ℕ)) (read : List ℕ) : Type 0 
   pub took : Consumes before now read
   pub at_end : IsAtEnd now
 
--- its bytes are this cue sheet
-pub record GivesSheet (before now : Option (List ℕ)) (sheet : Sheet) : Type 0 where
+-- its bytes read as this
+pub record Gives {T E : Type 0} (reading : List ℕ → Result T E) (before now : Option (List ℕ)) (value : T)
+    : Type 0 where
   pub read : List ℕ
   pub all : GivesAll before now read
-  pub is_sheet : sheet_in read ≡ Ok sheet
+  pub is : reading read ≡ Ok value
 
--- its bytes are this script
-pub record GivesScript (before now : Option (List ℕ)) (script : List ScriptLine) : Type 0 where
-  pub read : List ℕ
-  pub all : GivesAll before now read
-  pub is_script : script_in read ≡ Ok script
+-- It gave nothing that reads so: a read failed, memory ran out, or a line is refused. The status tells which one, and
+-- so does the reading.
+abbrev pub GivesNone : {T E Bad : Type 0} → (List ℕ → Result T E) → (Bad → E) → (Bad → Status) → Option (List ℕ)
+    → Status → Type 0
+GivesNone reading fault refused left status.ReadFault = ⊤
+GivesNone reading fault refused left status.Memory = ⊤
+GivesNone {Bad = Bad} reading fault refused left result = (bad : Bad) × (result ≡ refused bad)
+    × ((bytes : List ℕ) → left ≡ Some bytes → reading bytes ≡ Err (fault bad))
 
--- A cue sheet that was to be read of this source was not: a read failed, a line is outside the grammar, or memory ran
--- out.
+-- a cue sheet, of which a line is outside the grammar
 abbrev pub HasNoSheet : Option (List ℕ) → Status → Type 0
-HasNoSheet left status.ReadFault = ⊤
-HasNoSheet left (status.BadSheet line) = (bytes : List ℕ) → left ≡ Some bytes → sheet_in bytes ≡ Err (Line line)
-HasNoSheet left status.Memory = ⊤
-HasNoSheet left _ = ⊥
+HasNoSheet = GivesNone sheet_in Line status.BadSheet
 
--- the same of a script, of which a line is too long or outside the grammar
+-- the status of a script of which a line is too long, or outside the grammar
+abbrev pub bad_line : ℕ × LineWhy → Status
+bad_line bad = status.BadLine bad.0 bad.1
+
 abbrev pub HasNoScript : Option (List ℕ) → Status → Type 0
-HasNoScript left status.ReadFault = ⊤
-HasNoScript left (status.BadLine line why) = (bytes : List ℕ) → left ≡ Some bytes → script_in bytes ≡ Err (line, why)
-HasNoScript left status.Memory = ⊤
-HasNoScript left _ = ⊥
+HasNoScript = GivesNone script_in (λ bad. bad) bad_line
 
 -- ---- a companion's run
 -- what there is to see of its devices: what the sink holds, what the outside tells, and what the followers heard
@@ -150,24 +135,19 @@ pub record MakesRun (config : DriveConfig) (plans : List Plan) (before now : Sta
   pub ran : Ran config before.told now.told before.holds now.holds followers followed ended
   pub tells : result ≡ driven_status ended
 
--- no run was made: nothing was asked of the outside, written or heard
-pub record MakesNoRun (left : Option (List ℕ)) (before now : Stage) (result : Status) : Type 0 where
-  pub untouched : now ≡ before
-  pub cause : HasNoSheet left result
-
 -- The source was read to its end, its bytes are a cue sheet, and then a run was made, which the followers followed by
 -- the plans that this sheet gives them.
 pub record RunsBySheet (config : DriveConfig) (takes : Sheet → List Plan) (left_old left_new : Option (List ℕ))
     (before now : Stage) (result : Status) : Type 0 where
   pub sheet : Sheet
-  pub gives : GivesSheet left_old left_new sheet
+  pub gives : Gives sheet_in left_old left_new sheet
   pub makes : MakesRun config (takes sheet) before now result
 
--- what `companion` comes to
+-- what `companion` comes to: where there is no sheet, nothing was asked of the outside, written or heard
 abbrev pub Companions : DriveConfig → (Sheet → List Plan) → Option (List ℕ) → Option (List ℕ) → Stage → Stage → Status
     → Type 0
 Companions config takes left_old left_new before now result =
-    MakesNoRun left_old before now result ⊎ RunsBySheet config takes left_old left_new before now result
+    (now ≡ before) × HasNoSheet left_old result ⊎ RunsBySheet config takes left_old left_new before now result
 
 -- the run was made to an end that was due
 abbrev pub IsAsDue : DriveConfig → Option History → Option History → Status → Type 0
@@ -182,20 +162,15 @@ EndsAsDue config before now result = (result ≡ status.Memory) ⊎ IsAsDue conf
 pub record ServesByScript (drive : TvDrive) (left_old left_new : Option (List ℕ))
     (told_old told_new : Option History) (result : Status) : Type 0 where
   pub script : List ScriptLine
-  pub gives : GivesScript left_old left_new script
+  pub gives : Gives script_in left_old left_new script
   pub ended : Driven
   pub ran : TvRan (run_of drive script) told_old told_new ended
   pub tells : result ≡ driven_status ended
 
--- no run was made, and nothing was asked of the outside
-pub record ServesNone (left : Option (List ℕ)) (told_old told_new : Option History) (result : Status) : Type 0 where
-  pub untouched : told_new ≡ told_old
-  pub cause : HasNoScript left result
-
--- what `tv` comes to
+-- what `tv` comes to: where there is no script, nothing was asked of the outside
 abbrev pub Serves : TvDrive → Option (List ℕ) → Option (List ℕ) → Option History → Option History → Status → Type 0
 Serves drive left_old left_new told_old told_new result =
-    ServesNone left_old told_old told_new result
+    (told_new ≡ told_old) × HasNoScript left_old result
     ⊎ ServesByScript drive left_old left_new told_old told_new result
 
 -- the run was made to an end that was due, unless memory ran out

@@ -95,12 +95,6 @@ IsNoStart (status.ChildFault (Err failure)) = ⊤
 IsNoStart status.Memory = ⊤
 IsNoStart _ = ⊥
 
--- the child was not started, and no run was made
-pub record StartsNone (before now : Stage) (kids_old kids_new : Children) (result : Status) : Type 0 where
-  pub untouched : now ≡ before
-  pub children : kids_new ≡ kids_old
-  pub cause : IsNoStart result
-
 -- The child was started once with these words and this script, a run was made, which followers with these plans
 -- followed, and then the child was waited for once.
 pub record RunsBeside (config : DriveConfig) (plans : List Plan) (words : List (List ℕ)) (script : List ℕ)
@@ -114,18 +108,16 @@ pub record RunsBeside (config : DriveConfig) (plans : List Plan) (words : List (
       (λ _. kids_new.running ≡ kids_old.running + 1)
   pub tells : result ≡ with_child companion finished
 
+-- or it was not started, and no run was made
 abbrev pub Beside : DriveConfig → List Plan → List (List ℕ) → List ℕ → Stage → Stage → Children → Children → Status
     → Type 0
 Beside config plans words script before now kids_old kids_new result =
-    StartsNone before now kids_old kids_new result
+    (now ≡ before) × (kids_new ≡ kids_old) × IsNoStart result
     ⊎ RunsBeside config plans words script before now kids_old kids_new result
 
 -- no child was started and no run made, since there is no script, or memory ran out
-pub record PairsNone (left : Option (List ℕ)) (before now : Stage) (kids_old kids_new : Children) (result : Status)
-    : Type 0 where
-  pub untouched : now ≡ before
-  pub children : kids_new ≡ kids_old
-  pub cause : HasNoScript left result
+abbrev pub PairsNone : Option (List ℕ) → Stage → Stage → Children → Children → Status → Type 0
+PairsNone left before now kids_old kids_new result = (now ≡ before) × (kids_new ≡ kids_old) × HasNoScript left result
 
 -- The source was read to its end, and a child was to be started with its bytes, which are a script. The followers have
 -- the plans that the empty sheet gives them.

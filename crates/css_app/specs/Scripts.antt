@@ -1,8 +1,6 @@
 -- What the lines of a television's script say together, and which of them is refused.
 use Rattle.std.specs.Prelude.{◌≡◌, ℕ, List, [], ◌∷◌, Option, Some, None, Result, Ok, Err, All}
 use Rattle.std.specs.List.{flat_map}
-use Rattle.css_lines.specs.declared.reader.LineFault as engine
-use Rattle.css_lines.specs.declared.reader.LineFault.TheVariants as lacks
 use Rattle.css_lines.specs.declared.reader.Refusal.{Refusal}
 use Rattle.css_lines.specs.declared.reader.Refusal.TheVariants as refusals
 use Rattle.css_lines.specs.Lines.{lines_of}
@@ -16,20 +14,8 @@ use Rattle.css_schedule.specs.declared.line.ScriptLine.{ScriptLine}
 use Rattle.css_app.specs.declared.scripts.NoLine.{NoLine}
 use Rattle.css_app.specs.declared.scripts.ScriptLines.{ScriptLines}
 
--- a line, or that there is none of these bytes
-abbrev pub Reading : Type 0
-Reading = Result ScriptLine (engine.LineFault NoLine)
-
-abbrev pub read_of : Result ScriptLine LineFault → Reading
-read_of (Ok line) = Ok line
-read_of (Err fault) = Err (lacks.Refused (record {}))
-
--- the line that bytes are, without the line feed
-abbrev pub line_of : List ℕ → Reading
-line_of bytes = read_of (script_of bytes)
-
 -- a line prints nothing, or it is outside the grammar
-abbrev pub admitted : Reading → Result (List ℕ) NoLine
+abbrev pub admitted : Result ScriptLine LineFault → Result (List ℕ) NoLine
 admitted (Ok line) = Ok []
 admitted (Err fault) = Err (record {})
 
@@ -38,18 +24,18 @@ abbrev pub script_lines : Meaning NoLine
 script_lines = record {
   longest_line = λ before. 4096;
   longest_input = λ before. 67108864;
-  line = λ before text. admitted (line_of text);
+  line = λ before text. admitted (script_of text);
   finish = λ before. Ok [];
 }
 
 -- the line that was read, if it was
-abbrev pub line_in : Reading → List ScriptLine
+abbrev pub line_in : Result ScriptLine LineFault → List ScriptLine
 line_in (Ok line) = line ∷ []
 line_in (Err fault) = []
 
 -- the lines of a script, in their order
 unfoldable pub script_of_lines : List (List ℕ) → List ScriptLine
-script_of_lines lines = flat_map (λ line. line_in (line_of line)) lines
+script_of_lines lines = flat_map (λ line. line_in (script_of line)) lines
 
 -- why a line is refused: it is too long, or outside the grammar
 abbrev pub why_of : {Cause : Type 0} → Refusal Cause → LineWhy

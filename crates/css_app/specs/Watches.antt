@@ -41,13 +41,6 @@ pub record MakesWatch (config : WatchConfig) (told_old told_new : Option History
   pub watched : visits.Watches plan told_old told_new holds_old holds_new ended
   pub tells : result ≡ watched_status ended
 
--- no watch was made, for want of memory: nothing was asked of the outside, and nothing was written
-pub record MakesNoWatch (told_old told_new : Option History) (holds_old holds_new : Option (List ℕ))
-    (result : Status) : Type 0 where
-  pub untouched : told_new ≡ told_old
-  pub unwritten : holds_new ≡ holds_old
-  pub lacks : result ≡ status.Memory
-
 -- the last turn was made, or the last visit that a watch may make, unless memory ran out
 abbrev pub EndsAtLastUnlessMemory : Status → Type 0
 EndsAtLastUnlessMemory status.Done = ⊤

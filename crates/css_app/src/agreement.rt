@@ -1,8 +1,9 @@
 ghost use Rattle.std.specs.Prelude.{◌≡◌};
 ghost use Rattle.css_app.specs.Commands.{ByAgree};
 ghost use Rattle.css_replay.specs.Devices.{sink_use, source_use};
+ghost use Rattle.css_replay.specs.Ended.{stop_status};
+ghost use Rattle.css_app.specs.Ended.{agree_refused};
 ghost use Rattle.css_app.specs.Live.{TellsOverLines};
-ghost use Rattle.css_app.specs.Ended.{agree_status_of};
 
 use css_agree::{Agreeing, Cause};
 use css_lines::{Refusal, Stop, drive};
@@ -11,33 +12,30 @@ use css_replay::Status;
 use css_schedule::LineWhy;
 use std::alloc::Global;
 
+// The status of a run over answers that refused a line.
+fn refused(line: u64, why: Refusal<Cause>) -> Status
+    ensures { result ≡ agree_refused line why }
+{
+    let why = match why {
+        Refusal::Long => LineWhy::Long,
+        Refusal::Refused(Cause::Form) => LineWhy::Form,
+        Refusal::Refused(Cause::Broken { earlier, excess }) => {
+            return Status::Broken {
+                line,
+                earlier,
+                excess,
+            };
+        }
+    };
+    Status::BadLine { line, why }
+}
+
 // The status of a run over answers that stopped.
 fn status_of(stop: Stop<Cause>) -> Status
-    ensures { result ≡ agree_status_of stop }
+    ensures { result ≡ stop_status agree_refused stop }
 {
     match stop {
-        Stop::BadLine {
-            line,
-            why: Refusal::Long,
-        } => Status::BadLine {
-            line,
-            why: LineWhy::Long,
-        },
-        Stop::BadLine {
-            line,
-            why: Refusal::Refused(Cause::Form),
-        } => Status::BadLine {
-            line,
-            why: LineWhy::Form,
-        },
-        Stop::BadLine {
-            line,
-            why: Refusal::Refused(Cause::Broken { earlier, excess }),
-        } => Status::Broken {
-            line,
-            earlier,
-            excess,
-        },
+        Stop::BadLine { line, why } => refused(line, why),
         Stop::ReadFault => Status::ReadFault,
         Stop::WriteFault => Status::WriteFault,
         Stop::Memory => Status::Memory,

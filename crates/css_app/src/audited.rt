@@ -1,10 +1,9 @@
 ghost use Rattle.std.specs.Prelude.{◌≡◌};
 ghost use Rattle.css_app.specs.Commands.{ByAudit};
 ghost use Rattle.css_replay.specs.Devices.{sink_use, source_use};
+ghost use Rattle.css_replay.specs.Ended.{stop_status};
+ghost use Rattle.css_app.specs.Ended.{audit_refused};
 ghost use Rattle.css_app.specs.Live.{TellsOverLines};
-ghost use Rattle.css_app.specs.Ended.{audit_status_of};
-ghost use Rattle.css_app.specs.Ended as ended;
-ghost use Rattle.css_lines.specs.declared.ending.Stop.TheVariants as stops;
 
 use css_audit::{AuditFault, Auditing};
 use css_lines::{Refusal, Stop, drive};
@@ -15,7 +14,7 @@ use std::alloc::Global;
 
 // The status of an audit that refused a line.
 fn refused(line: u64, why: Refusal<AuditFault>) -> Status
-    ensures { result ≡ ended.audit_status_of (stops.BadLine line why) }
+    ensures { result ≡ audit_refused line why }
 {
     let why = match why {
         Refusal::Long => LineWhy::Long,
@@ -44,7 +43,7 @@ fn refused(line: u64, why: Refusal<AuditFault>) -> Status
 
 // The status of an audit that stopped.
 fn status_of(stop: Stop<AuditFault>) -> Status
-    ensures { result ≡ audit_status_of stop }
+    ensures { result ≡ stop_status audit_refused stop }
 {
     match stop {
         Stop::BadLine { line, why } => refused(line, why),

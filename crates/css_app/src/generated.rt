@@ -1,10 +1,9 @@
-ghost use Rattle.std.specs.Prelude.{◌≤◌, OnOk, OnErr};
+ghost use Rattle.std.specs.Prelude.{OnOk, OnErr};
 ghost use Rattle.std.specs.Io.KnownBytes.{Appends};
 ghost use Rattle.css_outside.specs.Bytes.{AppendsPrefix};
 ghost use Rattle.css_outside.specs.Faults.{CountsCall};
-ghost use Rattle.css_gen.specs.Second.{least_lines};
 ghost use Rattle.css_survey.specs.Generated.{schedule_text};
-ghost use Rattle.css_app.specs.Ended.{Writes};
+ghost use Rattle.css_app.specs.Ended.{CanBeDrawn, Writes};
 ghost use Rattle.css_replay.specs.Ended.{CountsWrites, HasNotFailed, IsDoneUnlessMemory, IsNoUsage};
 
 use css_gen::Generator;
@@ -20,10 +19,7 @@ fn write_lines<K: Sink>(
     companions: u32,
     sink: &mut K,
 ) -> Result<(), OutFault>
-    requires some { 1 ≤ companions }
-    requires few { companions ≤ 16 }
-    requires least { least_lines companions ≤ lines }
-    requires most { lines ≤ 200000 }
+    requires { CanBeDrawn companions lines }
     ensures ok { OnOk result
         (Appends (K.holds sink.old) (K.holds sink.new) (schedule_text seed companions lines)) }
     ensures err { OnErr result
@@ -48,10 +44,7 @@ pub fn generate<K: Sink>(
     companions: u32,
     sink: &mut K,
 ) -> Status
-    requires some { 1 ≤ companions }
-    requires few { companions ≤ 16 }
-    requires least { least_lines companions ≤ lines }
-    requires most { lines ≤ 200000 }
+    requires { CanBeDrawn companions lines }
     ensures writes { Writes (schedule_text seed companions lines) (K.holds sink.old) (K.holds sink.new) result }
     ensures complete { HasNotFailed (K.faults sink.old) (K.faults sink.new) → IsDoneUnlessMemory result }
     ensures counted_writes { CountsWrites (K.faults sink.old) (K.faults sink.new) result }

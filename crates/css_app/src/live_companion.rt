@@ -3,7 +3,6 @@ ghost use Rattle.css_drive.specs.Configs.{IsWritable};
 ghost use Rattle.css_follow.specs.Sheets.{sheet_in};
 ghost use Rattle.css_follow.specs.declared.sheet.Sheet.{Sheet};
 ghost use Rattle.css_follow.specs.Listening.{all_plans};
-ghost use Rattle.css_replay.specs.Ended.{CountsCalls, CountsDials, CountsReads, CountsSpawns, CountsWrites};
 ghost use Rattle.css_replay.specs.Ended.{HasNotFailed, IsNoUsage};
 ghost use Rattle.css_app.specs.Live.{Companions, EndsAsDue, MakesRun, TellsFaults, failures, stage};
 
@@ -67,12 +66,9 @@ pub fn companion<S: Source, K: Sink, O: Outside, F: Listens>(
         → HasNotFailed (O.counts outside.old).faults (O.counts outside.new).faults
         → EndsAsDue config (O.told outside.old) (O.told outside.new) result }
     // A fault is told only where the device has failed, and no other failure of a device goes untold.
-    ensures counted_reads { CountsReads (S.faults source.old) (S.faults source.new) result }
-    ensures counted_writes { CountsWrites (K.faults sink.old) (K.faults sink.new) result }
-    ensures counted_calls { CountsCalls (O.counts outside.old).faults (O.counts outside.new).faults result }
-    ensures counted_dials { CountsDials (O.counts outside.old).dial_faults
-        (O.counts outside.new).dial_faults result }
-    ensures spawns { (count : ℕ) → CountsSpawns count count result }
+    ensures counted { (spawns : ℕ) → TellsFaults
+        (failures (S.faults source.old) (K.faults sink.old) (O.counts outside.old) spawns)
+        (failures (S.faults source.new) (K.faults sink.new) (O.counts outside.new) spawns) result }
     ensures no_usage { IsNoUsage result }
 {
     let sheet = match take_sheet(alloc, source) {

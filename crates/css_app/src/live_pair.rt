@@ -2,7 +2,6 @@ ghost use Rattle.std.specs.Prelude.{◌≡◌, List, ℕ, IfOk, OnOk, Ok, Some};
 ghost use Rattle.css_drive.specs.Configs.{IsWritable};
 ghost use Rattle.css_follow.specs.Listening.{all_plans, all_seen};
 ghost use Rattle.css_schedule.specs.declared.line.ScriptLine.{ScriptLine};
-ghost use Rattle.css_replay.specs.Ended.{CountsCalls, CountsDials, CountsReads, CountsSpawns, CountsWrites};
 ghost use Rattle.css_replay.specs.Ended.{HasNotFailed, IsNoUsage};
 ghost use Rattle.css_app.specs.Live.{TellsFaults, failures, stage};
 ghost use Rattle.css_app.specs.Pairs.{Beside, Pairs, PairsAsDue, children};
@@ -146,12 +145,9 @@ pub fn pair<S: Source, K: Sink, O: Outside, P: Spawner, F: Listens>(
         → PairsAsDue config (O.told outside.old) (O.told outside.new) result }
     // A fault is told only where the device has failed. A failure of the spawner yields to the companion's status, and
     // no other failure of a device goes untold.
-    ensures counted_reads { CountsReads (S.faults source.old) (S.faults source.new) result }
-    ensures counted_writes { CountsWrites (K.faults sink.old) (K.faults sink.new) result }
-    ensures counted_calls { CountsCalls (O.counts outside.old).faults (O.counts outside.new).faults result }
-    ensures counted_dials { CountsDials (O.counts outside.old).dial_faults
-        (O.counts outside.new).dial_faults result }
-    ensures counted_spawns { CountsSpawns (P.faults spawner.old) (P.faults spawner.new) result }
+    ensures counted { TellsFaults
+        (failures (S.faults source.old) (K.faults sink.old) (O.counts outside.old) (P.faults spawner.old))
+        (failures (S.faults source.new) (K.faults sink.new) (O.counts outside.new) (P.faults spawner.new)) result }
     ensures no_usage { IsNoUsage result }
 {
     let script = match take_script_text(alloc, source) {

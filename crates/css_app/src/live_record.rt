@@ -1,10 +1,9 @@
 //! A companion's run that is recorded.
 ghost use Rattle.std.specs.Prelude.{ℕ};
 ghost use Rattle.css_drive.specs.Configs.{IsWritable};
-ghost use Rattle.css_replay.specs.Ended.{CountsCalls, CountsDials, CountsReads, CountsSpawns, CountsWrites};
 ghost use Rattle.css_replay.specs.Ended.{HasNotFailed, IsNoUsage};
-ghost use Rattle.css_app.specs.Live.{EndsAsDue};
-ghost use Rattle.css_app.specs.Records.{MakesRecord};
+ghost use Rattle.css_app.specs.Live.{EndsAsDue, TellsFaults, failures};
+ghost use Rattle.css_app.specs.Commands.{MakesRecord};
 
 use crate::driven::status_of;
 use css_drive::DriveConfig;
@@ -33,12 +32,9 @@ pub fn record_companion<K: Sink, O: Outside>(
         → HasNotFailed (O.counts outside.old).faults (O.counts outside.new).faults
         → EndsAsDue config (O.told outside.old) (O.told outside.new) result }
     // A fault is told only where the device has failed, and no other failure of a device goes untold.
-    ensures reads { (count : ℕ) → CountsReads count count result }
-    ensures counted_writes { CountsWrites (K.faults sink.old) (K.faults sink.new) result }
-    ensures counted_calls { CountsCalls (O.counts outside.old).faults (O.counts outside.new).faults result }
-    ensures counted_dials { CountsDials (O.counts outside.old).dial_faults
-        (O.counts outside.new).dial_faults result }
-    ensures spawns { (count : ℕ) → CountsSpawns count count result }
+    ensures counted { (reads spawns : ℕ) → TellsFaults
+        (failures reads (K.faults sink.old) (O.counts outside.old) spawns)
+        (failures reads (K.faults sink.new) (O.counts outside.new) spawns) result }
     ensures no_usage { IsNoUsage result }
 {
     status_of(drive_record(alloc, config, sink, outside))

@@ -3,11 +3,10 @@ ghost use Rattle.std.specs.Prelude.{ℕ};
 ghost use Rattle.std.specs.Str.{IsUtf8};
 ghost use Rattle.css_drive_relay.specs.Ran.{IsWritable};
 ghost use Rattle.css_words.specs.Relay.{relay_of};
-ghost use Rattle.css_app.specs.Commands.{ByRelay};
+ghost use Rattle.css_app.specs.Commands.{ByRelay, IsAskedRelay};
 ghost use Rattle.css_app.specs.Devices.{outside_use};
 ghost use Rattle.css_app.specs.Live.{TellsFaults, failures};
 ghost use Rattle.css_replay.specs.Ended.{IsNoUsage};
-ghost use Rattle.css_app.specs.Relays.{IsAskedRelay};
 
 use crate::driven::status_of;
 use css_client::Local;

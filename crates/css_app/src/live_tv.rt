@@ -2,11 +2,10 @@ ghost use Rattle.std.specs.Prelude.{◌≡◌, ◌≤◌, ◌≤ℤ◌, pos, Lis
 ghost use Rattle.std.specs.Str.{IsUtf8};
 ghost use Rattle.css_model.specs.Numbers.{max_error};
 ghost use Rattle.css_schedule.specs.declared.line.ScriptLine.{ScriptLine};
-ghost use Rattle.css_replay.specs.Ended.{CountsCalls, CountsDials, CountsReads, CountsSpawns, CountsWrites};
 ghost use Rattle.css_replay.specs.Ended.{HasNotFailed, IsNoUsage};
 ghost use Rattle.css_drive.specs.TvDue.{run_of};
 ghost use Rattle.css_outside.specs.Limits.{IsLimit};
-ghost use Rattle.css_app.specs.Live.{Serves, ServesAsDue};
+ghost use Rattle.css_app.specs.Live.{Serves, ServesAsDue, TellsFaults, failures};
 ghost use Rattle.css_app.specs.Scripts.{script_in};
 
 use crate::driven::status_of;
@@ -42,13 +41,10 @@ pub fn tv<S: Source, O: Outside>(
         → HasNotFailed (O.counts outside.old).faults (O.counts outside.new).faults
         → ServesAsDue (run_of run script) (O.told outside.old) (O.told outside.new) result }
     // A fault is told only where the device has failed, and no other failure of a device goes untold.
-    ensures counted_reads { CountsReads (S.faults source.old) (S.faults source.new) result }
-    ensures counted_calls { CountsCalls (O.counts outside.old).faults (O.counts outside.new).faults result }
-    ensures writes { (count : ℕ) → CountsWrites count count result }
+    ensures counted { (writes spawns : ℕ) → TellsFaults
+        (failures (S.faults source.old) writes (O.counts outside.old) spawns)
+        (failures (S.faults source.new) writes (O.counts outside.new) spawns) result }
     ensures dials { (O.counts outside.new).dial_faults ≡ (O.counts outside.old).dial_faults }
-    ensures counted_dials { CountsDials (O.counts outside.old).dial_faults
-        (O.counts outside.new).dial_faults result }
-    ensures spawns { (count : ℕ) → CountsSpawns count count result }
     ensures no_usage { IsNoUsage result }
 {
     let script = match take_script(alloc, source) {

@@ -6,7 +6,6 @@ ghost use Rattle.css_words.specs.Watch.{watch_of};
 ghost use Rattle.css_app.specs.Commands.{ByWatch};
 ghost use Rattle.css_app.specs.Devices.{outside_use};
 ghost use Rattle.css_replay.specs.Devices.{sink_use};
-ghost use Rattle.css_replay.specs.Ended.{CountsCalls, CountsDials, CountsReads, CountsSpawns, CountsWrites};
 ghost use Rattle.css_replay.specs.Ended.{HasNotFailed, IsNoUsage};
 ghost use Rattle.css_app.specs.Live.{TellsFaults, failures};
 ghost use Rattle.css_app.specs.Watches.{IsAskedWatch, EndsAtLastUnlessMemory, MakesWatch, watched_status};
@@ -74,12 +73,9 @@ pub fn watch_television<K: Sink, O: Outside>(
     ensures complete { HasNotFailed (K.faults sink.old) (K.faults sink.new)
         → HasNotFailed (O.counts outside.old).faults (O.counts outside.new).faults → EndsAtLastUnlessMemory result }
     // A fault is told only where the device has failed, and no other failure of a device goes untold.
-    ensures reads { (count : ℕ) → CountsReads count count result }
-    ensures counted_writes { CountsWrites (K.faults sink.old) (K.faults sink.new) result }
-    ensures counted_calls { CountsCalls (O.counts outside.old).faults (O.counts outside.new).faults result }
-    ensures counted_dials { CountsDials (O.counts outside.old).dial_faults
-        (O.counts outside.new).dial_faults result }
-    ensures spawns { (count : ℕ) → CountsSpawns count count result }
+    ensures counted { (reads spawns : ℕ) → TellsFaults
+        (failures reads (K.faults sink.old) (O.counts outside.old) spawns)
+        (failures reads (K.faults sink.new) (O.counts outside.new) spawns) result }
     ensures no_usage { IsNoUsage result }
 {
     status_of(watch(alloc, config, sink, outside))

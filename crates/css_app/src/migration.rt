@@ -1,30 +1,13 @@
-ghost use Rattle.std.specs.Prelude.{◌≡◌};
 ghost use Rattle.css_app.specs.Commands.{ByMigrate};
 ghost use Rattle.css_replay.specs.Devices.{sink_use, source_use};
 ghost use Rattle.css_app.specs.Live.{TellsOverLines};
-ghost use Rattle.css_app.specs.Migrations.{migrate_status_of};
 
-use crate::scripts::why_of;
-use css_lines::{Stop, drive};
-use css_migrate::{Migrate, NoLine};
+use crate::scripts::status_of;
+use css_lines::drive;
+use css_migrate::Migrate;
 use css_outside::{Sink, Source};
 use css_replay::Status;
 use std::alloc::Global;
-
-// The status of a migration that stopped.
-fn status_of(stop: Stop<NoLine>) -> Status
-    ensures { result ≡ migrate_status_of stop }
-{
-    match stop {
-        Stop::BadLine { line, why } => Status::BadLine {
-            line,
-            why: why_of(why),
-        },
-        Stop::ReadFault => Status::ReadFault,
-        Stop::WriteFault => Status::WriteFault,
-        Stop::Memory => Status::Memory,
-    }
-}
 
 /// Reads a schedule of version 1 from the source, line by line, and writes what each line becomes in version 2.
 pub(crate) fn migrate<S: Source, K: Sink>(alloc: Global, source: &mut S, sink: &mut K) -> Status

@@ -1,10 +1,10 @@
 ghost use Rattle.std.specs.Prelude.{◌≡◌, ◌∷◌, [], ◌++◌, IfErr, IfOk, MatchResult, OnOk, All};
 ghost use Rattle.css_lines.specs.declared.reader.LineFault.TheVariants as lacks;
-ghost use Rattle.css_num.specs.Gives.{GivesBy};
 ghost use Rattle.css_schedule.specs.Ranges.{IsScriptLine};
-ghost use Rattle.css_app.specs.Live.{CountsTaking, GivesScript, HasNoScript, script_status};
-ghost use Rattle.css_app.specs.Scripts as scripts;
-ghost use Rattle.css_app.specs.Scripts.{line_of};
+ghost use Rattle.css_replay.specs.Ended.{stop_status};
+ghost use Rattle.css_app.specs.Ended.{line_refused};
+ghost use Rattle.css_app.specs.Live.{CountsTaking, Gives, HasNoScript};
+ghost use Rattle.css_app.specs.Scripts.{script_in};
 
 use css_lines::{LineFault, Lines, PIECE, Refusal, Stop, drive};
 use css_outside::{NeverFailsSink, Source};
@@ -27,18 +27,6 @@ pub struct NoLine;
 pub struct ScriptLines {
     alloc: Global,
     lines: Vec<ScriptLine>,
-}
-
-// Reads a line.
-fn read_line(alloc: Global, text: &[u8]) -> Result<ScriptLine, LineFault<NoLine>>
-    ensures value { GivesBy (λ x. x) lacks.Memory result (line_of text.now) }
-    ensures range { IfOk result IsScriptLine }
-{
-    match read_script(alloc, text) {
-        Ok(line) => Ok(line),
-        Err(css_schedule::LineFault::Form) => Err(LineFault::Refused(NoLine)),
-        Err(css_schedule::LineFault::Memory) => Err(LineFault::Memory),
-    }
 }
 
 // Adds a line to those that were read.
@@ -100,8 +88,11 @@ impl Lines for ScriptLines {
         text: &[u8],
         _out: &mut Vec<u8>,
     ) -> Result<(), LineFault<NoLine>> {
-        let line = read_line(self.alloc, text)?;
-        keep(&mut self.lines, line)
+        match read_script(self.alloc, text) {
+            Ok(line) => keep(&mut self.lines, line),
+            Err(css_schedule::LineFault::Form) => Err(LineFault::Refused(NoLine)),
+            Err(css_schedule::LineFault::Memory) => Err(LineFault::Memory),
+        }
     }
 
     fn finish(&mut self, _out: &mut Vec<u8>) -> Result<(), LineFault<NoLine>> {
@@ -109,28 +100,24 @@ impl Lines for ScriptLines {
     }
 }
 
-// Why a line is refused that can only be too long, or outside the grammar.
-pub(crate) fn why_of<C: Copy>(why: Refusal<C>) -> LineWhy
-    ensures { result ≡ scripts.why_of why }
+/// The status of a run over lines that are refused where they are too long, or outside the grammar.
+pub(crate) fn status_of<C: Copy>(stop: Stop<C>) -> Status
+    ensures { result ≡ stop_status line_refused stop }
 {
-    match why {
-        Refusal::Long => LineWhy::Long,
-        Refusal::Refused(_) => LineWhy::Form,
-    }
-}
-
-// The status where a script was not read. The sink of its reader never fails.
-fn status_of(stop: Stop<NoLine>) -> Status
-    ensures { result ≡ script_status stop }
-{
-    match stop {
-        Stop::BadLine { line, why } => Status::BadLine {
+    let (line, why) = match stop {
+        Stop::BadLine {
             line,
-            why: why_of(why),
-        },
-        Stop::ReadFault => Status::ReadFault,
-        Stop::WriteFault | Stop::Memory => Status::Memory,
-    }
+            why: Refusal::Long,
+        } => (line, LineWhy::Long),
+        Stop::BadLine {
+            line,
+            why: Refusal::Refused(_),
+        } => (line, LineWhy::Form),
+        Stop::ReadFault => return Status::ReadFault,
+        Stop::WriteFault => return Status::WriteFault,
+        Stop::Memory => return Status::Memory,
+    };
+    Status::BadLine { line, why }
 }
 
 /// Reads the script that the source has, to the source's end.
@@ -138,7 +125,7 @@ pub(crate) fn take_script<S: Source>(
     alloc: Global,
     source: &mut S,
 ) -> Result<Vec<ScriptLine>, Status>
-    ensures value { MatchResult result (λ script. GivesScript (S.left source.old) (S.left source.new) script.items)
+    ensures value { MatchResult result (λ script. Gives script_in (S.left source.old) (S.left source.new) script.items)
         (HasNoScript (S.left source.old)) }
     ensures range { IfOk result (λ script. All IsScriptLine script.items) }
     ensures counted { CountsTaking (S.faults source.old) (S.faults source.new) result }

@@ -1,10 +1,9 @@
-ghost use Rattle.std.specs.Prelude.{◌≡◌, ◌≤◌, IfOk, OnOk, OnErr, string_bytes};
+ghost use Rattle.std.specs.Prelude.{◌≡◌, IfOk, OnOk, OnErr, string_bytes};
 ghost use Rattle.std.specs.Io.KnownBytes.{Appends};
 ghost use Rattle.css_outside.specs.Bytes.{AppendsPrefix};
 ghost use Rattle.css_outside.specs.Faults.{CountsCall};
-ghost use Rattle.css_gen.specs.Second.{least_lines};
 ghost use Rattle.css_survey.specs.Surveyed.{survey_text};
-ghost use Rattle.css_app.specs.Ended.{Writes};
+ghost use Rattle.css_app.specs.Ended.{CanBeDrawn, Writes};
 ghost use Rattle.css_replay.specs.Ended.{CountsWrites, HasNotFailed, IsDoneUnlessMemory, IsNoUsage};
 
 use css_num::Memory;
@@ -14,10 +13,7 @@ use std::alloc::Global;
 
 // The line of a survey.
 fn survey_line(alloc: Global, seed: u64, lines: u64, companions: u32) -> Result<String, Memory>
-    requires some { 1 ≤ companions }
-    requires few { companions ≤ 16 }
-    requires least { least_lines companions ≤ lines }
-    requires most { lines ≤ 200000 }
+    requires { CanBeDrawn companions lines }
     ensures { IfOk result (λ line. string_bytes line ≡ survey_text seed companions lines) }
 {
     let summary = css_survey::survey(alloc, seed, lines, companions)?;
@@ -31,10 +27,7 @@ fn write_survey<K: Sink>(
     companions: u32,
     sink: &mut K,
 ) -> Result<(), OutFault>
-    requires some { 1 ≤ companions }
-    requires few { companions ≤ 16 }
-    requires least { least_lines companions ≤ lines }
-    requires most { lines ≤ 200000 }
+    requires { CanBeDrawn companions lines }
     ensures ok { OnOk result
         (Appends (K.holds sink.old) (K.holds sink.new) (survey_text seed companions lines)) }
     ensures err { OnErr result
@@ -60,10 +53,7 @@ pub fn survey<K: Sink>(
     companions: u32,
     sink: &mut K,
 ) -> Status
-    requires some { 1 ≤ companions }
-    requires few { companions ≤ 16 }
-    requires least { least_lines companions ≤ lines }
-    requires most { lines ≤ 200000 }
+    requires { CanBeDrawn companions lines }
     ensures writes { Writes (survey_text seed companions lines) (K.holds sink.old) (K.holds sink.new) result }
     ensures complete { HasNotFailed (K.faults sink.old) (K.faults sink.new) → IsDoneUnlessMemory result }
     ensures counted_writes { CountsWrites (K.faults sink.old) (K.faults sink.new) result }

@@ -1,8 +1,4 @@
 pub mod Texts
 pub mod Answering
 pub mod Promise
-pub mod Runs
-pub mod Standing
-pub mod Heading
-pub mod Completeness
-pub mod Quiet
+pub mod OverLines

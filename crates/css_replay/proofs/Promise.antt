@@ -1,25 +1,21 @@
 -- What a replay prints keeps the promise.
-use Rattle.std.proofs.Common.{◌≡◌, ℕ, ◌+◌, ◌-◌, ◌<◌, ◌≤◌, ◌==◌, ◌⊎◌, inl, inr, arith, ap, sym, subst, ◌∙◌, refl}
-use Rattle.std.proofs.Common.{Bool, true, false, cond, eqb, List, [], ◌∷◌, ◌++◌, length, get_or}
-use Rattle.std.specs.Int.{w8}
-use Rattle.std.specs.Prelude.{ℤ, pos, negsuc, ◌≤ℤ◌, FitsSigned, Option, Some, None, unwrap_or, slice_get, IfSome}
-use Rattle.std.specs.Prelude.{All, MatchOption, Result, Ok, Err}
+use Rattle.std.proofs.Common.{◌≡◌, ℕ, ◌+◌, ◌==◌, ◌⊎◌, inl, inr, ap, sym, ◌∙◌, refl, Bool, true, false, cond}
+use Rattle.std.proofs.Common.{List, [], ◌∷◌, ◌++◌, length}
+use Rattle.std.specs.Prelude.{ℤ, pos, Option, Some, None, IfSome, MatchOption, Result, Ok, Err}
 use Rattle.std.specs.Option.{option_map}
 use Rattle.std.specs.Result.{result_and}
-use Rattle.std.proofs.lemmas.Bool.{eqb-false}
-use Rattle.std.proofs.lemmas.List.{append_assoc, append-nil, length-append}
-use Rattle.std.proofs.lemmas.List.Elements.{All-get_or}
-use Rattle.std.proofs.lemmas.Option.{slice_get_within, get_or_from_slice_get}
+use Rattle.std.proofs.lemmas.List.{append_assoc, append-nil}
 use Rattle.css_num.specs.Spans.{Covers}
-use Rattle.std.proofs.lemmas.Int.{ints}
-use Rattle.css_model.specs.WallClock.{Answer, Local, IsLocal, IsLeast, scaled_width, narrowest}
+use Rattle.css_model.specs.WallClock.{Answer, Local, IsLeast, scaled_width, narrowest}
 use Rattle.css_model.proofs.Narrowest.{least_by-least}
 use Rattle.css_outside.specs.Bytes.{IsPrefix}
-use Rattle.css_lines.specs.Lines.{lines_of}
-use Rattle.css_lines.specs.Meaning.{finish_outcome, reader_outcome, outcome, outcome_so_far}
-use Rattle.css_lines.proofs.Induction.{taken_so_far, taken_in_all}
+use Rattle.css_lines.specs.declared.ending.Stop.{Stop}
 use Rattle.css_lines.specs.declared.reader.Refusal.{Refusal}
 use Rattle.css_lines.specs.declared.reader.Refusal.TheVariants.{Refused}
+use Rattle.css_lines.specs.Ending.{Finishes, Stops}
+use Rattle.css_lines.specs.Lines.{lines_of}
+use Rattle.css_lines.specs.Meaning.{finish_outcome, reader_outcome, outcome, outcome_so_far}
+use Rattle.css_lines.proofs.Induction.{keeps_done, keeps_stop, taken_so_far, taken_in_all}
 use Rattle.css_span.specs.WallSpans.{span_of}
 use Rattle.css_schedule.specs.declared.fault.LineFault.{LineFault}
 use Rattle.css_schedule.specs.declared.header.CompanionLine.{CompanionLine}
@@ -29,38 +25,37 @@ use Rattle.css_schedule.specs.declared.header.Start.TheVariants.{One, Two}
 use Rattle.css_schedule.specs.declared.line.Line.{Line}
 use Rattle.css_schedule.specs.declared.line.Verb.{Verb}
 use Rattle.css_schedule.specs.declared.line.Verb.TheVariants.{Wall, Print}
-use Rattle.css_schedule.specs.Headers.{max_companions, header_of, with_companion}
-use Rattle.css_schedule.specs.Lines.{line_of, second_of_words, line_in}
+use Rattle.css_schedule.specs.Headers.{header_of, with_companion}
 use Rattle.css_schedule.specs.Words.{words_of}
-use Rattle.css_schedule.specs.Ranges.{IsLine, IsSecond, IsCount, IsStart, FitsFirst, IsGoodHeader, IsPrintableCompanion}
-use Rattle.css_schedule.proofs.Adding.{more_companions}
-use Rattle.css_schedule.proofs.HeadersInRange.{start_in_range, companion_in_range}
-use Rattle.css_schedule.proofs.InRange.{lines_are_in_range, second_line_range, second_is_second}
-use Rattle.css_world.specs.declared.fault.WorldFault.{WorldFault}
-use Rattle.css_world.specs.declared.fault.WorldFault.TheVariants.{Absent}
-use Rattle.css_companion.specs.Printed as companions
+use Rattle.css_schedule.proofs.InRange.{line_range, line_is_of}
 use Rattle.css_companion.specs.Meanings.{timing_after}
+use Rattle.css_companion.specs.Printed as companions
 use Rattle.css_companion.specs.Reports.{HasTickOf, report_by}
 use Rattle.css_companion.specs.declared.report.Cause.TheVariants as cause
 use Rattle.css_companion.specs.declared.report.Report.{Report}
 use Rattle.css_companion.specs.declared.report.Report.TheVariants as reports
+use Rattle.css_world.specs.declared.fault.WorldFault.{WorldFault}
+use Rattle.css_world.specs.declared.fault.WorldFault.TheVariants.{Absent}
 use Rattle.css_world.specs.Sessions.{setup_of}
 use Rattle.css_world.specs.Happened.{Numbered, events_of, history_of}
-use Rattle.css_world.specs.Verdicts.{local_of, IsDeclared, span_at, report_at, assigned_at}
-use Rattle.css_world.specs.Verdicts.{can_happen, played, event_at, printed_for, carried_out, line_meant}
+use Rattle.css_world.specs.Verdicts.{local_of, IsDeclared, span_at, report_at, assigned_at, can_happen, played}
+use Rattle.css_world.specs.Verdicts.{event_at, printed_for, carried_out, line_meant}
 use Rattle.css_world.specs.Printed.{wall_text}
-use Rattle.css_world.specs.Standing.{AreAccepted, IsNext}
+use Rattle.css_world.specs.Standing.{AreAccepted}
 use Rattle.css_world.specs.Truth.{IsTrueWall, IsTrueReport}
-use Rattle.css_world.proofs.Worlds.{carried_ok}
 use Rattle.css_world.proofs.Truth.{accepted_lines_are_true, accepted_lines_are_world}
+use Rattle.css_world.proofs.Worlds.{carried_ok}
 use Rattle.css_replay.specs.declared.reader.Cause.{Cause}
 use Rattle.css_replay.specs.declared.reader.Cause.TheVariants.{Form}
+use Rattle.css_replay.specs.declared.reader.Replay.{Replay}
 use Rattle.css_replay.specs.Replayed.{Extent, Opening, Outset, Running, Unread, after, caused, declared, ended_at}
-use Rattle.css_replay.specs.Replayed.{grown, meant_at, next_companion, next_line, opened, reached, read_meant, replayed}
+use Rattle.css_replay.specs.Replayed.{meant_at, next_companion, next_line, opened, reached, read_meant, replayed}
 use Rattle.css_replay.specs.Replayed.{started, with_line}
 use Rattle.css_replay.specs.Headline.{AreKept, AreTrueTicks, IsCause, IsKept, IsReportedCause, IsTrueInterval}
-use Rattle.css_replay.specs.Headline.{KeepsLine, KeepsPromise, accepted_before}
-use Rattle.css_replay.proofs.Texts.{reached-push, is_next}
+use Rattle.css_replay.specs.Headline.{KeepsLine, KeepsPromise, Promised, accepted_before}
+use Rattle.css_replay.specs.Stands.{IsWell, IsWhole, Stands}
+use Rattle.css_replay.proofs.Answering.{of-second}
+use Rattle.css_replay.proofs.Texts.{reached-push, well}
 
 -- ---- one line
 -- what is printed for a line that was accepted
@@ -177,79 +172,13 @@ kept_line header older now printed declared accepted e =
       in_step = truth.in_step;
     }
 
--- ---- the header
--- a precision exponent in its range is one byte
-fits-exponent : (z : ℤ) → negsuc 127 ≤ℤ z → z ≤ℤ pos 30 → FitsSigned w8 z
-fits-exponent (pos n) low high = record { sfits = omega (arith, ints, high) }
-fits-exponent (negsuc n) low high = record { sfits = omega (arith, ints, low) }
-
--- each companion's clock is in range, and so is that of a number that no companion has
-local-good : (list : List CompanionLine) (place : ℕ) → All IsPrintableCompanion list
-    → IsLocal (unwrap_or (option_map (λ companion. companion.local) (slice_get list place))
-    (record { error = 0; precision = 0 }))
-local-good list place all = by (slice_get list place) refl
-  where
-    by : (o : Option CompanionLine) → slice_get list place ≡ o
-        → IsLocal (unwrap_or (option_map (λ companion. companion.local) o) (record { error = 0; precision = 0 }))
-    by None e = record { error = omega arith; precision = omega arith }
-    by (Some companion) e =
-        let same : get_or list place companion ≡ companion = get_or_from_slice_get list place companion companion e in
-        let within = slice_get_within list place companion e in
-        (subst IsPrintableCompanion same (All-get_or IsPrintableCompanion list place companion within all)).local
-
--- what a good header declares is in range
-good-declared : (header : Header) → IsGoodHeader header → IsCount (length header.companions) → IsDeclared header
-good-declared header good count = record {
-  tv = good.0;
-  companions = count;
-  exponent = fits-exponent header.tv_precision good.1.least good.1.greatest;
-  local = λ who. local-good header.companions (who - 1) good.1.companions;
-}
-
--- a line that is read is in range, and one of its companions or the television's alone
-read-range : (version companions : ℕ) (text : List ℕ) (line : Line) → FitsFirst (version == 1) companions
-    → line_in version companions text ≡ Ok line → IsLine line × IsSecond companions line
-read-range version companions text line fits is = by (version == 1) fits is
-  where
-    by : (b : Bool) → FitsFirst b companions
-        → cond b (line_of text) (second_of_words companions (words_of text)) ≡ Ok line
-        → IsLine line × IsSecond companions line
-    by true one e =
-        let read = lines_are_in_range text line e in
-        let who = read.of.who in (
-          read.range,
-          record {
-            who = omega (arith, one, who);
-            own = λ own. omega (arith, who);
-            none = λ zero. absurd (omega (arith, who, zero));
-          },
-        )
-    by false count e = (
-      second_line_range companions (words_of text) (Ok line) e,
-      second_is_second companions (words_of text) (Ok line) e,
-    )
-
 -- ---- the texts that were taken
--- A part of a header was read, and nothing was printed.
-record TakenOpening (header : Header) (count : ℕ) (printed : List ℕ) : Type 0 where
-  good : IsGoodHeader header
-  more : length header.companions < count
-  few : count ≤ max_companions
-  none : printed ≡ []
-
--- A header was read and lines after it. The lines are accepted, and what was printed keeps the promise.
-record TakenRunning (header : Header) (version : ℕ) (lines : List Numbered) (printed : List ℕ) : Type 0 where
-  is_declared : IsDeclared header
-  fits : FitsFirst (version == 1) (length header.companions)
-  accepted : AreAccepted header lines
-  kept : AreKept header lines printed
-
--- a schedule was read so far, and this was printed
+-- A schedule was read so far, and this was printed. After its header the lines are accepted, and what was printed keeps
+-- the promise.
 abbrev TakenAt : Extent → List ℕ → Type 0
-TakenAt Outset printed = printed ≡ []
-TakenAt (Opening header count) printed = TakenOpening header count printed
-TakenAt (Running header version lines) printed = TakenRunning header version lines printed
+TakenAt (Running header version lines) printed = AreAccepted header lines × AreKept header lines printed
 TakenAt Unread printed = ⊥
+TakenAt _ printed = printed ≡ []
 
 abbrev TakenAll : List (List ℕ) → List ℕ → Type 0
 TakenAll texts printed = TakenAt (reached texts) printed
@@ -263,107 +192,64 @@ caused-ok (Err fault) printed e = absurd (cc)
 -- nothing is printed for a line of the header
 nothing : (sofar printed : List ℕ) (meant : Result (List ℕ) Cause) → sofar ≡ [] → meant ≡ Ok [] → meant ≡ Ok printed
     → sofar ++ printed ≡ []
-nothing sofar printed meant none silent e = ap (λ (s : List ℕ). s ++ printed) none ∙ same
-  where
-    same : printed ≡ []
-    same = cc
+nothing sofar printed meant none silent e =
+    let same : printed ≡ [] = cc in ap (λ (s : List ℕ). s ++ printed) none ∙ same
 
 -- line 1
-taken-start : (text sofar printed : List ℕ) (start : Result Start LineFault) → header_of text ≡ start → sofar ≡ []
-    → opened start ≡ Ok printed → TakenAt (started start) (sofar ++ printed)
-taken-start text sofar printed (Err fault) is none e = absurd (cc)
-taken-start text sofar printed (Ok (One header)) is none e =
-    let range : IsStart (One header) = start_in_range text (Ok (One header)) is in
-    let one = range.1 in
-    record {
-      is_declared = good-declared header (range.0, range.2)
-          (record { low = omega (arith, one); high = omega (arith, one) });
-      fits = one;
-      accepted = tt;
-      kept = nothing sofar printed (Ok []) none refl e;
-    }
-taken-start text sofar printed (Ok (Two header count)) is none e =
-    let range : IsStart (Two header count) = start_in_range text (Ok (Two header count)) is in
-    let empty : length header.companions ≡ 0 = ap length range.1 in
-    let low = range.2.low in
-    record {
-      good = range.0;
-      more = omega (arith, empty, low);
-      few = range.2.high;
-      none = nothing sofar printed (Ok []) none refl e;
-    }
-
--- a header with one companion more
-taken-grown : (more : Header) (count : ℕ) (printed : List ℕ) → IsGoodHeader more → 1 ≤ length more.companions
-    → length more.companions ≤ count → count ≤ max_companions → printed ≡ [] → TakenAt (grown more count) printed
-taken-grown more count printed good some less few none = by (eqb (length more.companions) count) refl
-  where
-    by : (b : Bool) → eqb (length more.companions) count ≡ b
-        → TakenAt (cond b (Running more 2 []) (Opening more count)) printed
-    by true e =
-        let all : IsCount (length more.companions) = record { low = some; high = omega (arith, less, few) } in
-        record { is_declared = good-declared more good all; fits = all; accepted = tt; kept = none }
-    by false e =
-        let apart = eqb-false (length more.companions) count e in
-        record { good = good; more = omega (arith, less, apart); few = few; none = none }
+taken-start : (sofar printed : List ℕ) (start : Result Start LineFault) → sofar ≡ [] → opened start ≡ Ok printed
+    → TakenAt (started start) (sofar ++ printed)
+taken-start sofar printed (Err fault) none e = absurd (cc)
+taken-start sofar printed (Ok (One header)) none e = (tt, nothing sofar printed (Ok []) none refl e)
+taken-start sofar printed (Ok (Two header count)) none e = nothing sofar printed (Ok []) none refl e
 
 -- the line of a companion
-taken-companion : (header : Header) (count : ℕ) (text sofar printed : List ℕ) (read : Result CompanionLine LineFault)
-    → next_companion header text ≡ read → TakenOpening header count sofar → opened read ≡ Ok printed
-    → TakenAt (declared header count read) (sofar ++ printed)
-taken-companion header count text sofar printed (Err fault) is taken e = absurd (cc)
-taken-companion header count text sofar printed (Ok companion) is taken e =
-    let more = with_companion header companion in
-    let range = companion_in_range (length header.companions + 1) text (Ok companion) is in
-    let longer = length-append header.companions (companion ∷ []) in
-    let less = taken.more in
-    taken-grown more count (sofar ++ printed) (more_companions header companion taken.good range)
-    (omega (arith, longer)) (omega (arith, longer, less)) taken.few (nothing sofar printed (Ok []) taken.none refl e)
+taken-companion : (header : Header) (count : ℕ) (sofar printed : List ℕ) (read : Result CompanionLine LineFault)
+    → sofar ≡ [] → opened read ≡ Ok printed → TakenAt (declared header count read) (sofar ++ printed)
+taken-companion header count sofar printed (Err fault) none e = absurd (cc)
+taken-companion header count sofar printed (Ok companion) none e =
+    by (length (with_companion header companion).companions == count)
+  where
+    more : Header
+    more = with_companion header companion
+
+    by : (b : Bool) → TakenAt (cond b (Running more 2 []) (Opening more count)) (sofar ++ printed)
+    by true = (tt, nothing sofar printed (Ok []) none refl e)
+    by false = nothing sofar printed (Ok []) none refl e
 
 -- a line after the header
 taken-line : (header : Header) (version number : ℕ) (lines : List Numbered) (text sofar printed : List ℕ)
-    (read : Result Line LineFault) → next_line header version text ≡ read → IsNext number lines
-    → TakenRunning header version lines sofar → read_meant header lines number read ≡ Ok printed
-    → TakenRunning header version (with_line number lines read) (sofar ++ printed)
-taken-line header version number lines text sofar printed (Err fault) is next taken e = absurd (cc)
-taken-line header version number lines text sofar printed (Ok line) is next taken e =
+    (read : Result Line LineFault) → next_line header version text ≡ read → IsWhole number header version lines
+    → AreAccepted header lines × AreKept header lines sofar → read_meant header lines number read ≡ Ok printed
+    → TakenAt (Running header version (with_line number lines read)) (sofar ++ printed)
+taken-line header version number lines text sofar printed (Err fault) is well taken e = absurd (cc)
+taken-line header version number lines text sofar printed (Ok line) is well taken e =
     let now : Numbered = record { number = number; line = line } in
+    let count = length header.companions in
     let ok : line_meant header lines now ≡ Ok printed = caused-ok (line_meant header lines now) printed e in
-    let range = read-range version (length header.companions) text line taken.fits is in
-    let accepted : AreAccepted header (now ∷ lines) = (range.0, range.1, next, (printed, ok), taken.accepted) in
-    record {
-      is_declared = taken.is_declared;
-      fits = taken.fits;
-      accepted = accepted;
-      kept = (
-        sofar,
-        printed,
-        refl,
-        kept_line header lines now printed taken.is_declared accepted ok,
-        taken.kept,
-      );
-    }
+    let range = line_range (version == 1) count (words_of text) (Ok line) is in
+    let of = of-second version count count line well.fits refl
+    (line_is_of (version == 1) count (words_of text) (Ok line) is) in
+    let accepted : AreAccepted header (now ∷ lines) = (range, of, well.next, (printed, ok), taken.0) in (
+      accepted,
+      (sofar, printed, refl, kept_line header lines now printed well.declared accepted ok, taken.1),
+    )
 
 -- one text more
-taken-at : (number : ℕ) (extent : Extent) (text sofar printed : List ℕ)
-    → ((header : Header) (version : ℕ) (lines : List Numbered) → extent ≡ Running header version lines
-    → IsNext number lines)
-    → TakenAt extent sofar → meant_at number extent text ≡ Ok printed
-    → TakenAt (after number extent text) (sofar ++ printed)
-taken-at number Outset text sofar printed next taken e = taken-start text sofar printed (header_of text) refl taken e
-taken-at number (Opening header count) text sofar printed next taken e =
-    taken-companion header count text sofar printed (next_companion header text) refl taken e
-taken-at number (Running header version lines) text sofar printed next taken e =
-    taken-line header version number lines text sofar printed (next_line header version text) refl
-    (next header version lines refl) taken e
-taken-at number Unread text sofar printed next taken e = absurd taken
+taken-at : (number : ℕ) (extent : Extent) (text sofar printed : List ℕ) → IsWell number extent → TakenAt extent sofar
+    → meant_at number extent text ≡ Ok printed → TakenAt (after number extent text) (sofar ++ printed)
+taken-at number Outset text sofar printed well taken e = taken-start sofar printed (header_of text) taken e
+taken-at number (Opening header count) text sofar printed well taken e =
+    taken-companion header count sofar printed (next_companion header text) taken e
+taken-at number (Running header version lines) text sofar printed well taken e =
+    taken-line header version number lines text sofar printed (next_line header version text) refl well taken e
+taken-at number Unread text sofar printed well taken e = absurd taken
 
 taken_text : (before : List (List ℕ)) (text sofar printed : List ℕ) → TakenAll before sofar
     → meant_at (length before + 1) (reached before) text ≡ Ok printed
     → TakenAll (before ++ text ∷ []) (sofar ++ printed)
 taken_text before text sofar printed taken e =
     rw (reached-push before text)
-    (taken-at (length before + 1) (reached before) text sofar printed (is_next before) taken e)
+    (taken-at (length before + 1) (reached before) text sofar printed (well before) taken e)
 
 -- ---- the whole input
 -- nothing is printed at the end, whatever comes of it
@@ -376,20 +262,17 @@ finishes before = by (reached before)
 
     by : (extent : Extent) → (verdict : Option (ℕ × Refusal Cause))
         × (reader_outcome number (ended_at extent) ≡ record { printed = []; verdict = verdict })
-    by Outset = (Some (number, Refused Form), refl)
-    by (Opening header count) = (Some (number, Refused Form), refl)
     by (Running header version lines) = (None, refl)
-    by Unread = (Some (number, Refused Form), refl)
+    by _ = (Some (number, Refused Form), refl)
 
 -- what was taken keeps the promise
 promise_of : (bytes : List ℕ) (texts rest : List (List ℕ)) (printed : List ℕ) → lines_of bytes ≡ texts ++ rest
     → TakenAll texts printed → KeepsPromise bytes printed
-promise_of bytes texts rest printed parts taken = by (reached texts) refl taken
+promise_of bytes texts rest printed parts taken = by (reached texts) refl (well texts) taken
   where
-    by : (extent : Extent) → reached texts ≡ extent → TakenAt extent printed → KeepsPromise bytes printed
-    by Outset is t = inl t
-    by (Opening header count) is t = inl t.none
-    by (Running header version lines) is t = inr (record {
+    by : (extent : Extent) → reached texts ≡ extent → IsWell (length texts + 1) extent → TakenAt extent printed
+        → KeepsPromise bytes printed
+    by (Running header version lines) is well t = inr (record {
       texts = texts;
       rest = rest;
       are_lines = parts;
@@ -397,12 +280,13 @@ promise_of bytes texts rest printed parts taken = by (reached texts) refl taken
       version = version;
       lines = lines;
       is_read = is;
-      world = accepted_lines_are_world header lines t.is_declared t.accepted;
+      world = accepted_lines_are_world header lines well.declared t.0;
       whole = printed;
       front = ([], sym (append-nil printed));
-      kept = t.kept;
+      kept = t.1;
     })
-    by Unread is t = absurd t
+    by Unread is well t = absurd t
+    by _ is well t = inl t
 
 -- what is printed for whole lines keeps the promise
 pub so_far : (bytes : List ℕ) → KeepsPromise bytes (outcome_so_far replayed bytes).printed
@@ -440,3 +324,27 @@ front_keeps bytes front whole prefix (inr kept) = inr (record {
   );
   kept = kept.kept;
 })
+
+-- ---- runs
+-- what a run adds to the sink keeps the promise of the bytes that it read
+pub promised_done : {left_old left_new holds_old holds_new : Option (List ℕ)} {lines : Replay}
+    → Finishes replayed Stands left_old left_new holds_old holds_new lines
+    → Promised left_old left_new holds_old holds_new
+promised_done f = record {
+  read = f.read;
+  printed = f.printed;
+  took = f.took;
+  grew = f.grew;
+  keeps = keeps_done replayed KeepsPromise so_far in_all front_keeps f.read f.printed f.all;
+}
+
+-- also where it stopped
+pub promised_stop : {left_old left_new holds_old holds_new : Option (List ℕ)} (stop : Stop Cause)
+    → Stops replayed left_old left_new holds_old holds_new stop → Promised left_old left_new holds_old holds_new
+promised_stop {left_new = left_new} stop s = record {
+  read = s.read;
+  printed = s.printed;
+  took = s.took;
+  grew = s.grew;
+  keeps = keeps_stop replayed KeepsPromise so_far in_all front_keeps s.read s.printed left_new stop s.ends;
+}

@@ -1,27 +1,26 @@
 -- How a run ends, as a status.
-use Rattle.std.specs.Prelude.{ℕ, ◌≡◌, ◌<◌, ◌≤◌, ◌-◌, ◌^◌, List, [], ◌++◌, codes, decimal}
+use Rattle.std.specs.Prelude.{ℕ, ◌≡◌, ◌⊎◌, ◌<◌, ◌≤◌, ◌-◌, ◌^◌, List, [], ◌++◌, codes, decimal}
 use Rattle.std.specs.Prelude.{Option, Some, None, Ok, Err}
 use Rattle.std.specs.Fmt.{signed_decimal}
 use Rattle.std.specs.Io.KnownBytes.{Appends}
 use Rattle.css_outside.specs.Faults.{HasRisen}
 use Rattle.css_lines.specs.declared.reader.Refusal.{Refusal}
+use Rattle.css_lines.specs.declared.reader.Refusal.TheVariants.{Refused}
 use Rattle.css_lines.specs.declared.reader.Refusal.TheVariants as refusals
 use Rattle.css_lines.specs.declared.ending.Stop.{Stop}
 use Rattle.css_lines.specs.declared.ending.Stop.TheVariants as stops
-use Rattle.css_lines.specs.Meaning.{outcome}
+use Rattle.css_lines.specs.Meaning.{Meaning, outcome}
 use Rattle.css_lines.specs.Ending.{RanUntil}
 use Rattle.css_replay.specs.declared.reader.Cause.{Cause}
 use Rattle.css_replay.specs.declared.reader.Cause.TheVariants as causes
 use Rattle.css_cii.specs.FaultWords.{fault_words}
 use Rattle.css_cii.specs.Names.{json_name}
 use Rattle.css_schedule.specs.FaultWords.{why_words}
-use Rattle.css_schedule.specs.declared.fault.LineWhy.{LineWhy}
 use Rattle.css_schedule.specs.declared.fault.LineWhy.TheVariants.{Long, Form, Absent, Player}
 use Rattle.css_replay.specs.declared.status.Status.{Status}
 use Rattle.css_replay.specs.declared.status.Status.TheVariants.{Done, Usage, BadLine, Broken, ReadFault, WriteFault}
 use Rattle.css_replay.specs.declared.status.Status.TheVariants.{NetFault, BadCii, Moved, Spent, Unreachable, ChildFault}
 use Rattle.css_replay.specs.declared.status.Status.TheVariants.{BadSheet, BadUrl, WrongReport, NoInterval, Memory}
-use Rattle.css_replay.specs.Replayed.{replayed}
 
 -- the exit status of the program
 abbrev pub status_number : Status → ℕ
@@ -75,33 +74,45 @@ abbrev pub status_line : Status → List ℕ
 status_line Done = []
 status_line status = words_line status
 
--- why the line of a schedule is refused
-abbrev pub refusal_of : LineWhy → Refusal Cause
-refusal_of Long = refusals.Long
-refusal_of Form = refusals.Refused causes.Form
-refusal_of Absent = refusals.Refused causes.Absent
-refusal_of (Player fault) = refusals.Refused (causes.Player fault)
+-- ---- runs over lines
+-- the status of a run that stopped, by those of the lines that it may refuse
+abbrev pub stop_status : {Cause : Type 0} → (ℕ → Refusal Cause → Status) → Stop Cause → Status
+stop_status refused (stops.BadLine line why) = refused line why
+stop_status refused stops.ReadFault = ReadFault
+stop_status refused stops.WriteFault = WriteFault
+stop_status refused stops.Memory = Memory
 
--- The input was read to its end, no line of it is refused, and the sink grew by its whole output.
-pub record ReplaysAll (bytes : List ℕ) (left holds_old holds_new : Option (List ℕ)) : Type 0 where
+-- The input was read to its end, no line of it is refused, and the sink grew by the whole output.
+pub record ReadsAll {Cause : Type 0} (meaning : Meaning Cause) (bytes : List ℕ)
+    (left holds_old holds_new : Option (List ℕ)) (status : Status) : Type 0 where
+  pub done : status ≡ Done
   pub at_end : left ≡ Some []
-  pub accepted : (outcome replayed bytes).verdict ≡ None
-  pub grew : Appends holds_old holds_new (outcome replayed bytes).printed
+  pub accepted : (outcome meaning bytes).verdict ≡ None
+  pub grew : Appends holds_old holds_new (outcome meaning bytes).printed
 
--- What a replay of a schedule with these bytes may leave, by its status.
-abbrev pub Replays : List ℕ → Option (List ℕ) → Option (List ℕ) → Option (List ℕ) → Status → Type 0
-Replays bytes left holds_old holds_new Done = ReplaysAll bytes left holds_old holds_new
-Replays bytes left holds_old holds_new Usage = ⊥
-Replays bytes left holds_old holds_new (BadLine line why) =
-    RanUntil replayed bytes left holds_old holds_new (stops.BadLine line (refusal_of why))
-Replays bytes left holds_old holds_new (Broken line earlier excess) =
-    RanUntil replayed bytes left holds_old holds_new
-    (stops.BadLine line (refusals.Refused (causes.Broken earlier excess)))
-Replays bytes left holds_old holds_new ReadFault = RanUntil replayed bytes left holds_old holds_new stops.ReadFault
-Replays bytes left holds_old holds_new WriteFault = RanUntil replayed bytes left holds_old holds_new stops.WriteFault
-Replays bytes left holds_old holds_new Memory = RanUntil replayed bytes left holds_old holds_new stops.Memory
-Replays bytes left holds_old holds_new _ = ⊥
+-- The run stopped, and the status says how.
+pub record ReadsUntil {Cause : Type 0} (meaning : Meaning Cause) (refused : ℕ → Refusal Cause → Status)
+    (bytes : List ℕ) (left holds_old holds_new : Option (List ℕ)) (status : Status) : Type 0 where
+  pub stop : Stop Cause
+  pub ran : RanUntil meaning bytes left holds_old holds_new stop
+  pub told : status ≡ stop_status refused stop
 
+-- what a run over lines of these bytes may leave
+abbrev pub Reads : {Cause : Type 0} → Meaning Cause → (ℕ → Refusal Cause → Status) → List ℕ → Option (List ℕ)
+    → Option (List ℕ) → Option (List ℕ) → Status → Type 0
+Reads meaning refused bytes left holds_old holds_new status =
+    ReadsAll meaning bytes left holds_old holds_new status
+    ⊎ ReadsUntil meaning refused bytes left holds_old holds_new status
+
+-- the status of a replay that refused a line
+abbrev pub replay_refused : ℕ → Refusal Cause → Status
+replay_refused line refusals.Long = BadLine line Long
+replay_refused line (Refused causes.Form) = BadLine line Form
+replay_refused line (Refused causes.Absent) = BadLine line Absent
+replay_refused line (Refused (causes.Player fault)) = BadLine line (Player fault)
+replay_refused line (Refused (causes.Broken earlier excess)) = Broken line earlier excess
+
+-- ---- counts of faults
 -- the source's count of faults has risen where a read failed, and else is as it was
 abbrev pub CountsReads : ℕ → ℕ → Status → Type 0
 CountsReads before now ReadFault = HasRisen before now
@@ -147,22 +158,7 @@ IsDoneUnlessMemory Done = Unit {0}
 IsDoneUnlessMemory Memory = Unit {0}
 IsDoneUnlessMemory _ = ⊥
 
--- no line of the schedule is refused
-abbrev pub IsAccepted : List ℕ → Type 0
-IsAccepted bytes = (outcome replayed bytes).verdict ≡ None
-
 -- the words were those of a command
 abbrev pub IsNoUsage : Status → Type 0
 IsNoUsage Usage = ⊥
 IsNoUsage _ = Unit {0}
-
--- the status of a replay that stopped
-abbrev pub status_of : Stop Cause → Status
-status_of (stops.BadLine line refusals.Long) = BadLine line Long
-status_of (stops.BadLine line (refusals.Refused causes.Form)) = BadLine line Form
-status_of (stops.BadLine line (refusals.Refused causes.Absent)) = BadLine line Absent
-status_of (stops.BadLine line (refusals.Refused (causes.Player fault))) = BadLine line (Player fault)
-status_of (stops.BadLine line (refusals.Refused (causes.Broken earlier excess))) = Broken line earlier excess
-status_of stops.ReadFault = ReadFault
-status_of stops.WriteFault = WriteFault
-status_of stops.Memory = Memory

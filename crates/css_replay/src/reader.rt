@@ -1,16 +1,13 @@
-ghost use Rattle.std.specs.Prelude.{◌≡◌, ◌<◌, ◌≤◌, ◌==◌, [], List, Some, None, OnOk, ℕ, length};
+ghost use Rattle.std.specs.Prelude.{◌≡◌, ◌<◌, ◌≤◌, Option, OnOk, length};
 ghost use Rattle.css_lines.specs.Answers.{Answers};
-ghost use Rattle.css_schedule.specs.Lines.{line_in};
-ghost use Rattle.css_schedule.specs.Ranges.{IsHeader, IsCount, IsGoodHeader, IsVersion, FitsFirst};
 ghost use Rattle.css_schedule.specs.Headers.{max_companions};
-ghost use Rattle.css_world.specs.Happened.{Numbered};
-ghost use Rattle.css_world.specs.Standing as worlds;
-ghost use Rattle.css_replay.specs.Replayed.{read_meant, with_line, Outset, Opening};
-ghost use Rattle.css_replay.specs.Stands.{refused_fault, unread_fault};
-ghost use Rattle.css_replay.specs.Stands.{Starts, Declares, Grows, ReadsOn, IsPart, IsGrown};
+ghost use Rattle.css_schedule.specs.Ranges.{IsHeader, IsCount};
+ghost use Rattle.css_replay.specs.Replayed as replayed;
+ghost use Rattle.css_replay.specs.Replayed.{Extent, after, meant_at};
+ghost use Rattle.css_replay.specs.Stands.{IsWell, RunsAt, Starts, told_of, unread_fault};
 
-use css_lines::{LineFault, Lines};
-use css_schedule::{Header, PlayerFault, Start, read_companion, read_header, read_line};
+use css_lines::Lines;
+use css_schedule::{Header, LineFault, PlayerFault, Start, read_companion, read_header, read_line};
 use css_world::{World, WorldFault};
 use std::alloc::Global;
 
@@ -27,23 +24,27 @@ pub enum Cause {
     Broken { earlier: u64, excess: i128 },
 }
 
-/// Which lines a schedule has: those of version 1 or 2, with so many companions.
-#[derive(Clone, Copy)]
-struct Format {
+/// The header of version 2, while lines of its companions are to come: so many companions in all.
+#[derive(Drop)]
+struct Heading {
+    header: Header,
+    companions: u32,
+}
+
+/// What comes after a header: lines of a version, of so many companions, which a world carries out.
+#[derive(Drop)]
+struct Course {
     version: u32,
     companions: u32,
+    world: World,
 }
 
 /// Replays a schedule: carries out its lines, and prints the span of the wall clock, or a companion's report, where a
 /// line asks for it.
 pub struct Replay {
     alloc: Global,
-    /// The lines that are to come. Line 1 counts as one of version 1.
-    format: Format,
-    /// The header of version 2, while lines of its companions are to come.
-    header: Option<Header>,
-    /// The world, once the header is whole.
-    world: Option<World>,
+    heading: Option<Heading>,
+    course: Option<Course>,
     /// The number of the last line that was taken.
     last: u64,
 }
@@ -53,96 +54,77 @@ impl Drop for Replay {
     fn drop(self) {
         let Replay {
             alloc: _,
-            format: _,
-            header: _,
-            world: _,
+            heading: _,
+            course: _,
             last: _,
         } = self;
     }
 }
 
-/// Lines of version 1, which has one companion.
-const FIRST: Format = Format {
-    version: 1,
-    companions: 1,
-};
+// The greatest number of bytes of a line.
+fn longest_line(version: u32) -> usize
+    ensures { result ≡ replayed.longest_line version }
+{
+    if version == 1 { 4096 } else { 4352 }
+}
 
-/// The greatest number of bytes of a line, and of a schedule, in version 1.
-const FIRST_LINE: usize = 4096;
-
-const FIRST_INPUT: u64 = 67_108_864;
-
-/// The same in version 2.
-const SECOND_LINE: usize = 4352;
-
-const SECOND_INPUT: u64 = 134_217_728;
-
-impl Format {
-    ghost use Rattle.std.specs.Prelude.{◌≡◌};
-    ghost use Rattle.css_replay.specs.Replayed as replayed;
-
-    // The greatest number of bytes of a line.
-    fn longest_line(&self) -> usize
-        ensures { result ≡ replayed.longest_line self.now.version }
-    {
-        if self.version == 1 {
-            FIRST_LINE
-        } else {
-            SECOND_LINE
-        }
-    }
-
-    // The greatest number of bytes of a schedule.
-    fn longest_input(&self) -> u64
-        ensures { result ≡ replayed.longest_input self.now.version }
-    {
-        if self.version == 1 {
-            FIRST_INPUT
-        } else {
-            SECOND_INPUT
-        }
+// The greatest number of bytes of a schedule.
+fn longest_input(version: u32) -> u64
+    ensures { result ≡ replayed.longest_input version }
+{
+    if version == 1 {
+        67_108_864
+    } else {
+        134_217_728
     }
 }
 
 // What the engine is told of a line that was not read.
-fn unread(fault: css_schedule::LineFault) -> LineFault<Cause>
+fn unread(fault: LineFault) -> css_lines::LineFault<Cause>
     ensures { result ≡ unread_fault fault }
 {
     match fault {
-        css_schedule::LineFault::Form => LineFault::Refused(Cause::Form),
-        css_schedule::LineFault::Memory => LineFault::Memory,
+        LineFault::Form => css_lines::LineFault::Refused(Cause::Form),
+        LineFault::Memory => css_lines::LineFault::Memory,
     }
 }
 
-// What the engine is told of a line that was not carried out.
-fn refused(fault: WorldFault) -> LineFault<Cause>
-    ensures { result ≡ refused_fault fault }
+// What the engine is told of a line that was carried out, or was not.
+fn told(done: Result<(), WorldFault>) -> Result<(), css_lines::LineFault<Cause>>
+    ensures { result ≡ told_of done }
 {
-    match fault {
-        WorldFault::Broken { earlier, excess } => {
-            LineFault::Refused(Cause::Broken { earlier, excess })
-        }
-        WorldFault::Absent => LineFault::Refused(Cause::Absent),
-        WorldFault::Player(fault) => LineFault::Refused(Cause::Player(fault)),
-        WorldFault::Memory => LineFault::Memory,
-    }
+    let cause = match done {
+        Ok(()) => return Ok(()),
+        Err(WorldFault::Broken { earlier, excess }) => Cause::Broken { earlier, excess },
+        Err(WorldFault::Absent) => Cause::Absent,
+        Err(WorldFault::Player(fault)) => Cause::Player(fault),
+        Err(WorldFault::Memory) => return Err(css_lines::LineFault::Memory),
+    };
+    Err(css_lines::LineFault::Refused(cause))
 }
 
-// Opens the world of a whole header, and keeps it. A world is large: in a function of its own its room is cleared once,
-// and not at each line.
+// Opens the world of a whole header. A world is large: in a function of its own its room is cleared once, and not at
+// each line.
 #[cold]
 #[inline(never)]
-fn start(alloc: Global, header: Header, kept: &mut Option<World>) -> Result<(), LineFault<Cause>>
-    requires { IsHeader header × IsCount (length header.companions) }
-    ensures { Starts kept.new header result }
+fn start(
+    alloc: Global,
+    header: Header,
+    version: u32,
+    companions: u32,
+    course: &mut Option<Course>,
+) -> Result<(), LineFault>
+    requires header { IsHeader header × IsCount (length header.companions) }
+    requires companions { companions ≡ length header.companions }
+    ensures { Starts course.new header version result }
 {
-    match World::new(alloc, header) {
-        Ok(world) => {
-            *kept = Some(world);
-            Ok(())
-        }
-        Err(_) => Err(LineFault::Memory),
-    }
+    let world = World::new(alloc, header)?;
+    *course = Some(Course {
+        version,
+        companions,
+        world,
+    });
+    Ok(())
 }
 
 // How many companions a header has.
@@ -153,58 +135,30 @@ fn count(header: &Header) -> u32
     header.companions.list().len() as u32
 }
 
-// Reads the line of the next companion, and adds it to the header.
-fn declare(alloc: Global, header: &mut Header, text: &[u8]) -> Result<(), LineFault<Cause>>
-    requires good { IsGoodHeader header.old }
-    requires few { length header.old.companions < max_companions }
-    ensures { Declares header.old header.new text.now result }
-{
-    let number = count(header) + 1;
-    let companion = match read_companion(alloc, text, number) {
-        Ok(companion) => companion,
-        Err(fault) => return Err(unread(fault)),
-    };
-    match header.add(companion) {
-        Ok(()) => Ok(()),
-        Err(_) => Err(LineFault::Memory),
-    }
-}
-
 // Reads a line after the header and carries it out.
 fn carry_out(
     alloc: Global,
-    world: &mut World,
-    format: Format,
+    course: &mut Course,
     number: u64,
     text: &[u8],
     out: &mut Vec<u8>,
-) -> Result<(), LineFault<Cause>>
-    requires version { IsVersion format.version }
-    requires companions { format.companions ≡ length world.old.header.companions }
-    requires count { FitsFirst (format.version == 1) format.companions }
-    requires stands { (lines : List Numbered) × worlds.StandsFor world.old lines × worlds.IsNext number lines }
-    ensures header { world.new.header ≡ world.old.header }
-    ensures answers { (lines : List Numbered) → worlds.StandsFor world.old lines
-        → Answers (read_meant world.old.header lines number (line_in format.version format.companions text.now))
-        out.old.items out.new.items result }
-    ensures stands { (lines : List Numbered) → worlds.StandsFor world.old lines → worlds.IsNext number lines
-        → OnOk result (worlds.StandsFor world.new
-        (with_line number lines (line_in format.version format.companions text.now))) }
+) -> Result<(), css_lines::LineFault<Cause>>
+    requires { (extent : Extent) × RunsAt course.old extent × IsWell number extent }
+    ensures answers { (extent : Extent) → RunsAt course.old extent
+        → Answers (meant_at number extent text.now) out.old.items out.new.items result }
+    ensures stands { OnOk result ((extent : Extent) → RunsAt course.old extent → IsWell number extent
+        → RunsAt course.new (after number extent text.now)) }
 {
-    let line = match read_line(alloc, text, format.version, format.companions) {
-        Ok(line) => line,
-        Err(fault) => return Err(unread(fault)),
-    };
-    match world.line(number, line, out) {
-        Ok(()) => Ok(()),
-        Err(fault) => Err(refused(fault)),
+    match read_line(alloc, text, course.version, course.companions) {
+        Ok(line) => told(course.world.line(number, line, out)),
+        Err(fault) => Err(unread(fault)),
     }
 }
 
 impl Replay {
-    ghost use Rattle.std.specs.Prelude.{[], None};
-    ghost use Rattle.css_replay.specs.Replayed.{Extent};
-    ghost use Rattle.css_replay.specs.Stands.{Stands, IsAt};
+    ghost use Rattle.std.specs.Prelude.{◌≡◌, ℕ, [], None};
+    ghost use Rattle.css_replay.specs.Replayed.{Extent, Outset, Opening, version_of};
+    ghost use Rattle.css_replay.specs.Stands.{IsAt, IsPart, IsWell, ReadsOn, Stands};
 
     /// No line was taken yet.
     pub fn new(alloc: Global) -> Replay
@@ -212,70 +166,67 @@ impl Replay {
     {
         Replay {
             alloc,
-            format: FIRST,
-            header: None,
-            world: None,
+            heading: None,
+            course: None,
             last: 0,
         }
     }
 
+    // The version of the next line. Line 1 counts as one of version 1.
+    fn version(&self) -> u32
+        ensures { (extent : Extent) → IsAt self.now.heading self.now.course extent → result ≡ version_of extent }
+    {
+        match &self.course {
+            Some(course) => course.version,
+            None => match &self.heading {
+                Some(_) => 2,
+                None => 1,
+            },
+        }
+    }
+
     // Reads line 1.
-    fn begin(&mut self, text: &[u8]) -> Result<(), LineFault<Cause>>
-        requires { IsAt self.old Outset }
+    fn begin(&mut self, text: &[u8]) -> Result<(), LineFault>
+        requires { self.old.course ≡ None }
         ensures reads { ReadsOn self.new Outset text.now result }
         ensures last { self.new.last ≡ self.old.last }
     {
-        match read_header(self.alloc, text) {
-            Ok(Start::One(header)) => start(self.alloc, header, &mut self.world),
-            Ok(Start::Two { header, companions }) => {
-                self.format = Format {
-                    version: 2,
-                    companions,
-                };
-                self.header = Some(header);
+        match read_header(self.alloc, text)? {
+            Start::One(header) => start(self.alloc, header, 1, 1, &mut self.course),
+            Start::Two { header, companions } => {
+                self.heading = Some(Heading { header, companions });
                 Ok(())
             }
-            Err(fault) => Err(unread(fault)),
         }
     }
 
-    // Keeps a header with one companion more. With the last companion it is whole.
-    fn grow(&mut self, header: Header) -> Result<(), LineFault<Cause>>
-        requires part { IsGrown self.old.format header }
-        requires world { self.old.world ≡ None }
-        ensures grows { Grows self.new header self.old.format.companions result }
+    // Reads the line of the next companion. With the last one the header is whole.
+    fn go_on(&mut self, mut heading: Heading, text: &[u8]) -> Result<(), LineFault>
+        requires part { IsPart heading.header heading.companions }
+        requires none { self.old.course ≡ None }
+        ensures reads { ReadsOn self.new (Opening heading.header heading.companions) text.now result }
         ensures last { self.new.last ≡ self.old.last }
     {
-        let companions = count(&header);
-        if companions == self.format.companions {
-            return start(self.alloc, header, &mut self.world);
+        let number = count(&heading.header) + 1;
+        let companion = read_companion(self.alloc, text, number)?;
+        heading.header.add(companion)?;
+        if number == heading.companions {
+            return start(self.alloc, heading.header, 2, number, &mut self.course);
         }
-        self.header = Some(header);
+        self.heading = Some(heading);
         Ok(())
     }
 
-    // Reads the line of the next companion.
-    fn go_on(&mut self, mut header: Header, text: &[u8]) -> Result<(), LineFault<Cause>>
-        requires part { IsPart self.old.format header }
-        requires world { self.old.world ≡ None }
-        ensures reads { ReadsOn self.new (Opening header self.old.format.companions) text.now result }
-        ensures last { self.new.last ≡ self.old.last }
-    {
-        match declare(self.alloc, &mut header, text) {
-            Ok(()) => self.grow(header),
-            Err(fault) => Err(fault),
-        }
-    }
-
     // Reads a line of the header.
-    fn open(&mut self, text: &[u8]) -> Result<(), LineFault<Cause>>
-        requires at { (extent : Extent) × IsAt self.old extent }
-        requires world { self.old.world ≡ None }
-        ensures reads { (extent : Extent) → IsAt self.old extent → ReadsOn self.new extent text.now result }
+    fn open(&mut self, text: &[u8]) -> Result<(), LineFault>
+        requires well { (number : ℕ) × (extent : Extent) × IsAt self.old.heading None extent × IsWell number extent }
+        requires none { self.old.course ≡ None }
+        ensures reads { (extent : Extent) → IsAt self.old.heading None extent
+            → ReadsOn self.new extent text.now result }
         ensures last { self.new.last ≡ self.old.last }
     {
-        match self.header.take() {
-            Some(header) => self.go_on(header, text),
+        match self.heading.take() {
+            Some(heading) => self.go_on(heading, text),
             None => self.begin(text),
         }
     }
@@ -293,11 +244,11 @@ impl Lines for Replay {
     ghost stands = { Stands };
 
     fn longest_line(&self) -> usize {
-        self.format.longest_line()
+        longest_line(self.version())
     }
 
     fn longest_input(&self) -> u64 {
-        self.format.longest_input()
+        longest_input(self.version())
     }
 
     fn line(
@@ -305,18 +256,21 @@ impl Lines for Replay {
         number: u64,
         text: &[u8],
         out: &mut Vec<u8>,
-    ) -> Result<(), LineFault<Cause>> {
+    ) -> Result<(), css_lines::LineFault<Cause>> {
         self.last = number;
-        match &mut self.world {
-            Some(world) => carry_out(self.alloc, world, self.format, number, text, out),
-            None => self.open(text),
+        match &mut self.course {
+            Some(course) => carry_out(self.alloc, course, number, text, out),
+            None => match self.open(text) {
+                Ok(()) => Ok(()),
+                Err(fault) => Err(unread(fault)),
+            },
         }
     }
 
-    fn finish(&mut self, _out: &mut Vec<u8>) -> Result<(), LineFault<Cause>> {
-        match &self.world {
+    fn finish(&mut self, _out: &mut Vec<u8>) -> Result<(), css_lines::LineFault<Cause>> {
+        match &self.course {
             Some(_) => Ok(()),
-            None => Err(LineFault::Refused(Cause::Form)),
+            None => Err(css_lines::LineFault::Refused(Cause::Form)),
         }
     }
 }

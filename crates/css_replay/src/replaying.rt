@@ -1,9 +1,7 @@
 ghost use Rattle.std.specs.Prelude.{◌≡◌};
-ghost use Rattle.css_lines.specs.declared.ending.Stop.TheVariants as stops;
 ghost use Rattle.css_replay.specs.Devices.{sink_use, source_use};
 ghost use Rattle.css_replay.specs.Does.{ByReplay};
-ghost use Rattle.css_replay.specs.Ended.{CountsReads, CountsWrites, TellsNoLive};
-ghost use Rattle.css_replay.specs.Ended as ended;
+ghost use Rattle.css_replay.specs.Ended.{CountsReads, CountsWrites, TellsNoLive, replay_refused, stop_status};
 
 use crate::reader::{Cause, Replay};
 use crate::status::Status;
@@ -14,7 +12,7 @@ use std::alloc::Global;
 
 // The status of a replay that refused a line.
 fn refused(line: u64, why: Refusal<Cause>) -> Status
-    ensures { result ≡ ended.status_of (stops.BadLine line why) }
+    ensures { result ≡ replay_refused line why }
 {
     let why = match why {
         Refusal::Long => LineWhy::Long,
@@ -34,7 +32,7 @@ fn refused(line: u64, why: Refusal<Cause>) -> Status
 
 // The status of a replay that stopped.
 fn status_of(stop: Stop<Cause>) -> Status
-    ensures { result ≡ ended.status_of stop }
+    ensures { result ≡ stop_status replay_refused stop }
 {
     match stop {
         Stop::BadLine { line, why } => refused(line, why),

@@ -13,13 +13,7 @@ returns-then-recorded-clause-does g c =
     })
 
 pub returns-then-recorded-clause-counted : goal.returns-then-recorded-clause-counted
-returns-then-recorded-clause-counted g c spawns = record {
-  reads = c.record_companion.ensures.reads (g.S.Source.faults c.args.source.now);
-  writes = c.record_companion.ensures.counted_writes;
-  calls = c.record_companion.ensures.counted_calls;
-  dials = c.record_companion.ensures.counted_dials;
-  spawns = c.record_companion.ensures.spawns spawns;
-}
+returns-then-recorded-clause-counted g c = c.record_companion.ensures.counted (g.S.Source.faults c.args.source.now)
 
 -- by a sheet
 pub returns-clause-does : goal.returns-clause-does
@@ -31,12 +25,3 @@ returns-clause-does g c =
           as_asked c.run_of-run.result c.run_of-run.ensures.asked
           (c.companion.ensures.complete bytes sheet is ok read wrote called);
     })
-
-pub returns-clause-counted : goal.returns-clause-counted
-returns-clause-counted g c spawns = record {
-  reads = c.companion.ensures.counted_reads;
-  writes = c.companion.ensures.counted_writes;
-  calls = c.companion.ensures.counted_calls;
-  dials = c.companion.ensures.counted_dials;
-  spawns = c.companion.ensures.spawns spawns;
-}

@@ -4,7 +4,7 @@ use Rattle.css_app.proofs.by_words.pair_by.Goals as goal
 
 pub returns-in-Err-clause-does : goal.returns-in-Err-clause-does
 returns-in-Err-clause-does g c = record {
-  ran = inl (record { untouched = refl; children = refl; cause = tt });
+  ran = inl (refl, refl, tt);
   complete = λ bytes script is ok read wrote called spawned. inl refl;
 }
 
@@ -17,12 +17,3 @@ returns-clause-does g c =
           as_asked c.run_of-run.result asked
           (c.pair.ensures.complete bytes script is ok read wrote called spawned);
     }
-
-pub returns-clause-counted : goal.returns-clause-counted
-returns-clause-counted g c = record {
-  reads = c.pair.ensures.counted_reads;
-  writes = c.pair.ensures.counted_writes;
-  calls = c.pair.ensures.counted_calls;
-  dials = c.pair.ensures.counted_dials;
-  spawns = c.pair.ensures.counted_spawns;
-}

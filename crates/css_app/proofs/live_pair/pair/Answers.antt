@@ -1,35 +1,33 @@
 use Rattle.std.proofs.Common.{refl, inl, inr, ◌∙◌}
-use Rattle.css_app.proofs.Live.{script_lacks}
-use Rattle.css_app.proofs.Quiet.{script_no_usage}
+use Rattle.css_app.specs.Live.{bad_line}
+use Rattle.css_app.specs.Scripts.{script_in}
+use Rattle.css_app.proofs.Taken.{none_lacks, none_no_usage}
 use Rattle.css_app.proofs.live_pair.pair.Goals as goal
 
 -- the script was not read
 pub returns-in-Err : goal.returns-in-Err
 returns-in-Err g c =
+    let none = c.in-Err.ensures.value in
     let tells = c.in-Err.ensures.counted (g.K.Sink.faults c.args.sink.now) (g.O.Outside.counts c.args.outside.now)
     (g.P.Spawner.faults c.args.spawner.now) in
     record {
-      ran = inl (record { untouched = refl; children = refl; cause = c.in-Err.ensures.value });
+      ran = inl (refl, refl, none);
       complete = λ bytes script is ok read wrote called spawned.
-          inl (script_lacks _ c.in-Err.status bytes script c.in-Err.ensures.value is ok tells.reads read);
-      counted_reads = tells.reads;
-      counted_writes = tells.writes;
-      counted_calls = tells.calls;
-      counted_dials = tells.dials;
-      counted_spawns = tells.spawns;
-      no_usage = script_no_usage _ c.in-Err.status c.in-Err.ensures.value;
+          inl (none_lacks script_in (λ bad. bad) bad_line (λ bad. tt) _ c.in-Err.status bytes script none is ok
+          tells.reads read);
+      counted = tells;
+      no_usage = none_no_usage script_in (λ bad. bad) bad_line (λ bad. tt) _ c.in-Err.status none;
     }
 
 -- memory ran out before a child was started
 pub returns-in-Err-prepare-clause-ran : goal.returns-in-Err-prepare-clause-ran
 returns-in-Err-prepare-clause-ran g c =
-    inl (record { untouched = rw c.prepare.ensures.heard; children = refl; cause = tt })
+    inl (rw c.prepare.ensures.heard, refl, tt)
 
 -- a child was to be started
 pub returns-in-Ok-prepare : goal.returns-in-Ok-prepare
 returns-in-Ok-prepare g c =
     let made = c.run_beside.ensures in
-    let tells = made.counted (g.S.Source.faults c.args.source.now) in
     let words = c.deref.ensures.value ∙ c.in-Ok-prepare.ensures.words in
     record {
       ran = inr (record {
@@ -43,10 +41,6 @@ returns-in-Ok-prepare g c =
         ) at made.ran;
       });
       complete = λ bytes script is ok read. made.complete;
-      counted_reads = rw c.in-Ok.ensures.counted tells.reads;
-      counted_writes = tells.writes;
-      counted_calls = tells.calls;
-      counted_dials = tells.dials;
-      counted_spawns = tells.spawns;
+      counted = rw c.in-Ok.ensures.counted (made.counted (g.S.Source.faults c.args.source.now));
       no_usage = made.no_usage;
     }

@@ -6,25 +6,18 @@ use Rattle.css_app.proofs.live_pair.run_beside.Goals as goal
 -- the child was not started
 pub returns-in-Err-Failed-clause-ran : goal.returns-in-Err-Failed-clause-ran
 returns-in-Err-Failed-clause-ran g c =
-    inl (record {
-      untouched = refl;
-      children = rw (c.in-Err-Failed.ensures.told, c.in-Err-Failed.ensures.err);
-      cause = tt;
-    })
+    inl (refl, rw (c.in-Err-Failed.ensures.told, c.in-Err-Failed.ensures.err), tt)
 
 pub returns-in-Err-Failed-clause-complete : goal.returns-in-Err-Failed-clause-complete
 returns-in-Err-Failed-clause-complete g c wrote called spawned =
     let risen = subst (CountsOutFault (g.P.Spawner.faults c.args.spawner.now) (g.P.Spawner.faults c.start.new.self))
     c.in-Err-Failed.field-0-is c.in-Err-Failed.ensures.counted in
-    absurd (omega (arith, risen.risen spawned.below, spawned.same))
+    let no : ⊥ = omega (arith, risen.risen spawned.below, spawned.same) in
+    elim no [ ]
 
 pub returns-in-Err-Memory-clause-ran : goal.returns-in-Err-Memory-clause-ran
 returns-in-Err-Memory-clause-ran g c =
-    inl (record {
-      untouched = refl;
-      children = rw (c.in-Err-Memory.ensures.told, c.in-Err-Memory.ensures.err);
-      cause = tt;
-    })
+    inl (refl, rw (c.in-Err-Memory.ensures.told, c.in-Err-Memory.ensures.err), tt)
 
 pub returns-in-Err-Memory-clause-complete : goal.returns-in-Err-Memory-clause-complete
 returns-in-Err-Memory-clause-complete g c wrote called spawned = inl refl
@@ -45,9 +38,9 @@ returns-clause-ran g c =
 pub returns-clause-complete : goal.returns-clause-complete
 returns-clause-complete g c wrote called spawned =
     rw c.with_child.ensures
-    (pairs_as_due c.args.config _ _ c.make_run-companion.result c.finish-finished.result _ _ _
-    (c.make_run-companion.ensures.complete wrote called) c.in-Ok.ensures.counted c.finish-finished.ensures.counted
-    spawned)
+    (pairs_as_due c.args.config _ _ c.make_run-companion.result c.finish-finished.result _ _
+    (c.make_run-companion.ensures.complete wrote called)
+    (rw c.in-Ok.ensures.counted at c.finish-finished.ensures.counted) spawned)
 
 pub returns-clause-no_usage : goal.returns-clause-no_usage
 returns-clause-no_usage g c =

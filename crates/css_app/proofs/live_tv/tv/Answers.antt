@@ -1,10 +1,12 @@
-use Rattle.std.proofs.Common.{ℕ, refl, inl, inr}
+use Rattle.std.proofs.Common.{refl, inl, inr}
 use Rattle.css_drive.specs.Proper.{IsProper}
 use Rattle.css_drive.specs.TvDue.{due, run_of}
 use Rattle.css_drive.specs.TvRan.{TvRan}
-use Rattle.css_app.specs.Live.{TellsFaults, driven_status, failures}
-use Rattle.css_app.proofs.Live.{as_due, no_write, script_lacks}
-use Rattle.css_app.proofs.Quiet.{driven_no_usage, driven_tells, script_no_usage, unwritten}
+use Rattle.css_app.specs.Live.{bad_line}
+use Rattle.css_app.specs.Scripts.{script_in}
+use Rattle.css_app.proofs.Live.{as_due, no_write}
+use Rattle.css_app.proofs.Quiet.{driven_no_usage, driven_tells, unwritten}
+use Rattle.css_app.proofs.Taken.{none_lacks, none_no_usage}
 use Rattle.css_app.proofs.TextsTaken.{same_script}
 use Rattle.css_app.proofs.TvEnds.{tv_dials}
 use Rattle.css_app.proofs.live_tv.tv.Goals as goal
@@ -12,19 +14,17 @@ use Rattle.css_app.proofs.live_tv.tv.Goals as goal
 -- the script was not read
 pub returns-in-Err : goal.returns-in-Err
 returns-in-Err g c =
+    let none = c.in-Err.ensures.value in
     let calls = g.O.Outside.counts c.args.outside.now in
     let tells = c.in-Err.ensures.counted 0 calls 0 in
     record {
-      ran = inl (record { untouched = refl; cause = c.in-Err.ensures.value });
+      ran = inl (refl, none);
       complete = λ bytes script is ok read called.
-          inl (script_lacks _ c.in-Err.status bytes script c.in-Err.ensures.value is ok tells.reads read);
-      counted_reads = tells.reads;
-      counted_calls = tells.calls;
-      writes = λ count. (c.in-Err.ensures.counted count calls 0).writes;
+          inl (none_lacks script_in (λ bad. bad) bad_line (λ bad. tt) _ c.in-Err.status bytes script none is ok
+          tells.reads read);
+      counted = λ writes. c.in-Err.ensures.counted writes calls;
       dials = refl;
-      counted_dials = tells.dials;
-      spawns = λ count. (c.in-Err.ensures.counted 0 calls count).spawns;
-      no_usage = script_no_usage _ c.in-Err.status c.in-Err.ensures.value;
+      no_usage = none_no_usage script_in (λ bad. bad) bad_line (λ bad. tt) _ c.in-Err.status none;
     }
 
 -- the run
@@ -32,18 +32,9 @@ pub returns : goal.returns
 returns g c =
     let ended = c.drive_tv-ended.result in
     let made = c.drive_tv-ended.ensures in
-    let calls = g.O.Outside.counts c.args.outside.now in
-    let calls_new = g.O.Outside.counts c.drive_tv-ended.new.outside in
     let run = run_of c.args.run c.in-Ok.script.items in
-    let ran : TvRan run (g.O.Outside.told c.args.outside.now)
-    (g.O.Outside.told c.drive_tv-ended.new.outside) ended =
+    let ran : TvRan run (g.O.Outside.told c.args.outside.now) (g.O.Outside.told c.drive_tv-ended.new.outside) ended =
     rw (← c.deref.ensures.value) made.ran in
-    let reads = g.S.Source.faults c.args.source.now in
-    let tells : (writes spawns : ℕ) → TellsFaults (failures reads writes calls spawns)
-    (failures (g.S.Source.faults c.take_script.new.source) writes calls_new spawns) (driven_status ended) =
-    λ writes spawns. rw c.in-Ok.ensures.counted
-    (driven_tells ended (unwritten ended writes made.counted.no_writes) made.counted.faults
-    (tv_dials run ran.h ended ran.ends made.counted.dials)) in
     rw c.status_of.ensures
     (record {
       ran = inr (record {
@@ -58,11 +49,9 @@ returns g c =
           (g.S.Source.left c.take_script.new.source) c.in-Ok.script.items script is c.in-Ok.ensures.value ok in
           rw (← same) (as_due (IsProper (due run)) (due run) _ _ ran.h ended ran.grew ran.proper ran.ends
           (unwritten ended 0 made.counted.no_writes) made.counted.faults no_write called);
-      counted_reads = (tells 0 0).reads;
-      counted_calls = (tells 0 0).calls;
-      writes = λ count. (tells count 0).writes;
+      counted = λ writes spawns. rw c.in-Ok.ensures.counted
+          (driven_tells ended (unwritten ended writes made.counted.no_writes) made.counted.faults
+          (tv_dials run ran.h ended ran.ends made.counted.dials));
       dials = made.counted.dials;
-      counted_dials = (tells 0 0).dials;
-      spawns = λ count. (tells 0 count).spawns;
       no_usage = driven_no_usage ended;
     })

@@ -1,37 +1,19 @@
-use Rattle.std.proofs.Common.{ap, inl, inr, subst, sym, refl}
-use Rattle.css_replay.specs.Ended.{IsDoneUnlessMemory}
-use Rattle.css_replay.proofs.Completeness.{only_memory}
-use Rattle.css_app.specs.Migrations.{migrate_status_of}
-use Rattle.css_app.proofs.Quiet.{migrate_tells, done_tells}
+use Rattle.css_replay.proofs.OverLines.{done_ends, read_all, stop_ends, stopped}
+use Rattle.css_app.specs.Ended.{line_refused}
+use Rattle.css_app.proofs.Quiet.{tells_lines}
 use Rattle.css_app.proofs.migration.migrate.Goals as goal
 
-pub returns-in-Ok-clause-does : goal.returns-in-Ok-clause-does
-returns-in-Ok-clause-does g c = record {
-  no_usage = tt;
-  migrates = λ bytes is.
-      let ran = c.in-Ok.ensures.ran bytes is in
-      inl (record { done = refl; at_end = ran.at_end; accepted = ran.accepted; grew = ran.grew });
-  complete = λ bytes is accepted read written. tt;
-}
+pub returns-in-Ok : goal.returns-in-Ok
+returns-in-Ok g c =
+    let run = c.in-Ok.ensures in
+    record { does = read_all run.ran; counted = tells_lines (done_ends run.counted_reads run.counted_writes) }
 
-pub returns-in-Ok-clause-counted : goal.returns-in-Ok-clause-counted
-returns-in-Ok-clause-counted g c =
-    done_tells c.in-Ok.ensures.counted_reads c.in-Ok.ensures.counted_writes
-
-pub returns-in-Err-clause-does : goal.returns-in-Err-clause-does
-returns-in-Err-clause-does g c =
+pub returns-in-Err : goal.returns-in-Err
+returns-in-Err g c =
+    let run = c.in-Err.ensures in
+    let stop = c.in-Err.stop in
     rw c.status_of.ensures
     (record {
-      no_usage = (migrate_tells c.in-Err.stop c.in-Err.ensures.counted_reads c.in-Err.ensures.counted_writes).0;
-      migrates = λ bytes is.
-          inr (record { stop = c.in-Err.stop; ran = c.in-Err.ensures.ran bytes is; told = refl });
-      complete = λ bytes is accepted read written.
-          subst IsDoneUnlessMemory
-          (sym (ap migrate_status_of (only_memory c.in-Err.stop (c.in-Err.ensures.ran bytes is) accepted
-          c.in-Err.ensures.counted_reads c.in-Err.ensures.counted_writes read written))) tt;
+      does = stopped line_refused (λ line why. tt) stop run.ran run.counted_reads run.counted_writes;
+      counted = tells_lines (stop_ends line_refused (λ line why. tt) stop run.counted_reads run.counted_writes);
     })
-
-pub returns-in-Err-clause-counted : goal.returns-in-Err-clause-counted
-returns-in-Err-clause-counted g c =
-    rw c.status_of.ensures
-    (migrate_tells c.in-Err.stop c.in-Err.ensures.counted_reads c.in-Err.ensures.counted_writes).1

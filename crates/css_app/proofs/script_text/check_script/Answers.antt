@@ -1,13 +1,14 @@
-use Rattle.std.proofs.Common.{ap, refl, subst}
+use Rattle.std.proofs.Common.{ap, refl}
 use Rattle.std.specs.Prelude.{Some}
 use Rattle.css_lines.specs.declared.ending.Stop.TheVariants as stops
-use Rattle.css_app.specs.Live.{HasNoScript}
-use Rattle.css_app.proofs.ScriptsTaken.{script-tells}
+use Rattle.css_app.specs.declared.scripts.NoLine.{NoLine}
+use Rattle.css_app.specs.Ended.{line_refused}
+use Rattle.css_app.proofs.Taken.{stop_tells}
 use Rattle.css_app.proofs.TextsTaken.{is_script}
 use Rattle.css_app.proofs.script_text.check_script.Goals as goal
 
 pub returns-in-Err-clause-counted : goal.returns-in-Err-clause-counted
-returns-in-Err-clause-counted c = script-tells stops.Memory refl
+returns-in-Err-clause-counted c = stop_tells {Cause = NoLine} line_refused (λ line why. tt) stops.Memory refl refl
 
 pub returns-in-Ok-take_script-clause-value : goal.returns-in-Ok-take_script-clause-value
 returns-in-Ok-take_script-clause-value c =
@@ -16,5 +17,4 @@ returns-in-Ok-take_script-clause-value c =
 
 pub returns-clause-value : goal.returns-clause-value
 returns-clause-value c =
-    subst (λ left. HasNoScript left c.in-Err-take_script.status) (ap (λ s. Some s.left) c.in-Ok.ensures)
-    c.in-Err-take_script.ensures.value
+    rw c.in-Ok.ensures at c.in-Err-take_script.ensures.value

@@ -1,23 +1,21 @@
-use Rattle.std.proofs.Common.{inl, inr, refl, subst, sym, take, ◌∙◌, arith}
-use Rattle.std.specs.Io.KnownBytes.{Consumes}
-use Rattle.css_outside.specs.Faults.{HasRisen}
+use Rattle.std.proofs.Common.{inl, inr, refl, take, ◌∙◌, arith}
 use Rattle.css_lines.specs.declared.ending.Stop.TheVariants as stops
 use Rattle.css_lines.proofs.Endings.{consumes_nothing}
 use Rattle.css_outside.proofs.Known.{consumes_none, consumes_more}
-use Rattle.css_app.proofs.ScriptsTaken.{script-tells}
+use Rattle.css_app.specs.declared.scripts.NoLine.{NoLine}
+use Rattle.css_app.specs.Ended.{line_refused}
+use Rattle.css_app.proofs.Taken.{stop_tells}
 use Rattle.css_app.proofs.script_text.take_bytes.Goals as goal
 
 pub pieces-init : goal.pieces-init
 pieces-init g c = record {
-  took = subst (λ text. Consumes (g.S.Source.left c.args.source.now) (g.S.Source.left c.args.source.now) text)
-      (sym c.new-text.ensures.items) (consumes_none _);
+  took = rw c.new-text.ensures.items (consumes_none _);
   counted = refl;
 }
 
 pub pieces-preserved : goal.pieces-preserved
 pieces-preserved g c = record {
-  took = subst (λ text. Consumes (g.S.Source.left c.args.source.now) (g.S.Source.left c.read.new.self) text)
-      (sym c.in-Ok-extend_from_slice.ensures.items)
+  took = rw c.in-Ok-extend_from_slice.ensures.items
       (consumes_more _ _ _ c.pieces.text.items (take c.in-Ok.count c.read.new.into) c.pieces.invariant.took
       c.in-Ok.ensures.bytes.0);
   counted = c.in-Ok.ensures.counted ∙ c.pieces.invariant.counted;
@@ -25,8 +23,8 @@ pieces-preserved g c = record {
 
 pub returns-in-Err-clause-counted : goal.returns-in-Err-clause-counted
 returns-in-Err-clause-counted g c =
-    script-tells stops.ReadFault
-    (subst (λ n. HasRisen n (g.S.Source.faults c.read.new.self)) c.pieces.invariant.counted c.in-Err.ensures.counted)
+    stop_tells {Cause = NoLine} line_refused (λ line why. tt) stops.ReadFault
+    (rw c.pieces.invariant.counted at c.in-Err.ensures.counted) refl
 
 pub returns-then-count-eq0-clause-value : goal.returns-then-count-eq0-clause-value
 returns-then-count-eq0-clause-value g c = record {
@@ -40,7 +38,8 @@ returns-then-count-eq0-clause-counted g c = c.in-Ok.ensures.counted ∙ c.pieces
 
 pub returns-in-Err-extend_from_slice-clause-counted : goal.returns-in-Err-extend_from_slice-clause-counted
 returns-in-Err-extend_from_slice-clause-counted g c =
-    script-tells stops.Memory (c.in-Ok.ensures.counted ∙ c.pieces.invariant.counted)
+    stop_tells {Cause = NoLine} line_refused (λ line why. tt) stops.Memory
+    (c.in-Ok.ensures.counted ∙ c.pieces.invariant.counted) refl
 
 pub returns-clause-value : goal.returns-clause-value
 returns-clause-value g c = record {

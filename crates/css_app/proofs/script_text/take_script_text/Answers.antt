@@ -1,20 +1,15 @@
-use Rattle.std.proofs.Common.{subst}
-use Rattle.std.specs.Prelude.{Some}
-use Rattle.css_app.specs.Live.{HasNoScript}
-use Rattle.css_app.specs.Pairs.{IsScript}
 use Rattle.css_app.proofs.TextsTaken.{gives_text, no_text, no_read_fault}
 use Rattle.css_app.proofs.script_text.take_script_text.Goals as goal
 
 pub returns-in-Ok-check_script-clause-value : goal.returns-in-Ok-check_script-clause-value
 returns-in-Ok-check_script-clause-value g c =
     gives_text _ _ c.in-Ok.text.items c.in-Ok.ensures.value
-    (subst IsScript c.deref.ensures.value c.in-Ok-check_script.ensures.value)
+    (rw c.deref.ensures.value at c.in-Ok-check_script.ensures.value)
 
 pub returns-in-Err-check_script-clause-value : goal.returns-in-Err-check_script-clause-value
 returns-in-Err-check_script-clause-value g c =
     no_text _ _ c.in-Ok.text.items c.in-Err-check_script.status c.in-Ok.ensures.value
-    (subst (λ text. HasNoScript (Some text) c.in-Err-check_script.status) c.deref.ensures.value
-    c.in-Err-check_script.ensures.value)
+    (rw c.deref.ensures.value at c.in-Err-check_script.ensures.value)
 
 pub returns-in-Err-check_script-clause-counted : goal.returns-in-Err-check_script-clause-counted
 returns-in-Err-check_script-clause-counted g c writes calls spawns =

@@ -1,23 +1,16 @@
 -- The line is written whole, or a front part of it.
-use Rattle.std.proofs.Common.{◌∙◌, [], List, ℕ, refl, subst}
-use Rattle.std.specs.Prelude.{OnErr, OnOk}
-use Rattle.std.specs.Io.KnownBytes.{Appends}
-use Rattle.css_outside.specs.Bytes.{AppendsPrefix}
+use Rattle.std.proofs.Common.{◌∙◌, [], refl}
 use Rattle.css_outside.proofs.Known.{appends_none}
 use Rattle.css_survey.specs.Surveyed.{survey_text}
 use Rattle.css_app.proofs.surveyed.write_survey.Goals as goal
 
 pub returns-in-Ok-clause-ok : goal.returns-in-Ok-clause-ok
 returns-in-Ok-clause-ok g c =
-    subst (λ (l : List ℕ). OnOk c.write_all.result
-    (Appends (g.K.Sink.holds c.args.sink.now) (g.K.Sink.holds c.write_all.new.sink) l))
-    (c.as_bytes.ensures.value ∙ c.in-Ok.ensures) c.write_all.ensures.ok
+    rw (c.as_bytes.ensures.value ∙ c.in-Ok.ensures) at c.write_all.ensures.ok
 
 pub returns-in-Ok-clause-err : goal.returns-in-Ok-clause-err
 returns-in-Ok-clause-err g c =
-    subst (λ (l : List ℕ). OnErr c.write_all.result
-    (AppendsPrefix (g.K.Sink.holds c.args.sink.now) (g.K.Sink.holds c.write_all.new.sink) l))
-    (c.as_bytes.ensures.value ∙ c.in-Ok.ensures) c.write_all.ensures.err
+    rw (c.as_bytes.ensures.value ∙ c.in-Ok.ensures) at c.write_all.ensures.err
 
 pub returns-in-Err-clause-err : goal.returns-in-Err-clause-err
 returns-in-Err-clause-err g c = record {

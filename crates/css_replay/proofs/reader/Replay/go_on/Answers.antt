@@ -1,24 +1,22 @@
-use Rattle.std.proofs.Common.{arith}
-use Rattle.css_replay.proofs.Heading.{can-grow, reads-next}
+use Rattle.std.proofs.Common.{◌≡◌, [], ◌∷◌, length, ap, arith, refl, sym, ◌∙◌}
+use Rattle.std.proofs.lemmas.List.{length-append}
+use Rattle.css_schedule.specs.declared.header.Header.{Header}
+use Rattle.css_replay.specs.Replayed.{Opening, Running, grown}
+use Rattle.css_replay.proofs.Answering.{grown-whole, reads-started}
 use Rattle.css_replay.proofs.reader.Replay.go_on.Goals as goal
 
-pub declare-requires-clause-good : goal.declare-requires-clause-good
-declare-requires-clause-good c = c.requires.part.good
-
-pub declare-requires-clause-few : goal.declare-requires-clause-few
-declare-requires-clause-few c =
-    let more = c.requires.part.more in
-    let few = c.requires.part.few in
-    omega (arith, more, few)
-
-pub grow-requires-clause-part : goal.grow-requires-clause-part
-grow-requires-clause-part c =
-    can-grow c.args.self.now.format c.args.header c.declare.new.header c.args.text.now c.requires.part c.in-Ok.ensures
-
-pub returns-in-Ok-clause-reads : goal.returns-in-Ok-clause-reads
-returns-in-Ok-clause-reads c =
-    reads-next c.grow.result c.grow.new.self c.args.header c.declare.new.header c.args.self.now.format.companions
-    c.args.text.now c.in-Ok.ensures c.grow.ensures.grows
-
-pub returns-in-Err-clause-reads : goal.returns-in-Err-clause-reads
-returns-in-Err-clause-reads c = λ number. c.in-Err.ensures
+pub returns-then-number-heading-clause-reads : goal.returns-then-number-heading-clause-reads
+returns-then-number-heading-clause-reads c =
+    let header = c.args.heading.header in
+    let count = c.args.heading.companions in
+    let more = c.add.new.self in
+    let added = c.in_ok-add.ensures.added in
+    let read = rw c.count-number.ensures at c.in_ok-companion.ensures.value in
+    let longer = ap (λ (h : Header). length h.companions) added in
+    let one = length-append header.companions (c.in_ok-companion.companion ∷ []) in
+    let whole : length more.companions ≡ count =
+    omega (arith, longer, one, c.count-number.ensures, c.if-number-heading.true) in
+    reads-started c.start.result (record c.args.self.now { course = c.start.new.course }) (Opening header count)
+    (Running more 2 []) c.args.text.now
+    (λ number. rw read (refl, ap (λ (h : Header). grown h count) (sym added) ∙ grown-whole more count whole))
+    (c.start.ensures c.args.self.now.heading)

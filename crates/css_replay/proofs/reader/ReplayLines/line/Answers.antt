@@ -1,48 +1,64 @@
-use Rattle.std.proofs.Common.{◌==◌, ap, subst, sym}
-use Rattle.css_schedule.specs.Ranges.{FitsFirst, IsVersion}
-use Rattle.css_world.specs.Standing.{IsNext}
+use Rattle.std.proofs.Common.{◌≡◌, ◌+◌, ◌∷◌, [], length, refl, arith, sym}
+use Rattle.std.proofs.lemmas.List.{append-nil, length-append}
+use Rattle.css_world.proofs.Appending.{on_ok}
 use Rattle.css_replay.specs.Replayed.{reached}
-use Rattle.css_replay.specs.declared.reader.Format.{Format}
-use Rattle.css_replay.proofs.Standing.{answers-header, answers-line, next-number, runs, stands-after, stands-header}
-use Rattle.css_replay.proofs.Texts.{is_next}
+use Rattle.css_replay.proofs.Texts.{reached-push, well}
 use Rattle.css_replay.proofs.reader.ReplayLines.line.Goals as goal
 
+-- the reader has a world
 pub carry_out-requires : goal.carry_out-requires
 carry_out-requires c =
-    let run = runs c.args.self.now c.in-Some.world (reached c.requires.0) c.in-Some.is c.requires.1.at in
-    record {
-      version = subst (λ (f : Format). IsVersion f.version) (sym run.format) run.known;
-      companions = ap (λ (f : Format). f.companions) run.format;
-      count = subst (λ (f : Format). FitsFirst (f.version == 1) f.companions) (sym run.format) run.fits;
-      stands = (
-        run.lines,
-        run.stands,
-        subst (λ n. IsNext n run.lines) (sym c.requires.2) (is_next c.requires.0 _ run.version run.lines run.is),
-      );
-    }
+    let before = c.requires.0 in
+    (reached before, rw c.in-Some.is at c.requires.1.at, rw c.requires.2 (well before))
 
 pub returns-in-Some-clause-answers : goal.returns-in-Some-clause-answers
-returns-in-Some-clause-answers c =
-    answers-line c.carry_out.result c.args.self.now c.in-Some.world c.args.number c.args.text.now c.args.out.now.items
-    c.carry_out.new.out.items c.in-Some.is c.carry_out.ensures.answers
+returns-in-Some-clause-answers c = λ before stands is.
+    rw is at (c.carry_out.ensures.answers (reached before) (rw c.in-Some.is at stands.at))
 
 pub returns-in-Some-clause-stands : goal.returns-in-Some-clause-stands
 returns-in-Some-clause-stands c =
-    stands-after c.carry_out.result c.args.self.now c.in-Some.world c.carry_out.new.world c.args.number c.args.text.now
-    c.in-Some.is c.carry_out.ensures.header c.carry_out.ensures.stands
-    (λ other stood. next-number c.args.self.now c.args.number c.requires.0 other c.requires.1 c.requires.2 stood)
+    on_ok c.carry_out.result
+    (λ goes before stands.
+    let number : c.args.number ≡ length before + 1 = omega (arith, stands.last, c.requires.1.last, c.requires.2) in
+    record {
+      last = omega (arith, number, length-append before (c.args.text.now ∷ []));
+      at = rw (reached-push before c.args.text.now, ← number)
+          (goes (reached before) (rw c.in-Some.is at stands.at) (rw number (well before)));
+    })
+    c.carry_out.ensures.stands
 
-pub open-requires-clause-at : goal.open-requires-clause-at
-open-requires-clause-at c =
-    (reached c.requires.0, c.requires.1.at)
+-- it has none yet
+pub open-requires-clause-well : goal.open-requires-clause-well
+open-requires-clause-well c =
+    let before = c.requires.0 in
+    (length before + 1, reached before, rw c.in-None.is at c.requires.1.at, well before)
 
-pub returns-in-None-clause-answers : goal.returns-in-None-clause-answers
-returns-in-None-clause-answers c = λ before stands is.
-    answers-header c.open.result c.args.self.now c.open.new.self c.args.number c.args.text.now c.args.out.now.items
-    c.open.ensures.reads before stands
+pub returns-in-Ok-clause-answers : goal.returns-in-Ok-clause-answers
+returns-in-Ok-clause-answers c = λ before stands is.
+    let reads = c.in-Ok.ensures.reads (reached before) (rw c.in-None.is at stands.at) (length before + 1) in
+    record { cases = ([], reads.0, sym (append-nil c.args.out.now.items)) }
 
-pub returns-in-None-clause-stands : goal.returns-in-None-clause-stands
-returns-in-None-clause-stands c =
-    stands-header c.open.result c.args.self.now c.open.new.self c.args.number c.args.text.now c.open.ensures.reads
-    c.open.ensures.last
-    (λ other stood. next-number c.args.self.now c.args.number c.requires.0 other c.requires.1 c.requires.2 stood)
+pub returns-in-Ok-clause-stands : goal.returns-in-Ok-clause-stands
+returns-in-Ok-clause-stands c = λ before stands.
+    let reads = c.in-Ok.ensures.reads (reached before) (rw c.in-None.is at stands.at) (length before + 1) in
+    record {
+      last = omega (
+        arith,
+        stands.last,
+        c.requires.1.last,
+        c.requires.2,
+        c.in-Ok.ensures.last,
+        length-append before (c.args.text.now ∷ []),
+      );
+      at = rw (reached-push before c.args.text.now) reads.1;
+    }
+
+pub returns-in-Err-clause-answers : goal.returns-in-Err-clause-answers
+returns-in-Err-clause-answers c = λ before stands is.
+    record {
+      cases = (
+        rw c.unread.ensures
+            (c.in-Err.ensures.reads (reached before) (rw c.in-None.is at stands.at) (length before + 1)),
+        refl,
+      );
+    }

@@ -1,0 +1,116 @@
+-- What the status of a run over lines tells of it and of its devices.
+use Rattle.std.proofs.Common.{◌≡◌, ℕ, arith, ap, sym, subst, ◌∙◌, refl, inl, inr, List}
+use Rattle.std.specs.Prelude.{Option, Some, None, ⊤}
+use Rattle.css_lines.specs.Meaning.{Meaning, Outcome, outcome}
+use Rattle.css_lines.specs.Ending.{RanToEnd, RanUntil, SourceCounts, SinkCounts}
+use Rattle.css_lines.specs.declared.reader.Refusal.{Refusal}
+use Rattle.css_lines.specs.declared.ending.Stop.{Stop}
+use Rattle.css_lines.specs.declared.ending.Stop.TheVariants as stops
+use Rattle.css_replay.specs.declared.status.Status.{Status}
+use Rattle.css_replay.specs.declared.status.Status.TheVariants.{Done, Usage, ReadFault, WriteFault, NetFault}
+use Rattle.css_replay.specs.declared.status.Status.TheVariants.{Unreachable, ChildFault}
+use Rattle.css_replay.specs.Devices.{SourceUse, SinkUse}
+use Rattle.css_replay.specs.Does.{OverLines}
+use Rattle.css_replay.specs.Ended.{CountsReads, CountsWrites, HasNotFailed, IsDoneUnlessMemory, IsNoUsage, TellsNoLive}
+use Rattle.css_replay.specs.Ended.{stop_status}
+
+-- a status that tells why a line is refused, or want of memory
+abbrev pub IsOfLine : Status → Type 0
+IsOfLine Done = ⊥
+IsOfLine Usage = ⊥
+IsOfLine ReadFault = ⊥
+IsOfLine WriteFault = ⊥
+IsOfLine (NetFault failure) = ⊥
+IsOfLine (Unreachable turns) = ⊥
+IsOfLine (ChildFault status) = ⊥
+IsOfLine _ = ⊤
+
+-- It tells which of the source and the sink failed, and of no other device.
+pub record EndsLines (r r' w w' : ℕ) (result : Status) : Type 0 where
+  pub no_usage : IsNoUsage result
+  pub quiet : TellsNoLive result
+  pub reads : CountsReads r r' result
+  pub writes : CountsWrites w w' result
+
+pub line_ends : {r r' w w' : ℕ} (result : Status) → IsOfLine result → r' ≡ r → w' ≡ w → EndsLines r r' w w' result
+line_ends Done of read wrote = absurd of
+line_ends Usage of read wrote = absurd of
+line_ends ReadFault of read wrote = absurd of
+line_ends WriteFault of read wrote = absurd of
+line_ends (NetFault failure) of read wrote = absurd of
+line_ends (Unreachable turns) of read wrote = absurd of
+line_ends (ChildFault status) of read wrote = absurd of
+line_ends _ of read wrote = record {
+  no_usage = tt;
+  quiet = record { calls = λ n. refl; dials = λ n. omega arith; spawns = λ n. omega arith };
+  reads = read;
+  writes = wrote;
+}
+
+-- of an input of which no line is refused a run stops only for want of memory, unless a device failed
+only_memory : {Cause : Type 0} {meaning : Meaning Cause} {bytes : List ℕ}
+    {left holds_old holds_new : Option (List ℕ)} {reads reads_new writes writes_new : ℕ} (stop : Stop Cause)
+    → RanUntil meaning bytes left holds_old holds_new stop → (outcome meaning bytes).verdict ≡ None
+    → SourceCounts reads reads_new stop → SinkCounts writes writes_new stop
+    → HasNotFailed reads reads_new → HasNotFailed writes writes_new → stop ≡ stops.Memory
+only_memory (stops.BadLine line why) ran accepted source sink read written =
+    let verdict = sym (ap (λ (o : Outcome _). o.verdict) ran.verdict) ∙ accepted in
+    absurd (cc)
+only_memory stops.ReadFault ran accepted source sink read written =
+    absurd (omega (arith, source.risen read.below, read.same))
+only_memory stops.WriteFault ran accepted source sink read written =
+    absurd (omega (arith, sink.risen written.below, written.same))
+only_memory stops.Memory ran accepted source sink read written = refl
+
+-- ---- a run that read all
+pub done_ends : {r r' w w' : ℕ} → r' ≡ r → w' ≡ w → EndsLines r r' w w' Done
+done_ends read wrote = record {
+  no_usage = tt;
+  quiet = record { calls = λ n. refl; dials = λ n. omega arith; spawns = λ n. refl };
+  reads = read;
+  writes = wrote;
+}
+
+pub read_all : {L Cause : Type 0} {meaning : Meaning Cause} {stands : L → List (List ℕ) → Type 0} {lines : L}
+    {refused : ℕ → Refusal Cause → Status} {source : SourceUse} {sink : SinkUse}
+    → ((bytes : List ℕ) → source.left_old ≡ Some bytes
+    → RanToEnd meaning stands bytes source.left_new sink.holds_old sink.holds_new lines)
+    → OverLines meaning refused source sink Done
+read_all ran = record {
+  no_usage = tt;
+  reads = λ bytes is.
+      let all = ran bytes is in
+      inl (record { done = refl; at_end = all.at_end; accepted = all.accepted; grew = all.grew });
+  complete = λ bytes is accepted read written. tt;
+}
+
+-- ---- one that stopped
+module _ {Cause : Type 0} (refused : ℕ → Refusal Cause → Status)
+    (of_line : (line : ℕ) (why : Refusal Cause) → IsOfLine (refused line why)) where
+  -- it isn't told as done
+  pub never_done : (stop : Stop Cause) → stop_status refused stop ≡ Done → ⊥
+  never_done (stops.BadLine line why) e = subst IsOfLine e (of_line line why)
+  never_done _ e = cc
+
+  pub stop_ends : {r r' w w' : ℕ} (stop : Stop Cause) → SourceCounts r r' stop → SinkCounts w w' stop
+      → EndsLines r r' w w' (stop_status refused stop)
+  stop_ends (stops.BadLine line why) read wrote = line_ends (refused line why) (of_line line why) read wrote
+  stop_ends _ read wrote = record {
+    no_usage = tt;
+    quiet = record { calls = λ n. refl; dials = λ n. omega arith; spawns = λ n. omega arith };
+    reads = read;
+    writes = wrote;
+  }
+
+  pub stopped : {meaning : Meaning Cause} {source : SourceUse} {sink : SinkUse} (stop : Stop Cause)
+      → ((bytes : List ℕ) → source.left_old ≡ Some bytes
+      → RanUntil meaning bytes source.left_new sink.holds_old sink.holds_new stop)
+      → SourceCounts source.faults_old source.faults_new stop → SinkCounts sink.faults_old sink.faults_new stop
+      → OverLines meaning refused source sink (stop_status refused stop)
+  stopped stop ran read wrote = record {
+    no_usage = (stop_ends stop read wrote).no_usage;
+    reads = λ bytes is. inr (record { stop = stop; ran = ran bytes is; told = refl });
+    complete = λ bytes is accepted unread unwritten.
+        subst (λ (s : Stop Cause). IsDoneUnlessMemory (stop_status refused s))
+        (sym (only_memory stop (ran bytes is) accepted read wrote unread unwritten)) tt;
+  }
