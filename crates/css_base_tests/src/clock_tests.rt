@@ -30,8 +30,8 @@ pub(crate) type Answer = Result<(i128, i128), ClockFault>;
 
 const DONE: Answer = Ok((0, 0));
 
-pub(crate) fn rate(rt: &impl Abort, (units_per_tick, units_per_second): (u32, u32)) -> Rate {
-    Rate::of(units_per_tick, units_per_second).expect(rt, "no rate")
+pub(crate) fn rate(rt: &impl Abort, parts: (u32, u32)) -> Rate {
+    Rate::of(parts.0, parts.1).expect(rt, "no rate")
 }
 
 fn twice(number: i64) -> (i128, i128) {

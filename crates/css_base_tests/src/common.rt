@@ -4,17 +4,9 @@ ghost use Rattle.std.specs.Prelude.{◌≡◌, true};
 
 use std::process::Abort;
 
-/// The text, where the bytes are one.
-pub fn text_of(bytes: &[u8]) -> Result<&str, &[u8]> {
-    match str::from_utf8(bytes) {
-        Ok(text) => Ok(text),
-        Err(_) => Err(bytes),
-    }
-}
-
 /// What came of a row is what the row says.
 pub fn check(rt: &impl Abort, told: &[u8], expected: &[u8]) {
-    let (text, wanted) = (text_of(told), text_of(expected));
+    let (text, wanted) = (str::from_utf8(told), str::from_utf8(expected));
     assert!(rt; told == expected, "{text:?} and not {wanted:?}");
 }
 

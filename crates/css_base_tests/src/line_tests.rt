@@ -140,7 +140,8 @@ fn run<S: Source, K: Sink, L: Lines>(
     drive(alloc, source, sink, lines)
 }
 
-fn check_run(rt: &impl Abort, alloc: Global, (bytes, wanted, output): Row, faults: Faults) {
+fn check_run(rt: &impl Abort, alloc: Global, row: &Row, faults: Faults) {
+    let (bytes, wanted, output) = *row;
     let (read, written, failing_read, failing_write) = faults;
     assert!(rt; 1 <= read && 1 <= written);
     let source = MemorySource::new(alloc, bytes, read, &[failing_read]);
@@ -157,7 +158,7 @@ fn check_run(rt: &impl Abort, alloc: Global, (bytes, wanted, output): Row, fault
 
 #[test]
 fn lines_are_printed_up_to_a_refusal(rt: HostRuntime) {
-    for row in ROWS {
+    for row in &ROWS {
         for piece in [1, 5, 100] {
             check_run(&rt, rt.alloc(), row, (piece, piece, 0, 0));
         }
@@ -179,7 +180,8 @@ const FAULTS: [(Faults, Stop<Cause>, &[u8]); 8] = [
 
 #[test]
 fn a_fault_leaves_what_was_written(rt: HostRuntime) {
-    for (faults, stop, output) in FAULTS {
-        check_run(&rt, rt.alloc(), (b"ab\ncd", Err(stop), output), faults);
+    for (faults, stop, output) in &FAULTS {
+        let row = (b"ab\ncd".as_slice(), Err(*stop), *output);
+        check_run(&rt, rt.alloc(), &row, *faults);
     }
 }

@@ -1,4 +1,4 @@
-use crate::common::{check, check_that, text_of};
+use crate::common::{check, check_that};
 use css_text::{
     Field, Map, TextFault, field_of, list, member, object, read_object, rewrite_numerals,
     write_value,
@@ -91,11 +91,8 @@ fn odd(alloc: Global, bytes: &[u8]) -> Result<u32, TextFault> {
 }
 
 fn check_odd(rt: &impl Abort, alloc: Global, bytes: &[u8], expected: Result<u32, TextFault>) {
-    let (found, text) = (odd(alloc, bytes), text_of(bytes));
-    assert!(rt;
-        found == expected,
-        "{text:?}: {found:?} and not {expected:?}"
-    );
+    let (found, text) = (odd(alloc, bytes), str::from_utf8(bytes));
+    assert!(rt; found == expected, "{text:?}: {found:?}");
 }
 
 fn expected(word: &str) -> Result<u32, TextFault> {

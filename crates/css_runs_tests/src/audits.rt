@@ -1,16 +1,15 @@
 //! Audits of records: each refusal is a row.
 use crate::companion_rows::RECORD;
 use crate::rows::{HEADER, lines_of, text_of};
+use crate::runs::NO_MEMORY;
 use css_audit::{
     Audit, AuditFault, Auditing, LineFault, print_header, print_line, read_header, read_line,
 };
 use css_lines::{Lines, Refusal, Stop, drive};
 use css_memory::{MemorySink, MemorySource};
-use css_num::Memory;
 use css_outside::{Sink, Source};
 use std::alloc::{AllocError, Global};
 use std::process::Abort;
-use std::test::Fail;
 
 fn stop_words(alloc: Global, stop: &Stop<AuditFault>) -> Result<String, AllocError> {
     let Stop::BadLine { line, why } = stop else {
@@ -49,25 +48,24 @@ fn end_words(
 }
 
 /// What an audit of these bytes tells: what it prints, or which line is refused and why.
-pub fn words(alloc: Global, bytes: &[u8]) -> Result<Vec<u8>, Memory> {
-    let mut source = MemorySource::new(alloc, bytes, 4096, &[])?;
-    let mut sink = MemorySink::new(alloc, 100, &[])?;
+pub fn words(rt: &impl Abort, alloc: Global, bytes: &[u8]) -> Vec<u8> {
+    let mut source = MemorySource::new(alloc, bytes, 4096, &[]).expect(rt, NO_MEMORY);
+    let mut sink = MemorySink::new(alloc, 100, &[]).expect(rt, NO_MEMORY);
     let ended = audited(alloc, &mut source, &mut sink);
-    Ok(end_words(alloc, &ended, sink.bytes())?)
+    end_words(alloc, &ended, sink.bytes()).expect(rt, NO_MEMORY)
 }
 
 /// Audits these bytes.
-fn assert_audit(rt: &impl Abort, alloc: Global, bytes: &[u8], wanted: &str) -> Result<(), Memory> {
-    let told = words(alloc, bytes)?;
+fn assert_audit(rt: &impl Abort, alloc: Global, bytes: &[u8], wanted: &str) {
+    let told = words(rt, alloc, bytes);
     let (record, text) = (text_of(bytes), text_of(&told));
     assert!(rt; text == wanted, "{text} and not {wanted} of\n{record}");
-    Ok(())
 }
 
 /// Audits lines that are told in short.
-fn assert_short(rt: &impl Abort, alloc: Global, short: &str, wanted: &str) -> Result<(), Memory> {
-    let lines = lines_of(alloc, short, usize::MAX)?;
-    assert_audit(rt, alloc, lines.as_bytes(), wanted)
+fn assert_short(rt: &impl Abort, alloc: Global, short: &str, wanted: &str) {
+    let lines = lines_of(alloc, short, usize::MAX).expect(rt, NO_MEMORY);
+    assert_audit(rt, alloc, lines.as_bytes(), wanted);
 }
 
 /// Records in short, and what is told.
@@ -103,11 +101,10 @@ const RECORDS: &[(&str, &str)] = &[
 ];
 
 #[test]
-fn records_are_right_or_refused(rt: HostRuntime) -> Result<(), Fail> {
+fn records_are_right_or_refused(rt: HostRuntime) {
     for (short, wanted) in RECORDS {
-        assert_short(&rt, rt.alloc(), short, wanted)?;
+        assert_short(&rt, rt.alloc(), short, wanted);
     }
-    Ok(())
 }
 
 const WRONG: &str = "line 11: wrong report, Ticks { lo: 900000, hi: 900000 }";
@@ -132,12 +129,13 @@ const CHANGED: &[(&str, &str, &str)] = &[
 ];
 
 #[test]
-fn a_changed_line_is_found(rt: HostRuntime) -> Result<(), Fail> {
+fn a_changed_line_is_found(rt: HostRuntime) {
     for (line, other, wanted) in CHANGED {
-        let short = RECORD.replace(rt.alloc(), *line, other)?;
-        assert_short(&rt, rt.alloc(), &short, wanted)?;
+        let short = RECORD
+            .replace(rt.alloc(), *line, other)
+            .expect(&rt, NO_MEMORY);
+        assert_short(&rt, rt.alloc(), &short, wanted);
     }
-    Ok(())
 }
 
 /// How many bytes fewer than the record has, and what is told.
@@ -146,13 +144,12 @@ const CUT: &[(usize, &str)] =
     &[(1, "reports 2\n"), (2, WRONG), (22, WRONG), (23, "line 11: form"), (29, "reports 1\n")];
 
 #[test]
-fn a_record_may_be_cut_in_its_last_line(rt: HostRuntime) -> Result<(), Fail> {
-    let whole = lines_of(rt.alloc(), RECORD, usize::MAX)?;
+fn a_record_may_be_cut_in_its_last_line(rt: HostRuntime) {
+    let whole = lines_of(rt.alloc(), RECORD, usize::MAX).expect(&rt, NO_MEMORY);
     for (fewer, wanted) in CUT {
         let length = whole.len().saturating_sub(*fewer);
-        assert_audit(&rt, rt.alloc(), &whole.as_bytes()[..length], wanted)?;
+        assert_audit(&rt, rt.alloc(), &whole.as_bytes()[..length], wanted);
     }
-    Ok(())
 }
 
 /// A record of one report.
@@ -169,23 +166,22 @@ const RIGHT_AGAIN: [usize; 24] = [
 ];
 
 #[test]
-fn a_turned_bit_is_found_unless_the_record_is_right_again(rt: HostRuntime) -> Result<(), Fail> {
-    let record = lines_of(rt.alloc(), SHORT, usize::MAX)?;
+fn a_turned_bit_is_found_unless_the_record_is_right_again(rt: HostRuntime) {
+    let record = lines_of(rt.alloc(), SHORT, usize::MAX).expect(&rt, NO_MEMORY);
     for index in 0..record.len() {
-        let mut bytes = Vec::from_slice(rt.alloc(), record.as_bytes())?;
+        let mut bytes = Vec::from_slice(rt.alloc(), record.as_bytes()).expect(&rt, NO_MEMORY);
         if let Some(byte) = bytes.get_mut(index) {
             *byte ^= 1;
         }
-        let is_right = words(rt.alloc(), &bytes)?.starts_with(b"reports ");
+        let is_right = words(&rt, rt.alloc(), &bytes).starts_with(b"reports ");
         assert!(rt; is_right == RIGHT_AGAIN.contains(&index), "byte {index}");
     }
-    Ok(())
 }
 
 /// Has these lines audited one by one, and then a wrong one.
-fn assert_lines(rt: &impl Abort, audit: &mut Audit, lines: &str) -> Result<(), Fail> {
+fn assert_lines(rt: &impl Abort, audit: &mut Audit, lines: &str) {
     for line in lines.lines().skip(1) {
-        audit.line(line.as_bytes())?;
+        audit.line(line.as_bytes()).expect(rt, "a line");
     }
     assert_eq!(rt; audit.reports(), 2);
     let (earlier, excess) = match audit.line(b"turn 19") {
@@ -193,14 +189,13 @@ fn assert_lines(rt: &impl Abort, audit: &mut Audit, lines: &str) -> Result<(), F
         _ => (0, 0),
     };
     assert!(rt; earlier == 10 && excess == 1);
-    Ok(())
 }
 
 #[test]
-fn an_audit_goes_line_by_line(rt: HostRuntime) -> Result<(), Fail> {
-    let lines = lines_of(rt.alloc(), RECORD, usize::MAX)?;
-    let mut audit = Audit::new(rt.alloc(), HEADER.as_bytes())?;
-    assert_lines(&rt, &mut audit, &lines)
+fn an_audit_goes_line_by_line(rt: HostRuntime) {
+    let lines = lines_of(rt.alloc(), RECORD, usize::MAX).expect(&rt, NO_MEMORY);
+    let mut audit = Audit::new(rt.alloc(), HEADER.as_bytes()).expect(&rt, "a header");
+    assert_lines(&rt, &mut audit, &lines);
 }
 
 /// Lines that are none of a record, with a `|` before each.
@@ -216,31 +211,21 @@ const NO_HEADERS: &str = "||css-record|css-record 2 0 0 urn:x -|css-record 1 256
     css-record 1 00 0 urn:x -|css-agree 1 0 0 urn:x -|css-record 1 0 0 urn:x -\r|css-record 1 0 0 urn:\u{e9} -";
 
 /// Audits each line behind these words.
-fn assert_each(
-    rt: &impl Abort,
-    alloc: Global,
-    before: &str,
-    lines: &str,
-    wanted: &str,
-) -> Result<(), Memory> {
+fn assert_each(rt: &impl Abort, alloc: Global, before: &str, lines: &str, wanted: &str) {
     for line in lines.split('|').skip(1) {
-        let mut text = String::from_str(alloc, before)?;
-        text.push_str(line)?;
-        text.push_str("\n")?;
-        assert_audit(rt, alloc, text.as_bytes(), wanted)?;
+        let text = format!(in alloc; "{before}{line}\n").expect(rt, NO_MEMORY);
+        assert_audit(rt, alloc, text.as_bytes(), wanted);
     }
-    Ok(())
 }
 
 #[test]
-fn lines_outside_the_grammar_are_refused(rt: HostRuntime) -> Result<(), Fail> {
-    let header = lines_of(rt.alloc(), "HEADER", 1)?;
-    assert_each(&rt, rt.alloc(), &header, NO_LINES, "line 2: form")?;
-    assert_each(&rt, rt.alloc(), "", NO_HEADERS, "line 1: form")?;
-    assert_audit(&rt, rt.alloc(), b"", "line 1: form")?;
+fn lines_outside_the_grammar_are_refused(rt: HostRuntime) {
+    let header = lines_of(rt.alloc(), "HEADER", 1).expect(&rt, NO_MEMORY);
+    assert_each(&rt, rt.alloc(), &header, NO_LINES, "line 2: form");
+    assert_each(&rt, rt.alloc(), "", NO_HEADERS, "line 1: form");
+    assert_audit(&rt, rt.alloc(), b"", "line 1: form");
     let short = Audit::new(rt.alloc(), b"css-record");
     assert!(rt; matches!(&short, Err(AuditFault::Form)));
-    Ok(())
 }
 
 /// A header, and a line of so many bytes.
@@ -253,12 +238,12 @@ fn long_line(alloc: Global, length: usize) -> Result<Vec<u8>, AllocError> {
 
 // A record of the greatest length would take the memory of three.
 #[test]
-fn a_line_has_at_most_16777216_bytes(rt: HostRuntime) -> Result<(), Fail> {
-    let told = words(rt.alloc(), &long_line(rt.alloc(), 16_777_217)?)?;
+fn a_line_has_at_most_16777216_bytes(rt: HostRuntime) {
+    let line = long_line(rt.alloc(), 16_777_217).expect(&rt, NO_MEMORY);
+    let told = words(&rt, rt.alloc(), &line);
     assert_eq!(rt; told.as_slice(), b"line 2: long".as_slice());
     assert_eq!(rt; Auditing::new(rt.alloc()).longest_line(), 16_777_216);
     assert_eq!(rt; Auditing::new(rt.alloc()).longest_input(), 268_435_456);
-    Ok(())
 }
 
 /// Each kind of line behind the header.
@@ -267,24 +252,23 @@ const LINES: &str =
     report 2 ticks 900000 900000; slept; cii -; closed cii; closed ts; land 4294967295999999999 -; report  x ; report ";
 
 #[test]
-fn a_line_is_printed_as_it_was_read(rt: HostRuntime) -> Result<(), Fail> {
-    for line in lines_of(rt.alloc(), LINES, usize::MAX)?.lines() {
-        let read = read_line(rt.alloc(), line.as_bytes())?;
-        let printed = print_line(rt.alloc(), &read)?;
+fn a_line_is_printed_as_it_was_read(rt: HostRuntime) {
+    let lines = lines_of(rt.alloc(), LINES, usize::MAX).expect(&rt, NO_MEMORY);
+    for line in lines.lines() {
+        let read = read_line(rt.alloc(), line.as_bytes()).expect(&rt, "a line");
+        let printed = print_line(rt.alloc(), &read).expect(&rt, NO_MEMORY);
         assert!(rt; printed.bytes() == line.as_bytes(), "{line}");
     }
     assert!(rt; matches!(&read_line(rt.alloc(), b"land 1 f"), Err(LineFault::Form)));
-    Ok(())
 }
 
 #[test]
-fn a_header_is_printed_as_it_was_read(rt: HostRuntime) -> Result<(), Fail> {
+fn a_header_is_printed_as_it_was_read(rt: HostRuntime) {
     for header in [HEADER, "css-record 1 2560000 1000000000 urn:x dvb://1"] {
-        let read = read_header(rt.alloc(), header.as_bytes())?;
-        let printed = print_header(rt.alloc(), &read)?;
+        let read = read_header(rt.alloc(), header.as_bytes()).expect(&rt, "a header");
+        let printed = print_header(rt.alloc(), &read).expect(&rt, NO_MEMORY);
         assert!(rt; printed.bytes() == header.as_bytes(), "{header}");
     }
     let short = read_header(rt.alloc(), b"css-record 1 0 0 -");
     assert!(rt; matches!(&short, Err(LineFault::Form)));
-    Ok(())
 }

@@ -5,7 +5,7 @@ use crate::companion_rows::{
     ANSWERS, CUES, CUTS, DIALS, K, LACKING, REFUSALS, SESSIONS, TURNS, UNWRITTEN,
 };
 use crate::rows::{Row, lines_of};
-use crate::runs::{assert_told, companion, recorded};
+use crate::runs::{NO_MEMORY, assert_told, companion, recorded};
 use crate::scripts::outside_of;
 use css_companion::Report;
 use css_drive::{Before, Listens, Nobody};
@@ -14,78 +14,74 @@ use css_memory::MemorySink;
 use css_num::{Memory, Text};
 use std::alloc::Global;
 use std::process::Abort;
-use std::test::Fail;
 
 /// Makes the run of a row, and finds what it wrote.
-fn assert_row<F: Listens>(
-    rt: &impl Abort,
-    alloc: Global,
-    row: &Row,
-    followers: &mut F,
-) -> Result<(), Fail> {
-    let mut outside = outside_of(rt, alloc, row)?;
-    let mut sink = MemorySink::new(alloc, 4096, row.sink_fails)?;
-    companion(rt, alloc, row, &mut sink, &mut outside, followers)?;
-    Ok(assert_told(rt, alloc, row, sink.bytes(), row.told, usize::MAX)?)
+fn assert_row<F: Listens>(rt: &impl Abort, alloc: Global, row: &Row, followers: &mut F) {
+    let mut outside = outside_of(rt, alloc, row);
+    let mut sink = MemorySink::new(alloc, 4096, row.sink_fails).expect(rt, NO_MEMORY);
+    companion(rt, alloc, row, &mut sink, &mut outside, followers);
+    assert_told(rt, alloc, row, sink.bytes(), row.told, usize::MAX);
 }
 
 /// The same of its record.
-fn assert_record(rt: &impl Abort, alloc: Global, row: &Row, lines: &str) -> Result<(), Fail> {
-    let mut outside = outside_of(rt, alloc, row)?;
-    let mut sink = MemorySink::new(alloc, 4096, row.sink_fails)?;
-    recorded(rt, alloc, row, &mut sink, &mut outside)?;
-    Ok(assert_told(rt, alloc, row, sink.bytes(), lines, row.lines)?)
+fn assert_record(rt: &impl Abort, alloc: Global, row: &Row, lines: &str) {
+    let mut outside = outside_of(rt, alloc, row);
+    let mut sink = MemorySink::new(alloc, 4096, row.sink_fails).expect(rt, NO_MEMORY);
+    recorded(rt, alloc, row, &mut sink, &mut outside);
+    assert_told(rt, alloc, row, sink.bytes(), lines, row.lines);
 }
 
 /// Finds that a record is right, but for one without a line and one that ends with a refused text.
-fn assert_right(rt: &impl Abort, alloc: Global, row: &Row, lines: &str) -> Result<(), Memory> {
-    let told = words(alloc, lines_of(alloc, lines, row.lines)?.as_bytes())?;
+fn assert_right(rt: &impl Abort, alloc: Global, row: &Row, lines: &str) {
+    let record = lines_of(alloc, lines, row.lines).expect(rt, NO_MEMORY);
+    let told = words(rt, alloc, record.as_bytes());
     let is_wrong = row.lines == 0 || row.ended.starts_with("BadCii");
     assert!(rt; told.starts_with(b"reports ") != is_wrong, "{}", row.name);
-    Ok(())
 }
 
 /// Makes the recorded runs of those rows whose record is looked at, and audits it.
-fn assert_records(rt: &impl Abort, alloc: Global, rows: &[Row]) -> Result<(), Fail> {
+fn assert_records(rt: &impl Abort, alloc: Global, rows: &[Row]) {
     for row in rows {
         if let Some(lines) = row.record {
-            assert_record(rt, alloc, row, lines)?;
-            assert_right(rt, alloc, row, lines)?;
+            assert_record(rt, alloc, row, lines);
+            assert_right(rt, alloc, row, lines);
         }
     }
-    Ok(())
 }
 
 /// Makes the runs of these rows, without and with a record.
-fn assert_rows(rt: &impl Abort, alloc: Global, rows: &[Row]) -> Result<(), Fail> {
+fn assert_rows(rt: &impl Abort, alloc: Global, rows: &[Row]) {
     for row in rows {
-        assert_row(rt, alloc, row, &mut Nobody)?;
+        assert_row(rt, alloc, row, &mut Nobody);
     }
-    assert_records(rt, alloc, rows)
+    assert_records(rt, alloc, rows);
 }
 
 #[test]
-fn each_run_ends_as_its_row_says(rt: HostRuntime) -> Result<(), Fail> {
+fn each_run_ends_as_its_row_says(rt: HostRuntime) {
     for rows in [ANSWERS, SESSIONS, REFUSALS, TURNS, DIALS] {
-        assert_rows(&rt, rt.alloc(), rows)?;
+        assert_rows(&rt, rt.alloc(), rows);
     }
-    Ok(())
 }
 
 #[rattlefmt::skip]
+fn cut_call(fails: &'static [u64], told: &'static str, lines: usize) -> Row {
+    Row { name: "a call fails", fails, ended: "NetFault", told, lines, ..K }
+}
+
+#[rattlefmt::skip]
+fn cut_write(sink_fails: &'static [u64], lines: usize) -> Row {
+    Row { name: "a write of a record fails", sink_fails, ended: "WriteFault", lines, ..K }
+}
+
 #[test]
-fn each_call_and_each_write_fails_once(rt: HostRuntime) -> Result<(), Fail> {
+fn each_call_and_each_write_fails_once(rt: HostRuntime) {
     for (fails, told, lines) in CUTS {
-        let (fails, told, lines) = (*fails, *told, *lines);
-        let cut = Row { name: "a call fails", fails, ended: "NetFault", told, lines, ..K };
-        assert_rows(&rt, rt.alloc(), &[cut])?;
+        assert_rows(&rt, rt.alloc(), &[cut_call(fails, told, *lines)]);
     }
     for (sink_fails, lines) in UNWRITTEN {
-        let (sink_fails, lines) = (*sink_fails, *lines);
-        let cut = Row { name: "a write of a record fails", sink_fails, ended: "WriteFault", lines, ..K };
-        assert_records(&rt, rt.alloc(), &[cut])?;
+        assert_records(&rt, rt.alloc(), &[cut_write(sink_fails, *lines)]);
     }
-    Ok(())
 }
 
 /// Says nothing of the first report that it hears, and lacks memory at each other.
@@ -127,13 +123,14 @@ fn assert_followed<F: Listens>(
     row: &Row,
     sheet: &[u8],
     followers: &mut F,
-) -> Result<(), Fail> {
-    followers.prepare(&read_sheet(alloc, sheet)?)?;
-    assert_row(rt, alloc, row, followers)
+) {
+    let sheet = read_sheet(alloc, sheet).expect(rt, "a sheet");
+    followers.prepare(&sheet).expect(rt, NO_MEMORY);
+    assert_row(rt, alloc, row, followers);
 }
 
 #[test]
-fn cues_and_widths_stand_behind_their_report(rt: HostRuntime) -> Result<(), Fail> {
+fn cues_and_widths_stand_behind_their_report(rt: HostRuntime) {
     let mut followers = Before {
         first: Cues::new(rt.alloc()),
         rest: Before {
@@ -142,11 +139,11 @@ fn cues_and_widths_stand_behind_their_report(rt: HostRuntime) -> Result<(), Fail
         },
     };
     let sheet = b"cue 900000 start\nmeter 1\n";
-    assert_followed(&rt, rt.alloc(), &CUES, sheet, &mut followers)
+    assert_followed(&rt, rt.alloc(), &CUES, sheet, &mut followers);
 }
 
 #[test]
-fn a_follower_that_lacks_memory_ends_the_run(rt: HostRuntime) -> Result<(), Fail> {
+fn a_follower_that_lacks_memory_ends_the_run(rt: HostRuntime) {
     let mut followers = Before {
         first: Meter::new(rt.alloc()),
         rest: Before {
@@ -154,5 +151,5 @@ fn a_follower_that_lacks_memory_ends_the_run(rt: HostRuntime) -> Result<(), Fail
             rest: Nobody,
         },
     };
-    assert_followed(&rt, rt.alloc(), &LACKING, b"meter 2\n", &mut followers)
+    assert_followed(&rt, rt.alloc(), &LACKING, b"meter 2\n", &mut followers);
 }

@@ -6,7 +6,7 @@
 use crate::network::Network;
 use crate::noted::{Log, Noted, Sending, keep};
 use crate::rows::{QUIET, Row};
-use crate::runs::{companion, television};
+use crate::runs::{NO_MEMORY, companion, television};
 use crate::scripts::{add_datagram, add_heard, add_readings, outside_giving, script_of};
 use css_companion::Report;
 use css_drive::Listens;
@@ -16,7 +16,6 @@ use css_num::{Memory, Text};
 use css_outside::{Heard, Kind};
 use std::alloc::Global;
 use std::process::Abort;
-use std::test::Fail;
 
 const TURNS: u64 = 1000;
 
@@ -183,23 +182,23 @@ fn add_companion(
 }
 
 /// The television's run, where the companion sends these requests.
-fn television_side(rt: &impl Abort, alloc: Global, requests: &[Sending]) -> Result<Noted, Fail> {
-    let mut network = Network::new(alloc, 1, requests)?;
-    let mut script = script_of(alloc, &TELEVISION)?;
-    add_television(alloc, &mut script, &mut network)?;
-    let mut outside = outside_giving(rt, alloc, script)?;
-    television(rt, alloc, &TELEVISION, &mut outside)?;
-    Ok(outside)
+fn television_side(rt: &impl Abort, alloc: Global, requests: &[Sending]) -> Noted {
+    let mut network = Network::new(alloc, 1, requests).expect(rt, NO_MEMORY);
+    let mut script = script_of(rt, alloc, &TELEVISION);
+    add_television(alloc, &mut script, &mut network).expect(rt, NO_MEMORY);
+    let mut outside = outside_giving(rt, alloc, script);
+    television(rt, alloc, &TELEVISION, &mut outside);
+    outside
 }
 
 /// What the companion's outside gives, where the television sent this.
-fn companion_script(alloc: Global, sent: &Log) -> Result<OutsideScript, Memory> {
-    let mut network = Network::new(alloc, 2, &sent.datagrams)?;
-    let mut script = script_of(alloc, &COMPANION)?;
-    add_readings(&mut script, &[local(after(1, 0))], &[])?;
-    add_text(alloc, &mut script, 1, 1, &sent.texts)?;
-    add_companion(alloc, &mut script, &mut network, &sent.texts)?;
-    Ok(script)
+fn companion_script(rt: &impl Abort, alloc: Global, sent: &Log) -> OutsideScript {
+    let mut network = Network::new(alloc, 2, &sent.datagrams).expect(rt, NO_MEMORY);
+    let mut script = script_of(rt, alloc, &COMPANION);
+    add_readings(&mut script, &[local(after(1, 0))], &[]).expect(rt, NO_MEMORY);
+    add_text(alloc, &mut script, 1, 1, &sent.texts).expect(rt, NO_MEMORY);
+    add_companion(alloc, &mut script, &mut network, &sent.texts).expect(rt, NO_MEMORY);
+    script
 }
 
 /// Keeps each report.
@@ -226,16 +225,12 @@ impl Listens for Reports {
 }
 
 /// The companion's run, where the television sent this.
-fn companion_side(
-    rt: &impl Abort,
-    alloc: Global,
-    sent: &Log,
-    reports: &mut Reports,
-) -> Result<Noted, Fail> {
-    let mut outside = outside_giving(rt, alloc, companion_script(alloc, sent)?)?;
-    let mut sink = MemorySink::new(alloc, 4096, &[])?;
-    companion(rt, alloc, &COMPANION, &mut sink, &mut outside, reports)?;
-    Ok(outside)
+fn companion_side(rt: &impl Abort, alloc: Global, sent: &Log, reports: &mut Reports) -> Noted {
+    let script = companion_script(rt, alloc, sent);
+    let mut outside = outside_giving(rt, alloc, script);
+    let mut sink = MemorySink::new(alloc, 4096, &[]).expect(rt, NO_MEMORY);
+    companion(rt, alloc, &COMPANION, &mut sink, &mut outside, reports);
+    outside
 }
 
 /// Finds that the companion sent what the television took: each request in its turn, and the setup in the second.
@@ -270,14 +265,13 @@ fn assert_contained(rt: &impl Abort, reports: &[Report]) {
 }
 
 #[test]
-fn each_report_contains_what_is_shown(rt: HostRuntime) -> Result<(), Fail> {
-    let requests = requests(rt.alloc())?;
-    let television = television_side(&rt, rt.alloc(), &requests)?;
+fn each_report_contains_what_is_shown(rt: HostRuntime) {
+    let requests = requests(rt.alloc()).expect(&rt, NO_MEMORY);
+    let television = television_side(&rt, rt.alloc(), &requests);
     let mut reports = Reports {
         list: Vec::new(rt.alloc()),
     };
-    let companion = companion_side(&rt, rt.alloc(), &television.log, &mut reports)?;
+    let companion = companion_side(&rt, rt.alloc(), &television.log, &mut reports);
     assert_sent(&rt, &requests, &companion.log);
     assert_contained(&rt, &reports.list);
-    Ok(())
 }

@@ -21,12 +21,14 @@ use css_tsmsg::Bound;
 use css_tv::TvConfig;
 use std::alloc::{AllocError, Global};
 use std::process::Abort;
-use std::test::Fail;
+
+/// What is told when memory runs out.
+pub const NO_MEMORY: &str = "no memory";
 
 fn text(rt: &impl Abort, alloc: Global, words: &str) -> Text
     ensures { IsUtf8 result }
 {
-    Text::of(alloc, words.as_bytes()).expect(rt, "no memory")
+    Text::of(alloc, words.as_bytes()).expect(rt, NO_MEMORY)
 }
 
 /// A value of a row that is to be from 1 to `most`.
@@ -138,12 +140,18 @@ fn television_config(rt: &impl Abort, alloc: Global, row: &Row) -> TvDrive
     }
 }
 
-fn script_lines(alloc: Global, text: &str) -> Result<Vec<ScriptLine>, Fail>
+fn script_line(rt: &impl Abort, alloc: Global, line: &str) -> ScriptLine
+    ensures { IsScriptLine result }
+{
+    read_script(alloc, line.as_bytes()).expect(rt, "no line of a script")
+}
+
+fn script_lines(rt: &impl Abort, alloc: Global, text: &str) -> Result<Vec<ScriptLine>, AllocError>
     ensures { IfOk result (λ lines. All IsScriptLine lines.items) }
 {
     let mut lines = Vec::new(alloc);
     for line in text.lines() {
-        lines.push(read_script(alloc, line.as_bytes())?)?;
+        lines.push(script_line(rt, alloc, line))?;
     }
     Ok(lines)
 }
@@ -171,32 +179,59 @@ fn end_words(alloc: Global, driven: &Driven) -> Result<String, AllocError> {
 }
 
 /// Finds that the run of a row ended as it should.
-fn assert_ended(
-    rt: &impl Abort,
-    alloc: Global,
-    row: &Row,
-    driven: &Driven,
-) -> Result<(), AllocError> {
-    let ended = end_words(alloc, driven)?;
+fn assert_ended(rt: &impl Abort, alloc: Global, row: &Row, driven: &Driven) {
+    let ended = end_words(alloc, driven).expect(rt, NO_MEMORY);
     let (name, wanted) = (row.name, row.ended);
     assert!(rt;
         ended.starts_with(wanted),
         "{name}: {ended} and not {wanted}"
     );
-    Ok(())
 }
 
-/// Makes a television's run.
-pub fn television(
+// Each of these calls the run alone: the proof of a test has nothing of what the run promises.
+fn television_driven(
     rt: &impl Abort,
     alloc: Global,
     row: &Row,
+    script: &[ScriptLine],
     outside: &mut Noted,
-) -> Result<(), Fail> {
-    let script = script_lines(alloc, row.script)?;
-    let config = television_config(rt, alloc, row);
-    let driven = drive_tv(alloc, config, &script, outside);
-    Ok(assert_ended(rt, alloc, row, &driven)?)
+) -> Driven
+    requires { All IsScriptLine script.now }
+{
+    drive_tv(alloc, television_config(rt, alloc, row), script, outside)
+}
+
+fn companion_driven<F: Listens>(
+    rt: &impl Abort,
+    alloc: Global,
+    row: &Row,
+    sink: &mut MemorySink,
+    outside: &mut Noted,
+    followers: &mut F,
+) -> Driven {
+    let config = companion_config(rt, alloc, row);
+    drive_companion(alloc, config, sink, outside, followers)
+}
+
+fn record_driven(
+    rt: &impl Abort,
+    alloc: Global,
+    row: &Row,
+    sink: &mut MemorySink,
+    outside: &mut Noted,
+) -> Driven {
+    drive_record(alloc, companion_config(rt, alloc, row), sink, outside)
+}
+
+fn relay_driven(rt: &impl Abort, alloc: Global, row: &Row, outside: &mut Noted) -> Driven {
+    drive_relay(alloc, relay_config(rt, alloc, row), outside)
+}
+
+/// Makes a television's run.
+pub fn television(rt: &impl Abort, alloc: Global, row: &Row, outside: &mut Noted) {
+    let script = script_lines(rt, alloc, row.script).expect(rt, NO_MEMORY);
+    let driven = television_driven(rt, alloc, row, &script, outside);
+    assert_ended(rt, alloc, row, &driven);
 }
 
 /// Makes a companion's run.
@@ -207,10 +242,9 @@ pub fn companion<F: Listens>(
     sink: &mut MemorySink,
     outside: &mut Noted,
     followers: &mut F,
-) -> Result<(), AllocError> {
-    let config = companion_config(rt, alloc, row);
-    let driven = drive_companion(alloc, config, sink, outside, followers);
-    assert_ended(rt, alloc, row, &driven)
+) {
+    let driven = companion_driven(rt, alloc, row, sink, outside, followers);
+    assert_ended(rt, alloc, row, &driven);
 }
 
 /// Makes a companion's run with its record.
@@ -220,22 +254,15 @@ pub fn recorded(
     row: &Row,
     sink: &mut MemorySink,
     outside: &mut Noted,
-) -> Result<(), AllocError> {
-    let config = companion_config(rt, alloc, row);
-    let driven = drive_record(alloc, config, sink, outside);
-    assert_ended(rt, alloc, row, &driven)
+) {
+    let driven = record_driven(rt, alloc, row, sink, outside);
+    assert_ended(rt, alloc, row, &driven);
 }
 
 /// Makes a relay's run.
-pub fn relay(
-    rt: &impl Abort,
-    alloc: Global,
-    row: &Row,
-    outside: &mut Noted,
-) -> Result<(), AllocError> {
-    let config = relay_config(rt, alloc, row);
-    let driven = drive_relay(alloc, config, outside);
-    assert_ended(rt, alloc, row, &driven)
+pub fn relay(rt: &impl Abort, alloc: Global, row: &Row, outside: &mut Noted) {
+    let driven = relay_driven(rt, alloc, row, outside);
+    assert_ended(rt, alloc, row, &driven);
 }
 
 /// Finds that the run of a row told the first of these lines, so many of them.
@@ -246,12 +273,11 @@ pub fn assert_told(
     told: &[u8],
     short: &str,
     count: usize,
-) -> Result<(), AllocError> {
-    let lines = lines_of(alloc, short, count)?;
+) {
+    let lines = lines_of(alloc, short, count).expect(rt, NO_MEMORY);
     let (name, text) = (row.name, text_of(told));
     assert!(rt;
         told == lines.as_bytes(),
         "{name}: told\n{text}and not\n{lines}"
     );
-    Ok(())
 }

@@ -4,23 +4,12 @@ ghost use Rattle.css_memory.specs.Scripts.{are_sessions};
 
 use crate::noted::{Log, Noted};
 use crate::rows::Row;
+use crate::runs::NO_MEMORY;
 use css_memory::{Datagram, MemoryOutside, OutsideScript, SessionHeard, can_be_read};
 use css_num::{Memory, Text};
 use css_outside::{Clocked, Heard, Kind};
 use std::alloc::Global;
 use std::process::Abort;
-
-/// An outside that gives nothing.
-fn nothing(alloc: Global) -> OutsideScript {
-    OutsideScript {
-        readings: Vec::new(alloc),
-        datagrams: Vec::new(alloc),
-        openings: Vec::new(alloc),
-        texts: Vec::new(alloc),
-        gone: Vec::new(alloc),
-        fails: Vec::new(alloc),
-    }
-}
 
 /// The machine slept before the readings that stand in `slept`, too.
 pub fn add_readings(
@@ -84,21 +73,20 @@ fn add_datagrams(alloc: Global, script: &mut OutsideScript, row: &Row) -> Result
     Ok(())
 }
 
-fn add_row(alloc: Global, script: &mut OutsideScript, row: &Row) -> Result<(), Memory> {
-    add_readings(script, row.times, row.slept)?;
-    add_datagrams(alloc, script, row)?;
-    add_texts(alloc, script, row.texts)?;
-    script.openings.extend_from_slice(row.openings)?;
-    script.gone.extend_from_slice(row.gone)?;
-    script.fails.extend_from_slice(row.fails)?;
-    Ok(())
-}
-
 /// What the outside of a row gives.
-pub fn script_of(alloc: Global, row: &Row) -> Result<OutsideScript, Memory> {
-    let mut script = nothing(alloc);
-    add_row(alloc, &mut script, row)?;
-    Ok(script)
+pub fn script_of(rt: &impl Abort, alloc: Global, row: &Row) -> OutsideScript {
+    let mut script = OutsideScript {
+        readings: Vec::new(alloc),
+        datagrams: Vec::new(alloc),
+        openings: row.openings.to_vec(alloc).expect(rt, NO_MEMORY),
+        texts: Vec::new(alloc),
+        gone: row.gone.to_vec(alloc).expect(rt, NO_MEMORY),
+        fails: row.fails.to_vec(alloc).expect(rt, NO_MEMORY),
+    };
+    add_readings(&mut script, row.times, row.slept).expect(rt, NO_MEMORY);
+    add_datagrams(alloc, &mut script, row).expect(rt, NO_MEMORY);
+    add_texts(alloc, &mut script, row.texts).expect(rt, NO_MEMORY);
+    script
 }
 
 /// Whether sessions alone are opened, and no wall clock.
@@ -114,19 +102,15 @@ fn can_be_opened(openings: &[Option<Kind>]) -> bool
 }
 
 /// The outside of a script.
-pub fn outside_giving(
-    rt: &impl Abort,
-    alloc: Global,
-    script: OutsideScript,
-) -> Result<Noted, Memory> {
+pub fn outside_giving(rt: &impl Abort, alloc: Global, script: OutsideScript) -> Noted {
     assert!(rt; can_be_read(&script.readings));
     assert!(rt; can_be_opened(&script.openings));
-    let outside = MemoryOutside::new(alloc, script)?;
+    let outside = MemoryOutside::new(alloc, script).expect(rt, NO_MEMORY);
     let log = Log::new(alloc);
-    Ok(Noted { outside, log })
+    Noted { outside, log }
 }
 
 /// The outside of a row.
-pub fn outside_of(rt: &impl Abort, alloc: Global, row: &Row) -> Result<Noted, Memory> {
-    outside_giving(rt, alloc, script_of(alloc, row)?)
+pub fn outside_of(rt: &impl Abort, alloc: Global, row: &Row) -> Noted {
+    outside_giving(rt, alloc, script_of(rt, alloc, row))
 }

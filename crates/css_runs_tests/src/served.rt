@@ -6,7 +6,6 @@ use crate::scripts::outside_of;
 use crate::{relay_rows as relays, television_rows as tvs};
 use std::alloc::Global;
 use std::process::Abort;
-use std::test::Fail;
 
 #[derive(Clone, Copy)]
 enum End {
@@ -14,14 +13,18 @@ enum End {
     Relay,
 }
 
-/// Makes the run of a row: its outside.
-fn run_of(rt: &impl Abort, alloc: Global, end: End, row: &Row) -> Result<Noted, Fail> {
-    let mut outside = outside_of(rt, alloc, row)?;
+fn run(rt: &impl Abort, alloc: Global, end: End, row: &Row, outside: &mut Noted) {
     match end {
-        End::Television => television(rt, alloc, row, &mut outside)?,
-        End::Relay => relay(rt, alloc, row, &mut outside)?,
+        End::Television => television(rt, alloc, row, outside),
+        End::Relay => relay(rt, alloc, row, outside),
     }
-    Ok(outside)
+}
+
+/// Makes the run of a row: its outside.
+fn run_of(rt: &impl Abort, alloc: Global, end: End, row: &Row) -> Noted {
+    let mut outside = outside_of(rt, alloc, row);
+    run(rt, alloc, end, row, &mut outside);
+    outside
 }
 
 /// Tables of runs, each with its end.
@@ -33,15 +36,14 @@ const SERVED: [(End, &[Row]); 8] = [
 ];
 
 #[test]
-fn each_end_makes_its_calls(rt: HostRuntime) -> Result<(), Fail> {
+fn each_end_makes_its_calls(rt: HostRuntime) {
     for (end, rows) in &SERVED {
         for row in rows.iter() {
-            let outside = run_of(&rt, rt.alloc(), *end, row)?;
+            let outside = run_of(&rt, rt.alloc(), *end, row);
             let made = outside.log.words.bytes();
-            assert_told(&rt, rt.alloc(), row, made, row.told, usize::MAX)?;
+            assert_told(&rt, rt.alloc(), row, made, row.told, usize::MAX);
         }
     }
-    Ok(())
 }
 
 /// How many calls were made in the last turn.
@@ -60,13 +62,12 @@ fn last_calls(made: &[u8]) -> usize {
 /// In the last turn each of 256 sessions is asked for a text, and then each is hung up. The 257th was hung up at once.
 /// The relay has a session with its television, too.
 #[test]
-fn each_end_keeps_256_sessions(rt: HostRuntime) -> Result<(), Fail> {
+fn each_end_keeps_256_sessions(rt: HostRuntime) {
     for (end, row, calls) in [
         (End::Television, &tvs::CROWD, 2 + 256 + 256),
         (End::Relay, &relays::CROWD, 3 + 256 + 257),
     ] {
-        let outside = run_of(&rt, rt.alloc(), end, row)?;
+        let outside = run_of(&rt, rt.alloc(), end, row);
         assert_eq!(rt; last_calls(outside.log.words.bytes()), calls);
     }
-    Ok(())
 }

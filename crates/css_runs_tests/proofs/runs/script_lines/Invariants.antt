@@ -4,4 +4,4 @@ use Rattle.css_schedule.specs.Ranges.{IsScriptLine}
 use Rattle.css_runs_tests.proofs.runs.script_lines.Given as goal
 
 abbrev pub invariant-loop-line : goal.invariant-loop-line
-invariant-loop-line l = All IsScriptLine l.lines.items
+invariant-loop-line g l = All IsScriptLine l.lines.items
