@@ -7,8 +7,9 @@ ghost use Rattle.css_words.specs.declared.fault.WordsFault.TheVariants as faults
 
 use crate::bounds::{earliest, latest};
 use crate::fault::WordsFault;
-use crate::options::{NumberOption, is_set, matches_of, number_or, text_given, text_given_or};
-use crate::parsed::Matches;
+use crate::options::{
+    Matches, NumberOption, is_set, matches_of, number_or, text_given, text_given_or,
+};
 use crate::recorded::check_recorded;
 use crate::tv::limit;
 use crate::words::{CompanionOptions, CompanionWords};

@@ -8,7 +8,7 @@ use crate::companion::{self, DEFAULT_SELECTOR, cii, present};
 use crate::fault::WordsFault;
 use crate::generator::{self, MOST_LINES, MOST_SEED, companions, least_lines};
 use crate::options::{
-    NumberOption, command_taking, is_set, number, number_or, text_given, text_given_or,
+    NumberOption, command_taking, is_set, number, number_or, parsed, text_given, text_given_or,
 };
 use crate::recorded::check_recorded;
 use crate::tv::{self, LOCAL_HOST, MOST_SECONDS, MOST_TURNS, check_host, limit, precision};
@@ -323,8 +323,8 @@ fn of_options<'a>(
     flags: &'a [&'a str],
     words: &'a [String],
 ) -> Option<Text> {
-    let taking = command_taking(alloc, names, flags).ok()?;
-    match taking.parsed(words) {
+    let command = command_taking(alloc, names, flags).ok()?;
+    match parsed(command, words) {
         Ok(matches) => check(alloc, name, &matches.all).err()?,
         Err(error) => of_refusal(alloc, &error),
     }

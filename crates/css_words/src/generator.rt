@@ -6,8 +6,7 @@ ghost use Rattle.css_words.specs.Lines as lines;
 ghost use Rattle.css_words.specs.declared.fault.WordsFault.TheVariants as faults;
 
 use crate::fault::WordsFault;
-use crate::options::{matches_of, number, number_in, text_given};
-use crate::parsed::Matches;
+use crate::options::{Matches, matches_of, number, number_in, text_given};
 use crate::words::GeneratorWords;
 use clap::ArgMatches;
 use std::alloc::Global;

@@ -10,7 +10,6 @@ mod generator;
 pub mod laws;
 mod options;
 mod pair;
-mod parsed;
 mod recorded;
 mod relay;
 mod tv;

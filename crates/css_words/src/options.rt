@@ -1,13 +1,12 @@
-ghost use Rattle.std.specs.Prelude.{◌≡◌, ◌≤◌, IfOk, IfErr, map, option_map, string_bytes, true};
-ghost use Rattle.clap.specs.Words.{app_of, first_of, found_of, rows_of};
+ghost use Rattle.std.specs.Prelude.{◌≡◌, ◌≤◌, IfOk, IfErr, map, option_map, string_bytes, true, false};
+ghost use Rattle.clap.specs.Words.{app_of, first_of, found_of, rows_of, rule_of};
 ghost use Rattle.clap.specs.Faults.{is_simple_and_free};
 ghost use Rattle.css_num.specs.Gives.{GivesBy};
 ghost use Rattle.css_words.specs.Options as options;
 ghost use Rattle.css_words.specs.declared.fault.WordsFault.TheVariants as faults;
 
 use crate::fault::WordsFault;
-use crate::parsed::{Matches, Taking};
-use clap::{ArgAction, ArgMatches};
+use clap::{Arg, ArgAction, ArgMatches};
 use css_num::whole_number;
 use std::alloc::Global;
 
@@ -23,20 +22,40 @@ pub struct NumberOption {
     pub ghost high: { default ≤ most },
 }
 
+/// What some words say of a command's arguments.
+pub struct Matches<'a> {
+    pub all: ArgMatches<'a>,
+}
+
+// One function drops its many parts: what holds one needn't see them.
+impl Drop for Matches<'_> {
+    fn drop(self) {
+        let Matches { all: _ } = self;
+    }
+}
+
+// An argument of this name, by what a use of it does.
+fn arg<'a>(alloc: Global, name: &'a str, action: ArgAction) -> Arg<'a>
+    ensures rule { rule_of result ≡ options.arg_rule action name.entry.now }
+    ensures local { result.global ≡ false }
+{
+    Arg::new(alloc, name).long(name).action(action)
+}
+
 // The command with arguments of these names too.
 fn with_args<'a>(
     alloc: Global,
-    taking: Taking<'a>,
+    command: clap::Command<'a>,
     names: &'a [&'a str],
     action: ArgAction,
-) -> Result<Taking<'a>, WordsFault>
-    ensures takes { IfOk result (λ more. app_of more.command
-        ≡ options.with_args action (app_of taking.entry.command) (map (λ name. name.now) names.entry.now)) }
+) -> Result<clap::Command<'a>, WordsFault>
+    ensures takes { IfOk result (λ more. app_of more
+        ≡ options.with_args action (app_of command.entry) (map (λ name. name.now) names.entry.now)) }
     ensures memory { IfErr result (λ fault. fault ≡ faults.Memory) }
 {
-    let mut more = taking;
+    let mut more = command;
     for name in names {
-        more = more.with(alloc, *name, action)?;
+        more = more.arg(arg(alloc, *name, action))?;
     }
     Ok(more)
 }
@@ -46,16 +65,39 @@ pub fn command_taking<'a>(
     alloc: Global,
     names: &'a [&'a str],
     flags: &'a [&'a str],
-) -> Result<Taking<'a>, WordsFault>
-    ensures takes { IfOk result (λ taking. app_of taking.command
+) -> Result<clap::Command<'a>, WordsFault>
+    ensures takes { IfOk result (λ command. app_of command
         ≡ options.app_taking (map (λ name. name.now) names.entry.now) (map (λ name. name.now) flags.entry.now)) }
     ensures memory { IfErr result (λ fault. fault ≡ faults.Memory) }
 {
-    let taking = Taking {
-        command: clap::Command::new(alloc, "css"),
-    };
-    let taking = with_args(alloc, taking, names, ArgAction::Set)?;
-    with_args(alloc, taking, flags, ArgAction::SetTrue)
+    let command = clap::Command::new(alloc, "css");
+    let command = with_args(alloc, command, names, ArgAction::Set)?;
+    let command = with_args(alloc, command, flags, ArgAction::SetTrue)?;
+    Ok(command)
+}
+
+// What the words say of the command's arguments. The first word is the command's name.
+fn matches_in<'a>(
+    command: clap::Command<'a>,
+    words: &'a [String],
+) -> Result<Matches<'a>, WordsFault>
+    requires { is_simple_and_free (app_of command) ≡ true }
+    ensures { GivesBy (λ matches. rows_of (found_of matches.all)) faults.Memory result
+        (options.rows_in (app_of command.entry) (map string_bytes words.entry.now)) }
+{
+    Ok(Matches {
+        all: command.try_get_matches_from(words)?,
+    })
+}
+
+/// What the words say of the command's arguments, or what a parse finds wrong with them.
+pub fn parsed<'a>(
+    command: clap::Command<'a>,
+    words: &'a [String],
+) -> Result<Matches<'a>, clap::Error> {
+    Ok(Matches {
+        all: command.try_get_matches_from(words)?,
+    })
 }
 
 /// What the words say of a command with these options, each of which takes a value, and these flags. All may be left
@@ -72,8 +114,8 @@ pub fn matches_of<'a>(
         (options.rows_in (options.app_taking (map (λ name. name.now) names.entry.now)
         (map (λ name. name.now) flags.entry.now)) (map string_bytes words.entry.now)) }
 {
-    let taking = command_taking(alloc, names, flags)?;
-    taking.matches(words)
+    let command = command_taking(alloc, names, flags)?;
+    matches_in(command, words)
 }
 
 /// The text of an option, where it was given.

@@ -8,8 +8,7 @@ ghost use Rattle.css_words.specs.declared.fault.WordsFault.TheVariants as faults
 
 use crate::companion::options_in;
 use crate::fault::WordsFault;
-use crate::options::matches_of;
-use crate::parsed::Matches;
+use crate::options::{Matches, matches_of};
 use crate::tv::{FLAGS, LOCAL_HOST, tv_at};
 use crate::words::PairWords;
 use clap::ArgMatches;

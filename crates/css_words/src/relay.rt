@@ -7,8 +7,7 @@ ghost use Rattle.css_words.specs.declared.fault.WordsFault.TheVariants as faults
 
 use crate::companion::{ask_every, cii, local_error, local_precision};
 use crate::fault::WordsFault;
-use crate::options::{NumberOption, matches_of, number_or, text_given_or};
-use crate::parsed::Matches;
+use crate::options::{Matches, NumberOption, matches_of, number_or, text_given_or};
 use crate::tv::{LOCAL_HOST, check_host, limit};
 use crate::words::{RelayNumbers, RelayWords};
 use clap::ArgMatches;

@@ -8,9 +8,8 @@ ghost use Rattle.css_words.specs.declared.fault.WordsFault.TheVariants as faults
 
 use crate::fault::WordsFault;
 use crate::options::{
-    NumberOption, is_set, matches_of, number_in, number_or, text_given, text_given_or,
+    Matches, NumberOption, is_set, matches_of, number_in, number_or, text_given, text_given_or,
 };
-use crate::parsed::Matches;
 use crate::words::TvWords;
 use clap::ArgMatches;
 use css_address::{Kind, address};
