@@ -22,6 +22,5 @@ mod upgrades;
 mod watch;
 
 pub use css_devices::{ChildSpawner, StdSink, StdSource};
-pub use net_outside::NetOutside;
+pub use net_outside::{NetOutside, NetRuntime};
 pub use seen::Seen;
-pub use sockets::NetRuntime;

@@ -2,11 +2,20 @@ ghost use Rattle.std.specs.Prelude.{◌≡◌, None};
 
 use crate::log::Log;
 use crate::seen::Seen;
-use crate::sockets::{NetRuntime, Sockets};
+use crate::sockets::Sockets;
 use css_devices::Tally;
 use css_num::Text;
 use css_outside::{Address, Clocked, Failure, Heard, Kind, OutFault, Outside, Why, Wrote};
 use std::alloc::Global;
+use std::env::Env;
+use std::net::Net;
+use std::random::RandomSource;
+use std::time::Clock;
+
+/// What the sockets need of the runtime, such as a reference to the host's.
+pub trait NetRuntime: Net + Clock + RandomSource + Env + Eprint + Copy {}
+
+impl<R: Net + Clock + RandomSource + Env + Eprint + Copy> NetRuntime for R {}
 
 /// The system's clock and its sockets.
 ///

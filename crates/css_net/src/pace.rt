@@ -7,8 +7,10 @@ use css_num::Text;
 use css_outside::{Failure, OutFault};
 use std::alloc::Global;
 use std::net::{Net, SocketAddr};
-use std::time::Clock;
+use std::time::{Clock, Duration};
 
+/// How long a pause is, in nanoseconds. The system may end it a little later.
+pub(crate) const PAUSE: u64 = 4_000_000;
 /// How long after a dial the next one of its kind begins at the earliest, in nanoseconds.
 const BETWEEN_DIALS: u64 = 500_000_000;
 /// How long a name that wasn't found isn't looked up again, in nanoseconds.
@@ -19,6 +21,12 @@ const MOST_MISSING: usize = 3;
 /// The monotone clock in nanoseconds, or 0 where it can't be read.
 pub(crate) fn time<C: Clock>(rt: &C) -> u64 {
     monotone(rt).unwrap_or(0)
+}
+
+/// What is left of a pause that began then.
+pub(crate) fn left<C: Clock>(rt: &C, begun: u64) -> Duration {
+    let over = begun.saturating_add(PAUSE);
+    Duration::from_nanos(over.saturating_sub(time(rt)))
 }
 
 /// The pace of the dials of one kind.

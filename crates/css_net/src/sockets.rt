@@ -7,7 +7,7 @@ use crate::dials::{Dials, Failures};
 use crate::log::{Event, Log};
 use crate::metered::Metered;
 use crate::names::addresses_of;
-use crate::pace::{LookUps, time};
+use crate::pace::{LookUps, PAUSE, left, time};
 use crate::partings::{LONGEST_PARTING, Partings};
 use crate::session::Line;
 use crate::sessions::Sessions;
@@ -17,26 +17,18 @@ use css_devices::faults::fault_of;
 use css_num::Text;
 use css_outside::{Address, Failure, Heard, Kind, OutFault, Wrote};
 use std::alloc::Global;
-use std::env::Env;
 use std::net::{Net, SocketAddr};
 use std::random::RandomSource;
 use std::time::{Clock, Duration};
 use std::{io, str, thread};
 use tungstenite::CloseCode;
 
-/// How long a pause is, in nanoseconds. The system may end it a little later.
-const PAUSE: u64 = 4_000_000;
 /// How often a pause goes on that was cut for nothing.
 const MOST_CUTS: usize = 8;
 /// How many handshakes may end in one turn.
 const MOST_ENDED: usize = 16;
 /// The name of the session of peer 0. The names of sessions end below those of handshakes.
 const FIRST_SESSION: usize = 16;
-
-/// What the sockets need of the runtime, such as a reference to the host's.
-pub trait NetRuntime: Net + Clock + RandomSource + Env + Eprint + Copy {}
-
-impl<R: Net + Clock + RandomSource + Env + Eprint + Copy> NetRuntime for R {}
 
 /// The sockets of one end. Each call that needs the runtime is handed it, so that the type has no bounds.
 pub(crate) struct Sockets {
@@ -54,12 +46,6 @@ pub(crate) struct Sockets {
     sessions: Sessions,
     partings: Partings,
     log: Log,
-}
-
-/// What is left of a pause that began then.
-fn left<C: Clock>(rt: &C, begun: u64) -> Duration {
-    let over = begun.saturating_add(PAUSE);
-    Duration::from_nanos(over.saturating_sub(time(rt)))
 }
 
 /// The name under which a session is watched.
@@ -231,8 +217,8 @@ impl Sockets {
         now: u64,
     ) -> Result<(), OutFault> {
         let mut line = Line::served(self.alloc, stream, Vec::new(self.alloc));
-        let event = Event::Refused(line.from(), refusal.words());
-        self.log.write(rt, event);
+        self.log
+            .write(rt, Event::Refused(line.from(), refusal.words()));
         self.partings.add(name, line, now)
     }
 
