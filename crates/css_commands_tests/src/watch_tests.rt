@@ -38,17 +38,25 @@ fn check_front(
     check_run(rt, alloc, &name, case, ended, text.bytes());
 }
 
+#[rattlefmt::skip]
+fn cut_call(calls: &[u64]) -> Case<'_> {
+    Case { calls, ..CLOSES }
+}
+
 #[test]
 fn each_call_of_a_watch_fails_once(rt: HostRuntime) {
     for (calls, count) in FAILING {
         for call in *calls {
-            let case = Case {
-                calls: &[*call],
-                ..CLOSES
-            };
+            let calls = [*call];
+            let case = cut_call(&calls);
             check_front(&rt, rt.alloc(), &case, "net fault", CLOSED, *count);
         }
     }
+}
+
+#[rattlefmt::skip]
+fn cut_write(writes: &[u64]) -> Case<'_> {
+    Case { writes, ..CLOSES }
 }
 
 // Each line is one write.
@@ -56,10 +64,8 @@ fn each_call_of_a_watch_fails_once(rt: HostRuntime) {
 fn each_write_of_a_watch_fails_once(rt: HostRuntime) {
     for count in 0..CLOSED.len() {
         let write = (count as u64).saturating_add(1);
-        let case = Case {
-            writes: &[write],
-            ..CLOSES
-        };
+        let writes = [write];
+        let case = cut_write(&writes);
         check_front(&rt, rt.alloc(), &case, "write fault", CLOSED, count);
     }
 }
