@@ -12,15 +12,14 @@ fn each_run_ends_as_it_should(rt: HostRuntime) {
     }
 }
 
-#[rattlefmt::skip]
-fn cut_call(calls: &[u64]) -> Case<'_> {
-    Case { calls, ..PAIR }
-}
-
 fn check_fails(rt: &impl Abort, alloc: Global, calls: &[u64], ended: &str, printed: &[u8]) {
     for call in calls {
+        let case = Case {
+            calls: &[*call],
+            ..PAIR
+        };
         let name = format!(in alloc; "call {call}").expect(rt, NO_MEMORY);
-        check_run(rt, alloc, &name, &cut_call(&[*call]), ended, printed);
+        check_run(rt, alloc, &name, &case, ended, printed);
     }
 }
 

@@ -38,25 +38,17 @@ fn check_front(
     check_run(rt, alloc, &name, case, ended, text.bytes());
 }
 
-#[rattlefmt::skip]
-fn cut_call(calls: &[u64]) -> Case<'_> {
-    Case { calls, ..CLOSES }
-}
-
 #[test]
 fn each_call_of_a_watch_fails_once(rt: HostRuntime) {
     for (calls, count) in FAILING {
         for call in *calls {
-            let calls = [*call];
-            let case = cut_call(&calls);
+            let case = Case {
+                calls: &[*call],
+                ..CLOSES
+            };
             check_front(&rt, rt.alloc(), &case, "net fault", CLOSED, *count);
         }
     }
-}
-
-#[rattlefmt::skip]
-fn cut_write(writes: &[u64]) -> Case<'_> {
-    Case { writes, ..CLOSES }
 }
 
 // Each line is one write.
@@ -64,8 +56,10 @@ fn cut_write(writes: &[u64]) -> Case<'_> {
 fn each_write_of_a_watch_fails_once(rt: HostRuntime) {
     for count in 0..CLOSED.len() {
         let write = (count as u64).saturating_add(1);
-        let writes = [write];
-        let case = cut_write(&writes);
+        let case = Case {
+            writes: &[write],
+            ..CLOSES
+        };
         check_front(&rt, rt.alloc(), &case, "write fault", CLOSED, count);
     }
 }
