@@ -1,9 +1,10 @@
 -- What the run of a companion that is recorded comes to.
-use Rattle.std.specs.Prelude.{◌≡◌, ℕ, List, Option, Some, None}
+use Rattle.std.specs.Prelude.{◌≡◌, ℕ, List, Option, Result, MatchResult}
+use Rattle.std.specs.Result.{result_err}
 use Rattle.std.specs.Io.KnownBytes.{Appends}
 use Rattle.css_model.specs.History.{History}
 use Rattle.css_outside.specs.Bytes.{AppendsPrefix}
-use Rattle.css_outside.specs.Faults.{CountsOutFault}
+use Rattle.css_outside.specs.Faults.{CountsCall}
 use Rattle.css_outside.specs.Outsides.{with_entries}
 use Rattle.css_outside.specs.declared.fault.OutFault.{OutFault}
 use Rattle.css_drive.specs.CompanionDue.{due, IsProperRun}
@@ -12,7 +13,9 @@ use Rattle.css_drive.specs.Ends.{MayEnd}
 use Rattle.css_drive.specs.declared.config.DriveConfig.{DriveConfig}
 use Rattle.css_drive.specs.declared.driven.Driven.{Driven}
 use Rattle.css_drive.specs.declared.driven.Driven.TheVariants as driven
-use Rattle.css_record.specs.Lines.{record_of}
+use Rattle.css_drive.specs.Notes.{Note}
+use Rattle.css_record.specs.declared.recorder.Recorder.{Recorder}
+use Rattle.css_record.specs.Lines.{record_of, text_of}
 
 -- What a sink holds after a run that ended so, which wrote this: all of it, but where a write failed or memory ran out.
 abbrev pub HoldsRecord : Option (List ℕ) → Option (List ℕ) → List ℕ → Driven → Type 0
@@ -32,7 +35,19 @@ pub record Recorded (config : DriveConfig) (before now : Option History) (held h
   pub wrote : HoldsRecord held holds (record_of config history) ended
 
 -- ---- on the way
--- these bytes were written, or a part of them where a write failed or memory ran out; the sink's faults are counted
-abbrev pub Writes : Option OutFault → Option (List ℕ) → Option (List ℕ) → ℕ → ℕ → List ℕ → Type 0
-Writes None held holds before now bytes = Appends held holds bytes × (now ≡ before)
-Writes (Some fault) held holds before now bytes = AppendsPrefix held holds bytes × CountsOutFault before now fault
+-- These bytes were written, or a part of them where a write failed or memory ran out. The sink's faults are counted.
+pub record Writes {T : Type 0} (written : Result T OutFault) (held holds : Option (List ℕ)) (before now : ℕ)
+    (bytes : List ℕ) : Type 0 where
+  pub wrote : MatchResult written (λ _. Appends held holds bytes) (λ _. AppendsPrefix held holds bytes)
+  pub counted : CountsCall before now written
+
+-- why a recorder is over, if it is
+abbrev pub over : {K : Type 0} → Recorder K → Option OutFault
+over recorder = result_err recorder.written
+
+-- From the first to the second state of a recorder its sink's name stayed, and it wrote the lines of these notes.
+pub record Saw {K : Type 0} (holds : K → Option (List ℕ)) (faults : K → ℕ) (started now : Recorder K)
+    (notes : List Note) : Type 0 where
+  pub name : now.sink.ghost_name ≡ started.sink.ghost_name
+  pub writes : Writes now.written (holds started.sink.now) (holds now.sink.now) (faults started.sink.now)
+      (faults now.sink.now) (text_of notes)

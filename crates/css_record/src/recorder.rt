@@ -1,9 +1,10 @@
 //! The observer that writes a run's record.
-ghost use Rattle.std.specs.Prelude.{◌≡◌, ◌++◌, ◌∷◌, [], ℕ, List, Option, Result, IfOk};
+ghost use Rattle.std.specs.Prelude.{◌≡◌, ◌++◌, ◌∷◌, [], ℕ, List, Result, IfOk};
 ghost use Rattle.css_audit.specs.Printed.{line_text};
-ghost use Rattle.css_record.specs.Lines as spec;
-ghost use Rattle.css_record.specs.Lines.{text_in, text_of};
-ghost use Rattle.css_record.specs.Runs.{Writes};
+ghost use Rattle.css_drive.specs.Notes as notes;
+ghost use Rattle.css_drive.specs.Notes.{Happened, Note, Reported, Sees, Standpoint, slept_notes};
+ghost use Rattle.css_record.specs.Lines.{text_of};
+ghost use Rattle.css_record.specs.Runs.{Saw, Writes, over};
 
 use css_audit::{RecordLine, print_line};
 use css_companion::{Companion, Report, line};
@@ -17,141 +18,115 @@ use std::alloc::Global;
 pub(crate) struct Recorder<'a, K: Sink> {
     pub(crate) alloc: Global,
     pub(crate) sink: &'a mut K,
-    /// Why nothing is written any more, if nothing is.
-    pub(crate) over: Option<OutFault>,
+    /// How the last write ended. After a fault nothing more is written.
+    pub(crate) written: Result<(), OutFault>,
 }
 
-/// Writes a text, if there is one. Says why not, if it fails.
-pub(crate) fn put<K: Sink>(sink: &mut K, text: Result<Text, Memory>) -> Option<OutFault>
+/// Writes a text, if there was memory for it.
+pub(crate) fn put<K: Sink>(sink: &mut K, text: Result<Text, Memory>) -> Result<(), OutFault>
     ensures { (bytes : List ℕ) → IfOk text (λ text. text ≡ bytes)
         → Writes result (K.holds sink.old) (K.holds sink.new) (K.faults sink.old) (K.faults sink.new) bytes }
 {
-    match text {
-        Err(Memory) => Some(OutFault::Memory),
-        Ok(text) => match write_all(sink, text.bytes()) {
-            Ok(()) => None,
-            Err(fault) => Some(fault),
-        },
-    }
+    write_all(sink, text?.bytes())
 }
 
 /// A line with its line feed.
-fn line_of(alloc: Global, line: &RecordLine) -> Result<Text, Memory>
-    ensures { IfOk result (λ text. text ≡ line_text line.now ++ 10 ∷ []) }
+fn line_of(alloc: Global, line: RecordLine) -> Result<Text, Memory>
+    ensures { IfOk result (λ text. text ≡ line_text line ++ 10 ∷ []) }
 {
-    let mut text = print_line(alloc, line)?;
+    let mut text = print_line(alloc, &line)?;
     text.push(b"\n")?;
     Ok(text)
 }
 
-/// The line of a sleep, where a reading told one.
-fn slept_lines(alloc: Global, clocked: &Clocked) -> Result<Text, Memory>
-    ensures { IfOk result (λ text. text ≡ text_in (spec.slept_lines clocked.now.slept)) }
+/// These lines, after that of a sleep where one was told.
+fn after_sleep(alloc: Global, slept: bool, lines: Result<Text, Memory>) -> Result<Text, Memory>
+    ensures { (from : Standpoint) → (bytes : List ℕ) → IfOk lines (λ text. text ≡ bytes)
+        → IfOk result (λ text. text ≡ text_of (slept_notes from slept) ++ bytes) }
 {
-    if clocked.slept {
-        return line_of(alloc, &RecordLine::Slept);
+    if !slept {
+        return lines;
     }
-    Ok(Text::new(alloc))
-}
-
-/// The lines of a turn.
-fn turn_lines(alloc: Global, clocked: &Clocked) -> Result<Text, Memory>
-    ensures { IfOk result (λ text. text ≡ text_in (spec.turn_lines clocked.now)) }
-{
-    let mut text = slept_lines(alloc, clocked)?;
-    let turn = line_of(
-        alloc,
-        &RecordLine::Turn {
-            reading: clocked.reading,
-        },
-    )?;
-    text.push(turn.bytes())?;
+    let mut text = line_of(alloc, RecordLine::Slept)?;
+    text.push(lines?.bytes())?;
     Ok(text)
 }
 
-/// The line of a report.
-fn report_text(alloc: Global, number: u64, report: &Report) -> Result<Text, Memory>
-    ensures { IfOk result (λ text. text ≡ line_text (spec.report_line number report.now) ++ 10 ∷ []) }
+/// The lines of a turn and of its report.
+fn report_lines(alloc: Global, reading: u64, number: u64, report: &Report) -> Result<Text, Memory>
+    ensures { (from : Standpoint) → IfOk result (λ text. text
+        ≡ text_of (Reported from number report.now ∷ Happened from (notes.Turn reading) ∷ [])) }
 {
-    let mut text = Text::of(alloc, b"report ")?;
-    let words = line(alloc, number, report, None)?;
-    text.push(words.bytes())?;
+    let mut text = line_of(alloc, RecordLine::Turn { reading })?;
+    text.push(b"report ")?;
+    text.push(line(alloc, number, report, None)?.bytes())?;
     Ok(text)
 }
 
-/// The lines of a turn with its report.
-fn report_lines(
-    alloc: Global,
-    clocked: &Clocked,
-    number: u64,
-    report: &Report,
-) -> Result<Text, Memory>
-    ensures { IfOk result (λ text. text ≡ text_in (spec.report_line number report.now ∷ spec.turn_lines clocked.now)) }
+/// The line of a datagram that landed.
+fn landed_line(alloc: Global, reading: u64, bytes: &[u8]) -> Result<Text, Memory>
+    ensures { (from : Standpoint)
+        → IfOk result (λ text. text ≡ text_of (Happened from (notes.Landed reading bytes.now) ∷ [])) }
 {
-    let mut text = turn_lines(alloc, clocked)?;
-    let reported = report_text(alloc, number, report)?;
-    text.push(reported.bytes())?;
-    Ok(text)
-}
-
-/// The lines of a datagram that landed.
-fn landing_lines(alloc: Global, clocked: &Clocked, bytes: &[u8]) -> Result<Text, Memory>
-    ensures { IfOk result (λ text. text ≡ text_in (spec.landing_lines clocked.now bytes.now)) }
-{
-    let mut text = slept_lines(alloc, clocked)?;
     let bytes = Text::of(alloc, bytes)?;
-    let landed = line_of(
-        alloc,
-        &RecordLine::Land {
-            reading: clocked.reading,
-            bytes,
-        },
-    )?;
-    text.push(landed.bytes())?;
-    Ok(text)
+    line_of(alloc, RecordLine::Land { reading, bytes })
 }
 
 /// The line of a text that came.
 fn heard_line(alloc: Global, session: Session, text: &Text) -> Result<Text, Memory>
-    ensures { IfOk result (λ line. line ≡ line_text (spec.heard_line session text.now) ++ 10 ∷ []) }
+    ensures { (from : Standpoint)
+        → IfOk result (λ line. line ≡ text_of (Happened from (notes.Heard session text.now) ∷ [])) }
 {
     let bytes = text.clone()?;
     match session {
-        Session::Cii => line_of(alloc, &RecordLine::Cii(bytes)),
-        Session::Ts => line_of(alloc, &RecordLine::Ts(bytes)),
+        Session::Cii => line_of(alloc, RecordLine::Cii(bytes)),
+        Session::Ts => line_of(alloc, RecordLine::Ts(bytes)),
     }
 }
 
 /// The line of a session that is over.
 fn closed_line(alloc: Global, session: Session) -> Result<Text, Memory>
-    ensures { IfOk result (λ line. line ≡ line_text (spec.closed_line session) ++ 10 ∷ []) }
+    ensures { (from : Standpoint)
+        → IfOk result (λ line. line ≡ text_of (Happened from (notes.Closed session) ∷ [])) }
 {
     match session {
-        Session::Cii => line_of(alloc, &RecordLine::ClosedCii),
-        Session::Ts => line_of(alloc, &RecordLine::ClosedTs),
+        Session::Cii => line_of(alloc, RecordLine::ClosedCii),
+        Session::Ts => line_of(alloc, RecordLine::ClosedTs),
+    }
+}
+
+impl<K: Sink> Recorder<'_, K> {
+    /// Writes these lines, after that of a sleep where one was told.
+    fn write(&mut self, slept: bool, lines: Result<Text, Memory>)
+        ensures one { (from : Standpoint) → (note : Note) → IfOk lines (λ text. text ≡ text_of (note ∷ []))
+            → Sees (Saw K.holds K.faults) over self.old self.new (note ∷ slept_notes from slept) }
+        ensures two { (from : Standpoint) → (newer : Note) → (older : Note)
+            → IfOk lines (λ text. text ≡ text_of (newer ∷ older ∷ []))
+            → Sees (Saw K.holds K.faults) over self.old self.new (newer ∷ older ∷ slept_notes from slept) }
+    {
+        self.written = put(self.sink, after_sleep(self.alloc, slept, lines));
     }
 }
 
 impl<K: Sink> Observes for Recorder<'_, K> {
-    ghost saw = { λ started recorder notes. (recorder.sink.ghost_name ≡ started.sink.ghost_name)
-        × Writes recorder.over (K.holds started.sink.now) (K.holds recorder.sink.now) (K.faults started.sink.now)
-        (K.faults recorder.sink.now) (text_of notes) };
+    ghost saw = { Saw K.holds K.faults };
 
-    ghost over = { λ recorder. recorder.over };
+    ghost over = { over };
 
     fn check(&self) -> Result<(), OutFault> {
-        match self.over {
-            None => Ok(()),
-            Some(fault) => Err(fault),
-        }
+        self.written
     }
 
     fn slept(&mut self) {
-        self.over = put(self.sink, line_of(self.alloc, &RecordLine::Slept));
+        self.write(false, line_of(self.alloc, RecordLine::Slept));
     }
 
     fn turned(&mut self, clocked: &Clocked, _companion: &Companion) {
-        self.over = put(self.sink, turn_lines(self.alloc, clocked));
+        let reading = clocked.reading;
+        self.write(
+            clocked.slept,
+            line_of(self.alloc, RecordLine::Turn { reading }),
+        );
     }
 
     fn reported(
@@ -161,24 +136,28 @@ impl<K: Sink> Observes for Recorder<'_, K> {
         report: &Report,
         _companion: &Companion,
     ) {
-        self.over = put(self.sink, report_lines(self.alloc, clocked, number, report));
+        let lines = report_lines(self.alloc, clocked.reading, number, report);
+        self.write(clocked.slept, lines);
     }
 
     fn dialled(&mut self, _kind: Kind, _peer: Option<u32>) {}
 
     fn asked(&mut self, reading: u64) {
-        self.over = put(self.sink, line_of(self.alloc, &RecordLine::Ask { reading }));
+        self.write(false, line_of(self.alloc, RecordLine::Ask { reading }));
     }
 
     fn landed(&mut self, clocked: &Clocked, bytes: &[u8], _companion: &Companion) {
-        self.over = put(self.sink, landing_lines(self.alloc, clocked, bytes));
+        self.write(
+            clocked.slept,
+            landed_line(self.alloc, clocked.reading, bytes),
+        );
     }
 
     fn heard(&mut self, session: Session, text: &Text, _companion: &Companion) {
-        self.over = put(self.sink, heard_line(self.alloc, session, text));
+        self.write(false, heard_line(self.alloc, session, text));
     }
 
     fn closed(&mut self, session: Session) {
-        self.over = put(self.sink, closed_line(self.alloc, session));
+        self.write(false, closed_line(self.alloc, session));
     }
 }

@@ -1,37 +1,39 @@
+-- A run ended before the header was written, or began after it.
+use Rattle.std.proofs.Common.{[], refl, rules, sym}
+use Rattle.std.proofs.KnownBytes.{Appends-nil}
 use Rattle.css_record.specs.Lines.{record_of}
-use Rattle.std.proofs.Common.{[], rules}
-use Rattle.css_drive.specs.Ends.{CountsWriteFault}
-use Rattle.css_record.proofs.Records as records
+use Rattle.css_record.proofs.Records.{recorded, unbegun, writes_on}
 use Rattle.css_record.proofs.record.drive_record.Goals as goal
 
 pub returns-in-Err-clause-recorded : goal.returns-in-Err-clause-recorded
 returns-in-Err-clause-recorded g c =
-    records.unbegun_memory c.args.config _ _ _ (records.no_prefix (g.K.Sink.holds c.args.sink.now) (record_of
-    c.args.config []))
+    unbegun tt (record { front = []; of = (record_of c.args.config [], refl); grew = Appends-nil _ })
 
-pub returns-in-Some-Failed-clause-recorded : goal.returns-in-Some-Failed-clause-recorded
-returns-in-Some-Failed-clause-recorded g c =
-    let wrote = rw c.in-Some-Failed.field-0-is at (c.in-Some-Failed.ensures _ c.in-Ok.ensures.header) in
-    records.unbegun_fault c.args.config _ _ _ wrote.0
+pub returns-in-Err-Failed : goal.returns-in-Err-Failed
+returns-in-Err-Failed g c =
+    let w = rw c.in-Err-Failed.field-0-is at (c.in-Err-Failed.ensures _ c.header_of.ensures) in
+    record { recorded = unbegun tt w.wrote; net_faults = refl; write_faults = w.counted; dial_faults = search rules }
 
-pub returns-in-Some-Failed-clause-write_faults : goal.returns-in-Some-Failed-clause-write_faults
-returns-in-Some-Failed-clause-write_faults g c =
-    let wrote = rw c.in-Some-Failed.field-0-is at (c.in-Some-Failed.ensures _ c.in-Ok.ensures.header) in
-    wrote.1
+pub returns-in-Err-Memory : goal.returns-in-Err-Memory
+returns-in-Err-Memory g c =
+    let w = rw c.in-Err-Memory.field-0-is at (c.in-Err-Memory.ensures _ c.header_of.ensures) in
+    record { recorded = unbegun tt w.wrote; net_faults = refl; write_faults = w.counted; dial_faults = search rules }
 
-pub returns-in-Some-Memory-clause-recorded : goal.returns-in-Some-Memory-clause-recorded
-returns-in-Some-Memory-clause-recorded g c =
-    let wrote = rw c.in-Some-Memory.field-0-is at (c.in-Some-Memory.ensures _ c.in-Ok.ensures.header) in
-    records.unbegun_memory c.args.config _ _ _ wrote.0
+pub drive-requires-clause-begun : goal.drive-requires-clause-begun
+drive-requires-clause-begun g c =
+    record { name = refl; writes = record { wrote = Appends-nil _; counted = refl } }
 
-pub returns-in-Some-Memory-clause-write_faults : goal.returns-in-Some-Memory-clause-write_faults
-returns-in-Some-Memory-clause-write_faults g c =
-    let wrote = rw c.in-Some-Memory.field-0-is at (c.in-Some-Memory.ensures _ c.in-Ok.ensures.header) in
-    wrote.1
-
-pub returns-clause-write_faults : goal.returns-clause-write_faults
-returns-clause-write_faults g c =
-    let since : CountsWriteFault (g.K.Sink.faults c.args.sink.now) (g.K.Sink.faults
-    c.drive_recorder.new.recorder.sink.now) c.drive_recorder.result = records.writes_from _ _ _ _
-    (c.in-None.ensures _ c.in-Ok.ensures.header).1 c.drive_recorder.ensures.write_faults in
-    search rules
+pub returns : goal.returns
+returns g c =
+    let run = c.drive.ensures in
+    let saw = run.made.saw_so in
+    let name = sym saw.name in
+    let ran = recorded run.made (writes_on refl (c.in-Ok-put.ensures _ c.header_of.ensures) saw.writes) in
+    let whole = ran.0 in
+    let faults = ran.1 in
+    record {
+      recorded = search rules;
+      net_faults = run.net_faults;
+      write_faults = search rules;
+      dial_faults = run.dial_faults;
+    }
