@@ -1,13 +1,12 @@
 -- What a replay prints keeps the promise.
-use Rattle.std.proofs.Common.{◌≡◌, ℕ, ◌+◌, ◌==◌, ◌⊎◌, inl, inr, ap, sym, ◌∙◌, refl, Bool, true, false, cond}
+use Rattle.std.proofs.Common.{◌≡◌, ℕ, ◌+◌, ◌==◌, ◌⊎◌, inl, inr, refl, Bool, true, cond}
 use Rattle.std.proofs.Common.{List, [], ◌∷◌, ◌++◌, length}
 use Rattle.std.specs.Prelude.{ℤ, pos, Option, Some, None, IfSome, MatchOption, Result, Ok, Err}
 use Rattle.std.specs.Option.{option_map}
 use Rattle.std.specs.Result.{result_and}
-use Rattle.std.proofs.lemmas.List.{append_assoc, append-nil}
 use Rattle.css_num.specs.Spans.{Covers}
 use Rattle.css_model.specs.WallClock.{Answer, Local, IsLeast, scaled_width, narrowest}
-use Rattle.css_model.proofs.Narrowest.{least_by-least}
+use Rattle.css_model.proofs.Narrowest.{narrowest_is_least}
 use Rattle.css_outside.specs.Bytes.{IsPrefix}
 use Rattle.css_lines.specs.declared.ending.Stop.{Stop}
 use Rattle.css_lines.specs.declared.reader.Refusal.{Refusal}
@@ -15,6 +14,7 @@ use Rattle.css_lines.specs.declared.reader.Refusal.TheVariants.{Refused}
 use Rattle.css_lines.specs.Ending.{Finishes, Stops}
 use Rattle.css_lines.specs.Lines.{lines_of}
 use Rattle.css_lines.specs.Meaning.{finish_outcome, reader_outcome, outcome, outcome_so_far}
+use Rattle.css_lines.proofs.Meant.{prefix_refl, prefix_trans}
 use Rattle.css_lines.proofs.Induction.{keeps_done, keeps_stop, taken_so_far, taken_in_all}
 use Rattle.css_span.specs.WallSpans.{span_of}
 use Rattle.css_schedule.specs.declared.fault.LineFault.{LineFault}
@@ -28,21 +28,18 @@ use Rattle.css_schedule.specs.declared.line.Verb.TheVariants.{Wall, Print}
 use Rattle.css_schedule.specs.Headers.{header_of, with_companion}
 use Rattle.css_schedule.specs.Words.{words_of}
 use Rattle.css_schedule.proofs.InRange.{line_range, line_is_of}
-use Rattle.css_companion.specs.Meanings.{timing_after}
 use Rattle.css_companion.specs.Printed as companions
-use Rattle.css_companion.specs.Reports.{HasTickOf, report_by}
-use Rattle.css_companion.specs.declared.report.Cause.TheVariants as cause
+use Rattle.css_companion.specs.Reports.{HasTickOf}
 use Rattle.css_companion.specs.declared.report.Report.{Report}
 use Rattle.css_companion.specs.declared.report.Report.TheVariants as reports
 use Rattle.css_world.specs.declared.fault.WorldFault.{WorldFault}
 use Rattle.css_world.specs.declared.fault.WorldFault.TheVariants.{Absent}
-use Rattle.css_world.specs.Sessions.{setup_of}
-use Rattle.css_world.specs.Happened.{Numbered, events_of, history_of}
-use Rattle.css_world.specs.Verdicts.{local_of, IsDeclared, span_at, report_at, assigned_at, can_happen, played}
+use Rattle.css_world.specs.Happened.{Numbered, events_of}
+use Rattle.css_world.specs.Verdicts.{local_of, IsDeclared, report_at, assigned_at, can_happen, played}
 use Rattle.css_world.specs.Verdicts.{event_at, printed_for, carried_out, line_meant}
 use Rattle.css_world.specs.Printed.{wall_text}
 use Rattle.css_world.specs.Standing.{AreAccepted}
-use Rattle.css_world.specs.Truth.{IsTrueWall, IsTrueReport}
+use Rattle.css_world.specs.Truth.{IsTrueLine}
 use Rattle.css_world.proofs.Truth.{accepted_lines_are_true, accepted_lines_are_world}
 use Rattle.css_world.proofs.Worlds.{carried_ok}
 use Rattle.css_replay.specs.declared.reader.Cause.{Cause}
@@ -51,11 +48,11 @@ use Rattle.css_replay.specs.declared.reader.Replay.{Replay}
 use Rattle.css_replay.specs.Replayed.{Extent, Opening, Outset, Running, Unread, after, caused, declared, ended_at}
 use Rattle.css_replay.specs.Replayed.{meant_at, next_companion, next_line, opened, reached, read_meant, replayed}
 use Rattle.css_replay.specs.Replayed.{started, with_line}
-use Rattle.css_replay.specs.Headline.{AreKept, AreTrueTicks, IsCause, IsKept, IsReportedCause, IsTrueInterval}
-use Rattle.css_replay.specs.Headline.{KeepsLine, KeepsPromise, Promised, accepted_before}
-use Rattle.css_replay.specs.Stands.{IsWell, IsWhole, Stands}
+use Rattle.css_replay.specs.Headline.{AreKept, IsKept}
+use Rattle.css_replay.specs.Headline.{KeepsLine, KeepsPromise, PromiseKept, Promised, accepted_before}
+use Rattle.css_replay.specs.Stands.{IsWell, Stands}
 use Rattle.css_replay.proofs.Answering.{of-second}
-use Rattle.css_replay.proofs.Texts.{reached-push, well}
+use Rattle.css_replay.proofs.Texts.{on_grown, reached-push, well}
 
 -- ---- one line
 -- what is printed for a line that was accepted
@@ -69,108 +66,74 @@ printed_is header older now printed e =
         → cond b (result_and r (Ok (printed_for header older now now.line.verb))) (Err Absent) ≡ Ok printed
         → printed ≡ printed_for header older now now.line.verb
     by true (Ok x) p = cc
-    by true (Err fault) p = absurd (cc)
-    by false r p = absurd (cc)
+    by _ _ p = absurd (cc)
 
--- the promise is kept at `wall`
-kept-wall : (header : Header) (older : List Numbered) (now : Numbered) (reading : ℕ) (printed : List ℕ)
-    → printed ≡ wall_text now.number (span_at now.line.who header older reading) now.line.w
-    → IfSome (span_at now.line.who header older reading) (λ span. Covers span (pos now.line.w))
-    → IsTrueInterval header older now reading printed ⊎ IsCause header older now printed
-kept-wall header older now reading printed is covers =
-    by (narrowest own reading accepted) (least_by-least (λ answer. scaled_width own answer reading) accepted) is covers
-  where
-    own : Local
-    own = local_of now.line.who header
+module _ (header : Header) (older : List Numbered) (now : Numbered) (printed : List ℕ) where
+  abbrev own : Local
+  own = local_of now.line.who header
 
-    accepted : List Answer
-    accepted = accepted_before header older now
+  abbrev accepted : List Answer
+  accepted = accepted_before header older now
 
-    by : (o : Option Answer)
-        → MatchOption o (accepted ≡ []) (IsLeast (λ answer. scaled_width own answer reading) accepted)
-        → printed ≡ wall_text now.number (option_map (span_of own reading) o) now.line.w
-        → IfSome (option_map (span_of own reading) o) (λ span. Covers span (pos now.line.w))
-        → IsTrueInterval header older now reading printed ⊎ IsCause header older now printed
-    by None least e c = inr (record { lacking = least; is_printed = e })
-    by (Some answer) least e c = inl (record { response = answer; narrowest = least; contains = c; is_printed = e })
+  -- the promise is kept at `wall`
+  kept-wall : (reading : ℕ) (o : Option Answer)
+      → MatchOption o (accepted ≡ []) (IsLeast (λ answer. scaled_width own answer reading) accepted)
+      → printed ≡ wall_text now.number (option_map (span_of own reading) o) now.line.w
+      → IfSome (option_map (span_of own reading) o) (λ span. Covers span (pos now.line.w))
+      → IsKept header older now (Wall reading) printed
+  kept-wall reading None least e c = inr (record { lacking = least; is_printed = e })
+  kept-wall reading (Some answer) least e c =
+      inl (record { response = answer; narrowest = least; contains = c; is_printed = e })
 
--- and at `print`
-kept-print : (header : Header) (older : List Numbered) (now : Numbered) (reading : ℕ) (printed : List ℕ)
-    → printed ≡ companions.line_of now.number (report_at now.line.who header older reading)
-    (assigned_at now.line.who header older now.line.w)
-    → HasTickOf (report_at now.line.who header older reading) (assigned_at now.line.who header older now.line.w)
-    → AreTrueTicks header older now reading printed ⊎ IsReportedCause header older now reading printed
-kept-print header older now reading printed is has =
-    by (narrowest own reading accepted) refl (least_by-least (λ answer. scaled_width own answer reading) accepted) is
-    has
-  where
-    own : Local
-    own = local_of now.line.who header
+  -- and at `print`
+  kept-print : (reading : ℕ) (o : Option Answer) (report : Report) (position : Option ℤ)
+      → narrowest own reading accepted ≡ o → report_at now.line.who header older reading ≡ report
+      → assigned_at now.line.who header older now.line.w ≡ position
+      → MatchOption o (accepted ≡ []) (IsLeast (λ answer. scaled_width own answer reading) accepted)
+      → printed ≡ companions.line_of now.number report position → HasTickOf report position
+      → IsKept header older now (Print reading) printed
+  kept-print reading o (reports.None why) position so first told least e c =
+      inr (record { cause = why; first = first; is_printed = e })
+  kept-print reading o (reports.Ticks low high) None so first told least e c = absurd c
+  kept-print reading None (reports.Ticks low high) (Some position) so first told least e c =
+      absurd (let none = rw so at first in cc)
+  kept-print reading (Some answer) (reports.Ticks low high) (Some position) so first told least e c = inl (record {
+    response = answer;
+    narrowest = least;
+    low = low;
+    high = high;
+    position = position;
+    ticks = rw so at first;
+    assigned = told;
+    not_below = c.0;
+    not_above = c.1;
+    is_printed = e;
+  })
 
-    accepted : List Answer
-    accepted = accepted_before header older now
+  -- so it is at each verb
+  kept-by : (verb : Verb) → now.line.verb ≡ verb → IsTrueLine header older now
+      → printed ≡ printed_for header older now verb → IsKept header older now verb printed
+  kept-by (Wall reading) is truth e =
+      kept-wall reading (narrowest own reading accepted) (narrowest_is_least own reading accepted) e
+      (truth.wall reading is)
+  kept-by (Print reading) is truth e =
+      kept-print reading (narrowest own reading accepted) (report_at now.line.who header older reading)
+      (assigned_at now.line.who header older now.line.w) refl refl refl (narrowest_is_least own reading accepted) e
+      (truth.report reading is)
+  kept-by _ is truth e = e
 
-    report_for : Option Answer → Report
-    report_for o = report_by (option_map (span_of own reading) o)
-        (timing_after (setup_of now.line.who header).selector (history_of now.line.who header older))
-
-    assigned : Option ℤ
-    assigned = assigned_at now.line.who header older now.line.w
-
-    of : (answer : Answer) → narrowest own reading accepted ≡ Some answer
-        → IsLeast (λ a. scaled_width own a reading) accepted answer
-        → (r : Report) → report_for (Some answer) ≡ r → (a : Option ℤ) → assigned ≡ a
-        → printed ≡ companions.line_of now.number r a → HasTickOf r a
-        → AreTrueTicks header older now reading printed ⊎ IsReportedCause header older now reading printed
-    of answer so least (reports.None why) known a told e c = inr (record {
-      cause = why;
-      first = ap report_for so ∙ known;
-      is_printed = e;
-    })
-    of answer so least (reports.Ticks low high) known None told e c = absurd c
-    of answer so least (reports.Ticks low high) known (Some position) told e c = inl (record {
-      response = answer;
-      narrowest = least;
-      low = low;
-      high = high;
-      position = position;
-      ticks = known;
-      assigned = told;
-      not_below = c.0;
-      not_above = c.1;
-      is_printed = e;
-    })
-
-    by : (o : Option Answer) → narrowest own reading accepted ≡ o
-        → MatchOption o (accepted ≡ []) (IsLeast (λ answer. scaled_width own answer reading) accepted)
-        → printed ≡ companions.line_of now.number (report_for o) assigned → HasTickOf (report_for o) assigned
-        → AreTrueTicks header older now reading printed ⊎ IsReportedCause header older now reading printed
-    by None so least e c = inr (record { cause = cause.NoAnswer; first = ap report_for so; is_printed = e })
-    by (Some answer) so least e c = of answer so least (report_for (Some answer)) refl assigned refl e c
-
--- so it is at each verb
-kept-by : (header : Header) (older : List Numbered) (now : Numbered) (verb : Verb) (printed : List ℕ)
-    → now.line.verb ≡ verb
-    → IsTrueWall header older now → IsTrueReport header older now
-    → printed ≡ printed_for header older now verb → IsKept header older now verb printed
-kept-by header older now (Wall reading) printed is wall report e =
-    kept-wall header older now reading printed e (wall reading is)
-kept-by header older now (Print reading) printed is wall report e =
-    kept-print header older now reading printed e (report reading is)
-kept-by header older now _ printed is wall report e = e
-
--- an accepted line keeps the promise
-kept_line : (header : Header) (older : List Numbered) (now : Numbered) (printed : List ℕ) → IsDeclared header
-    → AreAccepted header (now ∷ older) → line_meant header older now ≡ Ok printed → KeepsLine header older now printed
-kept_line header older now printed declared accepted e =
-    let truth = accepted_lines_are_true header older now declared accepted in
-    record {
-      kept = kept-by header older now now.line.verb printed refl truth.wall truth.report
-          (printed_is header older now printed (carried_ok header older now printed e));
-      landing = truth.landing;
-      told = truth.told;
-      in_step = truth.in_step;
-    }
+  -- an accepted line keeps the promise
+  kept_line : IsDeclared header → AreAccepted header (now ∷ older) → line_meant header older now ≡ Ok printed
+      → KeepsLine header older now printed
+  kept_line declared accepted e =
+      let truth = accepted_lines_are_true header older now declared accepted in
+      record {
+        kept = kept-by now.line.verb refl truth
+            (printed_is header older now printed (carried_ok header older now printed e));
+        landing = truth.landing;
+        told = truth.told;
+        in_step = truth.in_step;
+      }
 
 -- ---- the texts that were taken
 -- A schedule was read so far, and this was printed. After its header the lines are accepted, and what was printed keeps
@@ -190,58 +153,43 @@ caused-ok (Err Absent) printed e = absurd (cc)
 caused-ok (Err fault) printed e = absurd (cc)
 
 -- nothing is printed for a line of the header
-nothing : (sofar printed : List ℕ) (meant : Result (List ℕ) Cause) → sofar ≡ [] → meant ≡ Ok [] → meant ≡ Ok printed
-    → sofar ++ printed ≡ []
-nothing sofar printed meant none silent e =
-    let same : printed ≡ [] = cc in ap (λ (s : List ℕ). s ++ printed) none ∙ same
-
--- line 1
-taken-start : (sofar printed : List ℕ) (start : Result Start LineFault) → sofar ≡ [] → opened start ≡ Ok printed
-    → TakenAt (started start) (sofar ++ printed)
-taken-start sofar printed (Err fault) none e = absurd (cc)
-taken-start sofar printed (Ok (One header)) none e = (tt, nothing sofar printed (Ok []) none refl e)
-taken-start sofar printed (Ok (Two header count)) none e = nothing sofar printed (Ok []) none refl e
-
--- the line of a companion
-taken-companion : (header : Header) (count : ℕ) (sofar printed : List ℕ) (read : Result CompanionLine LineFault)
-    → sofar ≡ [] → opened read ≡ Ok printed → TakenAt (declared header count read) (sofar ++ printed)
-taken-companion header count sofar printed (Err fault) none e = absurd (cc)
-taken-companion header count sofar printed (Ok companion) none e =
-    by (length (with_companion header companion).companions == count)
-  where
-    more : Header
-    more = with_companion header companion
-
-    by : (b : Bool) → TakenAt (cond b (Running more 2 []) (Opening more count)) (sofar ++ printed)
-    by true = (tt, nothing sofar printed (Ok []) none refl e)
-    by false = nothing sofar printed (Ok []) none refl e
-
--- a line after the header
-taken-line : (header : Header) (version number : ℕ) (lines : List Numbered) (text sofar printed : List ℕ)
-    (read : Result Line LineFault) → next_line header version text ≡ read → IsWhole number header version lines
-    → AreAccepted header lines × AreKept header lines sofar → read_meant header lines number read ≡ Ok printed
-    → TakenAt (Running header version (with_line number lines read)) (sofar ++ printed)
-taken-line header version number lines text sofar printed (Err fault) is well taken e = absurd (cc)
-taken-line header version number lines text sofar printed (Ok line) is well taken e =
-    let now : Numbered = record { number = number; line = line } in
-    let count = length header.companions in
-    let ok : line_meant header lines now ≡ Ok printed = caused-ok (line_meant header lines now) printed e in
-    let range = line_range (version == 1) count (words_of text) (Ok line) is in
-    let of = of-second version count count line well.fits refl
-    (line_is_of (version == 1) count (words_of text) (Ok line) is) in
-    let accepted : AreAccepted header (now ∷ lines) = (range, of, well.next, (printed, ok), taken.0) in (
-      accepted,
-      (sofar, printed, refl, kept_line header lines now printed well.declared accepted ok, taken.1),
-    )
+nothing : {sofar printed : List ℕ} → sofar ≡ [] → caused (Ok []) ≡ Ok printed → sofar ++ printed ≡ []
+nothing none e = rw none (cc)
 
 -- one text more
 taken-at : (number : ℕ) (extent : Extent) (text sofar printed : List ℕ) → IsWell number extent → TakenAt extent sofar
     → meant_at number extent text ≡ Ok printed → TakenAt (after number extent text) (sofar ++ printed)
-taken-at number Outset text sofar printed well taken e = taken-start sofar printed (header_of text) taken e
-taken-at number (Opening header count) text sofar printed well taken e =
-    taken-companion header count sofar printed (next_companion header text) taken e
-taken-at number (Running header version lines) text sofar printed well taken e =
-    taken-line header version number lines text sofar printed (next_line header version text) refl well taken e
+taken-at number Outset text sofar printed well taken e = by (header_of text) e
+  where
+    by : (start : Result Start LineFault) → opened start ≡ Ok printed → TakenAt (started start) (sofar ++ printed)
+    by (Err fault) e = absurd (cc)
+    by (Ok (One header)) e = (tt, nothing taken e)
+    by (Ok (Two header count)) e = nothing taken e
+taken-at number (Opening header count) text sofar printed well taken e = by (next_companion header text) e
+  where
+    by : (read : Result CompanionLine LineFault) → opened read ≡ Ok printed
+        → TakenAt (declared header count read) (sofar ++ printed)
+    by (Err fault) e = absurd (cc)
+    by (Ok companion) e =
+        on_grown (λ extent. TakenAt extent (sofar ++ printed)) (with_companion header companion) count
+        (λ whole. (tt, nothing taken e)) (λ part. nothing taken e)
+taken-at number (Running header version lines) text sofar printed well taken e = by (next_line header version text) refl e
+  where
+    by : (read : Result Line LineFault) → next_line header version text ≡ read
+        → read_meant header lines number read ≡ Ok printed
+        → TakenAt (Running header version (with_line number lines read)) (sofar ++ printed)
+    by (Err fault) is e = absurd (cc)
+    by (Ok line) is e =
+        let now : Numbered = record { number = number; line = line } in
+        let count = length header.companions in
+        let ok : line_meant header lines now ≡ Ok printed = caused-ok (line_meant header lines now) printed e in
+        let range = line_range (version == 1) count (words_of text) (Ok line) is in
+        let of = of-second version count count line well.fits refl
+        (line_is_of (version == 1) count (words_of text) (Ok line) is) in
+        let accepted : AreAccepted header (now ∷ lines) = (range, of, well.next, (printed, ok), taken.0) in (
+          accepted,
+          (sofar, printed, refl, kept_line header lines now printed well.declared accepted ok, taken.1),
+        )
 taken-at number Unread text sofar printed well taken e = absurd taken
 
 taken_text : (before : List (List ℕ)) (text sofar printed : List ℕ) → TakenAll before sofar
@@ -268,10 +216,11 @@ finishes before = by (reached before)
 -- what was taken keeps the promise
 promise_of : (bytes : List ℕ) (texts rest : List (List ℕ)) (printed : List ℕ) → lines_of bytes ≡ texts ++ rest
     → TakenAll texts printed → KeepsPromise bytes printed
-promise_of bytes texts rest printed parts taken = by (reached texts) refl (well texts) taken
+promise_of bytes texts rest printed parts taken =
+    (printed, prefix_refl printed, by (reached texts) refl (well texts) taken)
   where
     by : (extent : Extent) → reached texts ≡ extent → IsWell (length texts + 1) extent → TakenAt extent printed
-        → KeepsPromise bytes printed
+        → (printed ≡ []) ⊎ PromiseKept bytes printed
     by (Running header version lines) is well t = inr (record {
       texts = texts;
       rest = rest;
@@ -281,49 +230,26 @@ promise_of bytes texts rest printed parts taken = by (reached texts) refl (well 
       lines = lines;
       is_read = is;
       world = accepted_lines_are_world header lines well.declared t.0;
-      whole = printed;
-      front = ([], sym (append-nil printed));
       kept = t.1;
     })
     by Unread is well t = absurd t
     by _ is well t = inl t
 
 -- what is printed for whole lines keeps the promise
-pub so_far : (bytes : List ℕ) → KeepsPromise bytes (outcome_so_far replayed bytes).printed
+so_far : (bytes : List ℕ) → KeepsPromise bytes (outcome_so_far replayed bytes).printed
 so_far bytes =
     let of = taken_so_far replayed TakenAll taken_text finishes refl bytes in
     promise_of bytes of.texts of.rest _ of.parts of.taken
 
 -- so does what is printed for the whole input
-pub in_all : (bytes : List ℕ) → KeepsPromise bytes (outcome replayed bytes).printed
+in_all : (bytes : List ℕ) → KeepsPromise bytes (outcome replayed bytes).printed
 in_all bytes =
     let of = taken_in_all replayed TakenAll taken_text finishes refl bytes in
     promise_of bytes of.texts of.rest _ of.parts of.taken
 
 -- a front part keeps it too
-pub front_keeps : (bytes front whole : List ℕ) → IsPrefix front whole → KeepsPromise bytes whole
-    → KeepsPromise bytes front
-front_keeps bytes front whole prefix (inl none) = inl (no_front front prefix.0 (sym none ∙ prefix.1))
-  where
-    no_front : (xs ys : List ℕ) → [] ≡ xs ++ ys → xs ≡ []
-    no_front [] ys e = refl
-    no_front (x ∷ xs) ys e = absurd (cc)
-front_keeps bytes front whole prefix (inr kept) = inr (record {
-  texts = kept.texts;
-  rest = kept.rest;
-  are_lines = kept.are_lines;
-  header = kept.header;
-  version = kept.version;
-  lines = kept.lines;
-  is_read = kept.is_read;
-  world = kept.world;
-  whole = kept.whole;
-  front = (
-    prefix.0 ++ kept.front.0,
-    kept.front.1 ∙ ap (λ w. w ++ kept.front.0) prefix.1 ∙ append_assoc front prefix.0 kept.front.0,
-  );
-  kept = kept.kept;
-})
+front_keeps : (bytes front whole : List ℕ) → IsPrefix front whole → KeepsPromise bytes whole → KeepsPromise bytes front
+front_keeps bytes front whole prefix keeps = (keeps.0, prefix_trans front whole keeps.0 prefix keeps.1, keeps.2)
 
 -- ---- runs
 -- what a run adds to the sink keeps the promise of the bytes that it read

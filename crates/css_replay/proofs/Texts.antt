@@ -1,11 +1,11 @@
 -- How far texts are read, with one text more, and what is known of a schedule as far as it is read.
-use Rattle.std.proofs.Common.{◌≡◌, ℕ, suc, ◌+◌, ◌-◌, arith, ap, subst, ◌∙◌, Bool, true, false, cond, eqb, refl}
+use Rattle.std.proofs.Common.{◌≡◌, ◌≢◌, ℕ, suc, ◌+◌, ◌-◌, arith, ap, subst, ◌∙◌, Bool, true, false, cond, eqb, refl}
 use Rattle.std.proofs.Common.{List, [], ◌∷◌, ◌++◌, length, get_or}
 use Rattle.std.specs.Int.{w8}
 use Rattle.std.specs.Prelude.{ℤ, pos, negsuc, ◌≤ℤ◌, FitsSigned, All, Option, Some, None, unwrap_or, slice_get}
 use Rattle.std.specs.Prelude.{Result, Ok, Err}
 use Rattle.std.specs.Option.{option_map}
-use Rattle.std.proofs.lemmas.Bool.{eqb-false}
+use Rattle.std.proofs.lemmas.Bool.{eqb-false, eqb-true}
 use Rattle.std.proofs.lemmas.Int.{ints}
 use Rattle.std.proofs.lemmas.List.{length-append}
 use Rattle.std.proofs.lemmas.List.Elements.{All-get_or}
@@ -25,7 +25,7 @@ use Rattle.css_world.specs.Happened.{Numbered}
 use Rattle.css_world.specs.Standing.{IsNext}
 use Rattle.css_world.specs.Verdicts.{IsDeclared}
 use Rattle.css_replay.specs.Replayed.{Extent, Opening, Outset, Running, Unread, after, declared, next_companion}
-use Rattle.css_replay.specs.Replayed.{next_line, reached, read_from, started, with_line}
+use Rattle.css_replay.specs.Replayed.{grown, next_line, reached, read_from, started, with_line}
 use Rattle.css_replay.specs.Stands.{IsPart, IsWell}
 
 -- a text more is read after those before it
@@ -44,6 +44,17 @@ reached-push texts text =
     read_from-push 1 Outset texts text ∙ ap (λ (n : ℕ). after n (reached texts) text) (omega arith)
 
 -- ---- the header
+-- the header is whole, or more companions are to come
+pub on_grown : (P : Extent → Type 0) (header : Header) (count : ℕ)
+    → (length header.companions ≡ count → P (Running header 2 []))
+    → (length header.companions ≢ count → P (Opening header count)) → P (grown header count)
+on_grown P header count whole part = by (eqb (length header.companions) count) refl
+  where
+    by : (b : Bool) → eqb (length header.companions) count ≡ b
+        → P (cond b (Running header 2 []) (Opening header count))
+    by true e = whole (eqb-true (length header.companions) count e)
+    by false e = part (eqb-false (length header.companions) count e)
+
 -- a precision exponent in its range is one byte
 fits-exponent : (z : ℤ) → negsuc 127 ≤ℤ z → z ≤ℤ pos 30 → FitsSigned w8 z
 fits-exponent (pos n) low high = record { sfits = omega (arith, ints, high) }

@@ -100,9 +100,9 @@ AreKept header (now ∷ older) printed =
     (before : List ℕ) × (last : List ℕ) × (printed ≡ before ++ last) × KeepsLine header older now last
     × AreKept header older before
 
--- What was printed is a front part of what is printed for lines of the schedule, and for each of these it keeps the
--- promise. They are the lines after its header, as far as it was read. They are a world that keeps the declared errors
--- and explains what each companion did.
+-- This is what is printed for lines of the schedule, and for each of these it keeps the promise. They are the lines after
+-- its header, as far as it was read. They are a world that keeps the declared errors and explains what each companion
+-- did.
 pub record PromiseKept (bytes printed : List ℕ) : Type 0 where
   pub texts : List (List ℕ)
   pub rest : List (List ℕ)
@@ -112,13 +112,12 @@ pub record PromiseKept (bytes printed : List ℕ) : Type 0 where
   pub lines : List Numbered
   pub is_read : reached texts ≡ Running header version lines
   pub world : AreWorld header lines
-  pub whole : List ℕ
-  pub front : IsPrefix printed whole
-  pub kept : AreKept header lines whole
+  pub kept : AreKept header lines printed
 
--- Whatever a schedule says, what is printed of it keeps the promise.
+-- Whatever a schedule says, what was printed is a front part of what is printed for its lines and keeps the promise.
 abbrev pub KeepsPromise : List ℕ → List ℕ → Type 0
-KeepsPromise bytes printed = (printed ≡ []) ⊎ PromiseKept bytes printed
+KeepsPromise bytes printed =
+    (whole : List ℕ) × IsPrefix printed whole × ((whole ≡ []) ⊎ PromiseKept bytes whole)
 
 -- A run took some bytes from the source and added something to the sink, and this keeps the promise of those bytes: it
 -- is all that the sink gained, where the sink tells it.
