@@ -1,7 +1,7 @@
 -- What the status of a run over lines tells of it and of its devices.
-use Rattle.std.proofs.Common.{◌≡◌, ℕ, arith, ap, sym, subst, ◌∙◌, refl, inl, inr, List}
+use Rattle.std.proofs.Common.{◌≡◌, ℕ, arith, rules, subst, refl, inl, inr, List}
 use Rattle.std.specs.Prelude.{Option, Some, None, ⊤}
-use Rattle.css_lines.specs.Meaning.{Meaning, Outcome, outcome}
+use Rattle.css_lines.specs.Meaning.{Meaning, outcome}
 use Rattle.css_lines.specs.Ending.{RanToEnd, RanUntil, SourceCounts, SinkCounts}
 use Rattle.css_lines.specs.declared.reader.Refusal.{Refusal}
 use Rattle.css_lines.specs.declared.ending.Stop.{Stop}
@@ -32,44 +32,13 @@ pub record EndsLines (r r' w w' : ℕ) (result : Status) : Type 0 where
   pub reads : CountsReads r r' result
   pub writes : CountsWrites w w' result
 
-pub line_ends : {r r' w w' : ℕ} (result : Status) → IsOfLine result → r' ≡ r → w' ≡ w → EndsLines r r' w w' result
+line_ends : {r r' w w' : ℕ} (result : Status) → IsOfLine result → r' ≡ r → w' ≡ w → EndsLines r r' w w' result
 line_ends Done of read wrote = absurd of
-line_ends Usage of read wrote = absurd of
-line_ends ReadFault of read wrote = absurd of
-line_ends WriteFault of read wrote = absurd of
-line_ends (NetFault failure) of read wrote = absurd of
-line_ends (Unreachable turns) of read wrote = absurd of
-line_ends (ChildFault status) of read wrote = absurd of
-line_ends _ of read wrote = record {
-  no_usage = tt;
-  quiet = record { calls = λ n. refl; dials = λ n. omega arith; spawns = λ n. omega arith };
-  reads = read;
-  writes = wrote;
-}
-
--- of an input of which no line is refused a run stops only for want of memory, unless a device failed
-only_memory : {Cause : Type 0} {meaning : Meaning Cause} {bytes : List ℕ}
-    {left holds_old holds_new : Option (List ℕ)} {reads reads_new writes writes_new : ℕ} (stop : Stop Cause)
-    → RanUntil meaning bytes left holds_old holds_new stop → (outcome meaning bytes).verdict ≡ None
-    → SourceCounts reads reads_new stop → SinkCounts writes writes_new stop
-    → HasNotFailed reads reads_new → HasNotFailed writes writes_new → stop ≡ stops.Memory
-only_memory (stops.BadLine line why) ran accepted source sink read written =
-    let verdict = sym (ap (λ (o : Outcome _). o.verdict) ran.verdict) ∙ accepted in
-    absurd (cc)
-only_memory stops.ReadFault ran accepted source sink read written =
-    absurd (omega (arith, source.risen read.below, read.same))
-only_memory stops.WriteFault ran accepted source sink read written =
-    absurd (omega (arith, sink.risen written.below, written.same))
-only_memory stops.Memory ran accepted source sink read written = refl
+line_ends _ of read wrote = search rules
 
 -- ---- a run that read all
 pub done_ends : {r r' w w' : ℕ} → r' ≡ r → w' ≡ w → EndsLines r r' w w' Done
-done_ends read wrote = record {
-  no_usage = tt;
-  quiet = record { calls = λ n. refl; dials = λ n. omega arith; spawns = λ n. refl };
-  reads = read;
-  writes = wrote;
-}
+done_ends read wrote = search rules
 
 pub read_all : {L Cause : Type 0} {meaning : Meaning Cause} {stands : L → List (List ℕ) → Type 0} {lines : L}
     {refused : ℕ → Refusal Cause → Status} {source : SourceUse} {sink : SinkUse}
@@ -95,12 +64,20 @@ module _ {Cause : Type 0} (refused : ℕ → Refusal Cause → Status)
   pub stop_ends : {r r' w w' : ℕ} (stop : Stop Cause) → SourceCounts r r' stop → SinkCounts w w' stop
       → EndsLines r r' w w' (stop_status refused stop)
   stop_ends (stops.BadLine line why) read wrote = line_ends (refused line why) (of_line line why) read wrote
-  stop_ends _ read wrote = record {
-    no_usage = tt;
-    quiet = record { calls = λ n. refl; dials = λ n. omega arith; spawns = λ n. omega arith };
-    reads = read;
-    writes = wrote;
-  }
+  stop_ends _ read wrote = search rules
+
+  -- of an input of which no line is refused it stops only for want of memory, unless a device failed
+  only_memory : {meaning : Meaning Cause} {bytes : List ℕ} {left holds_old holds_new : Option (List ℕ)}
+      {r r' w w' : ℕ} (stop : Stop Cause) → RanUntil meaning bytes left holds_old holds_new stop
+      → (outcome meaning bytes).verdict ≡ None → SourceCounts r r' stop → SinkCounts w w' stop
+      → HasNotFailed r r' → HasNotFailed w w' → IsDoneUnlessMemory (stop_status refused stop)
+  only_memory (stops.BadLine line why) ran accepted source sink read written =
+      absurd (let none = rw ran.verdict at accepted in cc)
+  only_memory stops.ReadFault ran accepted source sink read written =
+      omega (arith, source.risen read.below, read.same)
+  only_memory stops.WriteFault ran accepted source sink read written =
+      omega (arith, sink.risen written.below, written.same)
+  only_memory stops.Memory ran accepted source sink read written = tt
 
   pub stopped : {meaning : Meaning Cause} {source : SourceUse} {sink : SinkUse} (stop : Stop Cause)
       → ((bytes : List ℕ) → source.left_old ≡ Some bytes
@@ -110,7 +87,5 @@ module _ {Cause : Type 0} (refused : ℕ → Refusal Cause → Status)
   stopped stop ran read wrote = record {
     no_usage = (stop_ends stop read wrote).no_usage;
     reads = λ bytes is. inr (record { stop = stop; ran = ran bytes is; told = refl });
-    complete = λ bytes is accepted unread unwritten.
-        subst (λ (s : Stop Cause). IsDoneUnlessMemory (stop_status refused s))
-        (sym (only_memory stop (ran bytes is) accepted read wrote unread unwritten)) tt;
+    complete = λ bytes is accepted. only_memory stop (ran bytes is) accepted read wrote;
   }
