@@ -8,11 +8,8 @@ pub mod SameEvents
 pub mod TvPeers
 pub mod TvCalls
 pub mod TvSteps
-pub mod TvMoves
 pub mod TvLines
-pub mod TvLoops
 pub mod TvOpens
-pub mod TvRuns
 pub mod TvNews
 pub mod TvTold
 pub mod TvTellings

@@ -1,40 +1,53 @@
--- How a television's run comes on by a call of the outside, and by an event.
-use Rattle.std.proofs.Common.{◌≡◌, ℕ, ◌+◌, ◌≤◌, Bool, false, true, cond, List, [], ◌∷◌, ◌++◌, Option, Some, None, refl}
-use Rattle.std.proofs.Common.{sym, ap, ap₂, subst, ◌∙◌, arith, append_assoc, Result, Ok, Err}
-use Rattle.std.specs.Prelude.{◌≢◌, ◌&&◌, ⊤}
+-- How a television's run comes on by a call of the outside, by an event, and from part to part of its loop.
+use Rattle.std.proofs.Common.{◌≡◌, ℕ, ◌+◌, ◌≤◌, ◌<◌, Bool, false, true, cond, List, [], ◌∷◌, ◌++◌, Option, Some, None}
+use Rattle.std.proofs.Common.{refl, sym, ap, ap₂, subst, ◌∙◌, arith, append_assoc, drop, Result, Ok, Err}
+use Rattle.std.specs.Prelude.{◌≢◌, ◌&&◌, ⊤, is_some, ◌↔◌, MatchResult}
+use Rattle.std.specs.Option.{option_map, option_to_list}
+use Rattle.std.proofs.lemmas.List.Elements.{All-nil, All-push}
+use Rattle.css_model.specs.Wire.{encoded}
+use Rattle.css_model.specs.declared.Kind.{Kind as PeerKind}
+use Rattle.css_model.specs.declared.Kind.TheVariants as peer_kind
 use Rattle.css_model.specs.declared.Why.{Why}
-use Rattle.css_model.specs.History.{History, Accepted, Clock}
+use Rattle.css_model.specs.declared.Why.TheVariants as why
+use Rattle.css_model.specs.History.{History, Listening, Accepted, Clock, Sent}
+use Rattle.css_num.specs.declared.protocol.Kind.{Kind}
+use Rattle.css_num.specs.declared.protocol.Kind.TheVariants as kind
 use Rattle.css_outside.specs.Faults.{CountsOutFault}
-use Rattle.css_outside.specs.Outsides.{Counts, CountsPlain, with_entries, clock_entries}
-use Rattle.css_outside.specs.declared.calls.Clocked.{Clocked}
 use Rattle.css_outside.specs.declared.fault.OutFault.{OutFault}
-use Rattle.css_sessions.specs.Kept.{Kept}
-use Rattle.css_sessions.specs.Told.{sessions_of}
+use Rattle.css_outside.specs.Outsides.{Counts, CountsPlain, with_entries, clock_entries}
+use Rattle.css_server.specs.Tickets.{Server, Ticket, response_to, follow_up_for}
+use Rattle.css_sessions.specs.Kept.{Kept, talk_of}
+use Rattle.css_sessions.specs.Told.{sessions_of, life_of}
 use Rattle.css_player.specs.Player.{Player}
+use Rattle.css_tv.specs.Serving.{server_of}
 use Rattle.css_tv.specs.Stages.{Stage, Television}
 use Rattle.css_tv.specs.Outcomes.{Outcome, outcome, outcome_at, outs}
 use Rattle.css_tv.specs.Standing.{StandsFor, IsFresh, IsAfterBy, calls_of, player_after}
 use Rattle.css_tv.specs.declared.event.TvEvent.{TvEvent}
+use Rattle.css_tv.specs.declared.event.TvEvent.TheVariants as event
 use Rattle.css_tv.specs.declared.event.TvOut.{TvOut}
 use Rattle.css_tv.specs.declared.fault.TvFault.{TvFault}
 use Rattle.css_tv.specs.declared.state.Addresses.{Addresses}
 use Rattle.css_schedule.specs.declared.line.ScriptLine.{ScriptLine}
-use Rattle.css_drive.specs.Proper.{Now, MayAdd, More}
+use Rattle.css_drive.specs.CompanionStanding.{Shown}
+use Rattle.css_drive.specs.Proper.{Now, TakeDatagram, MayAdd, Empty, More}
 use Rattle.css_drive.specs.Ends.{MayEnd, CountsNetFault}
-use Rattle.css_drive.specs.TvProgress.{Place, Turned, Progress, settled, settled_at, carry, with_line, is_free, is_due}
-use Rattle.css_drive.specs.TvProgress.{open_after, addresses_in, progress_of, after, happened, outcome_after}
-use Rattle.css_drive.specs.TvProgress.{outs_after, outs_in}
-use Rattle.css_drive.specs.TvTurns.{since}
-use Rattle.css_drive.specs.TvDue.{TvRun, due, due_for}
-use Rattle.css_drive.specs.TvPeers.{Knows}
-use Rattle.css_drive.specs.TvRan.{AreBelow, AreNumbered, MadeTurns, TvRan}
-use Rattle.css_drive.specs.TvStanding.{HasCause, KeepsCounts, IsFault, IsRead, Told, Airs, Settles, Happens}
-use Rattle.css_drive.specs.TvStanding.{progress_at, with_tv}
+use Rattle.css_drive.specs.TvProgress.{Place, Listens, Turned, Received, Answers, Served, Asked, Progress, settled}
+use Rattle.css_drive.specs.TvProgress.{settled_at, carry, with_line, is_free, is_due, addresses_in, progress_of, after}
+use Rattle.css_drive.specs.TvProgress.{beginning, happened, opened, answering, outcome_after, outs_in}
+use Rattle.css_drive.specs.TvTurns.{since, begun, goes_on, is_over, no_turns}
+use Rattle.css_drive.specs.TvDue.{TvRun, due, due_for, from_hang_ups}
+use Rattle.css_drive.specs.TvPeers.{Knows, Covers, has}
+use Rattle.css_drive.specs.TvRan.{AreBelow, AreNumbered, MadeTurns}
+use Rattle.css_drive.specs.TvStanding.{From, Told, Stops, Fails, Adds, IsRead, Airs, IsAt, Settles, Happens, Comes}
+use Rattle.css_drive.specs.TvStanding.{Welcomes, IsTurned, IsUnused, started, progress_at, live_after, at_end, with_tv}
 use Rattle.css_drive.specs.declared.driven.Driven.{Driven}
 use Rattle.css_drive.specs.declared.driven.Driven.TheVariants as driven
 use Rattle.css_drive.specs.declared.on_air.OnAir.{OnAir}
-use Rattle.css_drive.proofs.TvCalls.{IsNoOpening, is_fresh, event_narrows}
+use Rattle.css_drive.specs.declared.turns.Turns.{Turns}
+use Rattle.css_drive.proofs.TvCalls.{IsNoOpening, is_fresh, event_narrows, event_covers, has_talk}
 use Rattle.css_drive.proofs.TvPeers as lists
+use Rattle.css_drive.proofs.TvTellings.{unused}
 
 -- ---- lines that wait
 pub carry_stops : (a : Addresses) (s r : ℕ) (lines : List ScriptLine) (p : Progress) → is_free p ≡ false
@@ -43,14 +56,14 @@ carry_stops a s r [] p e = refl
 carry_stops a s r (line ∷ left) p e =
     ap (λ b. cond (b && is_due s r line) (carry a s r left (with_line a r line left p)) p) e
 
-pub settled_stops : (a : Addresses) (p : Progress) → is_free p ≡ false → settled a p ≡ p
+settled_stops : (a : Addresses) (p : Progress) → is_free p ≡ false → settled a p ≡ p
 settled_stops a p e = go p.place where
   go : (place : Place) → settled_at a place p ≡ p
   go (Turned r) = carry_stops a (since p.turns) r p.lines p e
   go _ = refl
 
 -- ---- the history
-pub below_later : (a b : ℕ) (h : History) → a ≤ b → AreBelow a h → AreBelow b h
+below_later : (a b : ℕ) (h : History) → a ≤ b → AreBelow a h → AreBelow b h
 below_later a b [] le h = tt
 below_later a b (Accepted peer kind ∷ older) le h = (omega (arith, le, h.0), below_later a b older le h.1)
 below_later a b (_ ∷ older) le h = below_later a b older le h
@@ -61,259 +74,373 @@ AcceptsNone [] = ⊤
 AcceptsNone (Accepted peer kind ∷ older) = ⊥
 AcceptsNone (_ ∷ older) = AcceptsNone older
 
-numbered_on : (call h : History) → AcceptsNone call → AreNumbered h → AreNumbered (call ++ h)
-numbered_on [] h none n = n
-numbered_on (Accepted peer kind ∷ call) h none n = absurd none
-numbered_on (_ ∷ call) h none n = numbered_on call h none n
+numbered_on : (n : ℕ) (call h : History) → AcceptsNone call → AreNumbered h × AreBelow n h
+    → AreNumbered (call ++ h) × AreBelow n (call ++ h)
+numbered_on n [] h none known = known
+numbered_on n (Accepted peer kind ∷ call) h none known = absurd none
+numbered_on n (_ ∷ call) h none known = numbered_on n call h none known
 
-below_on : (n : ℕ) (call h : History) → AcceptsNone call → AreBelow n h → AreBelow n (call ++ h)
-below_on n [] h none below = below
-below_on n (Accepted peer kind ∷ call) h none below = absurd none
-below_on n (_ ∷ call) h none below = below_on n call h none below
+accepts_none : (w : Why) (reading : ℕ) (slept : Bool)
+    → AcceptsNone (clock_entries w (record { reading = reading; slept = slept }))
+accepts_none w reading true = tt
+accepts_none w reading false = tt
 
 -- how far entries bring a run
 abbrev pub after_all : Addresses → History → Progress → Progress
 after_all a [] p = p
 after_all a (entry ∷ older) p = after a entry (after_all a older p)
 
+after_read : (a : Addresses) (w : Why) (reading : ℕ) (slept : Bool) (p : Progress)
+    → after_all a (clock_entries w (record { reading = reading; slept = slept })) p ≡ after a (Clock w reading) p
+after_read a w reading true p = refl
+after_read a w reading false p = refl
+
 progress_more : (run : TvRun) (call h : History)
     → progress_of run (call ++ h) ≡ after_all (addresses_in run.config) call (progress_of run h)
 progress_more run [] h = refl
 progress_more run (entry ∷ call) h = ap (after (addresses_in run.config) entry) (progress_more run call h)
 
-pub told_as : {run : TvRun} {start told : Option History} {peers : ℕ} {p : Progress} {h : History} (q : Progress)
-    → Told run start told peers p h → p ≡ q → Told run start told peers q h
-told_as q t e =
-    record { grew = t.grew; proper = t.proper; numbered = t.numbered; below = t.below; progress = t.progress ∙ e }
+told_on : (call h : History) (start : Option History)
+    → with_entries call (with_entries h start) ≡ with_entries (call ++ h) start
+told_on call h None = refl
+told_on call h (Some s) = ap Some (sym (append_assoc call h s))
 
--- the entries of a call that is due are added
-pub told_more : {run : TvRun} {start told told' : Option History} {peers peers' : ℕ} {p : Progress} {h : History}
-    → Told run start told peers p h → (call : History) → MayAdd (due_for run p) call → told' ≡ with_entries call told
-    → AreNumbered (call ++ h) → AreBelow (peers' + 1) (call ++ h)
-    → Told run start told' peers' (after_all (addresses_in run.config) call p) (call ++ h)
-told_more {run} {start} {h = h} t call may e numbered below = record {
-  grew = e ∙ ap (with_entries call) t.grew ∙ by start;
-  proper = More call (subst (λ x. MayAdd (due_for run x) call) (sym t.progress) may) t.proper;
-  numbered = numbered;
-  below = below;
-  progress = progress_more run call h ∙ ap (after_all (addresses_in run.config) call) t.progress;
-} where
-  by : (start : Option History) → with_entries call (with_entries h start) ≡ with_entries (call ++ h) start
-  by None = refl
-  by (Some s) = ap Some (sym (append_assoc call h s))
+pub told_as : {from : From} {now : Shown} {p : Progress} {h : History} (q : Progress) → Told from now p h → p ≡ q
+    → Told from now q h
+told_as {from} {now} {h = h} q t e = subst (λ (x : Progress). Told from now x h) e t
 
--- no session comes by them
-pub told_plain : {run : TvRun} {start told told' : Option History} {peers peers' : ℕ} {p : Progress} {h : History}
-    → Told run start told peers p h → (call : History) → AcceptsNone call → MayAdd (due_for run p) call
-    → told' ≡ with_entries call told → peers ≤ peers'
-    → Told run start told' peers' (after_all (addresses_in run.config) call p) (call ++ h)
-told_plain {peers' = peers'} {h = h} t call none may e le =
-    told_more t call may e (numbered_on call h none t.numbered)
-    (below_on (peers' + 1) call h none (below_later _ _ h (omega (arith, le)) t.below))
+module _ {from : From} {now next : Shown} {p : Progress} {h : History} (t : Told from now p h) where
+  -- the entries of a call that is due are added
+  told_more : (call : History) → MayAdd (due_for from.run p) call → next.told ≡ with_entries call now.told
+      → next.counts.dial_faults ≡ now.counts.dial_faults → next.counts.faults ≡ now.counts.faults
+      → AreNumbered (call ++ h) → AreBelow (next.counts.peers + 1) (call ++ h)
+      → Told from next (after_all (addresses_in from.run.config) call p) (call ++ h)
+  told_more call may told dials faults numbered below = record {
+    grew = told ∙ ap (with_entries call) t.grew ∙ told_on call h from.start.told;
+    dials = dials ∙ t.dials;
+    faults = faults ∙ t.faults;
+    proper = More call (subst (λ x. MayAdd (due_for from.run x) call) (sym t.progress) may) t.proper;
+    numbered = numbered;
+    below = below;
+    progress = progress_more from.run call h ∙ ap (after_all (addresses_in from.run.config) call) t.progress;
+  }
 
--- the clock is read, maybe after a sleep
-told_read : {run : TvRun} {start told told' : Option History} {peers peers' : ℕ} {p : Progress} {h : History}
-    → Told run start told peers p h → (w : Why) → due_for run p ≡ Now w → (reading : ℕ) (slept : Bool)
-    → told' ≡ with_entries (clock_entries w (record { reading = reading; slept = slept })) told → peers ≤ peers'
-    → Told run start told' peers' (after (addresses_in run.config) (Clock w reading) p)
-    (clock_entries w (record { reading = reading; slept = slept }) ++ h)
-told_read t w d reading true e le =
-    let c : Clocked = record { reading = reading; slept = true } in
-    told_plain t (clock_entries w c) tt (subst (λ x. MayAdd x (clock_entries w c)) (sym d) (c, refl)) e le
-told_read t w d reading false e le =
-    let c : Clocked = record { reading = reading; slept = false } in
-    told_plain t (clock_entries w c) tt (subst (λ x. MayAdd x (clock_entries w c)) (sym d) (c, refl)) e le
-
--- ---- faults
--- nothing was told, and the run ends by a fault
-pub stops_by_fault : {run : TvRun} {start told : Option History} {peers : ℕ} {p : Progress} {h : History}
-    → Told run start told peers p h → (told' : Option History) → told' ≡ told → (ended : Driven) → IsFault ended
-    → TvRan run start told' ended
-stops_by_fault {run} {h = h} t told' e ended f = record {
-  h = h;
-  grew = e ∙ t.grew;
-  proper = t.proper;
-  numbered = t.numbered;
-  ends = fault_ends ended f;
-  whole = fault_whole ended f;
-} where
-  fault_ends : (ended : Driven) → IsFault ended → MayEnd (due run h) ended
-  fault_ends (driven.NetFault failure) f = tt
-  fault_ends driven.Memory f = tt
-  fault_ends _ f = absurd f
-
-  fault_whole : (ended : Driven) → IsFault ended → MadeTurns run h ended
-  fault_whole (driven.NetFault failure) f = tt
-  fault_whole driven.Memory f = tt
-  fault_whole _ f = absurd f
-
--- a call of the outside failed that opened no session
-pub cause_by : {T : Type 0} (before now : Counts) (ended : Driven) → now.dial_faults ≡ before.dial_faults
-    → now.peers ≡ before.peers → CountsNetFault before.faults now.faults ended → ended ≢ driven.WriteFault
-    → HasCause {T = T} before now (Err ended)
-cause_by before now ended dials peers counted none = record {
-  dials = dials;
-  peers = omega (arith, peers);
-  ok = tt;
-  failed = counted;
-  no_writes = none;
-}
-
--- so did one that does nothing else
-pub cause_plain : {T : Type 0} {U : Type 0} {before now : Counts} {fault : OutFault} {ended : Driven}
-    → CountsPlain {T = U} before now (Err fault)
-    → ((n m : ℕ) → CountsOutFault n m fault → CountsNetFault n m ended) → ended ≢ driven.WriteFault
-    → HasCause {T = T} before now (Err ended)
-cause_plain {before = before} {now} {ended = ended} k counted none =
-    cause_by before now ended (ap (λ x. x.dial_faults) k.same) (ap (λ x. x.peers) k.same) (counted _ _ k.faults) none
-
--- no call had failed before
-pub cause_later : {T : Type 0} (before mid now : Counts) (ended : Driven) → KeepsCounts before mid
-    → HasCause {T = T} mid now (Err ended) → HasCause {T = T} before now (Err ended)
-cause_later before mid now ended kept k = record {
-  dials = k.dials ∙ kept.dials;
-  peers = omega (arith, k.peers, kept.peers);
-  ok = tt;
-  failed = subst (λ n. CountsNetFault n now.faults ended) kept.faults k.failed;
-  no_writes = k.no_writes;
-}
-
--- nor has one in a part that went well
-pub counts_on : {T : Type 0} {before mid now : Counts} {value : T} → KeepsCounts before mid
-    → HasCause mid now (Ok value) → KeepsCounts before now
-counts_on kept cause = record {
-  dials = cause.dials ∙ kept.dials;
-  peers = omega (arith, cause.peers, kept.peers);
-  faults = cause.ok ∙ kept.faults;
-}
-
--- a call that neither reads the clock nor opens a session
-pub peers_kept : {T : Type 0} {before now : Counts} {result : Result T OutFault} → CountsPlain before now result
-    → before.peers ≤ now.peers
-peers_kept {before = before} k = let P : Counts → Type 0 = λ x. before.peers ≤ x.peers in
-    subst P (sym k.same) (omega arith)
-
-pub counts_kept : {T : Type 0} {before mid now : Counts} {t : T} → KeepsCounts before mid → CountsPlain mid now (Ok t)
-    → KeepsCounts before now
-counts_kept k c = record {
-  dials = ap (λ (x : Counts). x.dial_faults) c.same ∙ k.dials;
-  peers = omega (arith, peers_kept c, k.peers);
-  faults = c.faults ∙ k.faults;
-}
+  -- the run ends, with nothing more told
+  pub stops : next.told ≡ now.told → next.counts.dial_faults ≡ now.counts.dial_faults → (ended : Driven)
+      → MayEnd (due from.run h) ended → MadeTurns from.run h ended
+      → CountsNetFault now.counts.faults next.counts.faults ended → ended ≢ driven.WriteFault → Stops from next ended
+  stops told dials ended ends whole counted no_writes = record {
+    ran = record {
+      h = h;
+      grew = told ∙ t.grew;
+      proper = t.proper;
+      numbered = t.numbered;
+      ends = ends;
+      whole = whole;
+    };
+    counted = record {
+      dials = dials ∙ t.dials;
+      faults = subst (λ n. CountsNetFault n next.counts.faults ended) t.faults counted;
+      no_writes = no_writes;
+    };
+  }
 
 -- ---- the loop
--- The sessions are as they were, and maybe more peers came.
-pub airs_on : {run : TvRun} {start told told' : Option History} {peers peers' : ℕ} {air air' : OnAir}
-    {now now' : List TvEvent → Progress} {h : History}
-    → (x : Airs run start told peers air now) → peers ≤ peers' → air'.tv.stage ≡ air.tv.stage
-    → air'.peers.items ≡ air.peers.items → Told run start told' peers' (now' x.events) h
-    → Airs run start told' peers' air' now'
-airs_on {run} {peers' = peers'} {h = h} x le stage items t = record {
-  events = x.events;
-  h = h;
-  history = t;
-  addresses = ap (λ s. s.addresses) stage ∙ x.addresses;
-  stage = subst (λ s. StandsFor s x.events) (sym stage) x.stage;
-  knows = subst (λ xs. Knows xs peers' (open_after (addresses_in run.config) x.events)) (sym items)
-      (lists.knows_later _ _ _ _ x.knows le);
+pub adds : {T : Type 0} {old new : Shown} {entries : History} {value : T} → new.told ≡ with_entries entries old.told
+    → CountsPlain old.counts new.counts (Ok value) → Adds old new entries
+adds told k = record {
+  told = told;
+  dials = ap (λ x. x.dial_faults) k.same;
+  faults = k.faults;
+  peers = ap (λ x. x.peers) k.same;
 }
 
--- by another name of how far it has come
-pub airs_as : {run : TvRun} {start told : Option History} {peers : ℕ} {air : OnAir}
-    {now now' : List TvEvent → Progress}
-    → (x : Airs run start told peers air now) → now x.events ≡ now' x.events → Airs run start told peers air now'
-airs_as x e = airs_on x (omega arith) refl refl (told_as _ x.history e)
+module _ {from : From} {now : Shown} {air : OnAir} {to : List TvEvent → Progress} (x : Airs from now air to) where
+  -- with other values of the loop, and by another name of how far it has come
+  pub airs_as : {air' : OnAir} {to' : List TvEvent → Progress} → air'.tv.stage ≡ air.tv.stage
+      → air'.peers.items ≡ air.peers.items → to x.events ≡ to' x.events → Airs from now air' to'
+  airs_as {to' = to'} stage items e = record {
+    events = x.events;
+    h = x.h;
+    history = told_as (to' x.events) x.history e;
+    addresses = ap (λ s. s.addresses) stage ∙ x.addresses;
+    stage = subst (λ s. StandsFor s x.events) (sym stage) x.stage;
+    knows = subst (λ xs. Knows xs now.counts.peers (live_after from x.events)) (sym items) x.knows;
+  }
 
--- A call that is due brings it on.
-pub moved : {run : TvRun} {start told told' : Option History} {peers peers' : ℕ} {air : OnAir}
-    {now : List TvEvent → Progress}
-    → (x : Airs run start told peers air now) → (call : History) → AcceptsNone call
-    → MayAdd (due_for run (now x.events)) call → told' ≡ with_entries call told → peers ≤ peers' → (air' : OnAir)
-    → air'.tv.stage ≡ air.tv.stage → air'.peers.items ≡ air.peers.items → (now' : List TvEvent → Progress)
-    → after_all (addresses_in run.config) call (now x.events) ≡ now' x.events → Airs run start told' peers' air' now'
-moved x call none may e le air' stage items now' is =
-    airs_on x le stage items (told_as _ (told_plain x.history call none may e le) is)
+  -- A call that is due brings it on, by which no session comes.
+  pub moved : {next : Shown} (call : History) → AcceptsNone call → MayAdd (due_for from.run (to x.events)) call
+      → Adds now next call → Airs from next air (λ events. after_all (addresses_in from.run.config) call (to events))
+  moved {next} call none may added =
+      let known = numbered_on (now.counts.peers + 1) call x.h none (x.history.numbered, x.history.below) in
+      record {
+        events = x.events;
+        h = call ++ x.h;
+        history = told_more x.history call may added.told added.dials added.faults known.0
+            (subst (λ n. AreBelow (n + 1) (call ++ x.h)) (sym added.peers) known.1);
+        addresses = x.addresses;
+        stage = x.stage;
+        knows = subst (λ n. Knows air.peers.items n (live_after from x.events)) (sym added.peers) x.knows;
+      }
 
--- A reading does.
-pub read_on : {run : TvRun} {start told told' : Option History} {peers peers' : ℕ} {air : OnAir}
-    {now : List TvEvent → Progress}
-    → (x : Airs run start told peers air now) → (w : Why) → due_for run (now x.events) ≡ Now w → (reading : ℕ)
-    → IsRead w told told' reading → peers ≤ peers' → (air' : OnAir) → air'.tv.stage ≡ air.tv.stage
-    → air'.peers.items ≡ air.peers.items → (now' : List TvEvent → Progress)
-    → after (addresses_in run.config) (Clock w reading) (now x.events) ≡ now' x.events
-    → Airs run start told' peers' air' now'
-read_on x w d reading read le air' stage items now' is =
-    airs_on x le stage items (told_as _ (told_read x.history w d reading read.0 read.1 le) is)
+  -- The run ends for want of memory.
+  pub lacks_memory : Stops from now driven.Memory
+  lacks_memory = stops x.history refl refl driven.Memory tt tt refl (λ e. cc)
+
+  -- whether a session is open
+  sessions_same : air.tv.stage.sessions ≡ sessions_of (calls_of (addresses_in from.run.config) x.events).sessions
+  sessions_same =
+      x.stage.sessions.same ∙ ap (λ (a : Addresses). sessions_of (calls_of a x.events).sessions) x.addresses
+
+  pub is_live : (peer : ℕ)
+      → has peer (live_after from x.events) ≡ is_some (talk_of peer air.tv.stage.sessions.list)
+  is_live peer =
+      has_talk peer (calls_of (addresses_in from.run.config) x.events).sessions
+      ∙ ap (λ k. is_some (talk_of peer k.list)) (sym sessions_same)
+
+  -- what an event does by the events before it is what it does at the television
+  pub outcome_same : (e : TvEvent) → outcome_at e air.tv.stage ≡ outcome_after (addresses_in from.run.config) x.events e
+  outcome_same e =
+      let stage = air.tv.stage in
+      ap₂ (λ (pl : Player) (k : Kept). outcome stage.addresses e pl k) x.stage.player.same x.stage.sessions.same
+      ∙ ap (λ (a : Addresses). outcome a e (player_after a x.events) (sessions_of (calls_of a x.events).sessions))
+      x.addresses
+
+-- A part ends with a call.
+pub ends_with : {T : Type 0} {from : From} {now : Shown} {p : Progress} {h : History} (P Q : T → Type 0) (next : Shown)
+    → Told from now p h → (result : Result T Driven) → MatchResult result P (Fails now next)
+    → ((value : T) → P value → Q value) → MatchResult result Q (Stops from next)
+ends_with P Q next t (Ok value) call there = there value call
+ends_with P Q next t (Err ended) call there = call _ _ _ t
+
+-- A call failed, by which no session comes.
+pub failed : {T : Type 0} {from : From} {now next : Shown} {p : Progress} {h : History} {fault : OutFault}
+    {ended : Driven}
+    → Told from now p h → ((old new : Shown) → new.told ≡ old.told → new.counts.dial_faults ≡ old.counts.dial_faults
+    → CountsOutFault old.counts.faults new.counts.faults fault → Fails old new ended)
+    → next.told ≡ now.told → CountsPlain {T = T} now.counts next.counts (Err fault) → Stops from next ended
+failed {from = from} t fault_of told k =
+    fault_of _ _ told (ap (λ (x : Counts). x.dial_faults) k.same) k.faults from _ _ t
+
+-- The clock is read.
+pub read_on : {from : From} {now next : Shown} {air : OnAir} {to : List TvEvent → Progress}
+    → (x : Airs from now air to) → (w : Why) → due_for from.run (to x.events) ≡ Now w → (reading : ℕ)
+    → IsRead w now next reading
+    → Airs from next air (λ events. after (addresses_in from.run.config) (Clock w reading) (to events))
+read_on {from} {to = to} x w d reading read =
+    let call = clock_entries w (record { reading = reading; slept = read.0 }) in
+    let y = moved x call (accepts_none w reading read.0)
+    (subst (λ due. MayAdd due call) (sym d) (record { reading = reading; slept = read.0 }, refl)) read.1 in
+    airs_as y refl refl (after_read (addresses_in from.run.config) w reading read.0 (to y.events))
 
 -- ---- an event
 -- one that opens no session is told
-pub happens : {run : TvRun} {start told told' : Option History} {peers peers' : ℕ} {air : OnAir}
-    {now : List TvEvent → Progress} {place : Place} {owed : List TvOut} {h : History}
-    → (x : Airs run start told peers air now) → (e : TvEvent) → IsNoOpening e → peers ≤ peers' → (air' : OnAir)
-    → air'.tv.stage ≡ air.tv.stage → air'.peers.items ≡ air.peers.items
-    → (let a = addresses_in run.config in
-    Told run start told' peers' (settled a (happened a e (progress_at run air' place owed x.events))) h)
-    → Happens run start told' peers' air' place owed e
-happens {run} {peers' = peers'} {h = h} x e n le air' stage items t =
-    let a = addresses_in run.config in
-    let k = lists.knows_later _ _ peers' _ x.knows le in
-    record {
-      events = x.events;
-      h = h;
-      history = t;
-      addresses = ap (λ s. s.addresses) stage ∙ x.addresses;
-      stage = subst (λ s. StandsFor s x.events) (sym stage) x.stage;
-      fresh = is_fresh e n (calls_of a x.events).sessions;
-      knows = subst (λ xs. Knows xs peers' (open_after a (e ∷ x.events))) (sym items) (record {
-        rising = k.rising;
-        below = k.below;
-        covers = event_narrows a e x.events n _ k.covers;
-      });
-    }
-
--- what an event does by the events before it is what it does at the television
-pub outcome_same : {a : Addresses} {stage : Stage} {events : List TvEvent} → stage.addresses ≡ a
-    → StandsFor stage events → (e : TvEvent) → outcome_at e stage ≡ outcome_after a events e
-outcome_same {stage = st} {events} is s e =
-    ap₂ (λ (pl : Player) (k : Kept). outcome st.addresses e pl k) s.player.same s.sessions.same
-    ∙ ap (λ (x : Addresses). outcome x e (player_after x events) (sessions_of (calls_of x events).sessions)) is
-
-pub sessions_same : {a : Addresses} {stage : Stage} {events : List TvEvent} → stage.addresses ≡ a
-    → StandsFor stage events → stage.sessions ≡ sessions_of (calls_of a events).sessions
-sessions_same {events = events} is s =
-    s.sessions.same ∙ ap (λ (x : Addresses). sessions_of (calls_of x events).sessions) is
+pub happens : {from : From} {now : Shown} {air : OnAir} {place : Place} {owed : List TvOut} (e : TvEvent)
+    → IsNoOpening e → Airs from now air (λ events. let a = addresses_in from.run.config in
+    settled a (happened a e (progress_at from.run air place owed events)))
+    → Happens place owed e from now air
+happens {from} e n x = let a = addresses_in from.run.config in record {
+  airs = x;
+  fresh = is_fresh e n (calls_of a x.events).sessions;
+  covers = event_narrows a e x.events n _ x.knows.covers;
+}
 
 outs_by : (k : Kept) (old new : Stage) (after : List TvOut) (r x : Result Outcome TvFault) → old.sessions ≡ k → r ≡ x
-    → IsAfterBy old new [] after r → outs_in k x ≡ after
+    → IsAfterBy old new [] after r → (outs_in k x ≡ after) × (new.addresses ≡ old.addresses)
 outs_by k old new after (Err f) x same e done = absurd done
-outs_by k old new after (Ok o) x same e done = sym (done.out ∙ ap (λ y. outs o y) same ∙ ap (outs_in k) e)
-
-same_addresses : (old new : Stage) (before after : List TvOut) (r : Result Outcome TvFault)
-    → IsAfterBy old new before after r → new.addresses ≡ old.addresses
-same_addresses old new before after (Err f) done = absurd done
-same_addresses old new before after (Ok o) done = ap (λ x. x.addresses) done.stage
+outs_by k old new after (Ok o) x same e done =
+    (sym (done.out ∙ ap (λ y. outs o y) same ∙ ap (outs_in k) e), ap (λ x. x.addresses) done.stage)
 
 -- The television hears of it, and what it has to do is owed.
-pub heard_of : {run : TvRun} {start told : Option History} {peers : ℕ} {air : OnAir} {place : Place} {e : TvEvent}
-    {owed : List TvOut}
-    → Happens run start told peers air place owed e → (tv : Television) (after : List TvOut)
+pub heard_of : {from : From} {now : Shown} {air : OnAir} {place : Place} {e : TvEvent} {owed : List TvOut}
+    → Happens place owed e from now air → (tv : Television) (after : List TvOut)
     → IsAfterBy air.tv.stage tv.stage [] after (outcome_at e air.tv.stage)
     → ((h : List TvEvent) → StandsFor air.tv.stage h → IsFresh e (calls_of air.tv.stage.addresses h).sessions
     → StandsFor tv.stage (e ∷ h))
-    → tv.server ≡ air.tv.server → Settles run start told peers (with_tv air tv) place (owed ++ after)
-heard_of {run} {air = air} {place} {e} {owed} x tv after done stands server =
-    let a = addresses_in run.config in
-    let outs : outs_after a x.events e ≡ after =
-    outs_by _ air.tv.stage tv.stage after (outcome_at e air.tv.stage) _ (sessions_same x.addresses x.stage)
-    (outcome_same x.addresses x.stage e) done in
+    → tv.server ≡ air.tv.server → Settles place (owed ++ after) from now (with_tv air tv)
+heard_of {from} {air = air} {place} {e} {owed} happens tv after done stands server =
+    let a = addresses_in from.run.config in
+    let x = happens.airs in
+    let by = outs_by _ air.tv.stage tv.stage after (outcome_at e air.tv.stage) _ (sessions_same x) (outcome_same x e)
+    done in
     record {
       events = e ∷ x.events;
       h = x.h;
       history = told_as _ x.history
           (ap₂ (λ s os. let tv' : Television = record { server = s; stage = tv.stage } in
-          settled a (progress_at run (with_tv air tv') place (owed ++ os) (e ∷ x.events))) (sym server) outs);
-      addresses = same_addresses _ _ _ _ _ done ∙ x.addresses;
+          settled a (progress_at from.run (with_tv air tv') place (owed ++ os) (e ∷ x.events))) (sym server) by.0);
+      addresses = by.1 ∙ x.addresses;
       stage = stands x.events x.stage
-          (subst (λ (y : Addresses). IsFresh e (calls_of y x.events).sessions) (sym x.addresses) x.fresh);
-      knows = x.knows;
+          (subst (λ (y : Addresses). IsFresh e (calls_of y x.events).sessions) (sym x.addresses) happens.fresh);
+      knows = record { rising = x.knows.rising; below = x.knows.below; covers = happens.covers };
     }
+
+-- ---- sessions
+none_of : {T : Type 0} → (o : Option T) → is_some o ≡ false → o ≡ None
+none_of None e = refl
+none_of (Some x) e = absurd (cc)
+
+pub not_open : (r b : Bool) → ((r ≡ true) ↔ (b ≡ true)) → r ≡ false → b ≡ false
+not_open r false i e = refl
+not_open r true i e = absurd (let f : r ≡ true = i.1 refl in cc)
+
+-- the kind of a session that was accepted
+abbrev pub peer_kind_of : Kind → PeerKind
+peer_kind_of kind.Cii = peer_kind.Cii
+peer_kind_of kind.Ts = peer_kind.Ts
+
+opened_so : (a : Addresses) (peer : ℕ) (k : Kind) (p : Progress)
+    → opened a peer (peer_kind_of k) p ≡ happened a (event.Opened peer k) p
+opened_so a peer kind.Cii p = refl
+opened_so a peer kind.Ts p = refl
+
+module _ {from : From} {now : Shown} {air : OnAir} where
+  -- a peer above the greatest has no session
+  pub unused_of : {to : List TvEvent → Progress} → Airs from now air to → IsUnused now air.tv
+  unused_of x = λ peer lt.
+      let live = live_after from x.events in
+      let xs = air.peers.items in
+      none_of (talk_of peer air.tv.stage.sessions.list)
+      (sym (is_live x peer)
+      ∙ lists.has-none peer live
+      (lists.below_live peer xs live (lists.below_next now.counts.peers peer xs lt x.knows.below) x.knows.covers))
+
+  -- a session comes
+  pub welcomes : {next : Shown} → IsAt Served from now air → (peer : ℕ) (k : Kind)
+      → next.told ≡ with_entries (Accepted peer (peer_kind_of k) ∷ []) now.told
+      → next.counts.dial_faults ≡ now.counts.dial_faults → next.counts.faults ≡ now.counts.faults
+      → now.counts.peers < peer → next.counts.peers ≡ peer → Welcomes peer k from next air
+  welcomes {next} x peer k told dials faults lt is =
+      let a = addresses_in from.run.config in
+      let call = Accepted peer (peer_kind_of k) ∷ [] in
+      let xs = air.peers.items in
+      let before = lists.below_next now.counts.peers peer xs lt x.knows.below in
+      let t : Told from next (happened a (event.Opened peer k) (progress_at from.run air (Asked None) [] x.events))
+      (call ++ x.h) =
+      told_as _ (told_more x.history call (Some (peer, peer_kind_of k), refl) told dials faults
+      (below_later _ _ x.h (omega (arith, lt)) x.history.below, x.history.numbered)
+      (omega (arith, is), below_later _ _ x.h (omega (arith, lt, is)) x.history.below))
+      (opened_so a peer k (progress_at from.run air (Asked None) [] x.events)) in
+      record {
+        p = _;
+        h = call ++ x.h;
+        history = t;
+        happens = λ now' items. record {
+          airs = record {
+            events = x.events;
+            h = call ++ x.h;
+            history = t;
+            addresses = x.addresses;
+            stage = x.stage;
+            knows = subst (λ ys. Knows ys next.counts.peers (live_after from x.events)) (sym items) (record {
+              rising = lists.rising_last 0 peer xs x.knows.rising before (omega arith);
+              below = All-push (λ other. other ≤ next.counts.peers) xs peer
+                  (lists.below_later now.counts.peers next.counts.peers xs (omega (arith, lt, is)) x.knows.below)
+                  (omega (arith, is));
+              covers = lists.covers_unopened peer xs _ before x.knows.covers;
+            });
+          };
+          fresh = ap (λ (p : Progress). life_of peer (calls_of a p.events).sessions) (sym x.history.progress)
+              ∙ unused from.run peer (now.counts.peers + 1) (omega (arith, lt)) x.h x.history.below;
+          covers = subst (λ ys. Covers ys (live_after from (event.Opened peer k ∷ x.events))) (sym items)
+              (event_covers a peer k x.events xs before x.knows.covers);
+        };
+      }
+
+  -- ---- what is owed
+  -- it is done before any line
+  pub waiting : {place : Place} {o : TvOut} {rest : List TvOut} → Settles place (o ∷ rest) from now air
+      → (o' : TvOut) → o ≡ o' → Airs from now air (λ events. progress_at from.run air place (o' ∷ rest) events)
+  waiting {place} {o} {rest} x o' e =
+      airs_as x refl refl
+      (settled_stops (addresses_in from.run.config) (progress_at from.run air place (o ∷ rest) x.events) refl
+      ∙ ap (λ y. progress_at from.run air place (y ∷ rest) x.events) e)
+
+  pub owing : (place : Place) {owed owed' : List TvOut} → owed ≡ owed' → Settles place owed from now air
+      → Settles place owed' from now air
+  owing place e x = subst (λ os. Settles place os from now air) e x
+
+  -- ---- datagrams
+  -- the answer of a request is to be sent
+  pub answer_read : {next : Shown} {peer : ℕ} {ticket : Ticket} → IsAt (Received peer ticket) from now air
+      → (reading : ℕ) → IsRead why.Give now next reading → (response : List ℕ)
+      → response ≡ encoded (response_to air.tv.server ticket reading)
+      → (later : Option (List ℕ)) → later ≡ option_map encoded (follow_up_for air.tv.server ticket reading)
+      → IsAt (Answers peer (response ∷ option_to_list later)) from next air
+  answer_read {peer = peer} x reading read response e later f =
+      let y = read_on x why.Give refl reading read in
+      airs_as y refl refl (ap₂ (λ (d : List ℕ) (o : Option (List ℕ)).
+      progress_at from.run air (Answers peer (d ∷ option_to_list o)) [] y.events) (sym e) (sym f))
+
+  pub datagram_sent : {next : Shown} {peer : ℕ} {bytes : List ℕ} {rest : List (List ℕ)}
+      → IsAt (Answers peer (bytes ∷ rest)) from now air → Adds now next (Sent peer bytes ∷ [])
+      → IsAt (answering peer rest) from next air
+  datagram_sent {peer = peer} {bytes = bytes} x added = moved x (Sent peer bytes ∷ []) tt refl added
+
+  -- ---- turns
+  -- one begins
+  pub turn_begins : {next : Shown} → Comes at_end from now air → goes_on air.turns ≡ true → (reading : ℕ)
+      → IsRead why.Turn now next reading → (turns : Turns) → turns ≡ begun reading air.turns
+      → Settles (Turned reading) [] from next
+      (record { tv = air.tv; peers = air.peers; lines = air.lines; turns = turns })
+  turn_begins x goes reading read turns is =
+      let live = live_after from x.is_at.events in
+      let y = read_on x.is_at why.Turn (x.next ∙ ap (λ b. cond b (Now why.Turn) (from_hang_ups live)) goes) reading
+      read in
+      airs_as y refl refl (ap (λ (t : Turns). settled (addresses_in from.run.config) (progress_at from.run
+      (record { tv = air.tv; peers = air.peers; lines = air.lines; turns = t }) (Turned reading) [] y.events)) (sym is))
+
+  -- a datagram is taken, unless the turn is the last by its time
+  pub may_take : IsTurned from now air → is_over air.turns ≡ false → Comes (λ _ live. TakeDatagram) from now air
+  may_take x on = record {
+    place = Turned x.0;
+    is_at = x.1;
+    next = ap (λ b. cond b (from_hang_ups (live_after from x.1.events)) TakeDatagram) on;
+  }
+
+-- ---- the beginning
+pub at_first : (run : TvRun) (start : Shown) → Told (started run start) start (beginning run) []
+at_first run start = record {
+  grew = same start.told;
+  dials = refl;
+  faults = refl;
+  proper = Empty;
+  numbered = tt;
+  below = tt;
+  progress = refl;
+} where
+  same : (s : Option History) → s ≡ with_entries [] s
+  same None = refl
+  same (Some h) = refl
+
+module _ (run : TvRun) {start now : Shown} (added : Adds start now (Listening run.config.host run.config.port ∷ [])) where
+  pub listens : Told (started run start) now (record (beginning run) { place = Listens })
+      (Listening run.config.host run.config.port ∷ [])
+  listens = told_more (at_first run start) (Listening run.config.host run.config.port ∷ []) refl added.told added.dials
+      added.faults tt tt
+
+  pub begins : (air : OnAir) → air.tv.stage.addresses ≡ addresses_in run.config → StandsFor air.tv.stage []
+      → air.tv.server ≡ server_of run.config → air.peers.items ≡ [] → air.turns ≡ no_turns run.limit run.relative
+      → air.lines ≡ 0 → Comes at_end (started run start) now air
+  begins air addresses stands server none turns zero = record {
+    place = Listens;
+    is_at = record {
+      events = [];
+      h = Listening run.config.host run.config.port ∷ [];
+      history = told_as _ listens
+          (ap₂ (λ (s : Server) (t : Turns). record (beginning run) { place = Listens; server = s; turns = t })
+          (sym server) (sym turns)
+          ∙ ap (λ n. record (beginning run) {
+            place = Listens;
+            server = air.tv.server;
+            turns = air.turns;
+            lines = drop n run.script;
+            carried = n;
+          }) (sym zero));
+      addresses = addresses;
+      stage = stands;
+      knows = subst (λ xs. Knows xs now.counts.peers []) (sym none)
+          (record { rising = tt; below = All-nil (λ peer. peer ≤ now.counts.peers); covers = refl });
+    };
+    next = refl;
+  }

@@ -1,62 +1,74 @@
 -- How the values of a television's loop stand for what its calls did so far.
-use Rattle.std.specs.Prelude.{◌≡◌, ◌≢◌, ◌≤◌, ◌<◌, ◌+◌, ℕ, List, [], ◌∷◌, drop, filter, Bool, true, ⊤, Option, None}
-use Rattle.std.specs.Prelude.{Result, MatchResult, IfErr, OnOk}
+use Rattle.std.specs.Prelude.{◌≡◌, ◌<◌, ◌+◌, ℕ, List, [], ◌∷◌, ◌++◌, drop, filter, Bool, true, None}
+use Rattle.std.specs.Prelude.{Result, MatchResult}
 use Rattle.css_model.specs.declared.Why.{Why}
 use Rattle.css_model.specs.History.{History}
-use Rattle.css_outside.specs.Outsides.{Counts, with_entries, clock_entries}
+use Rattle.css_num.specs.declared.protocol.Kind.{Kind}
+use Rattle.css_outside.specs.Outsides.{with_entries, clock_entries}
 use Rattle.css_sessions.specs.Kept.{talk_of}
 use Rattle.css_tv.specs.Stages.{Television}
 use Rattle.css_tv.specs.Standing.{StandsFor, IsFresh, calls_of}
 use Rattle.css_tv.specs.declared.event.TvOut.{TvOut}
 use Rattle.css_tv.specs.declared.event.TvEvent.{TvEvent}
+use Rattle.css_tv.specs.declared.event.TvEvent.TheVariants as event
 use Rattle.css_schedule.specs.declared.line.ScriptLine.{ScriptLine}
-use Rattle.css_drive.specs.Proper.{IsProper, TakeText}
-use Rattle.css_drive.specs.Ends.{CountsNetFault}
+use Rattle.css_drive.specs.CompanionStanding.{Shown}
+use Rattle.css_drive.specs.Proper.{Due, IsProper}
 use Rattle.css_drive.specs.TvProgress.{Place, Turned, Asked, Progress, settled, happened, is_due, open_after}
 use Rattle.css_drive.specs.TvProgress.{addresses_in, progress_of}
 use Rattle.css_drive.specs.TvTurns.{since}
-use Rattle.css_drive.specs.TvDue.{TvRun, due, due_for, due_at, from_end, from_hang_ups}
-use Rattle.css_drive.specs.TvPeers.{Knows, above, has}
-use Rattle.css_drive.specs.TvRan.{AreNumbered, AreBelow, TvRan}
+use Rattle.css_drive.specs.TvDue.{TvRun, due, due_at, from_end, from_hang_ups}
+use Rattle.css_drive.specs.TvPeers.{Knows, Covers, has}
+use Rattle.css_drive.specs.TvRan.{AreNumbered, AreBelow, TvRan, CountsTvRun}
 use Rattle.css_drive.specs.declared.driven.Driven.{Driven}
-use Rattle.css_drive.specs.declared.driven.Driven.TheVariants as driven
 use Rattle.css_drive.specs.declared.on_air.OnAir.{OnAir}
+use Rattle.css_drive.specs.declared.turns.Turns.{Turns}
+
+-- ---- the history
+-- a run, and what the outside showed before it
+pub record From : Type 0 where
+  pub run : TvRun
+  pub start : Shown
+
+abbrev pub started : TvRun → Shown → From
+started run start = record { run = run; start = start }
+
+-- The calls told this history, which is proper, and which has come so far. None of them failed.
+pub record Told (from : From) (now : Shown) (p : Progress) (h : History) : Type 0 where
+  pub grew : now.told ≡ with_entries h from.start.told
+  pub dials : now.counts.dial_faults ≡ from.start.counts.dial_faults
+  pub faults : now.counts.faults ≡ from.start.counts.faults
+  pub proper : IsProper (due from.run) h
+  pub numbered : AreNumbered h
+  pub below : AreBelow (now.counts.peers + 1) h
+  pub progress : progress_of from.run h ≡ p
+
+-- The run ended so.
+pub record Stops (from : From) (now : Shown) (ended : Driven) : Type 0 where
+  pub ran : TvRan from.run from.start.told now.told ended
+  pub counted : CountsTvRun from.start.counts now.counts ended
 
 -- ---- single calls
--- a fault of the outside, or want of memory
-abbrev pub IsFault : Driven → Type 0
-IsFault (driven.NetFault failure) = ⊤
-IsFault driven.Memory = ⊤
-IsFault _ = ⊥
-
--- the outside told these entries of a call that is Ok, and nothing of any other
-abbrev pub Adds : {T : Type 0} → Option History → Option History → Result T Driven → History → Type 0
-Adds before now result entries = MatchResult result (λ _. now ≡ with_entries entries before)
-    (λ ended. (now ≡ before) × IsFault ended)
+-- one that opens no session went well, and told these entries
+pub record Adds (old new : Shown) (entries : History) : Type 0 where
+  pub told : new.told ≡ with_entries entries old.told
+  pub dials : new.counts.dial_faults ≡ old.counts.dial_faults
+  pub faults : new.counts.faults ≡ old.counts.faults
+  pub peers : new.counts.peers ≡ old.counts.peers
 
 -- the clock told this reading, maybe after a sleep
-abbrev pub IsRead : Why → Option History → Option History → ℕ → Type 0
-IsRead why before now reading =
-    (slept : Bool) × (now ≡ with_entries (clock_entries why (record { reading = reading; slept = slept })) before)
+abbrev pub IsRead : Why → Shown → Shown → ℕ → Type 0
+IsRead why old new reading =
+    (slept : Bool) × Adds old new (clock_entries why (record { reading = reading; slept = slept }))
 
--- No count falls. That of the faults of other calls than dials has risen at `NetFault`, and else it is as before.
--- Nothing is written.
-pub record HasCause {T : Type 0} (before now : Counts) (result : Result T Driven) : Type 0 where
-  pub dials : now.dial_faults ≡ before.dial_faults
-  pub peers : before.peers ≤ now.peers
-  pub ok : OnOk result (now.faults ≡ before.faults)
-  pub failed : IfErr result (λ ended. CountsNetFault before.faults now.faults ended)
-  pub no_writes : IfErr result (λ ended. ended ≢ driven.WriteFault)
+-- one failed: a run that stood at it ended so
+abbrev pub Fails : Shown → Shown → Driven → Type 0
+Fails old new ended = (from : From) (p : Progress) (h : History) → Told from old p h → Stops from new ended
 
--- ---- the history and the loop
--- The calls told this history, which is proper, and which has come so far.
-pub record Told (run : TvRun) (start told : Option History) (peers : ℕ) (p : Progress) (h : History) : Type 0 where
-  pub grew : told ≡ with_entries h start
-  pub proper : IsProper (due run) h
-  pub numbered : AreNumbered h
-  pub below : AreBelow (peers + 1) h
-  pub progress : progress_of run h ≡ p
+abbrev pub Calls : {T : Type 0} → Shown → Shown → (Shown → Shown → T → Type 0) → Result T Driven → Type 0
+Calls old new well result = MatchResult result (well old new) (Fails old new)
 
+-- ---- the loop
 -- how far a run has come whose loop has these values, at a place, with this owed, after these events
 abbrev pub progress_at : TvRun → OnAir → Place → List TvOut → List TvEvent → Progress
 progress_at run air place owed events = record {
@@ -70,24 +82,62 @@ progress_at run air place owed events = record {
   refused = None;
 }
 
--- The television is the one after some events, the loop knows its peers, and the run has come `now` far by them.
-pub record Airs (run : TvRun) (start told : Option History) (peers : ℕ) (air : OnAir) (now : List TvEvent → Progress)
-    : Type 0 where
+-- the sessions that are open after events
+abbrev pub live_after : From → List TvEvent → List ℕ
+live_after from events = open_after (addresses_in from.run.config) events
+
+-- The television is the one after some events, the loop knows its peers, and the run has come `to` by them.
+pub record Airs (from : From) (now : Shown) (air : OnAir) (to : List TvEvent → Progress) : Type 0 where
   pub events : List TvEvent
   pub h : History
-  pub history : Told run start told peers (now events) h
-  pub addresses : air.tv.stage.addresses ≡ addresses_in run.config
+  pub history : Told from now (to events) h
+  pub addresses : air.tv.stage.addresses ≡ addresses_in from.run.config
   pub stage : StandsFor air.tv.stage events
-  pub knows : Knows air.peers.items peers (open_after (addresses_in run.config) events)
+  pub knows : Knows air.peers.items now.counts.peers (live_after from events)
 
 -- The loop is at this place, with nothing owed.
-abbrev pub IsAt : TvRun → Option History → Option History → ℕ → OnAir → Place → Type 0
-IsAt run start told peers air place = Airs run start told peers air (λ events. progress_at run air place [] events)
+abbrev pub IsAt : Place → From → Shown → OnAir → Type 0
+IsAt place from now air = Airs from now air (λ events. progress_at from.run air place [] events)
 
 -- It is there once the lines are carried out that are due and wait for nothing.
-abbrev pub Settles : TvRun → Option History → Option History → ℕ → OnAir → Place → List TvOut → Type 0
-Settles run start told peers air place owed =
-    Airs run start told peers air (λ events. settled (addresses_in run.config) (progress_at run air place owed events))
+abbrev pub Settles : Place → List TvOut → From → Shown → OnAir → Type 0
+Settles place owed from now air =
+    Airs from now air (λ events. settled (addresses_in from.run.config) (progress_at from.run air place owed events))
+
+-- An event was told that the television is still to hear of, and the loop knows its peers after the event.
+pub record Happens (place : Place) (owed : List TvOut) (e : TvEvent) (from : From) (now : Shown) (air : OnAir)
+    : Type 0 where
+  pub airs : Airs from now air (λ events. let a = addresses_in from.run.config in
+      settled a (happened a e (progress_at from.run air place owed events)))
+  pub fresh : IsFresh e (calls_of (addresses_in from.run.config) airs.events).sessions
+  pub covers : Covers air.peers.items (live_after from (e ∷ airs.events))
+
+-- The loop is where `to` says of the open sessions what is due.
+pub record Comes (to : OnAir → List ℕ → Due) (from : From) (now : Shown) (air : OnAir) : Type 0 where
+  pub place : Place
+  pub is_at : IsAt place from now air
+  pub next : let live = live_after from is_at.events in due_at from.run live air.turns place ≡ to air live
+
+-- the turn is over, or none was begun
+abbrev pub at_end : OnAir → List ℕ → Due
+at_end air live = from_end air.turns live
+
+-- what is due by the open sessions from a place in the list of peers on: to ask or to hang up the first of them
+abbrev pub left_from : (Turns → List ℕ → List ℕ → Due) → ℕ → OnAir → List ℕ → Due
+left_from f at air live = f air.turns live (filter (λ peer. has peer live) (drop at air.peers.items))
+
+abbrev pub hanging_up : Turns → List ℕ → List ℕ → Due
+hanging_up turns live left = from_hang_ups left
+
+-- A line is the next one, and it is due.
+pub record Carries (reading : ℕ) (line : ScriptLine) (from : From) (now : Shown) (air : OnAir) : Type 0 where
+  pub settles : Settles (Turned reading) [] from now air
+  pub next : drop air.lines from.run.script ≡ line ∷ drop (air.lines + 1) from.run.script
+  pub is_due : is_due (since air.turns) reading line ≡ true
+
+-- the lines that are due are carried out
+abbrev pub IsTurned : From → Shown → OnAir → Type 0
+IsTurned from now air = (reading : ℕ) × IsAt (Turned reading) from now air
 
 -- the loop with another television
 abbrev pub with_tv : OnAir → Television → OnAir
@@ -101,85 +151,26 @@ with_peers air other = record { tv = air.tv; peers = other.peers; lines = air.li
 abbrev pub past_line : OnAir → OnAir
 past_line air = record { tv = air.tv; peers = air.peers; lines = air.lines + 1; turns = air.turns }
 
--- An event was told that the television is still to hear of, and the loop knows its peers after the event.
-pub record Happens (run : TvRun) (start told : Option History) (peers : ℕ) (air : OnAir) (place : Place)
-    (owed : List TvOut) (e : TvEvent) : Type 0 where
-  pub events : List TvEvent
+-- A session came that the loop is still to keep, and that the television is to hear of.
+pub record Welcomes (peer : ℕ) (kind : Kind) (from : From) (now : Shown) (air : OnAir) : Type 0 where
+  pub p : Progress
   pub h : History
-  pub history : let a = addresses_in run.config in
-      Told run start told peers (settled a (happened a e (progress_at run air place owed events))) h
-  pub addresses : air.tv.stage.addresses ≡ addresses_in run.config
-  pub stage : StandsFor air.tv.stage events
-  pub fresh : IsFresh e (calls_of (addresses_in run.config) events).sessions
-  pub knows : Knows air.peers.items peers (open_after (addresses_in run.config) (e ∷ events))
+  pub history : Told from now p h
+  pub happens : (is : OnAir) → is.peers.items ≡ air.peers.items ++ peer ∷ []
+      → Happens (Asked None) [] (event.Opened peer kind) from now (with_peers air is)
 
--- A line is the next one, and it is due.
-pub record Carries (run : TvRun) (start told : Option History) (peers : ℕ) (air : OnAir) (reading : ℕ)
-    (line : ScriptLine) : Type 0 where
-  pub settles : Settles run start told peers air (Turned reading) []
-  pub next : drop air.lines run.script ≡ line ∷ drop (air.lines + 1) run.script
-  pub is_due : is_due (since air.turns) reading line ≡ true
-
--- A session is asked for a text.
-pub record Asks (run : TvRun) (start told : Option History) (peers : ℕ) (air : OnAir) (peer : ℕ) : Type 0 where
-  pub last : Option ℕ
-  pub is_at : IsAt run start told peers air (Asked last)
-  pub asks : due_for run (progress_at run air (Asked last) [] is_at.events) ≡ TakeText peer
-
--- the lines that are due are carried out
-abbrev pub IsTurned : TvRun → Option History → Option History → ℕ → OnAir → Type 0
-IsTurned run start told peers air = (reading : ℕ) × IsAt run start told peers air (Turned reading)
-
--- The turn is over, or none was begun.
-pub record IsAtEnd (run : TvRun) (start told : Option History) (peers : ℕ) (air : OnAir) : Type 0 where
-  pub place : Place
-  pub is_at : IsAt run start told peers air place
-  pub ends : let live = open_after (addresses_in run.config) is_at.events in
-      due_at run live air.turns place ≡ from_end air.turns live
-
--- ---- after a part of the loop
--- the run has come so far, or it ended
-abbrev pub Arrives : {T : Type 0} → TvRun → Option History → Option History → Type 0 → Result T Driven → Type 0
-Arrives run start told There result = MatchResult result (λ _. There) (TvRan run start told)
-
--- it has come to this place with this owed, or it ended
-abbrev pub Goes : {T : Type 0} → TvRun → Option History → Option History → ℕ → OnAir → Place → List TvOut
+-- ---- parts of the loop
+-- a part leads from where `when` says to where `to` says, or the run ends
+abbrev pub Leads : {T : Type 0} → From → (when to : From → Shown → OnAir → Type 0) → Shown → OnAir → Shown → OnAir
     → Result T Driven → Type 0
-Goes run start told peers air place owed result =
-    Arrives run start told (Settles run start told peers air place owed) result
-
--- it ended, in one way where the result is Ok
-abbrev pub Finishes : {T : Type 0} → TvRun → Option History → Option History → Driven → Result T Driven → Type 0
-Finishes run start told end result = Arrives run start told (TvRan run start told end) result
+Leads from when to old was new is result = when from old was → MatchResult result (λ _. to from new is) (Stops from new)
 
 -- no peer above the greatest has a session
-abbrev pub IsUnused : ℕ → Television → Type 0
-IsUnused peers tv = (peer : ℕ) → peers < peer → talk_of peer tv.stage.sessions.list ≡ None
+abbrev pub IsUnused : Shown → Television → Type 0
+IsUnused now tv = (peer : ℕ) → now.counts.peers < peer → talk_of peer tv.stage.sessions.list ≡ None
 
 -- the loop is at the end of a turn, in some run with this script
-pub record IsReady (told : Option History) (peers : ℕ) (air : OnAir) (script : List ScriptLine) : Type 0 where
-  pub run : TvRun
-  pub start : Option History
-  pub at_end : IsAtEnd run start told peers air
-  pub script_so : run.script ≡ script
-
--- ---- within loops
--- no call has failed so far
-pub record KeepsCounts (before now : Counts) : Type 0 where
-  pub dials : now.dial_faults ≡ before.dial_faults
-  pub peers : before.peers ≤ now.peers
-  pub faults : now.faults ≡ before.faults
-
--- the open sessions from a place in the list of peers on are still to be asked
-pub record Hears (run : TvRun) (start told : Option History) (peers : ℕ) (air : OnAir) (at : ℕ) : Type 0 where
-  pub last : Option ℕ
-  pub is_at : IsAt run start told peers air (Asked last)
-  pub left : let live = open_after (addresses_in run.config) is_at.events in
-      above last live ≡ filter (λ peer. has peer live) (drop at air.peers.items)
-
--- they are still to be hung up
-pub record HangsUp (run : TvRun) (start told : Option History) (peers : ℕ) (air : OnAir) (at : ℕ) : Type 0 where
-  pub place : Place
-  pub is_at : IsAt run start told peers air place
-  pub left : let live = open_after (addresses_in run.config) is_at.events in
-      due_at run live air.turns place ≡ from_hang_ups (filter (λ peer. has peer live) (drop at air.peers.items))
+pub record IsReady (now : Shown) (air : OnAir) (script : List ScriptLine) : Type 0 where
+  pub from : From
+  pub script_so : from.run.script ≡ script
+  pub ends : Comes at_end from now air

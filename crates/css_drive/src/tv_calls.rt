@@ -1,12 +1,12 @@
-ghost use Rattle.std.specs.Prelude.{◌≡◌, ◌<◌, ◌∷◌, ◌++◌, [], ℕ, List, Option, Some, None, false, IfOk, MatchResult};
-ghost use Rattle.css_model.specs.History.{History, Sent};
+ghost use Rattle.std.specs.Prelude.{◌≡◌, ◌<◌, ◌∷◌, [], ℕ, List, Some, None, false, IfOk};
+ghost use Rattle.css_model.specs.History.{Sent};
 ghost use Rattle.css_sessions.specs.Kept.{talk_of};
-ghost use Rattle.css_tv.specs.declared.event.TvEvent.TheVariants as events;
-ghost use Rattle.css_drive.specs.TvDue.{TvRun};
-ghost use Rattle.css_drive.specs.TvProgress.{Progress, Turned, Taken, Received, Served, Asked};
-ghost use Rattle.css_drive.specs.TvTurns.{is_over, goes_on};
-ghost use Rattle.css_drive.specs.TvStanding.{IsFault, HasCause, IsRead, Adds, Told, IsAt, Happens, Asks, IsAtEnd, Goes};
-ghost use Rattle.css_drive.specs.TvStanding.{Arrives, Finishes, IsUnused, with_tv, with_peers};
+ghost use Rattle.css_drive.specs.CompanionStanding.{shown};
+ghost use Rattle.css_drive.specs.Proper.{TakeDatagram, TakeText};
+ghost use Rattle.css_drive.specs.TvProgress.{Taken, Received, Served, Asked};
+ghost use Rattle.css_drive.specs.TvTurns.{goes_on};
+ghost use Rattle.css_drive.specs.TvStanding.{From, Stops, Adds, IsRead, Calls, IsAt, Welcomes, Comes, Leads};
+ghost use Rattle.css_drive.specs.TvStanding.{IsUnused, at_end, with_tv};
 ghost use Rattle.css_drive.specs.declared.driven.Driven.TheVariants as driven;
 ghost use Rattle.css_drive.specs.declared.on_air.OnAir.{OnAir as Loop};
 
@@ -22,10 +22,9 @@ use std::alloc::Global;
 
 /// Reads the clock. A television passes over sleeps.
 pub(crate) fn read<O: Outside>(outside: &mut O, why: Why) -> Result<u64, Driven>
-    ensures told { MatchResult result (IsRead why (O.told outside.old) (O.told outside.new))
-        (λ ended. (O.told outside.new ≡ O.told outside.old) × IsFault ended) }
+    ensures told { Calls (shown (O.told outside.old) (O.counts outside.old))
+        (shown (O.told outside.new) (O.counts outside.new)) (IsRead why) result }
     ensures below { IfOk result (λ reading. reading < LIMIT) }
-    ensures cause { HasCause (O.counts outside.old) (O.counts outside.new) result }
 {
     match outside.now(why) {
         Ok(clocked) => Ok(clocked.reading),
@@ -35,8 +34,9 @@ pub(crate) fn read<O: Outside>(outside: &mut O, why: Why) -> Result<u64, Driven>
 
 /// Sends a datagram.
 fn send<O: Outside>(outside: &mut O, peer: u32, bytes: &[u8; 32]) -> Result<(), Driven>
-    ensures told { Adds (O.told outside.old) (O.told outside.new) result (Sent peer bytes.now ∷ []) }
-    ensures cause { HasCause (O.counts outside.old) (O.counts outside.new) result }
+    ensures { Calls (shown (O.told outside.old) (O.counts outside.old))
+        (shown (O.told outside.new) (O.counts outside.new)) (λ old new _. Adds old new (Sent peer bytes.now ∷ []))
+        result }
 {
     match outside.send_datagram(peer, bytes) {
         Ok(()) => Ok(()),
@@ -46,10 +46,9 @@ fn send<O: Outside>(outside: &mut O, peer: u32, bytes: &[u8; 32]) -> Result<(), 
 
 /// Answers a request: the response first.
 fn answer<O: Outside>(tv: &Tv, outside: &mut O, peer: u32, ticket: Ticket) -> Result<(), Driven>
-    ensures goes { (run : TvRun) (start : Option History) (air : Loop)
-        → IsAt run start (O.told outside.old) (O.counts outside.old).peers (with_tv air tv.now) (Received peer ticket)
-        → Goes run start (O.told outside.new) (O.counts outside.new).peers (with_tv air tv.now) Served [] result }
-    ensures cause { HasCause (O.counts outside.old) (O.counts outside.new) result }
+    ensures { (from : From) (air : Loop) → Leads from (IsAt (Received peer ticket)) (IsAt Served)
+        (shown (O.told outside.old) (O.counts outside.old)) (with_tv air tv.now)
+        (shown (O.told outside.new) (O.counts outside.new)) (with_tv air tv.now) result }
 {
     let reading = read(outside, Why::Give)?;
     let answered = tv.answer(ticket, reading);
@@ -62,10 +61,10 @@ fn answer<O: Outside>(tv: &Tv, outside: &mut O, peer: u32, ticket: Ticket) -> Re
 
 /// Receives a datagram, and drops it unless it is a request.
 fn receive<O: Outside>(tv: &mut Tv, outside: &mut O, peer: u32, bytes: &[u8]) -> Result<(), Driven>
-    ensures goes { (run : TvRun) (start : Option History) (air : Loop) (taken : List ℕ) → taken ≡ bytes.now
-        → IsAt run start (O.told outside.old) (O.counts outside.old).peers (with_tv air tv.old) (Taken peer taken)
-        → Goes run start (O.told outside.new) (O.counts outside.new).peers (with_tv air tv.new) Served [] result }
-    ensures cause { HasCause (O.counts outside.old) (O.counts outside.new) result }
+    ensures { (from : From) (air : Loop) (taken : List ℕ) → taken ≡ bytes.now
+        → Leads from (IsAt (Taken peer taken)) (IsAt Served)
+        (shown (O.told outside.old) (O.counts outside.old)) (with_tv air tv.old)
+        (shown (O.told outside.new) (O.counts outside.new)) (with_tv air tv.new) result }
 {
     let reading = read(outside, Why::Take)?;
     match tv.receive(bytes, reading) {
@@ -76,10 +75,9 @@ fn receive<O: Outside>(tv: &mut Tv, outside: &mut O, peer: u32, bytes: &[u8]) ->
 
 /// Takes a datagram, if there is one.
 pub(crate) fn serve<O: Outside>(tv: &mut Tv, outside: &mut O) -> Result<(), Driven>
-    ensures goes { (run : TvRun) (start : Option History) (air : Loop) (reading : ℕ) → is_over air.turns ≡ false
-        → IsAt run start (O.told outside.old) (O.counts outside.old).peers (with_tv air tv.old) (Turned reading)
-        → Goes run start (O.told outside.new) (O.counts outside.new).peers (with_tv air tv.new) Served [] result }
-    ensures cause { HasCause (O.counts outside.old) (O.counts outside.new) result }
+    ensures { (from : From) (air : Loop) → Leads from (Comes (λ _ live. TakeDatagram)) (IsAt Served)
+        (shown (O.told outside.old) (O.counts outside.old)) (with_tv air tv.old)
+        (shown (O.told outside.new) (O.counts outside.new)) (with_tv air tv.new) result }
 {
     let mut into = [0u8; 64];
     match outside.take_datagram(&mut into) {
@@ -98,14 +96,10 @@ fn open<O: Outside>(
     kind: SessionKind,
 ) -> Result<(), Driven>
     requires { talk_of peer air.old.tv.stage.sessions.list ≡ None }
-    ensures goes { (run : TvRun) (start : Option History) (p : Progress) (h : History)
-        → Told run start (O.told outside.old) (O.counts outside.old).peers p h
-        → ((now : Loop) → now.peers.items ≡ air.old.peers.items ++ peer ∷ []
-        → Happens run start (O.told outside.old) (O.counts outside.old).peers (with_peers air.old now) (Asked None) []
-        (events.Opened peer kind))
-        → Goes run start (O.told outside.new) (O.counts outside.new).peers air.new (Asked None) [] result }
+    ensures goes { (from : From) → Leads from (Welcomes peer kind) (IsAt (Asked None))
+        (shown (O.told outside.old) (O.counts outside.old)) air.old
+        (shown (O.told outside.new) (O.counts outside.new)) air.new result }
     ensures turns { air.new.turns ≡ air.old.turns }
-    ensures cause { HasCause (O.counts outside.old) (O.counts outside.new) result }
 {
     match air.peers.push(peer) {
         Ok(()) => {}
@@ -120,12 +114,11 @@ pub(crate) fn welcome<O: Outside>(
     air: &mut OnAir,
     outside: &mut O,
 ) -> Result<(), Driven>
-    requires { IsUnused (O.counts outside.old).peers air.old.tv }
-    ensures goes { (run : TvRun) (start : Option History)
-        → IsAt run start (O.told outside.old) (O.counts outside.old).peers air.old Served
-        → Goes run start (O.told outside.new) (O.counts outside.new).peers air.new (Asked None) [] result }
+    requires { IsUnused (shown (O.told outside.old) (O.counts outside.old)) air.old.tv }
+    ensures goes { (from : From) → Leads from (IsAt Served) (IsAt (Asked None))
+        (shown (O.told outside.old) (O.counts outside.old)) air.old
+        (shown (O.told outside.new) (O.counts outside.new)) air.new result }
     ensures turns { air.new.turns ≡ air.old.turns }
-    ensures cause { HasCause (O.counts outside.old) (O.counts outside.new) result }
 {
     match outside.accept() {
         Err(fault) => Err(fault_of(fault)),
@@ -138,11 +131,9 @@ pub(crate) fn welcome<O: Outside>(
 
 /// Asks a session for a text.
 fn hear<O: Outside>(alloc: Global, tv: &mut Tv, outside: &mut O, peer: u32) -> Result<(), Driven>
-    ensures goes { (run : TvRun) (start : Option History) (air : Loop)
-        → Asks run start (O.told outside.old) (O.counts outside.old).peers (with_tv air tv.old) peer
-        → Goes run start (O.told outside.new) (O.counts outside.new).peers (with_tv air tv.new) (Asked (Some peer)) []
-        result }
-    ensures cause { HasCause (O.counts outside.old) (O.counts outside.new) result }
+    ensures { (from : From) (air : Loop) → Leads from (Comes (λ _ live. TakeText peer)) (IsAt (Asked (Some peer)))
+        (shown (O.told outside.old) (O.counts outside.old)) (with_tv air tv.old)
+        (shown (O.told outside.new) (O.counts outside.new)) (with_tv air tv.new) result }
 {
     match outside.take_text(peer) {
         Err(fault) => Err(fault_of(fault)),
@@ -158,12 +149,10 @@ pub(crate) fn hear_all<O: Outside>(
     air: &mut OnAir,
     outside: &mut O,
 ) -> Result<(), Driven>
-    ensures goes { (run : TvRun) (start : Option History)
-        → IsAt run start (O.told outside.old) (O.counts outside.old).peers air.old (Asked None)
-        → Arrives run start (O.told outside.new)
-        (IsAtEnd run start (O.told outside.new) (O.counts outside.new).peers air.new) result }
+    ensures goes { (from : From) → Leads from (IsAt (Asked None)) (Comes at_end)
+        (shown (O.told outside.old) (O.counts outside.old)) air.old
+        (shown (O.told outside.new) (O.counts outside.new)) air.new result }
     ensures turns { air.new.turns ≡ air.old.turns }
-    ensures cause { HasCause (O.counts outside.old) (O.counts outside.new) result }
 {
     let mut at = 0;
     'peers: while at < air.peers.len() {
@@ -180,10 +169,10 @@ pub(crate) fn hear_all<O: Outside>(
 
 /// Hangs up each open session, in order of peer.
 pub(crate) fn hang_up_all<O: Outside>(air: &OnAir, outside: &mut O) -> Result<(), Driven>
-    ensures ends { (run : TvRun) (start : Option History) → goes_on air.now.turns ≡ false
-        → IsAtEnd run start (O.told outside.old) (O.counts outside.old).peers air.now
-        → Finishes run start (O.told outside.new) driven.Done result }
-    ensures cause { HasCause (O.counts outside.old) (O.counts outside.new) result }
+    ensures { (from : From) → goes_on air.now.turns ≡ false
+        → Leads from (Comes at_end) (λ from now _. Stops from now driven.Done)
+        (shown (O.told outside.old) (O.counts outside.old)) air.now
+        (shown (O.told outside.new) (O.counts outside.new)) air.now result }
 {
     for peer in &air.peers {
         if air.tv.is_open(*peer) {

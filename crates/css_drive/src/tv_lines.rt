@@ -1,13 +1,12 @@
-ghost use Rattle.std.specs.Prelude.{◌≡◌, ◌<◌, [], All, Option, IfOk, IfSome};
-ghost use Rattle.css_model.specs.History.{History};
+ghost use Rattle.std.specs.Prelude.{◌≡◌, ◌<◌, [], All, IfOk, IfSome};
 ghost use Rattle.css_schedule.specs.Ranges.{IsVerb, IsScriptLine};
 ghost use Rattle.css_tv.specs.Stages.{Stage};
 ghost use Rattle.css_tv.specs.Standing.{IsEvent};
-ghost use Rattle.css_drive.specs.TvDue.{TvRun};
+ghost use Rattle.css_drive.specs.CompanionStanding.{shown};
 ghost use Rattle.css_drive.specs.TvProgress.{Turned};
 ghost use Rattle.css_drive.specs.TvTurns.{IsRanged};
 ghost use Rattle.css_drive.specs.TvProgress as spec;
-ghost use Rattle.css_drive.specs.TvStanding.{HasCause, Carries, Settles, Goes, Arrives, IsTurned, with_tv, past_line};
+ghost use Rattle.css_drive.specs.TvStanding.{From, Carries, Settles, Leads, IsTurned, with_tv, past_line};
 ghost use Rattle.css_drive.specs.declared.on_air.OnAir.{OnAir as Loop};
 
 use crate::driven::Driven;
@@ -60,11 +59,10 @@ fn carry_out<O: Outside>(
     requires verb { IsVerb line.now.verb }
     requires reading { reading < LIMIT }
     requires before { before < 18446744073709551615 }
-    ensures goes { (run : TvRun) (start : Option History) (air : Loop) → air.lines ≡ before
-        → Carries run start (O.told outside.old) (O.counts outside.old).peers (with_tv air tv.old) reading line.now
-        → Goes run start (O.told outside.new) (O.counts outside.new).peers (past_line (with_tv air tv.new))
-        (Turned reading) [] result }
-    ensures cause { HasCause (O.counts outside.old) (O.counts outside.new) result }
+    ensures { (from : From) (air : Loop) → air.lines ≡ before
+        → Leads from (Carries reading line.now) (Settles (Turned reading) [])
+        (shown (O.told outside.old) (O.counts outside.old)) (with_tv air tv.old)
+        (shown (O.told outside.new) (O.counts outside.new)) (past_line (with_tv air tv.new)) result }
 {
     let event = match event_of(&line.verb, reading) {
         Ok(Some(event)) => event,
@@ -93,12 +91,11 @@ pub(crate) fn carry_lines<O: Outside>(
     requires script { All IsScriptLine script.now }
     requires reading { reading < LIMIT }
     requires ranged { IsRanged air.old.turns }
-    ensures goes { (run : TvRun) (start : Option History) → run.script ≡ script.now
-        → Settles run start (O.told outside.old) (O.counts outside.old).peers air.old (Turned reading) []
-        → Arrives run start (O.told outside.new)
-        (IsTurned run start (O.told outside.new) (O.counts outside.new).peers air.new) result }
+    ensures goes { (from : From) → from.run.script ≡ script.now
+        → Leads from (Settles (Turned reading) []) IsTurned
+        (shown (O.told outside.old) (O.counts outside.old)) air.old
+        (shown (O.told outside.new) (O.counts outside.new)) air.new result }
     ensures turns { air.new.turns ≡ air.old.turns }
-    ensures cause { HasCause (O.counts outside.old) (O.counts outside.new) result }
 {
     let from = air.turns.since();
     'lines: while air.lines < script.len() {

@@ -1,14 +1,11 @@
-ghost use Rattle.std.specs.Prelude.{◌≡◌, ◌≢◌, ◌∷◌, [], ℕ, List, Option, IfErr};
-ghost use Rattle.css_model.specs.History.{History};
+ghost use Rattle.std.specs.Prelude.{◌≡◌, ◌∷◌, [], List};
 ghost use Rattle.css_tv.specs.Standing.{IsEvent};
 ghost use Rattle.css_tv.specs.declared.event.TvEvent.TheVariants as events;
 ghost use Rattle.css_tv.specs.declared.event.TvOut.{TvOut as Output};
 ghost use Rattle.css_outside.specs.Faults.{CountsOutFault};
-ghost use Rattle.css_drive.specs.Ends.{CountsNetFault};
-ghost use Rattle.css_drive.specs.TvDue.{TvRun};
+ghost use Rattle.css_drive.specs.CompanionStanding.{Shown, shown};
 ghost use Rattle.css_drive.specs.TvProgress.{Place};
-ghost use Rattle.css_drive.specs.TvStanding.{IsFault, HasCause, Happens, Settles, Goes, with_tv};
-ghost use Rattle.css_drive.specs.declared.driven.Driven.TheVariants as driven;
+ghost use Rattle.css_drive.specs.TvStanding.{From, Fails, Happens, Settles, Leads, with_tv};
 ghost use Rattle.css_drive.specs.declared.on_air.OnAir.{OnAir as Loop};
 
 use crate::driven::Driven;
@@ -18,9 +15,8 @@ use std::alloc::Global;
 
 /// How a run ends when a call of the outside fails.
 pub(crate) fn fault_of(fault: OutFault) -> Driven
-    ensures fault { IsFault result }
-    ensures counted { (before : ℕ) → (now : ℕ) → CountsOutFault before now fault → CountsNetFault before now result }
-    ensures no_writes { result ≢ driven.WriteFault }
+    ensures { (old : Shown) → (new : Shown) → new.told ≡ old.told → new.counts.dial_faults ≡ old.counts.dial_faults
+        → CountsOutFault old.counts.faults new.counts.faults fault → Fails old new result }
 {
     match fault {
         OutFault::Failed(failure) => Driven::NetFault(failure),
@@ -30,10 +26,9 @@ pub(crate) fn fault_of(fault: OutFault) -> Driven
 
 /// Tells the television that a session closed.
 fn close(alloc: Global, tv: &mut Tv, peer: u32) -> Result<(), Driven>
-    ensures goes { (run : TvRun) (start told : Option History) (peers : ℕ) (air : Loop) (place : Place)
-        (rest : List Output) → Happens run start told peers (with_tv air tv.old) place rest (events.Closed peer)
-        → Goes run start told peers (with_tv air tv.new) place rest result }
-    ensures fault { IfErr result (λ ended. ended ≡ driven.Memory) }
+    ensures { (from : From) (now : Shown) (air : Loop) (place : Place) (rest : List Output)
+        → Leads from (Happens place rest (events.Closed peer)) (Settles place rest) now (with_tv air tv.old)
+        now (with_tv air tv.new) result }
 {
     let mut none = Vec::new(alloc);
     match tv.step(TvEvent::Closed { peer }, &mut none) {
@@ -49,11 +44,10 @@ fn put_one<O: Outside>(
     outside: &mut O,
     out: &TvOut,
 ) -> Result<(), Driven>
-    ensures goes { (run : TvRun) (start : Option History) (air : Loop) (place : Place) (rest : List Output)
-        → Settles run start (O.told outside.old) (O.counts outside.old).peers (with_tv air tv.old) place
-        (out.now ∷ rest)
-        → Goes run start (O.told outside.new) (O.counts outside.new).peers (with_tv air tv.new) place rest result }
-    ensures cause { HasCause (O.counts outside.old) (O.counts outside.new) result }
+    ensures { (from : From) (air : Loop) (place : Place) (rest : List Output)
+        → Leads from (Settles place (out.now ∷ rest)) (Settles place rest)
+        (shown (O.told outside.old) (O.counts outside.old)) (with_tv air tv.old)
+        (shown (O.told outside.new) (O.counts outside.new)) (with_tv air tv.new) result }
 {
     match out {
         TvOut::Say { peer, text } => match outside.send_text(*peer, text.bytes()) {
@@ -75,10 +69,10 @@ pub(crate) fn put_all<O: Outside>(
     outside: &mut O,
     outs: &mut Vec<TvOut>,
 ) -> Result<(), Driven>
-    ensures goes { (run : TvRun) (start : Option History) (air : Loop) (place : Place)
-        → Settles run start (O.told outside.old) (O.counts outside.old).peers (with_tv air tv.old) place outs.old.items
-        → Goes run start (O.told outside.new) (O.counts outside.new).peers (with_tv air tv.new) place [] result }
-    ensures cause { HasCause (O.counts outside.old) (O.counts outside.new) result }
+    ensures { (from : From) (air : Loop) (place : Place)
+        → Leads from (Settles place outs.old.items) (Settles place [])
+        (shown (O.told outside.old) (O.counts outside.old)) (with_tv air tv.old)
+        (shown (O.told outside.new) (O.counts outside.new)) (with_tv air tv.new) result }
 {
     outs.reverse();
     'outs: while let Some(out) = outs.pop() {
@@ -95,10 +89,10 @@ pub(crate) fn play<O: Outside>(
     event: TvEvent,
 ) -> Result<(), Driven>
     requires { IsEvent event tv.old.stage }
-    ensures goes { (run : TvRun) (start : Option History) (air : Loop) (place : Place)
-        → Happens run start (O.told outside.old) (O.counts outside.old).peers (with_tv air tv.old) place [] event
-        → Goes run start (O.told outside.new) (O.counts outside.new).peers (with_tv air tv.new) place [] result }
-    ensures cause { HasCause (O.counts outside.old) (O.counts outside.new) result }
+    ensures { (from : From) (air : Loop) (place : Place)
+        → Leads from (Happens place [] event) (Settles place [])
+        (shown (O.told outside.old) (O.counts outside.old)) (with_tv air tv.old)
+        (shown (O.told outside.new) (O.counts outside.new)) (with_tv air tv.new) result }
 {
     let mut outs = Vec::new(alloc);
     match tv.step(event, &mut outs) {

@@ -1,14 +1,14 @@
-ghost use Rattle.std.specs.Prelude.{◌≡◌, ◌≤◌, ◌≤ℤ◌, pos, true, List, All, Option, OnOk, IfOk, MatchResult};
-ghost use Rattle.css_model.specs.History.{History};
+ghost use Rattle.std.specs.Prelude.{◌≡◌, ◌≤◌, ◌≤ℤ◌, pos, true, List, All, OnOk, IfOk, MatchResult};
 ghost use Rattle.std.specs.Str.{IsUtf8};
 ghost use Rattle.css_model.specs.Numbers.{max_error};
 ghost use Rattle.css_outside.specs.Limits.{IsLimit};
 ghost use Rattle.css_schedule.specs.Ranges.{IsScriptLine};
 ghost use Rattle.css_schedule.specs.declared.line.ScriptLine.{ScriptLine as Line};
-ghost use Rattle.css_drive.specs.TvDue.{TvRun, run_of};
+ghost use Rattle.css_drive.specs.CompanionStanding.{shown};
+ghost use Rattle.css_drive.specs.TvDue.{run_of};
 ghost use Rattle.css_drive.specs.TvTurns.{IsRanged, IsOneMore, goes_on};
 ghost use Rattle.css_drive.specs.TvRan.{TvRan, CountsTvRun};
-ghost use Rattle.css_drive.specs.TvStanding.{HasCause, Arrives, Finishes, IsTurned, IsAtEnd, IsReady};
+ghost use Rattle.css_drive.specs.TvStanding.{From, Stops, Comes, Leads, IsTurned, IsReady, started, at_end};
 ghost use Rattle.css_drive.specs.declared.driven.Driven.TheVariants as driven;
 
 use crate::driven::Driven;
@@ -33,12 +33,11 @@ fn begin<O: Outside>(
     requires script { All IsScriptLine script.now }
     requires ranged { IsRanged air.old.turns }
     requires more { goes_on air.old.turns ≡ true }
-    ensures goes { (run : TvRun) (start : Option History) → run.script ≡ script.now
-        → IsAtEnd run start (O.told outside.old) (O.counts outside.old).peers air.old
-        → Arrives run start (O.told outside.new)
-        (IsTurned run start (O.told outside.new) (O.counts outside.new).peers air.new) result }
+    ensures goes { (from : From) → from.run.script ≡ script.now
+        → Leads from (Comes at_end) IsTurned
+        (shown (O.told outside.old) (O.counts outside.old)) air.old
+        (shown (O.told outside.new) (O.counts outside.new)) air.new result }
     ensures turns { OnOk result (IsOneMore air.old.turns air.new.turns) }
-    ensures cause { HasCause (O.counts outside.old) (O.counts outside.new) result }
 {
     let reading = read(outside, Why::Turn)?;
     air.turns.begin(reading);
@@ -55,13 +54,12 @@ fn turn<O: Outside>(
     requires script { All IsScriptLine script.now }
     requires ranged { IsRanged air.old.turns }
     requires more { goes_on air.old.turns ≡ true }
-    requires ready { IsReady (O.told outside.old) (O.counts outside.old).peers air.old script.now }
-    ensures goes { (run : TvRun) (start : Option History) → run.script ≡ script.now
-        → IsAtEnd run start (O.told outside.old) (O.counts outside.old).peers air.old
-        → Arrives run start (O.told outside.new)
-        (IsAtEnd run start (O.told outside.new) (O.counts outside.new).peers air.new) result }
+    requires ready { IsReady (shown (O.told outside.old) (O.counts outside.old)) air.old script.now }
+    ensures goes { (from : From) → from.run.script ≡ script.now
+        → Leads from (Comes at_end) (Comes at_end)
+        (shown (O.told outside.old) (O.counts outside.old)) air.old
+        (shown (O.told outside.new) (O.counts outside.new)) air.new result }
     ensures turns { OnOk result (IsOneMore air.old.turns air.new.turns) }
-    ensures cause { HasCause (O.counts outside.old) (O.counts outside.new) result }
 {
     begin(alloc, air, outside, script)?;
     if air.turns.is_over() {
@@ -81,11 +79,11 @@ fn make_turns<O: Outside>(
 ) -> Result<(), Driven>
     requires script { All IsScriptLine script.now }
     requires ranged { IsRanged air.old.turns }
-    requires ready { IsReady (O.told outside.old) (O.counts outside.old).peers air.old script.now }
-    ensures ends { (run : TvRun) (start : Option History) → run.script ≡ script.now
-        → IsAtEnd run start (O.told outside.old) (O.counts outside.old).peers air.old
-        → Finishes run start (O.told outside.new) driven.Done result }
-    ensures cause { HasCause (O.counts outside.old) (O.counts outside.new) result }
+    requires ready { IsReady (shown (O.told outside.old) (O.counts outside.old)) air.old script.now }
+    ensures { (from : From) → from.run.script ≡ script.now
+        → Leads from (Comes at_end) (λ from now _. Stops from now driven.Done)
+        (shown (O.told outside.old) (O.counts outside.old)) air.old
+        (shown (O.told outside.new) (O.counts outside.new)) air.new result }
 {
     'turns: while air.turns.goes_on() {
         turn(alloc, air, outside, script)?;
@@ -100,11 +98,11 @@ fn start<O: Outside>(alloc: Global, run: TvDrive, outside: &mut O) -> Result<OnA
     requires host { IsUtf8 run.tv.host }
     requires port { run.tv.port ≤ 65534 }
     requires limit { IsLimit run.limit }
-    ensures goes { (script : List Line) → MatchResult result
-        (λ air. IsAtEnd (run_of run script) (O.told outside.old) (O.told outside.new) (O.counts outside.new).peers air)
-        (TvRan (run_of run script) (O.told outside.old) (O.told outside.new)) }
+    ensures goes { (script : List Line)
+        → let from = started (run_of run script) (shown (O.told outside.old) (O.counts outside.old)) in
+        let now = shown (O.told outside.new) (O.counts outside.new) in
+        MatchResult result (Comes at_end from now) (Stops from now) }
     ensures ranged { IfOk result (λ air. IsRanged air.turns) }
-    ensures cause { HasCause (O.counts outside.old) (O.counts outside.new) result }
 {
     let turns = Turns::new(run.limit, run.relative);
     match outside.listen(&run.tv.host, run.tv.port) {

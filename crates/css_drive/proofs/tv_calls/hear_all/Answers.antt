@@ -1,66 +1,61 @@
-use Rattle.std.proofs.Common.{rules, ◌≡◌, ◌+◌, ◌∙◌, ◌∷◌, ℕ, List, arith, drop}
+use Rattle.std.proofs.Common.{rules, ◌∙◌, ℕ, arith, refl}
 use Rattle.css_drive.specs.declared.on_air.OnAir.{OnAir}
+use Rattle.css_drive.specs.TvDue.{from_texts}
 use Rattle.css_drive.proofs.CompanionSteps.{at_err}
-use Rattle.css_drive.proofs.TvLines.{left_at, peers_all}
-use Rattle.css_drive.proofs.TvLoops.{all_to_hear, text_due, text_heard, peer_removed, all_heard}
-use Rattle.css_drive.proofs.TvMoves.{is_live, not_open}
-use Rattle.css_drive.proofs.TvSteps.{counts_on}
+use Rattle.css_drive.proofs.TvLines.{left_at, peers_all, all_left, next_left, left_after, peer_removed, none_left}
+use Rattle.css_drive.proofs.TvSteps.{is_live, not_open}
 use Rattle.css_drive.proofs.tv_calls.hear_all.Goals as goal
 
 pub peers-init : goal.peers-init
-peers-init g c = record { goes = λ run start s. all_to_hear s; counts = search rules; turns = search rules }
+peers-init g c = record {
+  goes = λ from s. all_left from_texts (record { place = _; is_at = s; next = refl });
+  turns = search rules;
+}
 
 pub returns-in_err-hear-clause-goes : goal.returns-in_err-hear-clause-goes
-returns-in_err-hear-clause-goes g c run start s =
-    let items : List ℕ = c.peers.air.peers.items in
+returns-in_err-hear-clause-goes g c from s =
     let i : ℕ = c.peers.at in
     let peer : ℕ = c.index-peer.result.now in
     let test = c.peers-test.true in
-    let x = c.peers.invariant.goes run start s in
-    at_err _ _ _ _ c.from_residual.ensures.1 (c.in_err-hear.ensures.goes run start c.peers.air
-    (text_due x peer (drop (i + 1) items) (left_at items i peer (omega (arith, test)) c.index-peer.ensures)
-    (is_live x.is_at peer ∙ c.is_open.ensures.0 c.if-is_open.true)))
+    let x = c.peers.invariant.goes from s in
+    let e = left_at c.peers.air.peers.items i peer (omega (arith, test)) c.index-peer.ensures in
+    at_err _ _ _ _ c.from_residual.ensures.1 (c.in_err-hear.ensures from c.peers.air
+    (next_left from_texts i x peer e (is_live x.is_at peer ∙ c.is_open.ensures.0 c.if-is_open.true)))
 
 pub peers-preserved-then-is_open : goal.peers-preserved-then-is_open
-peers-preserved-then-is_open g c =
-    let items : List ℕ = c.peers.air.peers.items in
-    let i : ℕ = c.peers.at in
-    let peer : ℕ = c.index-peer.result.now in
-    let test = c.peers-test.true in
-    let e : drop i items ≡ peer ∷ drop (i + 1) items =
-    left_at items i peer (omega (arith, test)) c.index-peer.ensures in
-    record {
-      goes = λ run start s.
-          let x = c.peers.invariant.goes run start s in
-          text_heard i peer e (c.in_ok-hear.ensures.goes run start c.peers.air
-          (text_due x peer (drop (i + 1) items) e (is_live x.is_at peer ∙ c.is_open.ensures.0 c.if-is_open.true)));
-      counts = counts_on c.peers.invariant.counts c.in_ok-hear.ensures.cause;
-      turns = c.peers.invariant.turns;
-    }
+peers-preserved-then-is_open g c = record {
+  goes = λ from s.
+      let i : ℕ = c.peers.at in
+      let peer : ℕ = c.index-peer.result.now in
+      let test = c.peers-test.true in
+      let x = c.peers.invariant.goes from s in
+      let e = left_at c.peers.air.peers.items i peer (omega (arith, test)) c.index-peer.ensures in
+      left_after from_texts (c.in_ok-hear.ensures from c.peers.air
+      (next_left from_texts i x peer e (is_live x.is_at peer ∙ c.is_open.ensures.0 c.if-is_open.true))) i peer
+      (λ live. refl) e;
+  turns = c.peers.invariant.turns;
+}
 
 pub peers-preserved : goal.peers-preserved
-peers-preserved g c =
-    let items : List ℕ = c.peers.air.peers.items in
-    let i : ℕ = c.peers.at in
-    let peer : ℕ = c.index-peer.result.now in
-    let test = c.peers-test.true in
-    let now : OnAir = record {
-      tv = c.peers.air.tv;
-      peers = c.remove.new.self;
-      lines = c.peers.air.lines;
-      turns = c.peers.air.turns;
-    } in
-    record {
-      goes = λ run start s.
-          let x = c.peers.invariant.goes run start s in
-          peer_removed x peer (drop (i + 1) items) (left_at items i peer (omega (arith, test)) c.index-peer.ensures)
-          (is_live x.is_at peer ∙ not_open _ _ c.is_open.ensures c.if-is_open.false) now c.remove.ensures.items;
-      counts = c.peers.invariant.counts;
-      turns = c.peers.invariant.turns;
-    }
+peers-preserved g c = record {
+  goes = λ from s.
+      let peer : ℕ = c.index-peer.result.now in
+      let test = c.peers-test.true in
+      let x = c.peers.invariant.goes from s in
+      let now : OnAir = record {
+        tv = c.peers.air.tv;
+        peers = c.remove.new.self;
+        lines = c.peers.air.lines;
+        turns = c.peers.air.turns;
+      } in
+      peer_removed from_texts c.peers.at x peer
+      (left_at c.peers.air.peers.items c.peers.at peer (omega (arith, test)) c.index-peer.ensures)
+      (is_live x.is_at peer ∙ not_open _ _ c.is_open.ensures c.if-is_open.false) now c.remove.ensures.items;
+  turns = c.peers.invariant.turns;
+}
 
 pub returns-clause-goes : goal.returns-clause-goes
-returns-clause-goes g c run start s =
+returns-clause-goes g c from s =
     let over = c.peers-test.false in
-    all_heard (c.peers.invariant.goes run start s)
+    none_left from_texts c.peers.at (c.peers.invariant.goes from s)
     (peers_all c.peers.air.peers.items c.peers.at (omega (arith, over)))

@@ -1,16 +1,15 @@
-use Rattle.std.proofs.Common.{◌≡◌, ◌-◌, length, Option, None}
-use Rattle.css_model.specs.History.{History}
-use Rattle.css_drive.specs.TvDue.{TvRun}
+use Rattle.std.proofs.Common.{◌≡◌, ◌-◌, length, None}
+use Rattle.css_drive.specs.CompanionStanding.{shown}
+use Rattle.css_drive.specs.TvDue.{from_texts}
 use Rattle.css_drive.specs.TvProgress.{Asked}
-use Rattle.css_drive.specs.TvStanding.{IsAt, Hears, KeepsCounts}
+use Rattle.css_drive.specs.TvStanding.{From, IsAt, Comes, left_from}
 use Rattle.css_drive.proofs.tv_calls.hear_all.Given as goal
 
 abbrev pub invariant-peers : goal.invariant-peers
 invariant-peers g l = record {
-  goes : (run : TvRun) (start : Option History)
-      → IsAt run start (g.O.Outside.told l.fn.outside) (g.O.Outside.counts l.fn.outside).peers l.fn.air (Asked None)
-      → Hears run start (g.O.Outside.told l.outside) (g.O.Outside.counts l.outside).peers l.air l.at;
-  counts : KeepsCounts (g.O.Outside.counts l.fn.outside) (g.O.Outside.counts l.outside);
+  goes : (from : From)
+      → IsAt (Asked None) from (shown (g.O.Outside.told l.fn.outside) (g.O.Outside.counts l.fn.outside)) l.fn.air
+      → Comes (left_from from_texts l.at) from (shown (g.O.Outside.told l.outside) (g.O.Outside.counts l.outside)) l.air;
   turns : l.air.turns ≡ l.fn.air.turns;
 }
 

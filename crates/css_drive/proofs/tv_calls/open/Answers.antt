@@ -4,11 +4,11 @@ use Rattle.css_drive.specs.declared.on_air.OnAir.{OnAir}
 use Rattle.css_drive.proofs.tv_calls.open.Goals as goal
 
 pub returns-clause-goes : goal.returns-clause-goes
-returns-clause-goes g c run start p h t opens =
+returns-clause-goes g c from x =
     let now : OnAir = record {
       tv = c.args.air.now.tv;
       peers = c.push.new.self;
       lines = c.args.air.now.lines;
       turns = c.args.air.now.turns;
     } in
-    c.play.ensures.goes run start now (Asked None) (opens now c.in-Ok.ensures.items)
+    c.play.ensures from now (Asked None) (x.happens now c.in-Ok.ensures.items)

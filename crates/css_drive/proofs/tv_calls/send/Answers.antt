@@ -1,6 +1,5 @@
-use Rattle.css_drive.proofs.TvSteps.{cause_plain}
+use Rattle.css_drive.proofs.TvSteps.{failed}
 use Rattle.css_drive.proofs.tv_calls.send.Goals as goal
 
-pub returns-in-Err-clause-cause : goal.returns-in-Err-clause-cause
-returns-in-Err-clause-cause g c =
-    cause_plain c.in-Err.ensures.counted c.fault_of.ensures.counted c.fault_of.ensures.no_writes
+pub returns-in-Err : goal.returns-in-Err
+returns-in-Err g c from p h t = failed t c.fault_of.ensures c.in-Err.ensures.told c.in-Err.ensures.counted

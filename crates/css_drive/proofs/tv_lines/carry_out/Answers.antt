@@ -2,36 +2,34 @@ use Rattle.std.proofs.Common.{◌≡◌, ◌+◌, sym, subst, ℕ, Some}
 use Rattle.css_tv.specs.declared.event.TvEvent.{TvEvent}
 use Rattle.css_player.specs.declared.command.PlayerFault.{PlayerFault}
 use Rattle.css_schedule.specs.declared.fault.LineWhy.TheVariants as line_why
+use Rattle.css_drive.specs.CompanionStanding.{shown}
 use Rattle.css_drive.specs.TvProgress.{Turned, event_of}
-use Rattle.css_drive.specs.TvRan.{TvRan}
-use Rattle.css_drive.specs.TvStanding.{past_line}
+use Rattle.css_drive.specs.TvStanding.{Stops, past_line}
 use Rattle.css_drive.specs.declared.driven.Driven.TheVariants as driven
 use Rattle.css_drive.proofs.TvSteps.{heard_of}
 use Rattle.css_drive.proofs.TvLines.{passed_over, line_happens, line_refused}
 use Rattle.css_drive.proofs.tv_lines.carry_out.Goals as goal
 
-pub returns-in-Ok-None-clause-goes : goal.returns-in-Ok-None-clause-goes
-returns-in-Ok-None-clause-goes g c run start air lines x =
-    passed_over x (rw c.in-Ok-None.field-0-is at c.in-Ok-None.ensures.value)
+pub returns-in-Ok-None : goal.returns-in-Ok-None
+returns-in-Ok-None g c from air lines x = passed_over x (rw c.in-Ok-None.field-0-is at c.in-Ok-None.ensures.value)
 
-pub returns-in-Ok-clause-goes : goal.returns-in-Ok-clause-goes
-returns-in-Ok-clause-goes g c run start air lines x =
+pub returns-in-Ok : goal.returns-in-Ok
+returns-in-Ok g c from air lines x =
     let e : TvEvent = c.in-Ok-Some.event in
     let is : Some e ≡ event_of c.args.reading c.args.line.now.verb =
     rw c.in-Ok-Some.field-0-is at c.in-Ok-Some.ensures.value in
     let done = rw c.new-outs.ensures.items at c.in-Ok.ensures.outcome in
-    c.put_all.ensures.goes run start (past_line air) (Turned c.args.reading)
+    c.put_all.ensures from (past_line air) (Turned c.args.reading)
     (heard_of (line_happens x e is c.step.new.self.stage c.step.new.out.items done) c.step.new.self c.step.new.out.items
     done c.in-Ok.ensures.stands c.in-Ok.ensures.server)
 
-pub returns-clause-goes : goal.returns-clause-goes
-returns-clause-goes g c run start air lines x =
+pub returns : goal.returns
+returns g c from air lines x =
     let f : PlayerFault = c.in-Err-Player.fault in
     let before : ℕ = c.args.before in
+    let now = shown (g.O.Outside.told c.args.outside.now) (g.O.Outside.counts c.args.outside.now) in
     let refused = rw c.in-Err-Player.field-0-is at c.in-Err-Player.ensures.outcome in
-    subst (λ (y : PlayerFault).
-    TvRan run start (g.O.Outside.told c.args.outside.now) (driven.BadLine (before + 1) (line_why.Player y)))
+    subst (λ (y : PlayerFault). Stops from now (driven.BadLine (before + 1) (line_why.Player y)))
     (sym c.in-Err-Player.fault-is)
-    (subst (λ (n : ℕ).
-    TvRan run start (g.O.Outside.told c.args.outside.now) (driven.BadLine (n + 1) (line_why.Player f))) lines
+    (subst (λ (n : ℕ). Stops from now (driven.BadLine (n + 1) (line_why.Player f))) lines
     (line_refused x c.in-Ok-Some.event (rw c.in-Ok-Some.field-0-is at c.in-Ok-Some.ensures.value) f refused.2))
