@@ -4,6 +4,7 @@ use Rattle.css_model.specs.declared.Why.TheVariants as why
 use Rattle.css_outside.specs.Outsides.{clock_entries, sleep_entries}
 use Rattle.css_outside.specs.declared.calls.Clocked.{Clocked}
 use Rattle.css_companion.specs.Standing.{own_of}
+use Rattle.css_drive_relay.proofs.ReadBack.{answer_is_no_request}
 use Rattle.css_drive_relay.proofs.Serves as serves
 use Rattle.css_drive_relay.proofs.Steps as steps
 use Rattle.css_drive_relay.proofs.datagrams.respond.Goals as goal
@@ -36,6 +37,6 @@ returns-in-Ok-answer-clause-goes g c start h s some =
     let before = sleep_entries clocked.slept ++ older in
     steps.made (serves.answers {clocked = clocked} s1 read (Ok c.in-Ok-answer.answer) c.in-Ok-answer.ensures.value)
     (Sent c.args.peer c.in-Ok-answer.answer) refl
-    (serves.answer_is_no_request (own_of c.read-in-Ok.new.relay.companion) before clocked.reading c.in-Ok.ticket
+    (answer_is_no_request (own_of c.read-in-Ok.new.relay.companion) before clocked.reading c.in-Ok.ticket
     c.in-Ok-answer.answer (sym (c.in-Ok-answer.ensures.value before
     (read.known c.args.run.now older s1.knows).stands))) (λ x. x) _ c.send_datagram.result c.send_datagram.ensures.told
