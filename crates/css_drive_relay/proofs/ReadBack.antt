@@ -1,9 +1,9 @@
--- What is read from the datagram of a relay's response tells the same, whatever the originate value.
-use Rattle.std.proofs.Common.{◌≡◌, ℕ, ◌^◌, ◌≤◌, ◌<◌, arith, ap, ◌∙◌, subst, refl, Bool, true, false, cond, List, []}
-use Rattle.std.proofs.Common.{◌∷◌, ◌++◌, sym, Option, Some, None, Result, Ok, Err}
-use Rattle.std.specs.Prelude.{ℤ, pos, negsuc, neg_ℤ, ◌≤ℤ◌, FitsSigned, max, nat_lt}
+-- What is read from the datagram of a relay's response tells the same, whatever the originate value. It is no request.
+use Rattle.std.proofs.Common.{◌≡◌, ℕ, ◌≤◌, ◌<◌, arith, ap, ◌∙◌, subst, refl, Bool, true, false, cond, List, [], ◌∷◌}
+use Rattle.std.proofs.Common.{◌++◌, sym, Option, Some, None, Result, Ok, Err}
+use Rattle.std.specs.Prelude.{ℤ, pos, negsuc, neg_ℤ, ◌≤ℤ◌, FitsSigned, max, nat_lt, ◌==◌}
 use Rattle.std.specs.Int.{w8}
-use Rattle.std.specs.Option.{option_to_list}
+use Rattle.std.specs.Option.{option_to_list, option_and_then}
 use Rattle.std.proofs.lemmas.Bool.{ltb-false}
 use Rattle.std.proofs.lemmas.Int.{ints}
 use Rattle.css_num.specs.Spans.{Interval}
@@ -11,63 +11,29 @@ use Rattle.css_model.specs.declared.Stamp.{Stamp}
 use Rattle.css_model.specs.declared.Message.{Message}
 use Rattle.css_model.specs.declared.WcFault.{WcFault}
 use Rattle.css_model.specs.declared.TheConstants.{LIMIT}
-use Rattle.css_model.specs.Numbers.{precision_ns, max_error, IsWithin}
+use Rattle.css_model.specs.Numbers.{precision_ns, max_error}
 use Rattle.css_model.specs.WallClock.{Local}
-use Rattle.css_model.specs.Wire.{encoded, decoded, fields, fault, unless_fault, stamp_of, reading_of}
+use Rattle.css_model.specs.Wire.{encoded, decoded, fields, fault, unless_fault, stamp_of}
 use Rattle.css_model.specs.World.{World}
 use Rattle.css_model.specs.History.{History, is_sleep, LandedAnswer, landed_answer, landed_answers, times_of}
-use Rattle.css_model.specs.History.{is_possible, possible_answers, accepted_answers}
+use Rattle.css_model.specs.History.{is_possible, possible_answers, accepted_answers, request_in}
 use Rattle.css_model.proofs.Landings.{landed_answer-is}
 use Rattle.css_span.specs.Frontiers.{greatest_error}
 use Rattle.css_span.specs.WallSpans.{wall_span}
 use Rattle.css_wc.proofs.Codec.{IsStamp, IsMessage, fields-encoded}
 use Rattle.css_relay.specs.Answers.{Ticket, requested_by, ticket_at, ticket_by, received_after, response_to, answer_at}
-use Rattle.css_relay.specs.Answers.{answered, answered_after}
+use Rattle.css_relay.specs.Answers.{answered_after, datagram_of, answered}
 use Rattle.css_relay.specs.Middles.{cut, between, is_beyond}
 use Rattle.css_relay.specs.TwoHops.{IsTrueResponse}
 use Rattle.css_relay.specs.declared.fault.RelayFault.{RelayFault}
+use Rattle.std.specs.Result.{result_ok}
 use Rattle.css_relay.specs.declared.fault.RelayFault.TheVariants as faults
 use Rattle.css_relay.proofs.Exponents.{exponents_are_least}
 use Rattle.css_relay.proofs.Readings.{same_ok}
 
 -- ---- fields
--- two messages tell the same, but for the originate value
-pub record TellSame (a b : Message) : Type 0 where
-  pub message_type : b.message_type ≡ a.message_type
-  pub precision : b.precision ≡ a.precision
-  pub error : b.error ≡ a.error
-  pub receive : b.receive ≡ a.receive
-  pub transmit : b.transmit ≡ a.transmit
-
--- so one is true where the other is
-pub true_as : (world : World) (tv_error taken given : ℕ) (a b : Message) → TellSame a b
-    → IsTrueResponse world tv_error taken given a → IsTrueResponse world tv_error taken given b
-true_as world tv_error taken given a b s x =
-    record {
-      response = s.message_type ∙ x.response;
-      receive =
-          subst (λ (n : ℕ). IsWithin n (reading_of b.receive) (world taken).wall)
-          (ap precision_ns (sym s.precision))
-          (subst (λ (n : Stamp). IsWithin (precision_ns a.precision) (reading_of n) (world taken).wall)
-          (sym s.receive) x.receive);
-      transmit =
-          subst (λ (n : ℕ). IsWithin n (reading_of b.transmit) (world given).wall)
-          (ap precision_ns (sym s.precision))
-          (subst (λ (n : Stamp). IsWithin (precision_ns a.precision) (reading_of n) (world given).wall)
-          (sym s.transmit) x.transmit);
-      declared = subst (λ (n : ℕ). tv_error ≤ n) (sym s.error) x.declared;
-    }
-
--- the ranges of the fields that are read back
-record HasRanges (m : Message) : Type 0 where
-  message_type : m.message_type ≤ 3
-  precision : FitsSigned w8 m.precision
-  error : m.error < 2 ^ 32
-  receive : IsStamp m.receive
-  transmit : IsStamp m.transmit
-
 -- the same message with no originate value
-without_originate : Message → Message
+pub without_originate : Message → Message
 without_originate m = record {
   message_type = m.message_type;
   precision = m.precision;
@@ -77,43 +43,36 @@ without_originate m = record {
   transmit = m.transmit;
 }
 
+-- a message is true by its other fields
+pub true_as : (world : World) (tv_error taken given : ℕ) (a b : Message)
+    → without_originate a ≡ without_originate b → IsTrueResponse world tv_error taken given a
+    → IsTrueResponse world tv_error taken given b
+unfolding without_originate
+true_as world tv_error taken given a b same x =
+    let own : IsTrueResponse world tv_error taken given (without_originate a) =
+    record { response = x.response; receive = x.receive; transmit = x.transmit; declared = x.declared } in
+    let y = subst (λ (m : Message). IsTrueResponse world tv_error taken given m) same own in
+    record { response = y.response; receive = y.receive; transmit = y.transmit; declared = y.declared }
+
 -- the originate value changes no other field of the datagram
-fields_apart : (m : Message) → TellSame (fields (encoded (without_originate m))) (fields (encoded m))
+fields_apart : (m : Message)
+    → without_originate (fields (encoded (without_originate m))) ≡ without_originate (fields (encoded m))
 unfolding fields encoded without_originate
-fields_apart m =
-    record { message_type = refl; precision = refl; error = refl; receive = refl; transmit = refl }
+fields_apart m = refl
 
-ranges_without : (m : Message) → HasRanges m → IsMessage (without_originate m)
+twice_without : (m : Message) → without_originate (without_originate m) ≡ without_originate m
 unfolding without_originate
-ranges_without m h = record {
-  message_type = h.message_type;
-  precision = h.precision;
-  error = h.error;
-  originate = record { seconds = omega arith; nanoseconds = omega arith };
-  receive = h.receive;
-  transmit = h.transmit;
-}
+twice_without m = refl
 
-fields_same : (m : Message) → HasRanges m → TellSame m (fields (encoded m))
-unfolding without_originate
-fields_same m h =
-    let apart = fields_apart m in
-    let e : fields (encoded (without_originate m)) ≡ without_originate m =
-    fields-encoded (without_originate m) (ranges_without m h) in
-    record {
-      message_type = apart.message_type ∙ ap (λ (x : Message). x.message_type) e;
-      precision = apart.precision ∙ ap (λ (x : Message). x.precision) e;
-      error = apart.error ∙ ap (λ (x : Message). x.error) e;
-      receive = apart.receive ∙ ap (λ (x : Message). x.receive) e;
-      transmit = apart.transmit ∙ ap (λ (x : Message). x.transmit) e;
-    }
-
-decoded_same : (m n : Message) → HasRanges m → decoded (encoded m) ≡ Ok n → TellSame m n
+decoded_same : (m n : Message) → IsMessage (without_originate m) → decoded (encoded m) ≡ Ok n
+    → without_originate m ≡ without_originate n
 decoded_same m n h e = by (fault (encoded m)) e
   where
-    by : (o : Option WcFault) → unless_fault o (fields (encoded m)) ≡ Ok n → TellSame m n
-    by None e =
-        subst (λ (x : Message). TellSame m x) (same_ok (fields (encoded m)) n e) (fields_same m h)
+    same : without_originate m ≡ without_originate (fields (encoded m))
+    same = sym (twice_without m) ∙ ap without_originate (sym (fields-encoded (without_originate m) h)) ∙ fields_apart m
+
+    by : (o : Option WcFault) → unless_fault o (fields (encoded m)) ≡ Ok n → without_originate m ≡ without_originate n
+    by None e = same ∙ ap without_originate (same_ok (fields (encoded m)) n e)
     by (Some first) e = absurd (cc)
 
 -- ---- readings
@@ -177,62 +136,92 @@ errors_small own (entry ∷ older) = by (is_sleep entry) (errors_small own older
         (λ landed e. (landed_answer-is entry older landed e).error) rest
 
 -- ---- the response
+-- a span was known, and a precision is enough
+record IsMade (ticket : Ticket) (error : ℕ) (message : Message) : Type 0 where
+  span : Interval
+  enough : max ticket.half (between (cut span.lo) (cut span.hi)).half ≤ precision_ns (pos 30)
+  same : response_to ticket error (between (cut span.lo) (cut span.hi)) ≡ message
+
+made_of : (ticket : Ticket) (error : ℕ) (wall : Option Interval) (message : Message)
+    → answered wall error ticket ≡ Ok message → IsMade ticket error message
+made_of ticket error None message e = absurd (cc)
+made_of ticket error (Some span) message e = known (is_beyond span) e
+  where
+    response : Message
+    response = response_to ticket error (between (cut span.lo) (cut span.hi))
+
+    half : ℕ
+    half = max ticket.half (between (cut span.lo) (cut span.hi)).half
+
+    by : (wide : Bool) → nat_lt (precision_ns (pos 30)) half ≡ wide
+        → ◌≡◌ {A = Result Message RelayFault} (cond wide (Err (faults.Wide half)) (Ok response)) (Ok message)
+        → IsMade ticket error message
+    by true test e = absurd (cc)
+    by false test e =
+        record { span = span; enough = ltb-false (precision_ns (pos 30)) half test; same = same_ok response message e }
+
+    known : (b : Bool)
+        → answer_at ticket error (cond b (Err (faults.Beyond span)) (Ok (between (cut span.lo) (cut span.hi))))
+        ≡ Ok message
+        → IsMade ticket error message
+    known true e = absurd (cc)
+    known false e = by (nat_lt (precision_ns (pos 30)) half) refl e
+
 fits_byte : (z : ℤ) → neg_ℤ (pos 30) ≤ℤ z → z ≤ℤ pos 30 → FitsSigned w8 z
 fits_byte (pos n) low high = record { sfits = omega (arith, ints, high) }
 fits_byte (negsuc n) low high = record { sfits = omega (arith, ints, low) }
 
-response_ranges : (ticket : Ticket) (error : ℕ) (span : Interval) → ticket.value < LIMIT → error ≤ max_error
-    → max ticket.half (between (cut span.lo) (cut span.hi)).half ≤ precision_ns (pos 30)
-    → HasRanges (response_to ticket error (between (cut span.lo) (cut span.hi)))
-response_ranges ticket error span value small enough =
-    let least = exponents_are_least (max ticket.half (between (cut span.lo) (cut span.hi)).half) enough in
+response_ranges : (ticket : Ticket) (error : ℕ) (message : Message) → ticket.value < LIMIT → error ≤ max_error
+    → IsMade ticket error message → IsMessage (without_originate message)
+unfolding without_originate
+response_ranges ticket error message value small x =
+    let middle = between (cut x.span.lo) (cut x.span.hi) in
+    let least = exponents_are_least (max ticket.half middle.half) x.enough in
     let low = least.low in
     let high = least.high in
-    record {
+    subst (λ (m : Message). IsMessage (without_originate m)) x.same (record {
       message_type = omega arith;
       precision = fits_byte _ low high;
       error = omega (arith, small);
+      originate = record { seconds = omega arith; nanoseconds = omega arith };
       receive = stamp_small ticket.value value;
-      transmit = stamp_small (between (cut span.lo) (cut span.hi)).value (between_small span);
-    }
-
-wide_ranges : (ticket : Ticket) (error : ℕ) (span : Interval) (message : Message) (wide : Bool)
-    → nat_lt (precision_ns (pos 30)) (max ticket.half (between (cut span.lo) (cut span.hi)).half) ≡ wide
-    → ticket.value < LIMIT → error ≤ max_error
-    → ◌≡◌ {A = Result Message RelayFault}
-    (cond wide (Err (faults.Wide (max ticket.half (between (cut span.lo) (cut span.hi)).half)))
-    (Ok (response_to ticket error (between (cut span.lo) (cut span.hi))))) (Ok message)
-    → HasRanges message
-wide_ranges ticket error span message true test value small e = absurd (cc)
-wide_ranges ticket error span message false test value small e =
-    let middle = between (cut span.lo) (cut span.hi) in
-    subst (λ (m : Message). HasRanges m) (same_ok (response_to ticket error middle) message e)
-    (response_ranges ticket error span value small
-    (ltb-false (precision_ns (pos 30)) (max ticket.half middle.half) test))
-
-answer_ranges : (ticket : Ticket) (error : ℕ) (wall : Option Interval) (message : Message)
-    → ticket.value < LIMIT → error ≤ max_error → answered wall error ticket ≡ Ok message → HasRanges message
-answer_ranges ticket error None message value small e = absurd (cc)
-answer_ranges ticket error (Some span) message value small e = by (is_beyond span) e
-  where
-    by : (b : Bool)
-        → answer_at ticket error (cond b (Err (faults.Beyond span)) (Ok (between (cut span.lo) (cut span.hi))))
-        ≡ Ok message
-        → HasRanges message
-    by true e = absurd (cc)
-    by false e =
-        wide_ranges ticket error span message
-        (nat_lt (precision_ns (pos 30)) (max ticket.half (between (cut span.lo) (cut span.hi)).half)) refl value small
-        e
+      transmit = stamp_small middle.value (between_small x.span);
+    })
 
 -- what is read from a response's datagram tells the same
 pub reads_back : (own : Local) (before_take before_give : History) (take give : ℕ) (request : List ℕ) (ticket : Ticket)
     (message read : Message) → received_after own before_take take request ≡ Ok ticket
     → answered_after own before_give give ticket ≡ Ok message → decoded (encoded message) ≡ Ok read
-    → TellSame message read
+    → without_originate message ≡ without_originate read
 reads_back own before_take before_give take give request ticket message read received is e =
     decoded_same message read
-    (answer_ranges ticket (greatest_error (accepted_answers own before_give))
-    (wall_span own give (accepted_answers own before_give)) message
+    (response_ranges ticket _ message
     (ticket_small (wall_span own take (accepted_answers own before_take)) (requested_by (decoded request)) ticket
-    received) (errors_small own before_give) is) e
+    received) (errors_small own before_give)
+    (made_of ticket _ (wall_span own give (accepted_answers own before_give)) message is)) e
+
+-- ---- requests
+-- bytes whose field tells another type are no request
+type_of_encoded : (message : Message) → (fields (encoded message)).message_type ≡ message.message_type
+unfolding encoded fields
+type_of_encoded message = refl
+
+no_request : (first : Option WcFault) (message : Message) → message.message_type == 0 ≡ false
+    → option_and_then (λ (m : Message). cond (m.message_type == 0) (Some m) None)
+    (result_ok (unless_fault first message)) ≡ None
+no_request None message e = ap (λ b. cond b (Some message) None) e
+no_request (Some first) message e = refl
+
+-- an answer is no request
+pub answer_is_no_request : (own : Local) (history : History) (reading : ℕ) (ticket : Ticket) (bytes : List ℕ)
+    → datagram_of (answered_after own history reading ticket) ≡ Ok bytes → request_in bytes ≡ None
+answer_is_no_request own history reading ticket bytes e = by (answered_after own history reading ticket) refl e
+  where
+    by : (x : Result Message RelayFault) → answered_after own history reading ticket ≡ x → datagram_of x ≡ Ok bytes
+        → request_in bytes ≡ None
+    by (Err fault) is e = absurd (cc)
+    by (Ok message) is e =
+        let x = made_of ticket _ (wall_span own reading (accepted_answers own history)) message is in
+        subst (λ (b : List ℕ). request_in b ≡ None) (same_ok (encoded message) bytes e)
+        (no_request (fault (encoded message)) (fields (encoded message)) (ap (λ n. n == 0)
+        (type_of_encoded message ∙ ap (λ (m : Message). m.message_type) (sym x.same))))

@@ -11,8 +11,8 @@ use Rattle.css_model.specs.History.{Heard, Closed, Wrote, Gone, HungUp, Once, La
 use Rattle.css_model.specs.History.{landed_answers, is_possible}
 use Rattle.css_relay.specs.Answers.{Ticket, received_after, answered_after, datagram_of}
 use Rattle.css_relay.specs.declared.fault.RelayFault.{RelayFault}
-use Rattle.css_drive_relay.specs.Places.{Place, Asking, Taken, Received, Answers, Rejecting, Dropping, Over, Facts}
-use Rattle.css_drive_relay.specs.Places.{Progress, progress_of}
+use Rattle.css_drive_relay.specs.Places.{Place, Asking, Taken, Received, Answers, Rejecting, Dropping, Over, Progress}
+use Rattle.css_drive_relay.specs.Places.{progress_of}
 use Rattle.css_drive_relay.specs.SecondHop.{given_at, given_by, IsRequest, IsResponse, IsSentAt, SentIsKnown, IsGiven}
 use Rattle.css_drive_relay.specs.SecondHop.{last_take, GivenIsTrue, IsTrueAnswer, IsFromRun, FromRunAt}
 use Rattle.css_drive_relay.specs.SecondHop.{SecondHopsAreTrue}
@@ -26,7 +26,7 @@ use Rattle.css_model.proofs.Wall.{wall_is_true}
 use Rattle.css_relay.specs.TwoHops.{IsAnswerOf, IsTrueResponse}
 use Rattle.css_drive_relay.specs.Due.{IsProperRelay}
 use Rattle.css_drive_relay.proofs.Answering.{answer_later}
-use Rattle.css_drive_relay.proofs.ReadBack.{TellSame, reads_back, true_as}
+use Rattle.css_drive_relay.proofs.ReadBack.{without_originate, reads_back, true_as}
 use Rattle.css_model.specs.declared.Kind.TheVariants as kind
 use Rattle.css_model.specs.declared.Why.TheVariants as why
 use Rattle.css_drive_relay.specs.Places as places
@@ -283,7 +283,7 @@ module _ (errors : Errors) (world : World) (who : ℕ) (run : RelayRun) (history
       found run history (followed run history proper) message x.before sent.1 in
       let is : IsTrueAnswer world errors.tv moment_of x.before message =
       given_is_true errors world who run history moment_of message x.before proper keeps range lawful explains sent.1 in
-      let same : TellSame message landed.message =
+      let same : without_originate message ≡ without_originate landed.message =
       reads_back run.companion.local found.answer.before_take found.answer.before_give found.answer.take
       found.answer.give found.answer.request found.answer.ticket message landed.message found.answer.received
       found.answer.answered (sym (ap decoded sent.2) ∙ x.read) in

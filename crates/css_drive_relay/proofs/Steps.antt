@@ -1,35 +1,37 @@
 -- How a relay's run goes on by a call that is due, which sessions it knows then, what its dials make of it, and how it
 -- ends.
 use Rattle.std.proofs.Common.{◌≡◌, ℕ, ◌≤◌, ◌<◌, arith, ap, ◌∙◌, refl, Bool, true, false, cond, List, [], ◌∷◌, ◌++◌}
-use Rattle.std.proofs.Common.{Option, Some, None, add-one, ◌+◌, sym, subst, ◌||◌, inl, inr, Result, Ok, ap₂, drop}
-use Rattle.std.proofs.Common.{get_or, length}
-use Rattle.std.specs.Prelude.{All, IfSome, ◌==◌, ◌+◌, not, nat_lt, is_some, ◌||◌, ◌⊎◌, ◌&&◌, unwrap_or}
+use Rattle.std.proofs.Common.{Option, Some, None, add-one, ◌+◌, sym, subst, ◌||◌, inl, inr, Result, Ok, ap₂, Err}
+use Rattle.std.specs.Prelude.{All, ◌==◌, ◌+◌, not, nat_lt, is_some, ◌||◌, ◌⊎◌, ◌&&◌, unwrap_or, IsErrAnd, MatchResult}
 use Rattle.std.specs.List.{insert}
-use Rattle.std.specs.Option.{option_or, ForSome}
-use Rattle.std.proofs.lemmas.Bool.{ne_eqb}
-use Rattle.std.proofs.lemmas.List.Elements.{All-head, All-tail, All-nil, All-cons, All-filter}
+use Rattle.std.specs.Option.{option_or, ForSome, option_map}
+use Rattle.std.proofs.lemmas.Bool.{ne_eqb, eq-eqb, cond_both}
+use Rattle.std.proofs.lemmas.Option.{IfSome_then}
+use Rattle.css_model.specs.declared.Message.{Message}
+use Rattle.std.proofs.lemmas.List.Elements.{All-nil, All-filter}
 use Rattle.std.proofs.lemmas.Bool.Decides.{nat_tests}
 use Rattle.css_model.specs.declared.Kind.{Kind}
 use Rattle.css_model.specs.History.{Dialled, Accepted, History, Entry, Slept, Clock, is_sleep, asking_at, request_by}
-use Rattle.css_model.specs.History.{landed_answer, Address, Dialling, NotDialled, HungUp, Listening}
-use Rattle.css_companion.specs.Meanings.{kind_of, cii_text, ts_text, opens_ts, closes_ts, state_of}
+use Rattle.css_model.specs.History.{landed_answer, Address, Dialling, NotDialled, HungUp, Listening, Closed, Gone}
+use Rattle.css_model.specs.History.{Heard, Sent, request_in}
+use Rattle.css_companion.specs.Meanings.{kind_of, cii_text, ts_text, opens_ts, closes_ts, is_cii, is_ts}
 use Rattle.css_drive.specs.TvRan.{AreBelow, AreNumbered}
-use Rattle.css_drive_relay.specs.Places.{Facts, Progress, next_asked, telling, telling_if, with_peer, without}
-use Rattle.css_drive_relay.specs.Places.{Place, after, progress_of, Begun, Called, after_dial, Asked, Over, all_open}
-use Rattle.css_drive_relay.specs.Places.{without_first, hung_up, beginning, with_turn}
-use Rattle.css_drive_relay.specs.Standing.{AreInOrder, IsPeer, KnowsPeers, named, Knows, Runs, Stops, HasRead, facts_in}
-use Rattle.css_drive_relay.specs.Standing.{stood, Stands, IsAt, Comes, HangsUp, Keeps, listening}
+use Rattle.css_drive_relay.specs.Places.{Facts, Progress, next_asked, telling, telling_if, with_peer, without, Place}
+use Rattle.css_drive_relay.specs.Places.{after, progress_of, Begun, Called, after_dial, after_clock, Asked, Over}
+use Rattle.css_drive_relay.specs.Places.{all_open, without_first, hung_up, beginning, with_turn}
+use Rattle.css_drive_relay.specs.Standing.{AreInOrder, KnowsPeers, named, Knows, Runs, Stops, HasRead, facts_in, stood}
+use Rattle.css_drive_relay.specs.Standing.{Stands, IsAt, Comes, HangsUp, Keeps, listening, Came}
 use Rattle.css_model.specs.declared.Why.{Why}
 use Rattle.css_model.specs.Explains.{IsLawful}
 use Rattle.css_outside.specs.Outsides.{Counts, with_entries, clock_entries, sleep_entries}
 use Rattle.css_outside.specs.declared.calls.Clocked.{Clocked}
 use Rattle.css_relay.specs.Relays.{Relay}
-use Rattle.css_drive.specs.CompanionStanding.{Shown, Adds, Fails, asked_after, HasDialled, IsCut}
+use Rattle.css_drive.specs.CompanionStanding.{Shown, Adds, Fails, asked_after, HasDialled, IsCut, dial_entries}
 use Rattle.css_drive.specs.Ends.{MayEnd, IsNetFault, CountsNetFault, CountsDialFaults}
-use Rattle.css_drive.specs.Proper.{Due, Now, MayAdd, More, Dial, HangUp, Ends, Listen, Empty}
+use Rattle.css_drive.specs.Proper.{Due, Now, MayAdd, More, Dial, Ends, Empty}
 use Rattle.css_drive.specs.declared.driven.Driven.{Driven}
-use Rattle.css_drive.proofs.CompanionSteps.{none_if, told_more, counts_same, fault_ends, own_kind}
-use Rattle.css_drive_relay.specs.Due.{due, due_at, due_for, from_wc, from_ask, final, from_hang_ups}
+use Rattle.css_drive.proofs.CompanionSteps.{told_more, counts_same, fault_ends, at_err}
+use Rattle.css_drive_relay.specs.Due.{due, due_at, due_for, final, from_hang_ups}
 use Rattle.css_drive_relay.specs.declared.live.Live.{Live}
 use Rattle.css_drive_relay.specs.declared.config.RelayRun.{RelayRun}
 use Rattle.css_cii.specs.declared.name.CiiName.TheVariants.{WcUrl}
@@ -41,8 +43,6 @@ use Rattle.css_outside.specs.Faults.{HasRisen}
 use Rattle.css_drive.specs.CompanionTurns.{goes_on, is_late}
 use Rattle.css_drive.proofs.CompanionEnds.{never_late}
 use Rattle.css_drive.proofs.CompanionRuns.{no_entries}
-use Rattle.css_drive.proofs.TvLines.{peers_all}
-use Rattle.css_drive.proofs.TvOpens.{peer_from}
 use Rattle.css_outside.specs.Limits.{IsLimit, most_turns}
 use Rattle.css_outside.specs.declared.limit.Limit.{Limit}
 use Rattle.css_outside.specs.declared.limit.Limit.TheVariants.{Turns, Seconds}
@@ -83,6 +83,26 @@ unused n (Dialled k q ∷ older) peer o le =
 unused n (Accepted q k ∷ older) peer o le = let lt = o.0 in unused q older peer o.1 (omega (arith, lt, le))
 unused n (_ ∷ older) peer o le = unused n older peer o le
 
+-- one that was accepted was not dialled
+came_below : (n : ℕ) (h : History) (peer : ℕ) → AreInOrder n h → Came h peer → peer < n
+came_below n [] peer o c = absurd c
+came_below n (Dialled k q ∷ older) peer o c = let lt = o.0 in let less = came_below q older peer o.1 c in
+    omega (arith, lt, less)
+came_below n (Accepted q k ∷ older) peer o (inl e) = let lt = o.0 in omega (arith, lt, e)
+came_below n (Accepted q k ∷ older) peer o (inr c) = let lt = o.0 in let less = came_below q older peer o.1 c in
+    omega (arith, lt, less)
+came_below n (_ ∷ older) peer o c = came_below n older peer o c
+
+pub undialled : (n : ℕ) (h : History) (peer : ℕ) → AreInOrder n h → Came h peer → kind_of peer h ≡ None
+undialled n [] peer o c = refl
+undialled n (Dialled k q ∷ older) peer o c =
+    let less = came_below q older peer o.1 c in
+    ap (λ b. option_or (cond b (Some k) None) (kind_of peer older)) (ne_eqb q peer (λ e. omega (arith, less, e)))
+    ∙ undialled q older peer o.1 c
+undialled n (Accepted q k ∷ older) peer o (inl e) = unused q older peer o.1 (omega (arith, e))
+undialled n (Accepted q k ∷ older) peer o (inr c) = undialled q older peer o.1 c
+undialled n (_ ∷ older) peer o c = undialled n older peer o c
+
 -- ---- sessions that places name
 module _ (P : ℕ → Type 0) where
   pub all_next : (o : Option ℕ) (peers : List ℕ) → All P peers → All P (named (next_asked o peers))
@@ -98,56 +118,7 @@ module _ (P : ℕ → Type 0) where
   all_telling_if (Some text) f peers = all_telling text f.peers f peers peers
 
   pub all_without : (peer : ℕ) (peers : List ℕ) → All P peers → All P (without peer peers)
-  all_without peer peers all = All-filter (λ other. not (other == peer)) P peers all
-
-  pub snoc : (peer : ℕ) (peers : List ℕ) → All P peers → P peer → All P (peers ++ peer ∷ [])
-  snoc peer [] all is = All-cons P peer [] is (All-nil P)
-  snoc peer (p ∷ ps) all is =
-      All-cons P p (ps ++ peer ∷ []) (All-head P p ps all) (snoc peer ps (All-tail P p ps all) is)
-
-  module _ (R : ℕ → Type 0) (later : (peer : ℕ) → P peer → R peer) where
-    all_later : (peers : List ℕ) → All P peers → All R peers
-    all_later [] all = All-nil R
-    all_later (p ∷ ps) all = All-cons R p ps (later p (All-head P p ps all)) (all_later ps (All-tail P p ps all))
-
-    if_later : (o : Option ℕ) → IfSome o P → IfSome o R
-    if_later None is = tt
-    if_later (Some p) is = later p is
-
--- ---- greater numbers
-module _ (n m : ℕ) (history : History) (le : n ≤ m) where
-  peer_later : (k : Option Kind) (peer : ℕ) → IsPeer n history k peer → IsPeer m history k peer
-  peer_later k peer is = let lt = is.0 in (omega (arith, lt, le), is.1)
-
-  pub peers_later : (p : Progress) → KnowsPeers n p history → KnowsPeers m p history
-  peers_later p x = (
-    all_later (IsPeer n history None) (IsPeer m history None) (peer_later None) p.facts.peers x.0,
-    all_later (IsPeer n history None) (IsPeer m history None) (peer_later None) (named p.place) x.1,
-    if_later (IsPeer n history (Some kind.Cii)) (IsPeer m history (Some kind.Cii)) (peer_later (Some kind.Cii))
-        p.facts.television x.2,
-    in_order_later n m history x.3 le,
-  )
-
--- a dial gave this peer, which no other has
-module _ (n m q : ℕ) (k : Kind) (history : History) (le : n ≤ q) (lt : q < m) where
-  peer_dialled : (which : Option Kind) (peer : ℕ) → IsPeer n history which peer
-      → IsPeer m (Dialled k q ∷ history) which peer
-  peer_dialled which peer is =
-      let less = is.0 in (
-        omega (arith, lt, le, less),
-        ap (λ b. option_or (cond b (Some k) None) (kind_of peer history))
-            (ne_eqb q peer (λ e. omega (arith, less, le, e))) ∙ is.1,
-      )
-
-  pub all_dialled : (peers : List ℕ) → All (IsPeer n history None) peers
-      → All (IsPeer m (Dialled k q ∷ history) None) peers
-  all_dialled = all_later (IsPeer n history None) (IsPeer m (Dialled k q ∷ history) None) (peer_dialled None)
-
-  pub television_dialled : (o : Option ℕ) → IfSome o (IsPeer n history (Some kind.Cii))
-      → IfSome o (IsPeer m (Dialled k q ∷ history) (Some kind.Cii))
-  television_dialled =
-      if_later (IsPeer n history (Some kind.Cii)) (IsPeer m (Dialled k q ∷ history) (Some kind.Cii))
-      (peer_dialled (Some kind.Cii))
+  all_without peer = All-filter (λ other. not (other == peer)) P
 
 -- ---- order
 -- a peer is added before the first greater one
@@ -179,136 +150,46 @@ knows_plain {run} {relay} {history} k entry awake asks sends lands cii ts end = 
 pub lawful : {run : RelayRun} {relay : Relay} {history : History} → Knows run relay history → IsLawful history
 lawful k = k.stands.client.lawful
 
--- the clock was read, and not for a request or a landing
-pub knows_clock : {run : RelayRun} {relay : Relay} (clocked : Clocked) (history : History) (w : Why)
-    → asking_at (Clock w clocked.reading) ≡ None
-    → ((older : History) → landed_answer (Clock w clocked.reading) older ≡ None)
-    → Knows run relay (sleep_entries clocked.slept ++ history) → Knows run relay (clock_entries w clocked ++ history)
-knows_clock clocked history w asks lands k =
-    knows_plain k (Clock w clocked.reading) refl asks refl (lands _) refl refl refl
+-- entries that tell it nothing, and bring no peer
+abbrev pub IsAside : History → Entry → Type 0
+IsAside h Slept = ⊥
+IsAside h (Clock why.Ask reading) = ⊥
+IsAside h (Clock why.Land reading) = ⊥
+IsAside h (Dialled k peer) = ⊥
+IsAside h (Accepted peer k) = ⊥
+IsAside h (Sent peer bytes) = request_in bytes ≡ None
+IsAside h (Heard peer bytes) = kind_of peer h ≡ None
+IsAside h (Closed peer) = is_ts (kind_of peer h) ≡ false
+IsAside h (Gone peer) = is_ts (kind_of peer h) ≡ false
+IsAside h _ = Unit {0}
 
--- ---- steps, one after another
--- a step begins where the one before it came to, at a place or where this is due
-module _ {run : RelayRun} {start now : Shown} {relay : Relay} {live : Live} {Next : Type 0} where
-  pub on_at : {place : Place} → IsAt run start now relay live place
-      → ((history : History) → Stands run start now relay (stood live place) history → Next) → Next
-  on_at x next = next x.history x.stands
+module _ {run : RelayRun} {relay : Relay} {history : History} (k : Knows run relay history) where
+  pub aside : (entry : Entry) → IsAside history entry → Knows run relay (entry ∷ history)
+  aside Slept is = absurd is
+  aside (Clock why.Ask reading) is = absurd is
+  aside (Clock why.Land reading) is = absurd is
+  aside (Dialled kind peer) is = absurd is
+  aside (Accepted peer kind) is = absurd is
+  aside (Sent peer bytes) is =
+      knows_plain k (Sent peer bytes) refl refl (ap (λ (o : Option Message). option_map (λ message. message.originate) o)
+      is) refl refl refl refl
+  aside (Heard peer bytes) is =
+      knows_plain k (Heard peer bytes) refl refl refl refl (ap (λ o. cond (is_cii o) (Some bytes) None) is)
+      (ap (λ o. cond (is_ts o) (Some bytes) None) is) refl
+  aside (Closed peer) is = knows_plain k (Closed peer) refl refl refl refl refl refl is
+  aside (Gone peer) is = knows_plain k (Gone peer) refl refl refl refl refl refl is
+  aside entry is = knows_plain k entry refl refl refl refl refl refl refl
 
-  pub on_from : {to : Facts → History → Due} → Comes run start now relay live to
-      → ((history : History) (place : Place) → Stands run start now relay (stood live place) history
-      → due_at run (facts_in live) history place ≡ to (facts_in live) history → Next) → Next
-  on_from x next = next x.history x.place x.stands x.next
+still : (n : ℕ) (h : History) (entry : Entry) → IsAside h entry → AreInOrder n h → AreInOrder n (entry ∷ h)
+still n h (Dialled k peer) is o = absurd is
+still n h (Accepted peer k) is o = absurd is
+still n h entry is o = o
 
--- ---- a call that is due
--- the run came to a place, as the variables say it
-pub here : {run : RelayRun} {start now : Shown} {relay : Relay} {live : Live} {place : Place} {history : History}
-    → Stands run start now relay (stood live place) history → IsAt run start now relay live place
-here {history = history} s = record { history = history; stands = s }
-
-pub here_as : {run : RelayRun} {start now : Shown} {relay : Relay} {history : History} (live : Live) (f : Facts)
-    (to : Facts → Place) → Stands run start now relay (record { facts = f; place = to f }) history → facts_in live ≡ f
-    → IsAt run start now relay live (to (facts_in live))
-here_as {run} {start} {now} {relay} {history} live f to s e =
-    here (subst (λ (x : Facts). Stands run start now relay (record { facts = x; place = to x }) history) (sym e) s)
-
-pub due_now : {run : RelayRun} {start now : Shown} {p : Progress} {history : History}
-    → Runs run start now p history → due run history ≡ due_for run history p
-due_now {run} {history = history} s = ap (due_for run history) s.progress
-
-module _ {run : RelayRun} {start now next : Shown} {p : Progress} {history : History} where
-  -- its entries are added
-  pub runs_more : Runs run start now p history → (d : Due) → due_for run history p ≡ d → (call : History)
-      → MayAdd d call → next.told ≡ with_entries call now.told → next.counts.faults ≡ now.counts.faults
-      → (q : Progress) → progress_of run (call ++ history) ≡ q
-      → KnowsPeers (next.counts.peers + 1) q (call ++ history) → Runs run start next q (call ++ history)
-  runs_more s d is-due call may told faults q progress peers = record {
-    told = told_more start.told now.told next.told call history s.told told;
-    faults = faults ∙ s.faults;
-    proper = More call (subst (λ (x : Due). MayAdd x call) (sym (due_now s ∙ is-due)) may) s.proper;
-    progress = progress;
-    peers = peers;
-    numbered = numbered (next.counts.peers + 1) (call ++ history) peers.3;
-  }
-
-  -- one entry is added
-  pub runs_on : Runs run start now p history → (d : Due) → due_for run history p ≡ d → (entry : Entry)
-      → MayAdd d (entry ∷ []) → Adds now next (entry ∷ [])
-      → ((n : ℕ) → KnowsPeers n p history → KnowsPeers n (after run entry history p) (entry ∷ history))
-      → Runs run start next (after run entry history p) (entry ∷ history)
-  runs_on s d is-due entry may a peers =
-      runs_more s d is-due (entry ∷ []) may a.told (ap {A = Counts} (λ x. x.faults) a.same)
-      (after run entry history p) (ap (after run entry history) s.progress)
-      (subst (λ (x : Counts). KnowsPeers (x.peers + 1) (after run entry history p) (entry ∷ history)) (sym a.same)
-      (peers (now.counts.peers + 1) s.peers))
-
-  -- and it tells the relay nothing
-  pub stands_on : {relay : Relay} → Stands run start now relay p history → (d : Due) → due_for run history p ≡ d
-      → (entry : Entry) → MayAdd d (entry ∷ []) → Adds now next (entry ∷ [])
-      → (Knows run relay history → Knows run relay (entry ∷ history))
-      → ((n : ℕ) → KnowsPeers n p history → KnowsPeers n (after run entry history p) (entry ∷ history))
-      → Stands run start next relay (after run entry history p) (entry ∷ history)
-  stands_on s d is-due entry may a known peers =
-      record { runs = runs_on s.runs d is-due entry may a peers; knows = known s.knows }
-
--- the same, seen as another progress
-pub runs_as : {run : RelayRun} {start now : Shown} {p : Progress} {history : History}
-    → Runs run start now p history → (q : Progress) → p ≡ q → Runs run start now q history
-runs_as {run} {start} {now} {history = history} s q e = subst (λ x. Runs run start now x history) e s
-
-pub stands_as : {run : RelayRun} {start now : Shown} {relay : Relay} {p : Progress} {history : History}
-    → Stands run start now relay p history → (q : Progress) → p ≡ q → Stands run start now relay q history
-stands_as s q e = record { runs = runs_as s.runs q e; knows = s.knows }
-
--- ---- the clock
--- at a place that names no session
-pub runs_read : {run : RelayRun} {start now next : Shown} {live later : Live} {place : Place} {history : History}
-    {was is : Relay} → Runs run start now (stood live place) history → (w : Why)
-    → due_at run (facts_in live) history place ≡ Now w → (clocked : Clocked)
-    → HasRead now next live later was is w clocked → (q : Progress)
-    → after run (Clock w clocked.reading) (sleep_entries clocked.slept ++ history) (stood later place) ≡ q
-    → q.facts.peers ≡ later.peers.items → q.facts.television ≡ later.television → named q.place ≡ []
-    → Runs run start next q (clock_entries w clocked ++ history)
-runs_read {run} {start} {now} {next} {live} {later} {place} {history} s w is-due clocked r q goes sessions tv none =
-    runs_more s (Now w) is-due (clock_entries w clocked) (clocked, refl) r.told r.faults q
-    (by clocked.slept s.progress
-    ∙ ap (λ (f : Facts). after run (Clock w clocked.reading) (sleep_entries clocked.slept ++ history)
-    (record { facts = f; place = place })) (sym r.only) ∙ goes)
-    (known clocked.slept (subst (λ (n : ℕ). KnowsPeers (n + 1) (stood live place) history) (sym r.peers) s.peers))
-  where
-    by : (slept : Bool) → progress_of run history ≡ stood live place
-        → progress_of run (clock_entries w (record { reading = clocked.reading; slept = slept }) ++ history)
-        ≡ after run (Clock w clocked.reading) (sleep_entries slept ++ history)
-        (record { facts = record (facts_in live) { asked = asked_after slept live.asked }; place = place })
-    by true e = ap (λ (x : Progress). after run (Clock w clocked.reading) (Slept ∷ history)
-        (record { facts = record x.facts { asked = None }; place = x.place })) e
-    by false e = ap (after run (Clock w clocked.reading) history) e
-
-    P : ℕ → Type 0
-    P = IsPeer (next.counts.peers + 1) history None
-
-    Q : ℕ → Type 0
-    Q = IsPeer (next.counts.peers + 1) history (Some kind.Cii)
-
-    now_known : KnowsPeers (next.counts.peers + 1) (stood live place) history
-        → All P q.facts.peers × All P (named q.place) × IfSome q.facts.television Q
-    now_known x = (
-      subst (λ (xs : List ℕ). All P xs) (sym (sessions ∙ ap {A = Facts} (λ f. f.peers) r.only)) x.0,
-      subst (λ (xs : List ℕ). All P xs) (sym none) (All-nil P),
-      subst (λ (o : Option ℕ). IfSome o Q) (sym (tv ∙ ap {A = Facts} (λ f. f.television) r.only)) x.2,
-    )
-
-    known : (slept : Bool) → KnowsPeers (next.counts.peers + 1) (stood live place) history
-        → KnowsPeers (next.counts.peers + 1) q
-        (clock_entries w (record { reading = clocked.reading; slept = slept }) ++ history)
-    known true x = let y = now_known x in (y.0, y.1, y.2, x.3)
-    known false x = let y = now_known x in (y.0, y.1, y.2, x.3)
-
--- ---- ends
+-- ---- a fault
 -- a call of the outside failed, so the run ends
-pub stops_by_fault : {run : RelayRun} {start now : Shown} {p : Progress} {history : History}
-    → Runs run start now p history → IsLawful history → (next : Shown) (ended : Driven) → Fails now next None ended
-    → Stops run start next ended
-stops_by_fault {run} {start} {now} {history = history} s l next ended f =
+pub stops_by_fault : {run : RelayRun} {start now next : Shown} {p : Progress} {history : History} {ended : Driven}
+    → Runs run start now p history → IsLawful history → Fails now next None ended → Stops run start next ended
+stops_by_fault {run} {start} {now} {next} {history = history} {ended} s l f =
     let P : ℕ → Type 0 = λ n. CountsNetFault n next.counts.faults ended in
     record {
       history = history;
@@ -320,6 +201,142 @@ stops_by_fault {run} {start} {now} {history = history} s l next ended f =
       ends = fault_ends (due run history) ended f.end;
     }
 
+-- and a `?` ends the function
+pub failed : {T : Type 0} (P : T → Type 0) (result : Result T Driven) {run : RelayRun} {start now next : Shown}
+    {relay : Relay} {p : Progress} {history : History} {ended : Driven} → IsErrAnd result (λ x. x ≡ ended)
+    → Stands run start now relay p history → Fails now next None ended → MatchResult result P (Stops run start next)
+failed P result is s f = at_err P _ _ result is (stops_by_fault s.runs (lawful s.knows) f)
+
+-- ---- steps, one after another
+-- a step begins where the one before it came to, at a place or where this is due
+module _ {run : RelayRun} {start now : Shown} {relay : Relay} {Next : Type 0} where
+  pub on_at : {p : Progress} → IsAt run start now relay p
+      → ((history : History) → Stands run start now relay p history → Next) → Next
+  on_at x next = next x.history x.stands
+
+  pub on_from : {live : Live} {to : Facts → History → Due} → Comes run start now relay live to
+      → ((history : History) (place : Place) → Stands run start now relay (stood live place) history
+      → due_at run (facts_in live) history place ≡ to (facts_in live) history → Next) → Next
+  on_from x next = next x.history x.place x.stands x.next
+
+-- ---- a call that is due
+-- the run came so far, as the variables say it
+pub here : {run : RelayRun} {start now : Shown} {relay : Relay} {p : Progress} {history : History}
+    → Stands run start now relay p history → IsAt run start now relay p
+here {history = history} s = record { history = history; stands = s }
+
+pub here_as : {run : RelayRun} {start now : Shown} {relay : Relay} {history : History} {f g : Facts}
+    (to : Facts → Place) → f ≡ g → Stands run start now relay (record { facts = g; place = to g }) history
+    → IsAt run start now relay (record { facts = f; place = to f })
+here_as {run} {start} {now} {relay} {history} to e s =
+    here (subst (λ (x : Facts). Stands run start now relay (record { facts = x; place = to x }) history) (sym e) s)
+
+-- the same, seen as another progress
+pub runs_as : {run : RelayRun} {start now : Shown} {p : Progress} {history : History}
+    → Runs run start now p history → (q : Progress) → p ≡ q → Runs run start now q history
+runs_as {run} {start} {now} {history = history} s q e = subst (λ x. Runs run start now x history) e s
+
+pub stands_as : {run : RelayRun} {start now : Shown} {relay : Relay} {p : Progress} {history : History}
+    → Stands run start now relay p history → (q : Progress) → p ≡ q → Stands run start now relay q history
+stands_as s q e = record { runs = runs_as s.runs q e; knows = s.knows }
+
+pub may_as : {d e : Due} → d ≡ e → (call : History) → MayAdd e call → MayAdd d call
+may_as is call = subst (λ (x : Due). MayAdd x call) (sym is)
+
+module _ {run : RelayRun} {start now next : Shown} {p : Progress} {history : History} where
+  -- its entries are added
+  pub runs_more : Runs run start now p history → (call : History) → MayAdd (due_for run history p) call
+      → next.told ≡ with_entries call now.told → next.counts.faults ≡ now.counts.faults
+      → (q : Progress) → progress_of run (call ++ history) ≡ q → KnowsPeers q (call ++ history)
+      → AreInOrder (next.counts.peers + 1) (call ++ history) → Runs run start next q (call ++ history)
+  runs_more s call may told faults q progress peers ordered = record {
+    told = told_more start.told now.told next.told call history s.told told;
+    faults = faults ∙ s.faults;
+    proper = More call (may_as (ap (due_for run history) s.progress) call may) s.proper;
+    progress = progress;
+    peers = peers;
+    ordered = ordered;
+    numbered = numbered (next.counts.peers + 1) (call ++ history) ordered;
+  }
+
+  -- one entry is added
+  pub runs_on : Runs run start now p history → (entry : Entry) → MayAdd (due_for run history p) (entry ∷ [])
+      → (AreInOrder (now.counts.peers + 1) history → AreInOrder (now.counts.peers + 1) (entry ∷ history))
+      → (KnowsPeers p history → KnowsPeers (after run entry history p) (entry ∷ history)) → Adds now next (entry ∷ [])
+      → Runs run start next (after run entry history p) (entry ∷ history)
+  runs_on s entry may in_order peers a =
+      runs_more s (entry ∷ []) may a.told (ap {A = Counts} (λ x. x.faults) a.same) (after run entry history p)
+      (ap (after run entry history) s.progress) (peers s.peers)
+      (subst (λ (x : Counts). AreInOrder (x.peers + 1) (entry ∷ history)) (sym a.same) (in_order s.ordered))
+
+module _ {run : RelayRun} {start now : Shown} {relay : Relay} {p : Progress} {history : History}
+    (s : Stands run start now relay p history) (entry : Entry) (may : MayAdd (due_for run history p) (entry ∷ []))
+    (is : IsAside history entry)
+    (peers : KnowsPeers p history → KnowsPeers (after run entry history p) (entry ∷ history)) where
+  -- and it tells the relay nothing
+  pub stands_on : {next : Shown} → Adds now next (entry ∷ [])
+      → Stands run start next relay (after run entry history p) (entry ∷ history)
+  stands_on a = record {
+    runs = runs_on s.runs entry may (still (now.counts.peers + 1) history entry is) peers a;
+    knows = aside s.knows entry is;
+  }
+
+  -- or the call failed, and a function ends with it
+  pub made : (next : Shown) (result : Result (Unit {0}) Driven)
+      → MatchResult result (λ _. Adds now next (entry ∷ [])) (Fails now next None)
+      → MatchResult result (λ _. IsAt run start next relay (after run entry history p)) (Stops run start next)
+  made next (Ok done) a = here (stands_on a)
+  made next (Err ended) f = stops_by_fault s.runs (lawful s.knows) f
+
+-- ---- the clock
+module _ {run : RelayRun} {start now next : Shown} {live later : Live} {place : Place} {history : History}
+    {was is : Relay} {w : Why} {clocked : Clocked} where
+  pub runs_read : Runs run start now (stood live place) history → due_at run (facts_in live) history place ≡ Now w
+      → HasRead now next live later was is w clocked → (q : Progress)
+      → after_clock run w clocked.reading (sleep_entries clocked.slept ++ history) (stood later place) ≡ q
+      → (KnowsPeers (stood later place) history → KnowsPeers q history)
+      → Runs run start next q (clock_entries w clocked ++ history)
+  runs_read s is-due r q goes peers =
+      runs_more s (clock_entries w clocked) (may_as is-due (clock_entries w clocked) (clocked, refl)) r.told r.faults q
+      (by clocked.slept ∙ ap (λ (f : Facts). after_clock run w clocked.reading (sleep_entries clocked.slept ++ history)
+      (record { facts = f; place = place })) (sym r.only) ∙ goes)
+      (known clocked.slept (peers (subst (λ (f : Facts). KnowsPeers (record { facts = f; place = place }) history)
+      (sym r.only) s.peers)))
+      (in_order clocked.slept (subst (λ (n : ℕ). AreInOrder (n + 1) history) (sym r.peers) s.ordered))
+    where
+      entries : Bool → History
+      entries slept = clock_entries w (record { reading = clocked.reading; slept = slept }) ++ history
+
+      by : (slept : Bool) → progress_of run (entries slept)
+          ≡ after_clock run w clocked.reading (sleep_entries slept ++ history)
+          (record { facts = record (facts_in live) { asked = asked_after slept live.asked }; place = place })
+      by true = ap (λ (x : Progress). after_clock run w clocked.reading (Slept ∷ history)
+          (record { facts = record x.facts { asked = None }; place = x.place })) s.progress
+      by false = ap (after_clock run w clocked.reading history) s.progress
+
+      known : (slept : Bool) → KnowsPeers q history → KnowsPeers q (entries slept)
+      known true x = x
+      known false x = x
+
+      in_order : (slept : Bool) → AreInOrder (next.counts.peers + 1) history
+          → AreInOrder (next.counts.peers + 1) (entries slept)
+      in_order true o = o
+      in_order false o = o
+
+  -- and neither for a request nor for a landing
+  pub stands_read : Stands run start now was (stood live place) history
+      → due_at run (facts_in live) history place ≡ Now w
+      → IsAside (sleep_entries clocked.slept ++ history) (Clock w clocked.reading)
+      → HasRead now next live later was is w clocked → (q : Progress)
+      → after_clock run w clocked.reading (sleep_entries clocked.slept ++ history) (stood later place) ≡ q
+      → (KnowsPeers (stood later place) history → KnowsPeers q history)
+      → Stands run start next is q (clock_entries w clocked ++ history)
+  stands_read s is-due none r q goes peers = record {
+    runs = runs_read s.runs is-due r q goes peers;
+    knows = aside (r.known run history s.knows) (Clock w clocked.reading) none;
+  }
+
+-- ---- ends
 -- the end is due, or memory is wanting
 pub stops_here : {run : RelayRun} {start now : Shown} {p : Progress} {history : History}
     → Runs run start now p history → IsLawful history → (ended : Driven) → (IsNetFault ended → ⊥)
@@ -333,7 +350,7 @@ stops_here {run} {start} {now} {history = history} s l ended never ends =
       proper = s.proper;
       lawful = l;
       numbered = s.numbered;
-      ends = subst P (sym (due_now s)) ends;
+      ends = subst P (sym (ap (due_for run history) s.progress)) ends;
     }
 
 pub stops_by_memory : {run : RelayRun} {start now : Shown} {p : Progress} {history : History}
@@ -374,93 +391,60 @@ comes {history = history} {place = place} s to next =
     record { history = history; place = place; stands = s; next = next }
 
 -- ---- dials
-module _ (live : Live) {run : RelayRun} {start now next : Shown} {relay : Relay} {history : History} {at : Place}
-    (s : Stands run start now relay (stood live at) history) (k : Kind) (to : Address)
-    (is-due : due_at run (facts_in live) history at ≡ Dial k to) where
-  -- a dial failed
-  dial_failed : HasDialled now next k to None
-      → Stands run start next relay (stood live (Called k)) (NotDialled k ∷ Dialling k to ∷ history)
-  dial_failed d = record {
-    runs = runs_more s.runs (Dial k to) is-due (NotDialled k ∷ Dialling k to ∷ []) (inr refl) d.told d.faults
-        (stood live (Called k))
+-- how far the run is then
+abbrev pub called : Kind → Option ℕ → Facts → Progress
+called k None f = record { facts = f; place = Called k }
+called k (Some peer) f = record { facts = after_dial k peer f; place = Called k }
+
+module _ (live : Live) {run : RelayRun} {start now : Shown} {relay : Relay} {history : History} {at : Place}
+    (s : Stands run start now relay (stood live at) history) where
+  -- a dial gave this peer, which no other has
+  knows_dialled : (k : Kind) (q : ℕ) → now.counts.peers < q → opens_ts (Dialled k q) ≡ false
+      → KnowsPeers (called k (Some q) (facts_in live)) (Dialled k q ∷ history)
+  knows_dialled kind.Cii q lt opens = (
+    s.runs.peers.0,
+    All-nil (Came history),
+    ap (λ b. option_or (cond b (Some kind.Cii) None) (kind_of q history)) (eq-eqb q q refl),
+  )
+  knows_dialled kind.Wc q lt opens = (
+    s.runs.peers.0,
+    All-nil (Came history),
+    IfSome_then live.television s.runs.peers.2 (λ peer is.
+        ap (λ b. option_or (cond b (Some kind.Wc) None) (kind_of peer history)) (ne_eqb q peer (λ e.
+        let none = unused (now.counts.peers + 1) history peer s.runs.ordered (omega (arith, lt, e)) in absurd (cc))) ∙ is),
+  )
+  knows_dialled kind.Ts q lt opens = absurd (cc)
+
+  pub dialled : {next : Shown} (k : Kind) (to : Address) → due_at run (facts_in live) history at ≡ Dial k to
+      → ((q : ℕ) → opens_ts (Dialled k q) ≡ false) → (tried : Option ℕ) → HasDialled now next k to tried
+      → Stands run start next relay (called k tried (facts_in live)) (dial_entries k to tried ++ history)
+  dialled {next} k to is-due opens None d = record {
+    runs = runs_more s.runs (NotDialled k ∷ Dialling k to ∷ []) (may_as is-due (NotDialled k ∷ Dialling k to ∷ [])
+        (inr refl)) d.told d.faults (called k None (facts_in live))
         (ap (λ (p : Progress). after run (NotDialled k) (Dialling k to ∷ history) p) s.runs.progress)
-        (let later = d.later in
-        let x = peers_later (now.counts.peers + 1) (next.counts.peers + 1) history (omega (arith, later))
-        (stood live at) s.runs.peers in
-        (x.0, All-nil (IsPeer (next.counts.peers + 1) (NotDialled k ∷ Dialling k to ∷ history) None), x.2, x.3));
-    knows = knows_plain (knows_plain s.knows (Dialling k to) refl refl refl refl refl refl refl) (NotDialled k) refl
-        refl refl refl refl refl refl;
+        (s.runs.peers.0, All-nil (Came history), s.runs.peers.2)
+        (let later = d.later in in_order_later _ (next.counts.peers + 1) history s.runs.ordered (omega (arith, later)));
+    knows = aside (aside s.knows (Dialling k to) tt) (NotDialled k) tt;
   }
+  dialled {next} k to is-due opens (Some q) d =
+      let lt = d.peer.0 in
+      let le = d.peer.1 in
+      record {
+        runs = runs_more s.runs (Dialled k q ∷ Dialling k to ∷ []) (may_as is-due (Dialled k q ∷ Dialling k to ∷ [])
+            (inl (q, refl))) d.told d.faults (called k (Some q) (facts_in live))
+            (ap (λ (p : Progress). after run (Dialled k q) (Dialling k to ∷ history) p) s.runs.progress)
+            (knows_dialled k q (omega (arith, lt)) (opens q))
+            (omega (arith, le), in_order_later _ q history s.runs.ordered (omega (arith, lt)));
+        knows = knows_plain (aside s.knows (Dialling k to) tt) (Dialled k q) refl refl refl refl refl refl
+            (ap (λ b. b || false) (opens q));
+      }
 
-  -- or it gave a peer
-  dial_made : (q : ℕ) → HasDialled now next k to (Some q) → (opens_ts (Dialled k q) || false) ≡ false → (f : Facts)
-      → after_dial k q (facts_in live) ≡ f → f.peers ≡ live.peers.items
-      → IfSome f.television (IsPeer (next.counts.peers + 1) (Dialled k q ∷ history) (Some kind.Cii))
-      → Stands run start next relay (record { facts = f; place = Called k }) (Dialled k q ∷ Dialling k to ∷ history)
-  dial_made q d opens f is sessions tv = record {
-    runs = runs_more s.runs (Dial k to) is-due (Dialled k q ∷ Dialling k to ∷ []) (inl (q, refl)) d.told d.faults
-        (record { facts = f; place = Called k })
-        (ap (λ (p : Progress). after run (Dialled k q) (Dialling k to ∷ history) p) s.runs.progress
-        ∙ ap (λ (x : Facts). record { facts = x; place = Called k }) is)
-        (let lt = d.peer.0 in
-        let le = d.peer.1 in
-        let x = s.runs.peers in (
-          subst (λ (xs : List ℕ). All (IsPeer (next.counts.peers + 1) (Dialled k q ∷ history) None) xs) (sym sessions)
-              (all_dialled (now.counts.peers + 1) (next.counts.peers + 1) q k history (omega (arith, lt))
-              (omega (arith, le)) live.peers.items x.0),
-          All-nil (IsPeer (next.counts.peers + 1) (Dialled k q ∷ history) None),
-          tv,
-          (omega (arith, le), in_order_later (now.counts.peers + 1) q history x.3 (omega (arith, lt))),
-        ));
-    knows = knows_plain (knows_plain s.knows (Dialling k to) refl refl refl refl refl refl refl) (Dialled k q) refl
-        refl refl refl refl refl opens;
-  }
-
-module _ (live : Live) {run : RelayRun} {start now : Shown} {relay : Relay} {history : History} where
-  -- ---- CSS-CII
-  pub cii_dialled : Stands run start now relay (stood live Begun) history → is_some live.cii ≡ false
-      → (next : Shown) (q : ℕ) → HasDialled now next kind.Cii run.cii (Some q) → (later : Live)
-      → facts_in later ≡ record (facts_in live) { cii = Some q; television = Some q }
-      → Comes run start next relay later (from_wc run)
-  cii_dialled s none next q d later e =
-      comes {place = Called kind.Cii}
-      (dial_made live s kind.Cii run.cii (first_made live.cii run.cii (from_wc run (facts_in live) history) none) q d
-      refl (facts_in later) (sym e) (ap {A = Facts} (λ x. x.peers) e)
-      (subst (λ (o : Option ℕ). IfSome o (IsPeer (next.counts.peers + 1) (Dialled kind.Cii q ∷ history)
-      (Some kind.Cii))) (sym (ap {A = Facts} (λ x. x.television) e))
-      (let le = d.peer.1 in (omega (arith, le), own_kind q kind.Cii run.cii history)))) (from_wc run) refl
-
-  pub cii_not_dialled : Stands run start now relay (stood live Begun) history → is_some live.cii ≡ false
-      → (next : Shown) → HasDialled now next kind.Cii run.cii None → Comes run start next relay live (from_wc run)
-  cii_not_dialled s none next d =
-      comes {place = Called kind.Cii}
-      (dial_failed live s kind.Cii run.cii (first_made live.cii run.cii (from_wc run (facts_in live) history) none) d)
-      (from_wc run) refl
-
-  -- ---- the wall clock
-  module _ {at : Place} (s : Stands run start now relay (stood live at) history)
-      (is-due : due_at run (facts_in live) history at ≡ from_wc run (facts_in live) history)
-      (none : is_some live.wc ≡ false) where
-    pub wc_dialled : (to : Address) → place kind.Wc (state_of history).wc_url ≡ Some (Ok to)
-        → (next : Shown) (tried : Option ℕ) → HasDialled now next kind.Wc to tried → (later : Live)
-        → facts_in later ≡ record (facts_in live) { wc = tried } → Comes run start next relay later (from_ask run)
-    wc_dialled to found next None d later e =
-        comes {place = Called kind.Wc}
-        (stands_as (dial_failed live s kind.Wc to
-        (is-due ∙ wc_made live.wc _ _ (from_ask run (facts_in live) history) none found) d)
-        (stood later (Called kind.Wc)) (ap (λ (f : Facts). record { facts = f; place = Called kind.Wc })
-        (ap {A = Option ℕ} {B = Facts} (λ o. record (facts_in live) { wc = o }) (none_if live.wc none) ∙ sym e)))
-        (from_ask run) refl
-    wc_dialled to found next (Some q) d later e =
-        comes {place = Called kind.Wc}
-        (dial_made live s kind.Wc to (is-due ∙ wc_made live.wc _ _ (from_ask run (facts_in live) history) none found)
-        q d refl (facts_in later) (sym e) (ap {A = Facts} (λ x. x.peers) e)
-        (let lt = d.peer.0 in
-        let le = d.peer.1 in
-        subst (λ (o : Option ℕ). IfSome o (IsPeer (next.counts.peers + 1) (Dialled kind.Wc q ∷ history)
-        (Some kind.Cii))) (sym (ap {A = Facts} (λ x. x.television) e))
-        (television_dialled (now.counts.peers + 1) (next.counts.peers + 1) q kind.Wc history (omega (arith, lt))
-        (omega (arith, le)) live.television s.runs.peers.2))) (from_ask run) refl
+-- the variables, where the wall clock was not dialled before
+pub wc_called : (tried : Option ℕ) (f : Facts) → f.wc ≡ None
+    → called kind.Wc tried f ≡ record { facts = record f { wc = tried }; place = Called kind.Wc }
+wc_called None f none =
+    ap {A = Option ℕ} {B = Progress} (λ o. record { facts = record f { wc = o }; place = Called kind.Wc }) none
+wc_called (Some q) f none = refl
 
 module _ {run : RelayRun} {start now : Shown} {live : Live} {relay : Relay} where
   -- the turns are over, so all open sessions are to be hung up
@@ -476,18 +460,17 @@ module _ {run : RelayRun} {start now : Shown} {live : Live} {relay : Relay} wher
   }
 
   -- the first one was
-  pub hung : {left : List ℕ} (next : Shown) → HangsUp run start now relay live left → (peer : ℕ) (rest : List ℕ)
+  pub hung : {left : List ℕ} {next : Shown} → HangsUp run start now relay live left → {peer : ℕ} {rest : List ℕ}
       → left ≡ peer ∷ rest → Adds now next (HungUp peer ∷ []) → HangsUp run start next relay live rest
-  hung next x peer rest is a =
+  hung {next = next} x {peer} {rest} is a =
       let goes : hung_up x.place (facts_in live) ≡ Over rest = x.after ∙ ap (λ xs. Over (without_first xs)) is in
       record {
         history = HungUp peer ∷ x.history;
         place = Over rest;
-        stands = stands_as (stands_on x.stands (HangUp peer) (x.next ∙ ap (from_hang_ups (final (facts_in live))) is)
-            (HungUp peer) refl a (λ k. knows_plain k (HungUp peer) refl refl refl refl refl refl refl)
-            (λ n y.
-            subst (λ (at : Place). KnowsPeers n (stood live at) x.history) (sym goes)
-            (y.0, All-nil (IsPeer n x.history None), y.2, y.3))) (stood live (Over rest)) (ap (stood live) goes);
+        stands = stands_as (stands_on x.stands (HungUp peer) (may_as (x.next ∙ ap (from_hang_ups (final (facts_in live)))
+            is) (HungUp peer ∷ []) refl) tt
+            (λ y. subst (λ (at : Place). KnowsPeers (stood live at) x.history) (sym goes)
+            (y.0, All-nil (Came x.history), y.2)) a) (stood live (Over rest)) (ap (stood live) goes);
         next = refl;
         after = refl;
       }
@@ -511,21 +494,10 @@ module _ {run : RelayRun} {start now : Shown} {live : Live} {relay : Relay} wher
       ends false d e = e
 
 -- ---- loops
-module _ {run : RelayRun} {start now : Shown} {relay : Relay} (live : Live) where
-  -- a place in another form
-  pub is_at_as : {place other : Place} → IsAt run start now relay live place → place ≡ other
-      → IsAt run start now relay live other
-  is_at_as x e = subst (λ (p : Place). IsAt run start now relay live p) e x
-
-  -- where so many of these sessions were seen to, the next one follows, or none is left
-  module _ (to : List ℕ → Place) (peers : List ℕ) (index : ℕ) where
-    pub next_left : index < length peers → IsAt run start now relay live (to (drop index peers))
-        → IsAt run start now relay live (to (get_or peers index 0 ∷ drop (index + 1) peers))
-    next_left lt x = is_at_as x (ap to (peer_from peers index lt))
-
-    pub none_left : length peers ≤ index → IsAt run start now relay live (to (drop index peers))
-        → IsAt run start now relay live (to [])
-    none_left le x = is_at_as x (ap to (peers_all peers index le))
+-- the same, seen as another progress
+pub is_at_as : {run : RelayRun} {start now : Shown} {relay : Relay} {p q : Progress} → IsAt run start now relay p
+    → p ≡ q → IsAt run start now relay q
+is_at_as {run} {start} {now} {relay} x e = subst (λ (p : Progress). IsAt run start now relay p) e x
 
 pub keeps_on : {T : Type 0} {old mid new : Counts} {before between now : Live} {result : Result T Driven}
     → Keeps old mid before between (Ok (tt {0})) → Keeps mid new between now result → Keeps old new before now result
@@ -581,7 +553,8 @@ at_first run now = record {
   faults = refl;
   proper = Empty;
   progress = refl;
-  peers = (All-nil (IsPeer (now.counts.peers + 1) [] None), All-nil (IsPeer (now.counts.peers + 1) [] None), tt, tt);
+  peers = (All-nil (Came []), All-nil (Came []), tt);
+  ordered = tt;
   numbered = tt;
 }
 
@@ -590,9 +563,7 @@ pub listens : (run : RelayRun) (now next : Shown) (relay : Relay) → Knows run 
     → Adds now next (Listening run.host run.port ∷ [])
     → Stands run now next relay listening (Listening run.host run.port ∷ [])
 listens run now next relay k a =
-    stands_on (record { runs = at_first run now; knows = k }) (Listen run.host run.port) refl
-    (Listening run.host run.port) refl a
-    (λ known. knows_plain known (Listening run.host run.port) refl refl refl refl refl refl refl) (λ n x. x)
+    stands_on (record { runs = at_first run now; knows = k }) (Listening run.host run.port) refl tt (λ x. x) a
 
 pub ran_by : {run : RelayRun} {start now : Shown} {ended : Driven} → Stops run start now ended
     → RelayRan run start.told now.told ended
@@ -622,12 +593,6 @@ pub first_facts : (state : State) (peers : List ℕ) → state ≡ empty → pee
 first_facts state peers e f = ap₂ (λ (s : State) (p : List ℕ). record beginning.facts { state = s; peers = p }) e f
 
 -- ---- turns
-pub turn_due : (run : RelayRun) (live : Live) (history : History)
-    → goes_on run.limit live.first live.turn live.made ≡ true
-    → due_at run (facts_in live) history (Asked []) ≡ Now why.Turn
-turn_due run live history on =
-    ap (λ b. cond b (Now why.Turn) (from_hang_ups (final (facts_in live)) (all_open (facts_in live)))) on
-
 some_turns : (limit : Limit) → IsLimit limit → 1 ≤ most_turns limit
 some_turns (Turns turns) range = range.0
 some_turns (Seconds seconds) range = omega arith
@@ -650,26 +615,26 @@ was_second limit range None made reading none last =
     absurd (never_late limit (Some reading) (Some reading) range refl last)
 
 -- where the turn is the last by its time, and where it isn't
-pub begun_at : {run : RelayRun} {start now : Shown} {relay : Relay} (live : Live) {late last : Bool}
-    → IsAt run start now relay live (places.begun run (facts_in live)) → late ≡ is_late run.limit live.first live.turn
-    → late ≡ last → IsAt run start now relay live (cond last (Asked []) Begun)
-begun_at live x is e = is_at_as live x (ap (λ b. cond b (Asked []) Begun) (sym is ∙ e))
+pub begun_at : {run : RelayRun} {start now : Shown} {relay : Relay} {f : Facts} {late last : Bool}
+    → IsAt run start now relay (record { facts = f; place = places.begun run f })
+    → late ≡ is_late run.limit f.first f.turn → late ≡ last
+    → IsAt run start now relay (record { facts = f; place = cond last (Asked []) Begun })
+begun_at {f = f} x is e =
+    is_at_as x (ap {B = Progress} (λ b. record { facts = f; place = cond b (Asked []) Begun }) (sym is ∙ e))
 
-none_named : (b : Bool) → named (cond b (Asked []) Begun) ≡ []
-none_named true = refl
-none_named false = refl
-
-pub begun : {run : RelayRun} {start now next : Shown} {was is : Relay} {live later last : Live} {history : History}
-    → Stands run start now was (stood live (Asked [])) history
-    → due_at run (facts_in live) history (Asked []) ≡ Now why.Turn → (clocked : Clocked)
+pub begun : {run : RelayRun} {start now next : Shown} {was is : Relay} {live later : Live} {history : History}
+    {f : Facts} {clocked : Clocked} → Stands run start now was (stood live (Asked [])) history
+    → goes_on run.limit live.first live.turn live.made ≡ true
     → HasRead now next live later was is why.Turn clocked
-    → facts_in last ≡ with_turn clocked.reading (facts_in later)
-    → IsAt run start next is last (places.begun run (facts_in last))
-begun {run} {last = last} {history} s d clocked r e =
-    here (record {
-      runs = runs_read s.runs why.Turn d clocked r (stood last (places.begun run (facts_in last)))
-          (ap (λ (f : Facts). record { facts = f; place = places.begun run f }) (sym e))
-          (ap {A = Facts} (λ x. x.peers) e) (ap {A = Facts} (λ x. x.television) e)
-          (none_named (is_late run.limit last.first last.turn));
-      knows = knows_clock clocked history why.Turn refl (λ older. refl) (r.known run history s.knows);
-    })
+    → f ≡ with_turn clocked.reading (facts_in later)
+    → IsAt run start next is (record { facts = f; place = places.begun run f })
+begun {run} {live = live} {later} {history} {clocked = clocked} s on r e =
+    here_as (places.begun run) e
+    (stands_read s
+    (ap (λ b. cond b (Now why.Turn) (from_hang_ups (final (facts_in live)) (all_open (facts_in live)))) on) tt r
+    _ refl (λ x. (
+      x.0,
+      cond_both (is_late run.limit (Some (unwrap_or later.first clocked.reading)) (Some clocked.reading)) (Asked [])
+          Begun (λ at. All (Came history) (named at)) (λ _. All-nil (Came history)) (λ _. All-nil (Came history)),
+      x.2,
+    )))

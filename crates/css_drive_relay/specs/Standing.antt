@@ -1,8 +1,7 @@
 -- How the variables of a relay's run stand for its history.
-use Rattle.std.specs.Prelude.{◌≡◌, ◌≤◌, ◌<◌, ◌+◌, ℕ, List, [], ◌∷◌, ◌++◌, All, Option, Some, None, IfSome}
-use Rattle.std.specs.Prelude.{Result, MatchResult, IfErr, ⊤}
+use Rattle.std.specs.Prelude.{◌≡◌, ◌≤◌, ◌<◌, ◌+◌, ℕ, List, [], ◌∷◌, ◌++◌, All, Some, None, IfSome, ◌⊎◌, Result, MatchResult}
+use Rattle.std.specs.Prelude.{IfErr, ⊤}
 use Rattle.css_model.specs.declared.TheConstants.{LIMIT}
-use Rattle.css_model.specs.declared.Kind.{Kind}
 use Rattle.css_model.specs.declared.Kind.TheVariants as kind
 use Rattle.css_model.specs.declared.Why.{Why}
 use Rattle.css_model.specs.Explains.{IsLawful}
@@ -53,9 +52,11 @@ AreInOrder n (Dialled kind peer ∷ older) = (peer < n) × AreInOrder peer older
 AreInOrder n (Accepted peer kind ∷ older) = (peer < n) × AreInOrder peer older
 AreInOrder n (_ ∷ older) = AreInOrder n older
 
--- a peer has a number below this one, and was dialled so or not at all
-abbrev pub IsPeer : ℕ → History → Option Kind → ℕ → Type 0
-IsPeer n history dialled peer = (peer < n) × (kind_of peer history ≡ dialled)
+-- a session of this peer was accepted
+abbrev pub Came : History → ℕ → Type 0
+Came [] peer = ⊥
+Came (Accepted other kind ∷ older) peer = (other ≡ peer) ⊎ Came older peer
+Came (_ ∷ older) peer = Came older peer
 
 -- the accepted sessions that a place names
 abbrev pub named : Place → List ℕ
@@ -66,10 +67,9 @@ named (Dropping peer left) = left
 named _ = []
 
 -- the sessions were accepted, and the television's was dialled
-abbrev pub KnowsPeers : ℕ → Progress → History → Type 0
-KnowsPeers n p history =
-    All (IsPeer n history None) p.facts.peers × All (IsPeer n history None) (named p.place)
-    × IfSome p.facts.television (IsPeer n history (Some kind.Cii)) × AreInOrder n history
+abbrev pub KnowsPeers : Progress → History → Type 0
+KnowsPeers p history = All (Came history) p.facts.peers × All (Came history) (named p.place)
+    × IfSome p.facts.television (λ peer. kind_of peer history ≡ Some kind.Cii)
 
 -- the facts that the variables say, at a place
 abbrev pub stood : Live → Place → Progress
@@ -79,13 +79,15 @@ stood live place = record { facts = facts_in live; place = place }
 abbrev pub listening : Progress
 listening = record { facts = beginning.facts; place = Asked [] }
 
--- The run has this history since `start`, it is proper, and it has come so far. No call other than a dial has failed.
+-- The run has this history since `start`, it is proper, and it has come so far. Its sessions came in order of peer. No
+-- call other than a dial has failed.
 pub record Runs (run : RelayRun) (start now : Shown) (p : Progress) (history : History) : Type 0 where
   pub told : now.told ≡ with_entries history start.told
   pub faults : now.counts.faults ≡ start.counts.faults
   pub proper : IsProperRelay run history
   pub progress : progress_of run history ≡ p
-  pub peers : KnowsPeers (now.counts.peers + 1) p history
+  pub peers : KnowsPeers p history
+  pub ordered : AreInOrder (now.counts.peers + 1) history
   pub numbered : AreNumbered history
 
 -- and the relay knows of it
@@ -100,10 +102,10 @@ visiting (visit.Tell text) left f = telling text left f
 visiting visit.Hear left f = Asked left
 
 -- ---- after a part of the loop
--- The run came to this place.
-pub record IsAt (run : RelayRun) (start now : Shown) (relay : Relay) (live : Live) (place : Place) : Type 0 where
+-- The run came so far.
+pub record IsAt (run : RelayRun) (start now : Shown) (relay : Relay) (p : Progress) : Type 0 where
   pub history : History
-  pub stands : Stands run start now relay (stood live place) history
+  pub stands : Stands run start now relay p history
 
 -- The run came to where `to` says what is due.
 pub record Comes (run : RelayRun) (start now : Shown) (relay : Relay) (live : Live) (to : Facts → History → Due)
@@ -126,7 +128,7 @@ pub record Stops (run : RelayRun) (start now : Shown) (ended : Driven) : Type 0 
 -- the run came to a place, or it ended
 abbrev pub Arrives : {T : Type 0} → RelayRun → Shown → Shown → Relay → Live → Place → Result T Driven → Type 0
 Arrives run start now relay live place result =
-    MatchResult result (λ _. IsAt run start now relay live place) (Stops run start now)
+    MatchResult result (λ _. IsAt run start now relay (stood live place)) (Stops run start now)
 
 -- the run came to where this is due, or it ended
 abbrev pub Goes : {T : Type 0} → RelayRun → Shown → Shown → Relay → Live → (Facts → History → Due) → Result T Driven
@@ -163,10 +165,6 @@ pub record HangsUp (run : RelayRun) (start now : Shown) (relay : Relay) (live : 
   pub stands : Stands run start now relay (stood live place) history
   pub next : due_at run (facts_in live) history place ≡ from_hang_ups (final (facts_in live)) left
   pub after : hung_up place (facts_in live) ≡ Over (without_first left)
-
--- the run ended, in one way where the result is Ok
-abbrev pub Finishes : {T : Type 0} → RelayRun → Shown → Shown → Driven → Result T Driven → Type 0
-Finishes run start now end result = MatchResult result (λ _. Stops run start now end) (Stops run start now)
 
 -- Where no dial of CSS-CII succeeded in a turn, one failed.
 abbrev pub HasTried : Counts → Counts → Live → Type 0

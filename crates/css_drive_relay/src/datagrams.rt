@@ -1,5 +1,5 @@
 //! What a turn of a relay does with datagrams: its own request, what lands, and the requests that it answers.
-ghost use Rattle.std.specs.Prelude.{◌≡◌, ◌≤◌, ◌∷◌, ℕ, List, OnOk, is_some, true, false};
+ghost use Rattle.std.specs.Prelude.{◌≡◌, ◌≤◌, ◌∷◌, ℕ, OnOk, is_some, true, false};
 ghost use Rattle.css_model.specs.History as entries;
 ghost use Rattle.css_model.specs.History.{History, request_in};
 ghost use Rattle.css_drive.specs.CompanionStanding.{Shown, shown};
@@ -54,10 +54,10 @@ fn land<O: Outside>(
     bytes: &[u8],
 ) -> Result<(), Driven>
     requires { relay.old.companion.client.floor ≤ (O.counts outside.old).last }
-    ensures goes { (start : Shown) (history : History) (peer : ℕ) (taken : List ℕ)
+    ensures goes { (start : Shown) (history : History) (peer : ℕ)
         → Stands run.now start (shown (O.told outside.old) (O.counts outside.old)) relay.old
-        (stood live.old (Taken peer taken)) (entries.Took peer taken ∷ history)
-        → Knows run.now relay.old history → taken ≡ bytes.now → is_some (request_in taken) ≡ false
+        (stood live.old (Taken peer bytes.now)) (entries.Took peer bytes.now ∷ history)
+        → Knows run.now relay.old history → is_some (request_in bytes.now) ≡ false
         → Arrives run.now start (shown (O.told outside.new) (O.counts outside.new)) relay.new live.new Served result }
     ensures floor { OnOk result (relay.new.companion.client.floor ≤ (O.counts outside.new).last) }
     ensures keeps { Keeps (O.counts outside.old) (O.counts outside.new) live.old live.new result }
@@ -81,9 +81,9 @@ fn respond<O: Outside>(
     bytes: &[u8],
 ) -> Result<(), Driven>
     requires { relay.old.companion.client.floor ≤ (O.counts outside.old).last }
-    ensures goes { (start : Shown) (history : History) (taken : List ℕ)
+    ensures goes { (start : Shown) (history : History)
         → Stands run.now start (shown (O.told outside.old) (O.counts outside.old)) relay.old
-        (stood live.old (Taken peer taken)) history → taken ≡ bytes.now → is_some (request_in taken) ≡ true
+        (stood live.old (Taken peer bytes.now)) history → is_some (request_in bytes.now) ≡ true
         → Arrives run.now start (shown (O.told outside.new) (O.counts outside.new)) relay.new live.new Served result }
     ensures floor { OnOk result (relay.new.companion.client.floor ≤ (O.counts outside.new).last) }
     ensures keeps { Keeps (O.counts outside.old) (O.counts outside.new) live.old live.new result }

@@ -1,5 +1,5 @@
 //! The end of a relay's run: all open sessions are hung up in order of peer.
-ghost use Rattle.std.specs.Prelude.{◌≡◌, ◌≤◌, ◌⊎◌, [], false, length, IfOk, IfErr, OnOk};
+ghost use Rattle.std.specs.Prelude.{◌≡◌, ◌≤◌, ◌⊎◌, [], false, length, IfOk, OnOk};
 ghost use Rattle.css_model.specs.History.{History};
 ghost use Rattle.css_relay.specs.Relays.{Relay as KnownRelay};
 ghost use Rattle.css_drive.specs.CompanionStanding.{Shown, shown, IsCut};
@@ -7,7 +7,7 @@ ghost use Rattle.css_drive_relay.specs.Places as places;
 ghost use Rattle.css_drive_relay.specs.Places.{Asked};
 ghost use Rattle.css_drive.specs.CompanionTurns.{goes_on};
 ghost use Rattle.css_drive_relay.specs.Due.{final};
-ghost use Rattle.css_drive_relay.specs.Standing.{facts_in, stood, Stands, Stops, Finishes};
+ghost use Rattle.css_drive_relay.specs.Standing.{facts_in, stood, Stands, Stops};
 
 use crate::config::RelayRun;
 use crate::live::{Live, accepted};
@@ -50,28 +50,6 @@ fn all_open(live: &Live) -> Result<Vec<u32>, Memory>
     Ok(peers)
 }
 
-/// Hangs up these sessions.
-fn hang_up_each<O: Outside>(
-    run: &RelayRun,
-    live: &Live,
-    outside: &mut O,
-    peers: &Vec<u32>,
-) -> Result<(), Driven>
-    requires { peers.now.items ≡ places.all_open (facts_in live.now) }
-    ensures ends { (start : Shown) (relay : KnownRelay) (history : History)
-        → Stands run.now start (shown (O.told outside.old) (O.counts outside.old)) relay (stood live.now (Asked []))
-        history → goes_on run.now.limit live.now.first live.now.turn live.now.made ≡ false
-        → Finishes run.now start (shown (O.told outside.new) (O.counts outside.new))
-        (final (facts_in live.now)) result }
-    ensures dials { (O.counts outside.old).dial_faults ≤ (O.counts outside.new).dial_faults }
-    ensures cut { IfErr result IsCut }
-{
-    for peer in peers {
-        hang_up(outside, *peer)?;
-    }
-    Ok(())
-}
-
 /// How a run ends whose turns are made.
 fn ending(live: &Live) -> Driven
     ensures { result ≡ final (facts_in live.now) }
@@ -84,7 +62,6 @@ fn ending(live: &Live) -> Driven
 }
 
 /// Hangs up all open sessions, and ends the run.
-#[tactic(auto, using(crate::proofs::Steps::stops_as))]
 pub(crate) fn finish<O: Outside>(run: &RelayRun, live: &Live, outside: &mut O) -> Driven
     ensures ends { (start : Shown) (relay : KnownRelay) (history : History)
         → Stands run.now start (shown (O.told outside.old) (O.counts outside.old)) relay (stood live.now (Asked []))
@@ -96,8 +73,10 @@ pub(crate) fn finish<O: Outside>(run: &RelayRun, live: &Live, outside: &mut O) -
     let Ok(peers) = all_open(live) else {
         return Driven::Memory;
     };
-    match hang_up_each(run, live, outside, &peers) {
-        Ok(()) => ending(live),
-        Err(ended) => ended,
+    for peer in &peers {
+        if let Err(ended) = hang_up(outside, *peer) {
+            return ended;
+        }
     }
+    ending(live)
 }

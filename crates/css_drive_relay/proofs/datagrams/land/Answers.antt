@@ -1,43 +1,41 @@
-use Rattle.std.proofs.Common.{refl, sym, ◌∙◌, subst, ℕ, List, ◌∷◌}
+use Rattle.std.proofs.Common.{refl, ◌∙◌}
 use Rattle.css_model.specs.declared.Why.TheVariants as why
-use Rattle.css_model.specs.History.{Clock, Took}
+use Rattle.css_model.specs.History.{Clock}
 use Rattle.css_outside.specs.declared.calls.Clocked.{Clocked}
+use Rattle.css_drive.proofs.CompanionCalls.{lawful_plain}
 use Rattle.css_drive.proofs.CompanionSteps.{at_err}
 use Rattle.css_drive_relay.proofs.Serves as serves
 use Rattle.css_drive_relay.proofs.Steps as steps
-use Rattle.css_companion.specs.Standing.{StandsFor}
 use Rattle.css_drive_relay.proofs.datagrams.land.Goals as goal
 
 pub returns-then-clocked-clause-goes : goal.returns-then-clocked-clause-goes
-returns-then-clocked-clause-goes g c start h peer taken s k same none =
+returns-then-clocked-clause-goes g c start h peer s k none =
     let read = c.in_ok-clocked.ensures.told in
     let clocked : Clocked = c.in_ok-clocked.clocked in
     steps.here (record {
       runs = serves.lands {clocked = clocked} s.runs none read;
-      knows = rw c.if-clocked.true (steps.knows_plain (rw c.if-clocked.true at (read.known c.args.run.now
-          (Took peer taken ∷ h) s.knows)) (Clock why.Land clocked.reading) refl refl refl refl refl refl refl);
+      knows = rw c.if-clocked.true (steps.knows_plain (rw c.if-clocked.true at (read.known c.args.run.now _ s.knows))
+          (Clock why.Land clocked.reading) refl refl refl refl refl refl refl);
     })
 
 pub returns-clause-goes : goal.returns-clause-goes
-returns-clause-goes g c start h peer taken s k same none =
+returns-clause-goes g c start h peer s k none =
     let read = c.in_ok-clocked.ensures.told in
     let clocked : Clocked = c.in_ok-clocked.clocked in
     steps.here (record {
       runs = serves.lands {clocked = clocked} s.runs none read;
       knows = rw c.if-clocked.false (let k1 = rw c.if-clocked.false at (read.known c.args.run.now h k) in record {
-        stands = subst (λ (x : List ℕ). StandsFor c.land.new.self.companion (Clock why.Land clocked.reading
-            ∷ Took peer x ∷ h)) (sym same)
-            (rw c.in_ok-or_memory.ensures.ok at c.land.ensures.stands h peer k1.stands);
+        stands = rw c.in_ok-or_memory.ensures.ok at c.land.ensures.stands h peer k1.stands;
         own = c.land.ensures.own ∙ k1.own;
         wc_url = c.land.ensures.wc_url ∙ k1.wc_url;
       });
     })
 
 pub returns-in_err-or_memory-clause-goes : goal.returns-in_err-or_memory-clause-goes
-returns-in_err-or_memory-clause-goes g c start h peer taken s k same none =
+returns-in_err-or_memory-clause-goes g c start h peer s k none =
     let read = c.in_ok-clocked.ensures.told in
     let clocked : Clocked = c.in_ok-clocked.clocked in
     at_err _ _ _ _ c.from_residual-in_err-or_memory.ensures.1
     (steps.stops_by_memory (serves.lands {clocked = clocked} s.runs none read)
-    (serves.lawful_landing clocked (Took peer taken ∷ h) (read.known c.args.run.now (Took peer taken ∷ h)
-    s.knows)) _ c.in_err-or_memory.ensures.err)
+    (lawful_plain (Clock why.Land clocked.reading) _ (steps.lawful (read.known c.args.run.now _ s.knows)) refl refl) _
+    c.in_err-or_memory.ensures.err)

@@ -1,4 +1,5 @@
-use Rattle.std.proofs.Common.{refl, sym, ◌∙◌}
+use Rattle.std.proofs.Common.{refl, sym, ◌∙◌, Some, None}
+use Rattle.css_model.specs.declared.Kind.TheVariants as kind
 use Rattle.css_drive_relay.proofs.Steps as steps
 use Rattle.css_drive_relay.proofs.dials.dial_cii.Goals as goal
 
@@ -8,10 +9,12 @@ returns-then-is_some-clause-goes g c start relay h s =
 
 pub returns-clause-goes : goal.returns-clause-goes
 returns-clause-goes g c start relay h s =
-    steps.cii_dialled c.args.live.now s (sym c.is_some.ensures ∙ c.if-is_some.false) _ c.in-Some.peer
-    (rw c.in-Some.is at c.in_ok-peer.ensures.told) _ refl
+    steps.comes (steps.dialled c.args.live.now s kind.Cii c.args.run.now.cii
+    (steps.first_made _ _ _ (sym c.is_some.ensures ∙ c.if-is_some.false)) (λ q. refl) (Some c.in-Some.peer)
+    (rw c.in-Some.is at c.in_ok-peer.ensures.told)) _ refl
 
 pub returns-in_default-clause-goes : goal.returns-in_default-clause-goes
 returns-in_default-clause-goes g c start relay h s =
-    steps.cii_not_dialled c.args.live.now s (sym c.is_some.ensures ∙ c.if-is_some.false) _
-    (rw c.in_default.is at c.in_ok-peer.ensures.told)
+    steps.comes (steps.dialled c.args.live.now s kind.Cii c.args.run.now.cii
+    (steps.first_made _ _ _ (sym c.is_some.ensures ∙ c.if-is_some.false)) (λ q. refl) None
+    (rw c.in_default.is at c.in_ok-peer.ensures.told)) _ refl

@@ -1,8 +1,12 @@
-use Rattle.std.proofs.Common.{◌∙◌, ap, ℕ, List}
-use Rattle.css_drive_relay.specs.Places.{Facts, lost}
+use Rattle.std.proofs.Common.{refl, ◌∙◌, ap, ℕ, List, ◌∷◌, []}
+use Rattle.css_model.specs.History.{Wrote, Gone}
+use Rattle.css_outside.specs.declared.calls.Wrote.TheVariants as outcome
+use Rattle.css_companion.specs.Meanings.{is_ts}
+use Rattle.css_drive_relay.specs.Places.{Facts, lost, welcomed}
 use Rattle.css_drive_relay.proofs.Serves as serves
+use Rattle.css_drive_relay.proofs.Steps as steps
 use Rattle.css_sessions.specs.Kept.{full_text}
-use Rattle.css_drive_relay.specs.Standing.{facts_in}
+use Rattle.css_drive_relay.specs.Standing.{Came, facts_in}
 use Rattle.css_drive_relay.proofs.sessions.greet.Goals as goal
 use Rattle.css_drive_relay.proofs.sessions.greet.Goals.{in-Sent, in-Gone}
 
@@ -10,11 +14,14 @@ pub returns-clause-goes : goal.returns-clause-goes
 returns-clause-goes g c start relay h s =
     let pushed = ap {A = List ℕ} {B = Facts} (λ xs. record (facts_in c.args.live.now) { peers = xs })
     (rw c.in_ok-or_memory.ensures.ok at c.push.ensures.items) in
+    let text = c.bytes.ensures ∙ (rw c.in_ok-text.ensures.ok at c.full_text.ensures)
+    ∙ ap full_text c.state.ensures.value in
     elim c.match-branch-4.branch [
-      | in-Sent w ↦ rw w.live-is (serves.greeted c.args.live.now c.args.peer s _ (c.bytes.ensures
-          ∙ (rw c.in_ok-text.ensures.ok at c.full_text.ensures) ∙ ap full_text c.state.ensures.value)
-          (rw w.in-Sent.is at c.in_ok-send_text.ensures.told) _ pushed)
-      | in-Gone w ↦ rw w.live-is (serves.greeted_none c.args.live.now c.args.peer s
-          (rw w.in-Gone.is at c.in_ok-send_text.ensures.told) _
-          (w.forget.ensures ∙ ap (λ f. lost c.args.peer f) pushed))
+      | in-Sent w ↦ rw w.live-is (steps.here_as welcomed pushed (steps.stands_on s (Wrote _ _)
+          (outcome.Sent, ap (λ x. Wrote c.args.peer x ∷ []) text) tt
+          (λ x. (x.0, steps.all_next (Came h) _ _ x.0, x.2)) (rw w.in-Sent.is at c.in_ok-send_text.ensures.told)))
+      | in-Gone w ↦ rw w.live-is (steps.here_as welcomed (w.forget.ensures ∙ ap (lost c.args.peer) pushed)
+          (steps.stands_on s (Gone _) (outcome.Gone, refl) (ap is_ts (serves.its_none s.runs refl))
+          (λ x. let all = steps.all_without (Came h) c.args.peer _ x.0 in (all, steps.all_next (Came h) _ _ all, x.2))
+          (rw w.in-Gone.is at c.in_ok-send_text.ensures.told)))
     ]

@@ -11,8 +11,8 @@ invariant-loop-peer g l = record {
   goes : (start : Shown) (relay : Relay) (history : History)
       → Stands l.run start (shown (g.O.Outside.told l.fn.outside) (g.O.Outside.counts l.fn.outside)) relay
       (stood l.fn.live (visiting l.what l.fn.live.peers.items (facts_in l.fn.live))) history
-      → IsAt l.run start (shown (g.O.Outside.told l.outside) (g.O.Outside.counts l.outside)) relay l.live
-      (visiting l.what (drop l.peer-index l.peer-items) (facts_in l.live));
+      → IsAt l.run start (shown (g.O.Outside.told l.outside) (g.O.Outside.counts l.outside)) relay
+      (stood l.live (visiting l.what (drop l.peer-index l.peer-items) (facts_in l.live)));
   last : (g.O.Outside.counts l.outside).last ≡ (g.O.Outside.counts l.fn.outside).last;
   keeps : Keeps (g.O.Outside.counts l.fn.outside) (g.O.Outside.counts l.outside) l.fn.live l.live (Ok (tt {0}));
 }

@@ -12,7 +12,7 @@ returns-clause-goes g c start h s on =
     let read = c.in_ok-reading.ensures.told in
     let clocked : Clocked = c.in_ok-reading.field-0 in
     let now : Facts = with_turn clocked.reading (facts_in c.read.new.live) in
-    steps.begun s (steps.turn_due c.args.run.now c.args.live.now h on) clocked read
+    steps.begun {clocked = clocked} s on read
     (ap {A = ℕ} (λ n. record now { first = Some n }) c.unwrap_or.ensures)
 
 -- the first reading stays the first, so the first turn isn't the last by its time

@@ -9,11 +9,10 @@ returns-in_default-clause-ran g c = steps.ran_none c.args.config _
 
 pub returns-clause-ran : goal.returns-clause-ran
 returns-clause-ran g c =
-    steps.ran_by (steps.stops_by_fault (steps.at_first c.args.config
+    steps.ran_by (steps.stops_by_fault {next = shown (g.O.Outside.told c.listen.new.self) (g.O.Outside.counts
+    c.listen.new.self)} (steps.at_first c.args.config
     (shown (g.O.Outside.told c.args.outside.now) (g.O.Outside.counts c.args.outside.now)))
-    (steps.lawful c.in-Ok.ensures.known) (shown (g.O.Outside.told c.listen.new.self) (g.O.Outside.counts
-    c.listen.new.self))
-    c.end_of.result (c.end_of.ensures.failed _ _ _ refl c.in-Err.ensures.told c.in-Err.ensures.counted.faults
+    (steps.lawful c.in-Ok.ensures.known) (c.end_of.ensures.failed _ _ _ refl c.in-Err.ensures.told c.in-Err.ensures.counted.faults
     (ap (λ x. x.dial_faults) c.in-Err.ensures.counted.same)))
 
 pub returns-in-Ok-listen-clause-ran : goal.returns-in-Ok-listen-clause-ran

@@ -3,15 +3,15 @@ use Rattle.css_drive.proofs.CompanionEnds.{below_most}
 use Rattle.css_drive.proofs.CompanionRuns.{risen_to}
 use Rattle.css_drive_relay.proofs.Steps as steps
 use Rattle.css_drive_relay.proofs.Steps.{here_as}
-use Rattle.css_drive_relay.specs.Places.{Asked, beginning}
+use Rattle.css_drive_relay.specs.Places.{Asked}
 use Rattle.css_drive_relay.specs.Standing.{facts_in}
 use Rattle.css_drive_relay.proofs.turns.make_turns.Goals as goal
 
 pub turns-init : goal.turns-init
 turns-init g c = record {
   goes = λ start h s.
-      here_as _ beginning.facts (λ f. Asked []) s
-      (steps.first_facts _ _ (c.new.ensures ∙ c.empty.ensures.value) c.new-2.ensures.items);
+      here_as (λ f. Asked [])
+      (steps.first_facts _ _ (c.new.ensures ∙ c.empty.ensures.value) c.new-2.ensures.items) s;
   floor = c.requires.floor;
   dials = omega arith;
   tried = λ some. absurd (omega (arith, some));

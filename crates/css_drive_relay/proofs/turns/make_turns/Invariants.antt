@@ -3,7 +3,7 @@ use Rattle.css_model.specs.History.{History}
 use Rattle.css_outside.specs.Limits.{most_turns}
 use Rattle.css_drive.specs.CompanionStanding.{Shown, shown}
 use Rattle.css_drive_relay.specs.Places.{Asked}
-use Rattle.css_drive_relay.specs.Standing.{listening, Stands, IsAt, HasTried}
+use Rattle.css_drive_relay.specs.Standing.{listening, stood, Stands, IsAt, HasTried}
 use Rattle.css_drive_relay.proofs.turns.make_turns.Given as goal
 
 abbrev pub invariant-turns : goal.invariant-turns
@@ -11,8 +11,8 @@ invariant-turns g l = record {
   goes : (start : Shown) (history : History)
       → Stands l.run start (shown (g.O.Outside.told l.fn.outside) (g.O.Outside.counts l.fn.outside)) l.fn.relay
       listening history
-      → IsAt l.run start (shown (g.O.Outside.told l.outside) (g.O.Outside.counts l.outside)) l.relay l.live
-      (Asked []);
+      → IsAt l.run start (shown (g.O.Outside.told l.outside) (g.O.Outside.counts l.outside)) l.relay
+      (stood l.live (Asked []));
   floor : l.relay.companion.client.floor ≤ (g.O.Outside.counts l.outside).last;
   dials : (g.O.Outside.counts l.fn.outside).dial_faults ≤ (g.O.Outside.counts l.outside).dial_faults;
   tried : HasTried (g.O.Outside.counts l.fn.outside) (g.O.Outside.counts l.outside) l.live;

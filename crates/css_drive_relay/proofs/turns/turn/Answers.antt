@@ -7,11 +7,11 @@ use Rattle.css_drive_relay.proofs.turns.turn.Goals as goal
 
 pub returns-then-is_late-clause-goes : goal.returns-then-is_late-clause-goes
 returns-then-is_late-clause-goes g c start h s on =
-    steps.begun_at _ (c.in_ok-begin.ensures.goes start h s on) c.is_late.ensures c.if-is_late.true
+    steps.begun_at (c.in_ok-begin.ensures.goes start h s on) c.is_late.ensures c.if-is_late.true
 
 pub returns-clause-goes : goal.returns-clause-goes
 returns-clause-goes g c start h s on =
-    on_at (steps.begun_at _ (c.in_ok-begin.ensures.goes start h s on) c.is_late.ensures c.if-is_late.false)
+    on_at (steps.begun_at (c.in_ok-begin.ensures.goes start h s on) c.is_late.ensures c.if-is_late.false)
     (c.calls.ensures.goes start)
 
 -- no dial is made in the last turn by time, which isn't the first one

@@ -6,7 +6,7 @@ use Rattle.css_drive.specs.CompanionStanding.{Shown, shown}
 use Rattle.css_drive.specs.CompanionTurns.{goes_on}
 use Rattle.css_drive_relay.specs.Places.{Asked, all_open}
 use Rattle.css_drive_relay.specs.Standing.{facts_in, stood, Stands, HangsUp}
-use Rattle.css_drive_relay.proofs.hang_ups.hang_up_each.Given as goal
+use Rattle.css_drive_relay.proofs.hang_ups.finish.Given as goal
 
 abbrev pub invariant-loop-peer : goal.invariant-loop-peer
 invariant-loop-peer g l = record {

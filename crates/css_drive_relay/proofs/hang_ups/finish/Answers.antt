@@ -1,0 +1,38 @@
+use Rattle.std.proofs.Common.{◌≡◌, ◌∙◌, subst, ap, arith, ℕ, List, ◌∷◌, []}
+use Rattle.std.specs.Prelude.{drop, get_or, ◌+◌}
+use Rattle.css_drive.proofs.TvLines.{peers_all}
+use Rattle.css_drive.proofs.TvOpens.{peer_from}
+use Rattle.css_drive_relay.specs.Places.{all_open}
+use Rattle.css_drive_relay.specs.Standing.{facts_in}
+use Rattle.css_drive_relay.proofs.Steps as steps
+use Rattle.css_drive_relay.proofs.hang_ups.finish.Goals as goal
+
+pub loop-peer-init : goal.loop-peer-init
+loop-peer-init g c = record { goes = λ start relay h s enough. steps.hangs_all s enough; dials = omega arith }
+
+pub loop-peer-preserved : goal.loop-peer-preserved
+loop-peer-preserved g c =
+    let i : ℕ = c.loop-peer.peer-index in
+    let peer : ℕ = get_or c.deref-peer-items.result.now i 0 in
+    let all : List ℕ = all_open (facts_in c.args.live.now) in
+    let e : drop i all ≡ peer ∷ drop (i + 1) all =
+    subst (λ (xs : List ℕ). drop i xs ≡ peer ∷ drop (i + 1) xs) (c.deref-peer-items.ensures.value ∙ c.in-Ok.ensures)
+    (peer_from c.deref-peer-items.result.now i c.loop-peer-test.true) in
+    record {
+      goes = λ start relay h s enough.
+          steps.hung (c.loop-peer.invariant.goes start relay h s enough) e c.in_default-hang_up.ensures.told;
+      dials = omega (arith, c.loop-peer.invariant.dials, ap (λ x. x.dial_faults) c.in_default-hang_up.ensures.told.same);
+    }
+
+pub returns-clause-ends : goal.returns-clause-ends
+returns-clause-ends g c start relay h s enough =
+    let i : ℕ = c.loop-peer.peer-index in
+    let over = c.loop-peer-test.false in
+    steps.stops_as (steps.all_hung (c.loop-peer.invariant.goes start relay h s enough)
+    (subst (λ (xs : List ℕ). drop i xs ≡ []) (c.deref-peer-items.ensures.value ∙ c.in-Ok.ensures)
+    (peers_all c.deref-peer-items.result.now i (omega (arith, over))))) _ c.ending.ensures
+
+pub returns-in-Err-clause-ends : goal.returns-in-Err-clause-ends
+returns-in-Err-clause-ends g c start relay h s enough =
+    let x = c.loop-peer.invariant.goes start relay h s enough in
+    steps.stops_by_fault x.stands.runs (steps.lawful x.stands.knows) c.in-Err.ensures.told
