@@ -1,8 +1,7 @@
 -- What a line answers, told to the line engine, and how far the reader has read after it.
-use Rattle.std.proofs.Common.{◌≡◌, ℕ, ◌==◌, ◌⊎◌, inl, inr, arith, ap, sym, subst, ◌∙◌, refl, true, false, List, [], ◌∷◌}
-use Rattle.std.proofs.Common.{length}
-use Rattle.std.specs.Prelude.{Bool, Result, Ok, Err, OnOk, MatchResult}
-use Rattle.std.proofs.lemmas.Bool.{eq-eqb}
+use Rattle.std.proofs.Common.{◌≡◌, ℕ, ◌+◌, ◌==◌, ◌⊎◌, inl, inr, arith, ap, sym, subst, ◌∙◌, refl, true, false, List, [], ◌∷◌}
+use Rattle.std.proofs.Common.{◌++◌, length}
+use Rattle.std.specs.Prelude.{Bool, Result, Ok, Err, OnOk}
 use Rattle.css_lines.specs.Answers.{MayFault, Answers}
 use Rattle.css_num.specs.Gives.{LeavesBy}
 use Rattle.css_schedule.specs.declared.fault.LineFault.{LineFault}
@@ -14,13 +13,13 @@ use Rattle.css_schedule.specs.Ranges.{IsSecond, IsOf, FitsFirst}
 use Rattle.css_world.specs.declared.fault.WorldFault.{WorldFault}
 use Rattle.css_world.specs.declared.fault.WorldFault.TheVariants.{Memory}
 use Rattle.css_world.specs.Happened.{Numbered}
-use Rattle.css_world.specs.Standing.{World, GoesOn, appended}
+use Rattle.css_world.specs.Standing.{World, StandsFor, appended}
+use Rattle.css_world.specs.Verdicts.{line_meant}
 use Rattle.css_replay.specs.declared.reader.Cause.{Cause}
 use Rattle.css_replay.specs.declared.reader.Cause.TheVariants as causes
-use Rattle.css_replay.specs.declared.reader.Course.{Course}
-use Rattle.css_replay.specs.declared.reader.Replay.{Replay}
-use Rattle.css_replay.specs.Replayed.{Extent, Running, after, caused, grown, meant_at}
-use Rattle.css_replay.specs.Stands.{IsAt, IsWell, IsWhole, ReadsOn, RunsAt, refused_fault, told_of, unread_fault}
+use Rattle.css_replay.specs.Replayed.{Running, caused, meant_at, reached}
+use Rattle.css_replay.specs.Stands.{IsWell, IsWhole, RunsAt, refused_fault, told_of, unread_fault}
+use Rattle.css_replay.proofs.Texts.{reached-push, well}
 
 -- what is said of anything that is not read
 pub unread-fault : {T : Type 0} (read : Result T LineFault) (meant : Result (List ℕ) Cause) (fault : LineFault)
@@ -40,30 +39,46 @@ faulted (Err other) old fault (inl e) = let same : other ≡ fault = cc in ap (�
 faulted meant old fault (inr e) = absurd (cc)
 
 -- a line that was carried out, or was not, answers what is meant
-pub answered : (meant : Result (List ℕ) WorldFault) (old new : List ℕ) (result : Result (Unit {0}) WorldFault)
+answered : (meant : Result (List ℕ) WorldFault) (old new : List ℕ) (result : Result (Unit {0}) WorldFault)
     → LeavesBy Memory result old new (appended old meant) → Answers (caused meant) old new (told_of result)
 answered (Ok printed) old new (Ok done) e = record { cases = (printed, refl, cc) }
 answered (Err fault) old new (Ok done) e = absurd (cc)
 answered meant old new (Err fault) e = record { cases = (faulted meant old fault e.1, e.0) }
 
--- the lines go on with one that was carried out
-pub goes-on : (old : Course) (new : World) (number : ℕ) (text : List ℕ) (line : Line)
-    (result : Result (Unit {0}) WorldFault)
-    → line_in old.version old.companions text ≡ Ok line → new.header ≡ old.world.header
-    → GoesOn old.world new result (record { number = number; line = line })
-    → OnOk (told_of result) ((extent : Extent) → RunsAt old extent → IsWell number extent
-    → RunsAt (record old { world = new }) (after number extent text))
-goes-on old new number text line (Err fault) read header goes = tt
-goes-on old new number text line (Ok done) read header goes = λ extent runs well.
-    let known : IsWhole number old.world.header old.version runs.lines = subst (IsWell number) runs.is well in
-    let lines : List Numbered = record { number = number; line = line } ∷ runs.lines in
-    rw (runs.is, ← runs.count, read)
-    (record {
-      lines = lines;
-      is = ap (λ (h : Header). Running h old.version lines) (sym header);
-      count = runs.count ∙ ap (λ (h : Header). length h.companions) (sym header);
-      stands = goes runs.lines runs.stands known.next;
-    })
+-- what holds of a line that was carried out holds of what is told of it
+pub on_carried : {P : Type 0} (result : Result (Unit {0}) WorldFault) → (result ≡ Ok tt → P) → OnOk (told_of result) P
+on_carried (Ok tt) p = p refl
+on_carried (Err fault) p = tt
+
+-- ---- the line after these texts
+module _ {world : World} {version companions : ℕ} (texts : List (List ℕ))
+    (runs : RunsAt world version companions (reached texts)) where
+  -- what is known of it
+  pub whole : IsWhole (length texts + 1) world.header version runs.lines
+  whole = subst (IsWell (length texts + 1)) runs.is (well texts)
+
+  -- what it answers
+  pub answers : {old new : List ℕ} {line : Line} (text : List ℕ) (result : Result (Unit {0}) WorldFault)
+      → line_in version companions text ≡ Ok line
+      → LeavesBy Memory result old new
+      (appended old (line_meant world.header runs.lines (record { number = length texts + 1; line = line })))
+      → Answers (meant_at (length texts + 1) (reached texts) text) old new (told_of result)
+  answers text result read left = rw (runs.is, ← runs.count, read) (answered (line_meant world.header runs.lines _) _ _ result left)
+
+  -- the lines go on with it, once it was carried out
+  pub goes-on : {after : World} {line : Line} (text : List ℕ) → line_in version companions text ≡ Ok line
+      → after.header ≡ world.header
+      → StandsFor after (record { number = length texts + 1; line = line } ∷ runs.lines)
+      → RunsAt after version companions (reached (texts ++ text ∷ []))
+  goes-on {line = line} text read header stands =
+      let lines : List Numbered = record { number = length texts + 1; line = line } ∷ runs.lines in
+      rw (reached-push texts text, runs.is, ← runs.count, read)
+      (record {
+        lines = lines;
+        is = ap (λ (h : Header). Running h version lines) (sym header);
+        count = runs.count ∙ ap (λ (h : Header). length h.companions) (sym header);
+        stands = stands;
+      })
 
 -- a line of either version is one of so many companions, or the television's alone
 pub of-second : (version companions count : ℕ) (line : Line) → FitsFirst (version == 1) count → companions ≡ count
@@ -80,17 +95,3 @@ of-second version companions count line fits same of =
           none = λ zero. absurd (omega (arith, who, zero));
         }
     by false some second = second
-
--- ---- lines of the header
--- with its last companion a header is whole
-pub grown-whole : (more : Header) (count : ℕ) → length more.companions ≡ count → grown more count ≡ Running more 2 []
-grown-whole more count is = rw (eq-eqb (length more.companions) count is)
-
--- a header that is whole was read, if its lines can come
-pub reads-started : (result : Result (Unit {0}) LineFault) (new : Replay) (extent next : Extent) (text : List ℕ)
-    → ((number : ℕ) → (meant_at number extent text ≡ Ok []) × (after number extent text ≡ next))
-    → MatchResult result (λ _. IsAt new.heading new.course next) (λ fault. fault ≡ unreads.Memory)
-    → ReadsOn new extent text result
-reads-started (Ok done) new extent next text is at =
-    λ number. ((is number).0, rw (is number).1 at)
-reads-started (Err fault) new extent next text is memory = λ number. rw memory tt

@@ -148,7 +148,7 @@ next-line number older (Ok line) next = omega arith
 next-line number older (Err fault) next = next-later number older next
 
 -- with one text more
-well-after : (number : ℕ) (extent : Extent) (text : List ℕ) → IsWell number extent
+pub well-after : (number : ℕ) (extent : Extent) (text : List ℕ) → IsWell number extent
     → IsWell (suc number) (after number extent text)
 well-after number Outset text well = well-started (suc number) text (header_of text) refl
 well-after number (Opening header count) text well =
