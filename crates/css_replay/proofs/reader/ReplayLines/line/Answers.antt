@@ -1,8 +1,7 @@
 use Rattle.std.proofs.Common.{◌≡◌, ◌+◌, ◌∷◌, [], arith, length, refl}
 use Rattle.std.proofs.lemmas.List.{length-append}
 use Rattle.css_replay.specs.Replayed.{reached}
-use Rattle.css_replay.proofs.Answering.{answers, goes-on, on_carried, whole}
-use Rattle.css_replay.proofs.Texts.{reached-push, well}
+use Rattle.css_replay.proofs.Texts.{answers, goes-on, on_carried, whole, reached-push, well}
 use Rattle.css_replay.proofs.reader.ReplayLines.line.Goals as goal
 
 -- the header isn't whole
