@@ -1,4 +1,3 @@
 pub mod Texts
-pub mod Answering
 pub mod Promise
 pub mod OverLines

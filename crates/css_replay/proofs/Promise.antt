@@ -51,8 +51,7 @@ use Rattle.css_replay.specs.Replayed.{started, with_line}
 use Rattle.css_replay.specs.Headline.{AreKept, IsKept}
 use Rattle.css_replay.specs.Headline.{KeepsLine, KeepsPromise, PromiseKept, Promised, accepted_before}
 use Rattle.css_replay.specs.Stands.{IsWell, Stands}
-use Rattle.css_replay.proofs.Answering.{of-second}
-use Rattle.css_replay.proofs.Texts.{on_grown, reached-push, well}
+use Rattle.css_replay.proofs.Texts.{of-second, on_grown, reached-push, well}
 
 -- ---- one line
 -- what is printed for a line that was accepted

@@ -1,15 +1,13 @@
--- How far texts are read, with one text more, and what is known of a schedule as far as it is read.
-use Rattle.std.proofs.Common.{◌≡◌, ◌≢◌, ℕ, suc, ◌+◌, ◌-◌, arith, ap, subst, ◌∙◌, Bool, true, false, cond, eqb, refl}
-use Rattle.std.proofs.Common.{List, [], ◌∷◌, ◌++◌, length, get_or}
+-- How far texts are read, what is known of a schedule as far as it is read, and what a line answers.
+use Rattle.std.proofs.Common.{◌≡◌, ◌≢◌, ℕ, zero, suc, ◌+◌, ◌-◌, arith, ap, subst, ◌∙◌, Bool, true, false, cond, eqb, refl}
+use Rattle.std.proofs.Common.{List, [], ◌∷◌, ◌++◌, length, ◌==◌, ◌⊎◌, inl, inr, sym}
 use Rattle.std.specs.Int.{w8}
-use Rattle.std.specs.Prelude.{ℤ, pos, negsuc, ◌≤ℤ◌, FitsSigned, All, Option, Some, None, unwrap_or, slice_get}
-use Rattle.std.specs.Prelude.{Result, Ok, Err}
+use Rattle.std.specs.Prelude.{ℤ, pos, negsuc, ◌≤ℤ◌, FitsSigned, All, unwrap_or, slice_get, Result}
+use Rattle.std.specs.Prelude.{Ok, Err, OnOk}
 use Rattle.std.specs.Option.{option_map}
 use Rattle.std.proofs.lemmas.Bool.{eqb-false, eqb-true}
 use Rattle.std.proofs.lemmas.Int.{ints}
 use Rattle.std.proofs.lemmas.List.{length-append}
-use Rattle.std.proofs.lemmas.List.Elements.{All-get_or}
-use Rattle.std.proofs.lemmas.Option.{slice_get_within, get_or_from_slice_get}
 use Rattle.css_model.specs.WallClock.{IsLocal}
 use Rattle.css_schedule.specs.declared.fault.LineFault.{LineFault}
 use Rattle.css_schedule.specs.declared.header.CompanionLine.{CompanionLine}
@@ -18,15 +16,22 @@ use Rattle.css_schedule.specs.declared.header.Start.{Start}
 use Rattle.css_schedule.specs.declared.header.Start.TheVariants.{One, Two}
 use Rattle.css_schedule.specs.declared.line.Line.{Line}
 use Rattle.css_schedule.specs.Headers.{header_of, with_companion}
-use Rattle.css_schedule.specs.Ranges.{IsCount, IsGoodHeader, IsPrintableCompanion, IsStart}
+use Rattle.css_schedule.specs.Ranges.{IsCount, IsGoodHeader, IsPrintableCompanion, IsStart, IsSecond, IsOf, FitsFirst}
+use Rattle.css_schedule.specs.Ranges.{IsVersion}
 use Rattle.css_schedule.proofs.Adding.{more_companions}
 use Rattle.css_schedule.proofs.HeadersInRange.{start_in_range, companion_in_range}
 use Rattle.css_world.specs.Happened.{Numbered}
-use Rattle.css_world.specs.Standing.{IsNext}
-use Rattle.css_world.specs.Verdicts.{IsDeclared}
-use Rattle.css_replay.specs.Replayed.{Extent, Opening, Outset, Running, Unread, after, declared, next_companion}
-use Rattle.css_replay.specs.Replayed.{grown, next_line, reached, read_from, started, with_line}
-use Rattle.css_replay.specs.Stands.{IsPart, IsWell}
+use Rattle.css_world.specs.Standing.{IsNext, World, StandsFor, appended}
+use Rattle.css_world.specs.Verdicts.{line_meant}
+use Rattle.css_replay.specs.Replayed.{Extent, Opening, Outset, Running, Unread, after, declared, next_companion, grown}
+use Rattle.css_replay.specs.Replayed.{next_line, reached, read_from, started, with_line, caused, meant_at}
+use Rattle.css_replay.specs.Stands.{IsWell, IsWhole, RunsAt, refused_fault, told_of}
+use Rattle.css_lines.specs.Answers.{MayFault, Answers}
+use Rattle.css_num.specs.Gives.{LeavesBy}
+use Rattle.css_schedule.specs.Lines.{line_in}
+use Rattle.css_world.specs.declared.fault.WorldFault.{WorldFault}
+use Rattle.css_world.specs.declared.fault.WorldFault.TheVariants.{Memory}
+use Rattle.css_world.proofs.Worlds.{all-head, all-tail}
 
 -- a text more is read after those before it
 read_from-push : (number : ℕ) (extent : Extent) (texts : List (List ℕ)) (text : List ℕ)
@@ -64,95 +69,64 @@ fits-exponent (negsuc n) low high = record { sfits = omega (arith, ints, low) }
 local-good : (list : List CompanionLine) (place : ℕ) → All IsPrintableCompanion list
     → IsLocal (unwrap_or (option_map (λ companion. companion.local) (slice_get list place))
     (record { error = 0; precision = 0 }))
-local-good list place all = by (slice_get list place) refl
-  where
-    by : (o : Option CompanionLine) → slice_get list place ≡ o
-        → IsLocal (unwrap_or (option_map (λ companion. companion.local) o) (record { error = 0; precision = 0 }))
-    by None e = record { error = omega arith; precision = omega arith }
-    by (Some companion) e =
-        let same : get_or list place companion ≡ companion = get_or_from_slice_get list place companion companion e in
-        let within = slice_get_within list place companion e in
-        (subst IsPrintableCompanion same (All-get_or IsPrintableCompanion list place companion within all)).local
+local-good [] place all = record { error = omega arith; precision = omega arith }
+local-good (companion ∷ list) zero all = (all-head IsPrintableCompanion companion list all).local
+local-good (companion ∷ list) (suc place) all = local-good list place (all-tail IsPrintableCompanion companion list all)
 
--- what a good header declares is in range
-good-declared : (header : Header) → IsGoodHeader header → IsCount (length header.companions) → IsDeclared header
-good-declared header good count = record {
-  tv = good.0;
-  companions = count;
-  exponent = fits-exponent header.tv_precision good.1.least good.1.greatest;
-  local = λ who. local-good header.companions (who - 1) good.1.companions;
+-- a good header is whole
+header-whole : (number version : ℕ) (header : Header) → IsGoodHeader header → IsCount (length header.companions)
+    → IsVersion version → FitsFirst (version == 1) (length header.companions) → IsWhole number header version []
+header-whole number version header good count known fits = record {
+  declared = record {
+    tv = good.0;
+    companions = count;
+    exponent = fits-exponent header.tv_precision good.1.least good.1.greatest;
+    local = λ who. local-good header.companions (who - 1) good.1.companions;
+  };
+  known = known;
+  fits = fits;
+  next = tt;
 }
-
--- what line 1 declares is in range
-well-started : (number : ℕ) (text : List ℕ) (start : Result Start LineFault) → header_of text ≡ start
-    → IsWell number (started start)
-well-started number text (Err fault) is = tt
-well-started number text (Ok (One header)) is =
-    let range : IsStart (One header) = start_in_range text (Ok (One header)) is in
-    let one = range.1 in
-    let count : IsCount (length header.companions) =
-    record { low = omega (arith, one); high = omega (arith, one) } in
-    record {
-      declared = good-declared header (range.0, range.2) count;
-      known = (omega arith, omega arith);
-      fits = one;
-      next = tt;
-    }
-well-started number text (Ok (Two header count)) is =
-    let range : IsStart (Two header count) = start_in_range text (Ok (Two header count)) is in
-    let empty : length header.companions ≡ 0 = ap length range.1 in
-    let low = range.2.low in
-    record { good = range.0; more = omega (arith, empty, low); few = range.2.high }
-
--- so is what a header declares with one companion more
-well-declared : (number : ℕ) (header : Header) (count : ℕ) (text : List ℕ) (read : Result CompanionLine LineFault)
-    → next_companion header text ≡ read → IsPart header count → IsWell number (declared header count read)
-well-declared number header count text (Err fault) is part = tt
-well-declared number header count text (Ok companion) is part =
-    by (eqb (length (with_companion header companion).companions) count) refl
-  where
-    more : Header
-    more = with_companion header companion
-
-    good : IsGoodHeader more
-    good = more_companions header companion part.good
-        (companion_in_range (length header.companions + 1) text (Ok companion) is)
-
-    within : IsCount (length more.companions)
-    within =
-        let longer = length-append header.companions (companion ∷ []) in
-        record { low = omega (arith, longer); high = omega (arith, longer, part.more, part.few) }
-
-    by : (b : Bool) → eqb (length more.companions) count ≡ b
-        → IsWell number (cond b (Running more 2 []) (Opening more count))
-    by true e = record {
-      declared = good-declared more good within;
-      known = (omega arith, omega arith);
-      fits = within;
-      next = tt;
-    }
-    by false e =
-        let longer = length-append header.companions (companion ∷ []) in
-        let apart = eqb-false (length more.companions) count e in
-        record { good = good; more = omega (arith, longer, part.more, apart); few = part.few }
-
--- a number that comes next comes next too when it is greater
-next-later : (number : ℕ) (older : List Numbered) → IsNext number older → IsNext (suc number) older
-next-later number [] next = tt
-next-later number (last ∷ older) next = omega (arith, next)
 
 -- the number after a line is next
 next-line : (number : ℕ) (older : List Numbered) (line : Result Line LineFault) → IsNext number older
     → IsNext (suc number) (with_line number older line)
 next-line number older (Ok line) next = omega arith
-next-line number older (Err fault) next = next-later number older next
+next-line number [] (Err fault) next = tt
+next-line number (last ∷ older) (Err fault) next = omega (arith, next)
 
 -- with one text more
-well-after : (number : ℕ) (extent : Extent) (text : List ℕ) → IsWell number extent
+pub well-after : (number : ℕ) (extent : Extent) (text : List ℕ) → IsWell number extent
     → IsWell (suc number) (after number extent text)
-well-after number Outset text well = well-started (suc number) text (header_of text) refl
-well-after number (Opening header count) text well =
-    well-declared (suc number) header count text (next_companion header text) refl well
+well-after number Outset text well = by (header_of text) refl
+  where
+    by : (start : Result Start LineFault) → header_of text ≡ start → IsWell (suc number) (started start)
+    by (Err fault) is = tt
+    by (Ok (One header)) is =
+        let range : IsStart (One header) = start_in_range text (Ok (One header)) is in
+        let one = range.1 in
+        header-whole (suc number) 1 header (range.0, range.2)
+        (record { low = omega (arith, one); high = omega (arith, one) }) (omega arith, omega arith) one
+    by (Ok (Two header count)) is =
+        let range : IsStart (Two header count) = start_in_range text (Ok (Two header count)) is in
+        let empty : length header.companions ≡ 0 = ap length range.1 in
+        let low = range.2.low in
+        record { good = range.0; more = omega (arith, empty, low); few = range.2.high }
+well-after number (Opening header count) text part = by (next_companion header text) refl
+  where
+    by : (read : Result CompanionLine LineFault) → next_companion header text ≡ read
+        → IsWell (suc number) (declared header count read)
+    by (Err fault) is = tt
+    by (Ok companion) is =
+        let more = with_companion header companion in
+        let good = more_companions header companion part.good
+        (companion_in_range (length header.companions + 1) text (Ok companion) is) in
+        let longer = length-append header.companions (companion ∷ []) in
+        let within : IsCount (length more.companions) =
+        record { low = omega (arith, longer); high = omega (arith, longer, part.more, part.few) } in
+        on_grown (IsWell (suc number)) more count
+        (λ all. header-whole (suc number) 2 more good within (omega arith, omega arith) within)
+        (λ apart. record { good = good; more = omega (arith, longer, part.more, apart); few = part.few })
 well-after number (Running header version lines) text well = record {
   declared = well.declared;
   known = well.known;
@@ -164,15 +138,78 @@ well-after number Unread text well = tt
 -- and with several
 well-from : (number : ℕ) (extent : Extent) (texts : List (List ℕ)) → IsWell number extent
     → IsWell (number + length texts) (read_from number extent texts)
-well-from number extent [] well =
-    let same : number ≡ number + 0 = omega arith in subst (λ (n : ℕ). IsWell n extent) same well
+well-from number extent [] well = let same : number + 0 ≡ number = omega arith in rw same well
 well-from number extent (t ∷ texts) well =
-    let same : suc number + length texts ≡ number + length (t ∷ texts) = omega arith in
-    subst (λ (n : ℕ). IsWell n (read_from (suc number) (after number extent t) texts)) same
-    (well-from (suc number) (after number extent t) texts (well-after number extent t well))
+    let same : number + length (t ∷ texts) ≡ suc number + length texts = omega arith in
+    rw same (well-from (suc number) (after number extent t) texts (well-after number extent t well))
 
 -- so it is of any schedule, and the number of a text is above those of the lines before it
 pub well : (texts : List (List ℕ)) → IsWell (length texts + 1) (reached texts)
-well texts =
-    let same : 1 + length texts ≡ length texts + 1 = omega arith in
-    subst (λ (n : ℕ). IsWell n (reached texts)) same (well-from 1 Outset texts tt)
+well texts = let same : length texts + 1 ≡ 1 + length texts = omega arith in rw same (well-from 1 Outset texts tt)
+
+-- ---- what is answered
+-- a fault is the meant one, or want of memory
+faulted : (meant : Result (List ℕ) WorldFault) (old : List ℕ) (fault : WorldFault)
+    → (appended old meant ≡ Err fault) ⊎ (fault ≡ Memory) → MayFault (caused meant) (refused_fault fault)
+faulted meant old Memory h = tt
+faulted (Ok printed) old fault (inl e) = absurd (cc)
+faulted (Err other) old fault (inl e) = let same : other ≡ fault = cc in ap (λ (f : WorldFault). caused (Err f)) same
+faulted meant old fault (inr e) = absurd (cc)
+
+-- a line that was carried out, or was not, answers what is meant
+answered : (meant : Result (List ℕ) WorldFault) (old new : List ℕ) (result : Result (Unit {0}) WorldFault)
+    → LeavesBy Memory result old new (appended old meant) → Answers (caused meant) old new (told_of result)
+answered (Ok printed) old new (Ok done) e = record { cases = (printed, refl, cc) }
+answered (Err fault) old new (Ok done) e = absurd (cc)
+answered meant old new (Err fault) e = record { cases = (faulted meant old fault e.1, e.0) }
+
+-- what holds of a line that was carried out holds of what is told of it
+pub on_carried : {P : Type 0} (result : Result (Unit {0}) WorldFault) → (result ≡ Ok tt → P) → OnOk (told_of result) P
+on_carried (Ok tt) p = p refl
+on_carried (Err fault) p = tt
+
+-- ---- the line after these texts
+module _ {world : World} {version companions : ℕ} (texts : List (List ℕ))
+    (runs : RunsAt world version companions (reached texts)) where
+  -- what is known of it
+  pub whole : IsWhole (length texts + 1) world.header version runs.lines
+  whole = subst (IsWell (length texts + 1)) runs.is (well texts)
+
+  -- what it answers
+  pub answers : {old new : List ℕ} {line : Line} (text : List ℕ) (result : Result (Unit {0}) WorldFault)
+      → line_in version companions text ≡ Ok line
+      → LeavesBy Memory result old new
+      (appended old (line_meant world.header runs.lines (record { number = length texts + 1; line = line })))
+      → Answers (meant_at (length texts + 1) (reached texts) text) old new (told_of result)
+  answers text result read left = rw (runs.is, ← runs.count, read) (answered (line_meant world.header runs.lines _) _ _ result left)
+
+  -- the lines go on with it, once it was carried out
+  pub goes-on : {after : World} {line : Line} (text : List ℕ) → line_in version companions text ≡ Ok line
+      → after.header ≡ world.header
+      → StandsFor after (record { number = length texts + 1; line = line } ∷ runs.lines)
+      → RunsAt after version companions (reached (texts ++ text ∷ []))
+  goes-on {line = line} text read header stands =
+      let lines : List Numbered = record { number = length texts + 1; line = line } ∷ runs.lines in
+      rw (reached-push texts text, runs.is, ← runs.count, read)
+      (record {
+        lines = lines;
+        is = ap (λ (h : Header). Running h version lines) (sym header);
+        count = runs.count ∙ ap (λ (h : Header). length h.companions) (sym header);
+        stands = stands;
+      })
+
+-- a line of either version is one of so many companions, or the television's alone
+pub of-second : (version companions count : ℕ) (line : Line) → FitsFirst (version == 1) count → companions ≡ count
+    → IsOf (version == 1) companions line → IsSecond count line
+of-second version companions count line fits same of =
+    subst (λ (n : ℕ). IsSecond n line) same (by (version == 1) (subst (FitsFirst (version == 1)) (sym same) fits) of)
+  where
+    by : (b : Bool) → FitsFirst b companions → IsOf b companions line → IsSecond companions line
+    by true one first =
+        let who = first.who in
+        record {
+          who = omega (arith, one, who);
+          own = λ own. omega (arith, who);
+          none = λ zero. absurd (omega (arith, who, zero));
+        }
+    by false some second = second

@@ -1,5 +1,5 @@
 -- How the reader of a replay stands for the lines that it has taken.
-use Rattle.std.specs.Prelude.{ℕ, ◌≡◌, ◌<◌, ◌≤◌, ◌==◌, List, [], length, Option, Some, None, Result, Ok, Err}
+use Rattle.std.specs.Prelude.{ℕ, ◌≡◌, ◌<◌, ◌≤◌, ◌==◌, if◌then◌else◌, List, [], length, Option, Some, None, Result, Ok, Err}
 use Rattle.std.specs.Prelude.{MatchResult}
 use Rattle.css_lines.specs.Answers.{MayFault}
 use Rattle.css_lines.specs.declared.reader.LineFault as engine
@@ -12,14 +12,14 @@ use Rattle.css_schedule.specs.Ranges.{IsGoodHeader, IsVersion, FitsFirst}
 use Rattle.css_world.specs.declared.fault.WorldFault.{WorldFault}
 use Rattle.css_world.specs.declared.fault.WorldFault.TheVariants as refused
 use Rattle.css_world.specs.Happened.{Numbered}
-use Rattle.css_world.specs.Standing.{IsNext, StandsFor}
+use Rattle.css_world.specs.Standing.{World, IsNext, StandsFor}
 use Rattle.css_world.specs.Verdicts.{IsDeclared}
 use Rattle.css_replay.specs.declared.reader.Cause.{Cause}
 use Rattle.css_replay.specs.declared.reader.Cause.TheVariants.{Form, Absent, Player, Broken}
-use Rattle.css_replay.specs.declared.reader.Course.{Course}
 use Rattle.css_replay.specs.declared.reader.Heading.{Heading}
 use Rattle.css_replay.specs.declared.reader.Replay.{Replay}
 use Rattle.css_replay.specs.Replayed.{Extent, Outset, Opening, Running, reached, after, meant_at}
+use Rattle.css_replay.specs.Replayed.{version_of}
 
 -- what the engine is told of a line that was not read
 abbrev pub unread_fault : LineFault → engine.LineFault Cause
@@ -59,32 +59,48 @@ IsWell number (Running header version lines) = IsWhole number header version lin
 IsWell number _ = Unit {0}
 
 -- ---- how far the reader has read
--- The header was read, and its world stands for the lines after it.
-pub record RunsAt (course : Course) (extent : Extent) : Type 0 where
-  pub lines : List Numbered
-  pub is : extent ≡ Running course.world.header course.version lines
-  pub count : course.companions ≡ length course.world.header.companions
-  pub stands : StandsFor course.world lines
+-- where a header stands: it is whole, or more companions are to come
+abbrev pub stage_of : Heading → Extent
+stage_of heading =
+    if length heading.header.companions == heading.companions then Running heading.header heading.version []
+    else Opening heading.header heading.companions
 
--- with a part of a header, and a course
-abbrev pub IsAt : Option Heading → Option Course → Extent → Type 0
-IsAt heading (Some course) extent = RunsAt course extent
-IsAt (Some heading) None extent = extent ≡ Opening heading.header heading.companions
-IsAt None None extent = extent ≡ Outset
+-- with a part of a header of version 2, or none of it
+abbrev pub IsOpen : Option Heading → Extent → Type 0
+IsOpen None extent = extent ≡ Outset
+IsOpen (Some heading) extent = (extent ≡ Opening heading.header heading.companions) × (heading.version ≡ 2)
+
+-- The header was read, of that version and so many companions, and its world stands for the lines after it.
+pub record RunsAt (world : World) (version companions : ℕ) (extent : Extent) : Type 0 where
+  pub lines : List Numbered
+  pub is : extent ≡ Running world.header version lines
+  pub count : companions ≡ length world.header.companions
+  pub stands : StandsFor world lines
+
+abbrev pub IsAt : Option Heading → Option World → ℕ → ℕ → Extent → Type 0
+IsAt heading (Some world) version companions extent = RunsAt world version companions extent
+IsAt heading None version companions extent = IsOpen heading extent
+
+-- the reader has read so far
+pub record StandsAt (replay : Replay) (extent : Extent) : Type 0 where
+  pub version : replay.version ≡ version_of extent
+  pub at : IsAt replay.heading replay.world replay.version replay.companions extent
 
 -- The reader stands for these texts: it knows how many they are, and has read them.
 pub record Stands (replay : Replay) (texts : List (List ℕ)) : Type 0 where
   pub last : replay.last ≡ length texts
-  pub at : IsAt replay.heading replay.course (reached texts)
+  pub at : StandsAt replay (reached texts)
 
 -- ---- calls
--- the lines after a header are to come, or memory ran out
-abbrev pub Starts : Option Course → Header → ℕ → Result (Unit {0}) LineFault → Type 0
-Starts course header version result = (heading : Option Heading)
-    → MatchResult result (λ _. IsAt heading course (Running header version [])) (λ fault. fault ≡ unread.Memory)
-
 -- one text more of the header was read, or it was told why it is none
-abbrev pub ReadsOn : Replay → Extent → List ℕ → Result (Unit {0}) LineFault → Type 0
-ReadsOn replay extent text result = (number : ℕ) → MatchResult result
-    (λ _. (meant_at number extent text ≡ Ok []) × IsAt replay.heading replay.course (after number extent text))
+abbrev pub Opens : {T : Type 0} → Extent → List ℕ → Result T LineFault → (Extent → T → Type 0) → Type 0
+Opens extent text result P = (number : ℕ) → MatchResult result
+    (λ value. (meant_at number extent text ≡ Ok []) × P (after number extent text) value)
     (λ fault. MayFault (meant_at number extent text) (unread_fault fault))
+
+abbrev pub GoesOn : Extent → List ℕ → Result Heading LineFault → Type 0
+GoesOn extent text result =
+    Opens extent text result (λ next heading. (next ≡ stage_of heading) × (heading.version ≡ version_of next))
+
+abbrev pub ReadsOn : Replay → Extent → List ℕ → Result (Unit {0}) LineFault → Type 0
+ReadsOn replay extent text result = Opens extent text result (λ next done. StandsAt replay next)
