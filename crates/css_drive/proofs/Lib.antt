@@ -10,7 +10,5 @@ pub mod TvCalls
 pub mod TvSteps
 pub mod TvLines
 pub mod TvOpens
-pub mod TvNews
 pub mod TvTold
-pub mod TvTellings
 pub mod TvSessions

@@ -1,7 +1,7 @@
 -- How a television's run comes on by the lines of the script, and over the peers of its sessions.
 use Rattle.std.proofs.Common.{◌≡◌, ℕ, ◌+◌, ◌≤◌, ◌<◌, true, false, cond, List, [], ◌∷◌, Option, Some, None, refl, sym}
 use Rattle.std.proofs.Common.{ap, subst, ◌∙◌, arith, Result, Ok, Err, drop, length, get_or, inl, inr, ◌⊎◌}
-use Rattle.std.specs.Prelude.{filter}
+use Rattle.std.specs.Prelude.{filter, IfSome}
 use Rattle.std.specs.List.{remove}
 use Rattle.std.proofs.lemmas.Bool.Decides.{nat_tests}
 use Rattle.std.proofs.lemmas.Grind.{common_steps}
@@ -29,7 +29,7 @@ use Rattle.css_drive.specs.TvStanding.{live_after, at_end, left_from, hanging_up
 use Rattle.css_drive.specs.declared.driven.Driven.TheVariants as driven
 use Rattle.css_drive.specs.declared.on_air.OnAir.{OnAir}
 use Rattle.css_drive.specs.declared.turns.Turns.{Turns}
-use Rattle.css_drive.proofs.TvCalls.{opens_none}
+use Rattle.css_drive.proofs.TvCalls.{IsNoOpening, opens_none}
 use Rattle.css_drive.proofs.TvPeers as lists
 use Rattle.css_drive.proofs.TvSteps.{told_as, airs_as, happens, outcome_same, carry_stops, stops, moved}
 
@@ -86,7 +86,7 @@ module _ {from : From} {now : Shown} {air : OnAir} {r : ℕ} {line : ScriptLine}
   pub line_happens : (e : TvEvent) → Some e ≡ event_of r line.verb → (new : Stage) (after : List TvOut)
       → IsAfterBy air.tv.stage new [] after (outcome_at e air.tv.stage)
       → Happens (Turned r) [] e from now (past_line air)
-  line_happens e is new after done = happens e (opens_none r line.verb e is) (record {
+  line_happens e is new after done = happens e (subst (λ o. IfSome o IsNoOpening) (sym is) (opens_none r line.verb)) (record {
     events = x.settles.events;
     h = x.settles.h;
     history = told_as _ (carried (Some e) is)
@@ -182,14 +182,14 @@ module _ (f : Turns → List ℕ → List ℕ → Due) {from : From} {now : Show
       next_left there =
           let live = live_after from x.is_at.events in
           comes_as x (ap (λ xs. f air.turns live (filter (λ other. has other live) xs)) e
-          ∙ ap (f air.turns live) (lists.next_has peer live _ there))
+          ∙ ap (f air.turns live) (lists.kept (λ other. has other live) peer _ there))
 
       -- this peer has none
       pub past_left : has peer (live_after from x.is_at.events) ≡ false → Comes (left_from f (at + 1)) from now air
       past_left lacks =
           let live = live_after from x.is_at.events in
           comes_as x (ap (λ xs. f air.turns live (filter (λ other. has other live) xs)) e
-          ∙ ap (f air.turns live) (lists.next_lacks peer live _ lacks))
+          ∙ ap (f air.turns live) (lists.left_out (λ other. has other live) peer _ lacks))
 
       pub peer_removed : has peer (live_after from x.is_at.events) ≡ false → (other : OnAir)
           → other.peers.items ≡ remove air.peers.items at → Comes (left_from f at) from now (with_peers air other)
@@ -208,11 +208,11 @@ module _ (f : Turns → List ℕ → List ℕ → Due) {from : From} {now : Show
               knows = subst (λ ys. Knows ys now.counts.peers live) (sym items) (record {
                 rising = lists.rising_removed 0 at peer xs _ e k.rising;
                 below = lists.below_removed (λ other. other ≤ now.counts.peers) at xs k.below;
-                covers = lists.covers_removed at peer xs live _ e lacks k.covers;
+                covers = lists.filter_removed (λ other. has other live) at peer xs _ e lacks ∙ k.covers;
               });
             };
             next = x.next ∙ ap (λ ys. f air.turns live (filter (λ other. has other live) ys)) e
-                ∙ ap (f air.turns live) (lists.next_lacks peer live _ lacks)
+                ∙ ap (f air.turns live) (lists.left_out (λ other. has other live) peer _ lacks)
                 ∙ ap (λ ys. f air.turns live (filter (λ other. has other live) ys))
                 (sym (lists.drop_removed at peer xs _ e) ∙ ap (drop at) (sym items));
           }

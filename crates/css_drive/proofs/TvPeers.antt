@@ -3,20 +3,22 @@ use Rattle.std.proofs.Common.{◌≡◌, ℕ, ◌+◌, ◌<◌, ◌≤◌, Bool,
 use Rattle.std.proofs.Common.{ap, subst, ◌∙◌, arith, drop, take, zero, suc}
 use Rattle.std.specs.Prelude.{◌||◌, ◌&&◌, nat_lt, filter, All, Some}
 use Rattle.std.specs.List.{remove}
+use Rattle.std.proofs.Math.Bool.{and_comm, or-true}
 use Rattle.std.proofs.lemmas.Bool.{eq-eqb, eqb-true}
 use Rattle.std.proofs.lemmas.Bool.Decides.{nat_tests}
 use Rattle.std.proofs.lemmas.List.{append-nil}
-use Rattle.std.proofs.lemmas.List.Elements.{filter-append, filter_agree, All-filter, All-head, All-tail, All-nil}
-use Rattle.std.proofs.lemmas.List.Elements.{All-cons, All-append, All-drop, All-take, All-weaker}
+use Rattle.std.proofs.lemmas.List.Elements.{filter-append, filter_agree, All-filter, All-head, All-tail, All-append}
+use Rattle.std.proofs.lemmas.List.Elements.{All-drop, All-take, All-weaker}
 use Rattle.css_sessions.specs.Told.{with_peer}
-use Rattle.css_drive.specs.TvPeers.{above, has, Covers, AreRising, Knows}
+use Rattle.css_drive.specs.TvPeers.{above, has, Covers, AreRising}
 
 -- ---- filters
-and-comm : (a b : Bool) → (a && b) ≡ (b && a)
-and-comm true true = refl
-and-comm true false = refl
-and-comm false true = refl
-and-comm false false = refl
+module _ (f : ℕ → Bool) (x : ℕ) (xs : List ℕ) where
+  pub kept : f x ≡ true → filter f (x ∷ xs) ≡ x ∷ filter f xs
+  kept e = ap (λ b. cond b (x ∷ filter f xs) (filter f xs)) e
+
+  pub left_out : f x ≡ false → filter f (x ∷ xs) ≡ filter f xs
+  left_out e = ap (λ b. cond b (x ∷ filter f xs) (filter f xs)) e
 
 filter-both : (f g : ℕ → Bool) (xs : List ℕ) → filter f (filter g xs) ≡ filter (λ x. g x && f x) xs
 filter-both f g [] = refl
@@ -32,16 +34,9 @@ filter-alike f g [] h = refl
 filter-alike f g (x ∷ xs) h = ap (λ b. cond b (x ∷ filter f xs) (filter f xs)) (All-head (λ x. f x ≡ g x) x xs h)
     ∙ ap (λ ys. cond (g x) (x ∷ ys) ys) (filter-alike f g xs (All-tail (λ x. f x ≡ g x) x xs h))
 
-filter-comm : (f g : ℕ → Bool) (xs : List ℕ) → filter f (filter g xs) ≡ filter g (filter f xs)
-filter-comm f g xs = filter-both f g xs
-    ∙ filter_agree (λ x. g x && f x) (λ x. f x && g x) (λ x. and-comm (g x) (f x)) xs ∙ sym (filter-both g f xs)
-
 -- ---- elements
 has-filter : (f : ℕ → Bool) (q : ℕ) (xs : List ℕ) → has q (filter f xs) ≡ (f q && has q xs)
-has-filter f q [] = none (f q) where
-  none : (b : Bool) → false ≡ (b && false)
-  none true = refl
-  none false = refl
+has-filter f q [] = and_comm false (f q)
 has-filter f q (x ∷ xs) = go (f x) (eqb x q) (f q) (λ e. ap f (eqb-true x q e)) refl (has-filter f q xs) where
   go : (passes same also : Bool) → (same ≡ true → passes ≡ also) → eqb x q ≡ same
       → has q (filter f xs) ≡ (also && has q xs)
@@ -52,11 +47,18 @@ has-filter f q (x ∷ xs) = go (f x) (eqb x q) (f q) (λ e. ap f (eqb-true x q e
   go false true true alike e ih = absurd (let t : false ≡ true = alike refl in cc)
   go false _ _ alike e ih = ih
 
+pub has-none : (q : ℕ) (live : List ℕ) → All (λ x. x < q) live → has q live ≡ false
+has-none q [] h = refl
+has-none q (x ∷ live) h =
+    let lt : x < q = All-head (λ x. x < q) x live h in
+    let lacks : eqb x q ≡ false = grind (arith, nat_tests) in
+    ap (λ b. b || has q live) lacks ∙ has-none q live (All-tail (λ x. x < q) x live h)
+
 -- ---- closing
 pub covers_filtered : (f : ℕ → Bool) (peers live : List ℕ) → Covers peers live → Covers peers (filter f live)
 covers_filtered f peers live covers =
     filter_agree (λ x. has x (filter f live)) (λ x. has x live && f x)
-    (λ x. has-filter f x live ∙ and-comm (f x) (has x live)) peers
+    (λ x. has-filter f x live ∙ and_comm (f x) (has x live)) peers
     ∙ sym (filter-both f (λ x. has x live) peers)
     ∙ ap (filter f) covers
 
@@ -67,23 +69,7 @@ has-more x q (y ∷ live) e = ap (λ b. eqb y x || b) (has-more x q live e)
 
 has-last : (q : ℕ) (live : List ℕ) → has q (live ++ q ∷ []) ≡ true
 has-last q [] = ap (λ b. b || false) (eq-eqb q q refl)
-has-last q (y ∷ live) = ap (λ b. eqb y q || b) (has-last q live) ∙ or-true (eqb y q) where
-  or-true : (b : Bool) → (b || true) ≡ true
-  or-true true = refl
-  or-true false = refl
-
-apart : (q : ℕ) (xs live : List ℕ) → All (λ x. x < q) xs → All (λ x. has x (live ++ q ∷ []) ≡ has x live) xs
-apart q xs live h =
-    All-weaker (λ x. x < q) (λ x. has x (live ++ q ∷ []) ≡ has x live)
-    (λ x lt. has-more x q live (grind (arith, nat_tests))) xs h
-
-covers_opened : (q : ℕ) (peers live : List ℕ) → All (λ x. x < q) peers → Covers peers live
-    → Covers (peers ++ q ∷ []) (live ++ q ∷ [])
-covers_opened q peers live below covers =
-    filter-append (λ x. has x (live ++ q ∷ [])) peers (q ∷ [])
-    ∙ ap (λ b. filter (λ x. has x (live ++ q ∷ [])) peers ++ cond b (q ∷ []) []) (has-last q live)
-    ∙ ap (λ xs. xs ++ q ∷ [])
-    (filter-alike (λ x. has x (live ++ q ∷ [])) (λ x. has x live) peers (apart q peers live below) ∙ covers)
+has-last q (y ∷ live) = ap (λ b. eqb y q || b) (has-last q live) ∙ or-true (eqb y q)
 
 at-end : (q : ℕ) (live : List ℕ) → All (λ x. x < q) live → with_peer q live ≡ live ++ q ∷ []
 at-end q [] h = refl
@@ -93,23 +79,27 @@ at-end q (x ∷ live) h =
     ap (λ b. cond b (x ∷ with_peer q live) (q ∷ x ∷ live)) yes ∙ ap (λ xs. x ∷ xs)
     (at-end q live (All-tail (λ x. x < q) x live h))
 
-pub below_live : (q : ℕ) (peers live : List ℕ) → All (λ x. x < q) peers → Covers peers live → All (λ x. x < q) live
-below_live q peers live below covers =
-    subst (All (λ x. x < q)) covers (All-filter (λ x. has x live) (λ x. x < q) peers below)
+module _ (q : ℕ) (peers live : List ℕ) (below : All (λ x. x < q) peers) (covers : Covers peers live) where
+  pub below_live : All (λ x. x < q) live
+  below_live = subst (All (λ x. x < q)) covers (All-filter (λ x. has x live) (λ x. x < q) peers below)
 
-pub covers_more : (q : ℕ) (peers live : List ℕ) → All (λ x. x < q) peers → Covers peers live
-    → Covers (peers ++ q ∷ []) (with_peer q live)
-covers_more q peers live below covers =
-    subst (Covers (peers ++ q ∷ [])) (sym (at-end q live (below_live q peers live below covers)))
-    (covers_opened q peers live below covers)
+  pub covers_more : Covers (peers ++ q ∷ []) (with_peer q live)
+  covers_more =
+      let now = live ++ q ∷ [] in
+      subst (Covers (peers ++ q ∷ [])) (sym (at-end q live below_live))
+      (filter-append (λ x. has x now) peers (q ∷ [])
+      ∙ ap (λ b. filter (λ x. has x now) peers ++ cond b (q ∷ []) []) (has-last q live)
+      ∙ ap (λ xs. xs ++ q ∷ []) (filter-alike (λ x. has x now) (λ x. has x live) peers
+      (All-weaker (λ x. x < q) (λ x. has x now ≡ has x live)
+      (λ x lt. has-more x q live (grind (arith, nat_tests))) peers below) ∙ covers))
+
+  pub covers_unopened : Covers (peers ++ q ∷ []) live
+  covers_unopened =
+      filter-append (λ x. has x live) peers (q ∷ [])
+      ∙ ap (λ b. filter (λ x. has x live) peers ++ cond b (q ∷ []) []) (has-none q live below_live)
+      ∙ append-nil (filter (λ x. has x live) peers) ∙ covers
 
 -- ---- order
-rises : (from : ℕ) (xs : List ℕ) → AreRising from xs → All (λ x. from ≤ x) xs
-rises from [] h = All-nil _
-rises from (x ∷ xs) h =
-    All-cons (λ x. from ≤ x) x xs h.0
-    (All-weaker (λ y. x + 1 ≤ y) (λ y. from ≤ y) (λ y le. omega (arith, h.0, le)) xs (rises (x + 1) xs h.1))
-
 rising-later : (a b : ℕ) (xs : List ℕ) → b ≤ a → AreRising a xs → AreRising b xs
 rising-later a b [] le h = tt
 rising-later a b (x ∷ xs) le h = (omega (arith, le, h.0), h.1)
@@ -121,18 +111,22 @@ rising_last from q (x ∷ xs) h below le =
     let lt : x < q = All-head (λ x. x < q) x xs below in
     (h.0, rising_last (x + 1) q xs h.1 (All-tail (λ x. x < q) x xs below) (omega (arith, lt)))
 
-pass-all : (p : ℕ) (xs : List ℕ) → All (λ x. p + 1 ≤ x) xs → filter (λ x. nat_lt p x) xs ≡ xs
-pass-all p [] h = refl
-pass-all p (x ∷ xs) h =
-    let le : p + 1 ≤ x = All-head (λ x. p + 1 ≤ x) x xs h in
+pass-all : (p from : ℕ) (xs : List ℕ) → p < from → AreRising from xs → filter (λ x. nat_lt p x) xs ≡ xs
+pass-all p from [] lt h = refl
+pass-all p from (x ∷ xs) lt h =
+    let le : from ≤ x = h.0 in
     let yes : ltb p x ≡ true = grind (arith, nat_tests) in
-    ap (λ b. cond b (x ∷ filter (λ x. nat_lt p x) xs) (filter (λ x. nat_lt p x) xs)) yes ∙ ap (λ ys. x ∷ ys)
-    (pass-all p xs (All-tail (λ x. p + 1 ≤ x) x xs h))
+    kept (λ x. nat_lt p x) x xs yes ∙ ap (λ ys. x ∷ ys) (pass-all p (x + 1) xs (omega (arith, lt, le)) h.1)
 
 -- ---- the place of a peer
 drops-none : (i p : ℕ) (rest : List ℕ) → drop i [] ≡ p ∷ rest → ⊥
 drops-none zero p rest e = absurd (let t : [] ≡ p ∷ rest = e in cc)
 drops-none (suc i) p rest e = absurd (let t : [] ≡ p ∷ rest = e in cc)
+
+rises : (from i p : ℕ) (xs rest : List ℕ) → AreRising from xs → drop i xs ≡ p ∷ rest → from ≤ p
+rises from i p [] rest h e = absurd (drops-none i p rest e)
+rises from zero p (x ∷ xs) rest h e = let same : x ≡ p = cc in omega (arith, h.0, same)
+rises from (suc i) p (x ∷ xs) rest h e = omega (arith, h.0, rises (x + 1) i p xs rest h.1 e)
 
 passed : (from i p : ℕ) (xs rest : List ℕ) → AreRising from xs → drop i xs ≡ p ∷ rest
     → filter (λ x. nat_lt p x) xs ≡ rest
@@ -141,41 +135,35 @@ passed from zero p (x ∷ xs) rest h e =
     let same : x ≡ p = cc in
     let rest_is : xs ≡ rest = cc in
     let no : ltb p x ≡ false = grind (arith, nat_tests) in
-    let more : AreRising (p + 1) xs = subst (λ y. AreRising (y + 1) xs) same h.1 in
-    ap (λ b. cond b (x ∷ filter (λ x. nat_lt p x) xs) (filter (λ x. nat_lt p x) xs)) no ∙ pass-all p xs
-    (rises (p + 1) xs more) ∙ rest_is
+    left_out (λ x. nat_lt p x) x xs no ∙ pass-all p (x + 1) xs (omega (arith, same)) h.1 ∙ rest_is
 passed from (suc i) p (x ∷ xs) rest h e =
-    let lt : x + 1 ≤ p =
-    All-head (λ y. x + 1 ≤ y) p rest
-    (subst (All (λ y. x + 1 ≤ y)) e (All-drop (λ y. x + 1 ≤ y) i xs (rises (x + 1) xs h.1))) in
+    let lt : x + 1 ≤ p = rises (x + 1) i p xs rest h.1 e in
     let no : ltb p x ≡ false = grind (arith, nat_tests) in
-    ap (λ b. cond b (x ∷ filter (λ x. nat_lt p x) xs) (filter (λ x. nat_lt p x) xs)) no ∙ passed (x + 1) i p xs rest h.1
-    e
+    left_out (λ x. nat_lt p x) x xs no ∙ passed (x + 1) i p xs rest h.1 e
 
 pub above_passed : (i p : ℕ) (peers live rest : List ℕ) → AreRising 0 peers → Covers peers live
     → drop i peers ≡ p ∷ rest
     → above (Some p) live ≡ filter (λ x. has x live) rest
 above_passed i p peers live rest rising covers e =
     ap (filter (λ x. nat_lt p x)) (sym covers)
-    ∙ filter-comm (λ x. nat_lt p x) (λ x. has x live) peers
+    ∙ filter-both (λ x. nat_lt p x) (λ x. has x live) peers
+    ∙ filter_agree _ _ (λ x. and_comm (has x live) (nat_lt p x)) peers
+    ∙ sym (filter-both (λ x. has x live) (λ x. nat_lt p x) peers)
     ∙ ap (filter (λ x. has x live)) (passed 0 i p peers rest rising e)
 
+-- ---- a peer is removed
 pub drop_removed : (i p : ℕ) (xs rest : List ℕ) → drop i xs ≡ p ∷ rest → drop i (remove xs i) ≡ rest
 drop_removed i p [] rest e = absurd (drops-none i p rest e)
 drop_removed zero p (x ∷ xs) rest e = cc
 drop_removed (suc i) p (x ∷ xs) rest e = drop_removed i p xs rest e
 
-pub covers_removed : (i p : ℕ) (peers live rest : List ℕ) → drop i peers ≡ p ∷ rest → has p live ≡ false
-    → Covers peers live → Covers (remove peers i) live
-covers_removed i p peers live rest e lacks covers = filter-without i peers e ∙ covers where
-  filter-without : (i : ℕ) (xs : List ℕ) → drop i xs ≡ p ∷ rest
-      → filter (λ x. has x live) (remove xs i) ≡ filter (λ x. has x live) xs
-  filter-without i [] e = absurd (drops-none i p rest e)
-  filter-without zero (x ∷ xs) e =
-      let same : x ≡ p = cc in
-      sym (ap (λ b. cond b (x ∷ filter (λ x. has x live) xs) (filter (λ x. has x live) xs))
-      (ap (λ y. has y live) same ∙ lacks))
-  filter-without (suc i) (x ∷ xs) e = ap (λ ys. cond (has x live) (x ∷ ys) ys) (filter-without i xs e)
+pub filter_removed : (f : ℕ → Bool) (i p : ℕ) (xs rest : List ℕ) → drop i xs ≡ p ∷ rest → f p ≡ false
+    → filter f (remove xs i) ≡ filter f xs
+filter_removed f i p [] rest e lacks = absurd (drops-none i p rest e)
+filter_removed f zero p (x ∷ xs) rest e lacks =
+    let same : x ≡ p = cc in sym (left_out f x xs (ap f same ∙ lacks))
+filter_removed f (suc i) p (x ∷ xs) rest e lacks =
+    ap (λ ys. cond (f x) (x ∷ ys) ys) (filter_removed f i p xs rest e lacks)
 
 pub rising_removed : (from i p : ℕ) (xs rest : List ℕ) → drop i xs ≡ p ∷ rest → AreRising from xs
     → AreRising from (remove xs i)
@@ -187,38 +175,9 @@ pub below_removed : (P : ℕ → Type 0) (i : ℕ) (xs : List ℕ) → All P xs 
 below_removed P i xs h =
     All-append P (take i xs) (drop (suc i) xs) (All-take P i xs h) (All-drop P (suc i) xs h)
 
--- the first of what is left to be asked
-pub next_has : (p : ℕ) (live rest : List ℕ) → has p live ≡ true
-    → filter (λ x. has x live) (p ∷ rest) ≡ p ∷ filter (λ x. has x live) rest
-next_has p live rest there = ap (λ b. cond b (p ∷ filter (λ x. has x live) rest) (filter (λ x. has x live) rest)) there
-
-pub next_lacks : (p : ℕ) (live rest : List ℕ) → has p live ≡ false
-    → filter (λ x. has x live) (p ∷ rest) ≡ filter (λ x. has x live) rest
-next_lacks p live rest lacks =
-    ap (λ b. cond b (p ∷ filter (λ x. has x live) rest) (filter (λ x. has x live) rest)) lacks
-
-pub has-none : (q : ℕ) (live : List ℕ) → All (λ x. x < q) live → has q live ≡ false
-has-none q [] h = refl
-has-none q (x ∷ live) h =
-    let lt : x < q = All-head (λ x. x < q) x live h in
-    let lacks : eqb x q ≡ false = grind (arith, nat_tests) in
-    ap (λ b. b || has q live) lacks ∙ has-none q live (All-tail (λ x. x < q) x live h)
-
-pub covers_unopened : (q : ℕ) (peers live : List ℕ) → All (λ x. x < q) peers → Covers peers live
-    → Covers (peers ++ q ∷ []) live
-covers_unopened q peers live below covers =
-    filter-append (λ x. has x live) peers (q ∷ [])
-    ∙ ap (λ b. filter (λ x. has x live) peers ++ cond b (q ∷ []) [])
-    (has-none q live (below_live q peers live below covers))
-    ∙ append-nil (filter (λ x. has x live) peers) ∙ covers
-
+-- ---- greater peers
 pub below_later : (a b : ℕ) (xs : List ℕ) → a ≤ b → All (λ x. x ≤ a) xs → All (λ x. x ≤ b) xs
 below_later a b xs le h = All-weaker (λ x. x ≤ a) (λ x. x ≤ b) (λ x here. omega (arith, here, le)) xs h
 
 pub below_next : (a b : ℕ) (xs : List ℕ) → a < b → All (λ x. x ≤ a) xs → All (λ x. x < b) xs
 below_next a b xs lt h = All-weaker (λ x. x ≤ a) (λ x. x < b) (λ x here. omega (arith, here, lt)) xs h
-
--- the loop knows its peers, and one more
-pub knows_later : (peers : List ℕ) (a b : ℕ) (live : List ℕ) → Knows peers a live → a ≤ b → Knows peers b live
-knows_later peers a b live k le =
-    record { rising = k.rising; below = below_later a b peers le k.below; covers = k.covers }

@@ -47,7 +47,7 @@ use Rattle.css_drive.specs.declared.on_air.OnAir.{OnAir}
 use Rattle.css_drive.specs.declared.turns.Turns.{Turns}
 use Rattle.css_drive.proofs.TvCalls.{IsNoOpening, is_fresh, event_narrows, event_covers, has_talk}
 use Rattle.css_drive.proofs.TvPeers as lists
-use Rattle.css_drive.proofs.TvTellings.{unused}
+use Rattle.css_drive.proofs.TvTold.{all_good}
 
 -- ---- lines that wait
 pub carry_stops : (a : Addresses) (s r : ℕ) (lines : List ScriptLine) (p : Progress) → is_free p ≡ false
@@ -315,11 +315,11 @@ module _ {from : From} {now : Shown} {air : OnAir} where
       let call = Accepted peer (peer_kind_of k) ∷ [] in
       let xs = air.peers.items in
       let before = lists.below_next now.counts.peers peer xs lt x.knows.below in
+      let below : AreBelow peer x.h = below_later _ _ x.h (omega (arith, lt)) x.history.below in
       let t : Told from next (happened a (event.Opened peer k) (progress_at from.run air (Asked None) [] x.events))
       (call ++ x.h) =
       told_as _ (told_more x.history call (Some (peer, peer_kind_of k), refl) told dials faults
-      (below_later _ _ x.h (omega (arith, lt)) x.history.below, x.history.numbered)
-      (omega (arith, is), below_later _ _ x.h (omega (arith, lt, is)) x.history.below))
+      (below, x.history.numbered) (omega (arith, is), below_later _ _ x.h (omega (arith, lt, is)) x.history.below))
       (opened_so a peer k (progress_at from.run air (Asked None) [] x.events)) in
       record {
         p = _;
@@ -341,7 +341,7 @@ module _ {from : From} {now : Shown} {air : OnAir} where
             });
           };
           fresh = ap (λ (p : Progress). life_of peer (calls_of a p.events).sessions) (sym x.history.progress)
-              ∙ unused from.run peer (now.counts.peers + 1) (omega (arith, lt)) x.h x.history.below;
+              ∙ (all_good from.run x.h x.history.proper x.history.numbered peer).unused below;
           covers = subst (λ ys. Covers ys (live_after from (event.Opened peer k ∷ x.events))) (sym items)
               (event_covers a peer k x.events xs before x.knows.covers);
         };
