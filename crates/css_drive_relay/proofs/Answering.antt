@@ -9,10 +9,10 @@ use Rattle.css_relay.specs.Answers.{Ticket, received_after, answered_after, data
 use Rattle.css_relay.specs.declared.fault.RelayFault.{RelayFault}
 use Rattle.css_relay.specs.TwoHops.{IsAnswerOf}
 use Rattle.css_relay.proofs.TwoHops as two
-use Rattle.css_drive_relay.specs.Places.{Place, Facts, Received, Answers, Taken, Dropping, Over, Rejecting}
-use Rattle.css_drive_relay.specs.Places.{progress_of, hung_up, received, received_at, answering, answered_at, with_turn}
+use Rattle.css_drive_relay.specs.Places.{Place, Facts, Received, Answers, Taken, Dropping, Over, Rejecting, progress_of}
+use Rattle.css_drive_relay.specs.Places.{hung_up, received, received_at, answering, answered_at, with_turn}
 use Rattle.css_drive_relay.specs.Laws.{IsAnswerTo, AnswersAreTrueTo}
-use Rattle.css_drive_relay.proofs.Follows.{IsRest, rest_begun, rest_next, moves}
+use Rattle.css_drive_relay.proofs.Follows.{IsRest, on_begun, rest_next, moves}
 use Rattle.css_drive_relay.specs.declared.config.RelayRun.{RelayRun}
 
 -- a request was taken in the history, and this is its ticket
@@ -98,9 +98,7 @@ after_take : (run : RelayRun) (history : History) (reading : ℕ) (place : Place
 after_take run history reading (Taken peer bytes) t =
     receiving run.companion.local history reading peer bytes
     (received_after run.companion.local history reading bytes) refl
-after_take run history reading (Received p ticket) t = taken_later (Clock why.Take reading) t
-after_take run history reading (Answers p datagram) t = answered_later (Clock why.Take reading) t
-after_take run history reading _ t = tt
+after_take run history reading place t = later run.companion.local history (Clock why.Take reading) place t
 
 giving : (own : Local) (history : History) (reading peer : ℕ) (ticket : Ticket) (result : Result Message RelayFault)
     → HasTaken own history ticket → answered_after own history reading ticket ≡ result
@@ -129,14 +127,14 @@ after_give : (run : RelayRun) (history : History) (reading : ℕ) (place : Place
 after_give run history reading (Received p ticket) t =
     giving run.companion.local history reading p ticket
     (answered_after run.companion.local history reading ticket) t refl
-after_give run history reading (Answers p datagram) t = answered_later (Clock why.Give reading) t
-after_give run history reading _ t = tt
+after_give run history reading place t = later run.companion.local history (Clock why.Give reading) place t
 
 -- ---- each history
 tells : (run : RelayRun) (history : History) → Tells run.companion.local history (progress_of run history).place
 tells run [] = tt
 tells run (Clock why.Turn reading ∷ older) =
-    tells_rest run.companion.local _ _ (rest_begun run (with_turn reading (progress_of run older).facts))
+    on_begun (Tells run.companion.local (Clock why.Turn reading ∷ older)) run
+    (with_turn reading (progress_of run older).facts) tt tt
 tells run (Clock why.Ask reading ∷ older) = tt
 tells run (Clock why.Take reading ∷ older) =
     after_take run older reading (progress_of run older).place (tells run older)

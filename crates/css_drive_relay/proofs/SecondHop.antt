@@ -16,7 +16,7 @@ use Rattle.css_drive_relay.specs.Places.{progress_of}
 use Rattle.css_drive_relay.specs.SecondHop.{given_at, given_by, IsRequest, IsResponse, IsSentAt, SentIsKnown, IsGiven}
 use Rattle.css_drive_relay.specs.SecondHop.{last_take, GivenIsTrue, IsTrueAnswer, IsFromRun, FromRunAt}
 use Rattle.css_drive_relay.specs.SecondHop.{SecondHopsAreTrue}
-use Rattle.css_drive_relay.proofs.Follows.{Followed, followed, FitsDial, moves, rest_moved, rest_sent, rest_begun}
+use Rattle.css_drive_relay.proofs.Follows.{Followed, followed, FitsDial, moves, rest_moved, rest_sent, on_begun}
 use Rattle.css_drive_relay.proofs.Follows.{rest_next, IsRest, IsTimed, IsTaken, IsReceived, IsToSend, IsMove}
 use Rattle.css_drive_relay.specs.declared.config.RelayRun.{RelayRun}
 use Rattle.css_model.specs.Wire.{encoded, decoded}
@@ -113,7 +113,8 @@ shape_of run [] each = tt
 shape_of run (Slept ∷ older) each =
     after_sleep run older (progress_of run older).place each.0.1 (shape_of run older each.1)
 shape_of run (Clock why.Turn reading ∷ older) each =
-    shows_rest run _ _ (rest_begun run (places.with_turn reading (progress_of run older).facts))
+    on_begun (Shows run (Clock why.Turn reading ∷ older)) run (places.with_turn reading (progress_of run older).facts)
+    tt tt
 shape_of run (Clock why.Ask reading ∷ older) each = (older, refl)
 shape_of run (Clock why.Take reading ∷ older) each =
     after_take run older reading (progress_of run older).place each.0.2
