@@ -1,8 +1,9 @@
 -- What each entry of a relay's run says of the place that it leaves, and to which places entries lead. So a run that is
 -- done made all its turns.
-use Rattle.std.proofs.Common.{◌≡◌, ℕ, ◌<◌, Bool, true, false, cond, List, [], ◌∷◌, ◌++◌, Option, Some, None, refl, sym}
-use Rattle.std.proofs.Common.{subst, arith, inl, inr, ◌+◌, ◌≤◌, ap, ◌∙◌}
+use Rattle.std.proofs.Common.{◌≡◌, ℕ, ◌<◌, Bool, true, false, List, [], ◌∷◌, ◌++◌, Option, Some, None, refl, sym, subst}
+use Rattle.std.proofs.Common.{arith, inl, inr, ◌+◌, ◌≤◌, ap, ◌∙◌}
 use Rattle.std.specs.Prelude.{◌||◌, ◌&&◌, ◌⊎◌, nat_lt, not, is_some, ⊤, Result, Ok, Err, unwrap_or}
+use Rattle.std.proofs.lemmas.Bool.{and_parts, cond_both}
 use Rattle.std.proofs.lemmas.Bool.Decides.{nat_tests}
 use Rattle.css_address.specs.declared.fault.AddressFault.{AddressFault}
 use Rattle.css_cii.specs.declared.name.CiiName.TheVariants.{WcUrl}
@@ -23,11 +24,11 @@ use Rattle.css_outside.specs.declared.calls.Heard.{Heard as SessionHeard}
 use Rattle.css_outside.specs.declared.calls.Wrote.{Wrote as Outcome}
 use Rattle.css_cii.specs.declared.state.State.{State}
 use Rattle.css_sessions.specs.Kept.{difference_text, full_text}
-use Rattle.css_drive_relay.specs.Places.{Place, Begins, Begun, Called, Asking, Requested, Taken, Received, Answers}
-use Rattle.css_drive_relay.specs.Places.{Served, Greeting, Rejecting, Welcomed, Refused, Telling, Asked, Dropping, Over}
-use Rattle.css_drive_relay.specs.Places.{Facts, Progress, progress_of, all_open, next_asked, telling, telling_if}
+use Rattle.css_drive_relay.specs.Places.{Place, Begun, Called, Asking, Requested, Taken, Received, Answers, Served}
+use Rattle.css_drive_relay.specs.Places.{Greeting, Rejecting, Welcomed, Refused, Telling, Asked, Dropping, Over, Facts}
+use Rattle.css_drive_relay.specs.Places.{Progress, progress_of, all_open, next_asked, telling, telling_if}
 use Rattle.css_drive_relay.specs.Due.{due_at, final, from_hang_ups, from_texts, from_ask, from_wc, from_dial}
-use Rattle.css_drive_relay.specs.Due.{from_taken, IsProperRelay, due}
+use Rattle.css_drive_relay.specs.Due.{IsProperRelay, due}
 use Rattle.css_drive_relay.specs.Told.{relayed}
 use Rattle.css_drive_relay.specs.declared.config.RelayRun.{RelayRun}
 use Rattle.css_drive.specs.Ends.{MayEnd}
@@ -139,39 +140,29 @@ Fits run f place _ = (waiting place ≡ []) × IsRest place
 -- a turn is left
 pub one_more : (run : RelayRun) (f : Facts) → goes_on run.limit f.first f.turn f.turns ≡ true
     → f.turns < most_turns run.limit
-one_more run f on = by (nat_lt f.turns (most_turns run.limit)) refl on
-  where
-    by : (b : Bool) → nat_lt f.turns (most_turns run.limit) ≡ b
-        → (b && not (is_late run.limit f.first f.turn)) ≡ true → f.turns < most_turns run.limit
-    by true e on = grind (arith, nat_tests, e)
-    by false e on = absurd cc
+one_more run f on =
+    let more = (and_parts (nat_lt f.turns (most_turns run.limit)) (not (is_late run.limit f.first f.turn)) on).0 in
+    grind (arith, nat_tests, more)
 
 module _ (run : RelayRun) (f : Facts) (history : History) (place : Place) (said : waiting place ≡ []) where
   fits_hanging : (peers : List ℕ) → HasEnded run f place → Fits run f place (from_hang_ups (final f) peers)
   fits_hanging (peer ∷ peers) ended = (said, inr ended)
-  fits_hanging [] ended = by (reached f) refl
-    where
-      by : (b : Bool) → reached f ≡ b
-          → Fits run f place (Ends (cond b driven.Done (driven.Unreachable f.turns)))
-      by true e = (said, ended, e)
-      by false e = (said, ended, e, refl)
+  fits_hanging [] ended =
+      cond_both (reached f) driven.Done (driven.Unreachable f.turns) (λ d. Fits run f place (Ends d))
+      (λ e. (said, ended, e)) (λ e. (said, ended, e, refl))
 
   module _ (rest : IsRest place) (timed : IsTimed place) where
     fits_texts : (left : List ℕ) → Fits run f place (from_texts run left f history)
     fits_texts (peer ∷ left) = (said, rest)
-    fits_texts [] = by (goes_on run.limit f.first f.turn f.turns) refl
-      where
-        by : (b : Bool) → goes_on run.limit f.first f.turn f.turns ≡ b
-            → Fits run f place (cond b (Now why.Turn) (from_hang_ups (final f) (all_open f)))
-        by true on = (said, timed, (rest, one_more run f on))
-        by false made = fits_hanging (all_open f) (inr made)
+    fits_texts [] =
+        cond_both (goes_on run.limit f.first f.turn f.turns) (Now why.Turn) (from_hang_ups (final f) (all_open f))
+        (Fits run f place) (λ on. (said, timed, (rest, one_more run f on)))
+        (λ made. fits_hanging (all_open f) (inr made))
 
     fits_ask : Fits run f place (from_ask run f history)
-    fits_ask = by (is_some f.wc && is_asking run.ask_every f.turn f.asked)
-      where
-        by : (b : Bool) → Fits run f place (cond b (Now why.Ask) TakeDatagram)
-        by true = (said, timed, rest)
-        by false = said
+    fits_ask =
+        cond_both (is_some f.wc && is_asking run.ask_every f.turn f.asked) (Now why.Ask) TakeDatagram
+        (Fits run f place) (λ e. (said, timed, rest)) (λ e. said)
 
     fits_wc : Fits run f place (from_wc run f history)
     fits_wc = by f.wc _
@@ -204,11 +195,9 @@ fits run f history (Asking reading) = by f.wc
     by None = refl
     by (Some peer) = (refl, refl)
 fits run f history Requested = refl
-fits run f history (Taken peer bytes) = by (is_some (request_in bytes))
-  where
-    by : (b : Bool) → Fits run f (Taken peer bytes) (from_taken b)
-    by true = (refl, tt, tt)
-    by false = (refl, tt, tt)
+fits run f history (Taken peer bytes) =
+    cond_both (is_some (request_in bytes)) (Now why.Take) (Now why.Land) (Fits run f (Taken peer bytes))
+    (λ e. (refl, tt, tt)) (λ e. (refl, tt, tt))
 fits run f history (Received peer ticket) = (refl, tt, tt)
 fits run f history (Answers peer datagram) = (refl, refl)
 fits run f history (Greeting peer) = (refl, refl, tt)
@@ -289,12 +278,31 @@ followed run h (More {older} call may proper) =
     may
 
 -- ---- places to which entries lead
-pub rest_begun : (run : RelayRun) (f : Facts) → IsRest (places.begun run f)
-rest_begun run f = by (is_late run.limit f.first f.turn)
-  where
-    by : (b : Bool) → IsRest (cond b (Asked []) Begun)
-    by true = tt
-    by false = tt
+module _ (P : Place → Type 0) where
+  -- what holds of these places holds of each to which this leads
+  pub on_begun : (run : RelayRun) (f : Facts) → P (Asked []) → P Begun → P (places.begun run f)
+  on_begun run f last first =
+      cond_both (is_late run.limit f.first f.turn) (Asked []) Begun P (λ e. last) (λ e. first)
+
+  pub on_received : (run : RelayRun) (reading : ℕ) (older : History) (place : Place) → IsTaken place → P Served
+      → ((peer : ℕ) (ticket : Ticket) → P (Received peer ticket)) → P (places.received_at run reading older place)
+  on_received run reading older (Taken peer bytes) is served received =
+      by (received_after run.companion.local older reading bytes)
+    where
+      by : (x : Result Ticket RelayFault) → P (places.received peer x)
+      by (Ok ticket) = received peer ticket
+      by (Err bad) = served
+  on_received run reading older place is served received = absurd is
+
+  pub on_answered : (run : RelayRun) (reading : ℕ) (older : History) (place : Place) → IsReceived place → P Served
+      → ((peer : ℕ) (bytes : List ℕ) → P (Answers peer bytes)) → P (places.answered_at run reading older place)
+  on_answered run reading older (Received peer ticket) is served answers =
+      by (datagram_of (answered_after run.companion.local older reading ticket))
+    where
+      by : (x : Result (List ℕ) RelayFault) → P (places.answering peer x)
+      by (Ok bytes) = answers peer bytes
+      by (Err bad) = served
+  on_answered run reading older place is served answers = absurd is
 
 pub rest_next : (o : Option ℕ) (peers : List ℕ) → IsRest (next_asked o peers)
 rest_next None peers = tt
@@ -404,25 +412,6 @@ over_rest : (place : Place) → IsRest place → IsOver place → ⊥
 over_rest (Over left) rest e = rest
 over_rest place rest e = e
 
-over_received : (run : RelayRun) (reading : ℕ) (older : History) (place : Place) → IsTaken place
-    → IsOver (places.received_at run reading older place) → ⊥
-over_received run reading older (Taken peer bytes) is e = by (received_after run.companion.local older reading bytes) e
-  where
-    by : (x : Result Ticket RelayFault) → IsOver (places.received peer x) → ⊥
-    by (Ok ticket) e = e
-    by (Err fault) e = e
-over_received run reading older place is e = is
-
-over_answered : (run : RelayRun) (reading : ℕ) (older : History) (place : Place) → IsReceived place
-    → IsOver (places.answered_at run reading older place) → ⊥
-over_answered run reading older (Received peer ticket) is e =
-    by (datagram_of (answered_after run.companion.local older reading ticket)) e
-  where
-    by : (x : Result (List ℕ) RelayFault) → IsOver (places.answering peer x) → ⊥
-    by (Ok bytes) e = e
-    by (Err fault) e = e
-over_answered run reading older place is e = is
-
 -- ---- what stands as the run goes on
 -- how many turns were begun, and the readings of the first and the last one
 abbrev pub Turns : Type 0
@@ -482,7 +471,7 @@ module _ (run : RelayRun) (older : History) (t : Good run older) where
   after (Clock why.Turn reading) c = record {
     turns = ap (λ (x : Turns). (x.0 + 1, Some (unwrap_or x.1 reading), Some reading)) t.turns;
     few = let more = c.2.1 in omega (arith, more);
-    over = λ e. absurd (over_rest _ (rest_begun run (places.with_turn reading p.facts)) e);
+    over = λ e. absurd (on_begun (λ place. IsOver place → ⊥) run (places.with_turn reading p.facts) (λ e. e) (λ e. e) e);
     dialled = t.dialled;
   }
   after (Clock why.Ask reading) c =
@@ -490,13 +479,15 @@ module _ (run : RelayRun) (older : History) (t : Good run older) where
   after (Clock why.Take reading) c = record {
     turns = t.turns;
     few = t.few;
-    over = λ e. absurd (over_received run reading older p.place c.2 e);
+    over =
+        λ e. absurd (on_received (λ place. IsOver place → ⊥) run reading older p.place c.2 (λ e. e) (λ q t e. e) e);
     dialled = t.dialled;
   }
   after (Clock why.Give reading) c = record {
     turns = t.turns;
     few = t.few;
-    over = λ e. absurd (over_answered run reading older p.place c.2 e);
+    over =
+        λ e. absurd (on_answered (λ place. IsOver place → ⊥) run reading older p.place c.2 (λ e. e) (λ q b e. e) e);
     dialled = t.dialled;
   }
   after (Dialled kind.Cii peer) c = record { turns = t.turns; few = t.few; over = λ e. absurd e; dialled = refl }

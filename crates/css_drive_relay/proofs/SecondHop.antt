@@ -1,37 +1,402 @@
--- What each datagram of a relay's whole run is, and why a response answers the request that was taken last before it.
-use Rattle.std.proofs.Common.{◌≡◌, ℕ, List, [], ◌∷◌, refl, sym, ap, subst, inl, inr, ◌≤◌, Option, Some, None, length}
-use Rattle.std.proofs.Common.{◌∙◌, arith, take}
-use Rattle.std.specs.Prelude.{◌⊎◌, ⊤, Result, Ok, Err, IfSome, IsTrue}
-use Rattle.std.specs.Result.{result_ok}
-use Rattle.css_model.specs.WallClock.{Local}
+-- What each datagram of a relay's whole run is, why what it sends in answer answers a request that it took, and what is
+-- read from that.
+use Rattle.std.proofs.Common.{◌≡◌, ℕ, ◌≤◌, ◌<◌, arith, ap, ◌∙◌, subst, refl, Bool, true, false, cond, List, [], ◌∷◌}
+use Rattle.std.proofs.Common.{◌++◌, sym, Option, Some, None, Result, Ok, Err, inl, inr, length, take}
+use Rattle.std.specs.Prelude.{ℤ, pos, negsuc, neg_ℤ, ◌≤ℤ◌, FitsSigned, max, nat_lt, ◌==◌, ◌⊎◌, ⊤, IfSome, IsTrue}
+use Rattle.std.specs.Int.{w8}
+use Rattle.std.specs.Option.{option_to_list, option_and_then}
+use Rattle.std.proofs.lemmas.Bool.{ltb-false}
+use Rattle.std.proofs.lemmas.Int.{ints}
+use Rattle.css_num.specs.Spans.{Interval}
+use Rattle.css_model.specs.declared.Stamp.{Stamp}
 use Rattle.css_model.specs.declared.Message.{Message}
-use Rattle.css_model.specs.declared.Kind.{Kind}
-use Rattle.css_model.specs.History.{Entry, History, Each, Slept, Clock, Dialling, Accepted, NoneCame, Sent, Quiet}
-use Rattle.css_model.specs.History.{Heard, Closed, Wrote, Gone, HungUp, Once, LandedAnswer, landed_answer}
-use Rattle.css_model.specs.History.{landed_answers, is_possible}
-use Rattle.css_relay.specs.Answers.{Ticket, received_after, answered_after, datagram_of}
+use Rattle.css_model.specs.declared.WcFault.{WcFault}
+use Rattle.css_model.specs.declared.TheConstants.{LIMIT}
+use Rattle.css_model.specs.Numbers.{precision_ns, max_error}
+use Rattle.css_model.specs.WallClock.{Local}
+use Rattle.css_model.specs.Wire.{encoded, decoded, fields, fault, unless_fault, stamp_of}
+use Rattle.css_model.specs.World.{World, Errors, IsWorldFor, IsInRange}
+use Rattle.css_model.specs.History.{History, is_sleep, LandedAnswer, landed_answer, landed_answers, times_of}
+use Rattle.css_model.specs.History.{is_possible, possible_answers, accepted_answers, request_in, Entry, Once, Clock}
+use Rattle.css_model.specs.History.{Dialled, Took, HungUp, Each, Slept, Dialling, Accepted, NoneCame, Sent, Quiet}
+use Rattle.css_model.specs.History.{Heard, Closed, Wrote, Gone}
+use Rattle.css_model.proofs.Landings.{landed_answer-is}
+use Rattle.css_span.specs.Frontiers.{greatest_error}
+use Rattle.css_span.specs.WallSpans.{wall_span}
+use Rattle.css_wc.proofs.Codec.{IsStamp, IsMessage, fields-encoded}
+use Rattle.css_relay.specs.Answers.{Ticket, requested_by, ticket_at, ticket_by, received_after, response_to, answer_at}
+use Rattle.css_relay.specs.Answers.{answered_after, datagram_of, answered}
+use Rattle.css_relay.specs.Middles.{cut, between, is_beyond}
+use Rattle.css_relay.specs.TwoHops.{IsTrueResponse, IsAnswerOf}
 use Rattle.css_relay.specs.declared.fault.RelayFault.{RelayFault}
-use Rattle.css_drive_relay.specs.Places.{Place, Asking, Taken, Received, Answers, Rejecting, Dropping, Over, Progress}
-use Rattle.css_drive_relay.specs.Places.{progress_of}
+use Rattle.std.specs.Result.{result_ok}
+use Rattle.css_relay.proofs.Exponents.{exponents_are_least}
+use Rattle.css_relay.proofs.Readings.{same_ok}
+use Rattle.css_drive_relay.specs.Places.{Place, Facts, Received, Answers, Taken, Dropping, Over, Rejecting, progress_of}
+use Rattle.css_drive_relay.specs.Places.{hung_up, received, received_at, answering, answered_at, with_turn, Asking}
+use Rattle.css_drive_relay.specs.Places.{Progress}
+use Rattle.css_drive_relay.specs.Laws.{IsAnswerTo, AnswersAreTrueTo}
+use Rattle.css_drive_relay.proofs.Follows.{IsRest, on_begun, rest_next, moves, Followed, followed, FitsDial, rest_moved}
+use Rattle.css_drive_relay.proofs.Follows.{rest_sent, IsTimed, IsTaken, IsReceived, IsToSend, IsMove}
+use Rattle.css_drive_relay.specs.declared.config.RelayRun.{RelayRun}
+use Rattle.css_model.specs.declared.Kind.{Kind}
 use Rattle.css_drive_relay.specs.SecondHop.{given_at, given_by, IsRequest, IsResponse, IsSentAt, SentIsKnown, IsGiven}
 use Rattle.css_drive_relay.specs.SecondHop.{last_take, GivenIsTrue, IsTrueAnswer, IsFromRun, FromRunAt}
 use Rattle.css_drive_relay.specs.SecondHop.{SecondHopsAreTrue}
-use Rattle.css_drive_relay.proofs.Follows.{Followed, followed, FitsDial, moves, rest_moved, rest_sent, rest_begun}
-use Rattle.css_drive_relay.proofs.Follows.{rest_next, IsRest, IsTimed, IsTaken, IsReceived, IsToSend, IsMove}
-use Rattle.css_drive_relay.specs.declared.config.RelayRun.{RelayRun}
-use Rattle.css_model.specs.Wire.{encoded, decoded}
-use Rattle.css_model.specs.World.{World, Errors, IsWorldFor, IsInRange}
 use Rattle.css_model.specs.Explains.{IsLawful, IsTruthful, TruthfulAt, Explains}
 use Rattle.css_model.proofs.Wall.{wall_is_true}
-use Rattle.css_relay.specs.TwoHops.{IsAnswerOf, IsTrueResponse}
 use Rattle.css_drive_relay.specs.Due.{IsProperRelay}
-use Rattle.css_drive_relay.proofs.Answering.{answer_later}
-use Rattle.css_drive_relay.proofs.ReadBack.{without_originate, reads_back, true_as}
-use Rattle.css_model.specs.declared.Kind.TheVariants as kind
+use Rattle.css_relay.specs.declared.fault.RelayFault.TheVariants as faults
 use Rattle.css_model.specs.declared.Why.TheVariants as why
-use Rattle.css_drive_relay.specs.Places as places
 use Rattle.css_relay.proofs.TwoHops as two
+use Rattle.css_model.specs.declared.Kind.TheVariants as kind
+use Rattle.css_drive_relay.specs.Places as places
 
+-- ---- fields
+-- the same message with no originate value
+pub without_originate : Message → Message
+without_originate m = record {
+  message_type = m.message_type;
+  precision = m.precision;
+  error = m.error;
+  originate = record { seconds = 0; nanoseconds = 0 };
+  receive = m.receive;
+  transmit = m.transmit;
+}
+
+-- a message is true by its other fields
+pub true_as : (world : World) (tv_error taken given : ℕ) (a b : Message)
+    → without_originate a ≡ without_originate b → IsTrueResponse world tv_error taken given a
+    → IsTrueResponse world tv_error taken given b
+unfolding without_originate
+true_as world tv_error taken given a b same x =
+    let own : IsTrueResponse world tv_error taken given (without_originate a) =
+    record { response = x.response; receive = x.receive; transmit = x.transmit; declared = x.declared } in
+    let y = subst (λ (m : Message). IsTrueResponse world tv_error taken given m) same own in
+    record { response = y.response; receive = y.receive; transmit = y.transmit; declared = y.declared }
+
+-- the originate value changes no other field of the datagram
+fields_apart : (m : Message)
+    → without_originate (fields (encoded (without_originate m))) ≡ without_originate (fields (encoded m))
+unfolding fields encoded without_originate
+fields_apart m = refl
+
+twice_without : (m : Message) → without_originate (without_originate m) ≡ without_originate m
+unfolding without_originate
+twice_without m = refl
+
+decoded_same : (m n : Message) → IsMessage (without_originate m) → decoded (encoded m) ≡ Ok n
+    → without_originate m ≡ without_originate n
+decoded_same m n h e = by (fault (encoded m)) e
+  where
+    same : without_originate m ≡ without_originate (fields (encoded m))
+    same = sym (twice_without m) ∙ ap without_originate (sym (fields-encoded (without_originate m) h)) ∙ fields_apart m
+
+    by : (o : Option WcFault) → unless_fault o (fields (encoded m)) ≡ Ok n → without_originate m ≡ without_originate n
+    by None e = same ∙ ap without_originate (same_ok (fields (encoded m)) n e)
+    by (Some first) e = absurd (cc)
+
+-- ---- readings
+cut_small : (z : ℤ) → cut z < LIMIT
+cut_small (pos number) = omega arith
+cut_small (negsuc number) = omega arith
+
+between_small : (span : Interval) → (between (cut span.lo) (cut span.hi)).value < LIMIT
+between_small span =
+    let low = cut_small span.lo in
+    let high = cut_small span.hi in
+    omega (arith, low, high)
+
+stamp_small : (value : ℕ) → value < LIMIT → IsStamp (stamp_of value)
+stamp_small value small = record { seconds = omega (arith, small); nanoseconds = omega arith }
+
+ticket_small : (wall : Option Interval) (asked : Result Stamp RelayFault) (ticket : Ticket)
+    → ticket_by wall asked ≡ Ok ticket → ticket.value < LIMIT
+ticket_small wall (Err fault) ticket e = absurd (cc)
+ticket_small None (Ok originate) ticket e = absurd (cc)
+ticket_small (Some span) (Ok originate) ticket e = by (is_beyond span) e
+  where
+    by : (b : Bool)
+        → ticket_at originate (cond b (Err (faults.Beyond span)) (Ok (between (cut span.lo) (cut span.hi))))
+        ≡ Ok ticket
+        → ticket.value < LIMIT
+    by true e = absurd (cc)
+    by false e =
+        let middle = between (cut span.lo) (cut span.hi) in
+        subst (λ (t : Ticket). t.value < LIMIT)
+        (same_ok (record { originate = originate; value = middle.value; half = middle.half }) ticket e)
+        (between_small span)
+
+-- ---- the declared error
+possible_small : (own : Local) (landed : LandedAnswer) (older : List LandedAnswer) (possible : Bool)
+    → landed.message.error ≤ max_error → greatest_error (possible_answers own older) ≤ max_error
+    → greatest_error (option_to_list (cond possible (Some (times_of landed older)) None)
+    ++ possible_answers own older) ≤ max_error
+possible_small own landed older true small rest = omega (arith, small, rest)
+possible_small own landed older false small rest = rest
+
+landed_small : (own : Local) (older : History) (o : Option LandedAnswer)
+    → ((landed : LandedAnswer) → o ≡ Some landed → landed.message.error ≤ max_error)
+    → greatest_error (accepted_answers own older) ≤ max_error
+    → greatest_error (possible_answers own (option_to_list o ++ landed_answers older)) ≤ max_error
+landed_small own older None small rest = rest
+landed_small own older (Some landed) small rest =
+    possible_small own landed (landed_answers older) (is_possible own landed (landed_answers older))
+    (small landed refl) rest
+
+errors_small : (own : Local) (h : History) → greatest_error (accepted_answers own h) ≤ max_error
+errors_small own [] = omega arith
+errors_small own (entry ∷ older) = by (is_sleep entry) (errors_small own older)
+  where
+    by : (slept : Bool) → greatest_error (accepted_answers own older) ≤ max_error
+        → greatest_error (possible_answers own
+        (cond slept [] (option_to_list (landed_answer entry older) ++ landed_answers older))) ≤ max_error
+    by true rest = omega arith
+    by false rest =
+        landed_small own older (landed_answer entry older)
+        (λ landed e. (landed_answer-is entry older landed e).error) rest
+
+-- ---- the response
+-- a span was known, and a precision is enough
+record IsMade (ticket : Ticket) (error : ℕ) (message : Message) : Type 0 where
+  span : Interval
+  enough : max ticket.half (between (cut span.lo) (cut span.hi)).half ≤ precision_ns (pos 30)
+  same : response_to ticket error (between (cut span.lo) (cut span.hi)) ≡ message
+
+made_of : (ticket : Ticket) (error : ℕ) (wall : Option Interval) (message : Message)
+    → answered wall error ticket ≡ Ok message → IsMade ticket error message
+made_of ticket error None message e = absurd (cc)
+made_of ticket error (Some span) message e = known (is_beyond span) e
+  where
+    response : Message
+    response = response_to ticket error (between (cut span.lo) (cut span.hi))
+
+    half : ℕ
+    half = max ticket.half (between (cut span.lo) (cut span.hi)).half
+
+    by : (wide : Bool) → nat_lt (precision_ns (pos 30)) half ≡ wide
+        → ◌≡◌ {A = Result Message RelayFault} (cond wide (Err (faults.Wide half)) (Ok response)) (Ok message)
+        → IsMade ticket error message
+    by true test e = absurd (cc)
+    by false test e =
+        record { span = span; enough = ltb-false (precision_ns (pos 30)) half test; same = same_ok response message e }
+
+    known : (b : Bool)
+        → answer_at ticket error (cond b (Err (faults.Beyond span)) (Ok (between (cut span.lo) (cut span.hi))))
+        ≡ Ok message
+        → IsMade ticket error message
+    known true e = absurd (cc)
+    known false e = by (nat_lt (precision_ns (pos 30)) half) refl e
+
+fits_byte : (z : ℤ) → neg_ℤ (pos 30) ≤ℤ z → z ≤ℤ pos 30 → FitsSigned w8 z
+fits_byte (pos n) low high = record { sfits = omega (arith, ints, high) }
+fits_byte (negsuc n) low high = record { sfits = omega (arith, ints, low) }
+
+response_ranges : (ticket : Ticket) (error : ℕ) (message : Message) → ticket.value < LIMIT → error ≤ max_error
+    → IsMade ticket error message → IsMessage (without_originate message)
+unfolding without_originate
+response_ranges ticket error message value small x =
+    let middle = between (cut x.span.lo) (cut x.span.hi) in
+    let least = exponents_are_least (max ticket.half middle.half) x.enough in
+    let low = least.low in
+    let high = least.high in
+    subst (λ (m : Message). IsMessage (without_originate m)) x.same (record {
+      message_type = omega arith;
+      precision = fits_byte _ low high;
+      error = omega (arith, small);
+      originate = record { seconds = omega arith; nanoseconds = omega arith };
+      receive = stamp_small ticket.value value;
+      transmit = stamp_small middle.value (between_small x.span);
+    })
+
+-- what is read from a response's datagram tells the same
+pub reads_back : (own : Local) (before_take before_give : History) (take give : ℕ) (request : List ℕ) (ticket : Ticket)
+    (message read : Message) → received_after own before_take take request ≡ Ok ticket
+    → answered_after own before_give give ticket ≡ Ok message → decoded (encoded message) ≡ Ok read
+    → without_originate message ≡ without_originate read
+reads_back own before_take before_give take give request ticket message read received is e =
+    decoded_same message read
+    (response_ranges ticket _ message
+    (ticket_small (wall_span own take (accepted_answers own before_take)) (requested_by (decoded request)) ticket
+    received) (errors_small own before_give)
+    (made_of ticket _ (wall_span own give (accepted_answers own before_give)) message is)) e
+
+-- ---- requests
+-- bytes whose field tells another type are no request
+type_of_encoded : (message : Message) → (fields (encoded message)).message_type ≡ message.message_type
+unfolding encoded fields
+type_of_encoded message = refl
+
+no_request : (first : Option WcFault) (message : Message) → message.message_type == 0 ≡ false
+    → option_and_then (λ (m : Message). cond (m.message_type == 0) (Some m) None)
+    (result_ok (unless_fault first message)) ≡ None
+no_request None message e = ap (λ b. cond b (Some message) None) e
+no_request (Some first) message e = refl
+
+-- an answer is no request
+pub answer_is_no_request : (own : Local) (history : History) (reading : ℕ) (ticket : Ticket) (bytes : List ℕ)
+    → datagram_of (answered_after own history reading ticket) ≡ Ok bytes → request_in bytes ≡ None
+answer_is_no_request own history reading ticket bytes e = by (answered_after own history reading ticket) refl e
+  where
+    by : (x : Result Message RelayFault) → answered_after own history reading ticket ≡ x → datagram_of x ≡ Ok bytes
+        → request_in bytes ≡ None
+    by (Err fault) is e = absurd (cc)
+    by (Ok message) is e =
+        let x = made_of ticket _ (wall_span own reading (accepted_answers own history)) message is in
+        subst (λ (b : List ℕ). request_in b ≡ None) (same_ok (encoded message) bytes e)
+        (no_request (fault (encoded message)) (fields (encoded message)) (ap (λ n. n == 0)
+        (type_of_encoded message ∙ ap (λ (m : Message). m.message_type) (sym x.same))))
+
+-- ---- requests that were taken
+-- a request was taken in the history, and this is its ticket
+record HasTaken (own : Local) (history : History) (ticket : Ticket) : Type 0 where
+  request : List ℕ
+  take : ℕ
+  before_take : History
+  taken : Once (λ entry older. (entry ≡ Clock why.Take take) × (older ≡ before_take)) history
+  received : received_after own before_take take request ≡ Ok ticket
+
+-- what the place says of the history
+abbrev Says : Local → History → Place → Type 0
+Says own history (Received peer ticket) = HasTaken own history ticket
+Says own history (Answers peer bytes) = IsAnswerTo own history bytes
+Says own history _ = Unit {0}
+
+-- an entry more
+taken_later : {own : Local} {history : History} {ticket : Ticket} (entry : Entry) → HasTaken own history ticket
+    → HasTaken own (entry ∷ history) ticket
+taken_later entry t = record {
+  request = t.request;
+  take = t.take;
+  before_take = t.before_take;
+  taken = inr t.taken;
+  received = t.received;
+}
+
+abbrev pub answer_later : {own : Local} {history : History} {message : Message} (entry : Entry)
+    → IsAnswerOf own history message → IsAnswerOf own (entry ∷ history) message
+answer_later entry x = record {
+  request = x.request;
+  ticket = x.ticket;
+  take = x.take;
+  give = x.give;
+  before_take = x.before_take;
+  before_give = x.before_give;
+  taken = x.taken;
+  given = inr x.given;
+  received = x.received;
+  answered = x.answered;
+}
+
+answered_later : {own : Local} {history : History} {bytes : List ℕ} (entry : Entry) → IsAnswerTo own history bytes
+    → IsAnswerTo own (entry ∷ history) bytes
+answered_later entry t = record { message = t.message; wire = t.wire; answer = answer_later entry t.answer }
+
+says_later : (own : Local) (history : History) (entry : Entry) (place : Place) → Says own history place
+    → Says own (entry ∷ history) place
+says_later own history entry (Received peer ticket) t = taken_later entry t
+says_later own history entry (Answers peer bytes) t = answered_later entry t
+says_later own history entry _ t = tt
+
+-- where a turn goes on, nothing is told
+tells_rest : (own : Local) (history : History) (place : Place) → IsRest place → Says own history place
+tells_rest own history (Received peer ticket) rest = absurd rest
+tells_rest own history (Answers peer bytes) rest = absurd rest
+tells_rest own history place rest = tt
+
+-- the place is the same, or such a one
+after_move : (own : Local) (older : History) (entry : Entry) (before place : Place)
+    → (place ≡ before) ⊎ IsRest place → Says own older before → Says own (entry ∷ older) place
+after_move own older entry before place (inl same) t =
+    subst (λ (x : Place). Says own (entry ∷ older) x) (sym same) (says_later own older entry before t)
+after_move own older entry before place (inr rest) t = tells_rest own (entry ∷ older) place rest
+
+says_hung_up : (own : Local) (history : History) (place : Place) (f : Facts) → Says own history (hung_up place f)
+says_hung_up own history (Rejecting peer) f = tells_rest own history _ (rest_next f.television f.peers)
+says_hung_up own history (Dropping peer left) f = tt
+says_hung_up own history (Over left) f = tt
+says_hung_up own history _ f = tt
+
+-- ---- the clock
+receiving : (own : Local) (history : History) (reading peer : ℕ) (bytes : List ℕ) (result : Result Ticket RelayFault)
+    → received_after own history reading bytes ≡ result
+    → Says own (Clock why.Take reading ∷ history) (received peer result)
+receiving own history reading peer bytes (Err fault) e = tt
+receiving own history reading peer bytes (Ok ticket) e =
+    record { request = bytes; take = reading; before_take = history; taken = inl (refl, refl); received = e }
+
+says_taken : (run : RelayRun) (history : History) (reading : ℕ) (place : Place)
+    → Says run.companion.local history place
+    → Says run.companion.local (Clock why.Take reading ∷ history) (received_at run reading history place)
+says_taken run history reading (Taken peer bytes) t =
+    receiving run.companion.local history reading peer bytes
+    (received_after run.companion.local history reading bytes) refl
+says_taken run history reading place t = says_later run.companion.local history (Clock why.Take reading) place t
+
+giving : (own : Local) (history : History) (reading peer : ℕ) (ticket : Ticket) (result : Result Message RelayFault)
+    → HasTaken own history ticket → answered_after own history reading ticket ≡ result
+    → Says own (Clock why.Give reading ∷ history) (answering peer (datagram_of result))
+giving own history reading peer ticket (Err fault) t e = tt
+giving own history reading peer ticket (Ok message) t e = record {
+  message = message;
+  wire = refl;
+  answer = record {
+    request = t.request;
+    ticket = ticket;
+    take = t.take;
+    give = reading;
+    before_take = t.before_take;
+    before_give = history;
+    taken = t.taken;
+    given = inl (refl, refl);
+    received = t.received;
+    answered = e;
+  };
+}
+
+says_given : (run : RelayRun) (history : History) (reading : ℕ) (place : Place)
+    → Says run.companion.local history place
+    → Says run.companion.local (Clock why.Give reading ∷ history) (answered_at run reading history place)
+says_given run history reading (Received p ticket) t =
+    giving run.companion.local history reading p ticket
+    (answered_after run.companion.local history reading ticket) t refl
+says_given run history reading place t = says_later run.companion.local history (Clock why.Give reading) place t
+
+-- ---- each history
+says : (run : RelayRun) (history : History) → Says run.companion.local history (progress_of run history).place
+says run [] = tt
+says run (Clock why.Turn reading ∷ older) =
+    on_begun (Says run.companion.local (Clock why.Turn reading ∷ older)) run
+    (with_turn reading (progress_of run older).facts) tt tt
+says run (Clock why.Ask reading ∷ older) = tt
+says run (Clock why.Take reading ∷ older) =
+    says_taken run older reading (progress_of run older).place (says run older)
+says run (Clock why.Give reading ∷ older) =
+    says_given run older reading (progress_of run older).place (says run older)
+says run (Dialled k peer ∷ older) = tt
+says run (Took peer bytes ∷ older) = tt
+says run (HungUp peer ∷ older) =
+    says_hung_up run.companion.local _ (progress_of run older).place (progress_of run older).facts
+says run (entry ∷ older) =
+    after_move run.companion.local older entry (progress_of run older).place (progress_of run (entry ∷ older)).place
+    (moves run older entry tt (progress_of run older)).4 (says run older)
+
+pub answers_are_true : AnswersAreTrueTo
+answers_are_true run history peer bytes e =
+    let is : IsAnswerTo run.companion.local history bytes =
+    subst (λ (place : Place). Says run.companion.local history place) e (says run history) in
+    record {
+      answers = is;
+      is_true = λ errors world who moment_of keeps range lawful explains.
+          two.answers_are_true errors world who run.companion.local history moment_of is.message keeps range lawful
+          explains is.answer;
+      truthful = λ errors world who moment_of keeps range lawful explains.
+          two.true_is_truthful world errors.tv _ _ is.message
+          (two.answers_are_true errors world who run.companion.local history moment_of is.message keeps range lawful
+          explains is.answer);
+    }
+
+-- ---- places of a proper run
 -- the history without its newest sleeps
 abbrev pub awake : History → History
 awake (Slept ∷ older) = awake older
@@ -113,7 +478,8 @@ shape_of run [] each = tt
 shape_of run (Slept ∷ older) each =
     after_sleep run older (progress_of run older).place each.0.1 (shape_of run older each.1)
 shape_of run (Clock why.Turn reading ∷ older) each =
-    shows_rest run _ _ (rest_begun run (places.with_turn reading (progress_of run older).facts))
+    on_begun (Shows run (Clock why.Turn reading ∷ older)) run (places.with_turn reading (progress_of run older).facts)
+    tt tt
 shape_of run (Clock why.Ask reading ∷ older) each = (older, refl)
 shape_of run (Clock why.Take reading ∷ older) each =
     after_take run older reading (progress_of run older).place each.0.2

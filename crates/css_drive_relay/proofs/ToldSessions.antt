@@ -1,7 +1,7 @@
 -- What each session of a relay was told and is still to be told, over the calls of a proper run.
 use Rattle.std.proofs.Common.{◌≡◌, ℕ, ◌≤◌, Bool, true, false, cond, eqb, List, [], ◌∷◌, ◌++◌, length, Option, Some}
 use Rattle.std.proofs.Common.{None, refl, sym, ap, subst, ◌∙◌, arith, not, ◌<◌, append_assoc, zero, suc}
-use Rattle.std.specs.Prelude.{◌||◌, ◌&&◌, unwrap_or, Result, Ok, Err}
+use Rattle.std.specs.Prelude.{◌||◌, ◌&&◌, unwrap_or}
 use Rattle.std.proofs.lemmas.Bool.{cond_both}
 use Rattle.std.proofs.lemmas.Bool.Decides.{nat_tests}
 use Rattle.css_cii.specs.declared.state.State.{State}
@@ -11,22 +11,19 @@ use Rattle.css_drive.specs.TvPeers.{has}
 use Rattle.css_drive.specs.TvTold.{lost, sent_to, is_gone}
 use Rattle.css_drive.proofs.TvTold.{none_there}
 use Rattle.css_drive_relay.specs.Places.{Place, Facts, Progress, telling, telling_if, without, opened_if, published}
-use Rattle.css_drive_relay.specs.Places.{Begun, Asking, Taken, Received, Greeting, Rejecting, Welcomed, Dropping, Over}
-use Rattle.css_drive_relay.specs.Places.{Telling, Asked, progress_of, is_kept, next_asked}
-use Rattle.css_drive_relay.proofs.Follows.{waiting, text_at, IsTaken, IsReceived, IsToTell, Follows, Followed, followed}
-use Rattle.css_drive_relay.proofs.Follows.{Fits, fits}
+use Rattle.css_drive_relay.specs.Places.{Asking, Greeting, Rejecting, Welcomed, Dropping, Over, Telling, Asked}
+use Rattle.css_drive_relay.specs.Places.{progress_of, is_kept, next_asked}
+use Rattle.css_drive_relay.proofs.Follows.{waiting, text_at, IsToTell, Follows, Followed, followed, Fits, fits}
+use Rattle.css_drive_relay.proofs.Follows.{on_begun, on_received, on_answered}
 use Rattle.css_drive_relay.specs.Told.{SessionStates, with_state, while_open, texts_told, relayed, published_at}
 use Rattle.css_drive_relay.specs.Told.{unless_refused, last_published, states_of, SessionsAreTold}
 use Rattle.css_companion.specs.declared.fault.CompanionFault.{CompanionFault}
 use Rattle.css_drive.specs.CompanionDue.{refusal_of}
-use Rattle.css_drive.specs.CompanionTurns.{is_late}
 use Rattle.css_drive.specs.Proper.{Due, Ends}
 use Rattle.css_drive.specs.TvRan.{AreBelow, AreNumbered}
 use Rattle.css_drive.specs.declared.driven.Driven.{Driven}
 use Rattle.css_model.specs.History.{Entry, History, Listening, Slept, Clock, Dialling, Dialled, NotDialled, Accepted}
 use Rattle.css_model.specs.History.{NoneCame, Sent, Took, TookNone, Quiet, Heard, Closed, Wrote, Gone, HungUp}
-use Rattle.css_relay.specs.Answers.{Ticket, received_after, answered_after, datagram_of}
-use Rattle.css_relay.specs.declared.fault.RelayFault.{RelayFault}
 use Rattle.css_drive.proofs.TvSessions.{numbered_rest}
 use Rattle.css_drive_relay.specs.declared.config.RelayRun.{RelayRun}
 use Rattle.css_model.specs.declared.Kind.{Kind}
@@ -319,33 +316,6 @@ waits_welcomed : (o : Option ℕ) (peers : List ℕ) → waiting (next_asked o p
 waits_welcomed None peers = refl
 waits_welcomed (Some p) peers = refl
 
-waits_begun : (run : RelayRun) (f : Facts) → waiting (places.begun run f) ≡ []
-waits_begun run f = by (is_late run.limit f.first f.turn)
-  where
-    by : (b : Bool) → waiting (cond b (Asked []) Begun) ≡ []
-    by true = refl
-    by false = refl
-
-waits_received : (run : RelayRun) (reading : ℕ) (older : History) (place : Place) → IsTaken place
-    → waiting (places.received_at run reading older place) ≡ []
-waits_received run reading older (Taken peer bytes) is =
-    by (received_after run.companion.local older reading bytes)
-  where
-    by : (x : Result Ticket RelayFault) → waiting (places.received peer x) ≡ []
-    by (Ok ticket) = refl
-    by (Err fault) = refl
-waits_received run reading older place is = absurd is
-
-waits_answered : (run : RelayRun) (reading : ℕ) (older : History) (place : Place) → IsReceived place
-    → waiting (places.answered_at run reading older place) ≡ []
-waits_answered run reading older (Received peer ticket) is =
-    by (datagram_of (answered_after run.companion.local older reading ticket))
-  where
-    by : (x : Result (List ℕ) RelayFault) → waiting (places.answering peer x) ≡ []
-    by (Ok bytes) = refl
-    by (Err fault) = refl
-waits_answered run reading older place is = absurd is
-
 waits_passed : (f : Facts) (place : Place) → waiting place ≡ [] → waiting (places.passed place f) ≡ []
 waits_passed f (Welcomed peer) e = e
 waits_passed f place e = e
@@ -482,13 +452,16 @@ module _ (run : RelayRun) (peer : ℕ) (older : History) (t : Good run peer olde
   after : (entry : Entry) → Follows run p.facts p.place entry → AreNumbered (entry ∷ older)
       → Good run peer (entry ∷ older)
   after (Clock why.Turn reading) c n =
-      stays c.0 (next (Clock why.Turn reading)) refl refl (waits_begun run (places.with_turn reading p.facts))
+      stays c.0 (next (Clock why.Turn reading)) refl refl
+      (on_begun (λ place. waiting place ≡ []) run (places.with_turn reading p.facts) refl refl)
   after (Clock why.Ask reading) c n = stays c.0 (next (Clock why.Ask reading)) refl refl refl
   after (Clock why.Land reading) c n = stays c.0 (next (Clock why.Land reading)) refl refl refl
   after (Clock why.Take reading) c n =
-      stays c.0 (next (Clock why.Take reading)) refl refl (waits_received run reading older p.place c.2)
+      stays c.0 (next (Clock why.Take reading)) refl refl
+      (on_received (λ place. waiting place ≡ []) run reading older p.place c.2 refl (λ q t. refl))
   after (Clock why.Give reading) c n =
-      stays c.0 (next (Clock why.Give reading)) refl refl (waits_answered run reading older p.place c.2)
+      stays c.0 (next (Clock why.Give reading)) refl refl
+      (on_answered (λ place. waiting place ≡ []) run reading older p.place c.2 refl (λ q b. refl))
   after (Dialling kind.Ts to) c n = absurd c
   after (Dialling k to) c n = stays c.0 (next (Dialling k to)) refl refl c.0
   after (Dialled kind.Cii other) c n = stays c.0 (next (Dialled kind.Cii other)) refl refl refl

@@ -6,7 +6,7 @@ ghost use Rattle.css_drive_relay.specs.Told.{SessionsAreTold};
 
 /// What a run sends in answer is the relay's answer to a request that it took. It is true in every world that explains
 /// what the run's calls told, and so it is truthful to each companion that asked for it.
-#[tactic(auto, using(crate::proofs::Answering::answers_are_true))]
+#[tactic(auto, using(crate::proofs::SecondHop::answers_are_true))]
 pub fn answers_are_true_to()
     ensures { AnswersAreTrueTo }
 {}

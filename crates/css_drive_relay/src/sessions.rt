@@ -101,59 +101,7 @@ pub(crate) fn welcome<O: Outside>(
     }
 }
 
-/// Tells one session a text.
-fn tell_one<O: Outside>(
-    run: &RelayRun,
-    live: &mut Live,
-    outside: &mut O,
-    peer: u32,
-    text: &Text,
-) -> Result<(), Driven>
-    ensures goes { (start : Shown) (relay : KnownRelay) (history : History) (left : List ℕ)
-        → Stands run.now start (shown (O.told outside.old) (O.counts outside.old)) relay
-        (stood live.old (telling text.now (peer ∷ left) (facts_in live.old))) history
-        → Arrives run.now start (shown (O.told outside.new) (O.counts outside.new)) relay live.new
-        (telling text.now left (facts_in live.new)) result }
-    ensures last { OnOk result ((O.counts outside.new).last ≡ (O.counts outside.old).last) }
-    ensures keeps { Keeps (O.counts outside.old) (O.counts outside.new) live.old live.new result }
-{
-    match send_text(outside, peer, text.bytes())? {
-        Wrote::Sent => {}
-        Wrote::Gone => forget(live, peer),
-    }
-    Ok(())
-}
-
-/// Asks an accepted session for a text, which ends it.
-fn hear_one<O: Outside>(
-    run: &RelayRun,
-    live: &mut Live,
-    outside: &mut O,
-    peer: u32,
-) -> Result<(), Driven>
-    ensures goes { (start : Shown) (relay : KnownRelay) (history : History) (left : List ℕ)
-        → Stands run.now start (shown (O.told outside.old) (O.counts outside.old)) relay
-        (stood live.old (Asked (peer ∷ left))) history
-        → Arrives run.now start (shown (O.told outside.new) (O.counts outside.new)) relay live.new
-        (Asked left) result }
-    ensures last { OnOk result ((O.counts outside.new).last ≡ (O.counts outside.old).last) }
-    ensures keeps { Keeps (O.counts outside.old) (O.counts outside.new) live.old live.new result }
-{
-    match take_text(outside, peer) {
-        Err(ended) => Err(ended),
-        Ok(Heard::Quiet) => Ok(()),
-        Ok(Heard::Closed) => {
-            forget(live, peer);
-            Ok(())
-        }
-        Ok(Heard::Text(_)) => {
-            forget(live, peer);
-            hang_up(outside, peer)
-        }
-    }
-}
-
-/// Visits an accepted session.
+/// Visits an accepted session. A text of it ends it.
 fn visit_one<O: Outside>(
     run: &RelayRun,
     live: &mut Live,
@@ -170,8 +118,25 @@ fn visit_one<O: Outside>(
     ensures keeps { Keeps (O.counts outside.old) (O.counts outside.new) live.old live.new result }
 {
     match what {
-        Visit::Tell(text) => tell_one(run, live, outside, peer, text),
-        Visit::Hear => hear_one(run, live, outside, peer),
+        Visit::Tell(text) => match send_text(outside, peer, text.bytes())? {
+            Wrote::Sent => Ok(()),
+            Wrote::Gone => {
+                forget(live, peer);
+                Ok(())
+            }
+        },
+        Visit::Hear => match take_text(outside, peer) {
+            Err(ended) => Err(ended),
+            Ok(Heard::Quiet) => Ok(()),
+            Ok(Heard::Closed) => {
+                forget(live, peer);
+                Ok(())
+            }
+            Ok(Heard::Text(_)) => {
+                forget(live, peer);
+                hang_up(outside, peer)
+            }
+        },
     }
 }
 

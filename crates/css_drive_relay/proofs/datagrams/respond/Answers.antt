@@ -4,7 +4,7 @@ use Rattle.css_model.specs.declared.Why.TheVariants as why
 use Rattle.css_outside.specs.Outsides.{clock_entries, sleep_entries}
 use Rattle.css_outside.specs.declared.calls.Clocked.{Clocked}
 use Rattle.css_companion.specs.Standing.{own_of}
-use Rattle.css_drive_relay.proofs.ReadBack.{answer_is_no_request}
+use Rattle.css_drive_relay.proofs.SecondHop.{answer_is_no_request}
 use Rattle.css_drive_relay.proofs.Serves as serves
 use Rattle.css_drive_relay.proofs.Steps as steps
 use Rattle.css_drive_relay.proofs.datagrams.respond.Goals as goal
