@@ -10,14 +10,18 @@ use Rattle.css_outside.specs.Faults.{CountsCall}
 use Rattle.css_outside.specs.Outsides.{Counts, with_entries}
 use Rattle.css_outside.specs.declared.fault.OutFault.{OutFault}
 use Rattle.css_outside.specs.declared.fault.OutFault.TheVariants as fault
+use Rattle.css_follow.specs.Following.{Plan, Seen}
+use Rattle.css_follow.specs.Listening.{Listener, all_plans, all_seen}
 use Rattle.css_tv.specs.declared.event.TvOut.{TvOut}
 use Rattle.css_tv.specs.declared.event.TvOut.TheVariants as out
 use Rattle.css_tv.specs.declared.fault.TvFault.{TvFault}
 use Rattle.css_tv.specs.declared.fault.TvFault.TheVariants as tv_fault
+use Rattle.css_drive.specs.CompanionDue as companion
+use Rattle.css_drive.specs.CompanionDue.{IsProperRun}
+use Rattle.css_drive.specs.CompanionRun.{Ran}
 use Rattle.css_drive.specs.Ends.{CountsDialFaults, CountsNetFault, CountsWriteFault, MayEnd}
 use Rattle.css_drive.specs.Proper.{Due, Now, TakeDatagram, Ends}
-use Rattle.css_drive.specs.TvDue.{TvRun, due, due_at, from_answers, from_end, from_hang_ups, from_texts, unless_owed}
-use Rattle.css_drive.specs.TvDue.{from_turn, unless_refused}
+use Rattle.css_drive.specs.TvDue.{TvRun, due, due_at, from_end, from_hang_ups, from_texts, unless_owed, unless_refused}
 use Rattle.css_drive.specs.TvTurns.{goes_on, is_over}
 use Rattle.css_drive.specs.TvPeers.{above}
 use Rattle.css_drive.specs.TvProgress.{Place, Listens, Turned, Answers, Asked, Over}
@@ -31,10 +35,12 @@ use Rattle.css_watch.specs.declared.ending.Watched.{Watched}
 use Rattle.css_watch.specs.declared.ending.Watched.TheVariants as watched
 use Rattle.css_replay.specs.declared.status.Status.{Status}
 use Rattle.css_replay.specs.declared.status.Status.TheVariants as status
+use Rattle.css_replay.specs.Devices.{SinkUse}
 use Rattle.css_replay.specs.Ended.{CountsWrites, HasNotFailed}
 use Rattle.css_replay.proofs.OverLines.{EndsLines}
 use Rattle.css_app.specs.Ended.{Writes}
-use Rattle.css_app.specs.Live.{EndsAsDue, IsMadeAsDue, TellsFaults, TellsOverLines, driven_status}
+use Rattle.css_app.specs.Devices.{OutsideUse}
+use Rattle.css_app.specs.Live.{EndsAsDue, IsMadeAsDue, MakesRun, TellsFaults, TellsOverLines, driven_status}
 use Rattle.css_app.specs.Pairs.{PairsAsDue, child_status, with_child}
 use Rattle.css_app.specs.Watches.{EndsAtLastUnlessMemory, watched_status}
 
@@ -89,6 +95,31 @@ as_due proper due_of before now history driven.Memory told is_proper ends wrote 
 as_due proper due_of before now history ended told is_proper ends wrote called nw nc =
     inr (record { history = history; told = told; is_proper = is_proper; ended = ended; is_due = ends; tells = refl })
 
+-- a companion's run was made
+pub made_run : {config : DriveConfig} {plans : List Plan} {sink : SinkUse} {outside : OutsideUse}
+    {heard_old : List Seen} (began followed : List Listener) (ended : Driven) → all_plans began ≡ plans
+    → all_seen began ≡ heard_old
+    → Ran config outside.told_old outside.told_new sink.holds_old sink.holds_new began followed ended
+    → MakesRun config plans sink outside heard_old (all_seen followed) (driven_status ended)
+made_run began followed ended planned before ran = record {
+  began = began;
+  followed = followed;
+  planned = planned;
+  before = before;
+  heard = refl;
+  ended = ended;
+  ran = ran;
+  tells = refl;
+}
+
+-- it ended as its calls say
+pub run_as_due : {w w' c c' : ℕ} {config : DriveConfig} {before now : Option History} {held holds : Option (List ℕ)}
+    {followers followed : List Listener} (ended : Driven) → Ran config before now held holds followers followed ended
+    → CountsWriteFault w w' ended → CountsNetFault c c' ended → HasNotFailed w w' → HasNotFailed c c'
+    → EndsAsDue config before now (driven_status ended)
+run_as_due {config = config} ended ran =
+    as_due (IsProperRun config) (companion.due config) _ _ ran.history ended ran.told ran.proper ran.ends
+
 -- no write was to be made
 pub no_write : HasNotFailed 0 0
 no_write = record { below = omega arith; same = refl }
@@ -124,23 +155,16 @@ due_end turns live =
     elim (goes_on turns) as (λ b. IsReached (cond b (Now why.Turn) (from_hang_ups live)))
     [ true ↦ tt | false ↦ hangs live ]
 
-begins : (turns : Turns) (live : List ℕ) → IsReached (from_turn turns live)
-begins turns live =
-    elim (is_over turns) as (λ b. IsReached (cond b (from_hang_ups live) TakeDatagram))
-    [ true ↦ hangs live | false ↦ tt ]
-
 texts : (turns : Turns) (live peers : List ℕ) → IsReached (from_texts turns live peers)
 texts turns live [] = due_end turns live
 texts turns live (peer ∷ peers) = tt
 
-answers : (peer : ℕ) (datagrams : List (List ℕ)) → IsReached (from_answers peer datagrams)
-answers peer [] = tt
-answers peer (datagram ∷ datagrams) = tt
-
 at_place : (run : TvRun) (live : List ℕ) (turns : Turns) (place : Place) → IsReached (due_at run live turns place)
 at_place run live turns Listens = due_end turns live
-at_place run live turns (Turned reading) = begins turns live
-at_place run live turns (Answers peer datagrams) = answers peer datagrams
+at_place run live turns (Turned reading) =
+    elim (is_over turns) as (λ b. IsReached (cond b (from_hang_ups live) TakeDatagram))
+    [ true ↦ hangs live | false ↦ tt ]
+at_place run live turns (Answers peer []) = tt
 at_place run live turns (Asked last) = texts turns live (above last live)
 at_place run live turns (Over last) = hangs (above (Some last) live)
 at_place run live turns _ = tt

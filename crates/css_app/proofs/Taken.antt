@@ -22,7 +22,6 @@ use Rattle.css_lines.proofs.Meant.{outcome-append, outcome_at_end, outcome_after
 use Rattle.css_lines.proofs.Meant.{long_input}
 use Rattle.css_schedule.specs.Lines.{script_of}
 use Rattle.css_schedule.specs.Ranges.{IsScriptLine}
-use Rattle.css_schedule.specs.declared.fault.LineWhy.{LineWhy}
 use Rattle.css_schedule.specs.declared.line.ScriptLine.{ScriptLine}
 use Rattle.css_replay.specs.declared.status.Status.{Status}
 use Rattle.css_replay.specs.declared.status.Status.TheVariants as status
@@ -71,27 +70,19 @@ module _ {T E Bad : Type 0} (reading : List ℕ → Result T E) (fault : Bad →
     lacks = none_lacks left result none counted;
   }
 
-  -- a line is refused
-  none_of : (left : Option (List ℕ)) (result : Status) (bad : Bad) → result ≡ refused bad
-      → ((bytes : List ℕ) → left ≡ Some bytes → reading bytes ≡ Err (fault bad))
-      → GivesNone reading fault refused left result
-  none_of left status.ReadFault bad is all = tt
-  none_of left status.Memory bad is all = tt
-  none_of left _ bad is all = (bad, is, all)
-
-  -- or the run over its lines stopped otherwise
+  -- the run over its lines stopped
   pub none_at : {Cause : Type 0} (meaning : Meaning Cause) (bad : ℕ → Refusal Cause → Bad)
       → ((bytes : List ℕ) (line : ℕ) (why : Refusal Cause) → (outcome meaning bytes).verdict ≡ Some (line, why)
-      → reading bytes ≡ Err (fault (bad line why)))
-      → (left left_new old new : Option (List ℕ)) (stop : Stop Cause) → SinkCounts 0 0 stop
+      → reading bytes ≡ Err (fault (bad line why))) → (left left_new old new : Option (List ℕ))
+      → ((bad : Bad) → ((bytes : List ℕ) → left ≡ Some bytes → reading bytes ≡ Err (fault bad))
+      → GivesNone reading fault refused left (refused bad)) → (stop : Stop Cause) → SinkCounts 0 0 stop
       → ((bytes : List ℕ) → left ≡ Some bytes → RanUntil meaning bytes left_new old new stop)
       → GivesNone reading fault refused left (stop_status (λ line why. refused (bad line why)) stop)
-  none_at meaning bad is left left_new old new (stops.BadLine line why) wrote ran =
-      none_of left (refused (bad line why)) (bad line why) refl
-      (λ bytes of. is bytes line why (ap (λ (o : Outcome _). o.verdict) (ran bytes of).verdict))
-  none_at meaning bad is left left_new old new stops.WriteFault wrote ran =
+  none_at meaning bad is left left_new old new none (stops.BadLine line why) wrote ran =
+      none (bad line why) (λ bytes of. is bytes line why (ap (λ (o : Outcome _). o.verdict) (ran bytes of).verdict))
+  none_at meaning bad is left left_new old new none stops.WriteFault wrote ran =
       absurd (omega (arith, wrote.risen (omega arith)))
-  none_at meaning bad is left left_new old new _ wrote ran = tt
+  none_at meaning bad is left left_new old new none _ wrote ran = tt
 
 -- ---- a script
 script_of_lines-more : (before : List (List ℕ)) (text : List ℕ) (line : ScriptLine) → script_of text ≡ Ok line
@@ -235,22 +226,21 @@ gives_text left now text gives script = record {
         let none = script-bad text same.0.0 same.0.1 same.1 in
         let some = script.1 in cc)
 
--- what is refused of it is refused of all
-bad_in_all : (left now : Option (List ℕ)) (text : List ℕ) (line : ℕ) (why : LineWhy) → GivesUpTo left now text
-    → script_in text ≡ Err (line, why) → (bytes : List ℕ) → left ≡ Some bytes → script_in bytes ≡ Err (line, why)
-bad_in_all None now text line why gives bad bytes is = absurd (cc)
-bad_in_all (Some all) None text line why gives bad bytes is = absurd gives.took
-bad_in_all (Some all) (Some rest) text line why gives bad bytes is =
-    rw whole at (of gives.reached)
+-- what was taken reads as all does
+same_reading : (left now : Option (List ℕ)) (text : List ℕ) → GivesUpTo left now text → (bytes : List ℕ)
+    → left ≡ Some bytes → script_in bytes ≡ script_in text
+same_reading None now text gives bytes is = absurd (cc)
+same_reading (Some all) None text gives bytes is = absurd gives.took
+same_reading (Some all) (Some rest) text gives bytes is = rw whole at (of gives.reached)
   where
     whole : text ++ rest ≡ bytes
     whole = let e = gives.took in cc
 
-    of : (rest ≡ []) ⊎ (67108864 < length text) → script_in (text ++ rest) ≡ Err (line, why)
-    of (inl none) = rw (none, append-nil text) bad
+    of : (rest ≡ []) ⊎ (67108864 < length text) → script_in (text ++ rest) ≡ script_in text
+    of (inl none) = ap script_in (rw (none, append-nil text) refl)
     of (inr long) =
         let same = long_text text rest long in
-        script-bad (text ++ rest) same.0.0 same.0.1 same.2 ∙ sym (script-bad text same.0.0 same.0.1 same.1) ∙ bad
+        script-bad (text ++ rest) same.0.0 same.0.1 same.2 ∙ sym (script-bad text same.0.0 same.0.1 same.1)
 
 -- a source whose bytes are no script has none
 pub no_text : (left now : Option (List ℕ)) (text : List ℕ) (result : Status) → GivesUpTo left now text
@@ -258,7 +248,7 @@ pub no_text : (left now : Option (List ℕ)) (text : List ℕ) (result : Status)
 no_text left now text status.Memory gives none = tt
 no_text left now text status.ReadFault gives none = tt
 no_text left now text _ gives none =
-    (none.0, none.1, bad_in_all left now text none.0.0 none.0.1 gives (none.2 text refl))
+    (none.0, none.1, λ bytes is. same_reading left now text gives bytes is ∙ none.2 text refl)
 
 -- a count of faults that stays 0 tells no failed read, of whatever source
 pub no_read_fault : (result : Status) (before now : ℕ) → CountsReads 0 0 result → now ≡ before

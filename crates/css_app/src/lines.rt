@@ -46,8 +46,7 @@ pub(crate) fn agree<S: Source, K: Sink>(alloc: Global, source: &mut S, sink: &mu
     ensures counted { TellsOverLines (S.faults source.old) (S.faults source.new) (K.faults sink.old) (K.faults sink.new)
         result }
 {
-    let ended = drive(alloc, source, sink, &mut Agreeing::new(alloc));
-    match ended {
+    match drive(alloc, source, sink, &mut Agreeing::new(alloc)) {
         Ok(()) => Status::Done,
         Err(stop) => agree_status(stop),
     }
@@ -96,8 +95,7 @@ pub(crate) fn audit<S: Source, K: Sink>(alloc: Global, source: &mut S, sink: &mu
     ensures counted { TellsOverLines (S.faults source.old) (S.faults source.new) (K.faults sink.old) (K.faults sink.new)
         result }
 {
-    let ended = drive(alloc, source, sink, &mut Auditing::new(alloc));
-    match ended {
+    match drive(alloc, source, sink, &mut Auditing::new(alloc)) {
         Ok(()) => Status::Done,
         Err(stop) => audit_status(stop),
     }
@@ -127,8 +125,7 @@ pub(crate) fn migrate<S: Source, K: Sink>(alloc: Global, source: &mut S, sink: &
     ensures counted { TellsOverLines (S.faults source.old) (S.faults source.new) (K.faults sink.old) (K.faults sink.new)
         result }
 {
-    let ended = drive(alloc, source, sink, &mut Migrate::new(alloc));
-    match ended {
+    match drive(alloc, source, sink, &mut Migrate::new(alloc)) {
         Ok(()) => Status::Done,
         Err(stop) => line_status(stop),
     }

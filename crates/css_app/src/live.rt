@@ -3,7 +3,6 @@ ghost use Rattle.std.specs.Prelude.{◌≡◌, ◌≤◌, ◌≤ℤ◌, pos, Lis
 ghost use Rattle.std.specs.Str.{IsUtf8};
 ghost use Rattle.css_model.specs.Numbers.{max_error};
 ghost use Rattle.css_outside.specs.Limits.{IsLimit};
-ghost use Rattle.css_follow.specs.Listening.{all_plans, all_seen};
 ghost use Rattle.css_follow.specs.Sheets.{sheet_in};
 ghost use Rattle.css_follow.specs.declared.sheet.Sheet.{Sheet};
 ghost use Rattle.css_schedule.specs.declared.line.ScriptLine.{ScriptLine};
@@ -14,7 +13,7 @@ ghost use Rattle.css_replay.specs.Devices.{sink_use, source_use};
 ghost use Rattle.css_replay.specs.Ended.{HasNotFailed, IsNoUsage};
 ghost use Rattle.css_app.specs.Commands.{MakesRecord};
 ghost use Rattle.css_app.specs.Devices.{followers_use, outside_use};
-ghost use Rattle.css_app.specs.Live.{Companions, EndsAsDue, MakesRun, Serves, ServesAsDue, TellsFaults, driven_status};
+ghost use Rattle.css_app.specs.Live.{Companions, EndsAsDue, Serves, ServesAsDue, TellsFaults, driven_status};
 ghost use Rattle.css_app.specs.Scripts.{script_in};
 ghost use Rattle.css_app.specs.Watches.{EndsAtLastUnlessMemory, MakesWatch, watched_status};
 
@@ -44,28 +43,6 @@ pub(crate) fn status_of(driven: Driven) -> Status
         Driven::BadUrl { property } => Status::BadUrl { property },
         Driven::Memory => Status::Memory,
     }
-}
-
-/// Makes a companion's run, and tells how it ended.
-pub(crate) fn make_run<K: Sink, O: Outside, F: Listens>(
-    alloc: Global,
-    config: DriveConfig,
-    sink: &mut K,
-    outside: &mut O,
-    followers: &mut F,
-) -> Status
-    requires { IsWritable config }
-    ensures makes { MakesRun config (all_plans (F.heard followers.old)) (sink_use K.holds K.faults sink.old sink.new)
-        (outside_use O.told O.counts outside.old outside.new)
-        (all_seen (F.heard followers.old)) (all_seen (F.heard followers.new)) result }
-    ensures complete { HasNotFailed (K.faults sink.old) (K.faults sink.new)
-        → HasNotFailed (O.counts outside.old).faults (O.counts outside.new).faults
-        → EndsAsDue config (O.told outside.old) (O.told outside.new) result }
-    ensures no_usage { IsNoUsage result }
-    ensures counted { (reads spawns : ℕ) → TellsFaults reads reads (K.faults sink.old) (K.faults sink.new)
-        (O.counts outside.old) (O.counts outside.new) spawns spawns result }
-{
-    status_of(drive_companion(alloc, config, sink, outside, followers))
 }
 
 /// Reads a cue sheet from the source, to its end, and then makes a companion's run, which the followers follow by this
@@ -108,7 +85,7 @@ pub fn companion<S: Source, K: Sink, O: Outside, F: Listens>(
     let prepared = followers.prepare(&sheet);
     drop(sheet);
     match prepared {
-        Ok(()) => make_run(alloc, config, sink, outside, followers),
+        Ok(()) => status_of(drive_companion(alloc, config, sink, outside, followers)),
         Err(Memory) => Status::Memory,
     }
 }

@@ -12,8 +12,8 @@ ghost use Rattle.css_app.specs.Pairs as pairs;
 ghost use Rattle.css_app.specs.Scripts.{script_in};
 
 use crate::inputs::take_script_text;
-use crate::live::make_run;
-use css_drive::{DriveConfig, Listens};
+use crate::live::status_of;
+use css_drive::{DriveConfig, Listens, drive_companion};
 use css_follow::Sheet;
 use css_num::{Memory, Text};
 use css_outside::{Address, Limit, OutFault, Outside, Sink, Source, Spawner};
@@ -154,7 +154,7 @@ fn run_beside<K: Sink, O: Outside, P: Spawner, F: Listens>(
         },
         Err(OutFault::Memory) => return Status::Memory,
     }
-    let companion = make_run(alloc, config, sink, outside, followers);
+    let companion = status_of(drive_companion(alloc, config, sink, outside, followers));
     let finished = spawner.finish();
     with_child(companion, finished)
 }

@@ -1,3 +1,4 @@
+use Rattle.std.proofs.Common.{refl}
 use Rattle.css_replay.proofs.OverLines.{stop_ends}
 use Rattle.css_app.specs.Ended.{line_refused}
 use Rattle.css_app.specs.Live.{bad_line}
@@ -16,7 +17,7 @@ returns-clause-value g c =
     let run = c.in-Err.ensures in
     rw c.line_status.ensures
     (none_at script_in (λ bad. bad) bad_line (λ bad. tt) script_lines (λ line why. (line, why_of why)) script-bad
-    _ _ _ _ c.in-Err.stop run.counted_writes run.ran)
+    _ _ _ _ (λ bad all. (bad, refl, all)) c.in-Err.stop run.counted_writes run.ran)
 
 pub returns-clause-counted : goal.returns-clause-counted
 returns-clause-counted g c =

@@ -1,4 +1,4 @@
-use Rattle.std.proofs.Common.{◌≡◌, ℕ, List, ap}
+use Rattle.std.proofs.Common.{◌≡◌, ℕ, List, ap, refl}
 use Rattle.std.specs.Prelude.{Err, Some}
 use Rattle.css_follow.specs.Sheets.{sheet_in, sheet_lines, sheet_of, unless_refused}
 use Rattle.css_follow.specs.declared.fault.SheetFault.TheVariants.{Line}
@@ -32,7 +32,8 @@ pub returns-clause-value : goal.returns-clause-value
 returns-clause-value g c =
     let run = c.in-Err.ensures in
     rw c.sheet_status.ensures
-    (none_at sheet_in Line BadSheet (λ bad. tt) sheet_lines (λ line why. line) sheet-bad _ _ _ _ c.in-Err.stop
+    (none_at sheet_in Line BadSheet (λ bad. tt) sheet_lines (λ line why. line) sheet-bad _ _ _ _
+    (λ bad all. (bad, refl, all)) c.in-Err.stop
     run.counted_writes run.ran)
 
 pub returns-clause-counted : goal.returns-clause-counted

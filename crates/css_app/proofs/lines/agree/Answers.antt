@@ -18,8 +18,8 @@ of_line : (line : ℕ) (why : Refusal Cause) → IsOfLine (agree_refused line wh
 of_line line (Refused causes.Form) = tt
 of_line line _ = tt
 
-pub returns-in-Err : goal.returns-in-Err
-returns-in-Err g c =
+pub returns : goal.returns
+returns g c =
     let run = c.in-Err.ensures in
     let stop = c.in-Err.stop in
     rw c.agree_status.ensures

@@ -2,6 +2,7 @@ use Rattle.std.proofs.Common.{refl, inl, inr}
 use Rattle.css_follow.specs.Sheets.{sheet_in}
 use Rattle.css_follow.specs.declared.fault.SheetFault.TheVariants.{Line}
 use Rattle.css_replay.specs.declared.status.Status.TheVariants.{BadSheet}
+use Rattle.css_app.proofs.LiveEnds.{driven_tells, made_run, run_as_due}
 use Rattle.css_app.proofs.Taken.{took_none}
 use Rattle.css_app.proofs.live.companion.Goals as goal
 
@@ -24,14 +25,17 @@ returns-in-Err-prepared-clause-ran g c = inl ((refl, refl, c.prepare-prepared.en
 -- the run
 pub returns-in-Ok-prepared : goal.returns-in-Ok-prepared
 returns-in-Ok-prepared g c =
-    let made = c.make_run.ensures in
-    record {
+    let run = c.drive_companion.ensures in
+    let ended = c.drive_companion.result in
+    rw c.status_of.ensures.value
+    (record {
       ran = inr (record {
         sheet = c.in-Ok.sheet;
         gives = c.in-Ok.ensures.value;
-        makes = rw (c.in-Ok-prepared.ensures.as_sheet, c.prepare-prepared.ensures.same_seen) at made.makes;
+        makes = made_run _ _ ended c.in-Ok-prepared.ensures.as_sheet c.prepare-prepared.ensures.same_seen run.ran;
       });
-      complete = λ bytes sheet is ok read. made.complete;
-      counted = rw c.in-Ok.ensures.counted (made.counted (g.S.Source.faults c.args.source.now));
-      no_usage = made.no_usage;
-    }
+      complete = λ bytes sheet is ok read. run_as_due ended run.ran run.write_faults run.net_faults;
+      counted = λ spawns.
+          rw c.in-Ok.ensures.counted (driven_tells ended run.write_faults run.net_faults run.dial_faults);
+      no_usage = rw c.status_of.ensures.value at c.status_of.ensures.no_usage;
+    })

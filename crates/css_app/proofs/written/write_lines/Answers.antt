@@ -73,13 +73,11 @@ stops_within seed companions given lines start held holds fewer grew part =
 -- ---- the goals
 pub returns-in_err-text-clause-err : goal.returns-in_err-text-clause-err
 returns-in_err-text-clause-err g c = on_err_from _
-    (stops_before c.args.seed c.args.companions c.lines.generator.given c.args.lines
-    (g.K.Sink.holds c.args.sink.now) (g.K.Sink.holds c.lines.sink) c.lines.invariant.within c.lines.invariant.grew)
+    (stops_before _ _ c.lines.generator.given _ _ _ c.lines.invariant.within c.lines.invariant.grew)
 
 pub returns-in_err-push-clause-err : goal.returns-in_err-push-clause-err
 returns-in_err-push-clause-err g c = on_err_from _
-    (stops_before c.args.seed c.args.companions c.lines.generator.given c.args.lines
-    (g.K.Sink.holds c.args.sink.now) (g.K.Sink.holds c.lines.sink) c.lines.invariant.within c.lines.invariant.grew)
+    (stops_before _ _ c.lines.generator.given _ _ _ c.lines.invariant.within c.lines.invariant.grew)
 
 -- a line that was given and got its line feed is the generated one
 line_is : {seed seed' companions companions' : ℕ} {text : List ℕ} (bytes : List ℕ) (given : ℕ)
@@ -96,9 +94,7 @@ returns-in_err-write_all-clause-err g c =
     c.lines.invariant.seed c.lines.invariant.companions in
     let more : given < c.args.lines = omega (arith, step.more, c.lines.invariant.lines) in
     on_err_from _
-    (stops_within c.args.seed c.args.companions given c.args.lines (g.K.Sink.holds c.args.sink.now)
-    (g.K.Sink.holds c.lines.sink) (g.K.Sink.holds c.write_all.new.sink) more c.lines.invariant.grew
-    (rw line at c.in_err-write_all.ensures.err))
+    (stops_within _ _ given _ _ _ _ more c.lines.invariant.grew (rw line at c.in_err-write_all.ensures.err))
 
 pub lines-preserved : goal.lines-preserved
 lines-preserved g c =
@@ -109,14 +105,11 @@ lines-preserved g c =
     let line = line_is c.bytes.result.now given (c.bytes.ensures ∙ c.in_ok-push.ensures.ok) step.text was.seed
     was.companions in
     let next : c.next_line.new.self.given ≡ given + 1 = ap (λ (x : Generator). x.given) step.gone in
-    let wrote = rw line at c.in_ok-write_all.ensures.ok in
     record {
       companions = ap (λ (x : Generator). x.companions) step.gone ∙ was.companions;
       seed = ap (λ (x : Generator). x.seed) step.gone ∙ was.seed;
       lines = ap (λ (x : Generator). x.lines) step.gone ∙ was.lines;
       within = omega (arith, next, step.more, was.lines);
-      grew = rw next
-          (one_more c.args.seed c.args.companions given (g.K.Sink.holds c.args.sink.now) (g.K.Sink.holds c.lines.sink)
-          (g.K.Sink.holds c.write_all.new.sink) was.grew wrote);
+      grew = rw next (one_more _ _ given _ _ _ was.grew (rw line at c.in_ok-write_all.ensures.ok));
       counted = c.in_ok-write_all.ensures.counted ∙ was.counted;
     }
