@@ -1,25 +1,111 @@
--- What a run did, by the words of its command line.
-use Rattle.std.proofs.Common.{◌≡◌, ◌∙◌, ap, sym, subst, inl, inr}
-use Rattle.std.specs.Prelude.{◌⊎◌, Bool, false, Result, Ok, Err}
+-- What a run did, by the words of its command line, and what is done where memory ran out before they were read.
+use Rattle.std.proofs.Common.{◌≡◌, ◌∙◌, ℕ, List, [], ap, refl, sym, subst, arith, inl, inr}
+use Rattle.std.specs.Prelude.{◌⊎◌, Bool, false, unwrap_or, Result, Ok, Err}
 use Rattle.css_num.specs.Gives.{GivesBy}
-use Rattle.css_words.specs.Commands.{Asked, Companion, asked_of}
-use Rattle.css_words.specs.Companion.{CompanionAsked}
+use Rattle.css_outside.proofs.Known.{appends_none, consumes_none}
+use Rattle.css_lines.specs.declared.reader.Refusal.{Refusal}
+use Rattle.css_lines.specs.declared.ending.Stop.TheVariants as stops
+use Rattle.css_lines.specs.Ending.{StopsInPiece}
+use Rattle.css_lines.specs.Lines.{whole_lines, last_part}
+use Rattle.css_lines.specs.Meaning.{Meaning, outcome_so_far}
+use Rattle.css_agree.specs.Agreeing.{agreeing}
+use Rattle.css_audit.specs.Auditing.{auditing}
+use Rattle.css_migrate.specs.Migrated.{migrated}
+use Rattle.css_words.specs.Commands.{Asked, Replay, Agree, Audit, Migrate, Companion, Tv, Pair, Relay, Generate}
+use Rattle.css_words.specs.Commands.{Survey, Watch, asked_of}
 use Rattle.css_words.specs.declared.command.Command.{Command}
 use Rattle.css_words.specs.declared.fault.WordsFault.{WordsFault}
 use Rattle.css_words.specs.declared.fault.WordsFault.TheVariants as words
+use Rattle.css_survey.specs.Generated.{schedule_text}
+use Rattle.css_survey.specs.Surveyed.{survey_text}
 use Rattle.css_replay.specs.declared.status.Status.{Status}
 use Rattle.css_replay.specs.declared.status.Status.TheVariants as status
-use Rattle.css_replay.specs.Ended.{IsNoUsage}
-use Rattle.css_app.specs.Commands.{Does, EitherCompanion}
-use Rattle.css_app.specs.Commands.{TellsUsage, asked_in}
+use Rattle.css_replay.specs.Does.{OverLines}
+use Rattle.css_replay.specs.Ended.{IsNoUsage, replay_refused}
+use Rattle.css_replay.specs.Replayed.{replayed}
+use Rattle.css_app.specs.Commands.{ByWriting, Does, OfAsked, TellsUsage, asked_in}
 use Rattle.css_app.specs.Devices.{Uses, unused}
-use Rattle.css_app.proofs.Lacking.{lacks}
+use Rattle.css_app.specs.Ended.{agree_refused, audit_refused, line_refused}
 
 -- what a run came to is so of one that the options ask for
 pub as_asked : {None Run : Type 0} {IsAsked Came : Run → Type 0} (run : Run) → IsAsked run → None ⊎ Came run
-    → None ⊎ ((run : Run) × IsAsked run × Came run)
+    → OfAsked None IsAsked Came
 as_asked run is (inl none) = inl none
 as_asked run is (inr came) = inr (run, is, came)
+
+-- ---- memory ran out before a command began: every device is as it was
+module _ {Cause : Type 0} (meaning : Meaning Cause) where
+  -- nothing was read, and nothing was printed
+  in_nothing : StopsInPiece meaning [] []
+  unfolding outcome_so_far whole_lines last_part
+  in_nothing = record {
+    before = [];
+    piece = [];
+    cut = refl;
+    short = omega arith;
+    sound = record { accepted = refl; short = omega arith; within = λ some. omega arith };
+    kept = ([], refl);
+  }
+
+  over_none : (refused : ℕ → Refusal Cause → Status) (used : Uses)
+      → OverLines meaning refused (unused used).source (unused used).sink status.Memory
+  over_none refused used = record {
+    no_usage = tt;
+    reads = λ bytes is. inr (record {
+      stop = stops.Memory;
+      ran = record {
+        read = [];
+        rest = bytes;
+        cut = refl;
+        at = is;
+        printed = [];
+        grew = appends_none used.sink.holds_old;
+        verdict = tt;
+        ends = (inl ((outcome_so_far meaning []).printed, refl), in_nothing);
+      };
+      told = refl;
+    });
+    complete = λ bytes is accepted read written. tt;
+  }
+
+writing_lacks : (text : List ℕ) (used : Uses) → ByWriting text (unused used).sink status.Memory
+writing_lacks text used = record {
+  writes = record { front = []; of = (text, refl); grew = appends_none used.sink.holds_old };
+  complete = λ written. tt;
+}
+
+-- whatever the words ask for
+lacks : (asked : Result Asked WordsFault) (used : Uses) → Does asked (unused used) status.Memory
+lacks (Ok Replay) used = record {
+  lines = over_none replayed replay_refused used;
+  promise = record { read = []; printed = []; took = consumes_none _; grew = appends_none _; keeps = inl refl };
+}
+lacks (Ok Agree) used = record {
+  lines = over_none agreeing agree_refused used;
+  promise = record { read = []; printed = []; took = consumes_none _; grew = appends_none _; keeps = inl refl };
+}
+lacks (Ok Audit) used =
+    record { lines = over_none auditing audit_refused used; right = λ done. absurd (cc) }
+lacks (Ok Migrate) used = over_none migrated line_refused used
+lacks (Ok (Companion asked)) used = (
+  λ plain. record { ran = inl ((refl, refl, refl), tt); complete = λ bytes sheet is ok read written called. inl refl },
+  λ recorded. record { ran = inl (refl, refl, refl); complete = λ written called. inl refl },
+)
+lacks (Ok (Tv asked)) used =
+    record { ran = inl (refl, tt); complete = λ bytes script is ok read called. inl refl }
+lacks (Ok (Pair asked)) used =
+    record {
+      ran = inl (((refl, refl, refl), refl, refl), tt);
+      complete = λ bytes script is ok read written called spawned. inl refl;
+    }
+lacks (Ok (Relay asked)) used = record { ran = inl (refl, refl); complete = λ called. inl refl }
+lacks (Ok (Watch asked)) used = record { ran = inl (refl, refl, refl); complete = λ written called. tt }
+lacks (Ok (Generate asked)) used =
+    writing_lacks (schedule_text asked.seed (unwrap_or asked.companions 1) asked.lines) used
+lacks (Ok (Survey asked)) used =
+    writing_lacks (survey_text asked.seed (unwrap_or asked.companions 1) asked.lines) used
+lacks (Err words.Usage) used = tt
+lacks (Err words.Memory) used = (refl, refl)
 
 -- ---- words
 -- what was done for the words that were read was done for what is asked, whatever that is expected to be
@@ -34,15 +120,6 @@ does_asked (Err words.Memory) asked used result (inr is) did expected e =
     subst (λ (u : Uses). Does expected u result) (sym did.0)
     (subst (Does expected (unused used)) (sym did.1) (lacks expected used))
 does_asked (Err words.Usage) asked used result (inr is) did expected e = absurd (cc)
-
--- so it is of a companion, with a record or without one
-pub does_companion : (asked : Result Asked WordsFault) (used : Uses) (result : Status)
-    → ((expected : Result Asked WordsFault) → asked ≡ expected → Does expected used result)
-    → (words : CompanionAsked) → asked ≡ Ok (Companion words) → (recorded : Bool) → words.recorded ≡ recorded
-    → EitherCompanion recorded words used.source used.sink used.outside used.followers result
-does_companion asked used result did words is recorded e =
-    subst (λ (b : Bool). EitherCompanion b words used.source used.sink used.outside used.followers result) e
-    (did (Ok (Companion words)) is)
 
 -- so it is of devices that aren't used
 pub unused_by : (uses_it : Result Asked WordsFault → Bool) → ((fault : WordsFault) → uses_it (Err fault) ≡ false)

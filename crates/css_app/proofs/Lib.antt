@@ -1,11 +1,3 @@
-pub mod Generating
+pub mod LiveEnds
 pub mod Taken
-pub mod Live
-pub mod LongText
-pub mod TextsTaken
-pub mod Pairs
-pub mod TvEnds
-pub mod Quiet
-pub mod Lacking
-pub mod Watches
 pub mod Commands

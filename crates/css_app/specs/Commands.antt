@@ -14,7 +14,6 @@ use Rattle.css_drive_relay.specs.Due as relay
 use Rattle.css_drive_relay.specs.Due.{IsProperRelay}
 use Rattle.css_drive_relay.specs.Ran.{RelayRan}
 use Rattle.css_drive_relay.specs.declared.config.RelayRun.{RelayRun}
-use Rattle.css_follow.specs.Following.{Plan}
 use Rattle.css_follow.specs.Sheets.{sheet_in}
 use Rattle.css_follow.specs.declared.sheet.Sheet.{Sheet}
 use Rattle.css_migrate.specs.Migrated.{migrated}
@@ -23,7 +22,6 @@ use Rattle.css_record.specs.Runs.{Recorded}
 use Rattle.css_survey.specs.Generated.{schedule_text}
 use Rattle.css_survey.specs.Surveyed.{survey_text}
 use Rattle.css_tv.specs.declared.config.TvConfig.{TvConfig}
-use Rattle.css_watch.specs.declared.config.WatchConfig.{WatchConfig}
 use Rattle.css_words.specs.Commands.{Asked, Replay, Agree, Audit, Migrate, Companion, Tv, Pair, Relay, Generate}
 use Rattle.css_words.specs.Commands.{Survey, Watch, asked_of, command_in}
 use Rattle.css_words.specs.Companion.{CompanionAsked, OptionsAsked}
@@ -35,17 +33,16 @@ use Rattle.css_words.specs.Watch.{WatchAsked}
 use Rattle.css_words.specs.declared.command.Command.{Command}
 use Rattle.css_words.specs.declared.fault.WordsFault.{WordsFault}
 use Rattle.css_words.specs.declared.fault.WordsFault.TheVariants as words
-use Rattle.css_app.specs.declared.child.Child.{Child}
+use Rattle.css_app.specs.declared.live_pair.Child.{Child}
 use Rattle.css_replay.specs.declared.status.Status.{Status}
 use Rattle.css_replay.specs.declared.status.Status.TheVariants as status
 use Rattle.css_replay.specs.Devices.{SourceUse, SinkUse}
 use Rattle.css_replay.specs.Does.{ByReplay, OverLines}
-use Rattle.css_app.specs.Devices.{OutsideUse, SpawnerUse, FollowersUse, Uses, stage_before, stage_after, unused}
+use Rattle.css_app.specs.Devices.{AreUntouched, OutsideUse, SpawnerUse, FollowersUse, Uses, unused}
 use Rattle.css_app.specs.Ended.{Writes, agree_refused, audit_refused, line_refused}
 use Rattle.css_replay.specs.Ended.{HasNotFailed, IsDoneUnlessMemory, IsNoUsage}
-use Rattle.css_app.specs.Live.{HasNoSheet, IsAsDue, IsMadeAsDue, RunsBySheet, Serves, ServesAsDue, Stage}
-use Rattle.css_app.specs.Live.{driven_status}
-use Rattle.css_app.specs.Pairs.{ArePairedAsDue, Children, PairsByScript, PairsNone, address_at}
+use Rattle.css_app.specs.Live.{HasNoScript, HasNoSheet, IsAsDue, IsMadeAsDue, RunsBySheet, Serves, ServesAsDue, driven_status}
+use Rattle.css_app.specs.Pairs.{AreLeft, ArePairedAsDue, PairsByScript, address_at}
 use Rattle.css_app.specs.Scripts.{script_in}
 use Rattle.css_app.specs.Watches.{IsAskedWatch, EndsAtLastUnlessMemory, MakesWatch}
 
@@ -152,25 +149,23 @@ abbrev pub ByMigrate : SourceUse → SinkUse → Status → Type 0
 ByMigrate = OverLines migrated line_refused
 
 -- ---- `companion`
--- what became of the sheet and of the run that the options ask for
-abbrev pub CompanionsBy : CompanionAsked → (Sheet → List Plan) → SourceUse → Stage → Stage → Status → Type 0
-CompanionsBy asked takes source before now result =
-    ((now ≡ before) × HasNoSheet source.left_old result)
-    ⊎ ((run : DriveConfig) × IsAskedRun asked.options asked.cii run
-    × RunsBySheet run takes source.left_old source.left_new before now result)
+-- nothing was made, or this became of one that is asked for
+abbrev pub OfAsked : {Made : Type 0} → Type 0 → (Made → Type 0) → (Made → Type 0) → Type 0
+OfAsked {Made = Made} none is_asked came = none ⊎ ((made : Made) × is_asked made × came made)
 
 -- a run that the options ask for ended as its calls say, unless memory ran out
 abbrev pub EndsAsAsked : OptionsAsked → Address → Option History → Option History → Status → Type 0
 EndsAsAsked asked cii before now result =
-    (result ≡ status.Memory) ⊎ ((run : DriveConfig) × IsAskedRun asked cii run × IsAsDue run before now result)
+    OfAsked (result ≡ status.Memory) (IsAskedRun asked cii) (λ run. IsAsDue run before now result)
 
 -- Each report is that of what the outside gave before it, each interval contains the position that the last control
 -- timestamp received assigns to the television's wall clock, in every world that explains what the outside gave, and
 -- the sink gained the line of each report, and what the followers said of it by the plans that the sheet gives them.
 pub record ByCompanion (asked : CompanionAsked) (source : SourceUse) (sink : SinkUse) (outside : OutsideUse)
     (followers : FollowersUse) (result : Status) : Type 0 where
-  pub ran : CompanionsBy asked followers.takes source (stage_before sink outside followers)
-      (stage_after sink outside followers) result
+  pub ran : OfAsked
+      (AreUntouched sink outside followers.heard_old followers.heard_new × HasNoSheet source.left_old result)
+      (IsAskedRun asked.options asked.cii) (λ run. RunsBySheet run source sink outside followers result)
   -- over devices that don't fail, dials aside, a run by a sheet ends as its calls say
   pub complete : (bytes : List ℕ) (sheet : Sheet) → source.left_old ≡ Some bytes → sheet_in bytes ≡ Ok sheet
       → HasNotFailed source.faults_old source.faults_new → HasNotFailed sink.faults_old sink.faults_new
@@ -189,30 +184,18 @@ abbrev pub MakesNone : SinkUse → OutsideUse → Status → Type 0
 MakesNone sink outside result =
     (outside.told_new ≡ outside.told_old) × (sink.holds_new ≡ sink.holds_old) × (result ≡ status.Memory)
 
--- what became of the run that the options ask for, and of its record
-abbrev pub RecordsBy : CompanionAsked → SinkUse → OutsideUse → Status → Type 0
-RecordsBy asked sink outside result =
-    MakesNone sink outside result
-    ⊎ ((run : DriveConfig) × IsAskedRun asked.options asked.cii run
-    × MakesRecord run outside.told_old outside.told_new sink.holds_old sink.holds_new result)
-
 -- The same with a record: the sink gained what the outside gave, line by line, and the line of each report.
 pub record ByRecord (asked : CompanionAsked) (sink : SinkUse) (outside : OutsideUse) (result : Status) : Type 0 where
-  pub ran : RecordsBy asked sink outside result
+  pub ran : OfAsked (MakesNone sink outside result) (IsAskedRun asked.options asked.cii)
+      (λ run. MakesRecord run outside.told_old outside.told_new sink.holds_old sink.holds_new result)
   -- over devices that don't fail, dials aside, a run ends as its calls say
   pub complete : HasNotFailed sink.faults_old sink.faults_new → HasNotFailed outside.faults_old outside.faults_new
       → EndsAsAsked asked.options asked.cii outside.told_old outside.told_new result
 
--- with a record, or without one
-abbrev pub EitherCompanion : Bool → CompanionAsked → SourceUse → SinkUse → OutsideUse → FollowersUse → Status → Type 0
-EitherCompanion true asked source sink outside followers result = ByRecord asked sink outside result
-EitherCompanion false asked source sink outside followers result =
-    ByCompanion asked source sink outside followers result
-
 -- ---- `tv`
 -- Each call of the outside is the one that is due by the script and by what came.
 pub record ByTv (asked : TvAsked) (source : SourceUse) (outside : OutsideUse) (result : Status) : Type 0 where
-  pub ran : Serves (asked_drive asked) source.left_old source.left_new outside.told_old outside.told_new result
+  pub ran : Serves (asked_drive asked) source outside result
   -- over devices that don't fail a run by a script ends as its calls say
   pub complete : (bytes : List ℕ) (script : List ScriptLine) → source.left_old ≡ Some bytes
       → script_in bytes ≡ Ok script
@@ -220,31 +203,21 @@ pub record ByTv (asked : TvAsked) (source : SourceUse) (outside : OutsideUse) (r
       → ServesAsDue (run_of (asked_drive asked) script) outside.told_old outside.told_new result
 
 -- ---- `pair`
--- what became of the script, of the child and of the run that the options ask for
-abbrev pub PairsBy : PairAsked → (Sheet → List Plan) → SourceUse → Stage → Stage → Children → Children → Status → Type 0
-PairsBy asked takes source before now kids_old kids_new result =
-    PairsNone source.left_old before now kids_old kids_new result
-    ⊎ ((run : DriveConfig) × IsAskedRun asked.companion (address_at asked.tv.port) run
-    × PairsByScript run takes (asked_child asked.tv) source.left_old source.left_new before now kids_old kids_new
-    result)
-
--- a run that the options ask for ended as its calls say, and so did the child, unless memory ran out
-abbrev pub PairsAsAsked : OptionsAsked → Address → Option History → Option History → Status → Type 0
-PairsAsAsked asked cii before now result =
-    (result ≡ status.Memory) ⊎ ((run : DriveConfig) × IsAskedRun asked cii run × ArePairedAsDue run before now result)
-
 -- The same as of `companion`, with an empty sheet, beside a child that was started once with the bytes of the script,
 -- and was waited for once.
 pub record ByPair (asked : PairAsked) (source : SourceUse) (sink : SinkUse) (outside : OutsideUse)
     (spawner : SpawnerUse) (followers : FollowersUse) (result : Status) : Type 0 where
-  pub ran : PairsBy asked followers.takes source (stage_before sink outside followers)
-      (stage_after sink outside followers) spawner.children_old spawner.children_new result
+  pub ran : OfAsked
+      (AreLeft sink outside spawner followers.heard_old followers.heard_new × HasNoScript source.left_old result)
+      (IsAskedRun asked.companion (address_at asked.tv.port))
+      (λ run. PairsByScript run (asked_child asked.tv) source sink outside spawner followers result)
   -- over devices that don't fail, dials aside, a run beside a child with a script ends as its calls say
   pub complete : (bytes : List ℕ) (script : List ScriptLine) → source.left_old ≡ Some bytes
       → script_in bytes ≡ Ok script
       → HasNotFailed source.faults_old source.faults_new → HasNotFailed sink.faults_old sink.faults_new
       → HasNotFailed outside.faults_old outside.faults_new → HasNotFailed spawner.faults_old spawner.faults_new
-      → PairsAsAsked asked.companion (address_at asked.tv.port) outside.told_old outside.told_new result
+      → OfAsked (result ≡ status.Memory) (IsAskedRun asked.companion (address_at asked.tv.port))
+      (λ run. ArePairedAsDue run outside.told_old outside.told_new result)
 
 -- ---- `relay`
 -- the run is what the options of a relay ask for
@@ -257,38 +230,20 @@ pub record IsAskedRelay (asked : RelayAsked) (run : RelayRun) : Type 0 where
   pub local_error : run.companion.local.error ≡ asked.local_error
   pub local_precision : run.companion.local.precision ≡ asked.local_precision
 
--- A run was made that the options ask for, and the status says how it ended.
-pub record RelaysBy (asked : RelayAsked) (told_old told_new : Option History) (result : Status) : Type 0 where
-  pub run : RelayRun
-  pub is_asked : IsAskedRelay asked run
-  pub ended : Driven
-  pub ran : RelayRan run told_old told_new ended
-  pub tells : result ≡ driven_status ended
-
--- a run that the options ask for was made to an end that was due, unless memory ran out
-abbrev pub RelaysAsDue : RelayAsked → Option History → Option History → Status → Type 0
-RelaysAsDue asked before now result = (result ≡ status.Memory)
-    ⊎ ((run : RelayRun) × IsAskedRelay asked run × IsMadeAsDue (IsProperRelay run) (relay.due run) before now result)
-
--- Each call of the outside is the one that is due by what came.
+-- Each call of the outside is the one that is due by what came, and the status says how the run ended.
 pub record ByRelay (asked : RelayAsked) (outside : OutsideUse) (result : Status) : Type 0 where
-  pub ran : (outside.told_new ≡ outside.told_old) × (result ≡ status.Memory)
-      ⊎ RelaysBy asked outside.told_old outside.told_new result
+  pub ran : OfAsked ((outside.told_new ≡ outside.told_old) × (result ≡ status.Memory)) (IsAskedRelay asked)
+      (λ run. (ended : Driven) × RelayRan run outside.told_old outside.told_new ended × (result ≡ driven_status ended))
   -- over an outside that doesn't fail, dials aside, a run ends as its calls say
   pub complete : HasNotFailed outside.faults_old outside.faults_new
-      → RelaysAsDue asked outside.told_old outside.told_new result
+      → OfAsked (result ≡ status.Memory) (IsAskedRelay asked)
+      (λ run. IsMadeAsDue (IsProperRelay run) (relay.due run) outside.told_old outside.told_new result)
 
 -- ---- `watch`
--- what became of the watch that the options ask for
-abbrev pub WatchesBy : WatchAsked → SinkUse → OutsideUse → Status → Type 0
-WatchesBy asked sink outside result =
-    MakesNone sink outside result
-    ⊎ ((config : WatchConfig) × IsAskedWatch asked config
-    × MakesWatch config outside.told_old outside.told_new sink.holds_old sink.holds_new result)
-
 -- The calls are those of visits, one after another, and the sink gained the lines of what happened in each of them.
 pub record ByWatch (asked : WatchAsked) (sink : SinkUse) (outside : OutsideUse) (result : Status) : Type 0 where
-  pub ran : WatchesBy asked sink outside result
+  pub ran : OfAsked (MakesNone sink outside result) (IsAskedWatch asked)
+      (λ config. MakesWatch config outside.told_old outside.told_new sink.holds_old sink.holds_new result)
   -- over devices that don't fail, dials aside, a watch ends at its last turn alone, or after 2^40 visits
   pub complete : HasNotFailed sink.faults_old sink.faults_new → HasNotFailed outside.faults_old outside.faults_new
       → EndsAtLastUnlessMemory result
@@ -318,7 +273,8 @@ Does (Ok Agree) used result = ByAgree used.source used.sink result
 Does (Ok Audit) used result = ByAudit used.source used.sink result
 Does (Ok Migrate) used result = ByMigrate used.source used.sink result
 Does (Ok (Companion asked)) used result =
-    EitherCompanion asked.recorded asked used.source used.sink used.outside used.followers result
+    (asked.recorded ≡ false → ByCompanion asked used.source used.sink used.outside used.followers result)
+    × (asked.recorded ≡ true → ByRecord asked used.sink used.outside result)
 Does (Ok (Tv asked)) used result = ByTv asked used.source used.outside result
 Does (Ok (Pair asked)) used result = ByPair asked used.source used.sink used.outside used.spawner used.followers result
 Does (Ok (Relay asked)) used result = ByRelay asked used.outside result

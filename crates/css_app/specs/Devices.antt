@@ -1,14 +1,12 @@
 -- What there is to see of a run's devices beside its source and its sink, before it and after it.
-use Rattle.std.specs.Prelude.{ℕ, List, Option}
+use Rattle.std.specs.Prelude.{◌≡◌, ℕ, List, Option}
 use Rattle.css_model.specs.History.{History}
 use Rattle.css_outside.specs.Outsides.{Counts}
 use Rattle.css_outside.specs.Spawners.{Spawned}
-use Rattle.css_follow.specs.Following.{Plan}
+use Rattle.css_follow.specs.Following.{Plan, Seen}
 use Rattle.css_follow.specs.declared.sheet.Sheet.{Sheet}
-use Rattle.css_follow.specs.Listening.{Listener}
+use Rattle.css_follow.specs.Listening.{Listener, all_seen}
 use Rattle.css_replay.specs.Devices.{SourceUse, SinkUse}
-use Rattle.css_app.specs.Live.{Stage, stage}
-use Rattle.css_app.specs.Pairs.{Children, children}
 
 -- the calls of the outside, where it tells them, and how often a call other than a dial has failed
 pub record OutsideUse : Type 0 where
@@ -27,10 +25,12 @@ outside_use told counts old new =
       faults_new = (counts new).faults;
     }
 
--- the children of the spawner, and how often a call has failed
+-- what the spawner tells of its children, how many of them are running, and how often a call has failed
 pub record SpawnerUse : Type 0 where
-  pub children_old : Children
-  pub children_new : Children
+  pub told_old : Option (List Spawned)
+  pub told_new : Option (List Spawned)
+  pub running_old : ℕ
+  pub running_new : ℕ
   pub faults_old : ℕ
   pub faults_new : ℕ
 
@@ -38,28 +38,29 @@ pub record SpawnerUse : Type 0 where
 abbrev pub spawner_use : {P : Type 0} → (P → Option (List Spawned)) → (P → ℕ) → (P → ℕ) → P → P → SpawnerUse
 spawner_use told running faults old new =
     record {
-      children_old = children (told old) (running old);
-      children_new = children (told new) (running new);
+      told_old = told old;
+      told_new = told new;
+      running_old = running old;
+      running_new = running new;
       faults_old = faults old;
       faults_new = faults new;
     }
 
--- the plans that a sheet gives the followers, and what each of them has heard and said
+-- the plans that a sheet gives the followers, and what there is to see of each of them
 pub record FollowersUse : Type 0 where
   pub takes : Sheet → List Plan
-  pub heard_old : List Listener
-  pub heard_new : List Listener
+  pub heard_old : List Seen
+  pub heard_new : List Seen
 
 -- those of followers that take sheets so and have heard this
 abbrev pub followers_use : {F : Type 0} → (F → Sheet → List Plan) → (F → List Listener) → F → F → FollowersUse
-followers_use takes heard old new = record { takes = takes old; heard_old = heard old; heard_new = heard new }
+followers_use takes heard old new =
+    record { takes = takes old; heard_old = all_seen (heard old); heard_new = all_seen (heard new) }
 
--- what there is to see of the devices of a companion's run
-abbrev pub stage_before : SinkUse → OutsideUse → FollowersUse → Stage
-stage_before sink outside followers = stage sink.holds_old outside.told_old followers.heard_old
-
-abbrev pub stage_after : SinkUse → OutsideUse → FollowersUse → Stage
-stage_after sink outside followers = stage sink.holds_new outside.told_new followers.heard_new
+-- nothing was written, nothing was asked of the outside, and nothing was heard
+abbrev pub AreUntouched : SinkUse → OutsideUse → List Seen → List Seen → Type 0
+AreUntouched sink outside heard_old heard_new =
+    (sink.holds_new ≡ sink.holds_old) × (outside.told_new ≡ outside.told_old) × (heard_new ≡ heard_old)
 
 -- what there is to see of all devices
 pub record Uses : Type 0 where
@@ -80,6 +81,10 @@ unused used =
       source = record used.source { left_new = used.source.left_old; faults_new = used.source.faults_old };
       sink = record used.sink { holds_new = used.sink.holds_old; faults_new = used.sink.faults_old };
       outside = record used.outside { told_new = used.outside.told_old; faults_new = used.outside.faults_old };
-      spawner = record used.spawner { children_new = used.spawner.children_old; faults_new = used.spawner.faults_old };
+      spawner = record used.spawner {
+        told_new = used.spawner.told_old;
+        running_new = used.spawner.running_old;
+        faults_new = used.spawner.faults_old;
+      };
       followers = record used.followers { heard_new = used.followers.heard_old };
     }

@@ -24,7 +24,9 @@ use Rattle.css_schedule.specs.declared.line.ScriptLine.{ScriptLine}
 use Rattle.css_drive.specs.declared.tv_config.TvDrive.{TvDrive}
 use Rattle.css_replay.specs.declared.status.Status.{Status}
 use Rattle.css_replay.specs.declared.status.Status.TheVariants as status
+use Rattle.css_replay.specs.Devices.{SourceUse, SinkUse}
 use Rattle.css_replay.specs.Ended.{CountsCalls, CountsDials, CountsReads, CountsSpawns, CountsWrites}
+use Rattle.css_app.specs.Devices.{AreUntouched, FollowersUse, OutsideUse}
 use Rattle.css_app.specs.Scripts.{script_in}
 
 -- ---- statuses
@@ -52,34 +54,24 @@ pub record IsMadeAsDue (proper : History → Type 0) (due : History → Due) (be
   pub tells : result ≡ driven_status ended
 
 -- ---- counts of faults
--- how often calls of the devices have failed: of the source, of the sink, of the outside, and of a spawner
-pub record Failures : Type 0 where
-  pub reads : ℕ
-  pub writes : ℕ
-  pub calls : Counts
-  pub spawns : ℕ
-
-abbrev pub failures : ℕ → ℕ → Counts → ℕ → Failures
-failures reads writes calls spawns = record { reads = reads; writes = writes; calls = calls; spawns = spawns }
-
--- A fault is told only where the device has failed. A failure of the spawner yields to the companion's status, and of
--- dials it is told where every one failed; no other failure of a device goes untold.
-pub record TellsFaults (before now : Failures) (result : Status) : Type 0 where
-  pub reads : CountsReads before.reads now.reads result
-  pub writes : CountsWrites before.writes now.writes result
-  pub calls : CountsCalls before.calls.faults now.calls.faults result
-  pub dials : CountsDials before.calls.dial_faults now.calls.dial_faults result
-  pub spawns : CountsSpawns before.spawns now.spawns result
+-- How often calls of the devices had failed before and have failed now: of the source, of the sink, of the outside, and
+-- of a spawner. A fault is told only where the device has failed. A failure of the spawner yields to the companion's
+-- status, and of dials it is told where every one failed; no other failure of a device goes untold.
+pub record TellsFaults (r r' w w' : ℕ) (c c' : Counts) (s s' : ℕ) (result : Status) : Type 0 where
+  pub reads : CountsReads r r' result
+  pub writes : CountsWrites w w' result
+  pub calls : CountsCalls c.faults c'.faults result
+  pub dials : CountsDials c.dial_faults c'.dial_faults result
+  pub spawns : CountsSpawns s s' result
 
 -- so it is of a run over lines, which uses neither the outside nor a spawner
 abbrev pub TellsOverLines : ℕ → ℕ → ℕ → ℕ → Status → Type 0
 TellsOverLines reads reads_new writes writes_new result = (calls : Counts) (spawns : ℕ)
-    → TellsFaults (failures reads writes calls spawns) (failures reads_new writes_new calls spawns) result
+    → TellsFaults reads reads_new writes writes_new calls calls spawns spawns result
 
 -- the source's count, where its bytes were taken or a status says why not
 abbrev pub CountsTaking : {T : Type 0} → ℕ → ℕ → Result T Status → Type 0
-CountsTaking before now result =
-    MatchResult result (λ _. now ≡ before) (λ status. (writes : ℕ) → TellsOverLines before now writes writes status)
+CountsTaking before now result = MatchResult result (λ _. now ≡ before) (CountsReads before now)
 
 -- ---- what is read
 -- the source gave these bytes, and has none left
@@ -115,39 +107,31 @@ abbrev pub HasNoScript : Option (List ℕ) → Status → Type 0
 HasNoScript = GivesNone script_in (λ bad. bad) bad_line
 
 -- ---- a companion's run
--- what there is to see of its devices: what the sink holds, what the outside tells, and what the followers heard
-pub record Stage : Type 0 where
-  pub holds : Option (List ℕ)
-  pub told : Option History
-  pub heard : List Seen
-
-abbrev pub stage : Option (List ℕ) → Option History → List Listener → Stage
-stage holds told listeners = record { holds = holds; told = told; heard = all_seen listeners }
-
 -- A run was made, which followers with these plans followed, and the status says how it ended.
-pub record MakesRun (config : DriveConfig) (plans : List Plan) (before now : Stage) (result : Status) : Type 0 where
-  pub followers : List Listener
+pub record MakesRun (config : DriveConfig) (plans : List Plan) (sink : SinkUse) (outside : OutsideUse)
+    (heard_old heard_new : List Seen) (result : Status) : Type 0 where
+  pub began : List Listener
   pub followed : List Listener
-  pub planned : all_plans followers ≡ plans
-  pub began : all_seen followers ≡ before.heard
-  pub heard : all_seen followed ≡ now.heard
+  pub planned : all_plans began ≡ plans
+  pub before : all_seen began ≡ heard_old
+  pub heard : all_seen followed ≡ heard_new
   pub ended : Driven
-  pub ran : Ran config before.told now.told before.holds now.holds followers followed ended
+  pub ran : Ran config outside.told_old outside.told_new sink.holds_old sink.holds_new began followed ended
   pub tells : result ≡ driven_status ended
 
 -- The source was read to its end, its bytes are a cue sheet, and then a run was made, which the followers followed by
 -- the plans that this sheet gives them.
-pub record RunsBySheet (config : DriveConfig) (takes : Sheet → List Plan) (left_old left_new : Option (List ℕ))
-    (before now : Stage) (result : Status) : Type 0 where
+pub record RunsBySheet (config : DriveConfig) (source : SourceUse) (sink : SinkUse) (outside : OutsideUse)
+    (followers : FollowersUse) (result : Status) : Type 0 where
   pub sheet : Sheet
-  pub gives : Gives sheet_in left_old left_new sheet
-  pub makes : MakesRun config (takes sheet) before now result
+  pub gives : Gives sheet_in source.left_old source.left_new sheet
+  pub makes : MakesRun config (followers.takes sheet) sink outside followers.heard_old followers.heard_new result
 
 -- what `companion` comes to: where there is no sheet, nothing was asked of the outside, written or heard
-abbrev pub Companions : DriveConfig → (Sheet → List Plan) → Option (List ℕ) → Option (List ℕ) → Stage → Stage → Status
-    → Type 0
-Companions config takes left_old left_new before now result =
-    (now ≡ before) × HasNoSheet left_old result ⊎ RunsBySheet config takes left_old left_new before now result
+abbrev pub Companions : DriveConfig → SourceUse → SinkUse → OutsideUse → FollowersUse → Status → Type 0
+Companions config source sink outside followers result =
+    AreUntouched sink outside followers.heard_old followers.heard_new × HasNoSheet source.left_old result
+    ⊎ RunsBySheet config source sink outside followers result
 
 -- the run was made to an end that was due
 abbrev pub IsAsDue : DriveConfig → Option History → Option History → Status → Type 0
@@ -159,19 +143,18 @@ EndsAsDue config before now result = (result ≡ status.Memory) ⊎ IsAsDue conf
 
 -- ---- a television's run
 -- the source was read to its end, its bytes are this script, and a run was made by it
-pub record ServesByScript (drive : TvDrive) (left_old left_new : Option (List ℕ))
-    (told_old told_new : Option History) (result : Status) : Type 0 where
+pub record ServesByScript (drive : TvDrive) (source : SourceUse) (outside : OutsideUse) (result : Status)
+    : Type 0 where
   pub script : List ScriptLine
-  pub gives : Gives script_in left_old left_new script
+  pub gives : Gives script_in source.left_old source.left_new script
   pub ended : Driven
-  pub ran : TvRan (run_of drive script) told_old told_new ended
+  pub ran : TvRan (run_of drive script) outside.told_old outside.told_new ended
   pub tells : result ≡ driven_status ended
 
 -- what `tv` comes to: where there is no script, nothing was asked of the outside
-abbrev pub Serves : TvDrive → Option (List ℕ) → Option (List ℕ) → Option History → Option History → Status → Type 0
-Serves drive left_old left_new told_old told_new result =
-    (told_new ≡ told_old) × HasNoScript left_old result
-    ⊎ ServesByScript drive left_old left_new told_old told_new result
+abbrev pub Serves : TvDrive → SourceUse → OutsideUse → Status → Type 0
+Serves drive source outside result = (outside.told_new ≡ outside.told_old) × HasNoScript source.left_old result
+    ⊎ ServesByScript drive source outside result
 
 -- the run was made to an end that was due, unless memory ran out
 abbrev pub ServesAsDue : TvRun → Option History → Option History → Status → Type 0

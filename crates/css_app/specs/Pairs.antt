@@ -6,19 +6,21 @@ use Rattle.std.specs.Ordering.{int_eq}
 use Rattle.std.specs.Option.{option_map}
 use Rattle.std.specs.Io.KnownBytes.{Consumes, IsAtEnd}
 use Rattle.css_model.specs.History.{Address, History}
-use Rattle.css_outside.specs.Spawners.{Spawned, Started, Finished, TellsSpawned}
+use Rattle.css_outside.specs.Spawners.{Started, Finished, TellsSpawned}
 use Rattle.css_outside.specs.declared.fault.OutFault.{OutFault}
 use Rattle.css_outside.specs.declared.limit.Limit.{Limit}
 use Rattle.css_outside.specs.declared.limit.Limit.TheVariants as limit
 use Rattle.css_outside.specs.declared.fault.OutFault.TheVariants as fault
-use Rattle.css_follow.specs.Following.{Plan}
+use Rattle.css_follow.specs.Following.{Plan, Seen}
 use Rattle.css_follow.specs.declared.sheet.Sheet.{Sheet}
 use Rattle.css_drive.specs.declared.config.DriveConfig.{DriveConfig}
 use Rattle.css_schedule.specs.declared.line.ScriptLine.{ScriptLine}
-use Rattle.css_app.specs.declared.child.Child.{Child}
+use Rattle.css_app.specs.declared.live_pair.Child.{Child}
+use Rattle.css_replay.specs.Devices.{SourceUse, SinkUse}
 use Rattle.css_replay.specs.declared.status.Status.{Status}
 use Rattle.css_replay.specs.declared.status.Status.TheVariants as status
-use Rattle.css_app.specs.Live.{GivesAll, HasNoScript, IsAsDue, MakesRun, Stage}
+use Rattle.css_app.specs.Devices.{AreUntouched, FollowersUse, OutsideUse, SpawnerUse}
+use Rattle.css_app.specs.Live.{GivesAll, HasNoScript, IsAsDue, MakesRun}
 use Rattle.css_app.specs.Scripts.{script_in}
 
 -- ---- the child
@@ -51,19 +53,7 @@ address_at port = record { host = codes "127.0.0.1"; port = port; path = codes "
 abbrev pub empty_sheet : Sheet
 empty_sheet = record { cues = []; meter = None }
 
--- what there is to see of the children: what the spawner tells, and how many are running
-pub record Children : Type 0 where
-  pub told : Option (List Spawned)
-  pub running : ℕ
-
-abbrev pub children : Option (List Spawned) → ℕ → Children
-children told running = record { told = told; running = running }
-
 -- ---- statuses
-abbrev pub is_done : Status → Bool
-is_done status.Done = true
-is_done _ = false
-
 -- the status where the companion's run is done, and the child was waited for
 abbrev pub child_status : Result ℤ OutFault → Status
 child_status (Ok ended) = if int_eq ended (pos 0) then status.Done else status.ChildFault (Ok ended)
@@ -72,7 +62,8 @@ child_status (Err fault.Memory) = status.Memory
 
 -- a companion's status other than `Done` comes before the child's
 abbrev pub with_child : Status → Result ℤ OutFault → Status
-with_child companion finished = if is_done companion then child_status finished else companion
+with_child status.Done finished = child_status finished
+with_child companion finished = companion
 
 -- ---- the script's bytes
 -- the source gave these bytes, up to its end or to more than a script has
@@ -98,43 +89,43 @@ IsNoStart _ = ⊥
 -- The child was started once with these words and this script, a run was made, which followers with these plans
 -- followed, and then the child was waited for once.
 pub record RunsBeside (config : DriveConfig) (plans : List Plan) (words : List (List ℕ)) (script : List ℕ)
-    (before now : Stage) (kids_old kids_new : Children) (result : Status) : Type 0 where
+    (sink : SinkUse) (outside : OutsideUse) (spawner : SpawnerUse) (heard_old heard_new : List Seen) (result : Status)
+    : Type 0 where
   pub companion : Status
-  pub makes : MakesRun config plans before now companion
+  pub makes : MakesRun config plans sink outside heard_old heard_new companion
   pub finished : Result ℤ OutFault
-  pub told : TellsSpawned (option_map (λ told. Started words script ∷ told) kids_old.told) kids_new.told finished
-      Finished
-  pub running : MatchResult finished (λ _. kids_new.running ≡ kids_old.running)
-      (λ _. kids_new.running ≡ kids_old.running + 1)
+  pub told : TellsSpawned (option_map (λ told. Started words script ∷ told) spawner.told_old) spawner.told_new
+      finished Finished
+  pub running : MatchResult finished (λ _. spawner.running_new ≡ spawner.running_old)
+      (λ _. spawner.running_new ≡ spawner.running_old + 1)
   pub tells : result ≡ with_child companion finished
 
--- or it was not started, and no run was made
-abbrev pub Beside : DriveConfig → List Plan → List (List ℕ) → List ℕ → Stage → Stage → Children → Children → Status
-    → Type 0
-Beside config plans words script before now kids_old kids_new result =
-    (now ≡ before) × (kids_new ≡ kids_old) × IsNoStart result
-    ⊎ RunsBeside config plans words script before now kids_old kids_new result
+-- nothing was done to the children or to the devices of the run
+abbrev pub AreLeft : SinkUse → OutsideUse → SpawnerUse → List Seen → List Seen → Type 0
+AreLeft sink outside spawner heard_old heard_new = AreUntouched sink outside heard_old heard_new
+    × (spawner.told_new ≡ spawner.told_old) × (spawner.running_new ≡ spawner.running_old)
 
--- no child was started and no run made, since there is no script, or memory ran out
-abbrev pub PairsNone : Option (List ℕ) → Stage → Stage → Children → Children → Status → Type 0
-PairsNone left before now kids_old kids_new result = (now ≡ before) × (kids_new ≡ kids_old) × HasNoScript left result
+-- or it was not started, and no run was made
+abbrev pub Beside : DriveConfig → List Plan → List (List ℕ) → List ℕ → SinkUse → OutsideUse → SpawnerUse → List Seen
+    → List Seen → Status → Type 0
+Beside config plans words script sink outside spawner heard_old heard_new result =
+    AreLeft sink outside spawner heard_old heard_new × IsNoStart result
+    ⊎ RunsBeside config plans words script sink outside spawner heard_old heard_new result
 
 -- The source was read to its end, and a child was to be started with its bytes, which are a script. The followers have
 -- the plans that the empty sheet gives them.
-pub record PairsByScript (config : DriveConfig) (takes : Sheet → List Plan) (child : Child)
-    (left_old left_new : Option (List ℕ)) (before now : Stage) (kids_old kids_new : Children) (result : Status)
-    : Type 0 where
+pub record PairsByScript (config : DriveConfig) (child : Child) (source : SourceUse) (sink : SinkUse)
+    (outside : OutsideUse) (spawner : SpawnerUse) (followers : FollowersUse) (result : Status) : Type 0 where
   pub text : List ℕ
-  pub gives : GivesScriptText left_old left_new text
-  pub beside : Beside config (takes empty_sheet) (child_words child config.limit) text before now kids_old kids_new
-      result
+  pub gives : GivesScriptText source.left_old source.left_new text
+  pub beside : Beside config (followers.takes empty_sheet) (child_words child config.limit) text sink outside spawner
+      followers.heard_old followers.heard_new result
 
--- what `pair` comes to
-abbrev pub Pairs : DriveConfig → (Sheet → List Plan) → Child → Option (List ℕ) → Option (List ℕ) → Stage → Stage
-    → Children → Children → Status → Type 0
-Pairs config takes child left_old left_new before now kids_old kids_new result =
-    PairsNone left_old before now kids_old kids_new result
-    ⊎ PairsByScript config takes child left_old left_new before now kids_old kids_new result
+-- what `pair` comes to: no child was started, since there is no script, or memory ran out
+abbrev pub Pairs : DriveConfig → Child → SourceUse → SinkUse → OutsideUse → SpawnerUse → FollowersUse → Status → Type 0
+Pairs config child source sink outside spawner followers result =
+    AreLeft sink outside spawner followers.heard_old followers.heard_new × HasNoScript source.left_old result
+    ⊎ PairsByScript config child source sink outside spawner followers result
 
 -- the companion's run was made to an end that was due, and the child ended
 pub record ArePairedAsDue (config : DriveConfig) (before now : Option History) (result : Status) : Type 0 where

@@ -11,8 +11,8 @@ use Rattle.css_schedule.specs.declared.fault.LineFault.{LineFault}
 use Rattle.css_schedule.specs.declared.fault.LineWhy.{LineWhy}
 use Rattle.css_schedule.specs.declared.fault.LineWhy.TheVariants.{Long, Form}
 use Rattle.css_schedule.specs.declared.line.ScriptLine.{ScriptLine}
-use Rattle.css_app.specs.declared.scripts.NoLine.{NoLine}
-use Rattle.css_app.specs.declared.scripts.ScriptLines.{ScriptLines}
+use Rattle.css_app.specs.declared.inputs.NoLine.{NoLine}
+use Rattle.css_app.specs.declared.inputs.ScriptLines.{ScriptLines}
 
 -- a line prints nothing, or it is outside the grammar
 abbrev pub admitted : Result ScriptLine LineFault → Result (List ℕ) NoLine

@@ -1,42 +1,110 @@
-ghost use Rattle.std.specs.Prelude.{◌≡◌, List, ℕ, IfOk, OnOk, Ok, Some};
+//! The command `pair`, and the television that it starts as a child.
+ghost use Rattle.std.specs.Prelude.{◌≡◌, ◌++◌, ◌∷◌, [], pos, List, ℕ, IfOk, OnOk, Ok, Some};
 ghost use Rattle.css_drive.specs.Configs.{IsWritable};
 ghost use Rattle.css_follow.specs.Listening.{all_plans, all_seen};
 ghost use Rattle.css_schedule.specs.declared.line.ScriptLine.{ScriptLine};
+ghost use Rattle.css_replay.specs.Devices.{sink_use, source_use};
 ghost use Rattle.css_replay.specs.Ended.{HasNotFailed, IsNoUsage};
-ghost use Rattle.css_app.specs.Live.{TellsFaults, failures, stage};
-ghost use Rattle.css_app.specs.Pairs.{Beside, Pairs, PairsAsDue, children};
+ghost use Rattle.css_app.specs.Devices.{followers_use, outside_use, spawner_use};
+ghost use Rattle.css_app.specs.Live.{TellsFaults};
+ghost use Rattle.css_app.specs.Pairs.{Beside, Pairs, PairsAsDue};
 ghost use Rattle.css_app.specs.Pairs as pairs;
 ghost use Rattle.css_app.specs.Scripts.{script_in};
 
-use crate::child::{Child, child_words};
-use crate::live_companion::make_run;
-use crate::script_text::take_script_text;
-use css_drive::{DriveConfig, Listens};
+use crate::inputs::take_script_text;
+use crate::live::status_of;
+use css_drive::{DriveConfig, Listens, drive_companion};
 use css_follow::Sheet;
 use css_num::{Memory, Text};
-use css_outside::{Limit, OutFault, Outside, Sink, Source, Spawner};
+use css_outside::{Address, Limit, OutFault, Outside, Sink, Source, Spawner};
 use css_replay::Status;
 use std::alloc::Global;
 
-// Whether a run was made to its end.
-fn is_done(status: &Status) -> bool
-    ensures { result ≡ pairs.is_done status.now }
+/// The television that is started beside a companion, as a child.
+#[derive(Clone, Copy, Debug, PartialEq, Eq)]
+pub struct Child {
+    /// The port of its wall clock, at most 65,534. The sessions' port is the next one.
+    pub port: u16,
+    /// The precision of its wall clock: 2^precision seconds.
+    pub precision: i8,
+    /// The greatest frequency error of its wall clock in 1/256 ppm.
+    pub error: u32,
+    /// Whether its responses promise follow-ups.
+    pub follow: bool,
+    /// Whether the times of its script count from its first turn.
+    pub relative: bool,
+}
+
+/// Where the session of CSS-CII of a child with this port is dialled.
+pub fn address_at(alloc: Global, port: u16) -> Result<Address, Memory>
+    ensures { IfOk result (λ address. address ≡ pairs.address_at port) }
 {
-    matches!(status, Status::Done)
+    Ok(Address {
+        host: Text::of(alloc, b"127.0.0.1")?,
+        port,
+        path: Text::of(alloc, b"/cii")?,
+    })
+}
+
+// Adds an option with a number.
+fn add_option(alloc: Global, words: &mut Vec<Text>, name: &[u8], value: i128) -> Result<(), Memory>
+    ensures { OnOk result (words.new.items ≡ words.old.items ++ pairs.option_word name.now value ∷ []) }
+{
+    let mut word = Text::of(alloc, name)?;
+    word.push_number(value)?;
+    words.push(word)?;
+    Ok(())
+}
+
+// Adds the word of a flag, where it is set.
+fn add_flag(alloc: Global, words: &mut Vec<Text>, name: &[u8], set: bool) -> Result<(), Memory>
+    ensures { OnOk result (words.new.items ≡ words.old.items ++ pairs.flag_words name.now set) }
+{
+    if set {
+        words.push(Text::of(alloc, name)?)?;
+    }
+    Ok(())
+}
+
+// The option that says how long a run goes on, and its number.
+fn limit_option(limit: Limit) -> (&'static [u8], u64)
+    ensures { pairs.option_word result.0.now (pos result.1) ≡ pairs.limit_word limit }
+{
+    match limit {
+        Limit::Turns(turns) => (b"--turns=", turns),
+        Limit::Seconds(seconds) => (b"--seconds=", seconds),
+    }
+}
+
+// The words with which a child is started whose run has this limit.
+fn child_words(alloc: Global, child: &Child, limit: Limit) -> Result<Vec<Text>, Memory>
+    ensures { IfOk result (λ words. words.items ≡ pairs.child_words child.now limit) }
+{
+    let mut words = Vec::new(alloc);
+    words.push(Text::of(alloc, b"tv")?)?;
+    add_option(alloc, &mut words, b"--port=", i128::from(child.port))?;
+    let (name, count) = limit_option(limit);
+    add_option(alloc, &mut words, name, i128::from(count))?;
+    add_option(
+        alloc,
+        &mut words,
+        b"--precision=",
+        i128::from(child.precision),
+    )?;
+    add_option(alloc, &mut words, b"--error=", i128::from(child.error))?;
+    add_flag(alloc, &mut words, b"--follow", child.follow)?;
+    add_flag(alloc, &mut words, b"--relative", child.relative)?;
+    Ok(words)
 }
 
 // The status where the companion's run is done, and the child was waited for.
 fn child_status(finished: Result<i32, OutFault>) -> Status
-    ensures { result ≡ pairs.child_status finished }
+    ensures value { result ≡ pairs.child_status finished }
+    ensures no_usage { IsNoUsage result }
 {
     match finished {
-        Ok(ended) => {
-            if ended == 0 {
-                Status::Done
-            } else {
-                Status::ChildFault { status: Ok(ended) }
-            }
-        }
+        Ok(0) => Status::Done,
+        Ok(ended) => Status::ChildFault { status: Ok(ended) },
         Err(OutFault::Failed(failure)) => Status::ChildFault {
             status: Err(failure),
         },
@@ -46,12 +114,12 @@ fn child_status(finished: Result<i32, OutFault>) -> Status
 
 // The companion's status, or the child's where the companion's run is done.
 fn with_child(companion: Status, finished: Result<i32, OutFault>) -> Status
-    ensures { result ≡ pairs.with_child companion finished }
+    ensures value { result ≡ pairs.with_child companion finished }
+    ensures no_usage { IsNoUsage companion → IsNoUsage result }
 {
-    if is_done(&companion) {
-        child_status(finished)
-    } else {
-        companion
+    match &companion {
+        Status::Done => child_status(finished),
+        _ => companion,
     }
 }
 
@@ -68,18 +136,16 @@ fn run_beside<K: Sink, O: Outside, P: Spawner, F: Listens>(
 ) -> Status
     requires { IsWritable config }
     ensures ran { Beside config (all_plans (F.heard followers.old)) words.now script.now
-        (stage (K.holds sink.old) (O.told outside.old) (F.heard followers.old))
-        (stage (K.holds sink.new) (O.told outside.new) (F.heard followers.new))
-        (children (P.told spawner.old) (P.running spawner.old))
-        (children (P.told spawner.new) (P.running spawner.new)) result }
+        (sink_use K.holds K.faults sink.old sink.new) (outside_use O.told O.counts outside.old outside.new)
+        (spawner_use P.told P.running P.faults spawner.old spawner.new)
+        (all_seen (F.heard followers.old)) (all_seen (F.heard followers.new)) result }
     ensures complete { HasNotFailed (K.faults sink.old) (K.faults sink.new)
         → HasNotFailed (O.counts outside.old).faults (O.counts outside.new).faults
         → HasNotFailed (P.faults spawner.old) (P.faults spawner.new)
         → PairsAsDue config (O.told outside.old) (O.told outside.new) result }
     ensures no_usage { IsNoUsage result }
-    ensures counted { (reads : ℕ) → TellsFaults
-        (failures reads (K.faults sink.old) (O.counts outside.old) (P.faults spawner.old))
-        (failures reads (K.faults sink.new) (O.counts outside.new) (P.faults spawner.new)) result }
+    ensures counted { (reads : ℕ) → TellsFaults reads reads (K.faults sink.old) (K.faults sink.new)
+        (O.counts outside.old) (O.counts outside.new) (P.faults spawner.old) (P.faults spawner.new) result }
 {
     match spawner.start(words, script) {
         Ok(()) => {}
@@ -88,7 +154,7 @@ fn run_beside<K: Sink, O: Outside, P: Spawner, F: Listens>(
         },
         Err(OutFault::Memory) => return Status::Memory,
     }
-    let companion = make_run(alloc, config, sink, outside, followers);
+    let companion = status_of(drive_companion(alloc, config, sink, outside, followers));
     let finished = spawner.finish();
     with_child(companion, finished)
 }
@@ -130,11 +196,10 @@ pub fn pair<S: Source, K: Sink, O: Outside, P: Spawner, F: Listens>(
     requires dials { config.cii ≡ pairs.address_at child.now.port }
     // What became of the script, of the child, and of the run: each report is what the calls of the outside give, and
     // each interval of it is true. The followers speak by the plans that the empty sheet gives them.
-    ensures ran { Pairs config (F.takes followers.old) child.now (S.left source.old) (S.left source.new)
-        (stage (K.holds sink.old) (O.told outside.old) (F.heard followers.old))
-        (stage (K.holds sink.new) (O.told outside.new) (F.heard followers.new))
-        (children (P.told spawner.old) (P.running spawner.old))
-        (children (P.told spawner.new) (P.running spawner.new)) result }
+    ensures ran { Pairs config child.now (source_use S.left S.faults source.old source.new)
+        (sink_use K.holds K.faults sink.old sink.new) (outside_use O.told O.counts outside.old outside.new)
+        (spawner_use P.told P.running P.faults spawner.old spawner.new)
+        (followers_use F.takes F.heard followers.old followers.new) result }
     // Over devices that don't fail, dials aside, a run beside a child with a script ends as its calls say.
     ensures complete { (bytes : List ℕ) (script : List ScriptLine) → S.left source.old ≡ Some bytes
         → script_in bytes ≡ Ok script
@@ -145,9 +210,8 @@ pub fn pair<S: Source, K: Sink, O: Outside, P: Spawner, F: Listens>(
         → PairsAsDue config (O.told outside.old) (O.told outside.new) result }
     // A fault is told only where the device has failed. A failure of the spawner yields to the companion's status, and
     // no other failure of a device goes untold.
-    ensures counted { TellsFaults
-        (failures (S.faults source.old) (K.faults sink.old) (O.counts outside.old) (P.faults spawner.old))
-        (failures (S.faults source.new) (K.faults sink.new) (O.counts outside.new) (P.faults spawner.new)) result }
+    ensures counted { TellsFaults (S.faults source.old) (S.faults source.new) (K.faults sink.old) (K.faults sink.new)
+        (O.counts outside.old) (O.counts outside.new) (P.faults spawner.old) (P.faults spawner.new) result }
     ensures no_usage { IsNoUsage result }
 {
     let script = match take_script_text(alloc, source) {

@@ -13,18 +13,19 @@ ghost use Rattle.css_app.specs.Commands.{ByRelay, BySurvey, ByTv, ByWatch, Does,
 ghost use Rattle.css_app.specs.Commands.{asked_by, asked_in, uses_followers, uses_outside, uses_sink, uses_source};
 ghost use Rattle.css_app.specs.Commands.{uses_spawner};
 ghost use Rattle.css_app.specs.Devices.{followers_use, outside_use, spawner_use, uses};
-ghost use Rattle.css_app.specs.Live.{TellsFaults, failures};
+ghost use Rattle.css_app.specs.Live.{TellsFaults};
 ghost use Rattle.css_replay.specs.Devices.{sink_use, source_use};
 ghost use Rattle.css_replay.specs.Does.{ByReplay};
 ghost use Rattle.css_replay.specs.Ended.{CountsCalls, CountsDials, CountsReads, CountsSpawns, CountsWrites};
 
-use crate::agreement::agree;
-use crate::audited::audit;
-use crate::by_words::{companion_by, generate_by, pair_by, survey_by, tv_by};
-use crate::live_relay::relay_by;
-use crate::live_watch::watch_by;
-use crate::migration::migrate;
+use crate::asked::{companions_in, pair_run_of, relay_run_of, run_of, tv_run_of, watch_run_of};
+use crate::lines::{agree, audit, migrate};
+use crate::live::{companion, record_companion, status_of, tv, watch_television};
+use crate::live_pair::pair;
+use crate::written::{generate, survey};
 use css_drive::Listens;
+use css_drive_relay::drive_relay;
+use css_num::Memory;
 use css_outside::{Outside, Sink, Source, Spawner};
 use css_replay::{Status, replay};
 use css_words::{Command, WordsFault, command_of};
@@ -51,9 +52,8 @@ fn run_command<S: Source, K: Sink, O: Outside, P: Spawner, F: Listens>(
     ensures same_outside { uses_outside (asked_in command) ≡ false → outside.new ≡ outside.old }
     ensures same_spawner { uses_spawner (asked_in command) ≡ false → spawner.new ≡ spawner.old }
     ensures same_followers { uses_followers (asked_in command) ≡ false → followers.new ≡ followers.old }
-    ensures counted { TellsFaults
-        (failures (S.faults source.old) (K.faults sink.old) (O.counts outside.old) (P.faults spawner.old))
-        (failures (S.faults source.new) (K.faults sink.new) (O.counts outside.new) (P.faults spawner.new)) result }
+    ensures counted { TellsFaults (S.faults source.old) (S.faults source.new) (K.faults sink.old) (K.faults sink.new)
+        (O.counts outside.old) (O.counts outside.new) (P.faults spawner.old) (P.faults spawner.new) result }
 {
     match command {
         Ok(Command::Replay) => replay(alloc, source, sink),
@@ -61,16 +61,30 @@ fn run_command<S: Source, K: Sink, O: Outside, P: Spawner, F: Listens>(
         Ok(Command::Audit) => audit(alloc, source, sink),
         Ok(Command::Migrate) => migrate(alloc, source, sink),
         Ok(Command::Companion(words)) => {
-            companion_by(alloc, words, source, sink, outside, followers)
+            let run = run_of(words.options, words.cii);
+            if words.recorded {
+                record_companion(alloc, run, sink, outside)
+            } else {
+                companion(alloc, run, source, sink, outside, followers)
+            }
         }
-        Ok(Command::Tv(words)) => tv_by(alloc, words, source, outside),
-        Ok(Command::Pair(words)) => {
-            pair_by(alloc, words, source, sink, outside, spawner, followers)
+        Ok(Command::Tv(words)) => tv(alloc, tv_run_of(words), source, outside),
+        Ok(Command::Pair(words)) => match pair_run_of(alloc, words) {
+            Ok((run, child)) => pair(
+                alloc, run, &child, source, sink, outside, spawner, followers,
+            ),
+            Err(Memory) => Status::Memory,
+        },
+        Ok(Command::Relay(words)) => {
+            status_of(drive_relay(alloc, relay_run_of(alloc, words), outside))
         }
-        Ok(Command::Relay(words)) => relay_by(alloc, words, outside),
-        Ok(Command::Watch(words)) => watch_by(alloc, words, sink, outside),
-        Ok(Command::Generate(words)) => generate_by(alloc, words, sink),
-        Ok(Command::Survey(words)) => survey_by(alloc, words, sink),
+        Ok(Command::Watch(words)) => { watch_television(alloc, watch_run_of(words), sink, outside) }
+        Ok(Command::Generate(words)) => {
+            generate(alloc, words.seed, words.lines, companions_in(words), sink)
+        }
+        Ok(Command::Survey(words)) => {
+            survey(alloc, words.seed, words.lines, companions_in(words), sink)
+        }
         Err(WordsFault::Usage) => Status::Usage,
         Err(WordsFault::Memory) => Status::Memory,
     }

@@ -1,28 +1,25 @@
 use Rattle.std.proofs.Common.{refl, inl, inr, ◌∙◌}
 use Rattle.css_app.specs.Live.{bad_line}
 use Rattle.css_app.specs.Scripts.{script_in}
-use Rattle.css_app.proofs.Taken.{none_lacks, none_no_usage}
+use Rattle.css_app.proofs.Taken.{took_none}
 use Rattle.css_app.proofs.live_pair.pair.Goals as goal
 
 -- the script was not read
 pub returns-in-Err : goal.returns-in-Err
 returns-in-Err g c =
-    let none = c.in-Err.ensures.value in
-    let tells = c.in-Err.ensures.counted (g.K.Sink.faults c.args.sink.now) (g.O.Outside.counts c.args.outside.now)
-    (g.P.Spawner.faults c.args.spawner.now) in
+    let none = took_none script_in (λ bad. bad) bad_line (λ bad. tt) _ c.in-Err.status c.in-Err.ensures.value
+    c.in-Err.ensures.counted in
     record {
-      ran = inl (refl, refl, none);
-      complete = λ bytes script is ok read wrote called spawned.
-          inl (none_lacks script_in (λ bad. bad) bad_line (λ bad. tt) _ c.in-Err.status bytes script none is ok
-          tells.reads read);
-      counted = tells;
-      no_usage = none_no_usage script_in (λ bad. bad) bad_line (λ bad. tt) _ c.in-Err.status none;
+      ran = inl (((refl, refl, refl), refl, refl), c.in-Err.ensures.value);
+      complete = λ bytes script is ok read wrote called spawned. inl (none.lacks bytes script is ok read);
+      counted = none.tells _ _ _;
+      no_usage = none.no_usage;
     }
 
 -- memory ran out before a child was started
 pub returns-in-Err-prepare-clause-ran : goal.returns-in-Err-prepare-clause-ran
 returns-in-Err-prepare-clause-ran g c =
-    inl (rw c.prepare.ensures.heard, refl, tt)
+    inl (((refl, refl, c.prepare.ensures.heard), refl, refl), tt)
 
 -- a child was to be started
 pub returns-in-Ok-prepare : goal.returns-in-Ok-prepare

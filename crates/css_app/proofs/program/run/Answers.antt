@@ -1,11 +1,11 @@
 -- What a run promises of its words and its devices, from what its command does.
 use Rattle.std.proofs.Common.{refl}
-use Rattle.std.specs.Prelude.{Ok, Err, false, true}
-use Rattle.css_words.specs.Commands.{Replay, Agree, Audit, Migrate, Tv, Pair, Relay, Generate, Survey}
-use Rattle.css_words.specs.Commands.{Watch}
+use Rattle.std.specs.Prelude.{Ok, Err}
+use Rattle.css_words.specs.Commands.{Replay, Agree, Audit, Migrate, Companion, Tv, Pair, Relay, Generate}
+use Rattle.css_words.specs.Commands.{Survey, Watch}
 use Rattle.css_words.specs.declared.fault.WordsFault.TheVariants as words
 use Rattle.css_app.specs.Commands.{asked_by, uses_followers, uses_outside, uses_sink, uses_source, uses_spawner}
-use Rattle.css_app.proofs.Commands.{does_asked, does_companion, unused_by, usage_only}
+use Rattle.css_app.proofs.Commands.{does_asked, unused_by, usage_only}
 use Rattle.css_app.proofs.program.run.Goals as goal
 
 pub returns : goal.returns
@@ -27,8 +27,8 @@ returns g c =
       agree = does (Ok Agree);
       audit = does (Ok Audit);
       migrate = does (Ok Migrate);
-      companion = λ words is plain. does_companion asked _ _ does words is false plain;
-      record_companion = λ words is recorded. does_companion asked _ _ does words is true recorded;
+      companion = λ words is plain. (does (Ok (Companion words)) is).0 plain;
+      record_companion = λ words is recorded. (does (Ok (Companion words)) is).1 recorded;
       tv = λ asked. does (Ok (Tv asked));
       pair = λ asked. does (Ok (Pair asked));
       relay = λ asked. does (Ok (Relay asked));

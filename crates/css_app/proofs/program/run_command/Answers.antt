@@ -1,49 +1,117 @@
+use Rattle.std.proofs.Common.{refl, inr}
+use Rattle.css_app.proofs.Commands.{as_asked}
+use Rattle.css_app.proofs.LiveEnds.{as_due, driven_tells, no_write, unwritten, writes_tells}
+use Rattle.css_drive_relay.specs.Due.{IsProperRelay, due}
 use Rattle.css_app.proofs.program.run_command.Goals as goal
 
--- the counts of the devices that a command doesn't use are as before
+-- ---- what is done is what the words ask for
+pub returns-then-words-clause-does : goal.returns-then-words-clause-does
+returns-then-words-clause-does g c = rw (c.in-Ok-Companion.is, c.in-Ok-Companion.field-0-is) (
+  λ plain. absurd (cc),
+  λ recorded. record {
+    ran = inr (c.run_of-run.result, c.run_of-run.ensures.asked, c.record_companion.ensures.makes);
+    complete = λ wrote called.
+        as_asked c.run_of-run.result c.run_of-run.ensures.asked (c.record_companion.ensures.complete wrote called);
+  },
+)
+
+pub returns-else-words-clause-does : goal.returns-else-words-clause-does
+returns-else-words-clause-does g c = rw (c.in-Ok-Companion.is, c.in-Ok-Companion.field-0-is) (
+  λ plain. record {
+    ran = as_asked c.run_of-run.result c.run_of-run.ensures.asked c.companion.ensures.ran;
+    complete = λ bytes sheet is ok read wrote called.
+        as_asked c.run_of-run.result c.run_of-run.ensures.asked
+        (c.companion.ensures.complete bytes sheet is ok read wrote called);
+  },
+  λ recorded. absurd (cc),
+)
+
+pub returns-in-Ok-Tv-clause-does : goal.returns-in-Ok-Tv-clause-does
+returns-in-Ok-Tv-clause-does g c = rw (c.in-Ok-Tv.is, c.in-Ok-Tv.field-0-is) (record {
+  ran = rw c.tv_run_of.ensures.asked at c.tv.ensures.ran;
+  complete = rw c.tv_run_of.ensures.asked at c.tv.ensures.complete;
+})
+
+pub returns-in-Ok-clause-does : goal.returns-in-Ok-clause-does
+returns-in-Ok-clause-does g c = rw (c.in-Ok-Pair.is, c.in-Ok-Pair.field-0-is) (record {
+  ran = as_asked c.in-Ok.run' c.in-Ok.ensures.run (rw c.in-Ok.ensures.child at c.pair.ensures.ran);
+  complete = λ bytes script is ok read wrote called spawned.
+      as_asked c.in-Ok.run' c.in-Ok.ensures.run (c.pair.ensures.complete bytes script is ok read wrote called spawned);
+})
+
+pub returns-in-Ok-Relay-clause-does : goal.returns-in-Ok-Relay-clause-does
+returns-in-Ok-Relay-clause-does g c =
+    let made = c.drive_relay.ensures in
+    let run = c.relay_run_of.result in
+    let ended = c.drive_relay.result in
+    rw (c.in-Ok-Relay.is, c.in-Ok-Relay.field-0-is, c.status_of.ensures.value)
+    (record {
+      ran = inr (run, c.relay_run_of.ensures.asked, (ended, made.ran, refl));
+      complete = λ called.
+          as_asked run c.relay_run_of.ensures.asked
+          (as_due (IsProperRelay run) (due run) _ _ made.ran.history ended made.ran.grew made.ran.proper
+          made.ran.ends (unwritten ended 0 made.counted.no_writes) made.counted.faults no_write called);
+    })
+
+pub returns-in-Ok-Watch-clause-does : goal.returns-in-Ok-Watch-clause-does
+returns-in-Ok-Watch-clause-does g c = rw (c.in-Ok-Watch.is, c.in-Ok-Watch.field-0-is) (record {
+  ran = inr (c.watch_run_of.result, c.watch_run_of.ensures.asked, c.watch_television.ensures.makes);
+  complete = c.watch_television.ensures.complete;
+})
+
+pub returns-in-Ok-Generate-clause-does : goal.returns-in-Ok-Generate-clause-does
+returns-in-Ok-Generate-clause-does g c = rw (c.in-Ok-Generate.is, c.in-Ok-Generate.field-0-is) (record {
+  writes = rw c.companions_in.ensures.value at c.generate.ensures.writes;
+  complete = c.generate.ensures.complete;
+})
+
+pub returns-in-Ok-Survey-clause-does : goal.returns-in-Ok-Survey-clause-does
+returns-in-Ok-Survey-clause-does g c = rw (c.in-Ok-Survey.is, c.in-Ok-Survey.field-0-is) (record {
+  writes = rw c.companions_in-in-Ok-Survey.ensures.value at c.survey.ensures.writes;
+  complete = c.survey.ensures.complete;
+})
+
+-- ---- the counts of the devices that a command doesn't use are as before
 pub returns-in-Ok-Replay-clause-counted : goal.returns-in-Ok-Replay-clause-counted
 returns-in-Ok-Replay-clause-counted g c = record {
   reads = c.replay.ensures.counted_reads;
   writes = c.replay.ensures.counted_writes;
-  calls = c.replay.ensures.quiet.calls (g.O.Outside.counts c.args.outside.now).faults;
-  dials = c.replay.ensures.quiet.dials (g.O.Outside.counts c.args.outside.now).dial_faults;
-  spawns = c.replay.ensures.quiet.spawns (g.P.Spawner.faults c.args.spawner.now);
+  calls = c.replay.ensures.quiet.calls _;
+  dials = c.replay.ensures.quiet.dials _;
+  spawns = c.replay.ensures.quiet.spawns _;
 }
 
 pub returns-in-Ok-Agree-clause-counted : goal.returns-in-Ok-Agree-clause-counted
-returns-in-Ok-Agree-clause-counted g c =
-    c.agree.ensures.counted (g.O.Outside.counts c.args.outside.now) (g.P.Spawner.faults c.args.spawner.now)
+returns-in-Ok-Agree-clause-counted g c = c.agree.ensures.counted _ _
 
 pub returns-in-Ok-Audit-clause-counted : goal.returns-in-Ok-Audit-clause-counted
-returns-in-Ok-Audit-clause-counted g c =
-    c.audit.ensures.counted (g.O.Outside.counts c.args.outside.now) (g.P.Spawner.faults c.args.spawner.now)
+returns-in-Ok-Audit-clause-counted g c = c.audit.ensures.counted _ _
 
 pub returns-in-Ok-Migrate-clause-counted : goal.returns-in-Ok-Migrate-clause-counted
-returns-in-Ok-Migrate-clause-counted g c =
-    c.migrate.ensures.counted (g.O.Outside.counts c.args.outside.now) (g.P.Spawner.faults c.args.spawner.now)
+returns-in-Ok-Migrate-clause-counted g c = c.migrate.ensures.counted _ _
 
-pub returns-in-Ok-Companion-clause-counted : goal.returns-in-Ok-Companion-clause-counted
-returns-in-Ok-Companion-clause-counted g c = c.companion_by.ensures.counted (g.P.Spawner.faults c.args.spawner.now)
+pub returns-then-words-clause-counted : goal.returns-then-words-clause-counted
+returns-then-words-clause-counted g c = c.record_companion.ensures.counted _ _
+
+pub returns-else-words-clause-counted : goal.returns-else-words-clause-counted
+returns-else-words-clause-counted g c = c.companion.ensures.counted _
 
 pub returns-in-Ok-Tv-clause-counted : goal.returns-in-Ok-Tv-clause-counted
-returns-in-Ok-Tv-clause-counted g c =
-    c.tv_by.ensures.counted (g.K.Sink.faults c.args.sink.now) (g.P.Spawner.faults c.args.spawner.now)
+returns-in-Ok-Tv-clause-counted g c = c.tv.ensures.counted _ _
 
 pub returns-in-Ok-Relay-clause-counted : goal.returns-in-Ok-Relay-clause-counted
 returns-in-Ok-Relay-clause-counted g c =
-    c.relay_by.ensures.counted (g.S.Source.faults c.args.source.now) (g.K.Sink.faults c.args.sink.now)
-    (g.P.Spawner.faults c.args.spawner.now)
+    let made = c.drive_relay.ensures.counted in
+    rw c.status_of.ensures.value
+    (driven_tells c.drive_relay.result (unwritten c.drive_relay.result _ made.no_writes) made.faults made.dials)
 
 pub returns-in-Ok-Watch-clause-counted : goal.returns-in-Ok-Watch-clause-counted
-returns-in-Ok-Watch-clause-counted g c =
-    c.watch_by.ensures.counted (g.S.Source.faults c.args.source.now) (g.P.Spawner.faults c.args.spawner.now)
+returns-in-Ok-Watch-clause-counted g c = c.watch_television.ensures.counted _ _
 
 pub returns-in-Ok-Generate-clause-counted : goal.returns-in-Ok-Generate-clause-counted
 returns-in-Ok-Generate-clause-counted g c =
-    c.generate_by.ensures.counted (g.S.Source.faults c.args.source.now) (g.O.Outside.counts c.args.outside.now)
-    (g.P.Spawner.faults c.args.spawner.now)
+    writes_tells _ _ _ c.generate.result c.generate.ensures.writes c.generate.ensures.counted_writes
 
 pub returns-in-Ok-Survey-clause-counted : goal.returns-in-Ok-Survey-clause-counted
 returns-in-Ok-Survey-clause-counted g c =
-    c.survey_by.ensures.counted (g.S.Source.faults c.args.source.now) (g.O.Outside.counts c.args.outside.now)
-    (g.P.Spawner.faults c.args.spawner.now)
+    writes_tells _ _ _ c.survey.result c.survey.ensures.writes c.survey.ensures.counted_writes

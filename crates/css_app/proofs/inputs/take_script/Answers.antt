@@ -1,0 +1,26 @@
+use Rattle.std.proofs.Common.{refl}
+use Rattle.css_replay.proofs.OverLines.{stop_ends}
+use Rattle.css_app.specs.Ended.{line_refused}
+use Rattle.css_app.specs.Live.{bad_line}
+use Rattle.css_app.specs.Scripts.{script_in, script_lines, why_of}
+use Rattle.css_app.proofs.Taken.{gives-script, none_at, script-bad}
+use Rattle.css_app.proofs.inputs.take_script.Goals as goal
+
+pub returns-in-Ok-drive-clause-value : goal.returns-in-Ok-drive-clause-value
+returns-in-Ok-drive-clause-value g c = gives-script _ _ _ _ c.drive.new.lines c.in-Ok-drive.ensures.done
+
+pub returns-in-Ok-drive-clause-range : goal.returns-in-Ok-drive-clause-range
+returns-in-Ok-drive-clause-range g c = c.in-Ok-drive.ensures.done.stood.each
+
+pub returns-clause-value : goal.returns-clause-value
+returns-clause-value g c =
+    let run = c.in-Err.ensures in
+    rw c.line_status.ensures
+    (none_at script_in (λ bad. bad) bad_line (λ bad. tt) script_lines (λ line why. (line, why_of why)) script-bad
+    _ _ _ _ (λ bad all. (bad, refl, all)) c.in-Err.stop run.counted_writes run.ran)
+
+pub returns-clause-counted : goal.returns-clause-counted
+returns-clause-counted g c =
+    let run = c.in-Err.ensures in
+    rw c.line_status.ensures
+    (stop_ends line_refused (λ line why. tt) c.in-Err.stop run.counted_reads run.counted_writes).reads

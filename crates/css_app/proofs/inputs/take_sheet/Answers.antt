@@ -1,0 +1,44 @@
+use Rattle.std.proofs.Common.{◌≡◌, ℕ, List, ap, refl}
+use Rattle.std.specs.Prelude.{Err, Some}
+use Rattle.css_follow.specs.Sheets.{sheet_in, sheet_lines, sheet_of, unless_refused}
+use Rattle.css_follow.specs.declared.fault.SheetFault.TheVariants.{Line}
+use Rattle.css_follow.specs.declared.line.Form.{Form}
+use Rattle.css_follow.proofs.SheetsRead.{read-ok}
+use Rattle.css_lines.specs.declared.reader.Refusal.{Refusal}
+use Rattle.css_lines.specs.Lines.{lines_of}
+use Rattle.css_lines.specs.Meaning.{Outcome, outcome}
+use Rattle.css_replay.specs.declared.status.Status.TheVariants.{BadSheet}
+use Rattle.css_replay.proofs.OverLines.{stop_ends}
+use Rattle.css_app.proofs.Taken.{none_at}
+use Rattle.css_app.proofs.inputs.take_sheet.Goals as goal
+
+pub returns-in-Ok-drive-clause-value : goal.returns-in-Ok-drive-clause-value
+returns-in-Ok-drive-clause-value g c =
+    let f = c.in-Ok-drive.ensures.done in
+    rw c.sheet.ensures
+    (record {
+      read = f.read;
+      all = record { took = f.took; at_end = f.at_end };
+      is = read-ok f.read c.drive.new.lines.sheet (ap (λ (o : Outcome Form). o.verdict) f.all) f.stood;
+    })
+
+-- the first line that is refused
+sheet-bad : (bytes : List ℕ) (line : ℕ) (why : Refusal Form) → (outcome sheet_lines bytes).verdict ≡ Some (line, why)
+    → sheet_in bytes ≡ Err (Line line)
+unfolding sheet_in
+sheet-bad bytes line why e = ap (λ v. unless_refused v (sheet_of (lines_of bytes))) e
+
+pub returns-clause-value : goal.returns-clause-value
+returns-clause-value g c =
+    let run = c.in-Err.ensures in
+    rw c.sheet_status.ensures
+    (none_at sheet_in Line BadSheet (λ bad. tt) sheet_lines (λ line why. line) sheet-bad _ _ _ _
+    (λ bad all. (bad, refl, all)) c.in-Err.stop
+    run.counted_writes run.ran)
+
+pub returns-clause-counted : goal.returns-clause-counted
+returns-clause-counted g c =
+    let run = c.in-Err.ensures in
+    rw c.sheet_status.ensures
+    (stop_ends (λ line why. BadSheet line) (λ line why. tt) c.in-Err.stop run.counted_reads
+    run.counted_writes).reads

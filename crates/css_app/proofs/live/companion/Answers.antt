@@ -1,0 +1,41 @@
+use Rattle.std.proofs.Common.{refl, inl, inr}
+use Rattle.css_follow.specs.Sheets.{sheet_in}
+use Rattle.css_follow.specs.declared.fault.SheetFault.TheVariants.{Line}
+use Rattle.css_replay.specs.declared.status.Status.TheVariants.{BadSheet}
+use Rattle.css_app.proofs.LiveEnds.{driven_tells, made_run, run_as_due}
+use Rattle.css_app.proofs.Taken.{took_none}
+use Rattle.css_app.proofs.live.companion.Goals as goal
+
+-- the sheet was not read
+pub returns-in-Err : goal.returns-in-Err
+returns-in-Err g c =
+    let none = took_none sheet_in Line BadSheet (λ bad. tt) _ c.in-Err.status c.in-Err.ensures.value
+    c.in-Err.ensures.counted in
+    record {
+      ran = inl ((refl, refl, refl), c.in-Err.ensures.value);
+      complete = λ bytes sheet is ok read wrote called. inl (none.lacks bytes sheet is ok read);
+      counted = none.tells _ _;
+      no_usage = none.no_usage;
+    }
+
+-- the followers lacked memory
+pub returns-in-Err-prepared-clause-ran : goal.returns-in-Err-prepared-clause-ran
+returns-in-Err-prepared-clause-ran g c = inl ((refl, refl, c.prepare-prepared.ensures.same_seen), tt)
+
+-- the run
+pub returns-in-Ok-prepared : goal.returns-in-Ok-prepared
+returns-in-Ok-prepared g c =
+    let run = c.drive_companion.ensures in
+    let ended = c.drive_companion.result in
+    rw c.status_of.ensures.value
+    (record {
+      ran = inr (record {
+        sheet = c.in-Ok.sheet;
+        gives = c.in-Ok.ensures.value;
+        makes = made_run _ _ ended c.in-Ok-prepared.ensures.as_sheet c.prepare-prepared.ensures.same_seen run.ran;
+      });
+      complete = λ bytes sheet is ok read. run_as_due ended run.ran run.write_faults run.net_faults;
+      counted = λ spawns.
+          rw c.in-Ok.ensures.counted (driven_tells ended run.write_faults run.net_faults run.dial_faults);
+      no_usage = rw c.status_of.ensures.value at c.status_of.ensures.no_usage;
+    })

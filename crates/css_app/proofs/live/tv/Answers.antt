@@ -1,0 +1,51 @@
+use Rattle.std.proofs.Common.{refl, inl, inr}
+use Rattle.css_drive.specs.Proper.{IsProper}
+use Rattle.css_drive.specs.TvDue.{due, run_of}
+use Rattle.css_drive.specs.TvRan.{TvRan}
+use Rattle.css_app.specs.Live.{bad_line}
+use Rattle.css_app.specs.Scripts.{script_in}
+use Rattle.css_app.proofs.Taken.{same_script, took_none}
+use Rattle.css_app.proofs.LiveEnds.{as_due, driven_tells, no_write, tv_dials, unwritten}
+use Rattle.css_app.proofs.live.tv.Goals as goal
+
+-- the script was not read
+pub returns-in-Err : goal.returns-in-Err
+returns-in-Err g c =
+    let none = took_none script_in (λ bad. bad) bad_line (λ bad. tt) _ c.in-Err.status c.in-Err.ensures.value
+    c.in-Err.ensures.counted in
+    record {
+      ran = inl (refl, c.in-Err.ensures.value);
+      complete = λ bytes script is ok read called. inl (none.lacks bytes script is ok read);
+      counted = λ writes. none.tells writes _;
+      dials = refl;
+      no_usage = none.no_usage;
+    }
+
+-- the run
+pub returns : goal.returns
+returns g c =
+    let ended = c.drive_tv.result in
+    let made = c.drive_tv.ensures in
+    let run = run_of c.args.run c.in-Ok.script.items in
+    let ran : TvRan run (g.O.Outside.told c.args.outside.now) (g.O.Outside.told c.drive_tv.new.outside) ended =
+    rw (← c.deref.ensures.value) made.ran in
+    rw c.status_of.ensures.value
+    (record {
+      ran = inr (record {
+        script = c.in-Ok.script.items;
+        gives = c.in-Ok.ensures.value;
+        ended = ended;
+        ran = ran;
+        tells = refl;
+      });
+      complete = λ bytes script is ok read called.
+          let same = same_script (g.S.Source.left c.args.source.now) bytes
+          (g.S.Source.left c.take_script.new.source) c.in-Ok.script.items script is c.in-Ok.ensures.value ok in
+          rw (← same) (as_due (IsProper (due run)) (due run) _ _ ran.h ended ran.grew ran.proper ran.ends
+          (unwritten ended 0 made.counted.no_writes) made.counted.faults no_write called);
+      counted = λ writes spawns. rw c.in-Ok.ensures.counted
+          (driven_tells ended (unwritten ended writes made.counted.no_writes) made.counted.faults
+          (tv_dials run ran.h ended ran.ends made.counted.dials));
+      dials = made.counted.dials;
+      no_usage = rw c.status_of.ensures.value at c.status_of.ensures.no_usage;
+    })
