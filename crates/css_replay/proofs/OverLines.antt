@@ -32,7 +32,7 @@ pub record EndsLines (r r' w w' : ℕ) (result : Status) : Type 0 where
   pub reads : CountsReads r r' result
   pub writes : CountsWrites w w' result
 
-line_ends : {r r' w w' : ℕ} (result : Status) → IsOfLine result → r' ≡ r → w' ≡ w → EndsLines r r' w w' result
+pub line_ends : {r r' w w' : ℕ} (result : Status) → IsOfLine result → r' ≡ r → w' ≡ w → EndsLines r r' w w' result
 line_ends Done of read wrote = absurd of
 line_ends _ of read wrote = search rules
 
