@@ -78,7 +78,13 @@ writing_lacks text used = record {
 lacks : (asked : Result Asked WordsFault) (used : Uses) → Does asked (unused used) status.Memory
 lacks (Ok Replay) used = record {
   lines = over_none replayed replay_refused used;
-  promise = record { read = []; printed = []; took = consumes_none _; grew = appends_none _; keeps = inl refl };
+  promise = record {
+    read = [];
+    printed = [];
+    took = consumes_none _;
+    grew = appends_none _;
+    keeps = ([], ([], refl), inl refl);
+  };
 }
 lacks (Ok Agree) used = record {
   lines = over_none agreeing agree_refused used;
