@@ -5,7 +5,8 @@ use Rattle.std.specs.Prelude.{◌⊎◌, ◌≢◌, Bool, Option, Some, None, Re
 use Rattle.std.specs.Ordering.{int_eq}
 use Rattle.css_model.specs.declared.Why.TheVariants as why
 use Rattle.css_model.specs.History.{History}
-use Rattle.css_outside.proofs.Known.{write_faults_never_fall}
+use Rattle.css_outside.proofs.Known.{appends_none, write_faults_never_fall}
+use Rattle.css_outside.specs.Bytes.{AppendsPrefix}
 use Rattle.css_outside.specs.Faults.{CountsCall}
 use Rattle.css_outside.specs.Outsides.{Counts, with_entries}
 use Rattle.css_outside.specs.declared.fault.OutFault.{OutFault}
@@ -55,6 +56,10 @@ tells_lines ends c s = record {
 }
 
 -- ---- texts that are written
+-- nothing is a front part of each
+pub nothing_of : (text : List ℕ) (held : Option (List ℕ)) → AppendsPrefix held held text
+nothing_of text held = record { front = []; of = (text, refl); grew = appends_none held }
+
 pub writes_tells : {r w w' s : ℕ} {c : Counts} (text : List ℕ) (old new : Option (List ℕ)) (result : Status)
     → Writes text old new result → CountsWrites w w' result
     → TellsFaults r r w w' c c s s result
@@ -135,7 +140,8 @@ watched_tells _ wrote called dialled =
 
 -- a watch over devices that didn't fail made its last turn, or memory ran out
 pub watched_last : {w w' c c' : ℕ} (ended : Watched) → visits.CountsWriteFault w w' ended
-    → visits.CountsNetFault c c' ended → HasNotFailed w w' → HasNotFailed c c' → EndsAtLastUnlessMemory (watched_status ended)
+    → visits.CountsNetFault c c' ended → HasNotFailed w w' → HasNotFailed c c'
+    → EndsAtLastUnlessMemory (watched_status ended)
 watched_last watched.WriteFault wrote called nw nc = absurd (omega (arith, wrote.risen nw.below, nw.same))
 watched_last (watched.NetFault failure) wrote called nw nc = absurd (omega (arith, called.risen nc.below, nc.same))
 watched_last _ wrote called nw nc = tt

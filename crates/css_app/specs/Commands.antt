@@ -41,7 +41,8 @@ use Rattle.css_replay.specs.Does.{ByReplay, OverLines}
 use Rattle.css_app.specs.Devices.{AreUntouched, OutsideUse, SpawnerUse, FollowersUse, Uses, unused}
 use Rattle.css_app.specs.Ended.{Writes, agree_refused, audit_refused, line_refused}
 use Rattle.css_replay.specs.Ended.{HasNotFailed, IsDoneUnlessMemory, IsNoUsage}
-use Rattle.css_app.specs.Live.{HasNoScript, HasNoSheet, IsAsDue, IsMadeAsDue, RunsBySheet, Serves, ServesAsDue, driven_status}
+use Rattle.css_app.specs.Live.{HasNoScript, HasNoSheet, IsAsDue, IsMadeAsDue, RunsBySheet, Serves, ServesAsDue}
+use Rattle.css_app.specs.Live.{driven_status}
 use Rattle.css_app.specs.Pairs.{AreLeft, ArePairedAsDue, PairsByScript, address_at}
 use Rattle.css_app.specs.Scripts.{script_in}
 use Rattle.css_app.specs.Watches.{IsAskedWatch, EndsAtLastUnlessMemory, MakesWatch}
