@@ -11,7 +11,7 @@ use Rattle.css_outside.specs.Faults.{CountsCall}
 use Rattle.css_outside.specs.Outsides.{Counts, with_entries}
 use Rattle.css_outside.specs.declared.fault.OutFault.{OutFault}
 use Rattle.css_outside.specs.declared.fault.OutFault.TheVariants as fault
-use Rattle.css_follow.specs.Following.{Plan, Seen}
+use Rattle.css_follow.specs.Following.{Plan}
 use Rattle.css_follow.specs.Listening.{Listener, all_plans, all_seen}
 use Rattle.css_tv.specs.declared.event.TvOut.{TvOut}
 use Rattle.css_tv.specs.declared.event.TvOut.TheVariants as out
@@ -40,7 +40,7 @@ use Rattle.css_replay.specs.Devices.{SinkUse}
 use Rattle.css_replay.specs.Ended.{CountsWrites, HasNotFailed}
 use Rattle.css_replay.proofs.OverLines.{EndsLines}
 use Rattle.css_app.specs.Ended.{Writes}
-use Rattle.css_app.specs.Devices.{OutsideUse}
+use Rattle.css_app.specs.Devices.{FollowersUse, OutsideUse}
 use Rattle.css_app.specs.Live.{EndsAsDue, IsMadeAsDue, MakesRun, TellsFaults, TellsOverLines, driven_status}
 use Rattle.css_app.specs.Pairs.{PairsAsDue, child_status, with_child}
 use Rattle.css_app.specs.Watches.{EndsAtLastUnlessMemory, watched_status}
@@ -102,16 +102,16 @@ as_due proper due_of before now history ended told is_proper ends wrote called n
 
 -- a companion's run was made
 pub made_run : {config : DriveConfig} {plans : List Plan} {sink : SinkUse} {outside : OutsideUse}
-    {heard_old : List Seen} (began followed : List Listener) (ended : Driven) → all_plans began ≡ plans
-    → all_seen began ≡ heard_old
+    {followers : FollowersUse} (began followed : List Listener) (ended : Driven) → all_plans began ≡ plans
+    → all_seen began ≡ followers.heard_old → all_seen followed ≡ followers.heard_new
     → Ran config outside.told_old outside.told_new sink.holds_old sink.holds_new began followed ended
-    → MakesRun config plans sink outside heard_old (all_seen followed) (driven_status ended)
-made_run began followed ended planned before ran = record {
+    → MakesRun config plans sink outside followers (driven_status ended)
+made_run began followed ended planned before heard ran = record {
   began = began;
   followed = followed;
   planned = planned;
   before = before;
-  heard = refl;
+  heard = heard;
   ended = ended;
   ran = ran;
   tells = refl;

@@ -164,8 +164,7 @@ EndsAsAsked asked cii before now result =
 -- the sink gained the line of each report, and what the followers said of it by the plans that the sheet gives them.
 pub record ByCompanion (asked : CompanionAsked) (source : SourceUse) (sink : SinkUse) (outside : OutsideUse)
     (followers : FollowersUse) (result : Status) : Type 0 where
-  pub ran : OfAsked
-      (AreUntouched sink outside followers.heard_old followers.heard_new × HasNoSheet source.left_old result)
+  pub ran : OfAsked (AreUntouched sink outside followers × HasNoSheet source.left_old result)
       (IsAskedRun asked.options asked.cii) (λ run. RunsBySheet run source sink outside followers result)
   -- over devices that don't fail, dials aside, a run by a sheet ends as its calls say
   pub complete : (bytes : List ℕ) (sheet : Sheet) → source.left_old ≡ Some bytes → sheet_in bytes ≡ Ok sheet
@@ -208,8 +207,7 @@ pub record ByTv (asked : TvAsked) (source : SourceUse) (outside : OutsideUse) (r
 -- and was waited for once.
 pub record ByPair (asked : PairAsked) (source : SourceUse) (sink : SinkUse) (outside : OutsideUse)
     (spawner : SpawnerUse) (followers : FollowersUse) (result : Status) : Type 0 where
-  pub ran : OfAsked
-      (AreLeft sink outside spawner followers.heard_old followers.heard_new × HasNoScript source.left_old result)
+  pub ran : OfAsked (AreLeft sink outside spawner followers × HasNoScript source.left_old result)
       (IsAskedRun asked.companion (address_at asked.tv.port))
       (λ run. PairsByScript run (asked_child asked.tv) source sink outside spawner followers result)
   -- over devices that don't fail, dials aside, a run beside a child with a script ends as its calls say
