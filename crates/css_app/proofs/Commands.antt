@@ -26,6 +26,7 @@ use Rattle.css_replay.specs.Replayed.{replayed}
 use Rattle.css_app.specs.Commands.{ByWriting, Does, OfAsked, TellsUsage, asked_in}
 use Rattle.css_app.specs.Devices.{Uses, unused}
 use Rattle.css_app.specs.Ended.{agree_refused, audit_refused, line_refused}
+use Rattle.css_app.proofs.LiveEnds.{nothing_of}
 
 -- what a run came to is so of one that the options ask for
 pub as_asked : {None Run : Type 0} {IsAsked Came : Run → Type 0} (run : Run) → IsAsked run → None ⊎ Came run
@@ -69,10 +70,7 @@ module _ {Cause : Type 0} (meaning : Meaning Cause) where
   }
 
 writing_lacks : (text : List ℕ) (used : Uses) → ByWriting text (unused used).sink status.Memory
-writing_lacks text used = record {
-  writes = record { front = []; of = (text, refl); grew = appends_none used.sink.holds_old };
-  complete = λ written. tt;
-}
+writing_lacks text used = record { writes = nothing_of text used.sink.holds_old; complete = λ written. tt }
 
 -- whatever the words ask for
 lacks : (asked : Result Asked WordsFault) (used : Uses) → Does asked (unused used) status.Memory

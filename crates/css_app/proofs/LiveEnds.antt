@@ -5,12 +5,13 @@ use Rattle.std.specs.Prelude.{◌⊎◌, ◌≢◌, Bool, Option, Some, None, Re
 use Rattle.std.specs.Ordering.{int_eq}
 use Rattle.css_model.specs.declared.Why.TheVariants as why
 use Rattle.css_model.specs.History.{History}
-use Rattle.css_outside.proofs.Known.{write_faults_never_fall}
+use Rattle.css_outside.proofs.Known.{appends_none, write_faults_never_fall}
+use Rattle.css_outside.specs.Bytes.{AppendsPrefix}
 use Rattle.css_outside.specs.Faults.{CountsCall}
 use Rattle.css_outside.specs.Outsides.{Counts, with_entries}
 use Rattle.css_outside.specs.declared.fault.OutFault.{OutFault}
 use Rattle.css_outside.specs.declared.fault.OutFault.TheVariants as fault
-use Rattle.css_follow.specs.Following.{Plan, Seen}
+use Rattle.css_follow.specs.Following.{Plan}
 use Rattle.css_follow.specs.Listening.{Listener, all_plans, all_seen}
 use Rattle.css_tv.specs.declared.event.TvOut.{TvOut}
 use Rattle.css_tv.specs.declared.event.TvOut.TheVariants as out
@@ -39,7 +40,7 @@ use Rattle.css_replay.specs.Devices.{SinkUse}
 use Rattle.css_replay.specs.Ended.{CountsWrites, HasNotFailed}
 use Rattle.css_replay.proofs.OverLines.{EndsLines}
 use Rattle.css_app.specs.Ended.{Writes}
-use Rattle.css_app.specs.Devices.{OutsideUse}
+use Rattle.css_app.specs.Devices.{FollowersUse, OutsideUse}
 use Rattle.css_app.specs.Live.{EndsAsDue, IsMadeAsDue, MakesRun, TellsFaults, TellsOverLines, driven_status}
 use Rattle.css_app.specs.Pairs.{PairsAsDue, child_status, with_child}
 use Rattle.css_app.specs.Watches.{EndsAtLastUnlessMemory, watched_status}
@@ -55,6 +56,10 @@ tells_lines ends c s = record {
 }
 
 -- ---- texts that are written
+-- nothing is a front part of each
+pub nothing_of : (text : List ℕ) (held : Option (List ℕ)) → AppendsPrefix held held text
+nothing_of text held = record { front = []; of = (text, refl); grew = appends_none held }
+
 pub writes_tells : {r w w' s : ℕ} {c : Counts} (text : List ℕ) (old new : Option (List ℕ)) (result : Status)
     → Writes text old new result → CountsWrites w w' result
     → TellsFaults r r w w' c c s s result
@@ -97,16 +102,16 @@ as_due proper due_of before now history ended told is_proper ends wrote called n
 
 -- a companion's run was made
 pub made_run : {config : DriveConfig} {plans : List Plan} {sink : SinkUse} {outside : OutsideUse}
-    {heard_old : List Seen} (began followed : List Listener) (ended : Driven) → all_plans began ≡ plans
-    → all_seen began ≡ heard_old
+    {followers : FollowersUse} (began followed : List Listener) (ended : Driven) → all_plans began ≡ plans
+    → all_seen began ≡ followers.heard_old → all_seen followed ≡ followers.heard_new
     → Ran config outside.told_old outside.told_new sink.holds_old sink.holds_new began followed ended
-    → MakesRun config plans sink outside heard_old (all_seen followed) (driven_status ended)
-made_run began followed ended planned before ran = record {
+    → MakesRun config plans sink outside followers (driven_status ended)
+made_run began followed ended planned before heard ran = record {
   began = began;
   followed = followed;
   planned = planned;
   before = before;
-  heard = refl;
+  heard = heard;
   ended = ended;
   ran = ran;
   tells = refl;
@@ -135,7 +140,8 @@ watched_tells _ wrote called dialled =
 
 -- a watch over devices that didn't fail made its last turn, or memory ran out
 pub watched_last : {w w' c c' : ℕ} (ended : Watched) → visits.CountsWriteFault w w' ended
-    → visits.CountsNetFault c c' ended → HasNotFailed w w' → HasNotFailed c c' → EndsAtLastUnlessMemory (watched_status ended)
+    → visits.CountsNetFault c c' ended → HasNotFailed w w' → HasNotFailed c c'
+    → EndsAtLastUnlessMemory (watched_status ended)
 watched_last watched.WriteFault wrote called nw nc = absurd (omega (arith, wrote.risen nw.below, nw.same))
 watched_last (watched.NetFault failure) wrote called nw nc = absurd (omega (arith, called.risen nc.below, nc.same))
 watched_last _ wrote called nw nc = tt

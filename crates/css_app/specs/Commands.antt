@@ -41,7 +41,8 @@ use Rattle.css_replay.specs.Does.{ByReplay, OverLines}
 use Rattle.css_app.specs.Devices.{AreUntouched, OutsideUse, SpawnerUse, FollowersUse, Uses, unused}
 use Rattle.css_app.specs.Ended.{Writes, agree_refused, audit_refused, line_refused}
 use Rattle.css_replay.specs.Ended.{HasNotFailed, IsDoneUnlessMemory, IsNoUsage}
-use Rattle.css_app.specs.Live.{HasNoScript, HasNoSheet, IsAsDue, IsMadeAsDue, RunsBySheet, Serves, ServesAsDue, driven_status}
+use Rattle.css_app.specs.Live.{HasNoScript, HasNoSheet, IsAsDue, IsMadeAsDue, RunsBySheet, Serves, ServesAsDue}
+use Rattle.css_app.specs.Live.{driven_status}
 use Rattle.css_app.specs.Pairs.{AreLeft, ArePairedAsDue, PairsByScript, address_at}
 use Rattle.css_app.specs.Scripts.{script_in}
 use Rattle.css_app.specs.Watches.{IsAskedWatch, EndsAtLastUnlessMemory, MakesWatch}
@@ -163,8 +164,7 @@ EndsAsAsked asked cii before now result =
 -- the sink gained the line of each report, and what the followers said of it by the plans that the sheet gives them.
 pub record ByCompanion (asked : CompanionAsked) (source : SourceUse) (sink : SinkUse) (outside : OutsideUse)
     (followers : FollowersUse) (result : Status) : Type 0 where
-  pub ran : OfAsked
-      (AreUntouched sink outside followers.heard_old followers.heard_new × HasNoSheet source.left_old result)
+  pub ran : OfAsked (AreUntouched sink outside followers × HasNoSheet source.left_old result)
       (IsAskedRun asked.options asked.cii) (λ run. RunsBySheet run source sink outside followers result)
   -- over devices that don't fail, dials aside, a run by a sheet ends as its calls say
   pub complete : (bytes : List ℕ) (sheet : Sheet) → source.left_old ≡ Some bytes → sheet_in bytes ≡ Ok sheet
@@ -207,8 +207,7 @@ pub record ByTv (asked : TvAsked) (source : SourceUse) (outside : OutsideUse) (r
 -- and was waited for once.
 pub record ByPair (asked : PairAsked) (source : SourceUse) (sink : SinkUse) (outside : OutsideUse)
     (spawner : SpawnerUse) (followers : FollowersUse) (result : Status) : Type 0 where
-  pub ran : OfAsked
-      (AreLeft sink outside spawner followers.heard_old followers.heard_new × HasNoScript source.left_old result)
+  pub ran : OfAsked (AreLeft sink outside spawner followers × HasNoScript source.left_old result)
       (IsAskedRun asked.companion (address_at asked.tv.port))
       (λ run. PairsByScript run (asked_child asked.tv) source sink outside spawner followers result)
   -- over devices that don't fail, dials aside, a run beside a child with a script ends as its calls say

@@ -58,9 +58,9 @@ followers_use takes heard old new =
     record { takes = takes old; heard_old = all_seen (heard old); heard_new = all_seen (heard new) }
 
 -- nothing was written, nothing was asked of the outside, and nothing was heard
-abbrev pub AreUntouched : SinkUse → OutsideUse → List Seen → List Seen → Type 0
-AreUntouched sink outside heard_old heard_new =
-    (sink.holds_new ≡ sink.holds_old) × (outside.told_new ≡ outside.told_old) × (heard_new ≡ heard_old)
+abbrev pub AreUntouched : SinkUse → OutsideUse → FollowersUse → Type 0
+AreUntouched sink outside followers = (sink.holds_new ≡ sink.holds_old) × (outside.told_new ≡ outside.told_old)
+    × (followers.heard_new ≡ followers.heard_old)
 
 -- what there is to see of all devices
 pub record Uses : Type 0 where

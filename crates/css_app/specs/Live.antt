@@ -4,7 +4,7 @@ use Rattle.std.specs.Prelude.{Ok, Err, Result, MatchResult, ⊤}
 use Rattle.std.specs.Io.KnownBytes.{Consumes, IsAtEnd}
 use Rattle.css_model.specs.History.{History}
 use Rattle.css_outside.specs.Outsides.{Counts, with_entries}
-use Rattle.css_follow.specs.Following.{Plan, Seen}
+use Rattle.css_follow.specs.Following.{Plan}
 use Rattle.css_follow.specs.Sheets.{sheet_in}
 use Rattle.css_follow.specs.declared.fault.SheetFault.TheVariants.{Line}
 use Rattle.css_follow.specs.declared.sheet.Sheet.{Sheet}
@@ -109,12 +109,12 @@ HasNoScript = GivesNone script_in (λ bad. bad) bad_line
 -- ---- a companion's run
 -- A run was made, which followers with these plans followed, and the status says how it ended.
 pub record MakesRun (config : DriveConfig) (plans : List Plan) (sink : SinkUse) (outside : OutsideUse)
-    (heard_old heard_new : List Seen) (result : Status) : Type 0 where
+    (followers : FollowersUse) (result : Status) : Type 0 where
   pub began : List Listener
   pub followed : List Listener
   pub planned : all_plans began ≡ plans
-  pub before : all_seen began ≡ heard_old
-  pub heard : all_seen followed ≡ heard_new
+  pub before : all_seen began ≡ followers.heard_old
+  pub heard : all_seen followed ≡ followers.heard_new
   pub ended : Driven
   pub ran : Ran config outside.told_old outside.told_new sink.holds_old sink.holds_new began followed ended
   pub tells : result ≡ driven_status ended
@@ -125,12 +125,12 @@ pub record RunsBySheet (config : DriveConfig) (source : SourceUse) (sink : SinkU
     (followers : FollowersUse) (result : Status) : Type 0 where
   pub sheet : Sheet
   pub gives : Gives sheet_in source.left_old source.left_new sheet
-  pub makes : MakesRun config (followers.takes sheet) sink outside followers.heard_old followers.heard_new result
+  pub makes : MakesRun config (followers.takes sheet) sink outside followers result
 
 -- what `companion` comes to: where there is no sheet, nothing was asked of the outside, written or heard
 abbrev pub Companions : DriveConfig → SourceUse → SinkUse → OutsideUse → FollowersUse → Status → Type 0
 Companions config source sink outside followers result =
-    AreUntouched sink outside followers.heard_old followers.heard_new × HasNoSheet source.left_old result
+    AreUntouched sink outside followers × HasNoSheet source.left_old result
     ⊎ RunsBySheet config source sink outside followers result
 
 -- the run was made to an end that was due

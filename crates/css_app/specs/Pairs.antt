@@ -11,7 +11,7 @@ use Rattle.css_outside.specs.declared.fault.OutFault.{OutFault}
 use Rattle.css_outside.specs.declared.limit.Limit.{Limit}
 use Rattle.css_outside.specs.declared.limit.Limit.TheVariants as limit
 use Rattle.css_outside.specs.declared.fault.OutFault.TheVariants as fault
-use Rattle.css_follow.specs.Following.{Plan, Seen}
+use Rattle.css_follow.specs.Following.{Plan}
 use Rattle.css_follow.specs.declared.sheet.Sheet.{Sheet}
 use Rattle.css_drive.specs.declared.config.DriveConfig.{DriveConfig}
 use Rattle.css_schedule.specs.declared.line.ScriptLine.{ScriptLine}
@@ -89,10 +89,10 @@ IsNoStart _ = ⊥
 -- The child was started once with these words and this script, a run was made, which followers with these plans
 -- followed, and then the child was waited for once.
 pub record RunsBeside (config : DriveConfig) (plans : List Plan) (words : List (List ℕ)) (script : List ℕ)
-    (sink : SinkUse) (outside : OutsideUse) (spawner : SpawnerUse) (heard_old heard_new : List Seen) (result : Status)
+    (sink : SinkUse) (outside : OutsideUse) (spawner : SpawnerUse) (followers : FollowersUse) (result : Status)
     : Type 0 where
   pub companion : Status
-  pub makes : MakesRun config plans sink outside heard_old heard_new companion
+  pub makes : MakesRun config plans sink outside followers companion
   pub finished : Result ℤ OutFault
   pub told : TellsSpawned (option_map (λ told. Started words script ∷ told) spawner.told_old) spawner.told_new
       finished Finished
@@ -101,30 +101,24 @@ pub record RunsBeside (config : DriveConfig) (plans : List Plan) (words : List (
   pub tells : result ≡ with_child companion finished
 
 -- nothing was done to the children or to the devices of the run
-abbrev pub AreLeft : SinkUse → OutsideUse → SpawnerUse → List Seen → List Seen → Type 0
-AreLeft sink outside spawner heard_old heard_new = AreUntouched sink outside heard_old heard_new
+abbrev pub AreLeft : SinkUse → OutsideUse → SpawnerUse → FollowersUse → Type 0
+AreLeft sink outside spawner followers = AreUntouched sink outside followers
     × (spawner.told_new ≡ spawner.told_old) × (spawner.running_new ≡ spawner.running_old)
 
--- or it was not started, and no run was made
-abbrev pub Beside : DriveConfig → List Plan → List (List ℕ) → List ℕ → SinkUse → OutsideUse → SpawnerUse → List Seen
-    → List Seen → Status → Type 0
-Beside config plans words script sink outside spawner heard_old heard_new result =
-    AreLeft sink outside spawner heard_old heard_new × IsNoStart result
-    ⊎ RunsBeside config plans words script sink outside spawner heard_old heard_new result
-
--- The source was read to its end, and a child was to be started with its bytes, which are a script. The followers have
--- the plans that the empty sheet gives them.
+-- The source was read to its end, and a child was started with its bytes, which are a script, or it could not be. The
+-- followers have the plans that the empty sheet gives them.
 pub record PairsByScript (config : DriveConfig) (child : Child) (source : SourceUse) (sink : SinkUse)
     (outside : OutsideUse) (spawner : SpawnerUse) (followers : FollowersUse) (result : Status) : Type 0 where
   pub text : List ℕ
   pub gives : GivesScriptText source.left_old source.left_new text
-  pub beside : Beside config (followers.takes empty_sheet) (child_words child config.limit) text sink outside spawner
-      followers.heard_old followers.heard_new result
+  pub beside : AreLeft sink outside spawner followers × IsNoStart result
+      ⊎ RunsBeside config (followers.takes empty_sheet) (child_words child config.limit) text sink outside spawner
+      followers result
 
 -- what `pair` comes to: no child was started, since there is no script, or memory ran out
 abbrev pub Pairs : DriveConfig → Child → SourceUse → SinkUse → OutsideUse → SpawnerUse → FollowersUse → Status → Type 0
 Pairs config child source sink outside spawner followers result =
-    AreLeft sink outside spawner followers.heard_old followers.heard_new × HasNoScript source.left_old result
+    AreLeft sink outside spawner followers × HasNoScript source.left_old result
     ⊎ PairsByScript config child source sink outside spawner followers result
 
 -- the companion's run was made to an end that was due, and the child ended

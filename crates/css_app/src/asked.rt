@@ -78,7 +78,8 @@ pub(crate) fn tv_run_of(words: TvWords) -> TvDrive
 /// The run and the child of a pair that these words ask for.
 pub(crate) fn pair_run_of(alloc: Global, words: PairWords) -> Result<(DriveConfig, Child), Memory>
     requires { AreWritable words.companion }
-    ensures run { IfOk result (λ pair. IsAskedRun (options_of words.companion) (pairs.address_at words.tv.port) pair.0) }
+    ensures run { IfOk result
+        (λ pair. IsAskedRun (options_of words.companion) (pairs.address_at words.tv.port) pair.0) }
     ensures writable { IfOk result (λ pair. drive.IsWritable pair.0) }
     ensures child { IfOk result (λ pair. pair.1 ≡ asked_child (tv_of words.tv)) }
 {

@@ -7,7 +7,7 @@ ghost use Rattle.css_replay.specs.Devices.{sink_use, source_use};
 ghost use Rattle.css_replay.specs.Ended.{HasNotFailed, IsNoUsage};
 ghost use Rattle.css_app.specs.Devices.{followers_use, outside_use, spawner_use};
 ghost use Rattle.css_app.specs.Live.{TellsFaults};
-ghost use Rattle.css_app.specs.Pairs.{Beside, Pairs, PairsAsDue};
+ghost use Rattle.css_app.specs.Pairs.{Pairs, PairsAsDue};
 ghost use Rattle.css_app.specs.Pairs as pairs;
 ghost use Rattle.css_app.specs.Scripts.{script_in};
 
@@ -123,42 +123,6 @@ fn with_child(companion: Status, finished: Result<i32, OutFault>) -> Status
     }
 }
 
-// Starts the child, makes the companion's run, and waits for the child.
-fn run_beside<K: Sink, O: Outside, P: Spawner, F: Listens>(
-    alloc: Global,
-    config: DriveConfig,
-    words: &[Text],
-    script: &[u8],
-    sink: &mut K,
-    outside: &mut O,
-    spawner: &mut P,
-    followers: &mut F,
-) -> Status
-    requires { IsWritable config }
-    ensures ran { Beside config (all_plans (F.heard followers.old)) words.now script.now
-        (sink_use K.holds K.faults sink.old sink.new) (outside_use O.told O.counts outside.old outside.new)
-        (spawner_use P.told P.running P.faults spawner.old spawner.new)
-        (all_seen (F.heard followers.old)) (all_seen (F.heard followers.new)) result }
-    ensures complete { HasNotFailed (K.faults sink.old) (K.faults sink.new)
-        → HasNotFailed (O.counts outside.old).faults (O.counts outside.new).faults
-        → HasNotFailed (P.faults spawner.old) (P.faults spawner.new)
-        → PairsAsDue config (O.told outside.old) (O.told outside.new) result }
-    ensures no_usage { IsNoUsage result }
-    ensures counted { (reads : ℕ) → TellsFaults reads reads (K.faults sink.old) (K.faults sink.new)
-        (O.counts outside.old) (O.counts outside.new) (P.faults spawner.old) (P.faults spawner.new) result }
-{
-    match spawner.start(words, script) {
-        Ok(()) => {}
-        Err(OutFault::Failed(failure)) => return Status::ChildFault {
-            status: Err(failure),
-        },
-        Err(OutFault::Memory) => return Status::Memory,
-    }
-    let companion = status_of(drive_companion(alloc, config, sink, outside, followers));
-    let finished = spawner.finish();
-    with_child(companion, finished)
-}
-
 // What the child is started with; the followers are handed the empty sheet.
 fn prepare<F: Listens>(
     alloc: Global,
@@ -218,10 +182,17 @@ pub fn pair<S: Source, K: Sink, O: Outside, P: Spawner, F: Listens>(
         Ok(script) => script,
         Err(status) => return status,
     };
-    match prepare(alloc, child, config.limit, followers) {
-        Ok(words) => run_beside(
-            alloc, config, &words, &script, sink, outside, spawner, followers,
-        ),
-        Err(Memory) => Status::Memory,
+    let Ok(words) = prepare(alloc, child, config.limit, followers) else {
+        return Status::Memory;
+    };
+    match spawner.start(&words, &script) {
+        Ok(()) => {}
+        Err(OutFault::Failed(failure)) => return Status::ChildFault {
+            status: Err(failure),
+        },
+        Err(OutFault::Memory) => return Status::Memory,
     }
+    let companion = status_of(drive_companion(alloc, config, sink, outside, followers));
+    let finished = spawner.finish();
+    with_child(companion, finished)
 }

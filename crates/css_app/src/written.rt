@@ -1,5 +1,5 @@
 //! The commands that write a text of their own: `generate` and `survey`.
-ghost use Rattle.std.specs.Prelude.{◌≡◌, IfOk, OnOk, OnErr, string_bytes};
+ghost use Rattle.std.specs.Prelude.{OnOk, OnErr};
 ghost use Rattle.std.specs.Io.KnownBytes.{Appends};
 ghost use Rattle.css_outside.specs.Bytes.{AppendsPrefix};
 ghost use Rattle.css_outside.specs.Faults.{CountsCall};
@@ -9,7 +9,6 @@ ghost use Rattle.css_app.specs.Ended.{CanBeDrawn, Writes};
 ghost use Rattle.css_replay.specs.Ended.{CountsWrites, HasNotFailed, IsDoneUnlessMemory, IsNoUsage};
 
 use css_gen::Generator;
-use css_num::Memory;
 use css_outside::{OutFault, Sink, write_all};
 use css_replay::Status;
 use std::alloc::Global;
@@ -60,35 +59,6 @@ pub fn generate<K: Sink>(
     }
 }
 
-// The line of a survey.
-fn survey_line(alloc: Global, seed: u64, lines: u64, companions: u32) -> Result<String, Memory>
-    requires { CanBeDrawn companions lines }
-    ensures { IfOk result (λ line. string_bytes line ≡ survey_text seed companions lines) }
-{
-    let summary = css_survey::survey(alloc, seed, lines, companions)?;
-    summary.line(alloc, lines)
-}
-
-fn write_survey<K: Sink>(
-    alloc: Global,
-    seed: u64,
-    lines: u64,
-    companions: u32,
-    sink: &mut K,
-) -> Result<(), OutFault>
-    requires { CanBeDrawn companions lines }
-    ensures ok { OnOk result
-        (Appends (K.holds sink.old) (K.holds sink.new) (survey_text seed companions lines)) }
-    ensures err { OnErr result
-        (AppendsPrefix (K.holds sink.old) (K.holds sink.new) (survey_text seed companions lines)) }
-    ensures counted { CountsCall (K.faults sink.old) (K.faults sink.new) result }
-{
-    match survey_line(alloc, seed, lines, companions) {
-        Ok(line) => write_all(sink, line.as_bytes()),
-        Err(Memory) => Err(OutFault::Memory),
-    }
-}
-
 /// Replays the schedule that is generated of the seed, and writes one line: how many lines there are, how many reports
 /// are printed for them, how many of these are intervals, and the greatest width of an interval.
 ///
@@ -108,7 +78,13 @@ pub fn survey<K: Sink>(
     ensures counted_writes { CountsWrites (K.faults sink.old) (K.faults sink.new) result }
     ensures no_usage { IsNoUsage result }
 {
-    match write_survey(alloc, seed, lines, companions, sink) {
+    let Ok(summary) = css_survey::survey(alloc, seed, lines, companions) else {
+        return Status::Memory;
+    };
+    let Ok(line) = summary.line(alloc, lines) else {
+        return Status::Memory;
+    };
+    match write_all(sink, line.as_bytes()) {
         Ok(()) => Status::Done,
         Err(OutFault::Failed(_)) => Status::WriteFault,
         Err(OutFault::Memory) => Status::Memory,

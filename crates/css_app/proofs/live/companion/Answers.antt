@@ -32,7 +32,8 @@ returns-in-Ok-prepared g c =
       ran = inr (record {
         sheet = c.in-Ok.sheet;
         gives = c.in-Ok.ensures.value;
-        makes = made_run _ _ ended c.in-Ok-prepared.ensures.as_sheet c.prepare-prepared.ensures.same_seen run.ran;
+        makes = made_run _ _ ended c.in-Ok-prepared.ensures.as_sheet c.prepare-prepared.ensures.same_seen refl
+            run.ran;
       });
       complete = λ bytes sheet is ok read. run_as_due ended run.ran run.write_faults run.net_faults;
       counted = λ spawns.
