@@ -1,7 +1,7 @@
 ghost use Rattle.std.specs.Prelude.{◌≡◌, ◌≤◌, ℕ, length};
 ghost use Rattle.css_schedule.specs.Headers.{max_companions};
-ghost use Rattle.css_replay.specs.Replayed.{Extent};
-ghost use Rattle.css_replay.specs.Stands.{GoesOn, IsOpen, IsWell, told_of, unread_fault};
+ghost use Rattle.css_replay.specs.Replayed.{Extent, version_of};
+ghost use Rattle.css_replay.specs.Stands.{IsOpen, IsWell, ReadsOn, stage_of, told_of, unread_fault};
 
 use css_lines::Lines;
 use css_schedule::{Header, LineFault, PlayerFault, Start, read_companion, read_header, read_line};
@@ -94,7 +94,8 @@ fn count(header: &Header) -> u32
 // Reads a line of the header: line 1, or that of the next companion.
 fn read_on(alloc: Global, heading: Option<Heading>, text: &[u8]) -> Result<Heading, LineFault>
     requires { (number : ℕ) × (extent : Extent) × IsOpen heading extent × IsWell number extent }
-    ensures { (extent : Extent) → IsOpen heading extent → GoesOn extent text.now result }
+    ensures { (extent : Extent) → IsOpen heading extent → ReadsOn extent text.now result
+        (λ next heading. (next ≡ stage_of heading) × (heading.version ≡ version_of next)) }
 {
     let Some(mut heading) = heading else {
         return match read_header(alloc, text)? {
@@ -119,7 +120,7 @@ fn read_on(alloc: Global, heading: Option<Heading>, text: &[u8]) -> Result<Headi
 impl Replay {
     ghost use Rattle.std.specs.Prelude.{◌≡◌, ℕ, [], None};
     ghost use Rattle.css_replay.specs.Replayed.{Extent};
-    ghost use Rattle.css_replay.specs.Stands.{IsOpen, IsWell, ReadsOn, Stands};
+    ghost use Rattle.css_replay.specs.Stands.{IsOpen, IsWell, ReadsOn, Stands, StandsAt};
 
     /// No line was taken yet.
     pub fn new(alloc: Global) -> Replay
@@ -143,7 +144,7 @@ impl Replay {
         requires well { (number : ℕ) × (extent : Extent) × IsOpen self.old.heading extent × IsWell number extent }
         requires none { self.old.world ≡ None }
         ensures reads { (extent : Extent) → IsOpen self.old.heading extent
-            → ReadsOn self.new extent text.now result }
+            → ReadsOn extent text.now result (λ next done. StandsAt self.new next) }
         ensures last { self.new.last ≡ self.old.last }
     {
         let heading = read_on(self.alloc, self.heading.take(), text)?;
@@ -159,7 +160,6 @@ impl Replay {
 }
 
 impl Lines for Replay {
-    ghost use Rattle.std.specs.Prelude.{◌≡◌, ◌+◌, ◌^◌, ◌≤◌, [], ◌∷◌, ◌++◌, List, ℕ, length, OnOk};
     ghost use Rattle.css_replay.specs.Replayed.{replayed};
     ghost use Rattle.css_replay.specs.Stands.{Stands};
 
