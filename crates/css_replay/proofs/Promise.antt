@@ -1,9 +1,7 @@
 -- What a replay prints keeps the promise.
-use Rattle.std.proofs.Common.{◌≡◌, ℕ, ◌+◌, ◌==◌, ◌⊎◌, inl, inr, refl, Bool, true, cond}
-use Rattle.std.proofs.Common.{List, [], ◌∷◌, ◌++◌, length}
+use Rattle.std.proofs.Common.{◌≡◌, ℕ, arith, ◌+◌, ◌==◌, ◌⊎◌, inl, inr, refl, List, [], ◌∷◌, ◌++◌, length}
 use Rattle.std.specs.Prelude.{ℤ, pos, Option, Some, None, IfSome, MatchOption, Result, Ok, Err}
 use Rattle.std.specs.Option.{option_map}
-use Rattle.std.specs.Result.{result_and}
 use Rattle.css_num.specs.Spans.{Covers}
 use Rattle.css_model.specs.WallClock.{Answer, Local, IsLeast, scaled_width, narrowest}
 use Rattle.css_model.proofs.Narrowest.{narrowest_is_least}
@@ -26,6 +24,7 @@ use Rattle.css_schedule.specs.declared.line.Line.{Line}
 use Rattle.css_schedule.specs.declared.line.Verb.{Verb}
 use Rattle.css_schedule.specs.declared.line.Verb.TheVariants.{Wall, Print}
 use Rattle.css_schedule.specs.Headers.{header_of, with_companion}
+use Rattle.css_schedule.specs.Lines.{line_in}
 use Rattle.css_schedule.specs.Words.{words_of}
 use Rattle.css_schedule.proofs.InRange.{line_range, line_is_of}
 use Rattle.css_companion.specs.Printed as companions
@@ -34,22 +33,21 @@ use Rattle.css_companion.specs.declared.report.Report.{Report}
 use Rattle.css_companion.specs.declared.report.Report.TheVariants as reports
 use Rattle.css_world.specs.declared.fault.WorldFault.{WorldFault}
 use Rattle.css_world.specs.declared.fault.WorldFault.TheVariants.{Absent}
-use Rattle.css_world.specs.Happened.{Numbered, events_of}
-use Rattle.css_world.specs.Verdicts.{local_of, IsDeclared, report_at, assigned_at, can_happen, played}
-use Rattle.css_world.specs.Verdicts.{event_at, printed_for, carried_out, line_meant}
+use Rattle.css_world.specs.Happened.{Numbered}
+use Rattle.css_world.specs.Verdicts.{local_of, IsDeclared, report_at, assigned_at, printed_for, carried_out, line_meant}
 use Rattle.css_world.specs.Printed.{wall_text}
 use Rattle.css_world.specs.Standing.{AreAccepted}
 use Rattle.css_world.specs.Truth.{IsTrueLine}
 use Rattle.css_world.proofs.Truth.{accepted_lines_are_true, accepted_lines_are_world}
-use Rattle.css_world.proofs.Worlds.{carried_ok}
+use Rattle.css_world.proofs.Worlds.{carried_ok, second_ok}
+use Rattle.std.proofs.lemmas.Grind.{common_steps}
 use Rattle.css_replay.specs.declared.reader.Cause.{Cause}
 use Rattle.css_replay.specs.declared.reader.Cause.TheVariants.{Form}
 use Rattle.css_replay.specs.declared.reader.Replay.{Replay}
 use Rattle.css_replay.specs.Replayed.{Extent, Opening, Outset, Running, Unread, after, caused, declared, ended_at}
-use Rattle.css_replay.specs.Replayed.{meant_at, next_companion, next_line, opened, reached, read_meant, replayed}
+use Rattle.css_replay.specs.Replayed.{meant_at, next_companion, opened, reached, read_meant, replayed}
 use Rattle.css_replay.specs.Replayed.{started, with_line}
-use Rattle.css_replay.specs.Headline.{AreKept, IsKept}
-use Rattle.css_replay.specs.Headline.{KeepsLine, KeepsPromise, PromiseKept, Promised, accepted_before}
+use Rattle.css_replay.specs.Headline.{AreKept, IsKept, KeepsLine, KeepsPromise, PromiseKept, Promised, accepted_before}
 use Rattle.css_replay.specs.Stands.{IsWell, Stands}
 use Rattle.css_replay.proofs.Texts.{of-second, on_grown, reached-push, well}
 
@@ -57,15 +55,7 @@ use Rattle.css_replay.proofs.Texts.{of-second, on_grown, reached-push, well}
 -- what is printed for a line that was accepted
 pub printed_is : (header : Header) (older : List Numbered) (now : Numbered) (printed : List ℕ)
     → carried_out header older now ≡ Ok printed → printed ≡ printed_for header older now now.line.verb
-printed_is header older now printed e =
-    by (can_happen header older now.line.who now.line.verb)
-    (played (events_of header older) (event_at header older now.line.who now.line.verb)) e
-  where
-    by : (b : Bool) (r : Result (Unit {0}) WorldFault)
-        → cond b (result_and r (Ok (printed_for header older now now.line.verb))) (Err Absent) ≡ Ok printed
-        → printed ≡ printed_for header older now now.line.verb
-    by true (Ok x) p = cc
-    by _ _ p = absurd (cc)
+printed_is header older now printed e = grind (arith, common_steps, second_ok)
 
 module _ (header : Header) (older : List Numbered) (now : Numbered) (printed : List ℕ) where
   abbrev own : Local
@@ -172,9 +162,9 @@ taken-at number (Opening header count) text sofar printed well taken e = by (nex
     by (Ok companion) e =
         on_grown (λ extent. TakenAt extent (sofar ++ printed)) (with_companion header companion) count
         (λ whole. (tt, nothing taken e)) (λ part. nothing taken e)
-taken-at number (Running header version lines) text sofar printed well taken e = by (next_line header version text) refl e
+taken-at number (Running header version lines) text sofar printed well taken e = by (line_in version (length header.companions) text) refl e
   where
-    by : (read : Result Line LineFault) → next_line header version text ≡ read
+    by : (read : Result Line LineFault) → line_in version (length header.companions) text ≡ read
         → read_meant header lines number read ≡ Ok printed
         → TakenAt (Running header version (with_line number lines read)) (sofar ++ printed)
     by (Err fault) is e = absurd (cc)
@@ -183,7 +173,7 @@ taken-at number (Running header version lines) text sofar printed well taken e =
         let count = length header.companions in
         let ok : line_meant header lines now ≡ Ok printed = caused-ok (line_meant header lines now) printed e in
         let range = line_range (version == 1) count (words_of text) (Ok line) is in
-        let of = of-second version count count line well.fits refl
+        let of = of-second (version == 1) count line well.fits
         (line_is_of (version == 1) count (words_of text) (Ok line) is) in
         let accepted : AreAccepted header (now ∷ lines) = (range, of, well.next, (printed, ok), taken.0) in (
           accepted,

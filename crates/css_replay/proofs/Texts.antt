@@ -24,7 +24,7 @@ use Rattle.css_world.specs.Happened.{Numbered}
 use Rattle.css_world.specs.Standing.{IsNext, World, StandsFor, appended}
 use Rattle.css_world.specs.Verdicts.{line_meant}
 use Rattle.css_replay.specs.Replayed.{Extent, Opening, Outset, Running, Unread, after, declared, next_companion, grown}
-use Rattle.css_replay.specs.Replayed.{next_line, reached, read_from, started, with_line, caused, meant_at}
+use Rattle.css_replay.specs.Replayed.{reached, read_from, started, with_line, caused, meant_at}
 use Rattle.css_replay.specs.Stands.{IsWell, IsWhole, RunsAt, refused_fault, told_of}
 use Rattle.css_lines.specs.Answers.{MayFault, Answers}
 use Rattle.css_num.specs.Gives.{LeavesBy}
@@ -131,7 +131,7 @@ well-after number (Running header version lines) text well = record {
   declared = well.declared;
   known = well.known;
   fits = well.fits;
-  next = next-line number lines (next_line header version text) well.next;
+  next = next-line number lines (line_in version (length header.companions) text) well.next;
 }
 well-after number Unread text well = tt
 
@@ -199,17 +199,13 @@ module _ {world : World} {version companions : ℕ} (texts : List (List ℕ))
       })
 
 -- a line of either version is one of so many companions, or the television's alone
-pub of-second : (version companions count : ℕ) (line : Line) → FitsFirst (version == 1) count → companions ≡ count
-    → IsOf (version == 1) companions line → IsSecond count line
-of-second version companions count line fits same of =
-    subst (λ (n : ℕ). IsSecond n line) same (by (version == 1) (subst (FitsFirst (version == 1)) (sym same) fits) of)
-  where
-    by : (b : Bool) → FitsFirst b companions → IsOf b companions line → IsSecond companions line
-    by true one first =
-        let who = first.who in
-        record {
-          who = omega (arith, one, who);
-          own = λ own. omega (arith, who);
-          none = λ zero. absurd (omega (arith, who, zero));
-        }
-    by false some second = second
+pub of-second : (first : Bool) (count : ℕ) (line : Line) → FitsFirst first count → IsOf first count line
+    → IsSecond count line
+of-second true count line one first =
+    let who = first.who in
+    record {
+      who = omega (arith, one, who);
+      own = λ own. omega (arith, who);
+      none = λ zero. absurd (omega (arith, who, zero));
+    }
+of-second false count line some second = second

@@ -1,5 +1,4 @@
-ghost use Rattle.std.specs.Prelude.{◌≡◌, ◌≤◌, ℕ, length};
-ghost use Rattle.css_schedule.specs.Headers.{max_companions};
+ghost use Rattle.std.specs.Prelude.{◌≡◌, ℕ};
 ghost use Rattle.css_replay.specs.Replayed.{Extent, version_of};
 ghost use Rattle.css_replay.specs.Stands.{IsOpen, IsWell, ReadsOn, stage_of, told_of, unread_fault};
 
@@ -31,6 +30,7 @@ struct Heading {
 
 /// Replays a schedule: carries out its lines, and prints the span of the wall clock, or a companion's report, where a
 /// line asks for it.
+#[derive(Drop)]
 pub struct Replay {
     alloc: Global,
     /// The version of the next line. Line 1 counts as one of version 1.
@@ -43,20 +43,6 @@ pub struct Replay {
     world: Option<World>,
     /// The number of the last line that was taken.
     last: u64,
-}
-
-// By hand: a derived drop is opened at each exit of each caller's proof.
-impl Drop for Replay {
-    fn drop(self) {
-        let Replay {
-            alloc: _,
-            version: _,
-            companions: _,
-            heading: _,
-            world: _,
-            last: _,
-        } = self;
-    }
 }
 
 // What the engine is told of a line that was not read.
@@ -83,14 +69,6 @@ fn told(done: Result<(), WorldFault>) -> Result<(), css_lines::LineFault<Cause>>
     Err(css_lines::LineFault::Refused(cause))
 }
 
-// How many companions a header has.
-fn count(header: &Header) -> u32
-    requires { length header.now.companions ≤ max_companions }
-    ensures { result ≡ length header.now.companions }
-{
-    header.companions.list().len() as u32
-}
-
 // Reads a line of the header: line 1, or that of the next companion.
 fn read_on(alloc: Global, heading: Option<Heading>, text: &[u8]) -> Result<Heading, LineFault>
     requires { (number : ℕ) × (extent : Extent) × IsOpen heading extent × IsWell number extent }
@@ -111,7 +89,7 @@ fn read_on(alloc: Global, heading: Option<Heading>, text: &[u8]) -> Result<Headi
             }),
         };
     };
-    let number = count(&heading.header) + 1;
+    let number = heading.header.companions.list().len() as u32 + 1;
     let companion = read_companion(alloc, text, number)?;
     heading.header.add(companion)?;
     Ok(heading)
