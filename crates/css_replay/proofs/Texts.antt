@@ -1,14 +1,15 @@
 -- How far texts are read, what is known of a schedule as far as it is read, what a line answers, and that what is
 -- printed for texts keeps the promise.
-use Rattle.std.proofs.Common.{◌≡◌, ◌≢◌, ℕ, zero, suc, ◌+◌, ◌-◌, arith, ap, subst, ◌∙◌, Bool, true, false, cond, eqb}
-use Rattle.std.proofs.Common.{refl, List, [], ◌∷◌, ◌++◌, length, ◌==◌, ◌⊎◌, inl, inr, sym}
+use Rattle.std.proofs.Common.{◌≡◌, ◌≢◌, ℕ, zero, suc, ◌+◌, ◌-◌, arith, ap, subst, ◌∙◌, Bool, refl, List, [], ◌∷◌, ◌++◌}
+use Rattle.std.proofs.Common.{length, ◌==◌, ◌⊎◌, inl, inr, sym, rules}
 use Rattle.std.specs.Int.{w8}
 use Rattle.std.specs.Prelude.{ℤ, pos, negsuc, ◌≤ℤ◌, FitsSigned, All, unwrap_or, slice_get, Result, Ok, Err, OnOk}
 use Rattle.std.specs.Prelude.{Option, Some, None}
 use Rattle.std.specs.Option.{option_map}
-use Rattle.std.proofs.lemmas.Bool.{eqb-false, eqb-true}
 use Rattle.std.proofs.lemmas.Int.{ints}
 use Rattle.std.proofs.lemmas.List.{length-append}
+use Rattle.std.proofs.lemmas.Grind.{common_steps}
+use Rattle.std.proofs.lemmas.Bool.Decides.{nat_tests}
 use Rattle.css_model.specs.WallClock.{IsLocal}
 use Rattle.css_schedule.specs.declared.fault.LineFault.{LineFault}
 use Rattle.css_schedule.specs.declared.header.CompanionLine.{CompanionLine}
@@ -28,19 +29,19 @@ use Rattle.css_world.specs.Happened.{Numbered}
 use Rattle.css_world.specs.Standing.{IsNext, World, StandsFor, appended, AreAccepted}
 use Rattle.css_world.specs.Verdicts.{line_meant}
 use Rattle.css_world.specs.declared.fault.WorldFault.{WorldFault}
-use Rattle.css_world.specs.declared.fault.WorldFault.TheVariants.{Memory, Absent}
+use Rattle.css_world.specs.declared.fault.WorldFault.TheVariants.{Memory}
 use Rattle.css_world.proofs.Worlds.{all-head, all-tail}
 use Rattle.css_world.proofs.Truth.{accepted_lines_are_world}
 use Rattle.css_replay.specs.Replayed.{Extent, Opening, Outset, Running, Unread, after, declared, next_companion, grown}
-use Rattle.css_replay.specs.Replayed.{reached, read_from, started, with_line, caused, meant_at, ended_at, opened}
-use Rattle.css_replay.specs.Replayed.{read_meant, replayed}
-use Rattle.css_replay.specs.Stands.{IsWell, IsWhole, RunsAt, refused_fault, told_of, Stands}
+use Rattle.css_replay.specs.Replayed.{reached, read_from, started, with_line, caused, meant_at, ended_at, read_meant}
+use Rattle.css_replay.specs.Replayed.{replayed}
+use Rattle.css_replay.specs.Stands.{IsWell, IsWhole, RunsAt, told_of, Stands}
 use Rattle.css_replay.specs.declared.reader.Cause.{Cause}
 use Rattle.css_replay.specs.declared.reader.Cause.TheVariants.{Form}
 use Rattle.css_replay.specs.declared.reader.Replay.{Replay}
 use Rattle.css_replay.specs.Headline.{AreKept, KeepsPromise, PromiseKept, Promised}
 use Rattle.css_replay.proofs.Promise.{kept_line}
-use Rattle.css_lines.specs.Answers.{MayFault, Answers}
+use Rattle.css_lines.specs.Answers.{Answers}
 use Rattle.css_lines.specs.declared.ending.Stop.{Stop}
 use Rattle.css_lines.specs.declared.reader.Refusal.{Refusal}
 use Rattle.css_lines.specs.declared.reader.Refusal.TheVariants.{Refused}
@@ -72,25 +73,19 @@ reached-push texts text =
 pub on_grown : (P : Extent → Type 0) (header : Header) (count : ℕ)
     → (length header.companions ≡ count → P (Running header 2 []))
     → (length header.companions ≢ count → P (Opening header count)) → P (grown header count)
-on_grown P header count whole part = by (eqb (length header.companions) count) refl
-  where
-    by : (b : Bool) → eqb (length header.companions) count ≡ b
-        → P (cond b (Running header 2 []) (Opening header count))
-    by true e = whole (eqb-true (length header.companions) count e)
-    by false e = part (eqb-false (length header.companions) count e)
+on_grown P header count whole part = grind (arith, nat_tests)
 
 -- a precision exponent in its range is one byte
 fits-exponent : (z : ℤ) → negsuc 127 ≤ℤ z → z ≤ℤ pos 30 → FitsSigned w8 z
-fits-exponent (pos n) low high = record { sfits = omega (arith, ints, high) }
-fits-exponent (negsuc n) low high = record { sfits = omega (arith, ints, low) }
+fits-exponent z low high = search (rules, ints)
 
 -- each companion's clock is in range, and so is that of a number that no companion has
 local-good : (list : List CompanionLine) (place : ℕ) → All IsPrintableCompanion list
     → IsLocal (unwrap_or (option_map (λ companion. companion.local) (slice_get list place))
     (record { error = 0; precision = 0 }))
-local-good [] place all = record { error = omega arith; precision = omega arith }
-local-good (companion ∷ list) zero all = (all-head IsPrintableCompanion companion list all).local
-local-good (companion ∷ list) (suc place) all = local-good list place (all-tail IsPrintableCompanion companion list all)
+local-good [] place all = search rules
+local-good (companion ∷ list) zero all = search (rules, all-head)
+local-good (companion ∷ list) (suc place) all = search (rules, local-good list place, all-tail)
 
 -- a good header is whole
 header-whole : (number version : ℕ) (header : Header) → IsGoodHeader header → IsCount (length header.companions)
@@ -110,9 +105,7 @@ header-whole number version header good count known fits = record {
 -- the number after a line is next
 next-line : (number : ℕ) (older : List Numbered) (line : Result Line LineFault) → IsNext number older
     → IsNext (suc number) (with_line number older line)
-next-line number older (Ok line) next = omega arith
-next-line number [] (Err fault) next = tt
-next-line number (last ∷ older) (Err fault) next = omega (arith, next)
+next-line number older line next = grind (arith, common_steps)
 
 -- with one text more
 pub well-after : (number : ℕ) (extent : Extent) (text : List ℕ) → IsWell number extent
@@ -167,25 +160,16 @@ pub well : (texts : List (List ℕ)) → IsWell (length texts + 1) (reached text
 well texts = let same : length texts + 1 ≡ 1 + length texts = omega arith in rw same (well-from 1 Outset texts tt)
 
 -- ---- what is answered
--- a fault is the meant one, or want of memory
-faulted : (meant : Result (List ℕ) WorldFault) (old : List ℕ) (fault : WorldFault)
-    → (appended old meant ≡ Err fault) ⊎ (fault ≡ Memory) → MayFault (caused meant) (refused_fault fault)
-faulted meant old Memory h = tt
-faulted (Ok printed) old fault (inl e) = absurd (cc)
-faulted (Err other) old fault (inl e) = let same : other ≡ fault = cc in ap (λ (f : WorldFault). caused (Err f)) same
-faulted meant old fault (inr e) = absurd (cc)
-
 -- a line that was carried out, or was not, answers what is meant
 answered : (meant : Result (List ℕ) WorldFault) (old new : List ℕ) (result : Result (Unit {0}) WorldFault)
     → LeavesBy Memory result old new (appended old meant) → Answers (caused meant) old new (told_of result)
 answered (Ok printed) old new (Ok done) e = record { cases = (printed, refl, cc) }
-answered (Err fault) old new (Ok done) e = absurd (cc)
-answered meant old new (Err fault) e = record { cases = (faulted meant old fault e.1, e.0) }
+answered meant old new (Err Memory) e = record { cases = (tt, e.0) }
+answered meant old new result e = search (rules, common_steps)
 
 -- what holds of a line that was carried out holds of what is told of it
 pub on_carried : {P : Type 0} (result : Result (Unit {0}) WorldFault) → (result ≡ Ok tt → P) → OnOk (told_of result) P
-on_carried (Ok tt) p = p refl
-on_carried (Err fault) p = tt
+on_carried result p = grind (arith, common_steps)
 
 -- ---- the line after these texts
 module _ {world : World} {version companions : ℕ} (texts : List (List ℕ))
@@ -220,14 +204,7 @@ module _ {world : World} {version companions : ℕ} (texts : List (List ℕ))
 -- a line of either version is one of so many companions, or the television's alone
 pub of-second : (first : Bool) (count : ℕ) (line : Line) → FitsFirst first count → IsOf first count line
     → IsSecond count line
-of-second true count line one first =
-    let who = first.who in
-    record {
-      who = omega (arith, one, who);
-      own = λ own. omega (arith, who);
-      none = λ zero. absurd (omega (arith, who, zero));
-    }
-of-second false count line some second = second
+of-second first count line fits of = grind (arith, common_steps)
 
 -- ---- the texts that were taken
 -- A schedule was read so far, and this was printed. After its header the lines are accepted, and what was printed keeps
@@ -242,31 +219,13 @@ TakenAll texts printed = TakenAt (reached texts) printed
 
 -- what is printed is what the world printed
 caused-ok : (meant : Result (List ℕ) WorldFault) (printed : List ℕ) → caused meant ≡ Ok printed → meant ≡ Ok printed
-caused-ok (Ok p) printed e = cc
-caused-ok (Err Absent) printed e = absurd (cc)
-caused-ok (Err fault) printed e = absurd (cc)
-
--- nothing is printed for a line of the header
-nothing : {sofar printed : List ℕ} → sofar ≡ [] → caused (Ok []) ≡ Ok printed → sofar ++ printed ≡ []
-nothing none e = rw none (cc)
+caused-ok meant printed e = grind (arith, common_steps)
 
 -- one text more
 taken-at : (number : ℕ) (extent : Extent) (text sofar printed : List ℕ) → IsWell number extent → TakenAt extent sofar
     → meant_at number extent text ≡ Ok printed → TakenAt (after number extent text) (sofar ++ printed)
-taken-at number Outset text sofar printed well taken e = by (header_of text) e
-  where
-    by : (start : Result Start LineFault) → opened start ≡ Ok printed → TakenAt (started start) (sofar ++ printed)
-    by (Err fault) e = absurd (cc)
-    by (Ok (One header)) e = (tt, nothing taken e)
-    by (Ok (Two header count)) e = nothing taken e
-taken-at number (Opening header count) text sofar printed well taken e = by (next_companion header text) e
-  where
-    by : (read : Result CompanionLine LineFault) → opened read ≡ Ok printed
-        → TakenAt (declared header count read) (sofar ++ printed)
-    by (Err fault) e = absurd (cc)
-    by (Ok companion) e =
-        on_grown (λ extent. TakenAt extent (sofar ++ printed)) (with_companion header companion) count
-        (λ whole. (tt, nothing taken e)) (λ part. nothing taken e)
+taken-at number Outset text sofar printed well taken e = grind (arith, common_steps)
+taken-at number (Opening header count) text sofar printed well taken e = grind (arith, common_steps)
 taken-at number (Running header version lines) text sofar printed well taken e = by (line_in version (length header.companions) text) refl e
   where
     by : (read : Result Line LineFault) → line_in version (length header.companions) text ≡ read
