@@ -98,11 +98,8 @@ fn closed_line(alloc: Global, session: Session) -> Result<Text, Memory>
 impl<K: Sink> Recorder<'_, K> {
     /// Writes these lines, after that of a sleep where one was told.
     fn write(&mut self, slept: bool, lines: Result<Text, Memory>)
-        ensures one { (from : Standpoint) → (note : Note) → IfOk lines (λ text. text ≡ text_of (note ∷ []))
-            → Sees (Saw K.holds K.faults) over self.old self.new (note ∷ slept_notes from slept) }
-        ensures two { (from : Standpoint) → (newer : Note) → (older : Note)
-            → IfOk lines (λ text. text ≡ text_of (newer ∷ older ∷ []))
-            → Sees (Saw K.holds K.faults) over self.old self.new (newer ∷ older ∷ slept_notes from slept) }
+        ensures { (from : Standpoint) → (newest : List Note) → IfOk lines (λ text. text ≡ text_of newest)
+            → Sees (Saw K.holds K.faults) over self.old self.new (newest ++ slept_notes from slept) }
     {
         self.written = put(self.sink, after_sleep(self.alloc, slept, lines));
     }

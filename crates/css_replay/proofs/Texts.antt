@@ -1,13 +1,15 @@
--- How far texts are read, what is known of a schedule as far as it is read, and what a line answers.
-use Rattle.std.proofs.Common.{◌≡◌, ◌≢◌, ℕ, zero, suc, ◌+◌, ◌-◌, arith, ap, subst, ◌∙◌, Bool, true, false, cond, eqb, refl}
-use Rattle.std.proofs.Common.{List, [], ◌∷◌, ◌++◌, length, ◌==◌, ◌⊎◌, inl, inr, sym}
+-- How far texts are read, what is known of a schedule as far as it is read, what a line answers, and that what is
+-- printed for texts keeps the promise.
+use Rattle.std.proofs.Common.{◌≡◌, ◌≢◌, ℕ, zero, suc, ◌+◌, ◌-◌, arith, ap, subst, ◌∙◌, Bool, refl, List, [], ◌∷◌, ◌++◌}
+use Rattle.std.proofs.Common.{length, ◌==◌, ◌⊎◌, inl, inr, sym, rules}
 use Rattle.std.specs.Int.{w8}
-use Rattle.std.specs.Prelude.{ℤ, pos, negsuc, ◌≤ℤ◌, FitsSigned, All, unwrap_or, slice_get, Result}
-use Rattle.std.specs.Prelude.{Ok, Err, OnOk}
+use Rattle.std.specs.Prelude.{ℤ, pos, negsuc, ◌≤ℤ◌, FitsSigned, All, unwrap_or, slice_get, Result, Ok, Err, OnOk}
+use Rattle.std.specs.Prelude.{Option, Some, None}
 use Rattle.std.specs.Option.{option_map}
-use Rattle.std.proofs.lemmas.Bool.{eqb-false, eqb-true}
 use Rattle.std.proofs.lemmas.Int.{ints}
 use Rattle.std.proofs.lemmas.List.{length-append}
+use Rattle.std.proofs.lemmas.Grind.{common_steps}
+use Rattle.std.proofs.lemmas.Bool.Decides.{nat_tests}
 use Rattle.css_model.specs.WallClock.{IsLocal}
 use Rattle.css_schedule.specs.declared.fault.LineFault.{LineFault}
 use Rattle.css_schedule.specs.declared.header.CompanionLine.{CompanionLine}
@@ -20,18 +22,36 @@ use Rattle.css_schedule.specs.Ranges.{IsCount, IsGoodHeader, IsPrintableCompanio
 use Rattle.css_schedule.specs.Ranges.{IsVersion}
 use Rattle.css_schedule.proofs.Adding.{more_companions}
 use Rattle.css_schedule.proofs.HeadersInRange.{start_in_range, companion_in_range}
-use Rattle.css_world.specs.Happened.{Numbered}
-use Rattle.css_world.specs.Standing.{IsNext, World, StandsFor, appended}
-use Rattle.css_world.specs.Verdicts.{line_meant}
-use Rattle.css_replay.specs.Replayed.{Extent, Opening, Outset, Running, Unread, after, declared, next_companion, grown}
-use Rattle.css_replay.specs.Replayed.{next_line, reached, read_from, started, with_line, caused, meant_at}
-use Rattle.css_replay.specs.Stands.{IsWell, IsWhole, RunsAt, refused_fault, told_of}
-use Rattle.css_lines.specs.Answers.{MayFault, Answers}
-use Rattle.css_num.specs.Gives.{LeavesBy}
 use Rattle.css_schedule.specs.Lines.{line_in}
+use Rattle.css_schedule.specs.Words.{words_of}
+use Rattle.css_schedule.proofs.InRange.{line_range, line_is_of}
+use Rattle.css_world.specs.Happened.{Numbered}
+use Rattle.css_world.specs.Standing.{IsNext, World, StandsFor, appended, AreAccepted}
+use Rattle.css_world.specs.Verdicts.{line_meant}
 use Rattle.css_world.specs.declared.fault.WorldFault.{WorldFault}
 use Rattle.css_world.specs.declared.fault.WorldFault.TheVariants.{Memory}
 use Rattle.css_world.proofs.Worlds.{all-head, all-tail}
+use Rattle.css_world.proofs.Truth.{accepted_lines_are_world}
+use Rattle.css_replay.specs.Replayed.{Extent, Opening, Outset, Running, Unread, after, declared, next_companion, grown}
+use Rattle.css_replay.specs.Replayed.{reached, read_from, started, with_line, caused, meant_at, ended_at, read_meant}
+use Rattle.css_replay.specs.Replayed.{replayed}
+use Rattle.css_replay.specs.Stands.{IsWell, IsWhole, RunsAt, told_of, Stands}
+use Rattle.css_replay.specs.declared.reader.Cause.{Cause}
+use Rattle.css_replay.specs.declared.reader.Cause.TheVariants.{Form}
+use Rattle.css_replay.specs.declared.reader.Replay.{Replay}
+use Rattle.css_replay.specs.Headline.{AreKept, KeepsPromise, PromiseKept, Promised}
+use Rattle.css_replay.proofs.Promise.{kept_line}
+use Rattle.css_lines.specs.Answers.{Answers}
+use Rattle.css_lines.specs.declared.ending.Stop.{Stop}
+use Rattle.css_lines.specs.declared.reader.Refusal.{Refusal}
+use Rattle.css_lines.specs.declared.reader.Refusal.TheVariants.{Refused}
+use Rattle.css_lines.specs.Ending.{Finishes, Stops}
+use Rattle.css_lines.specs.Lines.{lines_of}
+use Rattle.css_lines.specs.Meaning.{finish_outcome, reader_outcome, outcome, outcome_so_far}
+use Rattle.css_lines.proofs.Meant.{prefix_refl, prefix_trans}
+use Rattle.css_lines.proofs.Induction.{keeps_done, keeps_stop, taken_so_far, taken_in_all}
+use Rattle.css_num.specs.Gives.{LeavesBy}
+use Rattle.css_outside.specs.Bytes.{IsPrefix}
 
 -- a text more is read after those before it
 read_from-push : (number : ℕ) (extent : Extent) (texts : List (List ℕ)) (text : List ℕ)
@@ -53,25 +73,19 @@ reached-push texts text =
 pub on_grown : (P : Extent → Type 0) (header : Header) (count : ℕ)
     → (length header.companions ≡ count → P (Running header 2 []))
     → (length header.companions ≢ count → P (Opening header count)) → P (grown header count)
-on_grown P header count whole part = by (eqb (length header.companions) count) refl
-  where
-    by : (b : Bool) → eqb (length header.companions) count ≡ b
-        → P (cond b (Running header 2 []) (Opening header count))
-    by true e = whole (eqb-true (length header.companions) count e)
-    by false e = part (eqb-false (length header.companions) count e)
+on_grown P header count whole part = grind (arith, nat_tests)
 
 -- a precision exponent in its range is one byte
 fits-exponent : (z : ℤ) → negsuc 127 ≤ℤ z → z ≤ℤ pos 30 → FitsSigned w8 z
-fits-exponent (pos n) low high = record { sfits = omega (arith, ints, high) }
-fits-exponent (negsuc n) low high = record { sfits = omega (arith, ints, low) }
+fits-exponent z low high = search (rules, ints)
 
 -- each companion's clock is in range, and so is that of a number that no companion has
 local-good : (list : List CompanionLine) (place : ℕ) → All IsPrintableCompanion list
     → IsLocal (unwrap_or (option_map (λ companion. companion.local) (slice_get list place))
     (record { error = 0; precision = 0 }))
-local-good [] place all = record { error = omega arith; precision = omega arith }
-local-good (companion ∷ list) zero all = (all-head IsPrintableCompanion companion list all).local
-local-good (companion ∷ list) (suc place) all = local-good list place (all-tail IsPrintableCompanion companion list all)
+local-good [] place all = search rules
+local-good (companion ∷ list) zero all = search (rules, all-head)
+local-good (companion ∷ list) (suc place) all = search (rules, local-good list place, all-tail)
 
 -- a good header is whole
 header-whole : (number version : ℕ) (header : Header) → IsGoodHeader header → IsCount (length header.companions)
@@ -91,9 +105,7 @@ header-whole number version header good count known fits = record {
 -- the number after a line is next
 next-line : (number : ℕ) (older : List Numbered) (line : Result Line LineFault) → IsNext number older
     → IsNext (suc number) (with_line number older line)
-next-line number older (Ok line) next = omega arith
-next-line number [] (Err fault) next = tt
-next-line number (last ∷ older) (Err fault) next = omega (arith, next)
+next-line number older line next = grind (arith, common_steps)
 
 -- with one text more
 pub well-after : (number : ℕ) (extent : Extent) (text : List ℕ) → IsWell number extent
@@ -131,7 +143,7 @@ well-after number (Running header version lines) text well = record {
   declared = well.declared;
   known = well.known;
   fits = well.fits;
-  next = next-line number lines (next_line header version text) well.next;
+  next = next-line number lines (line_in version (length header.companions) text) well.next;
 }
 well-after number Unread text well = tt
 
@@ -148,25 +160,16 @@ pub well : (texts : List (List ℕ)) → IsWell (length texts + 1) (reached text
 well texts = let same : length texts + 1 ≡ 1 + length texts = omega arith in rw same (well-from 1 Outset texts tt)
 
 -- ---- what is answered
--- a fault is the meant one, or want of memory
-faulted : (meant : Result (List ℕ) WorldFault) (old : List ℕ) (fault : WorldFault)
-    → (appended old meant ≡ Err fault) ⊎ (fault ≡ Memory) → MayFault (caused meant) (refused_fault fault)
-faulted meant old Memory h = tt
-faulted (Ok printed) old fault (inl e) = absurd (cc)
-faulted (Err other) old fault (inl e) = let same : other ≡ fault = cc in ap (λ (f : WorldFault). caused (Err f)) same
-faulted meant old fault (inr e) = absurd (cc)
-
 -- a line that was carried out, or was not, answers what is meant
 answered : (meant : Result (List ℕ) WorldFault) (old new : List ℕ) (result : Result (Unit {0}) WorldFault)
     → LeavesBy Memory result old new (appended old meant) → Answers (caused meant) old new (told_of result)
 answered (Ok printed) old new (Ok done) e = record { cases = (printed, refl, cc) }
-answered (Err fault) old new (Ok done) e = absurd (cc)
-answered meant old new (Err fault) e = record { cases = (faulted meant old fault e.1, e.0) }
+answered meant old new (Err Memory) e = record { cases = (tt, e.0) }
+answered meant old new result e = search (rules, common_steps)
 
 -- what holds of a line that was carried out holds of what is told of it
 pub on_carried : {P : Type 0} (result : Result (Unit {0}) WorldFault) → (result ≡ Ok tt → P) → OnOk (told_of result) P
-on_carried (Ok tt) p = p refl
-on_carried (Err fault) p = tt
+on_carried result p = grind (arith, common_steps)
 
 -- ---- the line after these texts
 module _ {world : World} {version companions : ℕ} (texts : List (List ℕ))
@@ -199,17 +202,128 @@ module _ {world : World} {version companions : ℕ} (texts : List (List ℕ))
       })
 
 -- a line of either version is one of so many companions, or the television's alone
-pub of-second : (version companions count : ℕ) (line : Line) → FitsFirst (version == 1) count → companions ≡ count
-    → IsOf (version == 1) companions line → IsSecond count line
-of-second version companions count line fits same of =
-    subst (λ (n : ℕ). IsSecond n line) same (by (version == 1) (subst (FitsFirst (version == 1)) (sym same) fits) of)
+pub of-second : (first : Bool) (count : ℕ) (line : Line) → FitsFirst first count → IsOf first count line
+    → IsSecond count line
+of-second first count line fits of = grind (arith, common_steps)
+
+-- ---- the texts that were taken
+-- A schedule was read so far, and this was printed. After its header the lines are accepted, and what was printed keeps
+-- the promise.
+abbrev TakenAt : Extent → List ℕ → Type 0
+TakenAt (Running header version lines) printed = AreAccepted header lines × AreKept header lines printed
+TakenAt Unread printed = ⊥
+TakenAt _ printed = printed ≡ []
+
+abbrev TakenAll : List (List ℕ) → List ℕ → Type 0
+TakenAll texts printed = TakenAt (reached texts) printed
+
+-- what is printed is what the world printed
+caused-ok : (meant : Result (List ℕ) WorldFault) (printed : List ℕ) → caused meant ≡ Ok printed → meant ≡ Ok printed
+caused-ok meant printed e = grind (arith, common_steps)
+
+-- one text more
+taken-at : (number : ℕ) (extent : Extent) (text sofar printed : List ℕ) → IsWell number extent → TakenAt extent sofar
+    → meant_at number extent text ≡ Ok printed → TakenAt (after number extent text) (sofar ++ printed)
+taken-at number Outset text sofar printed well taken e = grind (arith, common_steps)
+taken-at number (Opening header count) text sofar printed well taken e = grind (arith, common_steps)
+taken-at number (Running header version lines) text sofar printed well taken e = by (line_in version (length header.companions) text) refl e
   where
-    by : (b : Bool) → FitsFirst b companions → IsOf b companions line → IsSecond companions line
-    by true one first =
-        let who = first.who in
-        record {
-          who = omega (arith, one, who);
-          own = λ own. omega (arith, who);
-          none = λ zero. absurd (omega (arith, who, zero));
-        }
-    by false some second = second
+    by : (read : Result Line LineFault) → line_in version (length header.companions) text ≡ read
+        → read_meant header lines number read ≡ Ok printed
+        → TakenAt (Running header version (with_line number lines read)) (sofar ++ printed)
+    by (Err fault) is e = absurd (cc)
+    by (Ok line) is e =
+        let now : Numbered = record { number = number; line = line } in
+        let count = length header.companions in
+        let ok : line_meant header lines now ≡ Ok printed = caused-ok (line_meant header lines now) printed e in
+        let range = line_range (version == 1) count (words_of text) (Ok line) is in
+        let of = of-second (version == 1) count line well.fits
+        (line_is_of (version == 1) count (words_of text) (Ok line) is) in
+        let accepted : AreAccepted header (now ∷ lines) = (range, of, well.next, (printed, ok), taken.0) in (
+          accepted,
+          (sofar, printed, refl, kept_line header lines now printed well.declared accepted ok, taken.1),
+        )
+taken-at number Unread text sofar printed well taken e = absurd taken
+
+taken_text : (before : List (List ℕ)) (text sofar printed : List ℕ) → TakenAll before sofar
+    → meant_at (length before + 1) (reached before) text ≡ Ok printed
+    → TakenAll (before ++ text ∷ []) (sofar ++ printed)
+taken_text before text sofar printed taken e =
+    rw (reached-push before text)
+    (taken-at (length before + 1) (reached before) text sofar printed (well before) taken e)
+
+-- ---- the whole input
+-- nothing is printed at the end, whatever comes of it
+finishes : (before : List (List ℕ)) → (verdict : Option (ℕ × Refusal Cause))
+    × (finish_outcome replayed before ≡ record { printed = []; verdict = verdict })
+finishes before = by (reached before)
+  where
+    number : ℕ
+    number = length before + 1
+
+    by : (extent : Extent) → (verdict : Option (ℕ × Refusal Cause))
+        × (reader_outcome number (ended_at extent) ≡ record { printed = []; verdict = verdict })
+    by (Running header version lines) = (None, refl)
+    by _ = (Some (number, Refused Form), refl)
+
+-- what was taken keeps the promise
+promise_of : (bytes : List ℕ) (texts rest : List (List ℕ)) (printed : List ℕ) → lines_of bytes ≡ texts ++ rest
+    → TakenAll texts printed → KeepsPromise bytes printed
+promise_of bytes texts rest printed parts taken =
+    (printed, prefix_refl printed, by (reached texts) refl (well texts) taken)
+  where
+    by : (extent : Extent) → reached texts ≡ extent → IsWell (length texts + 1) extent → TakenAt extent printed
+        → (printed ≡ []) ⊎ PromiseKept bytes printed
+    by (Running header version lines) is well t = inr (record {
+      texts = texts;
+      rest = rest;
+      are_lines = parts;
+      header = header;
+      version = version;
+      lines = lines;
+      is_read = is;
+      world = accepted_lines_are_world header lines well.declared t.0;
+      kept = t.1;
+    })
+    by Unread is well t = absurd t
+    by _ is well t = inl t
+
+-- what is printed for whole lines keeps the promise
+so_far : (bytes : List ℕ) → KeepsPromise bytes (outcome_so_far replayed bytes).printed
+so_far bytes =
+    let of = taken_so_far replayed TakenAll taken_text finishes refl bytes in
+    promise_of bytes of.texts of.rest _ of.parts of.taken
+
+-- so does what is printed for the whole input
+in_all : (bytes : List ℕ) → KeepsPromise bytes (outcome replayed bytes).printed
+in_all bytes =
+    let of = taken_in_all replayed TakenAll taken_text finishes refl bytes in
+    promise_of bytes of.texts of.rest _ of.parts of.taken
+
+-- a front part keeps it too
+front_keeps : (bytes front whole : List ℕ) → IsPrefix front whole → KeepsPromise bytes whole → KeepsPromise bytes front
+front_keeps bytes front whole prefix keeps = (keeps.0, prefix_trans front whole keeps.0 prefix keeps.1, keeps.2)
+
+-- ---- runs
+-- what a run adds to the sink keeps the promise of the bytes that it read
+pub promised_done : {left_old left_new holds_old holds_new : Option (List ℕ)} {lines : Replay}
+    → Finishes replayed Stands left_old left_new holds_old holds_new lines
+    → Promised left_old left_new holds_old holds_new
+promised_done f = record {
+  read = f.read;
+  printed = f.printed;
+  took = f.took;
+  grew = f.grew;
+  keeps = keeps_done replayed KeepsPromise so_far in_all front_keeps f.read f.printed f.all;
+}
+
+-- also where it stopped
+pub promised_stop : {left_old left_new holds_old holds_new : Option (List ℕ)} (stop : Stop Cause)
+    → Stops replayed left_old left_new holds_old holds_new stop → Promised left_old left_new holds_old holds_new
+promised_stop {left_new = left_new} stop s = record {
+  read = s.read;
+  printed = s.printed;
+  took = s.took;
+  grew = s.grew;
+  keeps = keeps_stop replayed KeepsPromise so_far in_all front_keeps s.read s.printed left_new stop s.ends;
+}

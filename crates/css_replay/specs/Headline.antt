@@ -14,7 +14,6 @@ use Rattle.css_companion.specs.Meanings.{timing_after}
 use Rattle.css_companion.specs.Printed.{line_of}
 use Rattle.css_companion.specs.Reports.{report_by}
 use Rattle.css_companion.specs.declared.report.Cause.{Cause}
-use Rattle.css_companion.specs.declared.report.Report.{Report}
 use Rattle.css_companion.specs.declared.report.Report.TheVariants as report
 use Rattle.css_world.specs.Sessions.{setup_of}
 use Rattle.css_world.specs.Happened.{Numbered, history_of}
@@ -44,16 +43,9 @@ pub record IsCause (header : Header) (older : List Numbered) (now : Numbered) (p
   pub lacking : accepted_before header older now ≡ []
   pub is_printed : printed ≡ no_answer_line now.number
 
--- The report that comes from a response: the ticks at the two ends of its span, by the last control timestamp received,
--- or the first cause that there are none.
-abbrev pub report_from : Header → List Numbered → Numbered → ℕ → Answer → Report
-report_from header older now reading response =
-    report_by (Some (span_of (local_of now.line.who header) reading response))
-    (timing_after (setup_of now.line.who header).selector (history_of now.line.who header older))
-
--- The ticks that are printed come from the narrowest accepted response. They contain the position that the last control
--- timestamp received assigns to the value that the line gives the television's wall clock, which is printed beside
--- them.
+-- The ticks that are printed come from the narrowest accepted response: they are those at the two ends of its span, by
+-- the last control timestamp received. They contain the position that this timestamp assigns to the value that the line
+-- gives the television's wall clock, which is printed beside them.
 pub record AreTrueTicks (header : Header) (older : List Numbered) (now : Numbered) (reading : ℕ) (printed : List ℕ)
     : Type 0 where
   pub response : Answer
@@ -62,7 +54,9 @@ pub record AreTrueTicks (header : Header) (older : List Numbered) (now : Numbere
   pub low : ℤ
   pub high : ℤ
   pub position : ℤ
-  pub ticks : report_from header older now reading response ≡ report.Ticks low high
+  pub ticks : report_by (Some (span_of (local_of now.line.who header) reading response))
+      (timing_after (setup_of now.line.who header).selector (history_of now.line.who header older))
+      ≡ report.Ticks low high
   pub assigned : assigned_at now.line.who header older now.line.w ≡ Some position
   pub not_below : low ≤ℤ position
   pub not_above : position ≤ℤ high

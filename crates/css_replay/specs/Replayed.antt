@@ -44,10 +44,6 @@ declared header count (Err fault) = Unread
 abbrev pub next_companion : Header → List ℕ → Result CompanionLine LineFault
 next_companion header text = companion_of (length header.companions + 1) text
 
--- the line that a text is after a header of a version
-abbrev pub next_line : Header → ℕ → List ℕ → Result Line LineFault
-next_line header version text = line_in version (length header.companions) text
-
 -- lines, the newest first, with one more of that number, if it was read
 abbrev pub with_line : ℕ → List Numbered → Result Line LineFault → List Numbered
 with_line number older (Ok line) = record { number = number; line = line } ∷ older
@@ -58,7 +54,7 @@ abbrev pub after : ℕ → Extent → List ℕ → Extent
 after number Outset text = started (header_of text)
 after number (Opening header count) text = declared header count (next_companion header text)
 after number (Running header version lines) text =
-    Running header version (with_line number lines (next_line header version text))
+    Running header version (with_line number lines (line_in version (length header.companions) text))
 after number Unread text = Unread
 
 -- texts were read, the first of which is the line of that number
@@ -93,7 +89,8 @@ opened (Err fault) = Err Form
 abbrev pub meant_at : ℕ → Extent → List ℕ → Result (List ℕ) Cause
 meant_at number Outset text = opened (header_of text)
 meant_at number (Opening header count) text = opened (next_companion header text)
-meant_at number (Running header version lines) text = read_meant header lines number (next_line header version text)
+meant_at number (Running header version lines) text =
+    read_meant header lines number (line_in version (length header.companions) text)
 meant_at number Unread text = Err Form
 
 -- an input that ends before its header is whole is refused

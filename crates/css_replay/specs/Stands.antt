@@ -92,15 +92,8 @@ pub record Stands (replay : Replay) (texts : List (List ℕ)) : Type 0 where
   pub at : StandsAt replay (reached texts)
 
 -- ---- calls
--- one text more of the header was read, or it was told why it is none
-abbrev pub Opens : {T : Type 0} → Extent → List ℕ → Result T LineFault → (Extent → T → Type 0) → Type 0
-Opens extent text result P = (number : ℕ) → MatchResult result
+-- one text more of the header was read, and this holds of how far that is, or it was told why it is none
+abbrev pub ReadsOn : {T : Type 0} → Extent → List ℕ → Result T LineFault → (Extent → T → Type 0) → Type 0
+ReadsOn extent text result P = (number : ℕ) → MatchResult result
     (λ value. (meant_at number extent text ≡ Ok []) × P (after number extent text) value)
     (λ fault. MayFault (meant_at number extent text) (unread_fault fault))
-
-abbrev pub GoesOn : Extent → List ℕ → Result Heading LineFault → Type 0
-GoesOn extent text result =
-    Opens extent text result (λ next heading. (next ≡ stage_of heading) × (heading.version ≡ version_of next))
-
-abbrev pub ReadsOn : Replay → Extent → List ℕ → Result (Unit {0}) LineFault → Type 0
-ReadsOn replay extent text result = Opens extent text result (λ next done. StandsAt replay next)

@@ -1,7 +1,6 @@
-ghost use Rattle.std.specs.Prelude.{◌≡◌, ◌≤◌, ℕ, length};
-ghost use Rattle.css_schedule.specs.Headers.{max_companions};
-ghost use Rattle.css_replay.specs.Replayed.{Extent};
-ghost use Rattle.css_replay.specs.Stands.{GoesOn, IsOpen, IsWell, told_of, unread_fault};
+ghost use Rattle.std.specs.Prelude.{◌≡◌, ℕ};
+ghost use Rattle.css_replay.specs.Replayed.{Extent, version_of};
+ghost use Rattle.css_replay.specs.Stands.{IsOpen, IsWell, ReadsOn, stage_of, told_of, unread_fault};
 
 use css_lines::Lines;
 use css_schedule::{Header, LineFault, PlayerFault, Start, read_companion, read_header, read_line};
@@ -31,6 +30,7 @@ struct Heading {
 
 /// Replays a schedule: carries out its lines, and prints the span of the wall clock, or a companion's report, where a
 /// line asks for it.
+#[derive(Drop)]
 pub struct Replay {
     alloc: Global,
     /// The version of the next line. Line 1 counts as one of version 1.
@@ -43,20 +43,6 @@ pub struct Replay {
     world: Option<World>,
     /// The number of the last line that was taken.
     last: u64,
-}
-
-// By hand: a derived drop is opened at each exit of each caller's proof.
-impl Drop for Replay {
-    fn drop(self) {
-        let Replay {
-            alloc: _,
-            version: _,
-            companions: _,
-            heading: _,
-            world: _,
-            last: _,
-        } = self;
-    }
 }
 
 // What the engine is told of a line that was not read.
@@ -83,18 +69,11 @@ fn told(done: Result<(), WorldFault>) -> Result<(), css_lines::LineFault<Cause>>
     Err(css_lines::LineFault::Refused(cause))
 }
 
-// How many companions a header has.
-fn count(header: &Header) -> u32
-    requires { length header.now.companions ≤ max_companions }
-    ensures { result ≡ length header.now.companions }
-{
-    header.companions.list().len() as u32
-}
-
 // Reads a line of the header: line 1, or that of the next companion.
 fn read_on(alloc: Global, heading: Option<Heading>, text: &[u8]) -> Result<Heading, LineFault>
     requires { (number : ℕ) × (extent : Extent) × IsOpen heading extent × IsWell number extent }
-    ensures { (extent : Extent) → IsOpen heading extent → GoesOn extent text.now result }
+    ensures { (extent : Extent) → IsOpen heading extent → ReadsOn extent text.now result
+        (λ next heading. (next ≡ stage_of heading) × (heading.version ≡ version_of next)) }
 {
     let Some(mut heading) = heading else {
         return match read_header(alloc, text)? {
@@ -110,7 +89,7 @@ fn read_on(alloc: Global, heading: Option<Heading>, text: &[u8]) -> Result<Headi
             }),
         };
     };
-    let number = count(&heading.header) + 1;
+    let number = heading.header.companions.list().len() as u32 + 1;
     let companion = read_companion(alloc, text, number)?;
     heading.header.add(companion)?;
     Ok(heading)
@@ -119,7 +98,7 @@ fn read_on(alloc: Global, heading: Option<Heading>, text: &[u8]) -> Result<Headi
 impl Replay {
     ghost use Rattle.std.specs.Prelude.{◌≡◌, ℕ, [], None};
     ghost use Rattle.css_replay.specs.Replayed.{Extent};
-    ghost use Rattle.css_replay.specs.Stands.{IsOpen, IsWell, ReadsOn, Stands};
+    ghost use Rattle.css_replay.specs.Stands.{IsOpen, IsWell, ReadsOn, Stands, StandsAt};
 
     /// No line was taken yet.
     pub fn new(alloc: Global) -> Replay
@@ -143,7 +122,7 @@ impl Replay {
         requires well { (number : ℕ) × (extent : Extent) × IsOpen self.old.heading extent × IsWell number extent }
         requires none { self.old.world ≡ None }
         ensures reads { (extent : Extent) → IsOpen self.old.heading extent
-            → ReadsOn self.new extent text.now result }
+            → ReadsOn extent text.now result (λ next done. StandsAt self.new next) }
         ensures last { self.new.last ≡ self.old.last }
     {
         let heading = read_on(self.alloc, self.heading.take(), text)?;
@@ -159,7 +138,6 @@ impl Replay {
 }
 
 impl Lines for Replay {
-    ghost use Rattle.std.specs.Prelude.{◌≡◌, ◌+◌, ◌^◌, ◌≤◌, [], ◌∷◌, ◌++◌, List, ℕ, length, OnOk};
     ghost use Rattle.css_replay.specs.Replayed.{replayed};
     ghost use Rattle.css_replay.specs.Stands.{Stands};
 

@@ -10,32 +10,27 @@ use css_outside::{Sink, Source};
 use css_schedule::LineWhy;
 use std::alloc::Global;
 
-// The status of a replay that refused a line.
-fn refused(line: u64, why: Refusal<Cause>) -> Status
-    ensures { result ≡ replay_refused line why }
-{
-    let why = match why {
-        Refusal::Long => LineWhy::Long,
-        Refusal::Refused(Cause::Form) => LineWhy::Form,
-        Refusal::Refused(Cause::Absent) => LineWhy::Absent,
-        Refusal::Refused(Cause::Player(fault)) => LineWhy::Player(fault),
-        Refusal::Refused(Cause::Broken { earlier, excess }) => {
-            return Status::Broken {
-                line,
-                earlier,
-                excess,
-            };
-        }
-    };
-    Status::BadLine { line, why }
-}
-
 // The status of a replay that stopped.
 fn status_of(stop: Stop<Cause>) -> Status
     ensures { result ≡ stop_status replay_refused stop }
 {
     match stop {
-        Stop::BadLine { line, why } => refused(line, why),
+        Stop::BadLine { line, why } => {
+            let why = match why {
+                Refusal::Long => LineWhy::Long,
+                Refusal::Refused(Cause::Form) => LineWhy::Form,
+                Refusal::Refused(Cause::Absent) => LineWhy::Absent,
+                Refusal::Refused(Cause::Player(fault)) => LineWhy::Player(fault),
+                Refusal::Refused(Cause::Broken { earlier, excess }) => {
+                    return Status::Broken {
+                        line,
+                        earlier,
+                        excess,
+                    };
+                }
+            };
+            Status::BadLine { line, why }
+        }
         Stop::ReadFault => Status::ReadFault,
         Stop::WriteFault => Status::WriteFault,
         Stop::Memory => Status::Memory,

@@ -6,7 +6,7 @@ use Rattle.css_replay.specs.Ended.{replay_refused}
 use Rattle.css_replay.specs.declared.reader.Cause.{Cause}
 use Rattle.css_replay.specs.declared.reader.Cause.TheVariants as causes
 use Rattle.css_replay.proofs.OverLines.{IsOfLine, done_ends, read_all, stop_ends, stopped}
-use Rattle.css_replay.proofs.Promise.{promised_done, promised_stop}
+use Rattle.css_replay.proofs.Texts.{promised_done, promised_stop}
 use Rattle.css_replay.proofs.replaying.replay.Goals as goal
 
 pub returns-in-Ok : goal.returns-in-Ok

@@ -1,23 +1,14 @@
 -- The lines stand after those of earlier notes and that of the sleep.
-use Rattle.std.proofs.Common.{[], ◌∷◌}
+use Rattle.std.proofs.Common.{◌++◌}
 use Rattle.css_drive.specs.Notes.{slept_notes}
 use Rattle.css_record.proofs.Records.{text_on, writes_on}
 use Rattle.css_record.proofs.recorder.Recorder.write.Goals as goal
 
-pub returns-clause-one : goal.returns-clause-one
-returns-clause-one g c from note are started earlier on saw =
+pub returns : goal.returns
+returns g c from newest are started earlier on saw =
     let slept = slept_notes from c.args.slept in
     record {
       name = saw.name;
-      writes = rw (text_on (note ∷ slept) earlier, text_on (note ∷ []) slept)
-          (writes_on on saw.writes (c.put-self.ensures _ (c.after_sleep.ensures from _ are)));
-    }
-
-pub returns-clause-two : goal.returns-clause-two
-returns-clause-two g c from newer older are started earlier on saw =
-    let slept = slept_notes from c.args.slept in
-    record {
-      name = saw.name;
-      writes = rw (text_on (newer ∷ older ∷ slept) earlier, text_on (newer ∷ older ∷ []) slept)
+      writes = rw (text_on (newest ++ slept) earlier, text_on newest slept)
           (writes_on on saw.writes (c.put-self.ensures _ (c.after_sleep.ensures from _ are)));
     }
