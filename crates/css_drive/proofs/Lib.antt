@@ -6,7 +6,6 @@ pub mod Reports
 pub mod CompanionLaws
 pub mod SameEvents
 pub mod TvPeers
-pub mod TvCalls
 pub mod TvSteps
 pub mod TvLines
 pub mod TvOpens

@@ -14,10 +14,10 @@ use Rattle.css_drive.specs.TvPeers.{above, has, Covers, AreRising}
 
 -- ---- filters
 module _ (f : ℕ → Bool) (x : ℕ) (xs : List ℕ) where
-  pub kept : f x ≡ true → filter f (x ∷ xs) ≡ x ∷ filter f xs
+  kept : f x ≡ true → filter f (x ∷ xs) ≡ x ∷ filter f xs
   kept e = ap (λ b. cond b (x ∷ filter f xs) (filter f xs)) e
 
-  pub left_out : f x ≡ false → filter f (x ∷ xs) ≡ filter f xs
+  left_out : f x ≡ false → filter f (x ∷ xs) ≡ filter f xs
   left_out e = ap (λ b. cond b (x ∷ filter f xs) (filter f xs)) e
 
 filter-both : (f g : ℕ → Bool) (xs : List ℕ) → filter f (filter g xs) ≡ filter (λ x. g x && f x) xs

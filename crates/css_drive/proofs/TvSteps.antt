@@ -1,9 +1,14 @@
--- How a television's run comes on by a call of the outside, by an event, and from part to part of its loop.
+-- How a television's run comes on by a call of the outside, by an event, by a line of the script, and from part to part
+-- of its loop.
 use Rattle.std.proofs.Common.{◌≡◌, ℕ, ◌+◌, ◌≤◌, ◌<◌, Bool, false, true, cond, List, [], ◌∷◌, ◌++◌, Option, Some, None}
-use Rattle.std.proofs.Common.{refl, sym, ap, ap₂, subst, ◌∙◌, arith, append_assoc, drop, Result, Ok, Err}
-use Rattle.std.specs.Prelude.{◌≢◌, ◌&&◌, ⊤, is_some, ◌↔◌, MatchResult}
+use Rattle.std.proofs.Common.{refl, sym, ap, ap₂, subst, ◌∙◌, arith, append_assoc, drop, Result, Ok, Err, length}
+use Rattle.std.proofs.Common.{get_or, inl, inr, ◌⊎◌}
+use Rattle.std.specs.Prelude.{◌≢◌, ◌&&◌, ⊤, is_some, ◌↔◌, MatchResult, filter, IfSome}
 use Rattle.std.specs.Option.{option_map, option_to_list}
 use Rattle.std.proofs.lemmas.List.Elements.{All-nil, All-push}
+use Rattle.std.specs.List.{remove}
+use Rattle.std.proofs.lemmas.Bool.Decides.{nat_tests}
+use Rattle.std.proofs.lemmas.Grind.{common_steps}
 use Rattle.css_model.specs.Wire.{encoded}
 use Rattle.css_model.specs.declared.Kind.{Kind as PeerKind}
 use Rattle.css_model.specs.declared.Kind.TheVariants as peer_kind
@@ -19,6 +24,7 @@ use Rattle.css_server.specs.Tickets.{Server, Ticket, response_to, follow_up_for}
 use Rattle.css_sessions.specs.Kept.{Kept, talk_of}
 use Rattle.css_sessions.specs.Told.{sessions_of, life_of}
 use Rattle.css_player.specs.Player.{Player}
+use Rattle.css_player.specs.declared.command.PlayerFault.{PlayerFault}
 use Rattle.css_tv.specs.Serving.{server_of}
 use Rattle.css_tv.specs.Stages.{Stage, Television}
 use Rattle.css_tv.specs.Outcomes.{Outcome, outcome, outcome_at, outs}
@@ -28,26 +34,29 @@ use Rattle.css_tv.specs.declared.event.TvEvent.TheVariants as event
 use Rattle.css_tv.specs.declared.event.TvOut.{TvOut}
 use Rattle.css_tv.specs.declared.fault.TvFault.{TvFault}
 use Rattle.css_tv.specs.declared.state.Addresses.{Addresses}
+use Rattle.css_tv.specs.declared.fault.TvFault.TheVariants as fault
 use Rattle.css_schedule.specs.declared.line.ScriptLine.{ScriptLine}
+use Rattle.css_schedule.specs.declared.fault.LineWhy.TheVariants as line_why
 use Rattle.css_drive.specs.CompanionStanding.{Shown}
-use Rattle.css_drive.specs.Proper.{Now, TakeDatagram, MayAdd, Empty, More}
+use Rattle.css_drive.specs.Proper.{Due, Now, TakeDatagram, MayAdd, Empty, More, Ends}
 use Rattle.css_drive.specs.Ends.{MayEnd, CountsNetFault}
 use Rattle.css_drive.specs.TvProgress.{Place, Listens, Turned, Received, Answers, Served, Asked, Progress, settled}
 use Rattle.css_drive.specs.TvProgress.{settled_at, carry, with_line, is_free, is_due, addresses_in, progress_of, after}
-use Rattle.css_drive.specs.TvProgress.{beginning, happened, opened, answering, outcome_after, outs_in}
+use Rattle.css_drive.specs.TvProgress.{beginning, happened, opened, answering, outcome_after, outs_in, played}
+use Rattle.css_drive.specs.TvProgress.{played_if, event_of}
 use Rattle.css_drive.specs.TvTurns.{since, begun, goes_on, is_over, no_turns}
-use Rattle.css_drive.specs.TvDue.{TvRun, due, due_for, from_hang_ups}
-use Rattle.css_drive.specs.TvPeers.{Knows, Covers, has}
+use Rattle.css_drive.specs.TvDue.{TvRun, due, due_for, from_hang_ups, due_at}
+use Rattle.css_drive.specs.TvPeers.{Knows, Covers, has, above}
 use Rattle.css_drive.specs.TvRan.{AreBelow, AreNumbered, MadeTurns}
 use Rattle.css_drive.specs.TvStanding.{From, Told, Stops, Fails, Adds, IsRead, Airs, IsAt, Settles, Happens, Comes}
 use Rattle.css_drive.specs.TvStanding.{Welcomes, IsTurned, IsUnused, started, progress_at, live_after, at_end, with_tv}
+use Rattle.css_drive.specs.TvStanding.{Carries, left_from, hanging_up, past_line, with_peers}
 use Rattle.css_drive.specs.declared.driven.Driven.{Driven}
 use Rattle.css_drive.specs.declared.driven.Driven.TheVariants as driven
 use Rattle.css_drive.specs.declared.on_air.OnAir.{OnAir}
 use Rattle.css_drive.specs.declared.turns.Turns.{Turns}
-use Rattle.css_drive.proofs.TvCalls.{IsNoOpening, is_fresh, event_narrows, event_covers, has_talk}
 use Rattle.css_drive.proofs.TvPeers as lists
-use Rattle.css_drive.proofs.TvTold.{all_good}
+use Rattle.css_drive.proofs.TvTold.{IsNoOpening, is_fresh, opens_none, event_narrows, event_covers, has_talk, all_good}
 
 -- ---- lines that wait
 pub carry_stops : (a : Addresses) (s r : ℕ) (lines : List ScriptLine) (p : Progress) → is_free p ≡ false
@@ -156,17 +165,21 @@ adds told k = record {
 }
 
 module _ {from : From} {now : Shown} {air : OnAir} {to : List TvEvent → Progress} (x : Airs from now air to) where
-  -- with other values of the loop, and by another name of how far it has come
-  pub airs_as : {air' : OnAir} {to' : List TvEvent → Progress} → air'.tv.stage ≡ air.tv.stage
-      → air'.peers.items ≡ air.peers.items → to x.events ≡ to' x.events → Airs from now air' to'
-  airs_as {to' = to'} stage items e = record {
+  -- with other values of the loop, and where more is known of how far it has come
+  airs_by : {air' : OnAir} {to' : List TvEvent → Progress} → air'.tv.stage ≡ air.tv.stage
+      → air'.peers.items ≡ air.peers.items → Told from now (to' x.events) x.h → Airs from now air' to'
+  airs_by stage items t = record {
     events = x.events;
     h = x.h;
-    history = told_as (to' x.events) x.history e;
+    history = t;
     addresses = ap (λ s. s.addresses) stage ∙ x.addresses;
     stage = subst (λ s. StandsFor s x.events) (sym stage) x.stage;
     knows = subst (λ xs. Knows xs now.counts.peers (live_after from x.events)) (sym items) x.knows;
   }
+
+  pub airs_as : {air' : OnAir} {to' : List TvEvent → Progress} → air'.tv.stage ≡ air.tv.stage
+      → air'.peers.items ≡ air.peers.items → to x.events ≡ to' x.events → Airs from now air' to'
+  airs_as stage items e = airs_by stage items (told_as _ x.history e)
 
   -- A call that is due brings it on, by which no session comes.
   pub moved : {next : Shown} (call : History) → AcceptsNone call → MayAdd (due_for from.run (to x.events)) call
@@ -221,6 +234,13 @@ pub failed : {T : Type 0} {from : From} {now next : Shown} {p : Progress} {h : H
     → next.told ≡ now.told → CountsPlain {T = T} now.counts next.counts (Err fault) → Stops from next ended
 failed {from = from} t fault_of told k =
     fault_of _ _ told (ap (λ (x : Counts). x.dial_faults) k.same) k.faults from _ _ t
+
+-- A call is made that is due, by which no session comes.
+pub made : {from : From} {now next : Shown} {air : OnAir} {d : Due} → (x : Comes (λ _ live. d) from now air)
+    → (call : History) → AcceptsNone call → MayAdd d call → Adds now next call
+    → Airs from next air
+    (λ events. after_all (addresses_in from.run.config) call (progress_at from.run air x.place [] events))
+made x call none may added = moved x.is_at call none (subst (λ d. MayAdd d call) (sym x.next) may) added
 
 -- The clock is read.
 pub read_on : {from : From} {now next : Shown} {air : OnAir} {to : List TvEvent → Progress}
@@ -444,3 +464,190 @@ module _ (run : TvRun) {start now : Shown} (added : Adds start now (Listening ru
     };
     next = refl;
   }
+
+-- ---- places in lists
+pub left_at : {X : Type 0} (xs : List X) (i : ℕ) (x : X) → i < length xs → x ≡ get_or xs i x
+    → drop i xs ≡ x ∷ drop (i + 1) xs
+left_at xs i x lt is = grind (arith, common_steps)
+
+pub peers_all : {X : Type 0} (xs : List X) (i : ℕ) → length xs ≤ i → drop i xs ≡ []
+peers_all xs i le = grind (arith, common_steps)
+
+-- whether a line is due, by the number from which its time counts
+due_by : (from r : ℕ) (line : ScriptLine) (n : ℕ) → from ≡ n → n + line.due ≤ r → is_due from r line ≡ true
+due_by from r line n e le = ap (λ m. is_due m r line) e ∙ grind (arith, nat_tests)
+
+pub waits_by : (from r : ℕ) (line : ScriptLine) (n : ℕ) → from ≡ n → r < n + line.due → is_due from r line ≡ false
+waits_by from r line n e lt = ap (λ m. is_due m r line) e ∙ grind (arith, nat_tests)
+
+-- ---- a line that is due
+module _ {from : From} {now : Shown} {air : OnAir} {r : ℕ} {line : ScriptLine} (x : Carries r line from now air) where
+  -- how far the run has come before it, and after it where it is this event
+  abbrev before : Progress
+  before = progress_at from.run air (Turned r) [] x.settles.events
+
+  abbrev going : Progress → Progress
+  going p = carry (addresses_in from.run.config) (since air.turns) r (drop (air.lines + 1) from.run.script) p
+
+  abbrev by_event : Option TvEvent → Progress
+  by_event o = going (played_if (addresses_in from.run.config) (drop (air.lines + 1) from.run.script) before o)
+
+  abbrev by_outcome : TvEvent → Result Outcome TvFault → Progress
+  by_outcome e o = going (played (addresses_in from.run.config) e (drop (air.lines + 1) from.run.script) before o)
+
+  carried : (o : Option TvEvent) → o ≡ event_of r line.verb → Told from now (by_event o) x.settles.h
+  carried o is =
+      let a = addresses_in from.run.config in
+      let left = drop (air.lines + 1) from.run.script in
+      told_as _ x.settles.history
+      (ap (λ ls. carry a (since air.turns) r ls before) x.next
+      ∙ ap (λ b. cond b (going (with_line a r line left before)) before) x.is_due ∙ ap by_event (sym is))
+
+  -- it is no event
+  pub passed_over : None ≡ event_of r line.verb → Settles (Turned r) [] from now (past_line air)
+  passed_over e = airs_by x.settles refl refl (carried None e)
+
+  -- it is one, and the player accepts it
+  pub line_happens : (e : TvEvent) → Some e ≡ event_of r line.verb → (new : Stage) (after : List TvOut)
+      → IsAfterBy air.tv.stage new [] after (outcome_at e air.tv.stage)
+      → Happens (Turned r) [] e from now (past_line air)
+  line_happens e is new after done =
+      happens e (subst (λ o. IfSome o IsNoOpening) (sym is) (opens_none r line.verb))
+      (airs_by x.settles refl refl (told_as _ (carried (Some e) is)
+      (ap (by_outcome e) (sym (outcome_same x.settles e)) ∙ by (outcome_at e air.tv.stage) done)))
+    where
+      by : (o : Result Outcome TvFault) → IsAfterBy air.tv.stage new [] after o
+          → by_outcome e o
+          ≡ (let a = addresses_in from.run.config in
+          settled a (happened a e (progress_at from.run (past_line air) (Turned r) [] x.settles.events)))
+      by (Err f) done = absurd done
+      by (Ok o) done = refl
+
+  -- the player refuses it
+  pub line_refused : (e : TvEvent) → Some e ≡ event_of r line.verb → (f : PlayerFault)
+      → (outcome_at e air.tv.stage ≡ Err (fault.Player f)) ⊎ (fault.Player f ≡ fault.Memory)
+      → Stops from now (driven.BadLine (air.lines + 1) (line_why.Player f))
+  line_refused e is f (inr same) = absurd (cc)
+  line_refused e is f (inl refused) =
+      let q : Progress = record before { refused = Some (fault.Player f) } in
+      let t : Told from now q x.settles.h = told_as q (carried (Some e) is)
+      (ap (by_outcome e) (sym (outcome_same x.settles e) ∙ refused)
+      ∙ carry_stops (addresses_in from.run.config) (since air.turns) r _ q refl) in
+      stops t refl refl _ (ap (due_for from.run) t.progress) tt refl (λ same. cc)
+
+-- ---- which line is next
+module _ {from : From} {now : Shown} {air : OnAir} (r : ℕ) (x : Settles (Turned r) [] from now air) where
+  -- one that is due, where the run's script is this one and its times count from this reading
+  pub carries : (script : List ScriptLine) → from.run.script ≡ script → (line : ScriptLine)
+      → air.lines < length script → line ≡ get_or script air.lines line
+      → (begun : ℕ) → since air.turns ≡ begun → begun + line.due ≤ r → Carries r line from now air
+  carries script e line lt is begun since_is le = record {
+    settles = x;
+    next = ap (drop air.lines) e ∙ left_at script air.lines line lt is
+        ∙ ap (λ ls. line ∷ drop (air.lines + 1) ls) (sym e);
+    is_due = due_by (since air.turns) r line begun since_is le;
+  }
+
+  -- a line that isn't due waits, and so do those after it
+  pub line_waits : (line : ScriptLine) (left : List ScriptLine) → drop air.lines from.run.script ≡ line ∷ left
+      → is_due (since air.turns) r line ≡ false → IsTurned from now air
+  line_waits line left next is =
+      let a = addresses_in from.run.config in
+      let p = progress_at from.run air (Turned r) [] x.events in (
+        r,
+        airs_as x refl refl (ap (λ ls. carry a (since air.turns) r ls p) next
+            ∙ ap (λ b. cond b (carry a (since air.turns) r left (with_line a r line left p)) p) is),
+      )
+
+  pub no_line : drop air.lines from.run.script ≡ [] → IsTurned from now air
+  no_line none = (
+    r,
+    airs_as x refl refl (ap (λ ls. carry (addresses_in from.run.config) (since air.turns) r ls
+        (progress_at from.run air (Turned r) [] x.events)) none),
+  )
+
+-- ---- the peers of sessions
+pub comes_as : {from : From} {now : Shown} {air : OnAir} {to to' : OnAir → List ℕ → Due} → (x : Comes to from now air)
+    → (let live = live_after from x.is_at.events in to air live ≡ to' air live) → Comes to' from now air
+comes_as x e = record { place = x.place; is_at = x.is_at; next = x.next ∙ e }
+
+module _ (f : Turns → List ℕ → List ℕ → Due) {from : From} {now : Shown} {air : OnAir} where
+  -- all open sessions are left
+  pub all_left : Comes (λ air live. f air.turns live live) from now air → Comes (left_from f 0) from now air
+  all_left x = comes_as x (ap (f air.turns (live_after from x.is_at.events)) (sym x.is_at.knows.covers))
+
+  -- those after this one
+  pub left_after : {place : Place} → IsAt place from now air → (at peer : ℕ)
+      → ((live : List ℕ) → due_at from.run live air.turns place ≡ f air.turns live (above (Some peer) live))
+      → drop at air.peers.items ≡ peer ∷ drop (at + 1) air.peers.items → Comes (left_from f (at + 1)) from now air
+  left_after {place} x at peer after e =
+      let live = live_after from x.events in
+      record {
+        place = place;
+        is_at = x;
+        next = after live ∙ ap (f air.turns live)
+            (lists.above_passed at peer air.peers.items live _ x.knows.rising x.knows.covers e);
+      }
+
+  module _ (at : ℕ) (x : Comes (left_from f at) from now air) where
+    -- no session is left
+    pub none_left : drop at air.peers.items ≡ [] → Comes (λ air live. f air.turns live []) from now air
+    none_left none =
+        let live = live_after from x.is_at.events in
+        comes_as x (ap (λ xs. f air.turns live (filter (λ peer. has peer live) xs)) none)
+
+    -- that of this peer is the next one, if it has one
+    pub next_left : (peer : ℕ) → drop at air.peers.items ≡ peer ∷ drop (at + 1) air.peers.items → (is : Bool)
+        → has peer (live_after from x.is_at.events) ≡ is
+        → Comes (λ air live. let left = filter (λ other. has other live) (drop (at + 1) air.peers.items) in
+        f air.turns live (cond is (peer ∷ left) left)) from now air
+    next_left peer e is there =
+        let live = live_after from x.is_at.events in
+        let left = filter (λ other. has other live) (drop (at + 1) air.peers.items) in
+        comes_as x (ap (λ xs. f air.turns live (filter (λ other. has other live) xs)) e
+        ∙ ap (λ b. f air.turns live (cond b (peer ∷ left) left)) there)
+
+  -- a peer that has none is removed
+  pub peer_removed : (at peer : ℕ) → drop at air.peers.items ≡ peer ∷ drop (at + 1) air.peers.items
+      → (x : Comes (left_from f (at + 1)) from now air) → has peer (live_after from x.is_at.events) ≡ false
+      → (other : OnAir) → other.peers.items ≡ remove air.peers.items at
+      → Comes (left_from f at) from now (with_peers air other)
+  peer_removed at peer e x lacks other items =
+      let live = live_after from x.is_at.events in
+      let xs = air.peers.items in
+      let k = x.is_at.knows in
+      record {
+        place = x.place;
+        is_at = record {
+          events = x.is_at.events;
+          h = x.is_at.h;
+          history = x.is_at.history;
+          addresses = x.is_at.addresses;
+          stage = x.is_at.stage;
+          knows = subst (λ ys. Knows ys now.counts.peers live) (sym items) (record {
+            rising = lists.rising_removed 0 at peer xs _ e k.rising;
+            below = lists.below_removed (λ other. other ≤ now.counts.peers) at xs k.below;
+            covers = lists.filter_removed (λ other. has other live) at peer xs _ e lacks ∙ k.covers;
+          });
+        };
+        next = x.next ∙ ap (λ ys. f air.turns live (filter (λ other. has other live) ys))
+            (sym (lists.drop_removed at peer xs _ e) ∙ ap (drop at) (sym items));
+      }
+
+-- the turns are over
+pub turns_over : {from : From} {now : Shown} {air : OnAir} → Comes at_end from now air → goes_on air.turns ≡ false
+    → Comes (left_from hanging_up 0) from now air
+turns_over {from} x over =
+    let live = live_after from x.is_at.events in
+    all_left hanging_up (comes_as x (ap (λ b. cond b (Now why.Turn) (from_hang_ups live)) over))
+
+-- the run is done, once all sessions are hung up
+pub all_hung : {from : From} {now : Shown} {air : OnAir} → Comes (λ _ live. Ends driven.Done) from now air
+    → goes_on air.turns ≡ false → Stops from now driven.Done
+all_hung {from} x over =
+    let e = x.is_at.history.progress in
+    stops x.is_at.history refl refl driven.Done (ap (due_for from.run) e ∙ x.next) (ap (λ y. goes_on y.turns) e ∙ over)
+    refl (λ same. cc)
+
+pub peer_from : (xs : List ℕ) (i : ℕ) → i < length xs → drop i xs ≡ get_or xs i 0 ∷ drop (i + 1) xs
+peer_from xs i lt = grind (arith, common_steps)

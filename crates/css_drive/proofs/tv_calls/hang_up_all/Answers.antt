@@ -1,8 +1,8 @@
-use Rattle.std.proofs.Common.{◌≡◌, ◌+◌, ◌∙◌, ◌∷◌, ℕ, List, subst, arith, drop, get_or, refl}
+use Rattle.std.proofs.Common.{◌≡◌, ◌+◌, ◌∙◌, ◌∷◌, ℕ, List, subst, arith, drop, get_or, refl, [], true, false}
+use Rattle.css_model.specs.History.{HungUp}
 use Rattle.css_drive.specs.TvStanding.{hanging_up}
-use Rattle.css_drive.proofs.TvSteps.{is_live, not_open, adds, failed}
-use Rattle.css_drive.proofs.TvLines.{peers_all, turns_over, next_left, left_after, past_left, none_left, hung, all_hung}
-use Rattle.css_drive.proofs.TvOpens.{peer_from}
+use Rattle.css_drive.proofs.TvSteps.{is_live, not_open, adds, failed, made, peers_all, turns_over, next_left}
+use Rattle.css_drive.proofs.TvSteps.{left_after, none_left, all_hung, peer_from}
 use Rattle.css_drive.proofs.tv_calls.hang_up_all.Goals.{then-is_open+in-Ok, else-is_open}
 use Rattle.css_drive.proofs.tv_calls.hang_up_all.Goals as goal
 
@@ -20,11 +20,12 @@ loop-peer-preserved g c = λ from enough s.
     let x = c.loop-peer.invariant from enough s in
     elim c.if-is_open.branch [
       | then-is_open+in-Ok w ↦
-          let due = next_left hanging_up i x peer e (is_live x.is_at peer ∙ c.is_open.ensures.0 w.if-is_open.true) in
+          let due = next_left hanging_up i x peer e true (is_live x.is_at peer ∙ c.is_open.ensures.0 w.if-is_open.true) in
           rw w.outside-is
-          (left_after hanging_up (hung due (adds w.in-Ok.ensures.told w.in-Ok.ensures.counted)) i peer (λ live. refl) e)
+          (left_after hanging_up (made due (HungUp peer ∷ []) tt refl
+          (adds w.in-Ok.ensures.told w.in-Ok.ensures.counted)) i peer (λ live. refl) e)
       | else-is_open w ↦
-          rw w.outside-is (past_left hanging_up i x peer e
+          rw w.outside-is (next_left hanging_up i x peer e false
           (is_live x.is_at peer ∙ not_open _ _ c.is_open.ensures w.if-is_open.false))
     ]
 

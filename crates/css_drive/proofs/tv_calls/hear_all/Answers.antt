@@ -1,8 +1,8 @@
-use Rattle.std.proofs.Common.{rules, ◌∙◌, ℕ, arith, refl}
+use Rattle.std.proofs.Common.{rules, ◌∙◌, ℕ, arith, refl, true, false}
 use Rattle.css_drive.specs.declared.on_air.OnAir.{OnAir}
 use Rattle.css_drive.specs.TvDue.{from_texts}
 use Rattle.css_drive.proofs.CompanionSteps.{at_err}
-use Rattle.css_drive.proofs.TvLines.{left_at, peers_all, all_left, next_left, left_after, peer_removed, none_left}
+use Rattle.css_drive.proofs.TvSteps.{left_at, peers_all, all_left, next_left, left_after, peer_removed, none_left}
 use Rattle.css_drive.proofs.TvSteps.{is_live, not_open}
 use Rattle.css_drive.proofs.tv_calls.hear_all.Goals as goal
 
@@ -20,7 +20,7 @@ returns-in_err-hear-clause-goes g c from s =
     let x = c.peers.invariant.goes from s in
     let e = left_at c.peers.air.peers.items i peer (omega (arith, test)) c.index-peer.ensures in
     at_err _ _ _ _ c.from_residual.ensures.1 (c.in_err-hear.ensures from c.peers.air
-    (next_left from_texts i x peer e (is_live x.is_at peer ∙ c.is_open.ensures.0 c.if-is_open.true)))
+    (next_left from_texts i x peer e true (is_live x.is_at peer ∙ c.is_open.ensures.0 c.if-is_open.true)))
 
 pub peers-preserved-then-is_open : goal.peers-preserved-then-is_open
 peers-preserved-then-is_open g c = record {
@@ -31,7 +31,7 @@ peers-preserved-then-is_open g c = record {
       let x = c.peers.invariant.goes from s in
       let e = left_at c.peers.air.peers.items i peer (omega (arith, test)) c.index-peer.ensures in
       left_after from_texts (c.in_ok-hear.ensures from c.peers.air
-      (next_left from_texts i x peer e (is_live x.is_at peer ∙ c.is_open.ensures.0 c.if-is_open.true))) i peer
+      (next_left from_texts i x peer e true (is_live x.is_at peer ∙ c.is_open.ensures.0 c.if-is_open.true))) i peer
       (λ live. refl) e;
   turns = c.peers.invariant.turns;
 }
@@ -48,9 +48,11 @@ peers-preserved g c = record {
         lines = c.peers.air.lines;
         turns = c.peers.air.turns;
       } in
-      peer_removed from_texts c.peers.at x peer
-      (left_at c.peers.air.peers.items c.peers.at peer (omega (arith, test)) c.index-peer.ensures)
-      (is_live x.is_at peer ∙ not_open _ _ c.is_open.ensures c.if-is_open.false) now c.remove.ensures.items;
+      let e = left_at c.peers.air.peers.items c.peers.at peer (omega (arith, test)) c.index-peer.ensures in
+      let y = next_left from_texts c.peers.at x peer e false
+      (is_live x.is_at peer ∙ not_open _ _ c.is_open.ensures c.if-is_open.false) in
+      peer_removed from_texts c.peers.at peer e y
+      (is_live y.is_at peer ∙ not_open _ _ c.is_open.ensures c.if-is_open.false) now c.remove.ensures.items;
   turns = c.peers.invariant.turns;
 }
 

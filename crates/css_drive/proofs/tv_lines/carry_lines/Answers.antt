@@ -2,7 +2,7 @@ use Rattle.std.proofs.Common.{◌∙◌, ◌+◌, arith, ap, sym, refl, List, �
 use Rattle.css_schedule.specs.declared.line.ScriptLine.{ScriptLine}
 use Rattle.css_drive.proofs.CompanionSteps.{at_err}
 use Rattle.css_drive.specs.TvTurns.{since}
-use Rattle.css_drive.proofs.TvLines.{carries, line_waits, no_line, waits_by, left_at, peers_all}
+use Rattle.css_drive.proofs.TvSteps.{carries, line_waits, no_line, waits_by, left_at, peers_all}
 use Rattle.css_drive.proofs.tv_lines.carry_lines.Goals as goal
 
 pub returns-then-reading-from-clause-goes : goal.returns-then-reading-from-clause-goes

@@ -6,8 +6,7 @@ use Rattle.css_drive.specs.CompanionStanding.{shown}
 use Rattle.css_drive.specs.TvProgress.{Turned, event_of}
 use Rattle.css_drive.specs.TvStanding.{Stops, past_line}
 use Rattle.css_drive.specs.declared.driven.Driven.TheVariants as driven
-use Rattle.css_drive.proofs.TvSteps.{heard_of}
-use Rattle.css_drive.proofs.TvLines.{passed_over, line_happens, line_refused}
+use Rattle.css_drive.proofs.TvSteps.{heard_of, passed_over, line_happens, line_refused}
 use Rattle.css_drive.proofs.tv_lines.carry_out.Goals as goal
 
 pub returns-in-Ok-None : goal.returns-in-Ok-None
