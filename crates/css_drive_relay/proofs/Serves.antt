@@ -163,22 +163,20 @@ module _ {run : RelayRun} {start now : Shown} {p : Progress} {history : History}
 module _ (live : Live) {run : RelayRun} {start now : Shown} {history : History} {relay : Relay} where
   -- ---- publishing
   -- what is published is the state and the change that the variables have
-  pub publishes : {state found kept was : State} → Stands run start now relay (published state (facts_in live)) history
-      → found ≡ state → kept ≡ found → was ≡ live.state → (change : Option (List ℕ))
-      → change ≡ difference_text was found
+  pub publishes : {state found : State} → Stands run start now relay (published state (facts_in live)) history
+      → found ≡ state → (change : Option (List ℕ)) → change ≡ difference_text live.state found
       → Stands run start now relay (record {
-        facts = record (facts_in live) { state = kept };
-        place = telling_if change (record (facts_in live) { state = kept });
+        facts = record (facts_in live) { state = found };
+        place = telling_if change (record (facts_in live) { state = found });
       }) history
-  publishes {state} {found} s e k w change is =
+  publishes {state} {found} s e change is =
       let at : Option (List ℕ) → State → Progress = λ o x. record {
         facts = record (facts_in live) { state = x };
         place = telling_if o (record (facts_in live) { state = x });
       } in
-      stands_as s (at change _)
-      (ap (λ (o : Option (List ℕ)). at o state)
-      (sym (is ∙ ap (λ x. difference_text x found) w ∙ ap (λ x. difference_text live.state x) e))
-      ∙ ap (λ (x : State). at change x) (sym (k ∙ e)))
+      stands_as s (at change found)
+      (ap (λ (x : State). at (difference_text live.state x) x) (sym e)
+      ∙ ap (λ (o : Option (List ℕ)). at o found) (sym is))
 
   -- ---- the television's session, where it is open and where it isn't
   pub asked_next : Stands run start now relay (stood live (welcomed (facts_in live))) history → (o : Option ℕ)
