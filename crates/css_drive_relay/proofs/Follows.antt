@@ -24,9 +24,9 @@ use Rattle.css_outside.specs.declared.calls.Heard.{Heard as SessionHeard}
 use Rattle.css_outside.specs.declared.calls.Wrote.{Wrote as Outcome}
 use Rattle.css_cii.specs.declared.state.State.{State}
 use Rattle.css_sessions.specs.Kept.{difference_text, full_text}
-use Rattle.css_drive_relay.specs.Places.{Place, Begun, Called, Asking, Requested, Taken, Received, Answers, Served}
-use Rattle.css_drive_relay.specs.Places.{Greeting, Rejecting, Welcomed, Refused, Telling, Asked, Dropping, Over, Facts}
-use Rattle.css_drive_relay.specs.Places.{Progress, progress_of, all_open, next_asked, telling, telling_if}
+use Rattle.css_drive_relay.specs.Places.{Place, Begun, Called, Asking, Taken, Received, Answers, Served, Greeting}
+use Rattle.css_drive_relay.specs.Places.{Rejecting, Welcomed, Refused, Telling, Asked, Dropping, Over, Facts, Progress}
+use Rattle.css_drive_relay.specs.Places.{progress_of, all_open, next_asked, telling, telling_if}
 use Rattle.css_drive_relay.specs.Due.{due_at, final, from_hang_ups, from_texts, from_ask, from_wc, from_dial}
 use Rattle.css_drive_relay.specs.Due.{IsProperRelay, due}
 use Rattle.css_drive_relay.specs.Told.{relayed}
@@ -129,7 +129,7 @@ abbrev pub Fits : RelayRun → Facts → Place → Due → Type 0
 Fits run f place (Now w) = (waiting place ≡ []) × IsTimed place × FitsClock run f place w
 Fits run f place (Dial k to) = FitsDial place k
 Fits run f place (SendDatagram peer bytes) = (waiting place ≡ []) × IsToSend place bytes
-Fits run f place TakeDatagram = waiting place ≡ []
+Fits run f place TakeDatagram = (waiting place ≡ []) × ⊤
 Fits run f place (SendText peer text) = IsToTell f place peer text
 Fits run f place (HangUp peer) = (waiting place ≡ []) × (IsDropped place ⊎ HasEnded run f place)
 Fits run f place (Ends driven.Done) = (waiting place ≡ []) × HasEnded run f place × (reached f ≡ true)
@@ -162,7 +162,7 @@ module _ (run : RelayRun) (f : Facts) (history : History) (place : Place) (said 
     fits_ask : Fits run f place (from_ask run f history)
     fits_ask =
         cond_both (is_some f.wc && is_asking run.ask_every f.turn f.asked) (Now why.Ask) TakeDatagram
-        (Fits run f place) (λ e. (said, timed, rest)) (λ e. said)
+        (Fits run f place) (λ e. (said, timed, rest)) (λ e. (said, tt))
 
     fits_wc : Fits run f place (from_wc run f history)
     fits_wc = by f.wc _
@@ -192,9 +192,8 @@ fits run f history (Called k) = fits_dialled run f history (Called k) refl tt tt
 fits run f history (Asking reading) = by f.wc
   where
     by : (o : Option ℕ) → Fits run f (Asking reading) (send_to o (encoded (request_at reading)))
-    by None = refl
+    by None = (refl, tt)
     by (Some peer) = (refl, refl)
-fits run f history Requested = refl
 fits run f history (Taken peer bytes) =
     cond_both (is_some (request_in bytes)) (Now why.Take) (Now why.Land) (Fits run f (Taken peer bytes))
     (λ e. (refl, tt, tt)) (λ e. (refl, tt, tt))
@@ -220,8 +219,8 @@ Follows run f place (Dialling k to) = FitsDial place k
 Follows run f place (Dialled k peer) = FitsDial place k
 Follows run f place (NotDialled k) = FitsDial place k
 Follows run f place (Sent peer bytes) = (waiting place ≡ []) × IsToSend place bytes
-Follows run f place (Took peer bytes) = waiting place ≡ []
-Follows run f place TookNone = waiting place ≡ []
+Follows run f place (Took peer bytes) = (waiting place ≡ []) × ⊤
+Follows run f place TookNone = (waiting place ≡ []) × ⊤
 Follows run f place (Wrote peer text) = IsToTell f place peer text
 Follows run f place (Gone peer) = (text : List ℕ) × IsToTell f place peer text
 Follows run f place (HungUp peer) = (waiting place ≡ []) × (IsDropped place ⊎ HasEnded run f place)

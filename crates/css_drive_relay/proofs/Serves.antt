@@ -25,8 +25,8 @@ use Rattle.css_drive_relay.specs.Standing.{Knows, Runs, Stands, HasRead, facts_i
 use Rattle.css_drive_relay.specs.Standing.{AreInOrder, Came}
 use Rattle.css_drive_relay.specs.declared.config.RelayRun.{RelayRun}
 use Rattle.css_drive_relay.specs.declared.live.Live.{Live}
-use Rattle.css_drive_relay.proofs.Steps.{aside, stands_read, runs_read, undialled, knows_plain, lawful, runs_on}
-use Rattle.css_drive_relay.proofs.Steps.{runs_as, stands_as, stops_here, runs_more, all_telling_if, all_next}
+use Rattle.css_drive_relay.proofs.Steps.{unnamed, aside, stands_read, runs_read, undialled, knows_plain, lawful}
+use Rattle.css_drive_relay.proofs.Steps.{runs_on, runs_as, stands_as, stops_here, runs_more, all_telling_if, all_next}
 use Rattle.css_drive_relay.proofs.Steps.{in_order_later}
 use Rattle.css_cii.specs.declared.state.State.{State}
 use Rattle.css_sessions.specs.Kept.{difference_text}
@@ -62,14 +62,14 @@ module _ {run : RelayRun} {start now mid : Shown} {live later : Live} {history :
       → Runs run start mid (stood later (Asking clocked.reading)) (clock_entries why.Ask clocked ++ history)
   asks s is-due peer some time r =
       runs_read s (is-due ∙ ask_due live.wc _ _ _ peer some time) r (stood later (Asking clocked.reading)) refl
-      (λ x. (x.0, All-nil (Came history), x.2))
+      (unnamed history (Asking clocked.reading) refl)
 
   -- for a landing
   pub lands : {peer : ℕ} {bytes : List ℕ} → Runs run start now (stood live (Taken peer bytes)) history
       → is_some (request_in bytes) ≡ false → HasRead now mid live later was is why.Land clocked
       → Runs run start mid (stood later Served) (clock_entries why.Land clocked ++ history)
   lands s none r =
-      runs_read s (ap from_taken none) r (stood later Served) refl (λ x. (x.0, All-nil (Came history), x.2))
+      runs_read s (ap from_taken none) r (stood later Served) refl (unnamed history Served refl)
 
 -- ---- requests of others
 -- what the relay made of what it knew is what its own clock gives after the history
@@ -91,11 +91,11 @@ module _ {run : RelayRun} {start now mid : Shown} {live later : Live} {history :
   receives {peer} {bytes} s some r result value =
       stands_read s (ap from_taken some) tt r (stood later (received peer result))
       (known_as later (λ own h. received_after own h clocked.reading bytes) (received peer) (r.known run history s.knows) value)
-      (λ x. (x.0, by result, x.2))
+      (unnamed history (received peer result) (by result))
     where
-      by : (x : Result Ticket RelayFault) → All (Came history) (named (received peer x))
-      by (Err bad) = All-nil (Came history)
-      by (Ok ticket) = All-nil (Came history)
+      by : (x : Result Ticket RelayFault) → named (received peer x) ≡ []
+      by (Err bad) = refl
+      by (Ok ticket) = refl
 
   pub answers : {peer : ℕ} {ticket : Ticket} → Stands run start now was (stood live (Received peer ticket)) history
       → HasRead now mid live later was is why.Give clocked → (result : Result (List ℕ) RelayFault)
@@ -105,11 +105,11 @@ module _ {run : RelayRun} {start now mid : Shown} {live later : Live} {history :
   answers {peer} {ticket} s r result value =
       stands_read s refl tt r (stood later (answering peer result))
       (known_as later (λ own h. datagram_of (answered_after own h clocked.reading ticket)) (answering peer)
-      (r.known run history s.knows) value) (λ x. (x.0, by result, x.2))
+      (r.known run history s.knows) value) (unnamed history (answering peer result) (by result))
     where
-      by : (x : Result (List ℕ) RelayFault) → All (Came history) (named (answering peer x))
-      by (Err bad) = All-nil (Came history)
-      by (Ok bytes) = All-nil (Came history)
+      by : (x : Result (List ℕ) RelayFault) → named (answering peer x) ≡ []
+      by (Err bad) = refl
+      by (Ok bytes) = refl
 
 -- ---- sessions that others open
 module _ (live : Live) {run : RelayRun} {start now next : Shown} {history : History} {relay : Relay}
@@ -163,22 +163,20 @@ module _ {run : RelayRun} {start now : Shown} {p : Progress} {history : History}
 module _ (live : Live) {run : RelayRun} {start now : Shown} {history : History} {relay : Relay} where
   -- ---- publishing
   -- what is published is the state and the change that the variables have
-  pub publishes : {state found kept was : State} → Stands run start now relay (published state (facts_in live)) history
-      → found ≡ state → kept ≡ found → was ≡ live.state → (change : Option (List ℕ))
-      → change ≡ difference_text was found
+  pub publishes : {state found : State} → Stands run start now relay (published state (facts_in live)) history
+      → found ≡ state → (change : Option (List ℕ)) → change ≡ difference_text live.state found
       → Stands run start now relay (record {
-        facts = record (facts_in live) { state = kept };
-        place = telling_if change (record (facts_in live) { state = kept });
+        facts = record (facts_in live) { state = found };
+        place = telling_if change (record (facts_in live) { state = found });
       }) history
-  publishes {state} {found} s e k w change is =
+  publishes {state} {found} s e change is =
       let at : Option (List ℕ) → State → Progress = λ o x. record {
         facts = record (facts_in live) { state = x };
         place = telling_if o (record (facts_in live) { state = x });
       } in
-      stands_as s (at change _)
-      (ap (λ (o : Option (List ℕ)). at o state)
-      (sym (is ∙ ap (λ x. difference_text x found) w ∙ ap (λ x. difference_text live.state x) e))
-      ∙ ap (λ (x : State). at change x) (sym (k ∙ e)))
+      stands_as s (at change found)
+      (ap (λ (x : State). at (difference_text live.state x) x) (sym e)
+      ∙ ap (λ (o : Option (List ℕ)). at o found) (sym is))
 
   -- ---- the television's session, where it is open and where it isn't
   pub asked_next : Stands run start now relay (stood live (welcomed (facts_in live))) history → (o : Option ℕ)

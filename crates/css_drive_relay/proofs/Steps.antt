@@ -120,6 +120,12 @@ module _ (P : ℕ → Type 0) where
   pub all_without : (peer : ℕ) (peers : List ℕ) → All P peers → All P (without peer peers)
   all_without peer = All-filter (λ other. not (other == peer)) P
 
+-- a place that names none
+pub unnamed : (history : History) (place : Place) → named place ≡ [] → {A B C : Type 0} → A × B × C
+    → A × All (Came history) (named place) × C
+unnamed history place e x =
+    (x.0, subst (λ (xs : List ℕ). All (Came history) xs) (sym e) (All-nil (Came history)), x.2)
+
 -- ---- order
 -- a peer is added before the first greater one
 pub insert_place : (new : ℕ) (peers : List ℕ) → insert peers (places.place new peers) new ≡ with_peer new peers
@@ -192,13 +198,15 @@ pub stops_by_fault : {run : RelayRun} {start now next : Shown} {p : Progress} {h
 stops_by_fault {run} {start} {now} {next} {history = history} {ended} s l f =
     let P : ℕ → Type 0 = λ n. CountsNetFault n next.counts.faults ended in
     record {
-      history = history;
-      told = f.told ∙ s.told;
+      ran = record {
+        history = history;
+        grew = f.told ∙ s.told;
+        proper = s.proper;
+        lawful = l;
+        numbered = s.numbered;
+        ends = fault_ends (due run history) ended f.end;
+      };
       counted = subst P s.faults f.counted;
-      proper = s.proper;
-      lawful = l;
-      numbered = s.numbered;
-      ends = fault_ends (due run history) ended f.end;
     }
 
 -- and a `?` ends the function
@@ -344,13 +352,15 @@ pub stops_here : {run : RelayRun} {start now : Shown} {p : Progress} {history : 
 stops_here {run} {start} {now} {history = history} s l ended never ends =
     let P : Due → Type 0 = λ x. MayEnd x ended in
     record {
-      history = history;
-      told = s.told;
+      ran = record {
+        history = history;
+        grew = s.told;
+        proper = s.proper;
+        lawful = l;
+        numbered = s.numbered;
+        ends = subst P (sym (ap (due_for run history) s.progress)) ends;
+      };
       counted = counts_same start.counts.faults now.counts.faults ended never s.faults;
-      proper = s.proper;
-      lawful = l;
-      numbered = s.numbered;
-      ends = subst P (sym (ap (due_for run history) s.progress)) ends;
     }
 
 pub stops_by_memory : {run : RelayRun} {start now : Shown} {p : Progress} {history : History}
@@ -480,18 +490,12 @@ module _ {run : RelayRun} {start now : Shown} {live : Live} {relay : Relay} wher
       → Stops run start now (final (facts_in live))
   all_hung x none =
       stops_here x.stands.runs (lawful x.stands.knows) (final (facts_in live))
-      (never (is_some live.cii || is_some live.wc))
-      (ends (is_some live.cii || is_some live.wc) (due_at run (facts_in live) x.history x.place)
+      (cond_both (is_some live.cii || is_some live.wc) driven.Done (driven.Unreachable live.made)
+      (λ d. IsNetFault d → ⊥) (λ _ e. e) (λ _ e. e))
+      (cond_both (is_some live.cii || is_some live.wc) driven.Done (driven.Unreachable live.made)
+      (λ d. due_at run (facts_in live) x.history x.place ≡ Ends d
+      → MayEnd (due_at run (facts_in live) x.history x.place) d) (λ _ e. e) (λ _ e. e)
       (x.next ∙ ap (from_hang_ups (final (facts_in live))) none))
-    where
-      never : (b : Bool) → IsNetFault (cond b driven.Done (driven.Unreachable live.made)) → ⊥
-      never true e = e
-      never false e = e
-
-      ends : (b : Bool) (d : Due) → d ≡ Ends (cond b driven.Done (driven.Unreachable live.made))
-          → MayEnd d (cond b driven.Done (driven.Unreachable live.made))
-      ends true d e = e
-      ends false d e = e
 
 -- ---- loops
 -- the same, seen as another progress
@@ -534,11 +538,9 @@ pub cut_writes : (ended : Driven) → IsCut ended → ended ≡ driven.WriteFaul
 cut_writes ended c e = let P : Driven → Type 0 = λ x. IsCut x in absurd (subst P e c)
 
 pub ending_writes : (f : Facts) (ended : Driven) → (ended ≡ final f) ⊎ IsCut ended → ended ≡ driven.WriteFault → ⊥
-ending_writes f ended (inl e) is = by (is_some f.cii || is_some f.wc) (sym e ∙ is)
-  where
-    by : (b : Bool) → cond b driven.Done (driven.Unreachable f.turns) ≡ driven.WriteFault → ⊥
-    by true e = cc
-    by false e = cc
+ending_writes f ended (inl e) is =
+    cond_both (is_some f.cii || is_some f.wc) driven.Done (driven.Unreachable f.turns)
+    (λ d. d ≡ driven.WriteFault → ⊥) (λ _ e. cc) (λ _ e. cc) (sym e ∙ is)
 ending_writes f ended (inr c) is = cut_writes ended c is
 
 pub dials_from : (old new : Counts) (now : ℕ) (ended : Driven) → new ≡ record old { faults = new.faults }
@@ -564,17 +566,6 @@ pub listens : (run : RelayRun) (now next : Shown) (relay : Relay) → Knows run 
     → Stands run now next relay listening (Listening run.host run.port ∷ [])
 listens run now next relay k a =
     stands_on (record { runs = at_first run now; knows = k }) (Listening run.host run.port) refl tt (λ x. x) a
-
-pub ran_by : {run : RelayRun} {start now : Shown} {ended : Driven} → Stops run start now ended
-    → RelayRan run start.told now.told ended
-ran_by s = record {
-  history = s.history;
-  grew = s.told;
-  proper = s.proper;
-  lawful = s.lawful;
-  numbered = s.numbered;
-  ends = s.ends;
-}
 
 -- nothing was done, for want of memory
 pub ran_none : (run : RelayRun) (told : Option History) → RelayRan run told told driven.Memory
@@ -632,9 +623,6 @@ begun {run} {live = live} {later} {history} {clocked = clocked} s on r e =
     here_as (places.begun run) e
     (stands_read s
     (ap (λ b. cond b (Now why.Turn) (from_hang_ups (final (facts_in live)) (all_open (facts_in live)))) on) tt r
-    _ refl (λ x. (
-      x.0,
-      cond_both (is_late run.limit (Some (unwrap_or later.first clocked.reading)) (Some clocked.reading)) (Asked [])
-          Begun (λ at. All (Came history) (named at)) (λ _. All-nil (Came history)) (λ _. All-nil (Came history)),
-      x.2,
-    )))
+    _ refl (unnamed history (places.begun run (with_turn clocked.reading (facts_in later)))
+    (cond_both (is_late run.limit (Some (unwrap_or later.first clocked.reading)) (Some clocked.reading)) (Asked [])
+    Begun (λ at. named at ≡ []) (λ _. refl) (λ _. refl))))

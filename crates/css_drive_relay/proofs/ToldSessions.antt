@@ -22,8 +22,8 @@ use Rattle.css_drive.specs.CompanionDue.{refusal_of}
 use Rattle.css_drive.specs.Proper.{Due, Ends}
 use Rattle.css_drive.specs.TvRan.{AreBelow, AreNumbered}
 use Rattle.css_drive.specs.declared.driven.Driven.{Driven}
-use Rattle.css_model.specs.History.{Entry, History, Listening, Slept, Clock, Dialling, Dialled, NotDialled, Accepted}
-use Rattle.css_model.specs.History.{NoneCame, Sent, Took, TookNone, Quiet, Heard, Closed, Wrote, Gone, HungUp}
+use Rattle.css_model.specs.History.{Entry, History, Slept, Clock, Dialling, Dialled, NotDialled, Accepted, NoneCame}
+use Rattle.css_model.specs.History.{Sent, Quiet, Heard, Closed, Wrote, Gone, HungUp}
 use Rattle.css_drive.proofs.TvSessions.{numbered_rest}
 use Rattle.css_drive_relay.specs.declared.config.RelayRun.{RelayRun}
 use Rattle.css_model.specs.declared.Kind.{Kind}
@@ -454,8 +454,6 @@ module _ (run : RelayRun) (peer : ℕ) (older : History) (t : Good run peer olde
   after (Clock why.Turn reading) c n =
       stays c.0 (next (Clock why.Turn reading)) refl refl
       (on_begun (λ place. waiting place ≡ []) run (places.with_turn reading p.facts) refl refl)
-  after (Clock why.Ask reading) c n = stays c.0 (next (Clock why.Ask reading)) refl refl refl
-  after (Clock why.Land reading) c n = stays c.0 (next (Clock why.Land reading)) refl refl refl
   after (Clock why.Take reading) c n =
       stays c.0 (next (Clock why.Take reading)) refl refl
       (on_received (λ place. waiting place ≡ []) run reading older p.place c.2 refl (λ q t. refl))
@@ -464,17 +462,12 @@ module _ (run : RelayRun) (peer : ℕ) (older : History) (t : Good run peer olde
       (on_answered (λ place. waiting place ≡ []) run reading older p.place c.2 refl (λ q b. refl))
   after (Dialling kind.Ts to) c n = absurd c
   after (Dialling k to) c n = stays c.0 (next (Dialling k to)) refl refl c.0
-  after (Dialled kind.Cii other) c n = stays c.0 (next (Dialled kind.Cii other)) refl refl refl
-  after (Dialled kind.Wc other) c n = stays c.0 (next (Dialled kind.Wc other)) refl refl refl
   after (Dialled kind.Ts other) c n = absurd c
   after (NotDialled kind.Ts) c n = absurd c
-  after (NotDialled k) c n = stays c.0 (next (NotDialled k)) refl refl refl
   after (Accepted other k) c n =
       opened c.0 other k (eqb other peer) (is_kept k (length p.facts.peers)) n.0 refl
   after NoneCame c n = stays c.0 (next NoneCame) refl refl (waits_welcomed p.facts.television p.facts.peers)
   after (Sent other bytes) c n = after_sent c.0 p.place
-  after (Took other bytes) c n = stays c (next (Took other bytes)) refl refl refl
-  after TookNone c n = stays c (next TookNone) refl refl refl
   after (Quiet other) c n = stays c.0 (next (Quiet other)) refl refl (waits_passed p.facts p.place c.0)
   after (Heard other bytes) c n = after_heard c.0 other bytes p.place c.0
   after (Closed other) c n = after_closed c.0 other p.place c.0
@@ -482,8 +475,8 @@ module _ (run : RelayRun) (peer : ℕ) (older : History) (t : Good run peer olde
       same (wrote_one (eqb other peer) _ text (due other text c)) refl (owes_told peer p.place p.facts p.facts text c.1) refl
   after (Gone other) c n = after_gone other c.0 c.1
   after (HungUp other) c n = stays c.0 (next (HungUp other)) refl refl (waits_hung_up p.facts p.place)
-  after (Listening host port) c n = stays c.0 (next (Listening host port)) refl refl refl
   after Slept c n = stays c.0 (next Slept) refl refl c.0
+  after entry c n = stays c.0 (next entry) refl refl refl
 
 -- ---- the run
 all_good : (run : RelayRun) (peer : ℕ) (h : History) → Followed run h → AreNumbered h → Good run peer h

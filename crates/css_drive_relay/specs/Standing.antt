@@ -1,10 +1,9 @@
 -- How the variables of a relay's run stand for its history.
-use Rattle.std.specs.Prelude.{◌≡◌, ◌≤◌, ◌<◌, ◌+◌, ℕ, List, [], ◌∷◌, ◌++◌, All, Some, None, IfSome, ◌⊎◌, Result, MatchResult}
-use Rattle.std.specs.Prelude.{IfErr, ⊤}
+use Rattle.std.specs.Prelude.{◌≡◌, ◌≤◌, ◌<◌, ◌+◌, ℕ, List, [], ◌∷◌, ◌++◌, All, Some, None, IfSome, ◌⊎◌, Result}
+use Rattle.std.specs.Prelude.{MatchResult, IfErr, ⊤}
 use Rattle.css_model.specs.declared.TheConstants.{LIMIT}
 use Rattle.css_model.specs.declared.Kind.TheVariants as kind
 use Rattle.css_model.specs.declared.Why.{Why}
-use Rattle.css_model.specs.Explains.{IsLawful}
 use Rattle.css_model.specs.History.{History, Dialled, Accepted}
 use Rattle.css_outside.specs.Faults.{HasRisen}
 use Rattle.css_outside.specs.Outsides.{Counts, with_entries, clock_entries, sleep_entries}
@@ -13,13 +12,14 @@ use Rattle.css_companion.specs.Meanings.{kind_of}
 use Rattle.css_companion.specs.Standing.{StandsFor, own_of}
 use Rattle.css_relay.specs.Relays.{Relay, wc_url_of}
 use Rattle.css_drive.specs.CompanionStanding.{Shown, IsCut, asked_after}
-use Rattle.css_drive.specs.Ends.{MayEnd, CountsNetFault}
+use Rattle.css_drive.specs.Ends.{CountsNetFault}
 use Rattle.css_drive.specs.Proper.{Due}
 use Rattle.css_drive.specs.TvRan.{AreNumbered}
 use Rattle.css_drive.specs.declared.driven.Driven.{Driven}
 use Rattle.css_drive_relay.specs.Places.{Place, Greeting, Telling, Asked, Dropping, Over, Facts, Progress, beginning}
 use Rattle.css_drive_relay.specs.Places.{progress_of, hung_up, without_first, telling}
-use Rattle.css_drive_relay.specs.Due.{due, due_at, final, from_hang_ups, IsProperRelay}
+use Rattle.css_drive_relay.specs.Ran.{RelayRan}
+use Rattle.css_drive_relay.specs.Due.{due_at, final, from_hang_ups, IsProperRelay}
 use Rattle.css_drive_relay.specs.declared.config.RelayRun.{RelayRun}
 use Rattle.css_drive_relay.specs.declared.live.Live.{Live}
 use Rattle.css_drive_relay.specs.declared.sessions.Visit.{Visit}
@@ -117,13 +117,8 @@ pub record Comes (run : RelayRun) (start now : Shown) (relay : Relay) (live : Li
 
 -- the run ended as it may
 pub record Stops (run : RelayRun) (start now : Shown) (ended : Driven) : Type 0 where
-  pub history : History
-  pub told : now.told ≡ with_entries history start.told
+  pub ran : RelayRan run start.told now.told ended
   pub counted : CountsNetFault start.counts.faults now.counts.faults ended
-  pub proper : IsProperRelay run history
-  pub lawful : IsLawful history
-  pub numbered : AreNumbered history
-  pub ends : MayEnd (due run history) ended
 
 -- the run came to a place, or it ended
 abbrev pub Arrives : {T : Type 0} → RelayRun → Shown → Shown → Relay → Live → Place → Result T Driven → Type 0

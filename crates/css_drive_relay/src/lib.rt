@@ -10,7 +10,6 @@ pub mod laws;
 mod live;
 mod published;
 mod sessions;
-mod texts;
 mod turns;
 
 pub use config::RelayRun;

@@ -1,7 +1,11 @@
-ghost use Rattle.std.specs.Prelude.{◌≡◌};
+//! What a relay publishes, and the texts that tell it.
+ghost use Rattle.std.specs.Prelude.{◌≡◌, IfOk};
 ghost use Rattle.css_cii.specs.Texts.{IsUtf8State};
+ghost use Rattle.css_sessions.specs.Kept as kept;
 
-use css_cii::State;
+use css_cii::{State, diff, full, write_message};
+use css_num::{Memory, Text};
+use std::alloc::Global;
 use std::marker::Model;
 
 /// A state that was published. Its texts are UTF-8.
@@ -30,11 +34,24 @@ impl Published {
         Published { state }
     }
 
-    /// The state.
-    pub fn state(&self) -> &State
-        ensures value { result.now ≡ self.now }
-        ensures utf8 { IsUtf8State result.now }
+    /// The message that tells all nine properties.
+    #[tactic(auto, unfolding(css_sessions::specs::Kept::full_text))]
+    pub fn full_text(&self, alloc: Global) -> Result<Text, Memory>
+        ensures { IfOk result (λ text. text ≡ kept.full_text self.now) }
     {
-        &self.state
+        let change = full(&self.state)?;
+        write_message(alloc, &change)
+    }
+
+    /// The message that tells the properties in which a newer state differs, or None where the two are equal.
+    #[tactic(auto, unfolding(css_sessions::specs::Kept::difference_text))]
+    pub fn news(&self, alloc: Global, newer: &Published) -> Result<Option<Text>, Memory>
+        ensures { IfOk result (λ text. text ≡ kept.difference_text self.now newer.now) }
+    {
+        let change = diff(&self.state, &newer.state)?;
+        if change.is_empty() {
+            return Ok(None);
+        }
+        Ok(Some(write_message(alloc, &change)?))
     }
 }

@@ -16,7 +16,6 @@ use crate::calls::or_memory;
 use crate::config::RelayRun;
 use crate::live::{Live, accepted};
 use crate::published::Published;
-use crate::texts::{difference_text, full_text};
 use css_drive::Driven;
 use css_drive::calls::{end_of, hang_up, refused, send_text, take_text};
 use css_num::Text;
@@ -66,7 +65,7 @@ fn greet<O: Outside>(
     ensures last { OnOk result ((O.counts outside.new).last ≡ (O.counts outside.old).last) }
     ensures keeps { Keeps (O.counts outside.old) (O.counts outside.new) live.old live.new result }
 {
-    let text = or_memory(full_text(alloc, live.state.state()))?;
+    let text = or_memory(live.state.full_text(alloc))?;
     or_memory(live.peers.push(peer))?;
     match send_text(outside, peer, text.bytes())? {
         Wrote::Sent => {}
@@ -178,9 +177,10 @@ fn publish<O: Outside>(
     ensures last { OnOk result ((O.counts outside.new).last ≡ (O.counts outside.old).last) }
     ensures keeps { Keeps (O.counts outside.old) (O.counts outside.new) live.old live.new result }
 {
-    let state = or_memory(relay.relayed())?;
-    let change = or_memory(difference_text(alloc, live.state.state(), &state))?;
-    live.state = Published::new(state);
+    let told = or_memory(relay.relayed())?;
+    let state = Published::new(told);
+    let change = or_memory(live.state.news(alloc, &state))?;
+    live.state = state;
     match change {
         None => Ok(()),
         Some(text) => visit_all(run, live, outside, &Visit::Tell(text)),

@@ -1,15 +1,14 @@
 use Rattle.std.proofs.Common.{refl, sym, ap, ◌∙◌, ℕ, List, take, ◌∷◌, [], Some, None}
-use Rattle.std.proofs.lemmas.List.Elements.{All-nil}
 use Rattle.css_model.specs.History.{Took, TookNone}
 use Rattle.css_drive.proofs.CompanionCalls.{plain_adds}
-use Rattle.css_drive_relay.specs.Standing.{Came}
+use Rattle.css_drive_relay.specs.Places.{Served}
 use Rattle.css_drive_relay.proofs.Steps as steps
 use Rattle.css_drive_relay.proofs.datagrams.serve.Goals as goal
 
 pub returns-in-Ok-None-clause-goes : goal.returns-in-Ok-None-clause-goes
 returns-in-Ok-None-clause-goes g c start h at s d =
     steps.here (steps.stands_on s TookNone (steps.may_as d (TookNone ∷ []) ([], None, refl)) tt
-    (λ x. (x.0, All-nil (Came h), x.2)) (plain_adds (rw c.in-Ok-None.field-0-is at c.in-Ok-None.ensures.told)
+    (steps.unnamed h Served refl) (plain_adds (rw c.in-Ok-None.field-0-is at c.in-Ok-None.ensures.told)
     c.in-Ok-None.ensures.counted.same c.in-Ok-None.ensures.counted.faults))
 
 pub returns-then-is_request-clause-goes : goal.returns-then-is_request-clause-goes
@@ -19,7 +18,7 @@ returns-then-is_request-clause-goes g c start h at s d =
     let took = Took c.in-Ok-Some.peer (take n room) in
     c.respond.ensures.goes start _
     (steps.stands_on s took (steps.may_as d (took ∷ []) (room, Some (c.in-Ok-Some.peer, n), refl)) tt
-    (λ x. (x.0, All-nil (Came h), x.2)) (plain_adds (rw c.in-Ok-Some.field-0-is at c.in-Ok-Some.ensures.told)
+    (steps.unnamed h Served refl) (plain_adds (rw c.in-Ok-Some.field-0-is at c.in-Ok-Some.ensures.told)
     c.in-Ok-Some.ensures.counted.same c.in-Ok-Some.ensures.counted.faults))
     (sym c.is_request.ensures ∙ c.if-is_request.true)
 
@@ -30,7 +29,7 @@ returns-else-is_request-clause-goes g c start h at s d =
     let took = Took c.in-Ok-Some.peer (take n room) in
     c.land.ensures.goes start h c.in-Ok-Some.peer
     (steps.stands_on s took (steps.may_as d (took ∷ []) (room, Some (c.in-Ok-Some.peer, n), refl)) tt
-    (λ x. (x.0, All-nil (Came h), x.2)) (plain_adds (rw c.in-Ok-Some.field-0-is at c.in-Ok-Some.ensures.told)
+    (steps.unnamed h Served refl) (plain_adds (rw c.in-Ok-Some.field-0-is at c.in-Ok-Some.ensures.told)
     c.in-Ok-Some.ensures.counted.same c.in-Ok-Some.ensures.counted.faults)) s.knows
     (sym c.is_request.ensures ∙ c.if-is_request.false)
 

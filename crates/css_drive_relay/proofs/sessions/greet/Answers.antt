@@ -5,7 +5,6 @@ use Rattle.css_companion.specs.Meanings.{is_ts}
 use Rattle.css_drive_relay.specs.Places.{Facts, lost, welcomed}
 use Rattle.css_drive_relay.proofs.Serves as serves
 use Rattle.css_drive_relay.proofs.Steps as steps
-use Rattle.css_sessions.specs.Kept.{full_text}
 use Rattle.css_drive_relay.specs.Standing.{Came, facts_in}
 use Rattle.css_drive_relay.proofs.sessions.greet.Goals as goal
 use Rattle.css_drive_relay.proofs.sessions.greet.Goals.{in-Sent, in-Gone}
@@ -14,8 +13,7 @@ pub returns-clause-goes : goal.returns-clause-goes
 returns-clause-goes g c start relay h s =
     let pushed = ap {A = List ℕ} {B = Facts} (λ xs. record (facts_in c.args.live.now) { peers = xs })
     (rw c.in_ok-or_memory.ensures.ok at c.push.ensures.items) in
-    let text = c.bytes.ensures ∙ (rw c.in_ok-text.ensures.ok at c.full_text.ensures)
-    ∙ ap full_text c.state.ensures.value in
+    let text = c.bytes.ensures ∙ (rw c.in_ok-text.ensures.ok at c.full_text.ensures) in
     elim c.match-branch-4.branch [
       | in-Sent w ↦ rw w.live-is (steps.here_as welcomed pushed (steps.stands_on s (Wrote _ _)
           (outcome.Sent, ap (λ x. Wrote c.args.peer x ∷ []) text) tt

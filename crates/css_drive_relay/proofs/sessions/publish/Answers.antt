@@ -5,12 +5,12 @@ use Rattle.css_drive_relay.proofs.sessions.publish.Goals as goal
 
 pub returns-in-None-clause-goes : goal.returns-in-None-clause-goes
 returns-in-None-clause-goes g c start h s =
-    here (serves.publishes c.args.live.now s (rw c.in_ok-state.ensures.ok at c.relayed.ensures.value) c.new.ensures
-    c.state.ensures.value None (sym c.in-None.is ∙ (rw c.in_ok-change.ensures.ok at c.difference_text.ensures)))
+    here (serves.publishes c.args.live.now s (c.new-state.ensures ∙ (rw c.in_ok-told.ensures.ok at
+    c.relayed.ensures.value)) None (sym c.in-None.is ∙ (rw c.in_ok-change.ensures.ok at c.news.ensures)))
 
 pub returns-in-Some-clause-goes : goal.returns-in-Some-clause-goes
 returns-in-Some-clause-goes g c start h s =
     c.visit_all.ensures.goes start _ h
-    (serves.publishes c.args.live.now s (rw c.in_ok-state.ensures.ok at c.relayed.ensures.value) c.new.ensures
-    c.state.ensures.value (Some c.in-Some.text)
-    (sym c.in-Some.is ∙ (rw c.in_ok-change.ensures.ok at c.difference_text.ensures)))
+    (serves.publishes c.args.live.now s (c.new-state.ensures ∙ (rw c.in_ok-told.ensures.ok at
+    c.relayed.ensures.value)) (Some c.in-Some.text)
+    (sym c.in-Some.is ∙ (rw c.in_ok-change.ensures.ok at c.news.ensures)))

@@ -9,17 +9,17 @@ returns-in_default-clause-ran g c = steps.ran_none c.args.config _
 
 pub returns-clause-ran : goal.returns-clause-ran
 returns-clause-ran g c =
-    steps.ran_by (steps.stops_by_fault {next = shown (g.O.Outside.told c.listen.new.self) (g.O.Outside.counts
-    c.listen.new.self)} (steps.at_first c.args.config
+    (steps.stops_by_fault {next = shown (g.O.Outside.told c.listen.new.self) (g.O.Outside.counts c.listen.new.self)}
+    (steps.at_first c.args.config
     (shown (g.O.Outside.told c.args.outside.now) (g.O.Outside.counts c.args.outside.now)))
-    (steps.lawful c.in-Ok.ensures.known) (c.end_of.ensures.failed _ _ _ refl c.in-Err.ensures.told c.in-Err.ensures.counted.faults
-    (ap (λ x. x.dial_faults) c.in-Err.ensures.counted.same)))
+    (steps.lawful c.in-Ok.ensures.known) (c.end_of.ensures.failed _ _ _ refl c.in-Err.ensures.told
+    c.in-Err.ensures.counted.faults (ap (λ x. x.dial_faults) c.in-Err.ensures.counted.same))).ran
 
 pub returns-in-Ok-listen-clause-ran : goal.returns-in-Ok-listen-clause-ran
 returns-in-Ok-listen-clause-ran g c =
-    steps.ran_by (c.make_turns.ensures.ends _ _
+    (c.make_turns.ensures.ends _ _
     (steps.listens c.args.config _ _ _ c.in-Ok.ensures.known (plain_adds c.in-Ok-listen.ensures.told
-    c.in-Ok-listen.ensures.counted.same c.in-Ok-listen.ensures.counted.faults)))
+    c.in-Ok-listen.ensures.counted.same c.in-Ok-listen.ensures.counted.faults))).ran
 
 pub returns-clause-counted : goal.returns-clause-counted
 returns-clause-counted g c = record {
