@@ -1,15 +1,14 @@
 -- What is due at each stage of a turn, and what its calls make of the facts.
 use Rattle.std.proofs.Common.{◌≡◌, ℕ, arith, ap, sym, ◌∙◌, subst, refl, Bool, true, false, cond, List, ◌∷◌, ◌++◌}
-use Rattle.std.proofs.Common.{Option, Some, None, Result, Ok, Err, eq-eqb, inr}
+use Rattle.std.proofs.Common.{Option, Some, None, Result, Ok, Err, eq-eqb}
 use Rattle.std.proofs.lemmas.Bool.{ne_eqb, or_from}
-use Rattle.std.proofs.lemmas.Result.{on_ok_weaker}
 use Rattle.std.specs.Prelude.{is_some, ◌&&◌, ◌||◌, IfSome, OnOk, IfErr, ◌<◌}
 use Rattle.css_model.specs.declared.Kind.{Kind}
 use Rattle.css_model.specs.declared.Kind.TheVariants as kind
 use Rattle.css_model.specs.declared.Why.{Why}
 use Rattle.css_model.specs.declared.Why.TheVariants as why
 use Rattle.css_model.specs.History.{Address, Entry, Dialling, Dialled, NotDialled, Took}
-use Rattle.css_model.specs.History.{Heard, Gone, History, is_sleep, asking_at, request_by, landed_answer}
+use Rattle.css_model.specs.History.{Heard, History, is_sleep, asking_at, request_by, landed_answer}
 use Rattle.css_model.specs.History.{sleeps, Each}
 use Rattle.css_address.specs.declared.fault.AddressFault.{AddressFault}
 use Rattle.css_cii.specs.declared.name.CiiName.{CiiName}
@@ -38,7 +37,7 @@ use Rattle.css_drive.specs.CompanionDue.{from_ts, from_ask, from_take, from_cii_
 use Rattle.css_drive.specs.CompanionDue.{unless_refused, refusal_of, end_by}
 use Rattle.css_drive.specs.CompanionStanding.{Shown, Facts, facts_of, facts_in, KnowsPeers, Stands, Knows, GivesPlace}
 use Rattle.css_drive.specs.CompanionStanding.{asked_after, IsRefusal, HasRead, Comes, Stops, dial_entries}
-use Rattle.css_drive.specs.CompanionStanding.{Adds, HasDialled, HasLost, Goes}
+use Rattle.css_drive.specs.CompanionStanding.{Adds, HasDialled, IsDue, Goes, from_text, after_text, open_of}
 use Rattle.css_drive.specs.CompanionTurns.{dialled, opened, asked_turn, is_peer, unless, is_asking}
 use Rattle.css_drive.specs.Ends.{MayEnd}
 use Rattle.css_drive.specs.Notes as notes
@@ -53,7 +52,6 @@ use Rattle.css_drive.specs.declared.driven.Driven.{Driven}
 use Rattle.css_drive.specs.declared.driven.Driven.TheVariants as driven
 use Rattle.css_drive.proofs.CompanionSteps.{opened_dialled, peers_later, stands_saw, stands_adds}
 use Rattle.css_drive.proofs.CompanionSteps.{stands_tried, stops_here, ends_by, IsOwn, comes, stops_by_memory}
-use Rattle.css_drive.proofs.CompanionSteps.{knows_lawful}
 
 -- the address of the wall clock that is told
 abbrev pub wc_place : State → Option (Result Address AddressFault)
@@ -294,7 +292,7 @@ module _ {config : DriveConfig} {before now : Shown} {saw : List Note → Type 0
       → after (dial_notes (standpoint config (Dialling kind.Cii config.cii ∷ history)) kind.Cii tried
       ++ noted config history)
       → (later : Live) → facts_in later ≡ record (facts_in live) { cii = tried; cii_open = tried }
-      → Comes config before next after later companion (from_wc config)
+      → Comes config before next after later companion (IsDue config from_wc)
   cii_dialled d none k None t notes later is =
       let no : dialled kind.Cii history ≡ None = ap {A = Facts} (λ x. x.cii) s.facts ∙ none in
       let shut : live.cii_open ≡ None = sym (ap {A = Facts} (λ x. x.cii_open) s.facts) ∙ none_open _ refl no in
@@ -312,7 +310,7 @@ module _ {config : DriveConfig} {before now : Shown} {saw : List Note → Type 0
       → HasDialled now next kind.Wc to tried → {after : List Note → Type 0}
       → after (dial_notes (standpoint config (Dialling kind.Wc to ∷ history)) kind.Wc tried ++ noted config history)
       → (later : Live) → facts_in later ≡ record (facts_in live) { wc = tried }
-      → Comes config before next after later companion (from_ts config)
+      → Comes config before next after later companion (IsDue config from_ts)
   wc_dialled {to} d none k None t notes later is =
       comes (stands_tried s kind.Wc to d None t notes later (s.facts
       ∙ ap {A = Option ℕ} {B = Facts} (λ o. record (facts_in live) { wc = o }) none ∙ sym is))
@@ -360,6 +358,23 @@ pub heard : (config : DriveConfig) (p : ℕ) (bytes : List ℕ) (history : Histo
 heard config p bytes history k is =
     ap (λ x. unless_refused (refusal_of (cond (is_cii x) (Some bytes) None) history) (cond (is_ts x) (from_end config
     (Heard p bytes ∷ history)) (from_ts_text config (Heard p bytes ∷ history)))) is
+
+-- the kind of a session, and what is due after it was heard
+abbrev pub kind_for : Session → Kind
+kind_for session.Cii = kind.Cii
+kind_for session.Ts = kind.Ts
+
+pub after_is : (which : Session) (config : DriveConfig) (history : History)
+    → cond (is_ts (Some (kind_for which))) (from_end config history) (from_ts_text config history)
+    ≡ after_text which config history
+after_is session.Cii config history = refl
+after_is session.Ts config history = refl
+
+pub open_kind : {config : DriveConfig} {before now : Shown} {saw : List Note → Type 0} {live : Live}
+    {history : History} → Stands config before now saw live history → (which : Session) → {p : ℕ}
+    → open_of which live ≡ Some p → kind_of p history ≡ Some (kind_for which)
+open_kind s session.Cii e = open_cii s e
+open_kind s session.Ts e = open_ts s e
 
 -- a refused text ends the run so
 pub refusal_ends : (refusal : Option CompanionFault) (rest : Due) (ended : Driven) → IsRefusal refusal ended
@@ -419,21 +434,16 @@ module _ {config : DriveConfig} {before now : Shown} {saw : List Note → Type 0
       peers (answer.Text text) = s.peers
       peers answer.Closed = s.peers
 
-  pub cii_said : due config history ≡ from_cii_text config history → {p : ℕ} → live.cii_open ≡ Some p
-      → (said : Answer) → {next : Shown} → Adds now next (heard_entries p said) → {after : List Note → Type 0}
-      → after (heard_notes session.Cii (standpoint config history) said ++ noted config history) → (later : Live)
+  pub session_said : (which : Session) → due config history ≡ from_text which config history → {p : ℕ}
+      → open_of which live ≡ Some p → (said : Answer) → {next : Shown} → Adds now next (heard_entries p said)
+      → {after : List Note → Type 0}
+      → after (heard_notes which (standpoint config history) said ++ noted config history) → (later : Live)
       → facts_of config (heard_entries p said ++ history) ≡ facts_in later
       → Stands config before next after later (heard_entries p said ++ history)
-  cii_said d {p} at =
+  session_said session.Cii d {p} at =
       said_stands session.Cii p (cii_at s at)
       (d ∙ ap (λ x. take_text x (from_ts_text config history)) (ap {A = Facts} (λ x. x.cii_open) s.facts ∙ at))
-
-  pub ts_said : due config history ≡ from_ts_text config history → {p : ℕ} → live.ts_open ≡ Some p
-      → (said : Answer) → {next : Shown} → Adds now next (heard_entries p said) → {after : List Note → Type 0}
-      → after (heard_notes session.Ts (standpoint config history) said ++ noted config history) → (later : Live)
-      → facts_of config (heard_entries p said ++ history) ≡ facts_in later
-      → Stands config before next after later (heard_entries p said ++ history)
-  ts_said d {p} at =
+  session_said session.Ts d {p} at =
       said_stands session.Ts p (ts_at s at)
       (d ∙ ap (λ x. take_text x (from_end config history)) (ap {A = Facts} (λ x. x.ts_open) s.facts ∙ at))
 
@@ -454,37 +464,11 @@ module _ {config : DriveConfig} {before now : Shown} {saw : List Note → Type 0
 -- it was told of what is added, or memory ran out
 pub told_goes : {T : Type 0} {config : DriveConfig} {before now : Shown} {saw : List Note → Type 0} {live : Live}
     {history : History} → Stands config before now saw live history → IsLawful history → (over : Option OutFault)
-    → (later : Live) (is : Companion) (to : History → Due) → due config history ≡ to history
-    → (result : Result T Driven) → OnOk result (Knows config is history × (facts_in later ≡ facts_in live))
-    → IfErr result (λ ended. ended ≡ driven.Memory) → Goes config before now saw over later is to result
-told_goes s lawful over later is to next (Ok value) told memory = comes (record {
-  told = s.told;
-  faults = s.faults;
-  proper = s.proper;
-  facts = s.facts ∙ sym told.1;
-  peers = s.peers;
-  saw_so = s.saw_so;
-}) told.0 to next
-told_goes s lawful over later is to next (Err ended) told memory = stops_by_memory s lawful over ended memory
-
--- a text was told as gone, so the TS session is over
-pub gone_goes : {T : Type 0} {config : DriveConfig} {before now : Shown} {saw : List Note → Type 0} {live : Live}
-    {companion : Companion} {history : History} → Stands config before now saw live history
-    → Knows config companion history → {p : ℕ} → live.ts_open ≡ Some p → {text : List ℕ}
-    → due config history ≡ SendText p text → {next : Shown} → Adds now next (wrote_entries p text outcome.Gone)
-    → (after : List Note → Type 0)
-    → after (wrote_notes (standpoint config history) outcome.Gone ++ noted config history)
-    → (over : Option OutFault) (later : Live) (is : Companion) (to : History → Due)
-    → due config (Gone p ∷ history) ≡ to (Gone p ∷ history) → (result : Result T Driven)
-    → OnOk result (HasLost live later companion is) → IfErr result (λ ended. ended ≡ driven.Memory)
-    → Goes config before next after over later is to result
-gone_goes {config = config} {live = live} {companion = companion} {history = history} s k {p} at is-due adds after notes
-    over later is to next result lost memory =
-    let P : Type 0 = HasLost live later companion is in
-    told_goes (ts_sent s at is-due outcome.Gone adds notes (record live { ts_open = None }) (ts_over s at))
-    (lawful_plain (Gone p) history (knows_lawful config companion history k) refl refl) over later is to next result
-    (on_ok_weaker result (λ (x : P). (x.known config history (Gone p) k (p, inr refl, open_ts s at), x.only)) lost)
-    memory
+    → (is : Companion) (at : T → History → Type 0) → ((value : T) → at value history) → (result : Result T Driven)
+    → OnOk result (Knows config is history) → IfErr result (λ ended. ended ≡ driven.Memory)
+    → Goes config before now saw over live is at result
+told_goes s lawful over is at next (Ok value) told memory = comes s told (at value) (next value)
+told_goes s lawful over is at next (Err ended) told memory = stops_by_memory s lawful over ended memory
 
 -- ---- addresses
 -- a bad address ends the run

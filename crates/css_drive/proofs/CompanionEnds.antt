@@ -17,9 +17,9 @@ use Rattle.css_companion.proofs.Headline as headline
 use Rattle.css_drive.specs.CompanionDue.{due, hang_up, from_hang_ups, from_turn, from_cii, from_end, final, is_short}
 use Rattle.css_drive.specs.CompanionReports.{due_reports, report_at, is_due, IsPromisedAt, KeepsPromises}
 use Rattle.css_drive.specs.CompanionStanding.{Shown, Facts, facts_of, facts_in, Stands, IsOver}
-use Rattle.css_drive.specs.CompanionStanding.{IsHangingUp, Adds, ending_of}
+use Rattle.css_drive.specs.CompanionStanding.{IsHangingUp, Adds, ending_of, is_another}
 use Rattle.css_drive.specs.CompanionStanding.{hung as closing}
-use Rattle.css_drive.specs.CompanionTurns.{turn_at, first_turn, this_turn, turns, first_of, counted, is_late, goes_on}
+use Rattle.css_drive.specs.CompanionTurns.{turn_at, first_turn, turns, first_of, counted, is_late, goes_on}
 use Rattle.css_drive.specs.CompanionTurns.{dialled, any_dialled}
 use Rattle.css_drive.specs.Ends.{MayEnd}
 use Rattle.css_drive.specs.Notes.{Note, Happened, Reported, Turn, noted, standpoint}
@@ -147,9 +147,15 @@ any_is (Dialled kind.Ts p ∷ h) = by (is_some (dialled kind.Cii h)) (is_some (d
     by false false = refl
 any_is (_ ∷ h) = any_is h
 
-ending_over : (turns : ℕ) (b : Bool) → IsOver (cond b (driven.Spent turns) (driven.Unreachable turns))
-ending_over turns true = tt
-ending_over turns false = tt
+ending_over : (reports : ℕ) (facts : Facts) → IsOver (ending_of reports facts)
+ending_over reports facts =
+    by (nat_lt facts.reported reports) (is_some facts.cii || (is_some facts.wc || is_some facts.ts))
+  where
+    by : (short any : Bool)
+        → IsOver (cond short (cond any (driven.Spent facts.made) (driven.Unreachable facts.made)) driven.Done)
+    by true true = tt
+    by true false = tt
+    by false any = tt
 
 -- before the first turn none was made
 none_made : (h : History) → first_turn h ≡ None → turns h ≡ 0
@@ -160,10 +166,6 @@ none_made (entry ∷ older) e = by (turn_at entry) (none_made older) e
         → counted o (turns older) ≡ 0
     by None below e = below e
     by (Some r) below e = absurd (cc)
-
-cut_short : (a : Bool) (x y : Due) → cond (a && false) x y ≡ y
-cut_short true x y = refl
-cut_short false x y = refl
 
 -- ---- limits
 -- where another turn follows, fewer were made than 2^40
@@ -194,98 +196,59 @@ never_late l (Some reading) turn r e late = by l r (ap (λ o. is_late l (Some re
     by (limit.Seconds n) r e = grind (arith, common_steps, r.0, e)
 
 -- ---- whether the run goes on
-is_fewer : (n m : ℕ) → n < m → nat_lt n m ≡ true
+pub is_fewer : (n m : ℕ) → n < m → nat_lt n m ≡ true
 is_fewer n m lt = grind (arith, common_steps, lt)
 
-is_no_fewer : (n m : ℕ) → m ≤ n → nat_lt n m ≡ false
+pub is_no_fewer : (n m : ℕ) → m ≤ n → nat_lt n m ≡ false
 is_no_fewer n m le = grind (arith, common_steps, le)
+
+-- the two parts of a test
+pub both : (a b : Bool) → (a && b) ≡ true → (a ≡ true) × (b ≡ true)
+both true b e = (refl, e)
+both false b e = absurd (cc)
 
 module _ {config : DriveConfig} {before now : Shown} {saw : List Note → Type 0} {live : Live} {history : History}
     (s : Stands config before now saw live history) where
-  short_so : (b : Bool) → nat_lt live.reported config.reports ≡ b → is_short config history ≡ b
-  short_so b e = ap (λ n. nat_lt n config.reports) (ap {A = Facts} (λ x. x.reported) s.facts) ∙ e
+  -- what follows the report of a turn
+  pub in_turn : due config history ≡ from_turn config history → (few soon : Bool)
+      → nat_lt live.reported config.reports ≡ few → is_late config.limit live.first live.turn ≡ soon
+      → due config history ≡ cond (few && not soon) (from_cii config history) (from_end config history)
+  in_turn d few soon e f =
+      d ∙ ap {A = Facts} (λ x. cond (nat_lt x.reported config.reports && not (is_late config.limit x.first x.turn))
+      (from_cii config history) (from_end config history)) s.facts
+      ∙ ap (λ b. cond (b && not (is_late config.limit live.first live.turn)) (from_cii config history)
+      (from_end config history)) e
+      ∙ ap (λ b. cond (few && not b) (from_cii config history) (from_end config history)) f
 
-  late_so : (b : Bool) → is_late config.limit live.first live.turn ≡ b
-      → is_late config.limit (first_turn history) (this_turn history) ≡ b
-  late_so b e = ap {A = Facts} (λ x. is_late config.limit x.first x.turn) s.facts ∙ e
+  -- another turn, or the end
+  pub at_end : due config history ≡ from_end config history → (again : Bool)
+      → is_another config (facts_in live) ≡ again
+      → due config history ≡ cond again (Now why.Turn) (from_hang_ups (final config history) history)
+  at_end d again e =
+      d ∙ ap {A = Facts} (λ x. cond (is_another config x) (Now why.Turn) (from_hang_ups (final config history) history))
+      s.facts ∙ ap (λ b. cond b (Now why.Turn) (from_hang_ups (final config history) history)) e
 
-  more_so : (b : Bool) → goes_on config.limit live.first live.turn live.made ≡ b
-      → goes_on config.limit (first_turn history) (this_turn history) (turns history) ≡ b
-  more_so b e = ap {A = Facts} (λ x. goes_on config.limit x.first x.turn x.made) s.facts ∙ e
-
-  -- what is due where reports are still to be made, and where not
-  in_turn : (b : Bool) → nat_lt live.reported config.reports ≡ b
-      → from_turn config history
-      ≡ cond (b && not (is_late config.limit (first_turn history) (this_turn history))) (from_cii config history)
-      (from_end config history)
-  in_turn b e = ap (λ x. cond (x && not (is_late config.limit (first_turn history) (this_turn history)))
-      (from_cii config history) (from_end config history)) (short_so b e)
-
-  at_end : (b : Bool) → nat_lt live.reported config.reports ≡ b
-      → from_end config history
-      ≡ cond (b && goes_on config.limit (first_turn history) (this_turn history) (turns history)) (Now why.Turn)
-      (from_hang_ups (final config history) history)
-  at_end b e = ap (λ x. cond (x && goes_on config.limit (first_turn history) (this_turn history) (turns history))
-      (Now why.Turn) (from_hang_ups (final config history) history)) (short_so b e)
-
-  final_as : (b : Bool) → nat_lt live.reported config.reports ≡ b
-      → final config history
-      ≡ cond b (cond (any_dialled history) (driven.Spent (turns history)) (driven.Unreachable (turns history)))
-      driven.Done
-  final_as b e = ap (λ x. cond x (cond (any_dialled history) (driven.Spent (turns history)) (driven.Unreachable (turns
-      history))) driven.Done) (short_so b e)
-
-  pub makes_calls : due config history ≡ from_turn config history → live.reported < config.reports
-      → is_late config.limit live.first live.turn ≡ false → due config history ≡ from_cii config history
-  makes_calls d few soon =
-      d ∙ in_turn true (is_fewer _ _ few)
-      ∙ ap (λ b. cond (not b) (from_cii config history) (from_end config history)) (late_so false soon)
-
-  pub is_last : due config history ≡ from_turn config history → is_late config.limit live.first live.turn ≡ true
-      → due config history ≡ from_end config history
-  is_last d late =
-      d ∙ ap (λ b. cond (is_short config history && not b) (from_cii config history) (from_end config history))
-      (late_so true late) ∙ cut_short (is_short config history) (from_cii config history) (from_end config history)
-
-  pub is_done : due config history ≡ from_turn config history → config.reports ≤ live.reported
-      → IsHangingUp config driven.Done history
-  is_done d made = let none = is_no_fewer live.reported config.reports made in record {
-    over = tt;
-    first = d ∙ in_turn false none ∙ at_end false none ∙ ap (λ x. from_hang_ups x history) (final_as false none);
-    final_so = final_as false none;
-  }
-
-  pub next_turn : due config history ≡ from_end config history → live.reported < config.reports
-      → goes_on config.limit live.first live.turn live.made ≡ true → due config history ≡ Now why.Turn
-  next_turn d few again =
-      d ∙ at_end true (is_fewer _ _ few)
-      ∙ ap (λ b. cond b (Now why.Turn) (from_hang_ups (final config history) history)) (more_so true again)
-
-  pub is_over : due config history ≡ from_end config history → live.reported < config.reports
-      → goes_on config.limit live.first live.turn live.made ≡ false
-      → IsHangingUp config (ending_of live.made live.cii live.wc live.ts) history
-  is_over d few last =
-      let f : final config history ≡ ending_of live.made live.cii live.wc live.ts =
-      final_as true (is_fewer _ _ few)
-      ∙ ap (λ b. cond b (driven.Spent (turns history)) (driven.Unreachable (turns history))) (any_is history)
-      ∙ ap {A = Facts} (λ x. ending_of x.made x.cii x.wc x.ts) s.facts in
+  pub is_over : due config history ≡ from_end config history → is_another config (facts_in live) ≡ false
+      → IsHangingUp config (ending_of config.reports (facts_in live)) history
+  is_over d last =
+      let f : final config history ≡ ending_of config.reports (facts_in live) =
+      ap (λ b. cond (is_short config history) (cond b (driven.Spent (turns history)) (driven.Unreachable (turns
+      history))) driven.Done) (any_is history) ∙ ap (ending_of config.reports) s.facts in
       record {
-        over = ending_over live.made (is_some live.cii || (is_some live.wc || is_some live.ts));
-        first =
-            d ∙ at_end true (is_fewer _ _ few)
-            ∙ ap (λ b. cond b (Now why.Turn) (from_hang_ups (final config history) history)) (more_so false last)
-            ∙ ap (λ x. from_hang_ups x history) f;
+        over = ending_over config.reports (facts_in live);
+        first = at_end d false last ∙ ap (λ x. from_hang_ups x history) f;
         final_so = f;
       }
 
-  -- the last turn comes after a first one
-  pub has_begun : goes_on config.limit live.first live.turn live.made ≡ false → live.first ≡ None → ⊥
-  has_begun last none =
+  -- where no turn follows though reports are to be made, one was begun
+  pub has_begun : is_another config (facts_in live) ≡ false → live.reported < config.reports → live.first ≡ None → ⊥
+  has_begun last few none =
       let made : live.made ≡ 0 = sym (ap {A = Facts} (λ x. x.made) s.facts)
       ∙ none_made history (ap {A = Facts} (λ x. x.first) s.facts ∙ none) in
-      let first : goes_on config.limit None live.turn 0 ≡ false = ap (λ o. goes_on config.limit o live.turn 0)
-      (sym none) ∙ ap (λ n. goes_on config.limit live.first live.turn n) (sym made) ∙ last in
-      first_goes_on config.limit live.turn config.limit_range first
+      first_goes_on config.limit live.turn config.limit_range
+      (ap (λ o. goes_on config.limit o live.turn 0) (sym none)
+      ∙ ap (λ n. goes_on config.limit live.first live.turn n) (sym made)
+      ∙ ap (λ b. b && goes_on config.limit live.first live.turn live.made) (sym (is_fewer _ _ few)) ∙ last)
 
 -- ---- hanging up
 pub over_ends : (end : Driven) → IsOver end → MayEnd (Ends end) end

@@ -1,8 +1,9 @@
 -- What the turns of a run come to.
 use Rattle.std.proofs.Common.{◌≡◌, ◌≤◌, ℕ, ap, sym, ◌∙◌, subst, refl, inl, inr, arith, [], Option, Some, None, Result}
-use Rattle.std.proofs.Common.{Ok, Err, List}
+use Rattle.std.proofs.Common.{Ok, Err, List, Bool, true, false, cond}
+use Rattle.std.proofs.lemmas.Bool.{ltb-true}
 use Rattle.std.proofs.lemmas.Grind.{common_steps}
-use Rattle.std.specs.Prelude.{◌⊎◌, OnOk}
+use Rattle.std.specs.Prelude.{◌⊎◌, OnOk, ◌<◌, ◌||◌, is_some, nat_lt}
 use Rattle.css_model.specs.History.{History}
 use Rattle.css_outside.specs.Faults.{HasRisen}
 use Rattle.css_outside.specs.Outsides.{with_entries}
@@ -11,14 +12,15 @@ use Rattle.css_outside.specs.declared.fault.OutFault.TheVariants as fault
 use Rattle.css_companion.specs.Meanings.{report_after}
 use Rattle.css_companion.specs.Standing.{Companion, own_of}
 use Rattle.css_companion.specs.declared.report.Report.{Report}
-use Rattle.css_drive.specs.CompanionDue.{due, from_end}
+use Rattle.css_drive.specs.CompanionDue.{due}
 use Rattle.css_drive.specs.CompanionReports.{report_at}
-use Rattle.css_drive.specs.CompanionStanding.{Shown, Knows, Comes, Stops, Made, IsEarly, IsSo}
-use Rattle.css_drive.specs.CompanionStanding.{IsEndOf, final_end, ending_of, facts_of, facts_in, HasTried}
+use Rattle.css_drive.specs.CompanionStanding.{Shown, Facts, Knows, Stands, Stops, Made, IsEarly, IsSo}
+use Rattle.css_drive.specs.CompanionStanding.{IsEndOf, final_end, ending_of, facts_of, facts_in, HasTried, Names}
 use Rattle.css_drive.specs.Ends.{MayEnd, CountsNetFault, CountsDialFaults}
 use Rattle.css_drive.specs.Notes.{Note}
 use Rattle.css_drive.specs.Proper.{Empty}
 use Rattle.css_drive.specs.declared.companion_live.Live.{Live}
+use Rattle.css_drive.specs.declared.companion_live.Run.{Run}
 use Rattle.css_drive.specs.declared.config.DriveConfig.{DriveConfig}
 use Rattle.css_drive.specs.declared.driven.Driven.{Driven}
 use Rattle.css_drive.specs.declared.driven.Driven.TheVariants as driven
@@ -34,11 +36,6 @@ reports_so config companion history reading report k e =
     e ∙ ap (λ x. report_after x companion.setup.selector history reading) k.own
     ∙ ap (λ x. report_after config.companion.local x.selector history reading) k.setup
 
--- ---- how it may end
-pub hung_early : (end ended : Driven) → IsEarly end → (ended ≡ end) ⊎ IsEarly ended → IsEarly ended
-hung_early end ended early (inl e) = subst IsEarly (sym e) early
-hung_early end ended early (inr f) = f
-
 -- ---- counts of failed dials
 pub early_dials : (before now : ℕ) (ended : Driven) → IsEarly ended → before ≤ now
     → CountsDialFaults before now ended
@@ -53,20 +50,22 @@ final_dials (Some (fault.Failed failure)) before now ended c le = le
 final_dials (Some fault.Memory) before now ended c le = le
 
 -- a run that ended where no dial of CSS-CII succeeded
-pub ending_dials : (before now turns : ℕ) (cii wc ts : Option ℕ) → before ≤ now
-    → (cii ≡ None → HasRisen before now) → CountsDialFaults before now (ending_of turns cii wc ts)
-ending_dials before now turns (Some x) wc ts le tried = le
-ending_dials before now turns None (Some x) ts le tried = le
-ending_dials before now turns None None (Some x) le tried = le
-ending_dials before now turns None None None le tried = tried refl
-
-pub hung_dials : (before now turns : ℕ) (cii wc ts : Option ℕ) (end ended : Driven) → before ≤ now
-    → (cii ≡ None → HasRisen before now) → end ≡ ending_of turns cii wc ts → (ended ≡ end) ⊎ IsEarly ended
-    → CountsDialFaults before now ended
-hung_dials before now turns cii wc ts end ended le tried so (inl e) =
+pub hung_dials : (before now reports : ℕ) (facts : Facts) (end ended : Driven) → before ≤ now
+    → (facts.reported < reports → facts.cii ≡ None → HasRisen before now) → end ≡ ending_of reports facts
+    → (ended ≡ end) ⊎ IsEarly ended → CountsDialFaults before now ended
+hung_dials before now reports facts end ended le tried so (inl e) =
     let P : Driven → Type 0 = λ x. CountsDialFaults before now x in
-    subst P (sym (e ∙ so)) (ending_dials before now turns cii wc ts le tried)
-hung_dials before now turns cii wc ts end ended le tried so (inr f) = early_dials before now ended f le
+    subst P (sym (e ∙ so)) (by (nat_lt facts.reported reports) refl facts.cii refl facts.wc facts.ts)
+  where
+    by : (short : Bool) → nat_lt facts.reported reports ≡ short → (cii : Option ℕ) → facts.cii ≡ cii
+        → (wc ts : Option ℕ) → CountsDialFaults before now (cond short (cond (is_some cii || (is_some wc || is_some ts))
+        (driven.Spent facts.made) (driven.Unreachable facts.made)) driven.Done)
+    by false s cii c wc ts = le
+    by true s (Some x) c wc ts = le
+    by true s None c (Some x) ts = le
+    by true s None c None (Some x) = le
+    by true s None c None None = tried (ltb-true _ _ s) c
+hung_dials before now reports facts end ended le tried so (inr f) = early_dials before now ended f le
 
 -- a count that rose since a later one rose since an earlier one
 pub risen_from : (was before now : ℕ) → was ≤ before → HasRisen before now → HasRisen was now
@@ -87,10 +86,18 @@ pub on_ok : {T E P : Type 0} (r : Result T E) → P → OnOk r P
 on_ok (Ok v) p = p
 on_ok (Err e) p = tt
 
-pub tried_from : {T E : Type 0} (r : Result T E) (live : Live) (was before now : ℕ) → was ≤ before
-    → OnOk r (live.cii ≡ None → HasRisen before now) → OnOk r (HasTried was now live)
-tried_from (Ok v) live was before now le f = λ begun none. risen_from was before now le (f none)
-tried_from (Err e) live was before now le f = tt
+pub tried_from : {T E : Type 0} (r : Result T E) (config : DriveConfig) (live : Live) (was before now : ℕ)
+    → was ≤ before → OnOk r (live.cii ≡ None → HasRisen before now) → OnOk r (HasTried config was now live)
+tried_from (Ok v) config live was before now le f = λ few begun none. risen_from was before now le (f none)
+tried_from (Err e) config live was before now le f = tt
+
+-- a run's parts stay the same places
+pub names_on : {O W : Type 0} {old mid new : Run O W} → Names old mid → Names mid new → Names old new
+names_on n m = record {
+  outside = m.outside ∙ n.outside;
+  observer = m.observer ∙ n.observer;
+  companion = m.companion ∙ n.companion;
+}
 
 -- ---- the end
 -- the run stopped, and its observer has the last word
@@ -143,19 +150,13 @@ pub no_entries : (told : Option History) → told ≡ with_entries [] told
 no_entries None = refl
 no_entries (Some h) = refl
 
-pub comes_first : (config : DriveConfig) (before : Shown) (saw : List Note → Type 0) (live : Live)
-    (companion : Companion) → Knows config companion [] → facts_of config [] ≡ facts_in live → saw []
-    → Comes config before before saw live companion (from_end config)
-comes_first config before saw live companion k facts begun = record {
-  history = [];
-  known = k;
-  stands = record {
-    told = no_entries before.told;
-    faults = refl;
-    proper = Empty;
-    facts = facts;
-    peers = λ wanted peer none. absurd (cc);
-    saw_so = begun;
-  };
-  next = refl;
+pub stands_first : (config : DriveConfig) (before : Shown) (saw : List Note → Type 0) (live : Live)
+    → facts_of config [] ≡ facts_in live → saw [] → Stands config before before saw live []
+stands_first config before saw live facts begun = record {
+  told = no_entries before.told;
+  faults = refl;
+  proper = Empty;
+  facts = facts;
+  peers = λ wanted peer none. absurd (cc);
+  saw_so = begun;
 }

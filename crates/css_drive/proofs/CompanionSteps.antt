@@ -218,10 +218,10 @@ module _ {config : DriveConfig} {before now : Shown} {saw : List Note → Type 0
       (peers_tried _ _ k to tried history s.peers t.later t.peer) after
       (subst after (sym (dial_noted config k to tried history)) notes) later facts
 
-  -- after the call that is due the run is where `to` goes on
-  pub comes : {companion : Companion} → Knows config companion history → (to : History → Due)
-      → due config history ≡ to history → Comes config before now saw live companion to
-  comes k to next = record { history = history; known = k; stands = s; next = next }
+  -- the run came to this history
+  pub comes : {companion : Companion} → Knows config companion history → (at : History → Type 0) → at history
+      → Comes config before now saw live companion at
+  comes k at next = record { history = history; known = k; stands = s; next = next }
 
   -- the run ends, with nothing more told
   pub stops_here : IsLawful history → (over : Option OutFault) → (ended : Driven) → IsOwn ended
@@ -272,12 +272,11 @@ module _ {config : DriveConfig} {before now : Shown} {saw : List Note → Type 0
 -- a second step goes on from where the first came
 infixl 10 ◌>=>◌
 pub ◌>=>◌ : {W : Type 0} {config : DriveConfig} {old mid : Shown} {saw after : W → List Note → Type 0}
-    {live later : Live} {companion told : Companion} {when : History → Type 0} {to : History → Due}
-    {P : Shown → W → Type 0}
+    {live later : Live} {companion told : Companion} {when at : History → Type 0} {P : Shown → W → Type 0}
     → ((before : Shown) (started : W) (history : History) → Stands config before old (saw started) live history
-    → Knows config companion history → when history → Comes config before mid (after started) later told to)
+    → Knows config companion history → when history → Comes config before mid (after started) later told at)
     → ((before : Shown) (started : W) (history : History) → Stands config before mid (after started) later history
-    → Knows config told history → due config history ≡ to history → P before started)
+    → Knows config told history → at history → P before started)
     → (before : Shown) (started : W) (history : History) → Stands config before old (saw started) live history
     → Knows config companion history → when history → P before started
 first >=> second = λ before started history s k w.

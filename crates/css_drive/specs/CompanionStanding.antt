@@ -1,35 +1,39 @@
 -- How the variables of a companion's run stand for its history.
 use Rattle.std.specs.Prelude.{◌≡◌, ◌≤◌, ◌<◌, ℕ, List, Bool, true, false, [], ◌∷◌, ◌++◌, Option, Some, None, Result, Ok}
-use Rattle.std.specs.Prelude.{Err, MatchResult, OnOk, IfErr, IfSome, is_some, ◌||◌, if◌then◌else◌, length, ⊤}
+use Rattle.std.specs.Prelude.{Err, MatchResult, OnOk, IfErr, IfSome, is_some, nat_lt, ◌&&◌, ◌||◌, if◌then◌else◌, length, ⊤}
 use Rattle.css_model.specs.declared.TheConstants.{LIMIT}
 use Rattle.css_model.specs.declared.Why.{Why}
-use Rattle.css_model.specs.declared.Why.TheVariants as whys
 use Rattle.css_model.specs.declared.Kind.{Kind}
 use Rattle.css_model.specs.declared.Kind.TheVariants as kind
 use Rattle.css_model.specs.Explains.{IsLawful}
-use Rattle.css_model.specs.History.{Address, Entry, Dialling, Dialled, NotDialled, HungUp, History}
+use Rattle.css_model.specs.History.{Address, Dialling, Dialled, NotDialled, HungUp, History}
 use Rattle.css_outside.specs.Faults.{HasRisen}
 use Rattle.css_outside.specs.Outsides.{Counts, with_entries, clock_entries, sleep_entries}
 use Rattle.css_outside.specs.declared.calls.Clocked.{Clocked}
+use Rattle.css_outside.specs.declared.calls.Wrote.{Wrote as Outcome}
+use Rattle.css_outside.specs.declared.calls.Wrote.TheVariants as outcome
 use Rattle.css_companion.specs.Meanings.{kind_of}
 use Rattle.css_companion.specs.Standing.{Companion, StandsFor, own_of, wanted_by}
-use Rattle.css_companion.specs.Steps.{IsEntryOf}
-use Rattle.css_companion.specs.declared.event.CompanionEvent.TheVariants as event
 use Rattle.css_address.specs.declared.fault.AddressFault.{AddressFault}
 use Rattle.css_cii.specs.declared.name.CiiName.{CiiName}
 use Rattle.css_companion.specs.declared.fault.CompanionFault.{CompanionFault}
 use Rattle.css_outside.specs.declared.fault.OutFault.{OutFault}
 use Rattle.css_outside.specs.declared.fault.OutFault.TheVariants as fault
-use Rattle.css_drive.specs.CompanionTurns.{first_turn, this_turn, turns, dialled, opened, asked_turn}
+use Rattle.css_drive.specs.CompanionTurns.{first_turn, this_turn, turns, dialled, opened, asked_turn, is_peer, unless}
+use Rattle.css_drive.specs.CompanionTurns.{goes_on}
 use Rattle.css_drive.specs.CompanionReports.{due_reports, KeepsPromises}
-use Rattle.css_drive.specs.CompanionDue.{due, from_hang_ups, final, end_by, IsProperRun}
+use Rattle.css_drive.specs.CompanionDue.{due, due_at, from_hang_ups, final, end_by, IsProperRun, Point, point_of}
+use Rattle.css_drive.specs.CompanionDue.{text_sent, text_gone, from_cii_text, from_ts_text, from_end}
 use Rattle.css_drive.specs.Ends.{MayEnd, CountsNetFault}
 use Rattle.css_drive.specs.Notes.{Note, noted}
 use Rattle.css_drive.specs.Proper.{Due, Now}
 use Rattle.css_drive.specs.declared.companion_live.Live.{Live}
+use Rattle.css_drive.specs.declared.companion_live.Run.{Run}
 use Rattle.css_drive.specs.declared.config.DriveConfig.{DriveConfig}
 use Rattle.css_drive.specs.declared.driven.Driven.{Driven}
 use Rattle.css_drive.specs.declared.driven.Driven.TheVariants as driven
+use Rattle.css_drive.specs.declared.session.Session.{Session}
+use Rattle.css_drive.specs.declared.session.Session.TheVariants as session
 
 -- what an outside tells, and what it counts
 pub record Shown : Type 0 where
@@ -105,13 +109,13 @@ pub record Knows (config : DriveConfig) (companion : Companion) (history : Histo
   pub setup : companion.setup ≡ wanted_by config.companion
   pub own : own_of companion ≡ config.companion.local
 
--- The run came to where `to` says what is due.
+-- The run came to a history of this kind.
 pub record Comes (config : DriveConfig) (before now : Shown) (saw : List Note → Type 0) (live : Live)
-    (companion : Companion) (to : History → Due) : Type 0 where
+    (companion : Companion) (at : History → Type 0) : Type 0 where
   pub history : History
   pub known : Knows config companion history
   pub stands : Stands config before now saw live history
-  pub next : due config history ≡ to history
+  pub next : at history
 
 -- An observer that is over ends no run by a fault of the outside, and one that isn't over by no fault of a write.
 abbrev pub IsSo : Option OutFault → Driven → Type 0
@@ -133,42 +137,58 @@ pub record Stops (config : DriveConfig) (before now : Shown) (saw : List Note �
 
 -- The run came there, or ended.
 abbrev pub Goes : {T : Type 0} → DriveConfig → Shown → Shown → (List Note → Type 0) → Option OutFault → Live
-    → Companion → (History → Due) → Result T Driven → Type 0
-Goes config before now saw over live companion to result =
-    MatchResult result (λ _. Comes config before now saw live companion to) (Stops config before now saw over)
+    → Companion → (T → History → Type 0) → Result T Driven → Type 0
+Goes config before now saw over live companion at result =
+    MatchResult result (λ value. Comes config before now saw live companion (at value)) (Stops config before now saw over)
 
 -- ---- stages
--- where a run is: its outside, its variables and its observer
-pub record At (W : Type 0) : Type 0 where
-  pub told : Option History
-  pub counts : Counts
-  pub live : Live
-  pub companion : Companion
-  pub observer : W
+-- what an outside tells and counts in a run
+abbrev pub shown_of : {O W : Type 0} → (O → Option History) → (O → Counts) → Run O W → Shown
+shown_of told counts run = shown (told run.outside.now) (counts run.outside.now)
 
-abbrev pub at : {W : Type 0} → Option History → Counts → Live → Companion → W → At W
-at told counts live companion observer =
-    record { told = told; counts = counts; live = live; companion = companion; observer = observer }
-
--- the run comes from a history of this kind to where `to` says what is due, or ends
-abbrev pub LeadsFrom : {W T : Type 0} → (W → W → List Note → Type 0) → (W → Option OutFault) → DriveConfig → At W
-    → At W → (History → Type 0) → (DriveConfig → History → Due) → Result T Driven → Type 0
-LeadsFrom {W} saw over config old new when to result =
+-- the run comes from a history of this kind to one of that kind, or ends
+abbrev pub LeadsFrom : {O W T : Type 0} → (O → Option History) → (O → Counts) → (W → W → List Note → Type 0)
+    → (W → Option OutFault) → DriveConfig → Run O W → Run O W → (History → Type 0) → (T → History → Type 0)
+    → Result T Driven → Type 0
+LeadsFrom {O} {W} told counts saw over config old new when at result =
     (before : Shown) (started : W) (history : History)
-    → Stands config before (shown old.told old.counts) (saw started old.observer) old.live history
-    → Knows config old.companion history → when history
-    → Goes config before (shown new.told new.counts) (saw started new.observer) (over new.observer) new.live
-    new.companion (to config) result
+    → Stands config before (shown_of told counts old) (saw started old.observer.now) old.live history
+    → Knows config old.companion.now history → when history
+    → Goes config before (shown_of told counts new) (saw started new.observer.now) (over new.observer.now) new.live
+    new.companion.now at result
+
+-- after a history this is due
+abbrev pub IsDue : DriveConfig → (DriveConfig → History → Due) → History → Type 0
+IsDue config to history = due config history ≡ to config history
 
 -- the run comes from where `from` says what is due to where `to` does, or ends
-abbrev pub Leads : {W T : Type 0} → (W → W → List Note → Type 0) → (W → Option OutFault) → DriveConfig → At W → At W
-    → (DriveConfig → History → Due) → (DriveConfig → History → Due) → Result T Driven → Type 0
-Leads saw over config old new from to result =
-    LeadsFrom saw over config old new (λ history. due config history ≡ from config history) to result
+abbrev pub Leads : {O W T : Type 0} → (O → Option History) → (O → Counts) → (W → W → List Note → Type 0)
+    → (W → Option OutFault) → DriveConfig → Run O W → Run O W → (DriveConfig → History → Due)
+    → (DriveConfig → History → Due) → Result T Driven → Type 0
+Leads told counts saw over config old new from to result =
+    LeadsFrom told counts saw over config old new (IsDue config from) (λ _. IsDue config to) result
 
--- a turn is due
-abbrev pub a_turn : DriveConfig → History → Due
-a_turn config history = Now whys.Turn
+-- a reading is due
+abbrev pub a_reading : Why → DriveConfig → History → Due
+a_reading why config history = Now why
+
+-- the turn is at this point, and what follows there is due
+abbrev pub IsAt : DriveConfig → Point → History → Type 0
+IsAt config point history = (point_of history ≡ point) × IsDue config (λ config history. due_at config point history) history
+
+-- the point after a text was sent, or was gone
+abbrev pub spoken : Outcome → Point → Point
+spoken outcome.Sent point = text_sent point
+spoken outcome.Gone point = text_gone point
+
+-- what is due where a session is to be heard, and what after it
+abbrev pub from_text : Session → DriveConfig → History → Due
+from_text session.Cii config history = from_cii_text config history
+from_text session.Ts config history = from_ts_text config history
+
+abbrev pub after_text : Session → DriveConfig → History → Due
+after_text session.Cii config history = from_ts_text config history
+after_text session.Ts config history = from_end config history
 
 -- an observer saw more notes where a call was made, and no more where none was
 abbrev pub SawMore : {W T : Type 0} → (W → W → List Note → Type 0) → W → W → (T → List Note) → Result T Driven
@@ -270,11 +290,17 @@ abbrev pub HasBegun : Companion → Companion → Type 0
 HasBegun was is = (config : DriveConfig) (history : History) (peer : ℕ) → Knows config was history
     → Knows config is (Dialled kind.Ts peer ∷ history)
 
--- the TS session is over, and the companion knows
-pub record HasLost (before now : Live) (was is : Companion) : Type 0 where
-  pub known : (config : DriveConfig) (history : History) (entry : Entry) → Knows config was history
-      → IsEntryOf event.TsClosed entry history → Knows config is (entry ∷ history)
-  pub only : facts_in now ≡ record (facts_in before) { ts_open = None }
+-- what is open of a session once that of a peer is over
+abbrev pub still : Option ℕ → ℕ → Option ℕ
+still session peer = unless (is_peer session peer) session
+
+abbrev pub without : ℕ → Facts → Facts
+without peer facts = record facts { cii_open = still facts.cii_open peer; ts_open = still facts.ts_open peer }
+
+-- the peer of a session that is open
+abbrev pub open_of : Session → Live → Option ℕ
+open_of session.Cii live = live.cii_open
+open_of session.Ts live = live.ts_open
 
 -- a call ended the run as a text is refused, or for want of memory
 abbrev pub IsRefusal : Option CompanionFault → Driven → Type 0
@@ -318,24 +344,38 @@ pub record Made (config : DriveConfig) (before now : Option History) (saw : List
   pub so : IsEndOf over ended
 
 -- ---- counts
--- what the stages of a turn leave as it is
-pub record Keeps (before now : Live) : Type 0 where
-  pub made : now.made ≡ before.made
-  pub reported : now.reported ≡ before.reported
-  pub dialled : now.cii ≡ None → before.cii ≡ None
+-- a run's parts are the same places
+pub record Names {O W : Type 0} (old new : Run O W) : Type 0 where
+  pub outside : new.outside.ghost_name ≡ old.outside.ghost_name
+  pub observer : new.observer.ghost_name ≡ old.observer.ghost_name
+  pub companion : new.companion.ghost_name ≡ old.companion.ghost_name
 
 -- What every stage of a turn does. Failed dials are counted, and the companion knows no reading above the last one.
-pub record Stays {T : Type 0} (old new : Counts) (before now : Live) (was is : Companion) (result : Result T Driven)
-    : Type 0 where
-  pub keeps : Keeps before now
-  pub dials : old.dial_faults ≤ new.dial_faults
-  pub floor : was.client.floor ≤ old.last → OnOk result (is.client.floor ≤ new.last)
+pub record Stays {O W T : Type 0} (counts : O → Counts) (old new : Run O W) (result : Result T Driven) : Type 0 where
+  pub names : Names old new
+  pub made : new.live.made ≡ old.live.made
+  pub reported : new.live.reported ≡ old.live.reported
+  pub dialled : new.live.cii ≡ None → old.live.cii ≡ None
+  pub dials : (counts old.outside.now).dial_faults ≤ (counts new.outside.now).dial_faults
+  pub floor : old.companion.now.client.floor ≤ (counts old.outside.now).last
+      → OnOk result (new.companion.now.client.floor ≤ (counts new.outside.now).last)
   pub early : IfErr result IsEarly
 
--- where a turn was begun, and no dial of CSS-CII succeeded, one has failed since
-abbrev pub HasTried : ℕ → ℕ → Live → Type 0
-HasTried started now live = (live.first ≡ None → ⊥) → live.cii ≡ None → HasRisen started now
+-- where a turn was begun, and no dial of CSS-CII succeeded, one has failed since; after the last report it is no matter
+abbrev pub HasTried : DriveConfig → ℕ → ℕ → Live → Type 0
+HasTried config started now live =
+    live.reported < config.reports → (live.first ≡ None → ⊥) → live.cii ≡ None → HasRisen started now
 
-abbrev pub ending_of : ℕ → Option ℕ → Option ℕ → Option ℕ → Driven
-ending_of turns cii wc ts =
-    if is_some cii || (is_some wc || is_some ts) then driven.Spent turns else driven.Unreachable turns
+-- whether another turn follows
+abbrev pub is_another : DriveConfig → Facts → Bool
+is_another config facts =
+    nat_lt facts.reported config.reports && goes_on config.limit facts.first facts.turn facts.made
+
+-- how a run ends that makes no turn any more, where so many reports were asked for
+abbrev pub ending_of : ℕ → Facts → Driven
+ending_of reports facts =
+    if nat_lt facts.reported reports
+    then (if is_some facts.cii || (is_some facts.wc || is_some facts.ts)
+    then driven.Spent facts.made
+    else driven.Unreachable facts.made)
+    else driven.Done

@@ -1,21 +1,26 @@
 //! Single calls of a companion's run, of which its observer is told.
-ghost use Rattle.std.specs.Prelude.{◌≡◌, ◌≤◌, [], ◌∷◌, Option, None, Some, IfOk, IfErr, OnOk};
-ghost use Rattle.css_model.specs.History.{Sent};
+ghost use Rattle.std.specs.Prelude.{◌≡◌, ◌≤◌, ◌∷◌, List, Option, None, Some, IfOk, IfErr, OnOk};
 ghost use Rattle.css_outside.specs.Faults.{HasRisen};
+ghost use Rattle.css_outside.specs.declared.calls.Wrote.TheVariants.{Sent};
 ghost use Rattle.css_outside.specs.declared.fault.OutFault.{OutFault as Fault};
-ghost use Rattle.css_outside.specs.Outsides.{heard_entries, wrote_entries};
-ghost use Rattle.css_drive.specs.CompanionStanding.{Shown, shown, IsEarly, Fails, Calls, Adds, HasDialled, HasRead};
-ghost use Rattle.css_drive.specs.CompanionStanding.{HasLost, Keeps, Stays, Knows, SawMore, final_end};
-ghost use Rattle.css_drive.specs.Notes.{Standpoint, Happened, Asked, Sees, dial_notes, heard_notes, slept_notes};
-ghost use Rattle.css_drive.specs.Notes.{wrote_notes};
+ghost use Rattle.css_model.specs.History.{Entry, History};
+ghost use Rattle.css_companion.specs.Steps.{IsEntryOf};
+ghost use Rattle.css_companion.specs.declared.event.CompanionEvent.TheVariants.{TsClosed};
+ghost use Rattle.css_drive.specs.CompanionDue.{Point, due_at};
+ghost use Rattle.css_drive.specs.CompanionStanding.{Shown, shown, shown_of, IsEarly, Fails, Calls, HasDialled, HasRead};
+ghost use Rattle.css_drive.specs.CompanionStanding.{IsAt, Knows, LeadsFrom, Stays, SawMore, final_end};
+ghost use Rattle.css_drive.specs.CompanionStanding.{facts_in, still, without, spoken};
+ghost use Rattle.css_drive.specs.Notes.{Note, Standpoint, Sees, dial_notes, slept_notes};
+ghost use Rattle.css_drive.specs.Proper.{SendText};
+ghost use Rattle.css_drive.specs.declared.config.DriveConfig.{DriveConfig as Config};
 
-use crate::calls::{dial, end_of, send_datagram, send_text, take_text};
-use crate::companion_live::Live;
+use crate::calls::{dial, end_of, send_text};
+use crate::companion_live::{Live, Run};
 use crate::driven::Driven;
 use crate::observes::Observes;
 use crate::session::Session;
 use css_companion::{Companion, CompanionEvent};
-use css_outside::{Address, Clocked, Heard, Kind, OutFault, Outside, Why, Wrote};
+use css_outside::{Address, Clocked, Kind, OutFault, Outside, Why, Wrote};
 
 /// How a run ends that its observer ends.
 fn unseen(fault: OutFault) -> Driven
@@ -73,95 +78,6 @@ pub fn try_dial<O: Outside, W: Observes>(
     Ok(tried)
 }
 
-/// Reads the clock. Where the machine slept, the companion forgets what it asked before the reading is used.
-pub fn read<O: Outside, W: Observes>(
-    outside: &mut O,
-    observer: &W,
-    companion: &mut Companion,
-    live: &mut Live,
-    why: Why,
-) -> Result<Clocked, Driven>
-    requires { companion.old.client.floor ≤ (O.counts outside.old).last }
-    ensures told { Calls (shown (O.told outside.old) (O.counts outside.old))
-        (shown (O.told outside.new) (O.counts outside.new)) (W.over observer.now)
-        (λ old new. HasRead old new live.old live.new companion.old companion.new why) result }
-    ensures on { OnOk result (W.over observer.now ≡ None) }
-    ensures stays { Stays (O.counts outside.old) (O.counts outside.new) live.old live.new companion.old companion.new
-        result }
-{
-    check(observer)?;
-    match outside.now(why) {
-        Ok(clocked) => {
-            if clocked.slept {
-                companion.slept();
-                live.asked = None;
-            }
-            Ok(clocked)
-        }
-        Err(fault) => Err(end_of(fault)),
-    }
-}
-
-/// Tells the observer what came of a text that was to be sent on the TS session.
-fn note_sent<W: Observes>(observer: &mut W, sent: Wrote)
-    ensures { (from : Standpoint) → Sees W.saw W.over observer.old observer.new (wrote_notes from sent) }
-{
-    match sent {
-        Wrote::Sent => {}
-        Wrote::Gone => observer.closed(Session::Ts),
-    }
-}
-
-/// Sends a text on the TS session.
-pub fn send<O: Outside, W: Observes>(
-    outside: &mut O,
-    observer: &mut W,
-    peer: u32,
-    text: &[u8],
-) -> Result<Wrote, Driven>
-    ensures told { Calls (shown (O.told outside.old) (O.counts outside.old))
-        (shown (O.told outside.new) (O.counts outside.new)) (W.over observer.new)
-        (λ old new sent. Adds old new (wrote_entries peer text.now sent)) result }
-    ensures saw { (from : Standpoint) → SawMore W.saw observer.old observer.new (wrote_notes from) result }
-{
-    check(observer)?;
-    let sent = send_text(outside, peer, text)?;
-    note_sent(observer, sent);
-    Ok(sent)
-}
-
-/// Tells the observer what came of a session.
-fn note_heard<W: Observes>(observer: &mut W, companion: &Companion, session: Session, heard: &Heard)
-    ensures { (from : Standpoint) → Knows from.config companion.now from.history
-        → Sees W.saw W.over observer.old observer.new (heard_notes session from heard.now) }
-{
-    match heard {
-        Heard::Quiet => {}
-        Heard::Text(text) => observer.heard(session, text, companion),
-        Heard::Closed => observer.closed(session),
-    }
-}
-
-/// Asks a session for its next text, which the companion hasn't taken in yet.
-pub fn hear<O: Outside, W: Observes>(
-    outside: &mut O,
-    observer: &mut W,
-    companion: &Companion,
-    session: Session,
-    peer: u32,
-) -> Result<Heard, Driven>
-    ensures told { Calls (shown (O.told outside.old) (O.counts outside.old))
-        (shown (O.told outside.new) (O.counts outside.new)) (W.over observer.new)
-        (λ old new heard. Adds old new (heard_entries peer heard)) result }
-    ensures saw { (from : Standpoint) → Knows from.config companion.now from.history
-        → SawMore W.saw observer.old observer.new (heard_notes session from) result }
-{
-    check(observer)?;
-    let heard = take_text(outside, peer)?;
-    note_heard(observer, companion, session, &heard);
-    Ok(heard)
-}
-
 /// Tells the observer of a sleep, where a reading told one.
 pub fn note_sleep<W: Observes>(observer: &mut W, clocked: &Clocked)
     ensures { (from : Standpoint)
@@ -172,38 +88,82 @@ pub fn note_sleep<W: Observes>(observer: &mut W, clocked: &Clocked)
     }
 }
 
-/// Sends the request of a reading.
-pub fn send_request<O: Outside, W: Observes>(
-    outside: &mut O,
-    observer: &mut W,
-    peer: u32,
-    bytes: &[u8; 32],
-    reading: u64,
-) -> Result<(), Driven>
-    ensures told { Calls (shown (O.told outside.old) (O.counts outside.old))
-        (shown (O.told outside.new) (O.counts outside.new)) (W.over observer.new)
-        (λ old new _. Adds old new (Sent peer bytes.now ∷ [])) result }
-    ensures saw { (from : Standpoint)
-        → SawMore W.saw observer.old observer.new (λ _. Happened from (Asked reading) ∷ []) result }
-{
-    check(observer)?;
-    send_datagram(outside, peer, bytes)?;
-    observer.asked(reading);
-    Ok(())
-}
-
-/// The TS session is over, which the companion is told.
-pub fn lose_ts(live: &mut Live, companion: &mut Companion) -> Result<(), Driven>
-    ensures ok { OnOk result (HasLost live.old live.new companion.old companion.new) }
+/// The companion is told that its TS session is over.
+pub fn lose_ts(companion: &mut Companion) -> Result<(), Driven>
+    ensures ok { (config : Config) → (history : History) → (entry : Entry) → Knows config companion.old history
+        → IsEntryOf TsClosed entry history → OnOk result (Knows config companion.new (entry ∷ history)) }
     ensures err { IfErr result (λ ended. ended ≡ Driven.Memory) }
-    ensures floor { companion.new.client ≡ companion.old.client }
-    ensures keeps { Keeps live.old live.new }
+    ensures same { companion.new.client ≡ companion.old.client }
 {
     match companion.step(CompanionEvent::TsClosed) {
-        Ok(_) => {
-            live.ts_open = None;
-            Ok(())
-        }
+        Ok(_) => Ok(()),
         Err(_) => Err(Driven::Memory),
+    }
+}
+
+/// What is open of a session once that of a peer is over.
+fn still_open(session: Option<u32>, peer: u32) -> Option<u32>
+    ensures { result ≡ still session peer }
+{
+    match session {
+        Some(other) if other != peer => Some(other),
+        _ => None,
+    }
+}
+
+impl Live {
+    /// The session of a peer is over.
+    pub fn close(&mut self, peer: u32)
+        ensures { facts_in self.new ≡ without peer (facts_in self.old) }
+    {
+        self.cii_open = still_open(self.cii_open, peer);
+        self.ts_open = still_open(self.ts_open, peer);
+    }
+}
+
+impl<O: Outside, W: Observes> Run<'_, O, W> {
+    /// Reads the clock. Where the machine slept, the companion forgets what it asked before the reading is used.
+    pub fn read(&mut self, why: Why) -> Result<Clocked, Driven>
+        requires { self.old.companion.now.client.floor ≤ (O.counts self.old.outside.now).last }
+        ensures told { Calls (shown_of O.told O.counts self.old) (shown_of O.told O.counts self.new)
+            (W.over self.new.observer.now) (λ old new. HasRead old new self.old.live self.new.live
+            self.old.companion.now self.new.companion.now why) result }
+        ensures saw { (started : W) → (notes : List Note) → W.saw started self.old.observer.now notes
+            → W.saw started self.new.observer.now notes }
+        ensures on { OnOk result (W.over self.new.observer.now ≡ None) }
+        ensures stays { Stays O.counts self.old self.new result }
+    {
+        check(self.observer)?;
+        match self.outside.now(why) {
+            Ok(clocked) => {
+                if clocked.slept {
+                    self.companion.slept();
+                    self.live.asked = None;
+                }
+                Ok(clocked)
+            }
+            Err(fault) => Err(end_of(fault)),
+        }
+    }
+
+    /// Sends a text on the TS session, which may be over then.
+    pub fn say(&mut self, peer: u32, text: &[u8]) -> Result<Wrote, Driven>
+        ensures goes { self.old.live.ts_open ≡ Some peer → (config : Config) → (point : Point)
+            → LeadsFrom O.told O.counts W.saw W.over config self.old self.new
+            (λ history. IsAt config point history × (due_at config point history ≡ SendText peer text.now))
+            (λ sent history. IsAt config (spoken sent point) history) result }
+        ensures kept { IfOk result (λ sent. sent ≡ Sent → self.new.live.ts_open ≡ self.old.live.ts_open) }
+        ensures stays { Stays O.counts self.old self.new result }
+    {
+        check(self.observer)?;
+        match send_text(self.outside, peer, text)? {
+            Wrote::Sent => Ok(Wrote::Sent),
+            Wrote::Gone => {
+                self.observer.closed(Session::Ts);
+                self.live.close(peer);
+                lose_ts(self.companion)?;
+                Ok(Wrote::Gone)
+            }
+        }
     }
 }

@@ -3,16 +3,15 @@ ghost use Rattle.std.specs.Prelude.{◌≡◌, OnOk, IfOk, IfErr, IfSome, None, 
 ghost use Rattle.css_outside.specs.Faults.{HasRisen};
 ghost use Rattle.css_tsmsg.specs.Setups.{setup_text};
 ghost use Rattle.css_tsmsg.specs.Presentations.{IsPresentation};
+ghost use Rattle.css_companion.specs.Standing.{wanted_by};
 ghost use Rattle.css_companion.specs.Steps.{window};
-ghost use Rattle.css_drive.specs.CompanionDue.{due, from_cii, from_wc, from_ts, from_ask, from_setup, point_of};
-ghost use Rattle.css_drive.specs.CompanionDue.{window_text, Connected, SetUp};
+ghost use Rattle.css_drive.specs.CompanionDue.{from_cii, from_wc, from_ts, from_ask, window_text, Connected, SetUp};
 ghost use Rattle.css_drive.specs.Configs.{IsWindow};
-ghost use Rattle.css_drive.specs.CompanionStanding.{at, Leads, LeadsFrom, Stays, HasBegun};
-ghost use Rattle.css_drive.specs.Proper.{SendText};
+ghost use Rattle.css_drive.specs.CompanionStanding.{IsAt, IsDue, Leads, LeadsFrom, Stays, HasBegun};
 
 use crate::calls::place;
-use crate::companion_calls::{lose_ts, send, try_dial};
-use crate::companion_live::Live;
+use crate::companion_calls::try_dial;
+use crate::companion_live::Run;
 use crate::config::DriveConfig;
 use crate::driven::Driven;
 use crate::observes::Observes;
@@ -21,56 +20,6 @@ use css_companion::{Companion, CompanionEvent};
 use css_num::Text;
 use css_outside::{Kind, Outside, Wrote};
 use css_tsmsg::Bound;
-use std::alloc::Global;
-
-/// Dials the session of CSS-CII, while no dial of it succeeded.
-pub fn dial_cii<O: Outside, W: Observes>(
-    config: &DriveConfig,
-    live: &mut Live,
-    companion: &Companion,
-    outside: &mut O,
-    observer: &mut W,
-) -> Result<(), Driven>
-    ensures goes { Leads W.saw W.over config.now
-        (at (O.told outside.old) (O.counts outside.old) live.old companion.now observer.old)
-        (at (O.told outside.new) (O.counts outside.new) live.new companion.now observer.new) from_cii from_wc result }
-    ensures stays { Stays (O.counts outside.old) (O.counts outside.new) live.old live.new companion.now companion.now
-        result }
-    ensures tried { OnOk result (live.new.cii ≡ None
-        → HasRisen (O.counts outside.old).dial_faults (O.counts outside.new).dial_faults) }
-{
-    if live.cii.is_some() {
-        return Ok(());
-    }
-    live.cii = try_dial(outside, observer, Kind::Cii, &config.cii)?;
-    live.cii_open = live.cii;
-    Ok(())
-}
-
-/// Dials the wall clock, while no dial of it succeeded and its address is told.
-pub fn dial_wc<O: Outside, W: Observes>(
-    alloc: Global,
-    config: &DriveConfig,
-    live: &mut Live,
-    companion: &Companion,
-    outside: &mut O,
-    observer: &mut W,
-) -> Result<(), Driven>
-    ensures goes { Leads W.saw W.over config.now
-        (at (O.told outside.old) (O.counts outside.old) live.old companion.now observer.old)
-        (at (O.told outside.new) (O.counts outside.new) live.new companion.now observer.new) from_wc from_ts result }
-    ensures stays { Stays (O.counts outside.old) (O.counts outside.new) live.old live.new companion.now companion.now
-        result }
-{
-    if live.wc.is_some() {
-        return Ok(());
-    }
-    let Some(to) = place(alloc, Kind::Wc, CiiName::WcUrl, &companion.state().wc_url)? else {
-        return Ok(());
-    };
-    live.wc = try_dial(outside, observer, Kind::Wc, &to)?;
-    Ok(())
-}
 
 /// The text of the presentation of the configuration's bounds.
 fn window_of(companion: &mut Companion, earliest: Bound, latest: Bound) -> Result<Text, Driven>
@@ -83,34 +32,6 @@ fn window_of(companion: &mut Companion, earliest: Bound, latest: Bound) -> Resul
         Ok(Some(text)) => Ok(text),
         // It always owes one.
         _ => Err(Driven::Memory),
-    }
-}
-
-/// Sends the presentation, if the configuration has one.
-fn present<O: Outside, W: Observes>(
-    config: &DriveConfig,
-    live: &mut Live,
-    companion: &mut Companion,
-    outside: &mut O,
-    observer: &mut W,
-    peer: u32,
-) -> Result<(), Driven>
-    requires { IfSome config.now.present IsWindow }
-    ensures goes { live.old.ts ≡ Some peer → live.old.ts_open ≡ Some peer → LeadsFrom W.saw W.over config.now
-        (at (O.told outside.old) (O.counts outside.old) live.old companion.old observer.old)
-        (at (O.told outside.new) (O.counts outside.new) live.new companion.new observer.new)
-        (λ history. (point_of history ≡ SetUp peer)
-        × (due config.now history ≡ from_setup config.now peer history)) from_ask result }
-    ensures stays { Stays (O.counts outside.old) (O.counts outside.new) live.old live.new companion.old companion.new
-        result }
-{
-    let Some((earliest, latest)) = config.present else {
-        return Ok(());
-    };
-    let text = window_of(companion, earliest, latest)?;
-    match send(outside, observer, peer, text.bytes())? {
-        Wrote::Sent => Ok(()),
-        Wrote::Gone => lose_ts(live, companion),
     }
 }
 
@@ -128,58 +49,86 @@ fn setup_of(companion: &mut Companion) -> Result<Text, Driven>
     }
 }
 
-/// Sends the setup, and after it the presentation.
-fn introduce<O: Outside, W: Observes>(
-    config: &DriveConfig,
-    live: &mut Live,
-    companion: &mut Companion,
-    outside: &mut O,
-    observer: &mut W,
-    peer: u32,
-    setup: &Text,
-) -> Result<(), Driven>
-    requires { IfSome config.now.present IsWindow }
-    ensures goes { live.old.ts ≡ Some peer → live.old.ts_open ≡ Some peer → LeadsFrom W.saw W.over config.now
-        (at (O.told outside.old) (O.counts outside.old) live.old companion.old observer.old)
-        (at (O.told outside.new) (O.counts outside.new) live.new companion.new observer.new)
-        (λ history. (point_of history ≡ Connected peer)
-        × (due config.now history ≡ SendText peer setup.now)) from_ask result }
-    ensures stays { Stays (O.counts outside.old) (O.counts outside.new) live.old live.new companion.old companion.new
-        result }
-{
-    match send(outside, observer, peer, setup.bytes())? {
-        Wrote::Sent => present(config, live, companion, outside, observer, peer),
-        Wrote::Gone => lose_ts(live, companion),
+impl<O: Outside, W: Observes> Run<'_, O, W> {
+    /// Dials the session of CSS-CII, while no dial of it succeeded.
+    pub fn dial_cii(&mut self, config: &DriveConfig) -> Result<(), Driven>
+        ensures goes { Leads O.told O.counts W.saw W.over config.now self.old self.new from_cii from_wc result }
+        ensures stays { Stays O.counts self.old self.new result }
+        ensures tried { OnOk result (self.new.live.cii ≡ None
+            → HasRisen (O.counts self.old.outside.now).dial_faults (O.counts self.new.outside.now).dial_faults) }
+    {
+        if self.live.cii.is_some() {
+            return Ok(());
+        }
+        self.live.cii = try_dial(self.outside, self.observer, Kind::Cii, &config.cii)?;
+        self.live.cii_open = self.live.cii;
+        Ok(())
     }
-}
 
-/// Dials the session of CSS-TS, while no dial of it succeeded and its address is told. Its setup is sent at once.
-pub fn dial_ts<O: Outside, W: Observes>(
-    alloc: Global,
-    config: &DriveConfig,
-    live: &mut Live,
-    companion: &mut Companion,
-    outside: &mut O,
-    observer: &mut W,
-) -> Result<(), Driven>
-    requires { IfSome config.now.present IsWindow }
-    ensures goes { Leads W.saw W.over config.now
-        (at (O.told outside.old) (O.counts outside.old) live.old companion.old observer.old)
-        (at (O.told outside.new) (O.counts outside.new) live.new companion.new observer.new) from_ts from_ask result }
-    ensures stays { Stays (O.counts outside.old) (O.counts outside.new) live.old live.new companion.old companion.new
-        result }
-{
-    if live.ts.is_some() {
-        return Ok(());
+    /// Dials the wall clock, while no dial of it succeeded and its address is told.
+    pub fn dial_wc(&mut self, config: &DriveConfig) -> Result<(), Driven>
+        ensures goes { Leads O.told O.counts W.saw W.over config.now self.old self.new from_wc from_ts result }
+        ensures stays { Stays O.counts self.old self.new result }
+    {
+        if self.live.wc.is_some() {
+            return Ok(());
+        }
+        let url = &self.companion.state().wc_url;
+        let Some(to) = place(self.alloc, Kind::Wc, CiiName::WcUrl, url)? else {
+            return Ok(());
+        };
+        self.live.wc = try_dial(self.outside, self.observer, Kind::Wc, &to)?;
+        Ok(())
     }
-    let Some(to) = place(alloc, Kind::Ts, CiiName::TsUrl, &companion.state().ts_url)? else {
-        return Ok(());
-    };
-    let Some(peer) = try_dial(outside, observer, Kind::Ts, &to)? else {
-        return Ok(());
-    };
-    live.ts = Some(peer);
-    live.ts_open = Some(peer);
-    let setup = setup_of(companion)?;
-    introduce(config, live, companion, outside, observer, peer, &setup)
+
+    /// Sends the presentation, if the configuration has one.
+    fn present(&mut self, config: &DriveConfig, peer: u32) -> Result<(), Driven>
+        requires { IfSome config.now.present IsWindow }
+        ensures goes { self.old.live.ts_open ≡ Some peer → LeadsFrom O.told O.counts W.saw W.over config.now
+            self.old self.new (IsAt config.now (SetUp peer)) (λ _. IsDue config.now from_ask) result }
+        ensures stays { Stays O.counts self.old self.new result }
+    {
+        let Some((earliest, latest)) = config.present else {
+            return Ok(());
+        };
+        let text = window_of(self.companion, earliest, latest)?;
+        self.say(peer, text.bytes())?;
+        Ok(())
+    }
+
+    /// Sends the setup, and after it the presentation.
+    fn introduce(&mut self, config: &DriveConfig, peer: u32, setup: &Text) -> Result<(), Driven>
+        requires { IfSome config.now.present IsWindow }
+        ensures goes { self.old.live.ts_open ≡ Some peer → setup.now ≡ setup_text (wanted_by config.now.companion)
+            → LeadsFrom O.told O.counts W.saw W.over config.now self.old self.new
+            (IsAt config.now (Connected peer)) (λ _. IsDue config.now from_ask) result }
+        ensures stays { Stays O.counts self.old self.new result }
+    {
+        match self.say(peer, setup.bytes())? {
+            Wrote::Sent => self.present(config, peer),
+            Wrote::Gone => Ok(()),
+        }
+    }
+
+    /// Dials the session of CSS-TS, while no dial of it succeeded and its address is told. Its setup is sent at once.
+    pub fn dial_ts(&mut self, config: &DriveConfig) -> Result<(), Driven>
+        requires { IfSome config.now.present IsWindow }
+        ensures goes { Leads O.told O.counts W.saw W.over config.now self.old self.new from_ts from_ask result }
+        ensures stays { Stays O.counts self.old self.new result }
+    {
+        if self.live.ts.is_some() {
+            return Ok(());
+        }
+        let url = &self.companion.state().ts_url;
+        let Some(to) = place(self.alloc, Kind::Ts, CiiName::TsUrl, url)? else {
+            return Ok(());
+        };
+        let Some(peer) = try_dial(self.outside, self.observer, Kind::Ts, &to)? else {
+            return Ok(());
+        };
+        self.live.ts = Some(peer);
+        self.live.ts_open = Some(peer);
+        let setup = setup_of(self.companion)?;
+        self.introduce(config, peer, &setup)
+    }
 }

@@ -1,21 +1,20 @@
 //! What a turn of a companion asks and hears, and the end of its sessions.
-ghost use Rattle.std.specs.Prelude.{◌≡◌, ◌≤◌, ◌∷◌, ◌⊎◌, ℕ, OnOk, IfErr, None, Some, MatchResult};
+ghost use Rattle.std.specs.Prelude.{◌≡◌, ◌≤◌, ◌∷◌, ◌⊎◌, ℕ, None, Some, OnOk, IfErr, MatchResult};
 ghost use Rattle.css_model.specs.History as entries;
-ghost use Rattle.css_model.specs.History.{History};
-ghost use Rattle.css_model.specs.Explains.{IsLawful};
+ghost use Rattle.css_model.specs.History.{History, Took};
 ghost use Rattle.css_model.specs.declared.Kind.TheVariants as kinds;
+ghost use Rattle.css_model.specs.Explains.{IsLawful};
 ghost use Rattle.css_model.specs.declared.Why.TheVariants as whys;
 ghost use Rattle.css_companion.specs.Meanings.{kind_of};
-ghost use Rattle.css_drive.specs.CompanionDue.{due, from_ask, from_take, from_cii_text, from_ts_text, from_end};
-ghost use Rattle.css_drive.specs.CompanionDue.{refusal_of};
-ghost use Rattle.css_drive.specs.CompanionStanding.{Shown, shown, at, Stands, Knows, Leads, LeadsFrom, Goes, Stops};
-ghost use Rattle.css_drive.specs.CompanionStanding.{Stays, Calls, Adds, IsHangingUp, IsEarly, IsRefusal, hung};
-ghost use Rattle.css_drive.specs.Proper.{Now};
+ghost use Rattle.css_drive.specs.CompanionDue.{from_ask, from_take, from_cii_text, refusal_of};
+ghost use Rattle.css_drive.specs.CompanionStanding.{Shown, shown, shown_of, Stands, Knows, Leads, Goes, Stops, Stays};
+ghost use Rattle.css_drive.specs.CompanionStanding.{Calls, Adds, IsDue, IsEarly, IsHangingUp, IsRefusal, a_reading};
+ghost use Rattle.css_drive.specs.CompanionStanding.{open_of, from_text, after_text, hung};
 
 use crate::calls;
-use crate::calls::{end_of, refused};
-use crate::companion_calls::{check, hear, lose_ts, note_sleep, read, send_request};
-use crate::companion_live::Live;
+use crate::calls::{end_of, refused, send_datagram, take_text};
+use crate::companion_calls::{check, lose_ts, note_sleep};
+use crate::companion_live::{Live, Run};
 use crate::config::DriveConfig;
 use crate::driven::Driven;
 use crate::observes::Observes;
@@ -24,114 +23,6 @@ use crate::timing::is_time;
 use css_companion::{Companion, CompanionEvent};
 use css_num::Text;
 use css_outside::{Heard, Outside, Why};
-
-/// Reads the clock for a request, and sends the request of that reading.
-fn request<O: Outside, W: Observes>(
-    config: &DriveConfig,
-    live: &mut Live,
-    companion: &mut Companion,
-    outside: &mut O,
-    observer: &mut W,
-    peer: u32,
-) -> Result<(), Driven>
-    requires { companion.old.client.floor ≤ (O.counts outside.old).last }
-    ensures goes { live.old.wc ≡ Some peer → LeadsFrom W.saw W.over config.now
-        (at (O.told outside.old) (O.counts outside.old) live.old companion.old observer.old)
-        (at (O.told outside.new) (O.counts outside.new) live.new companion.new observer.new)
-        (λ history. due config.now history ≡ Now whys.Ask) from_take result }
-    ensures stays { Stays (O.counts outside.old) (O.counts outside.new) live.old live.new companion.old companion.new
-        result }
-{
-    let clocked = read(outside, observer, companion, live, Why::Ask)?;
-    note_sleep(observer, &clocked);
-    let bytes = companion.ask(clocked.reading);
-    send_request(outside, observer, peer, &bytes, clocked.reading)?;
-    live.asked = live.turn;
-    Ok(())
-}
-
-/// Asks the wall clock, where it was dialled and it is time.
-pub fn ask<O: Outside, W: Observes>(
-    config: &DriveConfig,
-    live: &mut Live,
-    companion: &mut Companion,
-    outside: &mut O,
-    observer: &mut W,
-) -> Result<(), Driven>
-    requires { companion.old.client.floor ≤ (O.counts outside.old).last }
-    ensures goes { Leads W.saw W.over config.now
-        (at (O.told outside.old) (O.counts outside.old) live.old companion.old observer.old)
-        (at (O.told outside.new) (O.counts outside.new) live.new companion.new observer.new) from_ask from_take result }
-    ensures stays { Stays (O.counts outside.old) (O.counts outside.new) live.old live.new companion.old companion.new
-        result }
-{
-    let Some(peer) = live.wc else {
-        return Ok(());
-    };
-    if !is_time(config.ask_every, live.turn, live.asked) {
-        return Ok(());
-    }
-    request(config, live, companion, outside, observer, peer)
-}
-
-/// Reads the clock for a datagram that was just taken, and takes it in.
-fn land<O: Outside, W: Observes>(
-    config: &DriveConfig,
-    live: &mut Live,
-    companion: &mut Companion,
-    outside: &mut O,
-    observer: &mut W,
-    bytes: &[u8],
-) -> Result<(), Driven>
-    requires { companion.old.client.floor ≤ (O.counts outside.old).last }
-    ensures goes { (before : Shown) → (started : W) → (history : History) → (peer : ℕ)
-        → Stands config.now before (shown (O.told outside.old) (O.counts outside.old)) (W.saw started observer.old)
-        live.old (entries.Took peer bytes.now ∷ history)
-        → Knows config.now companion.old history
-        → Goes config.now before (shown (O.told outside.new) (O.counts outside.new)) (W.saw started observer.new)
-        (W.over observer.new) live.new companion.new (from_cii_text config.now) result }
-    ensures stays { Stays (O.counts outside.old) (O.counts outside.new) live.old live.new companion.old companion.new
-        result }
-{
-    let clocked = read(outside, observer, companion, live, Why::Land)?;
-    observer.landed(&clocked, bytes, companion);
-    if clocked.slept {
-        // No request from before the sleep is asked any more, so nothing lands.
-        return Ok(());
-    }
-    match companion.land(bytes, clocked.reading) {
-        Ok(_) => Ok(()),
-        Err(_) => Err(Driven::Memory),
-    }
-}
-
-/// Takes a datagram, where the wall clock was dialled.
-pub fn take<O: Outside, W: Observes>(
-    config: &DriveConfig,
-    live: &mut Live,
-    companion: &mut Companion,
-    outside: &mut O,
-    observer: &mut W,
-) -> Result<(), Driven>
-    requires { companion.old.client.floor ≤ (O.counts outside.old).last }
-    ensures goes { Leads W.saw W.over config.now
-        (at (O.told outside.old) (O.counts outside.old) live.old companion.old observer.old)
-        (at (O.told outside.new) (O.counts outside.new) live.new companion.new observer.new)
-        from_take from_cii_text result }
-    ensures stays { Stays (O.counts outside.old) (O.counts outside.new) live.old live.new companion.old companion.new
-        result }
-{
-    let Some(_) = live.wc else {
-        return Ok(());
-    };
-    check(observer)?;
-    let mut into = [0u8; 64];
-    match outside.take_datagram(&mut into) {
-        Err(fault) => Err(end_of(fault)),
-        Ok(None) => Ok(()),
-        Ok(Some((_, count))) => land(config, live, companion, outside, observer, &into[..count]),
-    }
-}
 
 /// Takes a text of the CII session in.
 fn take_in(companion: &mut Companion, text: Text) -> Result<(), Driven>
@@ -146,35 +37,6 @@ fn take_in(companion: &mut Companion, text: Text) -> Result<(), Driven>
     match companion.step(CompanionEvent::CiiText(text)) {
         Ok(_) => Ok(()),
         Err(fault) => Err(refused(fault)),
-    }
-}
-
-/// Hears the CII session, where it is open.
-pub fn hear_cii<O: Outside, W: Observes>(
-    config: &DriveConfig,
-    live: &mut Live,
-    companion: &mut Companion,
-    outside: &mut O,
-    observer: &mut W,
-) -> Result<(), Driven>
-    requires { companion.old.client.floor ≤ (O.counts outside.old).last }
-    ensures goes { Leads W.saw W.over config.now
-        (at (O.told outside.old) (O.counts outside.old) live.old companion.old observer.old)
-        (at (O.told outside.new) (O.counts outside.new) live.new companion.new observer.new)
-        from_cii_text from_ts_text result }
-    ensures stays { Stays (O.counts outside.old) (O.counts outside.new) live.old live.new companion.old companion.new
-        result }
-{
-    let Some(peer) = live.cii_open else {
-        return Ok(());
-    };
-    match hear(outside, observer, companion, Session::Cii, peer)? {
-        Heard::Quiet => Ok(()),
-        Heard::Closed => {
-            live.cii_open = None;
-            Ok(())
-        }
-        Heard::Text(text) => take_in(companion, text),
     }
 }
 
@@ -193,29 +55,121 @@ fn take_in_ts(companion: &mut Companion, text: Text) -> Result<(), Driven>
     }
 }
 
-/// Hears the TS session, where it is open.
-pub fn hear_ts<O: Outside, W: Observes>(
-    config: &DriveConfig,
-    live: &mut Live,
-    companion: &mut Companion,
-    outside: &mut O,
-    observer: &mut W,
-) -> Result<(), Driven>
-    requires { companion.old.client.floor ≤ (O.counts outside.old).last }
-    ensures goes { Leads W.saw W.over config.now
-        (at (O.told outside.old) (O.counts outside.old) live.old companion.old observer.old)
-        (at (O.told outside.new) (O.counts outside.new) live.new companion.new observer.new)
-        from_ts_text from_end result }
-    ensures stays { Stays (O.counts outside.old) (O.counts outside.new) live.old live.new companion.old companion.new
-        result }
-{
-    let Some(peer) = live.ts_open else {
-        return Ok(());
-    };
-    match hear(outside, observer, companion, Session::Ts, peer)? {
-        Heard::Quiet => Ok(()),
-        Heard::Closed => lose_ts(live, companion),
-        Heard::Text(text) => take_in_ts(companion, text),
+impl Live {
+    /// The peer of a session that is open.
+    fn peer_of(&self, session: Session) -> Option<u32>
+        ensures { result ≡ open_of session self.now }
+    {
+        match session {
+            Session::Cii => self.cii_open,
+            Session::Ts => self.ts_open,
+        }
+    }
+}
+
+impl<O: Outside, W: Observes> Run<'_, O, W> {
+    /// Reads the clock for a request, and sends the request of that reading.
+    fn request(&mut self, config: &DriveConfig, peer: u32) -> Result<(), Driven>
+        requires { self.old.companion.now.client.floor ≤ (O.counts self.old.outside.now).last }
+        ensures goes { self.old.live.wc ≡ Some peer → Leads O.told O.counts W.saw W.over config.now self.old self.new
+            (a_reading whys.Ask) from_take result }
+        ensures stays { Stays O.counts self.old self.new result }
+    {
+        let clocked = self.read(Why::Ask)?;
+        note_sleep(self.observer, &clocked);
+        let bytes = self.companion.ask(clocked.reading);
+        check(self.observer)?;
+        send_datagram(self.outside, peer, &bytes)?;
+        self.observer.asked(clocked.reading);
+        self.live.asked = self.live.turn;
+        Ok(())
+    }
+
+    /// Asks the wall clock, where it was dialled and it is time.
+    pub fn ask(&mut self, config: &DriveConfig) -> Result<(), Driven>
+        requires { self.old.companion.now.client.floor ≤ (O.counts self.old.outside.now).last }
+        ensures goes { Leads O.told O.counts W.saw W.over config.now self.old self.new from_ask from_take result }
+        ensures stays { Stays O.counts self.old self.new result }
+    {
+        let Some(peer) = self.live.wc else {
+            return Ok(());
+        };
+        if !is_time(config.ask_every, self.live.turn, self.live.asked) {
+            return Ok(());
+        }
+        self.request(config, peer)
+    }
+
+    /// Reads the clock for a datagram that was just taken, and takes it in.
+    fn land(&mut self, config: &DriveConfig, bytes: &[u8]) -> Result<(), Driven>
+        requires { self.old.companion.now.client.floor ≤ (O.counts self.old.outside.now).last }
+        ensures goes { (before : Shown) → (started : W) → (history : History) → (peer : ℕ)
+            → Stands config.now before (shown_of O.told O.counts self.old) (W.saw started self.old.observer.now)
+            self.old.live (Took peer bytes.now ∷ history)
+            → Knows config.now self.old.companion.now history
+            → Goes config.now before (shown_of O.told O.counts self.new) (W.saw started self.new.observer.now)
+            (W.over self.new.observer.now) self.new.live self.new.companion.now
+            (λ _. IsDue config.now from_cii_text) result }
+        ensures stays { Stays O.counts self.old self.new result }
+    {
+        let clocked = self.read(Why::Land)?;
+        self.observer.landed(&clocked, bytes, self.companion);
+        if clocked.slept {
+            // No request from before the sleep is asked any more, so nothing lands.
+            return Ok(());
+        }
+        match self.companion.land(bytes, clocked.reading) {
+            Ok(_) => Ok(()),
+            Err(_) => Err(Driven::Memory),
+        }
+    }
+
+    /// Takes a datagram, where the wall clock was dialled.
+    pub fn take(&mut self, config: &DriveConfig) -> Result<(), Driven>
+        requires { self.old.companion.now.client.floor ≤ (O.counts self.old.outside.now).last }
+        ensures goes { Leads O.told O.counts W.saw W.over config.now self.old self.new from_take from_cii_text result }
+        ensures stays { Stays O.counts self.old self.new result }
+    {
+        let Some(_) = self.live.wc else {
+            return Ok(());
+        };
+        check(self.observer)?;
+        let mut into = [0u8; 64];
+        match self.outside.take_datagram(&mut into) {
+            Err(fault) => Err(end_of(fault)),
+            Ok(None) => Ok(()),
+            Ok(Some((_, count))) => self.land(config, &into[..count]),
+        }
+    }
+
+    /// Hears a session, where it is open.
+    pub fn hear(&mut self, config: &DriveConfig, session: Session) -> Result<(), Driven>
+        ensures goes { Leads O.told O.counts W.saw W.over config.now self.old self.new
+            (from_text session) (after_text session) result }
+        ensures stays { Stays O.counts self.old self.new result }
+    {
+        let Some(peer) = self.live.peer_of(session) else {
+            return Ok(());
+        };
+        check(self.observer)?;
+        match take_text(self.outside, peer)? {
+            Heard::Quiet => Ok(()),
+            Heard::Text(text) => {
+                self.observer.heard(session, &text, self.companion);
+                match session {
+                    Session::Cii => take_in(self.companion, text),
+                    Session::Ts => take_in_ts(self.companion, text),
+                }
+            }
+            Heard::Closed => {
+                self.observer.closed(session);
+                self.live.close(peer);
+                match session {
+                    Session::Cii => Ok(()),
+                    Session::Ts => lose_ts(self.companion),
+                }
+            }
+        }
     }
 }
 

@@ -1,5 +1,9 @@
-ghost use Rattle.std.specs.Prelude.{◌≤◌, ◌<◌};
+//! A companion's run, as far as it has come.
+ghost use Rattle.std.specs.Prelude.{◌<◌};
 ghost use Rattle.std.specs.Option.{ForSome};
+
+use css_companion::Companion;
+use std::alloc::Global;
 
 /// What a companion's run keeps from call to call.
 #[derive(Clone, Copy)]
@@ -21,9 +25,17 @@ pub struct Live {
     /// The peers of the sessions that are open.
     pub cii_open: Option<u32>,
     pub ts_open: Option<u32>,
-    pub ghost made_few: { made ≤ 1099511627776 },
-    pub ghost reported_few: { reported ≤ 1000000 },
     pub ghost first_below: { ForSome first (λ reading. reading < 4294967296000000000) },
     pub ghost asked_below: { ForSome asked (λ reading. reading < 4294967296000000000) },
     pub ghost turn_below: { ForSome turn (λ reading. reading < 4294967296000000000) },
+}
+
+/// A companion's run: what it is made of, and how far it has come.
+#[derive(Drop)]
+pub struct Run<'a, O, W> {
+    pub alloc: Global,
+    pub companion: &'a mut Companion,
+    pub outside: &'a mut O,
+    pub observer: &'a mut W,
+    pub live: Live,
 }

@@ -1,21 +1,22 @@
 //! The turns of a companion's run.
-ghost use Rattle.std.specs.Prelude.{◌≡◌, ◌≤◌, ◌<◌, ◌+◌, [], ℕ, IfSome, OnOk, IfErr, None};
+ghost use Rattle.std.specs.Prelude.{◌≡◌, ◌≤◌, ◌<◌, ◌+◌, ℕ, [], IfSome, OnOk, IfErr, None};
 ghost use Rattle.std.specs.Option.{ForSome};
+ghost use Rattle.css_model.specs.declared.Why.TheVariants as whys;
 ghost use Rattle.css_outside.specs.Faults.{HasRisen};
 ghost use Rattle.css_drive.specs.Configs.{IsWindow};
 ghost use Rattle.css_drive.specs.CompanionDue.{from_turn, from_cii, from_end};
 ghost use Rattle.css_drive.specs.CompanionReports.{is_due};
-ghost use Rattle.css_drive.specs.CompanionStanding.{Knows, at, a_turn, Leads, Stays, IsEarly, Made, HasTried};
-ghost use Rattle.css_drive.specs.CompanionStanding.{ending_of};
+ghost use Rattle.css_drive.specs.CompanionStanding.{Knows, a_reading, Leads, Names};
+ghost use Rattle.css_drive.specs.CompanionStanding.{Stays, IsEarly, Made, HasTried, ending_of, facts_in, facts_of, is_another};
 ghost use Rattle.css_drive.specs.Ends.{CountsNetFault, CountsDialFaults};
 
-use crate::companion_calls::{ended_by, read};
-use crate::companion_dials::{dial_cii, dial_ts, dial_wc};
-use crate::companion_hears::{ask, hang_up, hear_cii, hear_ts, take};
-use crate::companion_live::Live;
+use crate::companion_calls::ended_by;
+use crate::companion_hears::hang_up;
+use crate::companion_live::{Live, Run};
 use crate::config::DriveConfig;
 use crate::driven::Driven;
 use crate::observes::Observes;
+use crate::session::Session;
 use crate::timing::{goes_on, is_late};
 use css_companion::Companion;
 use css_outside::{Outside, Why};
@@ -33,119 +34,137 @@ fn reports_at(every: u64, reading: u64, first: Option<u64>, reported: u64) -> bo
     }
 }
 
-/// Begins a turn, and makes the report that is due, if one is.
-pub fn start<O: Outside, W: Observes>(
-    config: &DriveConfig,
-    live: &mut Live,
-    companion: &mut Companion,
-    outside: &mut O,
-    observer: &mut W,
-) -> Result<(), Driven>
-    requires floor { companion.old.client.floor ≤ (O.counts outside.old).last }
-    requires made { live.old.made < 1099511627776 }
-    requires reported { live.old.reported < 1000000 }
-    ensures goes { Leads W.saw W.over config.now
-        (at (O.told outside.old) (O.counts outside.old) live.old companion.old observer.old)
-        (at (O.told outside.new) (O.counts outside.new) live.new companion.new observer.new)
-        a_turn from_turn result }
-    ensures floor { OnOk result (companion.new.client.floor ≤ (O.counts outside.new).last) }
-    ensures made { OnOk result (live.new.made ≡ live.old.made + 1) }
-    ensures first { OnOk result (live.old.first ≡ None → live.new.first ≡ live.new.turn) }
-    ensures dialled { OnOk result (live.new.cii ≡ None → live.old.cii ≡ None) }
-    ensures dials { (O.counts outside.old).dial_faults ≤ (O.counts outside.new).dial_faults }
-    ensures early { IfErr result IsEarly }
+/// Whether another turn follows.
+fn goes_again(live: &Live, config: &DriveConfig) -> bool
+    ensures { result ≡ is_another config.now (facts_in live.now) }
 {
-    let clocked = read(outside, observer, companion, live, Why::Turn)?;
-    let reading = clocked.reading;
-    let due = reports_at(config.report_every, reading, live.first, live.reported);
-    live.first = Some(live.first.unwrap_or(reading));
-    live.turn = Some(reading);
-    live.made += 1;
-    if due {
-        live.reported += 1;
-        let report = companion.report(reading);
-        observer.reported(&clocked, live.reported, &report, companion);
-        return Ok(());
-    }
-    observer.turned(&clocked, companion);
-    Ok(())
+    live.reported < config.reports && goes_on(config.limit, live.first, live.turn, live.made)
 }
 
-/// Makes the calls of a turn after its report.
-pub fn calls<O: Outside, W: Observes>(
-    alloc: Global,
-    config: &DriveConfig,
-    live: &mut Live,
-    companion: &mut Companion,
-    outside: &mut O,
-    observer: &mut W,
-) -> Result<(), Driven>
-    requires floor { companion.old.client.floor ≤ (O.counts outside.old).last }
-    requires bounds { IfSome config.now.present IsWindow }
-    ensures goes { Leads W.saw W.over config.now
-        (at (O.told outside.old) (O.counts outside.old) live.old companion.old observer.old)
-        (at (O.told outside.new) (O.counts outside.new) live.new companion.new observer.new) from_cii from_end result }
-    ensures stays { Stays (O.counts outside.old) (O.counts outside.new) live.old live.new companion.old companion.new
-        result }
-    ensures tried { OnOk result (live.new.cii ≡ None
-        → HasRisen (O.counts outside.old).dial_faults (O.counts outside.new).dial_faults) }
-{
-    dial_cii(config, live, companion, outside, observer)?;
-    dial_wc(alloc, config, live, companion, outside, observer)?;
-    dial_ts(alloc, config, live, companion, outside, observer)?;
-    ask(config, live, companion, outside, observer)?;
-    take(config, live, companion, outside, observer)?;
-    hear_cii(config, live, companion, outside, observer)?;
-    hear_ts(config, live, companion, outside, observer)
-}
-
-/// Makes a turn, of which nothing follows the report if it is the last by its time. The run ends after its last report.
-// Each goal has its answer: the search would not end.
-#[tactic(none)]
-fn turn<O: Outside, W: Observes>(
-    alloc: Global,
-    config: &DriveConfig,
-    live: &mut Live,
-    companion: &mut Companion,
-    outside: &mut O,
-    observer: &mut W,
-) -> Result<(), Driven>
-    requires floor { companion.old.client.floor ≤ (O.counts outside.old).last }
-    requires made { live.old.made < 1099511627776 }
-    requires reported { live.old.reported < config.now.reports }
-    requires bounds { IfSome config.now.present IsWindow }
-    ensures goes { Leads W.saw W.over config.now
-        (at (O.told outside.old) (O.counts outside.old) live.old companion.old observer.old)
-        (at (O.told outside.new) (O.counts outside.new) live.new companion.new observer.new)
-        a_turn from_end result }
-    ensures floor { OnOk result (companion.new.client.floor ≤ (O.counts outside.new).last) }
-    ensures made { OnOk result (live.new.made ≡ live.old.made + 1) }
-    ensures reported { OnOk result (live.new.reported < config.now.reports) }
-    ensures dials { (O.counts outside.old).dial_faults ≤ (O.counts outside.new).dial_faults }
-    ensures early { IfErr result IsEarly }
-    ensures tried { (started : ℕ) → started ≤ (O.counts outside.old).dial_faults
-        → HasTried started (O.counts outside.old).dial_faults live.old
-        → OnOk result (HasTried started (O.counts outside.new).dial_faults live.new) }
-{
-    start(config, live, companion, outside, observer)?;
-    if live.reported >= config.reports {
-        return Err(hang_up(config, live, outside, observer, Driven::Done));
-    }
-    if is_late(config.limit, live.first, live.turn) {
-        return Ok(());
-    }
-    calls(alloc, config, live, companion, outside, observer)
-}
-
-/// How a run ends whose last turn is made.
-pub fn ending(live: &Live) -> Driven
-    ensures { result ≡ ending_of live.now.made live.now.cii live.now.wc live.now.ts }
+/// How a run ends that makes no turn any more, where so many reports were asked for.
+pub fn ending(live: &Live, reports: u64) -> Driven
+    ensures { result ≡ ending_of reports (facts_in live.now) }
 {
     let turns = live.made;
-    if live.cii.is_some() || live.wc.is_some() || live.ts.is_some() {
+    if live.reported >= reports {
+        Driven::Done
+    } else if live.cii.is_some() || live.wc.is_some() || live.ts.is_some() {
         Driven::Spent { turns }
     } else {
         Driven::Unreachable { turns }
+    }
+}
+
+impl<O: Outside, W: Observes> Run<'_, O, W> {
+    /// Begins a turn, and makes the report that is due, if one is.
+    fn start(&mut self, config: &DriveConfig) -> Result<(), Driven>
+        requires floor { self.old.companion.now.client.floor ≤ (O.counts self.old.outside.now).last }
+        requires made { self.old.live.made < 1099511627776 }
+        requires reported { self.old.live.reported < 1000000 }
+        ensures goes { Leads O.told O.counts W.saw W.over config.now self.old self.new
+            (a_reading whys.Turn) from_turn result }
+        ensures names { Names self.old self.new }
+        ensures floor { OnOk result (self.new.companion.now.client.floor ≤ (O.counts self.new.outside.now).last) }
+        ensures made { OnOk result (self.new.live.made ≡ self.old.live.made + 1) }
+        ensures first { OnOk result (self.old.live.first ≡ None → self.new.live.first ≡ self.new.live.turn) }
+        ensures dialled { OnOk result (self.new.live.cii ≡ None → self.old.live.cii ≡ None) }
+        ensures dials { (O.counts self.old.outside.now).dial_faults ≤ (O.counts self.new.outside.now).dial_faults }
+        ensures early { IfErr result IsEarly }
+    {
+        let clocked = self.read(Why::Turn)?;
+        let reading = clocked.reading;
+        let due = reports_at(
+            config.report_every,
+            reading,
+            self.live.first,
+            self.live.reported,
+        );
+        self.live.first = Some(self.live.first.unwrap_or(reading));
+        self.live.turn = Some(reading);
+        self.live.made += 1;
+        if due {
+            self.live.reported += 1;
+            let report = self.companion.report(reading);
+            let number = self.live.reported;
+            self.observer
+                .reported(&clocked, number, &report, self.companion);
+            return Ok(());
+        }
+        self.observer.turned(&clocked, self.companion);
+        Ok(())
+    }
+
+    /// Makes the calls of a turn after its report.
+    fn calls(&mut self, config: &DriveConfig) -> Result<(), Driven>
+        requires floor { self.old.companion.now.client.floor ≤ (O.counts self.old.outside.now).last }
+        requires bounds { IfSome config.now.present IsWindow }
+        ensures goes { Leads O.told O.counts W.saw W.over config.now self.old self.new from_cii from_end result }
+        ensures stays { Stays O.counts self.old self.new result }
+        ensures tried { OnOk result (self.new.live.cii ≡ None
+            → HasRisen (O.counts self.old.outside.now).dial_faults (O.counts self.new.outside.now).dial_faults) }
+    {
+        self.dial_cii(config)?;
+        self.dial_wc(config)?;
+        self.dial_ts(config)?;
+        self.ask(config)?;
+        self.take(config)?;
+        self.hear(config, Session::Cii)?;
+        self.hear(config, Session::Ts)
+    }
+
+    /// Makes a turn, of which nothing follows the report if it is the last, or the turn is the last by its time.
+    // Each goal has its answer: the search would not end.
+    #[tactic(none)]
+    fn turn(&mut self, config: &DriveConfig) -> Result<(), Driven>
+        requires floor { self.old.companion.now.client.floor ≤ (O.counts self.old.outside.now).last }
+        requires made { self.old.live.made < 1099511627776 }
+        requires reported { self.old.live.reported < config.now.reports }
+        requires bounds { IfSome config.now.present IsWindow }
+        ensures goes { Leads O.told O.counts W.saw W.over config.now self.old self.new
+            (a_reading whys.Turn) from_end result }
+        ensures names { Names self.old self.new }
+        ensures floor { OnOk result (self.new.companion.now.client.floor ≤ (O.counts self.new.outside.now).last) }
+        ensures made { OnOk result (self.new.live.made ≡ self.old.live.made + 1) }
+        ensures dials { (O.counts self.old.outside.now).dial_faults ≤ (O.counts self.new.outside.now).dial_faults }
+        ensures early { IfErr result IsEarly }
+        ensures tried { (started : ℕ) → started ≤ (O.counts self.old.outside.now).dial_faults
+            → HasTried config.now started (O.counts self.old.outside.now).dial_faults self.old.live
+            → OnOk result (HasTried config.now started (O.counts self.new.outside.now).dial_faults self.new.live) }
+    {
+        self.start(config)?;
+        if self.live.reported >= config.reports {
+            return Ok(());
+        }
+        if is_late(config.limit, self.live.first, self.live.turn) {
+            return Ok(());
+        }
+        self.calls(config)
+    }
+
+    /// Makes the turns, and hangs up. The observer has the last word.
+    fn turns(&mut self, config: &DriveConfig) -> Driven
+        requires known { Knows config.now self.old.companion.now [] }
+        requires floor { self.old.companion.now.client.floor ≤ (O.counts self.old.outside.now).last }
+        requires bounds { IfSome config.now.present IsWindow }
+        requires begun { W.saw self.old.observer.now self.old.observer.now [] }
+        requires fresh { facts_of config.now [] ≡ facts_in self.old.live }
+        ensures names { Names self.old self.new }
+        ensures made { Made config.now (O.told self.old.outside.now) (O.told self.new.outside.now)
+            (W.saw self.old.observer.now self.new.observer.now) (W.over self.new.observer.now) result }
+        ensures net_faults { CountsNetFault (O.counts self.old.outside.now).faults
+            (O.counts self.new.outside.now).faults result }
+        ensures dial_faults { CountsDialFaults (O.counts self.old.outside.now).dial_faults
+            (O.counts self.new.outside.now).dial_faults result }
+    {
+        'turns: while goes_again(&self.live, config) {
+            match self.turn(config) {
+                Ok(()) => {}
+                Err(ended) => return ended_by(self.observer, ended),
+            }
+        }
+        let end = ending(&self.live, config.reports);
+        let ended = hang_up(config, &self.live, self.outside, self.observer, end);
+        ended_by(self.observer, ended)
     }
 }
 
@@ -168,7 +187,7 @@ pub fn drive<O: Outside, W: Observes>(
     ensures dial_faults { CountsDialFaults (O.counts outside.old).dial_faults
         (O.counts outside.new).dial_faults result }
 {
-    let mut live = Live {
+    let live = Live {
         first: None,
         turn: None,
         asked: None,
@@ -180,13 +199,12 @@ pub fn drive<O: Outside, W: Observes>(
         cii_open: None,
         ts_open: None,
     };
-    'turns: while goes_on(config.limit, live.first, live.turn, live.made) {
-        match turn(alloc, config, &mut live, companion, outside, observer) {
-            Ok(()) => {}
-            Err(ended) => return ended_by(observer, ended),
-        }
-    }
-    let end = ending(&live);
-    let ended = hang_up(config, &live, outside, observer, end);
-    ended_by(observer, ended)
+    let mut run = Run {
+        alloc,
+        companion,
+        outside,
+        observer,
+        live,
+    };
+    run.turns(config)
 }
