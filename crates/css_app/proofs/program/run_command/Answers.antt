@@ -49,7 +49,7 @@ returns-in-Ok-Relay-clause-does g c =
       ran = inr (run, c.relay_run_of.ensures.asked, (ended, made.ran, refl));
       complete = λ called.
           as_asked run c.relay_run_of.ensures.asked
-          (as_due (IsProperRelay run) (due run) _ _ made.ran.history ended made.ran.grew made.ran.proper
+          (as_due {proper = IsProperRelay run} {due_of = due run} made.ran.history ended made.ran.grew made.ran.proper
           made.ran.ends (unwritten ended 0 made.counted.no_writes) made.counted.faults no_write called);
     })
 
