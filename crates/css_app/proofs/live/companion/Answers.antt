@@ -43,8 +43,8 @@ returns-in-Ok-prepared g c =
           tells = refl;
         };
       });
-      complete = λ bytes sheet is ok read. as_due run.ran.history ended run.ran.told run.ran.proper run.ran.ends run.write_faults
-          run.net_faults;
+      complete = λ bytes sheet is ok read.
+          as_due run.ran.history ended run.ran.told run.ran.proper run.ran.ends run.write_faults run.net_faults;
       counted = λ spawns.
           rw c.in-Ok.ensures.counted (driven_tells ended run.write_faults run.net_faults run.dial_faults);
       no_usage = rw c.status_of.ensures.value at c.status_of.ensures.no_usage;

@@ -32,21 +32,34 @@ pub returns-in-Err-Failed-clause-ran : goal.returns-in-Err-Failed-clause-ran
 returns-in-Err-Failed-clause-ran g c = inr (record {
   text = c.in-Ok.script.items;
   gives = c.in-Ok.ensures.value;
-  beside = inl (((refl, refl, c.prepare.ensures.same_seen), c.in-Err-Failed.ensures.told, c.in-Err-Failed.ensures.err), tt);
+  beside = inl (
+    (
+      (refl, refl, c.prepare.ensures.same_seen),
+      c.in-Err-Failed.ensures.told,
+      c.in-Err-Failed.ensures.err,
+    ),
+    tt,
+  );
 })
 
 pub returns-in-Err-Failed-clause-complete : goal.returns-in-Err-Failed-clause-complete
 returns-in-Err-Failed-clause-complete g c bytes script is ok read wrote called spawned =
     let risen = subst (CountsOutFault (g.P.Spawner.faults c.args.spawner.now) (g.P.Spawner.faults c.start.new.self))
     c.in-Err-Failed.field-0-is c.in-Err-Failed.ensures.counted in
-    let no : ⊥ = omega (arith, risen.risen spawned.below, spawned.same) in
-    elim no [ ]
+    absurd (omega (arith, risen.risen spawned.below, spawned.same))
 
 pub returns-in-Err-Memory-clause-ran : goal.returns-in-Err-Memory-clause-ran
 returns-in-Err-Memory-clause-ran g c = inr (record {
   text = c.in-Ok.script.items;
   gives = c.in-Ok.ensures.value;
-  beside = inl (((refl, refl, c.prepare.ensures.same_seen), c.in-Err-Memory.ensures.told, c.in-Err-Memory.ensures.err), tt);
+  beside = inl (
+    (
+      (refl, refl, c.prepare.ensures.same_seen),
+      c.in-Err-Memory.ensures.told,
+      c.in-Err-Memory.ensures.err,
+    ),
+    tt,
+  );
 })
 
 pub returns-in-Err-Memory-clause-complete : goal.returns-in-Err-Memory-clause-complete
@@ -85,7 +98,8 @@ returns g c =
       });
       complete = λ bytes script is ok read wrote called.
           pairs_as_due c.args.config _ _ (driven_status ended) c.finish-finished.result _ _
-          (as_due run.ran.history ended run.ran.told run.ran.proper run.ran.ends run.write_faults run.net_faults wrote called) spawned;
+          (as_due run.ran.history ended run.ran.told run.ran.proper run.ran.ends run.write_faults run.net_faults
+          wrote called) spawned;
       counted = rw c.in-Ok.ensures.counted
           (both_tell ended c.finish-finished.result
           (driven_tells {s = g.P.Spawner.faults c.args.spawner.now} ended run.write_faults run.net_faults
