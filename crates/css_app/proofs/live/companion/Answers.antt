@@ -19,12 +19,12 @@ returns-in-Err g c =
     }
 
 -- the followers lacked memory
-pub returns-in-Err-prepared-clause-ran : goal.returns-in-Err-prepared-clause-ran
-returns-in-Err-prepared-clause-ran g c = inl ((refl, refl, c.prepare-prepared.ensures.same_seen), tt)
+pub returns-in_default-clause-ran : goal.returns-in_default-clause-ran
+returns-in_default-clause-ran g c = inl ((refl, refl, c.prepare.ensures.same_seen), tt)
 
 -- the run
-pub returns-in-Ok-prepared : goal.returns-in-Ok-prepared
-returns-in-Ok-prepared g c =
+pub returns : goal.returns
+returns g c =
     let run = c.drive_companion.ensures in
     let ended = c.drive_companion.result in
     rw c.status_of.ensures.value
@@ -35,8 +35,8 @@ returns-in-Ok-prepared g c =
         makes = record {
           began = _;
           followed = _;
-          planned = c.in-Ok-prepared.ensures.as_sheet;
-          before = c.prepare-prepared.ensures.same_seen;
+          planned = c.in-Ok-prepare.ensures.as_sheet;
+          before = c.prepare.ensures.same_seen;
           heard = refl;
           ended = ended;
           ran = run.ran;
