@@ -1,5 +1,4 @@
-use Rattle.std.proofs.Common.{◌∙◌, arith, inl, inr, refl, subst}
-use Rattle.css_outside.specs.Faults.{CountsOutFault}
+use Rattle.std.proofs.Common.{◌∙◌, arith, inl, inr, refl}
 use Rattle.css_app.specs.Live.{bad_line, driven_status}
 use Rattle.css_app.specs.Scripts.{script_in}
 use Rattle.css_app.proofs.LiveEnds.{as_due, both_tell, driven_tells, pairs_as_due, running_after}
@@ -27,38 +26,27 @@ returns-in_default-child_words-clause-ran g c = inl (((refl, refl, c.prepare.ens
 
 -- the child was not started
 pub returns-in-Err-Failed-clause-ran : goal.returns-in-Err-Failed-clause-ran
-returns-in-Err-Failed-clause-ran g c = inr (record {
-  text = c.in-Ok.script.items;
-  gives = c.in-Ok.ensures.value;
-  beside = inl (
-    (
-      (refl, refl, c.prepare.ensures.same_seen),
-      c.in-Err-Failed.ensures.told,
-      c.in-Err-Failed.ensures.err,
-    ),
-    tt,
-  );
-})
+returns-in-Err-Failed-clause-ran g c =
+    let start = c.in-Err-Failed.ensures in
+    inr (record {
+      text = c.in-Ok.script.items;
+      gives = c.in-Ok.ensures.value;
+      beside = inl (((refl, refl, c.prepare.ensures.same_seen), start.told, start.err), tt);
+    })
 
 pub returns-in-Err-Failed-clause-complete : goal.returns-in-Err-Failed-clause-complete
 returns-in-Err-Failed-clause-complete g c bytes script is ok read wrote called spawned =
-    let risen = subst (CountsOutFault (g.P.Spawner.faults c.args.spawner.now) (g.P.Spawner.faults c.start.new.self))
-    c.in-Err-Failed.field-0-is c.in-Err-Failed.ensures.counted in
+    let risen = rw c.in-Err-Failed.field-0-is at c.in-Err-Failed.ensures.counted in
     absurd (omega (arith, risen.risen spawned.below, spawned.same))
 
 pub returns-in-Err-Memory-clause-ran : goal.returns-in-Err-Memory-clause-ran
-returns-in-Err-Memory-clause-ran g c = inr (record {
-  text = c.in-Ok.script.items;
-  gives = c.in-Ok.ensures.value;
-  beside = inl (
-    (
-      (refl, refl, c.prepare.ensures.same_seen),
-      c.in-Err-Memory.ensures.told,
-      c.in-Err-Memory.ensures.err,
-    ),
-    tt,
-  );
-})
+returns-in-Err-Memory-clause-ran g c =
+    let start = c.in-Err-Memory.ensures in
+    inr (record {
+      text = c.in-Ok.script.items;
+      gives = c.in-Ok.ensures.value;
+      beside = inl (((refl, refl, c.prepare.ensures.same_seen), start.told, start.err), tt);
+    })
 
 pub returns-in-Err-Memory-clause-complete : goal.returns-in-Err-Memory-clause-complete
 returns-in-Err-Memory-clause-complete g c bytes script is ok read wrote called spawned = inl refl
